@@ -5,8 +5,10 @@ ghost use Rattle.std.specs.Prelude.{◌≤◌, ℕ};
 ghost use Rattle.run_model.specs.Cut.{Cut, IsWithin};
 ghost use Rattle.run_model.specs.Run.{Run, run_of};
 ghost use Rattle.run_model.specs.Formula.{Formula};
+ghost use Rattle.run_model.specs.Meaning.{Sat};
 
 /// Cuts are ordered by their counts.
 pub fn within_itself()
     ensures { (c : Cut) → IsWithin c c }
-{}
+{
+}

@@ -1,0 +1,71 @@
+-- Slices (Mittal and Garg): a closed set of cuts by its least cut and, for each event, the least cut that has the event
+-- (Birkhoff: a finite distributive lattice is known by its join-irreducible members).
+use Rattle.std.specs.Prelude.{◌≡◌, ℕ, zero, suc, ◌+◌, ◌<◌, ◌≤◌, List, [], ◌∷◌, Option, Some, None, All, ◌&&◌, nat_lt, if◌then◌else◌, length, flat_map}
+use Rattle.run_model.specs.Cut.{Cut, Clocks, count, IsWithin, lengths}
+use Rattle.run_model.specs.Consistent.{IsConsistent, IsEvent, clock}
+use Rattle.run_model.specs.Sublattice.{IsLeast, Having}
+
+-- a least cut, and a row for each event: the least cut with event a of process i. Each is absent where there is no such cut.
+-- Rows of what is no event say nothing
+pub record Slice : Type 0 where
+  pub bottom : Option Cut
+  pub row : ℕ → ℕ → Option Cut
+
+-- the optional cut is there, and within c
+abbrev pub HasWithin : Option Cut → Cut → Type 0
+HasWithin None c = ⊥
+HasWithin (Some j) c = IsWithin j c
+
+-- the least member of the set, and absent exactly where the set is empty
+abbrev pub IsLeastOf : (Cut → Type 0) → Option Cut → Type 0
+IsLeastOf A None = (c : Cut) → A c → ⊥
+IsLeastOf A (Some j) = IsLeast A j
+
+-- the cuts of a slice: it has the bottom, and the row of each event that it has
+pub record Cuts (o : Clocks) (s : Slice) (c : Cut) : Type 0 where
+  pub consistent : IsConsistent o c
+  pub from_bottom : HasWithin s.bottom c
+  pub rows : (i a : ℕ) → IsEvent c i a → HasWithin (s.row i a) c
+
+-- the slice is that of the set
+pub record StandsFor (o : Clocks) (s : Slice) (A : Cut → Type 0) : Type 0 where
+  pub bottom : IsLeastOf A s.bottom
+  pub rows : (i a : ℕ) → IsEvent (lengths o) i a → IsLeastOf (Having A i a) (s.row i a)
+
+-- the slice is that of its own cuts
+abbrev pub Fits : Clocks → Slice → Type 0
+Fits o s = StandsFor o s (Cuts o s)
+
+-- `edge Q b -> P a`: a cut with event a of P has event b of Q
+pub record Edge : Type 0 where
+  pub cause : ℕ
+  pub cause_position : ℕ
+  pub effect : ℕ
+  pub effect_position : ℕ
+
+abbrev pub Keeps : Cut → Edge → Type 0
+Keeps c e = e.effect_position ≤ count c e.effect → e.cause_position ≤ count c e.cause
+
+-- the set that two cuts and edges denote
+pub record Denoted (o : Clocks) (low high : Cut) (edges : List Edge) (c : Cut) : Type 0 where
+  pub consistent : IsConsistent o c
+  pub above : IsWithin low c
+  pub below : IsWithin c high
+  pub keeps : All (Keeps c) edges
+
+abbrev pub cut_of : Option Cut → Cut
+cut_of None = []
+cut_of (Some j) = j
+
+-- the row of the event before, or the bottom
+abbrev pub previous : Slice → ℕ → ℕ → Option Cut
+previous s i zero = s.bottom
+previous s i (suc zero) = s.bottom
+previous s i (suc (suc a)) = s.row i (suc a)
+
+-- an edge of the slice within its greatest cut: the row says more of a process than the row before and than the event's past
+pub record IsEdge (o : Clocks) (s : Slice) (high : Cut) (e : Edge) : Type 0 where
+  pub there : IsEvent high e.effect e.effect_position
+  pub value : e.cause_position ≡ count (cut_of (s.row e.effect e.effect_position)) e.cause
+  pub more : count (cut_of (previous s e.effect e.effect_position)) e.cause < e.cause_position
+  pub new : count (clock o e.effect e.effect_position) e.cause < e.cause_position
