@@ -3,3 +3,7 @@ pub mod Orders
 pub mod Paths
 pub mod Climb
 pub mod SliceLemmas
+pub mod OperatorLemmas
+pub mod ClosureLemmas
+pub mod ResultSlices
+pub mod JoinLemmas

@@ -1,6 +1,6 @@
--- What the temporal operators make of a set of cuts (Sen and Garg, on finite runs), and of its slice.
+-- What the temporal operators make of a set of cuts (Sen and Garg, on finite runs), and what they and disjunction make of slices.
 use Rattle.std.specs.Prelude.{◌≡◌, ℕ, ◌≤◌, List, Option, Some, None, option_map, if◌then◌else◌, nat_le}
-use Rattle.run_model.specs.Cut.{Cut, Clocks, count, max_cut, lengths, initial}
+use Rattle.run_model.specs.Cut.{Cut, Clocks, count, min_cut, max_cut, lengths, initial}
 use Rattle.run_model.specs.Consistent.{IsEvent, IsPath, clock}
 use Rattle.run_model.specs.Sublattice.{AllIn}
 use Rattle.run_model.specs.Slice.{Slice, HasWithin}
@@ -42,3 +42,13 @@ lowered s t = record { bottom = s.bottom; row = λ i a. if nat_le a (count t i) 
 -- the slice of the cuts that hold b
 abbrev pub raised : Slice → Cut → Slice
 raised s b = record { bottom = Some b; row = λ i a. option_map (max_cut b) (s.row i a) }
+
+-- the minimum, where an absent cut counts as above all
+abbrev pub min_row : Option Cut → Option Cut → Option Cut
+min_row None k = k
+min_row (Some j) None = Some j
+min_row (Some j) (Some k) = Some (min_cut j k)
+
+-- the slice of the smallest sublattice round two closed sets (Mittal and Garg)
+abbrev pub joined : Slice → Slice → Slice
+joined s t = record { bottom = min_row s.bottom t.bottom; row = λ i a. min_row (s.row i a) (t.row i a) }

@@ -1,6 +1,7 @@
 -- Slices (Mittal and Garg): a closed set of cuts by its least cut and, for each event, the least cut that has the event
 -- (Birkhoff: a finite distributive lattice is known by its join-irreducible members).
 use Rattle.std.specs.Prelude.{◌≡◌, ℕ, zero, suc, ◌+◌, ◌<◌, ◌≤◌, List, [], ◌∷◌, Option, Some, None, All, ◌&&◌, nat_lt, if◌then◌else◌, length, flat_map}
+use Rattle.std.specs.List.{range_with_len}
 use Rattle.run_model.specs.Cut.{Cut, Clocks, count, IsWithin, lengths}
 use Rattle.run_model.specs.Consistent.{IsConsistent, IsEvent, clock}
 use Rattle.run_model.specs.Sublattice.{IsLeast, Having}
@@ -63,9 +64,16 @@ previous s i zero = s.bottom
 previous s i (suc zero) = s.bottom
 previous s i (suc (suc a)) = s.row i (suc a)
 
--- an edge of the slice within its greatest cut: the row says more of a process than the row before and than the event's past
-pub record IsEdge (o : Clocks) (s : Slice) (high : Cut) (e : Edge) : Type 0 where
-  pub there : IsEvent high e.effect e.effect_position
-  pub value : e.cause_position ≡ count (cut_of (s.row e.effect e.effect_position)) e.cause
-  pub more : count (cut_of (previous s e.effect e.effect_position)) e.cause < e.cause_position
-  pub new : count (clock o e.effect e.effect_position) e.cause < e.cause_position
+-- the edge into event a of process p from process q, where the event's row has more of q than the row before and than the event's past
+abbrev pub edge_into : Clocks → Slice → ℕ → ℕ → ℕ → List Edge
+edge_into o s p a q =
+    let b = count (cut_of (s.row p a)) q in
+    if nat_lt (count (cut_of (previous s p a)) q) b && nat_lt (count (clock o p a) q) b
+    then record { cause = q; cause_position = b; effect = p; effect_position = a } ∷ []
+    else []
+
+-- the edges of a slice with this greatest cut, by their effects and then by their causes, each in the order of the processes
+unfoldable pub edges_of : Clocks → Slice → Cut → List Edge
+edges_of o s high =
+    flat_map (λ p. flat_map (λ a. flat_map (edge_into o s p a) (range_with_len 0 (length (cut_of (s.row p a))))) (range_with_len 1 (count high p)))
+      (range_with_len 0 (length high))
