@@ -131,3 +131,47 @@ mins_min A c d h k = (h.0, h.1 ++ k.0 ∷ k.1, all_joined A h.0 h.1 k.0 k.1 h.2 
 
 maxes_max : (A : Cut → Type 0) (c d : Cut) → IsMaxOfMins A c → IsMaxOfMins A d → IsMaxOfMins A (max_cut c d)
 maxes_max A c d h k = (h.0, h.1 ++ k.0 ∷ k.1, all_joined (IsMinOf A) h.0 h.1 k.0 k.1 h.2 k.2, subst (λ x. max_cut x d ≡ max_of h.0 (h.1 ++ k.0 ∷ k.1)) (sym h.3) (subst (λ x. max_cut (max_of h.0 h.1) x ≡ max_of h.0 (h.1 ++ k.0 ∷ k.1)) (sym k.3) (sym (max_of_joined h.0 h.1 k.0 k.1))))
+
+min_over_max : (c d e : Cut) → min_cut c (max_cut d e) ≡ max_cut (min_cut c d) (min_cut c e)
+min_over_max c d e = same_counts (min_cut c (max_cut d e)) (max_cut (min_cut c d) (min_cut c e))
+    (omega (arith, length-min c (max_cut d e), length-max d e, length-max (min_cut c d) (min_cut c e), length-min c d, length-min c e))
+    (λ i. omega (arith, count-min c (max_cut d e) i, count-max d e i, count-max (min_cut c d) (min_cut c e) i, count-min c d i, count-min c e i))
+
+max_under_min : (d e c : Cut) → min_cut (max_cut d e) c ≡ max_cut (min_cut d c) (min_cut e c)
+max_under_min d e c = same_counts (min_cut (max_cut d e) c) (max_cut (min_cut d c) (min_cut e c))
+    (omega (arith, length-min (max_cut d e) c, length-max d e, length-max (min_cut d c) (min_cut e c), length-min d c, length-min e c))
+    (λ i. omega (arith, count-min (max_cut d e) c i, count-max d e i, count-max (min_cut d c) (min_cut e c) i, count-min d c i, count-min e c i))
+
+one_min : (A : Cut → Type 0) (c : Cut) → IsMinOf A c → IsMaxOfMins A c
+one_min A c h = (c, [], h, refl)
+
+min_with_max : (A : Cut → Type 0) (c d : Cut) (ds : List Cut) → IsMinOf A c → AllIn (IsMinOf A) d ds → IsMaxOfMins A (min_cut c (max_of d ds))
+min_with_max A c d [] h k = one_min A (min_cut c d) (mins_min A c d h k)
+min_with_max A c d (e ∷ ds) h k = subst (IsMaxOfMins A) (sym (min_over_max c d (max_of e ds)))
+    (maxes_max A (min_cut c d) (min_cut c (max_of e ds)) (one_min A (min_cut c d) (mins_min A c d h k.0)) (min_with_max A c e ds h k.1))
+
+max_with_max : (A : Cut → Type 0) (c : Cut) (cs : List Cut) (d : Cut) (ds : List Cut) → AllIn (IsMinOf A) c cs → AllIn (IsMinOf A) d ds → IsMaxOfMins A (min_cut (max_of c cs) (max_of d ds))
+max_with_max A c [] d ds h k = min_with_max A c d ds h k
+max_with_max A c (e ∷ cs) d ds h k = subst (IsMaxOfMins A) (sym (max_under_min c (max_of e cs) (max_of d ds)))
+    (maxes_max A (min_cut c (max_of d ds)) (min_cut (max_of e cs) (max_of d ds)) (min_with_max A c d ds h.0 k) (max_with_max A e cs d ds h.1 k))
+
+maxes_min : (A : Cut → Type 0) (c d : Cut) → IsMaxOfMins A c → IsMaxOfMins A d → IsMaxOfMins A (min_cut c d)
+maxes_min A c d h k = subst (λ x. IsMaxOfMins A (min_cut x d)) (sym h.3) (subst (λ x. IsMaxOfMins A (min_cut (max_of h.0 h.1) x)) (sym k.3) (max_with_max A h.0 h.1 k.0 k.1 h.2 k.2))
+
+min_of_smallest : (A : Cut → Type 0) (c : Cut) (cs : List Cut) → AllIn A c cs → Smallest A (min_of c cs)
+min_of_smallest A c [] h = given h
+min_of_smallest A c (d ∷ cs) h = minimum (given h.0) (min_of_smallest A d cs h.1)
+
+is_min_smallest : (A : Cut → Type 0) (c : Cut) → IsMinOf A c → Smallest A c
+is_min_smallest A c h = subst (Smallest A) (sym h.3) (min_of_smallest A h.0 h.1 h.2)
+
+max_of_smallest : (A : Cut → Type 0) (c : Cut) (cs : List Cut) → AllIn (IsMinOf A) c cs → Smallest A (max_of c cs)
+max_of_smallest A c [] h = is_min_smallest A c h
+max_of_smallest A c (d ∷ cs) h = maximum (is_min_smallest A c h.0) (max_of_smallest A d cs h.1)
+
+-- the smallest sublattice is the set of the maxima of minima of members
+pub smallest_lists : (A : Cut → Type 0) (c : Cut) → Smallest A c ↔ IsMaxOfMins A c
+smallest_lists A c = (
+    smallest_in A (IsMaxOfMins A) (λ x h. one_min A x (x, [], h, refl)) (maxes_min A) (maxes_max A) c,
+    λ h. subst (Smallest A) (sym h.3) (max_of_smallest A h.0 h.1 h.2)
+  )

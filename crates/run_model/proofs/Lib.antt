@@ -7,3 +7,4 @@ pub mod OperatorLemmas
 pub mod ClosureLemmas
 pub mod ResultSlices
 pub mod JoinLemmas
+pub mod EdgeLemmas
