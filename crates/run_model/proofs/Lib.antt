@@ -8,3 +8,4 @@ pub mod ClosureLemmas
 pub mod ResultSlices
 pub mod JoinLemmas
 pub mod EdgeLemmas
+pub mod DecisionLemmas
