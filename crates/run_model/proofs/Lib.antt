@@ -9,3 +9,4 @@ pub mod ResultSlices
 pub mod JoinLemmas
 pub mod EdgeLemmas
 pub mod DecisionLemmas
+pub mod RelationLemmas

@@ -6,3 +6,4 @@ pub mod Sublattice
 pub mod Slice
 pub mod Operators
 pub mod Meaning
+pub mod Class
