@@ -10,3 +10,4 @@ pub mod JoinLemmas
 pub mod EdgeLemmas
 pub mod DecisionLemmas
 pub mod RelationLemmas
+pub mod RegularLemmas
