@@ -11,3 +11,4 @@ pub mod EdgeLemmas
 pub mod DecisionLemmas
 pub mod RelationLemmas
 pub mod RegularLemmas
+pub mod DisjunctLemmas

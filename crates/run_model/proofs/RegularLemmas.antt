@@ -195,7 +195,7 @@ transit_max r run p q c d = mid_tested (p == q) (flow r p q (count c p) (count c
     (flow_max r run p q (count c p) (count c q) (count d p) (count d q) (count (max_cut c d) p) (count (max_cut c d) q) (count-max c d p) (count-max c d q))
 
 -- the comparison that a channel formula with its sign makes
-abbrev Compared : Run → Name → Name → Relation → ℕ → Cut → Type 0
+abbrev pub Compared : Run → Name → Name → Relation → ℕ → Cut → Type 0
 Compared r p q relation k c = HoldsOf relation (in_transit r (r.process p) (r.process q) c) k
 
 channel_keeps : (r : Run) → IsRun r → (p q : Name) (relation : Relation) (k : ℕ) → is_unequal relation ≡ false → Keeps r (Compared r p q relation k)
@@ -214,7 +214,7 @@ keeps_same r order M N same k = record {
   }
 
 -- a channel comparison with its sign, in numbers
-channel_signed : (r : Run) (sign : Bool) (p q : Name) (relation : Relation) (k : ℕ) (c : Cut) → Compared r p q (after_sign sign relation) k c ↔ Signed r sign (InTransit p q relation k) c
+pub channel_signed : (r : Run) (sign : Bool) (p q : Name) (relation : Relation) (k : ℕ) (c : Cut) → Compared r p q (after_sign sign relation) k c ↔ Signed r sign (InTransit p q relation k) c
 channel_signed r true p q relation k c = (from_holds relation (in_transit r (r.process p) (r.process q) c) k, holds_of relation (in_transit r (r.process p) (r.process q) c) k)
 channel_signed r false p q relation k c =
     let n = in_transit r (r.process p) (r.process q) c in
@@ -224,11 +224,11 @@ channel_signed r false p q relation k c =
     )
 
 -- `empty` says at most 0, and its negation at least 1
-abbrev empty_relation : Bool → Relation
+abbrev pub empty_relation : Bool → Relation
 empty_relation true = LessOrEqual
 empty_relation false = GreaterOrEqual
 
-abbrev empty_bound : Bool → ℕ
+abbrev pub empty_bound : Bool → ℕ
 empty_bound true = 0
 empty_bound false = 1
 
@@ -244,13 +244,13 @@ watch_local : (q watch : Name) → is_local (Watched q watch) ≡ true
 unfolding is_plain processes
 watch_local q watch = refl
 
-empty_signed : (r : Run) (sign : Bool) (p q : Name) (c : Cut) → Compared r p q (empty_relation sign) (empty_bound sign) c ↔ Signed r sign (Empty p q) c
+pub empty_signed : (r : Run) (sign : Bool) (p q : Name) (c : Cut) → Compared r p q (empty_relation sign) (empty_bound sign) c ↔ Signed r sign (Empty p q) c
 empty_signed r true p q c = (λ h. omega (arith, h), λ h. omega (arith, h))
 empty_signed r false p q c = (λ h e. absurd (omega (arith, h, e)), λ h. elim (cases_lt 0 (in_transit r (r.process p) (r.process q) c)) [ inl l ↦ omega (arith, l) | inr g ↦ absurd (h (omega (arith, g))) ])
 
 -- ---- conjunctions
 
-abbrev SignedAll : Run → Bool → Formulas → Cut → Type 0
+abbrev pub SignedAll : Run → Bool → Formulas → Cut → Type 0
 SignedAll r true fs c = SatAll r fs c
 SignedAll r false fs c = SatSome r fs c → ⊥
 
