@@ -1,12 +1,12 @@
 -- The disjuncts of a formula mean the formula, and there is one exactly where it is regular.
 use Rattle.std.proofs.Common.{◌≡◌, ℕ, zero, suc, ◌+◌, ◌-◌, ◌<◌, ◌≤◌, ◌⊎◌, ◌↔◌, Bool, true, false, not, ◌&&◌, ◌||◌, cond, List, [], ◌∷◌, ◌++◌, length, pos, sym, ap, ◌∙◌, subst, refl, inl, inr, arith, length-append}
-use Rattle.std.proofs.lemmas.Bool.{cases_lt, cases_Bool, cond_both, and_parts, and_from, or_cases, or_left, or_right, false≢true, both_ways}
+use Rattle.std.proofs.lemmas.Bool.{cases_lt, cases_Bool, cond_both, and_parts, and_from, or_cases, or_left, or_right, cond-false, false≢true, both_ways}
 use Rattle.run_model.specs.Cut.{Cut}
 use Rattle.run_model.specs.Run.{Name, Run}
 use Rattle.run_model.specs.Consistent.{IsOrder, IsConsistent}
 use Rattle.run_model.specs.Formula.{Relation, Equal, Unequal, Less, LessOrEqual, Greater, GreaterOrEqual, Formula, Truth, Comparison, Watched, InTransit, Empty, Not, And, Or, Temporal, Until, Formulas, Nil, Cons}
 use Rattle.run_model.specs.Meaning.{in_transit, Sat, SatAll, SatSome}
-use Rattle.run_model.specs.Class.{is_local, after_sign, is_conjunctive, all_conjunctive, is_disjunctive, all_disjunctive, IsRegular, IsOfClass, signed, channel_parts, empty_parts, parts, all_parts, disjuncts, all_disjuncts, SatParts, SatDisjuncts}
+use Rattle.run_model.specs.Class.{is_local, after_sign, is_conjunctive, all_conjunctive, is_disjunctive, all_disjunctive, IsRegular, IsOfClass, has_two, is_wide, all_wide, signed, channel_parts, empty_parts, parts, all_parts, disjuncts, all_disjuncts, SatParts, SatDisjuncts}
 use Rattle.run_model.proofs.DecisionLemmas.{decide_sat}
 use Rattle.run_model.proofs.RelationLemmas.{HoldsOf, holds_of, from_holds}
 use Rattle.run_model.proofs.RegularLemmas.{Signed, SignedAll, Compared, channel_signed, empty_relation, empty_bound, empty_signed, not_signed}
@@ -170,3 +170,73 @@ one_where_conjunctive (Or fs) true h = cond_both (is_local (Or fs)) (parts true 
 one_where_conjunctive (Or fs) false h = refl
 one_where_conjunctive (Temporal operator f) sign h = refl
 one_where_conjunctive (Until all left right) sign h = refl
+
+-- ---- and, where each `and` and `or` has two members or more, it is regular where there is one
+
+size : Formulas → ℕ
+size Nil = 0
+size (Cons f fs) = suc (size fs)
+
+two_members : (fs : Formulas) → has_two fs ≡ true → 2 ≤ size fs
+unfolding size
+two_members Nil h = absurd (false≢true h)
+two_members (Cons f Nil) h = absurd (false≢true h)
+two_members (Cons f (Cons g fs)) h = omega arith
+
+mutual
+  unfolding is_wide all_wide disjuncts all_disjuncts size
+  some_disjunct : (f : Formula) (sign : Bool) → is_wide f ≡ true → 1 ≤ length (disjuncts sign f)
+  some_disjunct (Truth b) sign h = omega arith
+  some_disjunct (Comparison q variable relation side) sign h = omega arith
+  some_disjunct (Watched q watch) sign h = omega arith
+  some_disjunct (InTransit p q relation m) sign h = omega arith
+  some_disjunct (Empty p q) sign h = omega arith
+  some_disjunct (Not f) sign h = cond_both (is_local (Not f)) (parts sign (Not f) ∷ []) (disjuncts (not sign) f) (λ ds. 1 ≤ length ds) (λ t. omega arith) (λ t. some_disjunct f (not sign) h)
+  some_disjunct (And fs) true h = omega arith
+  some_disjunct (And fs) false h = cond_both (is_local (And fs)) (parts false (And fs) ∷ []) (all_disjuncts false fs) (λ ds. 1 ≤ length ds) (λ t. omega arith)
+      (λ t. let w = and_parts (has_two fs) (all_wide fs) h in omega (arith, each_disjunct fs false w.1, two_members fs w.0))
+  some_disjunct (Or fs) true h = cond_both (is_local (Or fs)) (parts true (Or fs) ∷ []) (all_disjuncts true fs) (λ ds. 1 ≤ length ds) (λ t. omega arith)
+      (λ t. let w = and_parts (has_two fs) (all_wide fs) h in omega (arith, each_disjunct fs true w.1, two_members fs w.0))
+  some_disjunct (Or fs) false h = omega arith
+  some_disjunct (Temporal operator f) sign h = omega arith
+  some_disjunct (Until all left right) sign h = omega arith
+
+  each_disjunct : (fs : Formulas) (sign : Bool) → all_wide fs ≡ true → size fs ≤ length (all_disjuncts sign fs)
+  each_disjunct Nil sign h = omega arith
+  each_disjunct (Cons f fs) sign h =
+      let w = and_parts (is_wide f) (all_wide fs) h in
+      omega (arith, length-append (disjuncts sign f) (all_disjuncts sign fs), some_disjunct f sign w.0, each_disjunct fs sign w.1)
+
+-- two disjuncts or more are not one
+more_than_one : (fs : Formulas) (sign : Bool) → (has_two fs && all_wide fs) ≡ true → length (all_disjuncts sign fs) ≡ 1 → ⊥
+more_than_one fs sign h e = let w = and_parts (has_two fs) (all_wide fs) h in absurd (omega (arith, e, each_disjunct fs sign w.1, two_members fs w.0))
+
+pub conjunctive_where_one : (f : Formula) (sign : Bool) → is_wide f ≡ true → is_disjunctive sign f ≡ true → length (disjuncts sign f) ≡ 1 → is_conjunctive sign f ≡ true
+unfolding is_wide all_wide is_conjunctive all_conjunctive is_disjunctive all_disjunctive disjuncts all_disjuncts
+conjunctive_where_one (Truth b) sign w h e = refl
+conjunctive_where_one (Comparison q variable relation side) sign w h e = h
+conjunctive_where_one (Watched q watch) sign w h e = refl
+conjunctive_where_one (InTransit p q relation m) sign w h e = h
+conjunctive_where_one (Empty p q) sign w h e = refl
+conjunctive_where_one (Not f) sign w h e = elim (or_cases (is_local (Not f) || is_conjunctive (not sign) f) (is_disjunctive (not sign) f) h) [
+    inl c ↦ c
+  | inr d ↦ elim (cases_Bool (is_local (Not f))) [
+        inl t ↦ or_left (is_local (Not f)) (is_conjunctive (not sign) f) t
+      | inr n ↦ or_right (is_local (Not f)) (is_conjunctive (not sign) f) (conjunctive_where_one f (not sign) w d (ap length (sym (cond-false (is_local (Not f)) (parts sign (Not f) ∷ []) (disjuncts (not sign) f) n)) ∙ e))
+      ]
+  ]
+conjunctive_where_one (And fs) true w h e = h
+conjunctive_where_one (And fs) false w h e = elim (cases_Bool (is_local (And fs))) [
+    inl t ↦ t
+  | inr n ↦ absurd (more_than_one fs false w (ap length (sym (cond-false (is_local (And fs)) (parts false (And fs) ∷ []) (all_disjuncts false fs) n)) ∙ e))
+  ]
+conjunctive_where_one (Or fs) true w h e = elim (cases_Bool (is_local (Or fs))) [
+    inl t ↦ t
+  | inr n ↦ absurd (more_than_one fs true w (ap length (sym (cond-false (is_local (Or fs)) (parts true (Or fs) ∷ []) (all_disjuncts true fs) n)) ∙ e))
+  ]
+conjunctive_where_one (Or fs) false w h e = h
+conjunctive_where_one (Temporal operator f) sign w h e = h
+conjunctive_where_one (Until all left right) sign w h e = absurd (false≢true h)
+
+pub regular_is_one : (f : Formula) → is_wide f ≡ true → IsOfClass f → IsRegular f ↔ (length (disjuncts true f) ≡ 1)
+regular_is_one f w h = (λ k. one_where_conjunctive f true k, λ e. conjunctive_where_one f true w h e)

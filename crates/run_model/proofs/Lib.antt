@@ -12,3 +12,5 @@ pub mod DecisionLemmas
 pub mod RelationLemmas
 pub mod RegularLemmas
 pub mod DisjunctLemmas
+pub mod WitnessLemmas
+pub mod TraceLemmas

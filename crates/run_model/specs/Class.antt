@@ -86,6 +86,29 @@ is_analysed Ex = false
 is_analysed Af = false
 is_analysed Ax = false
 
+abbrev pub has_two : Formulas → Bool
+has_two Nil = false
+has_two (Cons f Nil) = false
+has_two (Cons f (Cons g fs)) = true
+
+-- each `and` and each `or` has two members or more, as in every formula that is read
+unfoldable mutual
+  pub is_wide : Formula → Bool
+  is_wide (Truth b) = true
+  is_wide (Comparison process variable relation side) = true
+  is_wide (Watched process watch) = true
+  is_wide (InTransit sender receiver relation k) = true
+  is_wide (Empty sender receiver) = true
+  is_wide (Not f) = is_wide f
+  is_wide (And fs) = has_two fs && all_wide fs
+  is_wide (Or fs) = has_two fs && all_wide fs
+  is_wide (Temporal operator f) = is_wide f
+  is_wide (Until all left right) = is_wide left && is_wide right
+
+  pub all_wide : Formulas → Bool
+  all_wide Nil = true
+  all_wide (Cons f fs) = is_wide f && all_wide fs
+
 -- the formula with this sign is a conjunction of regular parts
 unfoldable mutual
   pub is_conjunctive : Bool → Formula → Bool

@@ -7,3 +7,4 @@ pub mod Slice
 pub mod Operators
 pub mod Meaning
 pub mod Class
+pub mod Witness
