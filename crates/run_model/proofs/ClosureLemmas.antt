@@ -1,5 +1,5 @@
 -- EF, AG and EG keep sets closed under minimum and maximum, without a slice of the set.
-use Rattle.std.proofs.Common.{◌≡◌, ℕ, zero, suc, ◌+◌, ◌-◌, ◌<◌, ◌≤◌, ◌⊎◌, ◌↔◌, List, [], ◌∷◌, length, sym, ap, ◌∙◌, subst, refl, inl, inr, arith, le_refl, le_trans, ◌++◌}
+use Rattle.std.proofs.Common.{◌≡◌, ℕ, ◌<◌, ◌≤◌, ◌⊎◌, List, [], ◌∷◌, length, sym, ap, ◌∙◌, subst, inl, inr, arith, ◌++◌}
 use Rattle.std.proofs.lemmas.Bool.{cases_lt, cases_eq}
 use Rattle.run_model.specs.Cut.{Cut, Clocks, count, IsWithin, min_cut, max_cut, with_next, Follows, lengths}
 use Rattle.run_model.specs.Consistent.{IsOrder, IsConsistent, PathIn, IsPath}
@@ -7,8 +7,8 @@ use Rattle.run_model.specs.Sublattice.{IsClosed, AllIn}
 use Rattle.run_model.specs.Operators.{SomeTime, EachTime, Staying}
 use Rattle.run_model.proofs.Counts.{count-min, count-max, length-min, length-max, within_trans, min_left, max_left, max_right, max_within, same_counts, max_absorbs, length-with_next, with_next_same, with_next_other}
 use Rattle.run_model.proofs.Orders.{min_consistent, max_consistent}
-use Rattle.run_model.proofs.Paths.{path_first, path_last, path_rises, path_joined, path_wider, path_all, path_both, all_first, each_time_ends, each_time_from_ends}
-use Rattle.run_model.proofs.OperatorLemmas.{path_exists, staying_last}
+use Rattle.run_model.proofs.Paths.{path_first, path_last, path_rises, path_joined, path_wider, path_all, all_first, each_time_ends, each_time_from_ends}
+use Rattle.run_model.proofs.OperatorLemmas.{path_exists}
 
 -- ---- EF
 
@@ -47,7 +47,7 @@ each_time_min o order A keeps c d k l each other = each_time_from_ends o A (min_
     let q = path_exists o order c (max_cut e c) k x (max_right e c) in
     let r = path_exists o order d (max_cut e d) l y (max_right e d) in
     subst A (spread e c d (at_e.shaped ∙ sym k.shaped) (k.shaped ∙ sym l.shaped) (path_rises (IsConsistent o) (min_cut c d) es e p))
-      (keeps (max_cut e c) (max_cut e d) x y (each_time_ends o A c each q.0 (max_cut e c) q.1) (each_time_ends o A d other r.0 (max_cut e d) r.1)))
+    (keeps (max_cut e c) (max_cut e d) x y (each_time_ends o A c each q.0 (max_cut e c) q.1) (each_time_ends o A d other r.0 (max_cut e d) r.1)))
 
 -- ---- EG
 
@@ -57,17 +57,17 @@ mapped_path A B f keeps steps c [] d p = ([], (keeps c p.0, ap f p.1))
 mapped_path A B f keeps steps c (e ∷ es) d p =
     let rest = mapped_path A B f keeps steps e es d p.2 in
     elim (steps c e p.0 (path_first A e es d p.2) p.1) [
-      inl still ↦ (rest.0, subst (λ x. PathIn B x rest.0 (f d)) still rest.1)
-    | inr step ↦ (f e ∷ rest.0, (keeps c p.0, step, rest.1))
+      | inl still ↦ (rest.0, subst (λ x. PathIn B x rest.0 (f d)) still rest.1)
+      | inr step ↦ (f e ∷ rest.0, (keeps c p.0, step, rest.1))
     ]
 
 max_next_still : (x d : Cut) (k : ℕ) → k < length x → length x ≡ length d → count x k < count d k → max_cut (with_next x k) d ≡ max_cut x d
 max_next_still x d k there s h = same_counts (max_cut (with_next x k) d) (max_cut x d)
     (omega (arith, length-max (with_next x k) d, length-max x d, length-with_next x k))
     (λ i. elim (cases_eq i k) [
-        inl e ↦ subst (λ y. count (max_cut (with_next x k) d) y ≡ count (max_cut x d) y) (sym e) (omega (arith, count-max (with_next x k) d k, count-max x d k, with_next_same x k there, h))
+      | inl e ↦ subst (λ y. count (max_cut (with_next x k) d) y ≡ count (max_cut x d) y) (sym e) (omega (arith, count-max (with_next x k) d k, count-max x d k, with_next_same x k there, h))
       | inr ne ↦ omega (arith, count-max (with_next x k) d i, count-max x d i, with_next_other x k i ne)
-      ])
+    ])
 
 max_next_step : (x d : Cut) (k : ℕ) → k < length x → length x ≡ length d → count d k ≤ count x k → max_cut (with_next x k) d ≡ with_next (max_cut x d) k
 max_next_step x d k there s h =
@@ -75,25 +75,25 @@ max_next_step x d k there s h =
     same_counts (max_cut (with_next x k) d) (with_next (max_cut x d) k)
     (omega (arith, length-max (with_next x k) d, length-max x d, length-with_next x k, length-with_next (max_cut x d) k))
     (λ i. elim (cases_eq i k) [
-        inl e ↦ subst (λ y. count (max_cut (with_next x k) d) y ≡ count (with_next (max_cut x d) k) y) (sym e) (omega (arith, count-max (with_next x k) d k, count-max x d k, with_next_same x k there, with_next_same (max_cut x d) k in_max, h))
+      | inl e ↦ subst (λ y. count (max_cut (with_next x k) d) y ≡ count (with_next (max_cut x d) k) y) (sym e) (omega (arith, count-max (with_next x k) d k, count-max x d k, with_next_same x k there, with_next_same (max_cut x d) k in_max, h))
       | inr ne ↦ omega (arith, count-max (with_next x k) d i, count-max x d i, with_next_other x k i ne, with_next_other (max_cut x d) k i ne)
-      ])
+    ])
 
 max_steps : (o : Clocks) (d : Cut) → IsConsistent o d → (x e : Cut) → IsConsistent o x → Follows x e → (max_cut e d ≡ max_cut x d) ⊎ Follows (max_cut x d) (max_cut e d)
 max_steps o d l x e k f =
     let s = k.shaped ∙ sym l.shaped in
     elim (cases_lt (count x f.0) (count d f.0)) [
-      inl h ↦ inl (subst (λ y. max_cut y d ≡ max_cut x d) (sym f.2) (max_next_still x d f.0 f.1 s h))
-    | inr h ↦ inr (f.0, omega (arith, length-max x d, f.1), subst (λ y. max_cut y d ≡ with_next (max_cut x d) f.0) (sym f.2) (max_next_step x d f.0 f.1 s h))
+      | inl h ↦ inl (subst (λ y. max_cut y d ≡ max_cut x d) (sym f.2) (max_next_still x d f.0 f.1 s h))
+      | inr h ↦ inr (f.0, omega (arith, length-max x d, f.1), subst (λ y. max_cut y d ≡ with_next (max_cut x d) f.0) (sym f.2) (max_next_step x d f.0 f.1 s h))
     ]
 
 min_next_still : (x d : Cut) (k : ℕ) → k < length x → length x ≡ length d → count d k ≤ count x k → min_cut (with_next x k) d ≡ min_cut x d
 min_next_still x d k there s h = same_counts (min_cut (with_next x k) d) (min_cut x d)
     (omega (arith, length-min (with_next x k) d, length-min x d, length-with_next x k))
     (λ i. elim (cases_eq i k) [
-        inl e ↦ subst (λ y. count (min_cut (with_next x k) d) y ≡ count (min_cut x d) y) (sym e) (omega (arith, count-min (with_next x k) d k, count-min x d k, with_next_same x k there, h))
+      | inl e ↦ subst (λ y. count (min_cut (with_next x k) d) y ≡ count (min_cut x d) y) (sym e) (omega (arith, count-min (with_next x k) d k, count-min x d k, with_next_same x k there, h))
       | inr ne ↦ omega (arith, count-min (with_next x k) d i, count-min x d i, with_next_other x k i ne)
-      ])
+    ])
 
 min_next_step : (x d : Cut) (k : ℕ) → k < length x → length x ≡ length d → count x k < count d k → min_cut (with_next x k) d ≡ with_next (min_cut x d) k
 min_next_step x d k there s h =
@@ -101,16 +101,16 @@ min_next_step x d k there s h =
     same_counts (min_cut (with_next x k) d) (with_next (min_cut x d) k)
     (omega (arith, length-min (with_next x k) d, length-min x d, length-with_next x k, length-with_next (min_cut x d) k))
     (λ i. elim (cases_eq i k) [
-        inl e ↦ subst (λ y. count (min_cut (with_next x k) d) y ≡ count (with_next (min_cut x d) k) y) (sym e) (omega (arith, count-min (with_next x k) d k, count-min x d k, with_next_same x k there, with_next_same (min_cut x d) k in_min, h))
+      | inl e ↦ subst (λ y. count (min_cut (with_next x k) d) y ≡ count (with_next (min_cut x d) k) y) (sym e) (omega (arith, count-min (with_next x k) d k, count-min x d k, with_next_same x k there, with_next_same (min_cut x d) k in_min, h))
       | inr ne ↦ omega (arith, count-min (with_next x k) d i, count-min x d i, with_next_other x k i ne, with_next_other (min_cut x d) k i ne)
-      ])
+    ])
 
 min_steps : (o : Clocks) (d : Cut) → IsConsistent o d → (x e : Cut) → IsConsistent o x → Follows x e → (min_cut e d ≡ min_cut x d) ⊎ Follows (min_cut x d) (min_cut e d)
 min_steps o d l x e k f =
     let s = k.shaped ∙ sym l.shaped in
     elim (cases_lt (count x f.0) (count d f.0)) [
-      inl h ↦ inr (f.0, omega (arith, length-min x d, f.1, s), subst (λ y. min_cut y d ≡ with_next (min_cut x d) f.0) (sym f.2) (min_next_step x d f.0 f.1 s h))
-    | inr h ↦ inl (subst (λ y. min_cut y d ≡ min_cut x d) (sym f.2) (min_next_still x d f.0 f.1 s h))
+      | inl h ↦ inr (f.0, omega (arith, length-min x d, f.1, s), subst (λ y. min_cut y d ≡ with_next (min_cut x d) f.0) (sym f.2) (min_next_step x d f.0 f.1 s h))
+      | inr h ↦ inl (subst (λ y. min_cut y d ≡ min_cut x d) (sym f.2) (min_next_still x d f.0 f.1 s h))
     ]
 
 -- the consistent cuts of A
@@ -152,21 +152,21 @@ staying_min o order A keeps c d l w v =
 
 pub some_time_closed : (o : Clocks) → IsOrder o → (A : Cut → Type 0) → IsClosed o A → IsClosed o (λ c. IsConsistent o c × SomeTime o A c)
 some_time_closed o order A closed = record {
-    consistent = λ c h. h.0;
-    has_min = λ c d h l. (min_consistent o order c d h.0 l.0, some_time_min o order A c d h.0 l.0 h.1);
-    has_max = λ c d h l. (max_consistent o order c d h.0 l.0, some_time_max o order A (λ x y p q. closed.has_max x y) c d h.0 l.0 h.1 l.1)
-  }
+  consistent = λ c h. h.0;
+  has_min = λ c d h l. (min_consistent o order c d h.0 l.0, some_time_min o order A c d h.0 l.0 h.1);
+  has_max = λ c d h l. (max_consistent o order c d h.0 l.0, some_time_max o order A (λ x y p q. closed.has_max x y) c d h.0 l.0 h.1 l.1);
+}
 
 pub each_time_closed : (o : Clocks) → IsOrder o → (A : Cut → Type 0) → IsClosed o A → IsClosed o (λ c. IsConsistent o c × EachTime o A c)
 each_time_closed o order A closed = record {
-    consistent = λ c h. h.0;
-    has_min = λ c d h l. (min_consistent o order c d h.0 l.0, each_time_min o order A (λ x y p q. closed.has_min x y) c d h.0 l.0 h.1 l.1);
-    has_max = λ c d h l. (max_consistent o order c d h.0 l.0, each_time_max o order A c d h.0 h.1)
-  }
+  consistent = λ c h. h.0;
+  has_min = λ c d h l. (min_consistent o order c d h.0 l.0, each_time_min o order A (λ x y p q. closed.has_min x y) c d h.0 l.0 h.1 l.1);
+  has_max = λ c d h l. (max_consistent o order c d h.0 l.0, each_time_max o order A c d h.0 h.1);
+}
 
 pub staying_closed : (o : Clocks) → IsOrder o → (A : Cut → Type 0) → IsClosed o A → IsClosed o (λ c. IsConsistent o c × Staying o A c)
 staying_closed o order A closed = record {
-    consistent = λ c h. h.0;
-    has_min = λ c d h l. (min_consistent o order c d h.0 l.0, staying_min o order A (λ x y p q. closed.has_min x y) c d l.0 h.1 l.1);
-    has_max = λ c d h l. (max_consistent o order c d h.0 l.0, staying_max o order A (λ x y p q. closed.has_max x y) c d l.0 (all_first A d l.1.0 l.1.2) h.1)
-  }
+  consistent = λ c h. h.0;
+  has_min = λ c d h l. (min_consistent o order c d h.0 l.0, staying_min o order A (λ x y p q. closed.has_min x y) c d l.0 h.1 l.1);
+  has_max = λ c d h l. (max_consistent o order c d h.0 l.0, staying_max o order A (λ x y p q. closed.has_max x y) c d l.0 (all_first A d l.1.0 l.1.2) h.1);
+}

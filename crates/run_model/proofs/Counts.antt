@@ -1,8 +1,8 @@
 -- Cuts by their counts: minimum, maximum, order, the next cut, and the number of events of a cut.
-use Rattle.std.proofs.Common.{◌≡◌, ℕ, zero, suc, ◌+◌, ◌-◌, ◌<◌, ◌≤◌, ◌⊎◌, min, max, List, [], ◌∷◌, length, get_or, set, replicate, map, sym, ap, ◌∙◌, subst, refl, inl, inr, arith, le_refl, le_trans, zero-le}
-use Rattle.std.proofs.lemmas.List.{ext_get_or, length-set, length-map, length-replicate, get_or-set_same, get_or-set_other, get_or_past, get_or-map}
-use Rattle.std.proofs.lemmas.Bool.{cases_lt, cases_eq}
-use Rattle.run_model.specs.Cut.{Cut, Clocks, count, IsWithin, min_cut, max_cut, with_next, Follows, lengths, initial}
+use Rattle.std.proofs.Common.{◌≡◌, ℕ, zero, suc, ◌+◌, ◌<◌, ◌≤◌, ◌⊎◌, min, max, [], ◌∷◌, length, replicate, sym, subst, refl, inl, inr, arith, le_refl, zero-le}
+use Rattle.std.proofs.lemmas.List.{ext_get_or, length-set, length-map, length-replicate, get_or-set_same, get_or-set_other, get_or_past}
+use Rattle.std.proofs.lemmas.Bool.{cases_eq}
+use Rattle.run_model.specs.Cut.{Cut, Clocks, count, IsWithin, min_cut, max_cut, with_next, lengths, initial}
 
 pub count-min : (c d : Cut) (i : ℕ) → count (min_cut c d) i ≡ min (count c i) (count d i)
 unfolding min_cut
@@ -88,16 +88,16 @@ with_next_other c i j ne = get_or-set_other c i j (count c i + 1) 0 ne
 
 pub with_next_above : (c : Cut) (i : ℕ) → i < length c → IsWithin c (with_next c i)
 with_next_above c i h j = elim (cases_eq j i) [
-    inl e ↦ subst (λ x. count c x ≤ count (with_next c i) x) (sym e) (omega (arith, with_next_same c i h))
+  | inl e ↦ subst (λ x. count c x ≤ count (with_next c i) x) (sym e) (omega (arith, with_next_same c i h))
   | inr ne ↦ omega (arith, with_next_other c i j ne)
-  ]
+]
 
 -- a cut that has c and the next event of i has the next cut
 pub with_next_least : (c d : Cut) (i : ℕ) → i < length c → IsWithin c d → count c i + 1 ≤ count d i → IsWithin (with_next c i) d
 with_next_least c d i l h k j = elim (cases_eq j i) [
-    inl e ↦ subst (λ x. count (with_next c i) x ≤ count d x) (sym e) (omega (arith, with_next_same c i l))
+  | inl e ↦ subst (λ x. count (with_next c i) x ≤ count d x) (sym e) (omega (arith, with_next_same c i l))
   | inr ne ↦ omega (arith, with_next_other c i j ne, h j)
-  ]
+]
 
 pub length-lengths : (o : Clocks) → length (lengths o) ≡ length o
 unfolding lengths
@@ -143,12 +143,12 @@ total_below (x ∷ c) (y ∷ d) (suc i) h k = omega (arith, h 0, total_below c d
 pub search_below : (P Q : ℕ → Type 0) → ((j : ℕ) → P j ⊎ Q j) → (k : ℕ) → ((j : ℕ) × (j < k) × P j) ⊎ ((j : ℕ) → j < k → Q j)
 search_below P Q d zero = inr (λ j l. absurd (omega arith))
 search_below P Q d (suc k) = elim (search_below P Q d k) [
-    inl w ↦ inl (w.0, omega (arith, w.1), w.2)
+  | inl w ↦ inl (w.0, omega (arith, w.1), w.2)
   | inr f ↦ elim (d k) [
-        inl p ↦ inl (k, omega arith, p)
-      | inr q ↦ inr (λ j l. elim (cases_eq j k) [
-            inl e ↦ subst Q (sym e) q
-          | inr ne ↦ f j (omega (arith, ne))
-          ])
-      ]
+    | inl p ↦ inl (k, omega arith, p)
+    | inr q ↦ inr (λ j l. elim (cases_eq j k) [
+      | inl e ↦ subst Q (sym e) q
+      | inr ne ↦ f j (omega (arith, ne))
+    ])
   ]
+]

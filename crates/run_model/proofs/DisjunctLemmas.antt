@@ -1,6 +1,6 @@
 -- The disjuncts of a formula mean the formula, and there is one exactly where it is regular.
-use Rattle.std.proofs.Common.{◌≡◌, ℕ, zero, suc, ◌+◌, ◌-◌, ◌<◌, ◌≤◌, ◌⊎◌, ◌↔◌, Bool, true, false, not, ◌&&◌, ◌||◌, cond, List, [], ◌∷◌, ◌++◌, length, pos, sym, ap, ◌∙◌, subst, refl, inl, inr, arith, length-append}
-use Rattle.std.proofs.lemmas.Bool.{cases_lt, cases_Bool, cond_both, and_parts, and_from, or_cases, or_left, or_right, cond-false, false≢true, both_ways}
+use Rattle.std.proofs.Common.{◌≡◌, ℕ, zero, suc, ◌+◌, ◌≤◌, ◌⊎◌, ◌↔◌, Bool, true, false, not, ◌&&◌, ◌||◌, List, [], ◌∷◌, ◌++◌, length, sym, ap, ◌∙◌, refl, inl, inr, arith, length-append}
+use Rattle.std.proofs.lemmas.Bool.{cases_Bool, cond_both, and_parts, or_cases, or_left, or_right, cond-false, false≢true, both_ways}
 use Rattle.run_model.specs.Cut.{Cut}
 use Rattle.run_model.specs.Run.{Name, Run}
 use Rattle.run_model.specs.Consistent.{IsOrder, IsConsistent}
@@ -8,7 +8,7 @@ use Rattle.run_model.specs.Formula.{Relation, Equal, Unequal, Less, LessOrEqual,
 use Rattle.run_model.specs.Meaning.{in_transit, Sat, SatAll, SatSome}
 use Rattle.run_model.specs.Class.{is_local, after_sign, is_conjunctive, all_conjunctive, is_disjunctive, all_disjunctive, IsRegular, IsOfClass, has_two, is_wide, all_wide, signed, channel_parts, empty_parts, parts, all_parts, disjuncts, all_disjuncts, SatParts, SatDisjuncts}
 use Rattle.run_model.proofs.DecisionLemmas.{decide_sat}
-use Rattle.run_model.proofs.RelationLemmas.{HoldsOf, holds_of, from_holds}
+use Rattle.run_model.proofs.RelationLemmas.{holds_of, from_holds}
 use Rattle.run_model.proofs.RegularLemmas.{Signed, SignedAll, Compared, channel_signed, empty_relation, empty_bound, empty_signed, not_signed}
 
 then_iff : {A B C : Type 0} → A ↔ B → B ↔ C → A ↔ C
@@ -19,9 +19,9 @@ both_iff e f = (λ h. (e.0 h.0, f.0 h.1), λ h. (e.1 h.0, f.1 h.1))
 
 either_iff : {A B C D : Type 0} → A ↔ B → C ↔ D → (A ⊎ C) ↔ (B ⊎ D)
 either_iff e f = (
-    λ h. elim h [ inl a ↦ inl (e.0 a) | inr c ↦ inr (f.0 c) ],
-    λ h. elim h [ inl b ↦ inl (e.1 b) | inr d ↦ inr (f.1 d) ]
-  )
+  λ h. elim h [ inl a ↦ inl (e.0 a) | inr c ↦ inr (f.0 c) ],
+  λ h. elim h [ inl b ↦ inl (e.1 b) | inr d ↦ inr (f.1 d) ],
+)
 
 pub parts_joined : (r : Run) (xs ys : List Formula) (c : Cut) → SatParts r (xs ++ ys) c ↔ (SatParts r xs c × SatParts r ys c)
 parts_joined r [] ys c = (λ h. (tt, h), λ h. h.1)
@@ -32,10 +32,9 @@ parts_joined r (f ∷ xs) ys c =
 pub disjuncts_joined : (r : Run) (xs ys : List (List Formula)) (c : Cut) → SatDisjuncts r (xs ++ ys) c ↔ (SatDisjuncts r xs c ⊎ SatDisjuncts r ys c)
 disjuncts_joined r [] ys c = (λ h. inr h, λ h. elim h [ inl n ↦ absurd n | inr k ↦ k ])
 disjuncts_joined r (d ∷ xs) ys c =
-    let rest = disjuncts_joined r xs ys c in
-    (
+    let rest = disjuncts_joined r xs ys c in (
       λ h. elim h [ inl p ↦ inl (inl p) | inr q ↦ elim (rest.0 q) [ inl u ↦ inl (inr u) | inr v ↦ inr v ] ],
-      λ h. elim h [ inl w ↦ elim w [ inl p ↦ inl p | inr u ↦ inr (rest.1 (inl u)) ] | inr v ↦ inr (rest.1 (inr v)) ]
+      λ h. elim h [ inl w ↦ elim w [ inl p ↦ inl p | inr u ↦ inr (rest.1 (inl u)) ] | inr v ↦ inr (rest.1 (inr v)) ],
     )
 
 one_part : (r : Run) (sign : Bool) (f : Formula) (c : Cut) → SatParts r (signed sign f ∷ []) c ↔ Signed r sign f c
@@ -52,9 +51,9 @@ transit r p q c = in_transit r (r.process p) (r.process q) c
 
 bounds_mean : (r : Run) (p q : Name) (relation : Relation) (k : ℕ) (c : Cut) → SatParts r (channel_parts p q relation k) c ↔ Compared r p q relation k c
 bounds_mean r p q Equal k c = (
-    λ h. omega (arith, holds_of LessOrEqual (transit r p q c) k h.0, holds_of GreaterOrEqual (transit r p q c) k h.1.0),
-    λ h. (from_holds LessOrEqual (transit r p q c) k (omega (arith, h)), (from_holds GreaterOrEqual (transit r p q c) k (omega (arith, h)), tt))
-  )
+  λ h. omega (arith, holds_of LessOrEqual (transit r p q c) k h.0, holds_of GreaterOrEqual (transit r p q c) k h.1.0),
+  λ h. (from_holds LessOrEqual (transit r p q c) k (omega (arith, h)), (from_holds GreaterOrEqual (transit r p q c) k (omega (arith, h)), tt)),
+)
 bounds_mean r p q Unequal k c = (λ h. holds_of Unequal (transit r p q c) k h.0, λ h. (from_holds Unequal (transit r p q c) k h, tt))
 bounds_mean r p q Less zero c = (λ h. absurd (false≢true h.0), λ h. absurd (omega (arith, h)))
 bounds_mean r p q Less (suc k) c = (λ h. omega (arith, holds_of LessOrEqual (transit r p q c) k h.0), λ h. (from_holds LessOrEqual (transit r p q c) k (omega (arith, h)), tt))
@@ -78,6 +77,7 @@ more_iff r false f fs c = (λ h w. elim w [ inl u ↦ h.0 u | inr v ↦ h.1 v ],
 
 mutual
   unfolding parts all_parts
+
   pub parts_mean : (r : Run) → IsOrder r.clocks → (f : Formula) (sign : Bool) (c : Cut) → IsConsistent r.clocks c → SatParts r (parts sign f) c ↔ Signed r sign f c
   parts_mean r order (Truth b) sign c k = one_part r sign (Truth b) c
   parts_mean r order (Comparison q variable relation side) sign c k = one_part r sign (Comparison q variable relation side) c
@@ -117,12 +117,13 @@ none_some_iff r false c = (λ h. absurd h, λ h. h tt)
 more_some_iff : (r : Run) → IsOrder r.clocks → (sign : Bool) (f : Formula) (fs : Formulas) (c : Cut) → IsConsistent r.clocks c → (Signed r sign f c ⊎ SignedSome r sign fs c) ↔ SignedSome r sign (Cons f fs) c
 more_some_iff r order true f fs c k = (λ h. h, λ h. h)
 more_some_iff r order false f fs c k = (
-    λ h w. elim h [ inl u ↦ u w.0 | inr v ↦ v w.1 ],
-    λ h. elim (decide_sat r order f c k) [ inl p ↦ inr (λ v. h (p, v)) | inr n ↦ inl n ]
-  )
+  λ h w. elim h [ inl u ↦ u w.0 | inr v ↦ v w.1 ],
+  λ h. elim (decide_sat r order f c k) [ inl p ↦ inr (λ v. h (p, v)) | inr n ↦ inl n ],
+)
 
 mutual
   unfolding disjuncts all_disjuncts
+
   pub disjuncts_signed : (r : Run) → IsOrder r.clocks → (f : Formula) (sign : Bool) (c : Cut) → IsConsistent r.clocks c → SatDisjuncts r (disjuncts sign f) c ↔ Signed r sign f c
   disjuncts_signed r order (Truth b) sign c k = then_iff (one_disjunct r (parts sign (Truth b)) c) (parts_mean r order (Truth b) sign c k)
   disjuncts_signed r order (Comparison q variable relation side) sign c k = then_iff (one_disjunct r (parts sign (Comparison q variable relation side)) c) (parts_mean r order (Comparison q variable relation side) sign c k)
@@ -185,6 +186,7 @@ two_members (Cons f (Cons g fs)) h = omega arith
 
 mutual
   unfolding is_wide all_wide disjuncts all_disjuncts size
+
   some_disjunct : (f : Formula) (sign : Bool) → is_wide f ≡ true → 1 ≤ length (disjuncts sign f)
   some_disjunct (Truth b) sign h = omega arith
   some_disjunct (Comparison q variable relation side) sign h = omega arith
@@ -219,21 +221,21 @@ conjunctive_where_one (Watched q watch) sign w h e = refl
 conjunctive_where_one (InTransit p q relation m) sign w h e = h
 conjunctive_where_one (Empty p q) sign w h e = refl
 conjunctive_where_one (Not f) sign w h e = elim (or_cases (is_local (Not f) || is_conjunctive (not sign) f) (is_disjunctive (not sign) f) h) [
-    inl c ↦ c
+  | inl c ↦ c
   | inr d ↦ elim (cases_Bool (is_local (Not f))) [
-        inl t ↦ or_left (is_local (Not f)) (is_conjunctive (not sign) f) t
-      | inr n ↦ or_right (is_local (Not f)) (is_conjunctive (not sign) f) (conjunctive_where_one f (not sign) w d (ap length (sym (cond-false (is_local (Not f)) (parts sign (Not f) ∷ []) (disjuncts (not sign) f) n)) ∙ e))
-      ]
+    | inl t ↦ or_left (is_local (Not f)) (is_conjunctive (not sign) f) t
+    | inr n ↦ or_right (is_local (Not f)) (is_conjunctive (not sign) f) (conjunctive_where_one f (not sign) w d (ap length (sym (cond-false (is_local (Not f)) (parts sign (Not f) ∷ []) (disjuncts (not sign) f) n)) ∙ e))
   ]
+]
 conjunctive_where_one (And fs) true w h e = h
 conjunctive_where_one (And fs) false w h e = elim (cases_Bool (is_local (And fs))) [
-    inl t ↦ t
+  | inl t ↦ t
   | inr n ↦ absurd (more_than_one fs false w (ap length (sym (cond-false (is_local (And fs)) (parts false (And fs) ∷ []) (all_disjuncts false fs) n)) ∙ e))
-  ]
+]
 conjunctive_where_one (Or fs) true w h e = elim (cases_Bool (is_local (Or fs))) [
-    inl t ↦ t
+  | inl t ↦ t
   | inr n ↦ absurd (more_than_one fs true w (ap length (sym (cond-false (is_local (Or fs)) (parts true (Or fs) ∷ []) (all_disjuncts true fs) n)) ∙ e))
-  ]
+]
 conjunctive_where_one (Or fs) false w h e = h
 conjunctive_where_one (Temporal operator f) sign w h e = h
 conjunctive_where_one (Until all left right) sign w h e = absurd (false≢true h)

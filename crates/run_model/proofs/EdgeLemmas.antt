@@ -1,13 +1,13 @@
 -- Least cut, greatest cut and edges denote the cuts of a slice.
-use Rattle.std.proofs.Common.{◌≡◌, ℕ, zero, suc, ◌+◌, ◌-◌, ◌<◌, ◌≤◌, ◌⊎◌, ◌↔◌, Bool, true, false, ltb, ◌&&◌, cond, List, [], ◌∷◌, ◌++◌, length, get_or, flat_map, All, Option, Some, None, sym, ap, ◌∙◌, subst, refl, inl, inr, arith, le_refl, le_trans}
+use Rattle.std.proofs.Common.{◌≡◌, ℕ, zero, suc, ◌+◌, ◌<◌, ◌≤◌, ◌↔◌, Bool, true, ltb, ◌&&◌, List, [], ◌∷◌, ◌++◌, length, flat_map, All, Option, Some, None, subst, inl, inr, arith, le_refl, le_trans}
 use Rattle.std.specs.List.{range_with_len}
-use Rattle.std.proofs.lemmas.Bool.{cases_lt, cases_Bool, cond_both, ltb-true, lt-ltb, and_parts, and_from, cond-true}
+use Rattle.std.proofs.lemmas.Bool.{cases_lt, cond_both, ltb-true, lt-ltb, and_parts, and_from, cond-true}
 use Rattle.std.proofs.lemmas.List.Elements.{All-nil, All-cons, All-head, All-tail, All-append}
 use Rattle.run_model.specs.Cut.{Cut, Clocks, count, IsWithin}
 use Rattle.run_model.specs.Consistent.{clock, IsEvent, IsOrder, IsConsistent}
 use Rattle.run_model.specs.Sublattice.{IsLeast, IsGreatest}
 use Rattle.run_model.specs.Slice.{Slice, HasWithin, Cuts, Edge, Keeps, Denoted, cut_of, previous, edge_into, edges_of}
-use Rattle.run_model.proofs.Counts.{count_past, within_trans}
+use Rattle.run_model.proofs.Counts.{count_past}
 use Rattle.run_model.proofs.Orders.{has_process, event_up, has_past}
 use Rattle.run_model.proofs.SliceLemmas.{has_within_up}
 
@@ -28,9 +28,9 @@ all_flat P f a (suc n) h = All-append P (f a) (flat_map f (range_with_len (a + 1
 all_flat_at : {X : Type 0} (P : X → Type 0) (f : ℕ → List X) (a n k : ℕ) → a ≤ k → k < a + n → All P (flat_map f (range_with_len a n)) → All P (f k)
 all_flat_at P f a zero k l m h = absurd (omega (arith, l, m))
 all_flat_at P f a (suc n) k l m h = elim (cases_lt a k) [
-    inl later ↦ all_flat_at P f (a + 1) n k (omega (arith, later)) (omega (arith, m)) (all_right P (f a) (flat_map f (range_with_len (a + 1) n)) h)
+  | inl later ↦ all_flat_at P f (a + 1) n k (omega (arith, later)) (omega (arith, m)) (all_right P (f a) (flat_map f (range_with_len (a + 1) n)) h)
   | inr now ↦ subst (λ x. All P (f x)) (omega (arith, l, now)) (all_left P (f a) (flat_map f (range_with_len (a + 1) n)) h)
-  ]
+]
 
 -- ---- edges one by one
 
@@ -64,14 +64,14 @@ pub edges_listed : (o : Clocks) (s : Slice) (high c : Cut) → EdgesKept o s hig
 unfolding edges_of
 edges_listed o s high c h = all_flat (Keeps c) (λ p. flat_map (λ a. flat_map (edge_into o s p a) (range_with_len 0 (length (cut_of (s.row p a))))) (range_with_len 1 (count high p))) 0 (length high) (λ p l m.
     all_flat (Keeps c) (λ a. flat_map (edge_into o s p a) (range_with_len 0 (length (cut_of (s.row p a))))) 1 (count high p) (λ a first last.
-      all_flat (Keeps c) (edge_into o s p a) 0 (length (cut_of (s.row p a))) (λ q k n.
-        listed_one o s c p a q (λ t.
-          let both = and_parts (ltb (count (cut_of (previous s p a)) q) (count (cut_of (s.row p a)) q)) (ltb (count (clock o p a) q) (count (cut_of (s.row p a)) q)) t in
-          h p a q (record {
-              there = (omega (arith, first), omega (arith, last));
-              more = ltb-true (count (cut_of (previous s p a)) q) (count (cut_of (s.row p a)) q) both.0;
-              new = ltb-true (count (clock o p a) q) (count (cut_of (s.row p a)) q) both.1
-            })))))
+    all_flat (Keeps c) (edge_into o s p a) 0 (length (cut_of (s.row p a))) (λ q k n.
+    listed_one o s c p a q (λ t.
+    let both = and_parts (ltb (count (cut_of (previous s p a)) q) (count (cut_of (s.row p a)) q)) (ltb (count (clock o p a) q) (count (cut_of (s.row p a)) q)) t in
+    h p a q (record {
+      there = (omega (arith, first), omega (arith, last));
+      more = ltb-true (count (cut_of (previous s p a)) q) (count (cut_of (s.row p a)) q) both.0;
+      new = ltb-true (count (clock o p a) q) (count (cut_of (s.row p a)) q) both.1;
+    })))))
 
 pub edges_kept : (o : Clocks) (s : Slice) (high c : Cut) → All (Keeps c) (edges_of o s high) → EdgesKept o s high c
 unfolding edges_of
@@ -96,11 +96,11 @@ within_row (Some j) c d h l = l
 
 pub cuts_denoted : (o : Clocks) (s : Slice) (low high : Cut) → IsLeast (Cuts o s) low → IsGreatest (Cuts o s) high → (c : Cut) → Cuts o s c → Denoted o low high (edges_of o s high) c
 cuts_denoted o s low high least greatest c cut = record {
-    consistent = cut.consistent;
-    above = least.least c cut;
-    below = greatest.greatest c cut;
-    keeps = edges_listed o s high c (λ p a q e has. row_within (s.row p a) c (cut.rows p a (e.there.0, has)) q)
-  }
+  consistent = cut.consistent;
+  above = least.least c cut;
+  below = greatest.greatest c cut;
+  keeps = edges_listed o s high c (λ p a q e has. row_within (s.row p a) c (cut.rows p a (e.there.0, has)) q);
+}
 
 -- the row of an event of c is within c, by the row of the event before it, the past of the event and the edges
 abbrev Kept : Clocks → Slice → Cut → Cut → ℕ → ℕ → Type 0
@@ -110,12 +110,12 @@ kept_next : (o : Clocks) → IsOrder o → (s : Slice) (high : Cut) → Cuts o s
 kept_next o order s high top c k below edges i a ev before =
     let row = cut_of (s.row i a) in
     within_row (s.row i a) c high (top.rows i a (event_up c high i a below ev)) (λ q. elim (cases_lt (count (cut_of (previous s i a)) q) (count row q)) [
-        inr old ↦ le_trans old (row_within (previous s i a) c before q)
+      | inr old ↦ le_trans old (row_within (previous s i a) c before q)
       | inl more ↦ elim (cases_lt (count (clock o i a) q) (count row q)) [
-            inr old ↦ le_trans old (has_past o order c k i a ev q)
-          | inl new ↦ edges i a q (record { there = event_up c high i a below ev; more = more; new = new }) ev.1
-          ]
-      ])
+        | inr old ↦ le_trans old (has_past o order c k i a ev q)
+        | inl new ↦ edges i a q (record { there = event_up c high i a below ev; more = more; new = new }) ev.1
+      ]
+    ])
 
 kept_all : (o : Clocks) → IsOrder o → (s : Slice) (high : Cut) → Cuts o s high → (c : Cut) → IsConsistent o c → IsWithin c high → HasWithin s.bottom c → EdgesKept o s high c → (i a : ℕ) → IsEvent c i a → HasWithin (s.row i a) c
 kept_all o order s high top c k below bottom edges i zero ev = absurd (omega (arith, ev.0))
@@ -129,7 +129,7 @@ denoted_cuts o order s low high least greatest c d =
     record {
       consistent = d.consistent;
       from_bottom = bottom;
-      rows = kept_all o order s high greatest.member c d.consistent d.below bottom (edges_kept o s high c d.keeps)
+      rows = kept_all o order s high greatest.member c d.consistent d.below bottom (edges_kept o s high c d.keeps);
     }
 
 -- least cut, greatest cut and edges denote the cuts of the slice

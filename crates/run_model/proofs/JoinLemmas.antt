@@ -1,14 +1,14 @@
 -- The smallest sublattice round a set: by induction, by its slice, and by lists.
-use Rattle.std.proofs.Common.{◌≡◌, ℕ, zero, suc, ◌+◌, ◌-◌, ◌<◌, ◌≤◌, ◌⊎◌, ◌↔◌, List, [], ◌∷◌, ◌++◌, length, Option, Some, None, sym, ap, ◌∙◌, subst, refl, inl, inr, arith, le_refl, le_trans, zero-le}
+use Rattle.std.proofs.Common.{◌≡◌, ℕ, ◌≤◌, ◌↔◌, List, [], ◌∷◌, ◌++◌, Option, Some, None, sym, ap, ◌∙◌, subst, refl, inl, inr, arith, zero-le}
 use Rattle.std.proofs.lemmas.Bool.{cases_lt}
-use Rattle.run_model.specs.Cut.{Cut, Clocks, count, IsWithin, min_cut, max_cut, lengths}
-use Rattle.run_model.specs.Consistent.{IsEvent, IsOrder, IsConsistent}
-use Rattle.run_model.specs.Sublattice.{IsClosed, IsLeast, Having, Either, Smallest, given, minimum, maximum, AllIn, min_of, max_of, IsMinOf, IsMaxOfMins}
+use Rattle.run_model.specs.Cut.{Cut, Clocks, count, min_cut, max_cut}
+use Rattle.run_model.specs.Consistent.{IsOrder, IsConsistent}
+use Rattle.run_model.specs.Sublattice.{IsClosed, Having, Either, Smallest, given, minimum, maximum, AllIn, min_of, max_of, IsMinOf, IsMaxOfMins}
 use Rattle.run_model.specs.Slice.{Slice, HasWithin, IsLeastOf, StandsFor}
 use Rattle.run_model.specs.Operators.{min_row, joined}
 use Rattle.run_model.proofs.Counts.{count-min, count-max, length-min, length-max, same_counts, within_trans, min_left, min_right, max_left, max_right}
 use Rattle.run_model.proofs.Orders.{min_consistent, max_consistent}
-use Rattle.run_model.proofs.SliceLemmas.{least_within, least_same, has_within_up, has_within_min, stands_same}
+use Rattle.run_model.proofs.SliceLemmas.{least_within, least_same, has_within_up, has_within_min}
 
 -- what holds of the set and is kept by minimum and maximum holds of the smallest sublattice
 pub smallest_in : (A P : Cut → Type 0) → ((c : Cut) → A c → P c) → ((c d : Cut) → P c → P d → P (min_cut c d)) → ((c d : Cut) → P c → P d → P (max_cut c d)) → (c : Cut) → Smallest A c → P c
@@ -18,10 +18,10 @@ smallest_in A P base has_min has_max c (maximum {c = x} {d = y} h k) = has_max x
 
 pub smallest_closed : (o : Clocks) → IsOrder o → (A : Cut → Type 0) → ((c : Cut) → A c → IsConsistent o c) → IsClosed o (Smallest A)
 smallest_closed o order A consistent = record {
-    consistent = smallest_in A (IsConsistent o) consistent (min_consistent o order) (max_consistent o order);
-    has_min = λ c d h k. minimum h k;
-    has_max = λ c d h k. maximum h k
-  }
+  consistent = smallest_in A (IsConsistent o) consistent (min_consistent o order) (max_consistent o order);
+  has_min = λ c d h k. minimum h k;
+  has_max = λ c d h k. maximum h k;
+}
 
 pub smallest_least : (o : Clocks) (A B : Cut → Type 0) → IsClosed o B → ((c : Cut) → A c → B c) → (c : Cut) → Smallest A c → B c
 smallest_least o A B closed h = smallest_in A B h closed.has_min closed.has_max
@@ -48,23 +48,23 @@ row_right (Some j) (Some k) c h = within_trans (min_cut j k) k c (min_right j k)
 joined_least : (A B : Cut → Type 0) (i a : ℕ) (j k : Option Cut) → IsLeastOf (Having A i a) j → IsLeastOf (Having B i a) k → (c : Cut) → Smallest (Either A B) c → a ≤ count c i → HasWithin (min_row j k) c
 joined_least A B i a j k l m = smallest_in (Either A B) (λ c. a ≤ count c i → HasWithin (min_row j k) c)
     (λ c h has. elim h [
-        inl p ↦ row_left j k c (least_within (Having A i a) j c l (p, has))
+      | inl p ↦ row_left j k c (least_within (Having A i a) j c l (p, has))
       | inr q ↦ row_right j k c (least_within (Having B i a) k c m (q, has))
-      ])
+    ])
     (λ c d p q has. has_within_min (min_row j k) c d (p (omega (arith, has, count-min c d i))) (q (omega (arith, has, count-min c d i))))
     (λ c d p q has. elim (cases_lt (count c i) (count d i)) [
-        inl h ↦ has_within_up (min_row j k) d (max_cut c d) (max_right c d) (q (omega (arith, has, h, count-max c d i)))
+      | inl h ↦ has_within_up (min_row j k) d (max_cut c d) (max_right c d) (q (omega (arith, has, h, count-max c d i)))
       | inr h ↦ has_within_up (min_row j k) c (max_cut c d) (max_left c d) (p (omega (arith, has, h, count-max c d i)))
-      ])
+    ])
 
 joined_member : (A B : Cut → Type 0) (i a : ℕ) (j k : Option Cut) → IsLeastOf (Having A i a) j → IsLeastOf (Having B i a) k → ((c : Cut) → Having (Smallest (Either A B)) i a c → HasWithin (min_row j k) c) → IsLeastOf (Having (Smallest (Either A B)) i a) (min_row j k)
 joined_member A B i a None None l m least = least
 joined_member A B i a None (Some k) l m least = record { member = (given (inr m.member.0), m.member.1); least = least }
 joined_member A B i a (Some j) None l m least = record { member = (given (inl l.member.0), l.member.1); least = least }
 joined_member A B i a (Some j) (Some k) l m least = record {
-    member = (minimum (given (inl l.member.0)) (given (inr m.member.0)), omega (arith, count-min j k i, l.member.1, m.member.1));
-    least = least
-  }
+  member = (minimum (given (inl l.member.0)) (given (inr m.member.0)), omega (arith, count-min j k i, l.member.1, m.member.1));
+  least = least;
+}
 
 joined_row : (A B : Cut → Type 0) (i a : ℕ) (j k : Option Cut) → IsLeastOf (Having A i a) j → IsLeastOf (Having B i a) k → IsLeastOf (Having (Smallest (Either A B)) i a) (min_row j k)
 joined_row A B i a j k l m = joined_member A B i a j k l m (λ c h. joined_least A B i a j k l m c h.0 h.1)
@@ -75,23 +75,23 @@ having_none A c = (λ h. (h, zero-le), λ h. h.0)
 
 pub joined_stands : (o : Clocks) (s t : Slice) (A B : Cut → Type 0) → StandsFor o s A → StandsFor o t B → StandsFor o (joined s t) (Smallest (Either A B))
 joined_stands o s t A B k l = record {
-    bottom = least_same (Having (Smallest (Either A B)) 0 0) (Smallest (Either A B)) (λ c. ((having_none (Smallest (Either A B)) c).1, (having_none (Smallest (Either A B)) c).0)) (min_row s.bottom t.bottom)
+  bottom = least_same (Having (Smallest (Either A B)) 0 0) (Smallest (Either A B)) (λ c. ((having_none (Smallest (Either A B)) c).1, (having_none (Smallest (Either A B)) c).0)) (min_row s.bottom t.bottom)
       (joined_row A B 0 0 s.bottom t.bottom (least_same A (Having A 0 0) (having_none A) s.bottom k.bottom) (least_same B (Having B 0 0) (having_none B) t.bottom l.bottom));
-    rows = λ i a ev. joined_row A B i a (s.row i a) (t.row i a) (k.rows i a ev) (l.rows i a ev)
-  }
+  rows = λ i a ev. joined_row A B i a (s.row i a) (t.row i a) (k.rows i a ev) (l.rows i a ev);
+}
 
 -- the grouping of unions says nothing
 pub smallest_grouped : (A B C : Cut → Type 0) → (c : Cut) → Smallest (Either (Smallest (Either A B)) C) c ↔ Smallest (Either A (Smallest (Either B C))) c
 smallest_grouped A B C c = (
-    smallest_wider (Either (Smallest (Either A B)) C) (Either A (Smallest (Either B C))) (λ x h. elim h [
-        inl p ↦ smallest_wider (Either A B) (Either A (Smallest (Either B C))) (λ y q. elim q [ inl u ↦ given (inl u) | inr v ↦ given (inr (given (inl v))) ]) x p
-      | inr q ↦ given (inr (given (inr q)))
-      ]) c,
-    smallest_wider (Either A (Smallest (Either B C))) (Either (Smallest (Either A B)) C) (λ x h. elim h [
-        inl p ↦ given (inl (given (inl p)))
-      | inr q ↦ smallest_wider (Either B C) (Either (Smallest (Either A B)) C) (λ y r. elim r [ inl u ↦ given (inl (given (inr u))) | inr v ↦ given (inr v) ]) x q
-      ]) c
-  )
+  smallest_wider (Either (Smallest (Either A B)) C) (Either A (Smallest (Either B C))) (λ x h. elim h [
+    | inl p ↦ smallest_wider (Either A B) (Either A (Smallest (Either B C))) (λ y q. elim q [ inl u ↦ given (inl u) | inr v ↦ given (inr (given (inl v))) ]) x p
+    | inr q ↦ given (inr (given (inr q)))
+  ]) c,
+  smallest_wider (Either A (Smallest (Either B C))) (Either (Smallest (Either A B)) C) (λ x h. elim h [
+    | inl p ↦ given (inl (given (inl p)))
+    | inr q ↦ smallest_wider (Either B C) (Either (Smallest (Either A B)) C) (λ y r. elim r [ inl u ↦ given (inl (given (inr u))) | inr v ↦ given (inr v) ]) x q
+  ]) c,
+)
 
 -- the minimum of rows in another grouping is the same row
 pub joined_grouped : (j k l : Option Cut) → min_row (min_row j k) l ≡ min_row j (min_row k l)
@@ -172,6 +172,6 @@ max_of_smallest A c (d ∷ cs) h = maximum (is_min_smallest A c h.0) (max_of_sma
 -- the smallest sublattice is the set of the maxima of minima of members
 pub smallest_lists : (A : Cut → Type 0) (c : Cut) → Smallest A c ↔ IsMaxOfMins A c
 smallest_lists A c = (
-    smallest_in A (IsMaxOfMins A) (λ x h. one_min A x (x, [], h, refl)) (maxes_min A) (maxes_max A) c,
-    λ h. subst (Smallest A) (sym h.3) (max_of_smallest A h.0 h.1 h.2)
-  )
+  smallest_in A (IsMaxOfMins A) (λ x h. one_min A x (x, [], h, refl)) (maxes_min A) (maxes_max A) c,
+  λ h. subst (Smallest A) (sym h.3) (max_of_smallest A h.0 h.1 h.2),
+)

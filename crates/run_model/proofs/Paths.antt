@@ -1,10 +1,9 @@
 -- Paths: they rise, can be joined, and what holds at the end of every path holds at each of its cuts.
-use Rattle.std.proofs.Common.{◌≡◌, ℕ, zero, suc, ◌+◌, ◌-◌, ◌<◌, ◌≤◌, ◌⊎◌, List, [], ◌∷◌, ◌++◌, length, sym, subst, refl, inl, inr, arith, le_refl, le_trans}
-use Rattle.std.proofs.lemmas.Bool.{cases_lt}
-use Rattle.run_model.specs.Cut.{Cut, Clocks, count, IsWithin, Follows, with_next, lengths, initial}
-use Rattle.run_model.specs.Consistent.{clock, IsEvent, IsOrder, IsConsistent, PathIn, IsPath}
+use Rattle.std.proofs.Common.{List, [], ◌∷◌, ◌++◌, sym, subst, refl}
+use Rattle.run_model.specs.Cut.{Cut, Clocks, IsWithin, Follows}
+use Rattle.run_model.specs.Consistent.{IsConsistent, PathIn, IsPath}
 use Rattle.run_model.specs.Sublattice.{AllIn}
-use Rattle.run_model.specs.Operators.{SomeTime, EachTime, Staying}
+use Rattle.run_model.specs.Operators.{EachTime}
 use Rattle.run_model.proofs.Counts.{within_refl, within_trans, with_next_above}
 
 pub follows_rises : (c d : Cut) → Follows c d → IsWithin c d

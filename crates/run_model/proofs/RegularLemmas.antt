@@ -1,14 +1,14 @@
 -- The family of a regular formula is closed under minimum and maximum.
-use Rattle.std.proofs.Common.{◌≡◌, ℕ, zero, suc, ◌+◌, ◌-◌, ◌<◌, ◌≤◌, ◌⊎◌, ◌↔◌, min, max, Bool, true, false, not, ◌&&◌, ◌||◌, ◌==◌, cond, List, [], ◌∷◌, ◌++◌, ℤ, pos, bytes_eq, sym, ap, ◌∙◌, subst, refl, inl, inr, arith, le_refl}
+use Rattle.std.proofs.Common.{◌≡◌, ℕ, ◌-◌, ◌≤◌, ◌⊎◌, ◌↔◌, min, max, Bool, true, false, not, ◌==◌, cond, List, [], ◌∷◌, ◌++◌, pos, bytes_eq, sym, ap, ◌∙◌, subst, refl, inl, inr, arith}
 use Rattle.std.specs.List.{list_all}
-use Rattle.std.proofs.lemmas.Bool.{cases_lt, cases_Bool, cases_eq, true≢false, false≢true, and_parts, and_from, or_cases, not-true, not_from_true, not_from_false, false_from_ne_true, both_ways, cond-true, cond-false}
+use Rattle.std.proofs.lemmas.Bool.{cases_lt, false≢true, and_parts, and_from, or_cases, not-true, not_from_false, false_from_ne_true, both_ways}
 use Rattle.std.proofs.lemmas.List.Folds.{list_all-append}
 use Rattle.std.proofs.lemmas.Slice.Eq.{bytes_eq-Decides}
-use Rattle.run_model.specs.Cut.{Cut, Clocks, count, min_cut, max_cut}
+use Rattle.run_model.specs.Cut.{Cut, count, min_cut, max_cut}
 use Rattle.run_model.specs.Run.{Name, Run}
 use Rattle.run_model.specs.Consistent.{IsOrder, IsConsistent}
 use Rattle.run_model.specs.Sublattice.{IsClosed}
-use Rattle.run_model.specs.Formula.{Relation, Equal, Unequal, Less, LessOrEqual, Greater, GreaterOrEqual, Side, Number, Variable, Operator, Ef, Ag, Eg, Ex, Af, Ax, Formula, Truth, Comparison, Watched, InTransit, Empty, Not, And, Or, Temporal, Until, Formulas, Nil, Cons}
+use Rattle.run_model.specs.Formula.{Relation, LessOrEqual, GreaterOrEqual, Side, Number, Variable, Operator, Ef, Ag, Eg, Ex, Af, Ax, Formula, Truth, Comparison, Watched, InTransit, Empty, Not, And, Or, Temporal, Until, Formulas, Nil, Cons}
 use Rattle.run_model.specs.Meaning.{compares, value_at, side_at, in_transit, IsRun, Sat, SatAll, SatSome, Family}
 use Rattle.run_model.specs.Class.{side_processes, processes, all_processes, is_plain, all_plain, is_one_name, is_local, turned, after_sign, is_unequal, is_analysed, is_conjunctive, all_conjunctive, IsRegular}
 use Rattle.run_model.proofs.Counts.{count-min, count-max}
@@ -53,6 +53,7 @@ comparison_alike r p q variable relation side c d same h =
 
 mutual
   unfolding is_plain all_plain processes all_processes
+
   pub local_alike : (r : Run) (p : Name) (f : Formula) → is_plain f ≡ true → list_all (bytes_eq p) (processes f) ≡ true → (c d : Cut) → Alike r p c d → Sat r f c → Sat r f d
   local_alike r p (Truth b) plain names c d same h = h
   local_alike r p (Comparison q variable relation side) plain names c d same h = sym (comparison_alike r p q variable relation side c d same names) ∙ h
@@ -78,8 +79,8 @@ mutual
       let q = and_parts (is_plain f) (all_plain fs) plain in
       let n = split_names p (processes f) (all_processes fs) names in
       elim h [
-        inl u ↦ inl (local_alike r p f q.0 n.0 c d same u)
-      | inr v ↦ inr (some_alike r p fs q.1 n.1 c d same v)
+        | inl u ↦ inl (local_alike r p f q.0 n.0 c d same u)
+        | inr v ↦ inr (some_alike r p fs q.1 n.1 c d same v)
       ]
 
 -- ---- what is kept by minimum and maximum of consistent cuts
@@ -99,15 +100,15 @@ signed_alike r false p f plain names c d same h = λ g. h (local_alike r p f pla
 
 min_is_one : (c d : Cut) (i : ℕ) → (count c i ≡ count (min_cut c d) i) ⊎ (count d i ≡ count (min_cut c d) i)
 min_is_one c d i = elim (cases_lt (count c i) (count d i)) [
-    inl l ↦ inl (omega (arith, count-min c d i, l))
+  | inl l ↦ inl (omega (arith, count-min c d i, l))
   | inr g ↦ inr (omega (arith, count-min c d i, g))
-  ]
+]
 
 max_is_one : (c d : Cut) (i : ℕ) → (count c i ≡ count (max_cut c d) i) ⊎ (count d i ≡ count (max_cut c d) i)
 max_is_one c d i = elim (cases_lt (count c i) (count d i)) [
-    inl l ↦ inr (omega (arith, count-max c d i, l))
+  | inl l ↦ inr (omega (arith, count-max c d i, l))
   | inr g ↦ inl (omega (arith, count-max c d i, g))
-  ]
+]
 
 pub local_keeps : (r : Run) (sign : Bool) (f : Formula) → is_local f ≡ true → Keeps r (Signed r sign f)
 local_keeps r sign f h =
@@ -115,13 +116,13 @@ local_keeps r sign f h =
     let name = one_name (processes f) both.1 in
     record {
       has_min = λ c d k l p q. elim (min_is_one c d (r.process name.0)) [
-          inl e ↦ signed_alike r sign name.0 f both.0 name.1 c (min_cut c d) e p
+        | inl e ↦ signed_alike r sign name.0 f both.0 name.1 c (min_cut c d) e p
         | inr e ↦ signed_alike r sign name.0 f both.0 name.1 d (min_cut c d) e q
-        ];
+      ];
       has_max = λ c d k l p q. elim (max_is_one c d (r.process name.0)) [
-          inl e ↦ signed_alike r sign name.0 f both.0 name.1 c (max_cut c d) e p
+        | inl e ↦ signed_alike r sign name.0 f both.0 name.1 c (max_cut c d) e p
         | inr e ↦ signed_alike r sign name.0 f both.0 name.1 d (max_cut c d) e q
-        ]
+      ];
     }
 
 -- ---- channels
@@ -146,39 +147,39 @@ greatest_right m a x e h = omega (arith, e, h)
 
 flow_min : (r : Run) → IsRun r → (p q a b x y m n : ℕ) → m ≡ min a x → n ≡ min b y → Mid (flow r p q a b) (flow r p q x y) (flow r p q m n)
 flow_min r run p q a b x y m n first second = elim (cases_lt a x) [
-    inl l ↦
+  | inl l ↦
       let s = ap (r.sent p q) (least_left m a x first (omega (arith, l))) in
       let up = run.sent_rises p q a x (omega (arith, l)) in
       elim (cases_lt b y) [
-        inl k ↦ let t = ap (r.received p q) (least_left n b y second (omega (arith, k))) in (omega (arith, s, t), omega (arith, s, t))
-      | inr k ↦ let t = ap (r.received p q) (least_right n b y second k) in let down = run.received_rises p q y b k in (omega (arith, s, t, up, down), omega (arith, s, t, up, down))
+        | inl k ↦ let t = ap (r.received p q) (least_left n b y second (omega (arith, k))) in (omega (arith, s, t), omega (arith, s, t))
+        | inr k ↦ let t = ap (r.received p q) (least_right n b y second k) in let down = run.received_rises p q y b k in (omega (arith, s, t, up, down), omega (arith, s, t, up, down))
       ]
   | inr l ↦
       let s = ap (r.sent p q) (least_right m a x first l) in
       let up = run.sent_rises p q x a l in
       elim (cases_lt b y) [
-        inl k ↦ let t = ap (r.received p q) (least_left n b y second (omega (arith, k))) in let down = run.received_rises p q b y (omega (arith, k)) in (omega (arith, s, t, up, down), omega (arith, s, t, up, down))
-      | inr k ↦ let t = ap (r.received p q) (least_right n b y second k) in (omega (arith, s, t), omega (arith, s, t))
+        | inl k ↦ let t = ap (r.received p q) (least_left n b y second (omega (arith, k))) in let down = run.received_rises p q b y (omega (arith, k)) in (omega (arith, s, t, up, down), omega (arith, s, t, up, down))
+        | inr k ↦ let t = ap (r.received p q) (least_right n b y second k) in (omega (arith, s, t), omega (arith, s, t))
       ]
-  ]
+]
 
 flow_max : (r : Run) → IsRun r → (p q a b x y m n : ℕ) → m ≡ max a x → n ≡ max b y → Mid (flow r p q a b) (flow r p q x y) (flow r p q m n)
 flow_max r run p q a b x y m n first second = elim (cases_lt a x) [
-    inl l ↦
+  | inl l ↦
       let s = ap (r.sent p q) (greatest_right m a x first (omega (arith, l))) in
       let up = run.sent_rises p q a x (omega (arith, l)) in
       elim (cases_lt b y) [
-        inl k ↦ let t = ap (r.received p q) (greatest_right n b y second (omega (arith, k))) in (omega (arith, s, t), omega (arith, s, t))
-      | inr k ↦ let t = ap (r.received p q) (greatest_left n b y second k) in let down = run.received_rises p q y b k in (omega (arith, s, t, up, down), omega (arith, s, t, up, down))
+        | inl k ↦ let t = ap (r.received p q) (greatest_right n b y second (omega (arith, k))) in (omega (arith, s, t), omega (arith, s, t))
+        | inr k ↦ let t = ap (r.received p q) (greatest_left n b y second k) in let down = run.received_rises p q y b k in (omega (arith, s, t, up, down), omega (arith, s, t, up, down))
       ]
   | inr l ↦
       let s = ap (r.sent p q) (greatest_left m a x first l) in
       let up = run.sent_rises p q x a l in
       elim (cases_lt b y) [
-        inl k ↦ let t = ap (r.received p q) (greatest_right n b y second (omega (arith, k))) in let down = run.received_rises p q b y (omega (arith, k)) in (omega (arith, s, t, up, down), omega (arith, s, t, up, down))
-      | inr k ↦ let t = ap (r.received p q) (greatest_left n b y second k) in (omega (arith, s, t), omega (arith, s, t))
+        | inl k ↦ let t = ap (r.received p q) (greatest_right n b y second (omega (arith, k))) in let down = run.received_rises p q b y (omega (arith, k)) in (omega (arith, s, t, up, down), omega (arith, s, t, up, down))
+        | inr k ↦ let t = ap (r.received p q) (greatest_left n b y second k) in (omega (arith, s, t), omega (arith, s, t))
       ]
-  ]
+]
 
 mid_tested : (b : Bool) (x y z : ℕ) → Mid x y z → Mid (cond b 0 x) (cond b 0 y) (cond b 0 z)
 mid_tested true x y z h = (omega arith, omega arith)
@@ -200,27 +201,26 @@ Compared r p q relation k c = HoldsOf relation (in_transit r (r.process p) (r.pr
 
 channel_keeps : (r : Run) → IsRun r → (p q : Name) (relation : Relation) (k : ℕ) → is_unequal relation ≡ false → Keeps r (Compared r p q relation k)
 channel_keeps r run p q relation k one = record {
-    has_min = λ c d l m h g. let mid = transit_min r run (r.process p) (r.process q) c d in
+  has_min = λ c d l m h g. let mid = transit_min r run (r.process p) (r.process q) c d in
       holds_between relation (in_transit r (r.process p) (r.process q) c) (in_transit r (r.process p) (r.process q) d) (in_transit r (r.process p) (r.process q) (min_cut c d)) k one mid.0 mid.1 h g;
-    has_max = λ c d l m h g. let mid = transit_max r run (r.process p) (r.process q) c d in
-      holds_between relation (in_transit r (r.process p) (r.process q) c) (in_transit r (r.process p) (r.process q) d) (in_transit r (r.process p) (r.process q) (max_cut c d)) k one mid.0 mid.1 h g
-  }
+  has_max = λ c d l m h g. let mid = transit_max r run (r.process p) (r.process q) c d in
+      holds_between relation (in_transit r (r.process p) (r.process q) c) (in_transit r (r.process p) (r.process q) d) (in_transit r (r.process p) (r.process q) (max_cut c d)) k one mid.0 mid.1 h g;
+}
 
 -- sets with the same members at consistent cuts are kept alike
 keeps_same : (r : Run) → IsOrder r.clocks → (M N : Cut → Type 0) → ((c : Cut) → IsConsistent r.clocks c → M c ↔ N c) → Keeps r M → Keeps r N
 keeps_same r order M N same k = record {
-    has_min = λ c d l m h g. (same (min_cut c d) (min_consistent r.clocks order c d l m)).0 (k.has_min c d l m ((same c l).1 h) ((same d m).1 g));
-    has_max = λ c d l m h g. (same (max_cut c d) (max_consistent r.clocks order c d l m)).0 (k.has_max c d l m ((same c l).1 h) ((same d m).1 g))
-  }
+  has_min = λ c d l m h g. (same (min_cut c d) (min_consistent r.clocks order c d l m)).0 (k.has_min c d l m ((same c l).1 h) ((same d m).1 g));
+  has_max = λ c d l m h g. (same (max_cut c d) (max_consistent r.clocks order c d l m)).0 (k.has_max c d l m ((same c l).1 h) ((same d m).1 g));
+}
 
 -- a channel comparison with its sign, in numbers
 pub channel_signed : (r : Run) (sign : Bool) (p q : Name) (relation : Relation) (k : ℕ) (c : Cut) → Compared r p q (after_sign sign relation) k c ↔ Signed r sign (InTransit p q relation k) c
 channel_signed r true p q relation k c = (from_holds relation (in_transit r (r.process p) (r.process q) c) k, holds_of relation (in_transit r (r.process p) (r.process q) c) k)
 channel_signed r false p q relation k c =
-    let n = in_transit r (r.process p) (r.process q) c in
-    (
+    let n = in_transit r (r.process p) (r.process q) c in (
       λ h e. both_ways (compares relation (pos n) (pos k)) (not-true (compares relation (pos n) (pos k)) (sym (compares-turned relation (pos n) (pos k)) ∙ from_holds (turned relation) n k h)) e,
-      λ h. holds_of (turned relation) n k (compares-turned relation (pos n) (pos k) ∙ not_from_false (compares relation (pos n) (pos k)) (false_from_ne_true (compares relation (pos n) (pos k)) h))
+      λ h. holds_of (turned relation) n k (compares-turned relation (pos n) (pos k) ∙ not_from_false (compares relation (pos n) (pos k)) (false_from_ne_true (compares relation (pos n) (pos k)) h)),
     )
 
 -- `empty` says at most 0, and its negation at least 1
@@ -260,19 +260,19 @@ keeps_none r false = record { has_min = λ c d k l h g. h; has_max = λ c d k l 
 
 keeps_more : (r : Run) (sign : Bool) (f : Formula) (fs : Formulas) → Keeps r (Signed r sign f) → Keeps r (SignedAll r sign fs) → Keeps r (SignedAll r sign (Cons f fs))
 keeps_more r true f fs k l = record {
-    has_min = λ c d m n h g. (k.has_min c d m n h.0 g.0, l.has_min c d m n h.1 g.1);
-    has_max = λ c d m n h g. (k.has_max c d m n h.0 g.0, l.has_max c d m n h.1 g.1)
-  }
+  has_min = λ c d m n h g. (k.has_min c d m n h.0 g.0, l.has_min c d m n h.1 g.1);
+  has_max = λ c d m n h g. (k.has_max c d m n h.0 g.0, l.has_max c d m n h.1 g.1);
+}
 keeps_more r false f fs k l = record {
-    has_min = λ c d m n h g w. elim w [
-        inl u ↦ k.has_min c d m n (λ x. h (inl x)) (λ x. g (inl x)) u
-      | inr v ↦ l.has_min c d m n (λ x. h (inr x)) (λ x. g (inr x)) v
-      ];
-    has_max = λ c d m n h g w. elim w [
-        inl u ↦ k.has_max c d m n (λ x. h (inl x)) (λ x. g (inl x)) u
-      | inr v ↦ l.has_max c d m n (λ x. h (inr x)) (λ x. g (inr x)) v
-      ]
-  }
+  has_min = λ c d m n h g w. elim w [
+    | inl u ↦ k.has_min c d m n (λ x. h (inl x)) (λ x. g (inl x)) u
+    | inr v ↦ l.has_min c d m n (λ x. h (inr x)) (λ x. g (inr x)) v
+  ];
+  has_max = λ c d m n h g w. elim w [
+    | inl u ↦ k.has_max c d m n (λ x. h (inl x)) (λ x. g (inl x)) u
+    | inr v ↦ l.has_max c d m n (λ x. h (inr x)) (λ x. g (inr x)) v
+  ];
+}
 
 -- ---- negation
 
@@ -284,17 +284,17 @@ not_signed r order false f c k = (λ h n. n h, λ h. stable r order f c k h)
 
 temporal_keeps : (r : Run) → IsOrder r.clocks → (operator : Operator) (f : Formula) → is_analysed operator ≡ true → Keeps r (Sat r f) → Keeps r (Sat r (Temporal operator f))
 temporal_keeps r order Ef f one k = record {
-    has_min = λ c d l m h g. some_time_min r.clocks order (Sat r f) c d l m h;
-    has_max = λ c d l m h g. some_time_max r.clocks order (Sat r f) k.has_max c d l m h g
-  }
+  has_min = λ c d l m h g. some_time_min r.clocks order (Sat r f) c d l m h;
+  has_max = λ c d l m h g. some_time_max r.clocks order (Sat r f) k.has_max c d l m h g;
+}
 temporal_keeps r order Ag f one k = record {
-    has_min = λ c d l m h g. each_time_min r.clocks order (Sat r f) k.has_min c d l m h g;
-    has_max = λ c d l m h g. each_time_max r.clocks order (Sat r f) c d l h
-  }
+  has_min = λ c d l m h g. each_time_min r.clocks order (Sat r f) k.has_min c d l m h g;
+  has_max = λ c d l m h g. each_time_max r.clocks order (Sat r f) c d l h;
+}
 temporal_keeps r order Eg f one k = record {
-    has_min = λ c d l m h g. staying_min r.clocks order (Sat r f) k.has_min c d m h g;
-    has_max = λ c d l m h g. staying_max r.clocks order (Sat r f) k.has_max c d m (all_first (Sat r f) d g.0 g.2) h
-  }
+  has_min = λ c d l m h g. staying_min r.clocks order (Sat r f) k.has_min c d m h g;
+  has_max = λ c d l m h g. staying_max r.clocks order (Sat r f) k.has_max c d m (all_first (Sat r f) d g.0 g.2) h;
+}
 temporal_keeps r order Ex f one k = absurd (false≢true one)
 temporal_keeps r order Af f one k = absurd (false≢true one)
 temporal_keeps r order Ax f one k = absurd (false≢true one)
@@ -303,6 +303,7 @@ temporal_keeps r order Ax f one k = absurd (false≢true one)
 
 mutual
   unfolding is_conjunctive all_conjunctive
+
   pub keeps : (r : Run) → IsRun r → (f : Formula) (sign : Bool) → is_conjunctive sign f ≡ true → Keeps r (Signed r sign f)
   keeps r run (Truth b) sign h = local_keeps r sign (Truth b) (truth_local b)
   keeps r run (Comparison q variable relation side) sign h = local_keeps r sign (Comparison q variable relation side) h
@@ -310,19 +311,19 @@ mutual
   keeps r run (InTransit p q relation k) sign h = keeps_same r run.order (Compared r p q (after_sign sign relation) k) (Signed r sign (InTransit p q relation k)) (λ c l. channel_signed r sign p q relation k c) (channel_keeps r run p q (after_sign sign relation) k (not-true (is_unequal (after_sign sign relation)) h))
   keeps r run (Empty p q) sign h = keeps_same r run.order (Compared r p q (empty_relation sign) (empty_bound sign)) (Signed r sign (Empty p q)) (λ c l. empty_signed r sign p q c) (channel_keeps r run p q (empty_relation sign) (empty_bound sign) (empty_one sign))
   keeps r run (Not f) sign h = elim (or_cases (is_local (Not f)) (is_conjunctive (not sign) f) h) [
-      inl l ↦ local_keeps r sign (Not f) l
+    | inl l ↦ local_keeps r sign (Not f) l
     | inr g ↦ keeps_same r run.order (Signed r (not sign) f) (Signed r sign (Not f)) (not_signed r run.order sign f) (keeps r run f (not sign) g)
-    ]
+  ]
   keeps r run (And fs) true h = elim (or_cases (is_local (And fs)) (all_conjunctive true fs) h) [
-      inl l ↦ local_keeps r true (And fs) l
+    | inl l ↦ local_keeps r true (And fs) l
     | inr g ↦ keeps_all r run fs true g
-    ]
+  ]
   keeps r run (And fs) false h = local_keeps r false (And fs) h
   keeps r run (Or fs) true h = local_keeps r true (Or fs) h
   keeps r run (Or fs) false h = elim (or_cases (is_local (Or fs)) (all_conjunctive false fs) h) [
-      inl l ↦ local_keeps r false (Or fs) l
+    | inl l ↦ local_keeps r false (Or fs) l
     | inr g ↦ keeps_all r run fs false g
-    ]
+  ]
   keeps r run (Temporal operator f) true h =
       let both = and_parts (is_analysed operator) (is_conjunctive true f) h in
       temporal_keeps r run.order operator f both.0 (keeps r run f true both.1)
@@ -342,5 +343,5 @@ regular_closed r run f h =
     record {
       consistent = λ c m. m.0;
       has_min = λ c d m n. (min_consistent r.clocks run.order c d m.0 n.0, k.has_min c d m.0 n.0 m.1 n.1);
-      has_max = λ c d m n. (max_consistent r.clocks run.order c d m.0 n.0, k.has_max c d m.0 n.0 m.1 n.1)
+      has_max = λ c d m n. (max_consistent r.clocks run.order c d m.0 n.0, k.has_max c d m.0 n.0 m.1 n.1);
     }

@@ -1,6 +1,6 @@
 -- Comparisons: the turned relation, and what a comparison of counts says in numbers.
-use Rattle.std.proofs.Common.{◌≡◌, ℕ, zero, suc, ◌+◌, ◌-◌, ◌<◌, ◌≤◌, ◌⊎◌, ◌↔◌, min, max, Bool, true, false, not, ltb, leb, ℤ, pos, negsuc, nat_abs, int_lt, int_le, int_eq, sym, ap, ◌∙◌, subst, refl, inl, inr, arith}
-use Rattle.std.proofs.lemmas.Bool.{cases_lt, ltb-true, leb-true, lt-ltb, le-leb, le-ltb, lt-leb, not-true, not-false, not_from_false, false_from_ne_true, both_ways}
+use Rattle.std.proofs.Common.{◌≡◌, ℕ, ◌<◌, ◌≤◌, min, max, Bool, true, false, not, ltb, leb, ℤ, pos, negsuc, nat_abs, int_lt, int_le, int_eq, sym, ap, ◌∙◌, refl, inl, inr, arith}
+use Rattle.std.proofs.lemmas.Bool.{cases_lt, ltb-true, leb-true, lt-ltb, le-leb, le-ltb, lt-leb, not-true, not_from_false, false_from_ne_true, both_ways}
 use Rattle.std.proofs.lemmas.Bool.Decides.{Decides-int_eq}
 use Rattle.run_model.specs.Formula.{Relation, Equal, Unequal, Less, LessOrEqual, Greater, GreaterOrEqual}
 use Rattle.run_model.specs.Meaning.{compares}
@@ -8,9 +8,9 @@ use Rattle.run_model.specs.Class.{turned, is_unequal}
 
 leb_turned : (a b : ℕ) → leb a b ≡ not (ltb b a)
 leb_turned a b = elim (cases_lt b a) [
-    inl l ↦ lt-leb a b l ∙ sym (ap not (lt-ltb b a l))
+  | inl l ↦ lt-leb a b l ∙ sym (ap not (lt-ltb b a l))
   | inr g ↦ le-leb a b g ∙ sym (ap not (le-ltb b a g))
-  ]
+]
 
 le_turned : (x y : ℤ) → int_le x y ≡ not (int_lt y x)
 le_turned (pos a) (pos b) = leb_turned a b

@@ -1,8 +1,8 @@
 -- A trace whose clocks are an order is a run; states and counts when events are added.
-use Rattle.std.proofs.Common.{◌≡◌, ℕ, zero, suc, ◌+◌, ◌-◌, ◌<◌, ◌≤◌, Bool, List, [], ◌∷◌, ◌++◌, length, get_or, take, drop, map, ℤ, count_by, sum_by, sym, ap, ◌∙◌, subst, refl, arith}
+use Rattle.std.proofs.Common.{◌≡◌, ℕ, zero, suc, ◌+◌, ◌≤◌, Bool, List, [], ◌∷◌, ◌++◌, length, get_or, take, ℤ, count_by, ap, subst, refl, arith}
 use Rattle.std.proofs.lemmas.List.{take-take}
 use Rattle.std.proofs.lemmas.List.Sums.{sum_by-take-le}
-use Rattle.run_model.specs.Run.{Event, Process, Trace, Watches, assigned, state_from, states_from, sends, receipts, is_send_to, is_receipt_from, process_at, clocks_of, run_of}
+use Rattle.run_model.specs.Run.{Event, Trace, Watches, assigned, state_from, states_from, sends, receipts, is_send_to, is_receipt_from, process_at, clocks_of, run_of}
 use Rattle.run_model.specs.Consistent.{IsOrder}
 use Rattle.run_model.specs.Meaning.{IsRun}
 
@@ -18,10 +18,10 @@ receipts_rise trace p q a b h = counted_rises (λ (e : Event). is_receipt_from p
 -- a trace whose clocks are an order is a run, under all watches
 pub run_of_order : (trace : Trace) (watches : Watches) → IsOrder (clocks_of trace) → IsRun (run_of trace watches)
 run_of_order trace watches order = record {
-    order = order;
-    sent_rises = sends_rise trace;
-    received_rises = receipts_rise trace
-  }
+  order = order;
+  sent_rises = sends_rise trace;
+  received_rises = receipts_rise trace;
+}
 
 -- ---- states
 

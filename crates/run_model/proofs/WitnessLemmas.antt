@@ -1,11 +1,11 @@
 -- The canonical witness is of its kind.
-use Rattle.std.proofs.Common.{◌≡◌, ℕ, zero, suc, ◌+◌, ◌-◌, ◌<◌, ◌≤◌, ◌⊎◌, ◌↔◌, List, [], ◌∷◌, length, Option, Some, None, sym, ap, ◌∙◌, subst, refl, inl, inr, arith}
-use Rattle.run_model.specs.Cut.{Cut, Clocks, count, IsWithin, with_next, lengths, initial}
+use Rattle.std.proofs.Common.{◌≡◌, List, [], ◌∷◌, Option, Some, None, sym, ap, ◌∙◌, subst, refl}
+use Rattle.run_model.specs.Cut.{Cut, Clocks, IsWithin, with_next, lengths, initial}
 use Rattle.run_model.specs.Run.{Run}
-use Rattle.run_model.specs.Consistent.{clock, IsEvent, IsOrder, IsConsistent, IsPath}
-use Rattle.run_model.specs.Sublattice.{IsClosed, IsLeast, Having}
+use Rattle.run_model.specs.Consistent.{clock, IsOrder, IsConsistent, IsPath}
+use Rattle.run_model.specs.Sublattice.{IsClosed, Having}
 use Rattle.run_model.specs.Slice.{Slice, HasWithin, IsLeastOf, Cuts, StandsFor}
-use Rattle.run_model.specs.Formula.{Operator, Ef, Ag, Eg, Formula, Temporal}
+use Rattle.run_model.specs.Formula.{Operator, Formula, Temporal}
 use Rattle.run_model.specs.Meaning.{Sat, Family}
 use Rattle.run_model.specs.Witness.{Place, PathTo, Witness, StepsIn, IsOfKind, FirstSteps, Departs, IsPlace, IsCanonical}
 use Rattle.run_model.specs.Witness as W
@@ -44,10 +44,10 @@ bottom_empty A k l e c h = subst (IsLeastOf A) e l c h
 -- where each row is the past of its event, and the initial cut is there, each consistent cut is there
 all_there : (o : Clocks) → IsOrder o → (s : Slice) → Cuts o s (initial o) → ((e : Place) → IsPlace o e → s.row e.process e.position ≡ Some (clock o e.process e.position)) → (d : Cut) → IsConsistent o d → Cuts o s d
 all_there o order s start rows d k = record {
-    consistent = k;
-    from_bottom = has_within_up s.bottom (initial o) d (initial_within o d) start.from_bottom;
-    rows = λ i a ev. subst (λ x. HasWithin x d) (sym (rows (record { process = i; position = a }) (event_of_run o d k i a ev))) (has_past o order d k i a ev)
-  }
+  consistent = k;
+  from_bottom = has_within_up s.bottom (initial o) d (initial_within o d) start.from_bottom;
+  rows = λ i a ev. subst (λ x. HasWithin x d) (sym (rows (record { process = i; position = a }) (event_of_run o d k i a ev))) (has_past o order d k i a ev);
+}
 
 pub canonical_is_of_kind : (r : Run) → IsOrder r.clocks → (f : Formula) → IsClosed r.clocks (Family r f) → (s : Slice) → StandsFor r.clocks s (Family r f) → (operator : Operator) (w : Witness) → IsCanonical r.clocks s operator w → IsOfKind r (Temporal operator f) w
 canonical_is_of_kind r order f closed s stands _ _ (W.IsCanonical.reaches {path = p} bottom steps) = W.IsOfKind.reaches

@@ -1,6 +1,6 @@
 -- Slices (Mittal and Garg): a closed set of cuts by its least cut and, for each event, the least cut that has the event
 -- (Birkhoff: a finite distributive lattice is known by its join-irreducible members).
-use Rattle.std.specs.Prelude.{◌≡◌, ℕ, zero, suc, ◌+◌, ◌<◌, ◌≤◌, List, [], ◌∷◌, Option, Some, None, All, ◌&&◌, nat_lt, if◌then◌else◌, length, flat_map}
+use Rattle.std.specs.Prelude.{ℕ, zero, suc, ◌≤◌, List, [], ◌∷◌, Option, Some, None, All, ◌&&◌, nat_lt, if◌then◌else◌, length, flat_map}
 use Rattle.std.specs.List.{range_with_len}
 use Rattle.run_model.specs.Cut.{Cut, Clocks, count, IsWithin, lengths}
 use Rattle.run_model.specs.Consistent.{IsConsistent, IsEvent, clock}
@@ -76,4 +76,4 @@ edge_into o s p a q =
 unfoldable pub edges_of : Clocks → Slice → Cut → List Edge
 edges_of o s high =
     flat_map (λ p. flat_map (λ a. flat_map (edge_into o s p a) (range_with_len 0 (length (cut_of (s.row p a))))) (range_with_len 1 (count high p)))
-      (range_with_len 0 (length high))
+    (range_with_len 0 (length high))

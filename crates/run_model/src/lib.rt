@@ -1,14 +1,11 @@
-// The meaning of formulas over one run of a distributed program: definitions in specs/, and the laws that stand over them.
+// The meaning of formulas over one run of a distributed program. The definitions stand in specs/; each function here is a law
+// that stands over them, and does nothing.
 #![tactic(auto)]
 
-ghost use Rattle.std.specs.Prelude.{◌≤◌, ℕ};
-ghost use Rattle.run_model.specs.Cut.{Cut, IsWithin};
-ghost use Rattle.run_model.specs.Run.{Run, run_of};
-ghost use Rattle.run_model.specs.Formula.{Formula};
-ghost use Rattle.run_model.specs.Meaning.{Sat};
-
-/// Cuts are ordered by their counts.
-pub fn within_itself()
-    ensures { (c : Cut) → IsWithin c c }
-{
-}
+pub mod formula_laws;
+pub mod operator_laws;
+pub mod order_laws;
+pub mod run_laws;
+pub mod slice_laws;
+pub mod sublattice_laws;
+pub mod witness_laws;

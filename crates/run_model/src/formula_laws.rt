@@ -1,0 +1,29 @@
+// Laws of truth and of the class of formulas that is analysed.
+ghost use Rattle.std.specs.Prelude.{◌≡◌, ◌⊎◌, ◌↔◌, true, length, IsTrue};
+ghost use Rattle.run_model.specs.Cut.{Cut};
+ghost use Rattle.run_model.specs.Run.{Run};
+ghost use Rattle.run_model.specs.Consistent.{IsOrder, IsConsistent};
+ghost use Rattle.run_model.specs.Sublattice.{IsClosed};
+ghost use Rattle.run_model.specs.Formula.{Formula};
+ghost use Rattle.run_model.specs.Meaning.{IsRun, Sat, Family};
+ghost use Rattle.run_model.specs.Class.{is_wide, IsRegular, IsOfClass, disjuncts, SatDisjuncts};
+
+/// A formula is true or false at each consistent cut.
+pub fn truth_is_decided()
+    ensures { (r : Run) → IsOrder r.clocks → (f : Formula) (c : Cut) → IsConsistent r.clocks c
+        → Sat r f c ⊎ (Sat r f c → ⊥) }
+{}
+
+/// The family of a regular formula is closed under minimum and maximum (Garg and Mittal; Sen and Garg).
+pub fn regular_families_are_closed()
+    ensures { (r : Run) → IsRun r → (f : Formula) → IsRegular f → IsClosed r.clocks (Family r f) }
+{}
+
+/// A formula is true exactly where some disjunct has all its parts true, and a formula of the class has one
+/// disjunct exactly where it is regular.
+pub fn disjuncts_mean_the_formula()
+    ensures meaning { (r : Run) → IsOrder r.clocks → (f : Formula) (c : Cut)
+        → IsConsistent r.clocks c → SatDisjuncts r (disjuncts true f) c ↔ Sat r f c }
+    ensures one { (f : Formula) → IsTrue (is_wide f) → IsOfClass f → IsRegular f
+        ↔ (length (disjuncts true f) ≡ 1) }
+{}
