@@ -1,15 +1,15 @@
 -- Least cut, greatest cut and edges denote the cuts of a slice.
-use Rattle.std.proofs.Common.{◌≡◌, ℕ, zero, suc, ◌+◌, ◌<◌, ◌≤◌, ◌↔◌, Bool, true, ltb, ◌&&◌, List, [], ◌∷◌, ◌++◌, length, flat_map, All, Option, Some, None, subst, inl, inr, arith, le_refl, le_trans}
+use Rattle.std.proofs.Common.{sym, ◌≡◌, ℕ, zero, suc, ◌+◌, ◌<◌, ◌≤◌, ◌↔◌, Bool, true, ltb, ◌&&◌, List, [], ◌∷◌, ◌++◌, length, flat_map, All, Option, Some, None, subst, inl, inr, arith, le_refl, le_trans}
 use Rattle.std.specs.List.{range_with_len}
 use Rattle.std.proofs.lemmas.Bool.{cases_lt, cond_both, ltb-true, lt-ltb, and_parts, and_from, cond-true}
 use Rattle.std.proofs.lemmas.List.Elements.{All-nil, All-cons, All-head, All-tail, All-append}
 use Rattle.run_model.specs.Cut.{Cut, Clocks, count, IsWithin}
 use Rattle.run_model.specs.Consistent.{clock, IsEvent, IsOrder, IsConsistent}
-use Rattle.run_model.specs.Sublattice.{IsLeast, IsGreatest}
-use Rattle.run_model.specs.Slice.{Slice, HasWithin, Cuts, Edge, Keeps, Denoted, cut_of, previous, edge_into, edges_of}
+use Rattle.run_model.specs.Sublattice.{IsClosed, IsLeast, IsGreatest}
+use Rattle.run_model.specs.Slice.{Slice, HasWithin, Cuts, StandsFor, IsPrintedAs, Edge, Keeps, Denoted, cut_of, previous, edge_into, edges_of}
 use Rattle.run_model.proofs.Counts.{count_past}
 use Rattle.run_model.proofs.Orders.{has_process, event_up, has_past}
-use Rattle.run_model.proofs.SliceLemmas.{has_within_up}
+use Rattle.run_model.proofs.SliceLemmas.{has_within_up, exact_slice, cuts_member, member_cuts}
 
 -- ---- what holds of each item of a list of lists
 
@@ -135,3 +135,24 @@ denoted_cuts o order s low high least greatest c d =
 -- least cut, greatest cut and edges denote the cuts of the slice
 pub denoted_is_cuts : (o : Clocks) → IsOrder o → (s : Slice) (low high : Cut) → IsLeast (Cuts o s) low → IsGreatest (Cuts o s) high → (c : Cut) → Cuts o s c ↔ Denoted o low high (edges_of o s high) c
 denoted_is_cuts o order s low high least greatest c = (cuts_denoted o s low high least greatest c, denoted_cuts o order s low high least greatest c)
+
+least_cuts : (o : Clocks) (A : Cut → Type 0) → IsClosed o A → (s : Slice) → StandsFor o s A → (low : Cut) → IsLeast A low → IsLeast (Cuts o s) low
+least_cuts o A closed s stands low k = record {
+  member = member_cuts o A closed s stands low k.member;
+  least = λ c h. k.least c (cuts_member o A closed s stands c h);
+}
+
+greatest_cuts : (o : Clocks) (A : Cut → Type 0) → IsClosed o A → (s : Slice) → StandsFor o s A → (high : Cut) → IsGreatest A high → IsGreatest (Cuts o s) high
+greatest_cuts o A closed s stands high k = record {
+  member = member_cuts o A closed s stands high k.member;
+  greatest = λ c h. k.greatest c (cuts_member o A closed s stands c h);
+}
+
+-- what is printed of a closed set denotes it
+pub printed_denotes : (o : Clocks) → IsOrder o → (A : Cut → Type 0) → IsClosed o A → (low high : Cut) (edges : List Edge) → IsPrintedAs o A low high edges → (c : Cut) → A c ↔ Denoted o low high edges c
+printed_denotes o order A closed low high edges k c =
+    let exact = exact_slice o A closed k.slice k.stands c in
+    let both = denoted_is_cuts o order k.slice low high (least_cuts o A closed k.slice k.stands low k.least) (greatest_cuts o A closed k.slice k.stands high k.greatest) c in (
+      λ h. subst (λ es. Denoted o low high es c) (sym k.listed) (both.0 (exact.0 h)),
+      λ d. exact.1 (both.1 (subst (λ es. Denoted o low high es c) k.listed d)),
+    )

@@ -14,3 +14,5 @@ pub mod RegularLemmas
 pub mod DisjunctLemmas
 pub mod WitnessLemmas
 pub mod TraceLemmas
+pub mod Listing
+pub mod ListedSlices

@@ -1,10 +1,10 @@
 -- Slices (Mittal and Garg): a closed set of cuts by its least cut and, for each event, the least cut that has the event
 -- (Birkhoff: a finite distributive lattice is known by its join-irreducible members).
-use Rattle.std.specs.Prelude.{ℕ, zero, suc, ◌≤◌, List, [], ◌∷◌, Option, Some, None, All, ◌&&◌, nat_lt, if◌then◌else◌, length, flat_map}
+use Rattle.std.specs.Prelude.{◌≡◌, ℕ, zero, suc, ◌≤◌, List, [], ◌∷◌, Option, Some, None, All, ◌&&◌, nat_lt, if◌then◌else◌, length, flat_map}
 use Rattle.std.specs.List.{range_with_len}
 use Rattle.run_model.specs.Cut.{Cut, Clocks, count, IsWithin, lengths}
 use Rattle.run_model.specs.Consistent.{IsConsistent, IsEvent, clock}
-use Rattle.run_model.specs.Sublattice.{IsLeast, Having}
+use Rattle.run_model.specs.Sublattice.{IsLeast, IsGreatest, Having}
 
 -- a least cut, and a row for each event: the least cut with event a of process i. Each is absent where there is no such cut.
 -- Rows of what is no event say nothing
@@ -77,3 +77,11 @@ unfoldable pub edges_of : Clocks → Slice → Cut → List Edge
 edges_of o s high =
     flat_map (λ p. flat_map (λ a. flat_map (edge_into o s p a) (range_with_len 0 (length (cut_of (s.row p a))))) (range_with_len 1 (count high p)))
     (range_with_len 0 (length high))
+
+-- how a set's slice is printed: its least cut, its greatest cut and its edges
+pub record IsPrintedAs (o : Clocks) (A : Cut → Type 0) (low high : Cut) (edges : List Edge) : Type 0 where
+  pub slice : Slice
+  pub stands : StandsFor o slice A
+  pub least : IsLeast A low
+  pub greatest : IsGreatest A high
+  pub listed : edges ≡ edges_of o slice high
