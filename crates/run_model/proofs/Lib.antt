@@ -16,3 +16,4 @@ pub mod WitnessLemmas
 pub mod TraceLemmas
 pub mod Listing
 pub mod ListedSlices
+pub mod WorkedLemmas

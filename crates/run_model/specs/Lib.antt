@@ -8,3 +8,4 @@ pub mod Operators
 pub mod Meaning
 pub mod Class
 pub mod Witness
+pub mod Worked

@@ -9,3 +9,4 @@ pub mod run_laws;
 pub mod slice_laws;
 pub mod sublattice_laws;
 pub mod witness_laws;
+pub mod worked_laws;

@@ -1,0 +1,78 @@
+-- Worked examples: two small logs, one without events, and the words to write formulas over them.
+use Rattle.std.specs.Prelude.{ℕ, Bool, true, false, MatchBool, List, [], ◌∷◌, ℤ, pos}
+use Rattle.run_model.specs.Cut.{Cut, initial}
+use Rattle.run_model.specs.Run.{Name, Kind, Internal, Send, Receive, Event, Process, Trace, Watches, Run, run_of}
+use Rattle.run_model.specs.Formula.{Relation, Equal, Unequal, LessOrEqual, Number, Formula, Comparison, InTransit, Empty, And, Or, Formulas, Nil, Cons}
+use Rattle.run_model.specs.Meaning.{Sat}
+use Rattle.run_model.specs.Class.{Shown}
+use Rattle.run_model.specs.Slice.{Edge, IsPrintedAs}
+
+-- P and Q, x and y
+abbrev pub p : Name
+p = 80 ∷ []
+
+abbrev pub q : Name
+q = 81 ∷ []
+
+abbrev pub x : Name
+x = 120 ∷ []
+
+abbrev pub y : Name
+y = 121 ∷ []
+
+abbrev pub sets : Cut → Kind → ℕ → Event
+sets clock kind value = record { clock = clock; kind = kind; assigns = record { variable = 0; value = pos value } ∷ [] }
+
+abbrev pub sets_nothing : Cut → Kind → Event
+sets_nothing clock kind = record { clock = clock; kind = kind; assigns = [] }
+
+abbrev pub starting_at_zero : Name → Name → List Event → Process
+starting_at_zero name variable events = record { name = name; variables = record { name = variable; value = pos 0 } ∷ []; events = events }
+
+-- P sends to Q, works on, and receives the answer; Q receives and answers
+abbrev pub five_events : Trace
+five_events =
+    starting_at_zero p x (sets (1 ∷ 0 ∷ []) (Send 1 1) 1 ∷ sets (2 ∷ 0 ∷ []) Internal 2 ∷ sets_nothing (3 ∷ 2 ∷ []) (Receive 1 2) ∷ [])
+    ∷ starting_at_zero q y (sets (1 ∷ 1 ∷ []) (Receive 0 1) 1 ∷ sets (1 ∷ 2 ∷ []) (Send 0 2) 2 ∷ [])
+    ∷ []
+
+-- two processes that do not meet
+abbrev pub two_events : Trace
+two_events =
+    starting_at_zero p x (sets (1 ∷ 0 ∷ []) Internal 1 ∷ [])
+    ∷ starting_at_zero q y (sets (0 ∷ 1 ∷ []) Internal 1 ∷ [])
+    ∷ []
+
+-- one process without events
+abbrev pub no_events : Trace
+no_events = record { name = p; variables = []; events = [] } ∷ []
+
+abbrev pub unwatched : Trace → Run
+unwatched trace = run_of trace (λ name states. [])
+
+abbrev pub x_is : ℕ → Formula
+x_is k = Comparison p x Equal (Number (pos k))
+
+abbrev pub y_is : ℕ → Formula
+y_is k = Comparison q y Equal (Number (pos k))
+
+abbrev pub both : Formula → Formula → Formula
+both f g = And (Cons f (Cons g Nil))
+
+abbrev pub one_of : Formula → Formula → Formula
+one_of f g = Or (Cons f (Cons g Nil))
+
+-- the verdict is the truth at the initial cut
+abbrev pub HasVerdict : Trace → Formula → Bool → Type 0
+HasVerdict trace f verdict = MatchBool verdict (Sat (unwatched trace) f (initial (unwatched trace).clocks)) (Sat (unwatched trace) f (initial (unwatched trace).clocks) → ⊥)
+
+-- the slice of the cuts that are shown of the formula has this text
+abbrev pub HasSlice : Trace → Formula → Cut → Cut → List Edge → Type 0
+HasSlice trace f low high edges = IsPrintedAs (unwatched trace).clocks (Shown (unwatched trace) f) low high edges
+
+-- no cut is shown
+abbrev pub HasNoSlice : Trace → Formula → Type 0
+HasNoSlice trace f = (c : Cut) → Shown (unwatched trace) f c → ⊥
+
+abbrev pub edge : ℕ → ℕ → ℕ → ℕ → Edge
+edge cause b effect a = record { cause = cause; cause_position = b; effect = effect; effect_position = a }

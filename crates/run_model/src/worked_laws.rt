@@ -1,0 +1,116 @@
+// Worked examples as laws: the verdict, the printed slice of formulas on the small logs.
+ghost use Rattle.std.specs.Prelude.{true, false, pos, [], ◌∷◌};
+ghost use Rattle.run_model.specs.Formula.{Unequal, LessOrEqual, Number, Truth, Comparison, InTransit, Empty, Temporal, Ef, Ag, Eg};
+ghost use Rattle.run_model.specs.Worked.{p, q, x, five_events, two_events, no_events, x_is, y_is, both, one_of, edge, HasVerdict, HasSlice, HasNoSlice};
+
+/// `EF (P.x = 2 & Q.y = 1)` on the five events.
+pub fn two_and_one_is_reached()
+    ensures verdict { HasVerdict five_events (Temporal Ef (both (x_is 2) (y_is 1))) true }
+    ensures slice { HasSlice five_events (Temporal Ef (both (x_is 2) (y_is 1)))
+        (0 ∷ 0 ∷ []) (2 ∷ 1 ∷ []) [] }
+{}
+
+/// `EF (P.x = 0 & Q.y = 1)` on the five events: no cut satisfies it.
+pub fn zero_and_one_is_never_reached()
+    ensures verdict { HasVerdict five_events (Temporal Ef (both (x_is 0) (y_is 1))) false }
+    ensures slice { HasNoSlice five_events (Temporal Ef (both (x_is 0) (y_is 1))) }
+{}
+
+/// `P.x = 0` on the five events: the initial cut alone.
+pub fn zero_at_the_start()
+    ensures verdict { HasVerdict five_events (x_is 0) true }
+    ensures slice { HasSlice five_events (x_is 0) (0 ∷ 0 ∷ []) (0 ∷ 0 ∷ []) [] }
+{}
+
+/// `AG intransit(P,Q) <= 1` on the five events.
+pub fn one_message_at_most()
+    ensures verdict { HasVerdict five_events (Temporal Ag (InTransit p q LessOrEqual 1)) true }
+    ensures slice { HasSlice five_events (Temporal Ag (InTransit p q LessOrEqual 1))
+        (0 ∷ 0 ∷ []) (3 ∷ 2 ∷ []) [] }
+{}
+
+/// `EF AG P.x = 2` on the five events, and `AG P.x = 2`, which is true from the second event of P
+/// on.
+pub fn two_for_good()
+    ensures verdict { HasVerdict five_events (Temporal Ef (Temporal Ag (x_is 2))) true }
+    ensures slice { HasSlice five_events (Temporal Ef (Temporal Ag (x_is 2)))
+        (0 ∷ 0 ∷ []) (3 ∷ 2 ∷ []) [] }
+    ensures operand { HasSlice five_events (Temporal Ag (x_is 2)) (2 ∷ 0 ∷ []) (3 ∷ 2 ∷ []) [] }
+{}
+
+/// `empty(P,Q)` and `AG empty(P,Q)` on the five events.
+pub fn empty_each_time()
+    ensures operand_verdict { HasVerdict five_events (Empty p q) true }
+    ensures operand { HasSlice five_events (Empty p q)
+        (0 ∷ 0 ∷ []) (3 ∷ 2 ∷ []) (edge 1 1 0 1 ∷ []) }
+    ensures verdict { HasVerdict five_events (Temporal Ag (Empty p q)) false }
+    ensures slice { HasSlice five_events (Temporal Ag (Empty p q)) (1 ∷ 1 ∷ []) (3 ∷ 2 ∷ []) [] }
+{}
+
+/// `EG empty(P,Q)` on the five events: the send and its receipt come together, so no path stays
+/// where it is true.
+pub fn empty_all_along()
+    ensures verdict { HasVerdict five_events (Temporal Eg (Empty p q)) false }
+    ensures slice { HasSlice five_events (Temporal Eg (Empty p q)) (1 ∷ 1 ∷ []) (3 ∷ 2 ∷ []) [] }
+{}
+
+/// `EG P.x <= 2` on the five events.
+pub fn two_at_most_all_along()
+    ensures verdict { HasVerdict five_events (Temporal Eg (Comparison p x LessOrEqual (Number (pos 2))))
+        true }
+    ensures slice { HasSlice five_events (Temporal Eg (Comparison p x LessOrEqual (Number (pos 2))))
+        (0 ∷ 0 ∷ []) (3 ∷ 2 ∷ []) [] }
+{}
+
+/// `AG EF Q.y = 2` on the five events.
+pub fn two_can_always_be_reached()
+    ensures verdict { HasVerdict five_events (Temporal Ag (Temporal Ef (y_is 2))) true }
+    ensures slice { HasSlice five_events (Temporal Ag (Temporal Ef (y_is 2)))
+        (0 ∷ 0 ∷ []) (3 ∷ 2 ∷ []) [] }
+{}
+
+/// `P.x = 1 & Q.y = 2 | P.x = 2 & Q.y = 1` on the five events: two of the four cuts that are shown
+/// satisfy neither side.
+pub fn one_of_two_pairs()
+    ensures verdict { HasVerdict five_events (one_of (both (x_is 1) (y_is 2)) (both (x_is 2) (y_is 1)))
+        false }
+    ensures slice { HasSlice five_events (one_of (both (x_is 1) (y_is 2)) (both (x_is 2) (y_is 1)))
+        (1 ∷ 1 ∷ []) (2 ∷ 2 ∷ []) [] }
+{}
+
+/// `EG true` on a process without events.
+pub fn true_without_events()
+    ensures verdict { HasVerdict no_events (Temporal Eg (Truth true)) true }
+    ensures slice { HasSlice no_events (Temporal Eg (Truth true)) (0 ∷ []) (0 ∷ []) [] }
+{}
+
+/// `EF (P.x = 1 & Q.y = 0)` and `EF (P.x = 2 & Q.y = 1)` on the two events.
+pub fn one_before_the_other()
+    ensures reached { HasVerdict two_events (Temporal Ef (both (x_is 1) (y_is 0))) true }
+    ensures not_reached { HasVerdict two_events (Temporal Ef (both (x_is 2) (y_is 1))) false }
+{}
+
+/// `P.x = 0 & Q.y = 1 | P.x = 1 & Q.y = 0` on the two events: the initial cut is shown, and the
+/// formula is false there.
+pub fn exactly_one_step()
+    ensures verdict { HasVerdict two_events (one_of (both (x_is 0) (y_is 1)) (both (x_is 1) (y_is 0)))
+        false }
+    ensures slice { HasSlice two_events (one_of (both (x_is 0) (y_is 1)) (both (x_is 1) (y_is 0)))
+        (0 ∷ 0 ∷ []) (1 ∷ 1 ∷ []) [] }
+{}
+
+/// `P.x = 0 | Q.y = 2` on the five events.
+pub fn before_or_after()
+    ensures verdict { HasVerdict five_events (one_of (x_is 0) (y_is 2)) true }
+    ensures slice { HasSlice five_events (one_of (x_is 0) (y_is 2))
+        (0 ∷ 0 ∷ []) (3 ∷ 2 ∷ []) (edge 1 2 0 1 ∷ edge 1 2 1 1 ∷ []) }
+{}
+
+/// `P.x != 1` and `EG P.x != 1` on the five events.
+pub fn not_one()
+    ensures verdict { HasVerdict five_events (Comparison p x Unequal (Number (pos 1))) true }
+    ensures slice { HasSlice five_events (Comparison p x Unequal (Number (pos 1)))
+        (0 ∷ 0 ∷ []) (3 ∷ 2 ∷ []) (edge 0 2 0 1 ∷ edge 0 2 1 1 ∷ []) }
+    ensures all_along { HasVerdict five_events (Temporal Eg (Comparison p x Unequal (Number (pos 1))))
+        false }
+{}
