@@ -17,3 +17,4 @@ pub mod TraceLemmas
 pub mod Listing
 pub mod ListedSlices
 pub mod WorkedLemmas
+pub mod WorkedWitnesses

@@ -20,7 +20,7 @@ use Rattle.run_model.proofs.Listing.{IsIn, in_filtered, filtered_in, within, wit
 abbrev pub all_events : Cut → (ℕ → ℕ → Bool) → Bool
 all_events c p = all_below (λ i. all_below (λ a. p i (a + 1)) (count c i)) (length c)
 
-all_events_at : (c : Cut) (p : ℕ → ℕ → Bool) → all_events c p ≡ true → (i a : ℕ) → IsEvent c i a → p i a ≡ true
+pub all_events_at : (c : Cut) (p : ℕ → ℕ → Bool) → all_events c p ≡ true → (i a : ℕ) → IsEvent c i a → p i a ≡ true
 all_events_at c p h i a ev = subst (λ x. p i x ≡ true) (omega (arith, ev.0))
     (all_below_at (λ a. p i (a + 1)) (count c i) (a - 1) (all_below_at (λ i. all_below (λ a. p i (a + 1)) (count c i)) (length c) i h (has_process c i a ev)) (omega (arith, ev.0, ev.1)))
 

@@ -126,14 +126,14 @@ all_below_from : (p : ℕ → Bool) (n : ℕ) → ((i : ℕ) → i < n → p i �
 all_below_from p zero h = refl
 all_below_from p (suc n) h = and_from (all_below p n) (p n) (all_below_from p n (λ i l. h i (omega (arith, l)))) (h n (omega arith))
 
-some_below_is : (p : ℕ → Bool) (n : ℕ) → some_below p n ≡ true → (i : ℕ) × (i < n) × (p i ≡ true)
+pub some_below_is : (p : ℕ → Bool) (n : ℕ) → some_below p n ≡ true → (i : ℕ) × (i < n) × (p i ≡ true)
 some_below_is p zero h = absurd (false≢true h)
 some_below_is p (suc n) h = elim (or_cases (some_below p n) (p n) h) [
   | inl k ↦ let r = some_below_is p n k in (r.0, omega (arith, r.1), r.2)
   | inr t ↦ (n, omega arith, t)
 ]
 
-some_below_from : (p : ℕ → Bool) (n i : ℕ) → i < n → p i ≡ true → some_below p n ≡ true
+pub some_below_from : (p : ℕ → Bool) (n i : ℕ) → i < n → p i ≡ true → some_below p n ≡ true
 some_below_from p zero i l t = absurd (omega (arith, l))
 some_below_from p (suc n) i l t = elim (cases_lt i n) [
   | inl m ↦ or_left (some_below p n) (p n) (some_below_from p n i m t)
@@ -146,7 +146,7 @@ has_its_past o c i = leb (count c i) 0 || within (clock o i (count c i)) c
 abbrev pub consistent : Clocks → Cut → Bool
 consistent o c = eqb (length c) (length o) && (within c (lengths o) && all_below (has_its_past o c) (length c))
 
-consistent_is : (o : Clocks) (c : Cut) → consistent o c ≡ true → IsConsistent o c
+pub consistent_is : (o : Clocks) (c : Cut) → consistent o c ≡ true → IsConsistent o c
 consistent_is o c h =
     let first = and_parts (eqb (length c) (length o)) (within c (lengths o) && all_below (has_its_past o c) (length c)) h in
     let second = and_parts (within c (lengths o)) (all_below (has_its_past o c) (length c)) first.1 in
@@ -159,7 +159,7 @@ consistent_is o c h =
       ];
     }
 
-is_consistent : (o : Clocks) (c : Cut) → IsConsistent o c → consistent o c ≡ true
+pub is_consistent : (o : Clocks) (c : Cut) → IsConsistent o c → consistent o c ≡ true
 is_consistent o c k = and_from (eqb (length c) (length o)) (within c (lengths o) && all_below (has_its_past o c) (length c)) (eq-eqb (length c) (length o) k.shaped)
     (and_from (within c (lengths o)) (all_below (has_its_past o c) (length c)) (is_within c (lengths o) k.within)
     (all_below_from (has_its_past o c) (length c) (λ i l. elim (cases_lt 0 (count c i)) [

@@ -1,5 +1,5 @@
 -- The canonical witness is of its kind.
-use Rattle.std.proofs.Common.{◌≡◌, List, [], ◌∷◌, Option, Some, None, sym, ap, ◌∙◌, subst, refl}
+use Rattle.std.proofs.Common.{◌↔◌, ◌≡◌, List, [], ◌∷◌, Option, Some, None, sym, ap, ◌∙◌, subst, refl}
 use Rattle.run_model.specs.Cut.{Cut, Clocks, IsWithin, with_next, lengths, initial}
 use Rattle.run_model.specs.Run.{Run}
 use Rattle.run_model.specs.Consistent.{clock, IsOrder, IsConsistent, IsPath}
@@ -7,12 +7,12 @@ use Rattle.run_model.specs.Sublattice.{IsClosed, Having}
 use Rattle.run_model.specs.Slice.{Slice, HasWithin, IsLeastOf, Cuts, StandsFor}
 use Rattle.run_model.specs.Formula.{Operator, Formula, Temporal}
 use Rattle.run_model.specs.Meaning.{Sat, Family}
-use Rattle.run_model.specs.Witness.{Place, PathTo, Witness, StepsIn, IsOfKind, FirstSteps, Departs, IsPlace, IsCanonical}
+use Rattle.run_model.specs.Witness.{Place, PathTo, Witness, StepsIn, IsOfKind, FirstSteps, IsFirst, row_at, Departs, Shares, IsPlace, IsCanonical}
 use Rattle.run_model.specs.Witness as W
 use Rattle.run_model.proofs.Counts.{within_both, initial_within}
 use Rattle.run_model.proofs.Orders.{event_of_run, has_past, past_consistent, past_has, initial_consistent, final_consistent}
 use Rattle.run_model.proofs.Paths.{path_last, each_time_from_ends}
-use Rattle.run_model.proofs.SliceLemmas.{least_of_member, has_within_up, cuts_member, member_cuts}
+use Rattle.run_model.proofs.SliceLemmas.{least_of_member, has_within_up, cuts_member, member_cuts, one_bottom, one_row}
 use Rattle.run_model.proofs.OperatorLemmas.{rows_both}
 
 pub first_steps_wider : (A B : Cut → Type 0) → ((c : Cut) → A c → B c) → (c : Cut) (es : List Place) (d : Cut) → FirstSteps A c es d → StepsIn B c es d
@@ -73,3 +73,54 @@ canonical_is_of_kind r order f closed s stands _ _ (W.IsCanonical.false_at_finis
 canonical_is_of_kind r order f closed s stands _ _ (W.IsCanonical.come_together {first = e} {other = g} start finish first other) = W.IsOfKind.come_together
     first.there other.there other.has.0
     (rows_both r.clocks (Family r f) s stands e.process e.position g.process g.position first.there other.there (sym other.has.1))
+
+-- ---- the witness goes by the set, not by the slice that is at hand
+
+pub first_same : (o : Clocks) (P Q : Place → Type 0) → ((e : Place) → IsPlace o e → P e ↔ Q e) → (e : Place) → IsFirst o P e → IsFirst o Q e
+first_same o P Q same e k = record {
+  there = k.there;
+  has = (same e k.there).0 k.has;
+  first = λ f there before h. k.first f there before ((same f there).1 h);
+}
+
+pub first_steps_same : (A B : Cut → Type 0) → ((c : Cut) → A c ↔ B c) → (c : Cut) (es : List Place) (d : Cut) → FirstSteps A c es d → FirstSteps B c es d
+first_steps_same A B same c [] d p = ((same c).0 p.0, p.1)
+first_steps_same A B same c (e ∷ es) d p = ((same c).0 p.0, p.1, p.2, λ j l h. p.3 j l ((same (with_next c j)).1 h), first_steps_same A B same (with_next c e.process) es d p.4)
+
+shares_same : (s t : Slice) (e f : Place) → row_at s e ≡ row_at t e → row_at s f ≡ row_at t f → Shares s e f → Shares t e f
+shares_same s t e f p q h = (h.0, sym q ∙ h.1 ∙ p)
+
+pub canonical_same : (o : Clocks) (A : Cut → Type 0) → IsClosed o A → (s t : Slice) → StandsFor o s A → StandsFor o t A → (operator : Operator) (w : Witness) → IsCanonical o s operator w → IsCanonical o t operator w
+canonical_same o A closed s t k l operator w canonical = moved operator w canonical
+  where
+    cuts : (c : Cut) → Cuts o s c ↔ Cuts o t c
+    cuts c = (λ h. member_cuts o A closed t l c (cuts_member o A closed s k c h), λ h. member_cuts o A closed s k c (cuts_member o A closed t l c h))
+
+    bottom : s.bottom ≡ t.bottom
+    bottom = one_bottom o A closed.consistent s t k l
+
+    row : (e : Place) → IsPlace o e → row_at s e ≡ row_at t e
+    row e there = one_row o A closed.consistent s t k l e.process e.position there
+
+    departs : (e : Place) → IsPlace o e → Departs o s e ↔ Departs o t e
+    departs e there = (λ h q. h (row e there ∙ q), λ h q. h (sym (row e there) ∙ q))
+
+    shares : (e : Place) → IsPlace o e → (f : Place) → IsPlace o f → Shares s e f ↔ Shares t e f
+    shares e there f place = (shares_same s t e f (row e there) (row f place), shares_same t s e f (sym (row e there)) (sym (row f place)))
+
+    sharing : (e : Place) → IsPlace o e → ((f : Place) × IsPlace o f × Shares s e f) ↔ ((f : Place) × IsPlace o f × Shares t e f)
+    sharing e there = (λ h. (h.0, h.1, (shares e there h.0 h.1).0 h.2), λ h. (h.0, h.1, (shares e there h.0 h.1).1 h.2))
+
+    moved : (operator : Operator) (w : Witness) → IsCanonical o s operator w → IsCanonical o t operator w
+    moved _ _ (W.IsCanonical.reaches b steps) = W.IsCanonical.reaches (sym bottom ∙ b) steps
+    moved _ _ (W.IsCanonical.never b) = W.IsCanonical.never (sym bottom ∙ b)
+    moved _ _ (W.IsCanonical.refuted_at_start n) = W.IsCanonical.refuted_at_start (λ h. n ((cuts (initial o)).1 h))
+    moved _ _ (W.IsCanonical.refuted {e = e} start first goal steps) = W.IsCanonical.refuted ((cuts (initial o)).0 start) (first_same o (Departs o s) (Departs o t) departs e first) goal steps
+    moved _ _ (W.IsCanonical.each_time start rows) = W.IsCanonical.each_time ((cuts (initial o)).0 start) (λ e there. sym (row e there) ∙ rows e there)
+    moved _ _ (W.IsCanonical.stays {path = path} goal steps) = W.IsCanonical.stays goal (first_steps_same (Cuts o s) (Cuts o t) cuts (initial o) path.steps path.goal steps)
+    moved _ _ (W.IsCanonical.false_at_start n) = W.IsCanonical.false_at_start (λ h. n ((cuts (initial o)).1 h))
+    moved _ _ (W.IsCanonical.false_at_finish start n) = W.IsCanonical.false_at_finish ((cuts (initial o)).0 start) (λ h. n ((cuts (lengths o)).1 h))
+    moved _ _ (W.IsCanonical.come_together {first = e} {other = g} start finish first other) = W.IsCanonical.come_together
+        ((cuts (initial o)).0 start) ((cuts (lengths o)).0 finish)
+        (first_same o (λ e. (f : Place) × IsPlace o f × Shares s e f) (λ e. (f : Place) × IsPlace o f × Shares t e f) sharing e first)
+        (first_same o (Shares s e) (Shares t e) (shares e first.there) g other)

@@ -9,27 +9,27 @@ use Rattle.run_model.specs.Sublattice.{IsClosed, Smallest, given}
 use Rattle.run_model.specs.Meaning.{Sat, Family}
 use Rattle.run_model.specs.Class.{is_conjunctive, Shown}
 use Rattle.run_model.specs.Slice.{Edge, IsLeastOf, IsPrintedAs, edges_of}
-use Rattle.run_model.specs.Worked.{unwatched, HasVerdict, HasSlice, HasNoSlice}
+use Rattle.run_model.specs.Worked.{stable, run_with_watch, HasVerdict, HasSlice, HasNoSlice}
 use Rattle.run_model.proofs.Orders.{initial_consistent}
 use Rattle.run_model.proofs.RegularLemmas.{regular_closed}
 use Rattle.run_model.proofs.TraceLemmas.{run_of_order}
 use Rattle.run_model.proofs.Listing.{consistent_cuts, holds, holds_reads}
 use Rattle.run_model.proofs.ListedSlices.{ordered, ordered_is, least_listed, greatest_listed, family, listed_slice, listed_stands, listed_prints, closed_prints}
 
-pub verdict_by_listing : (trace : Trace) (f : Formula) (verdict : Bool) → ordered (clocks_of trace) ≡ true → holds (unwatched trace) (consistent_cuts (unwatched trace).clocks) f (initial (unwatched trace).clocks) ≡ verdict → HasVerdict trace f verdict
-verdict_by_listing trace f true o h = (holds_reads (unwatched trace) (ordered_is (clocks_of trace) o) f (initial (clocks_of trace)) (initial_consistent (clocks_of trace))).0 h
-verdict_by_listing trace f false o h = λ t. both_ways (holds (unwatched trace) (consistent_cuts (unwatched trace).clocks) f (initial (unwatched trace).clocks)) h ((holds_reads (unwatched trace) (ordered_is (clocks_of trace) o) f (initial (clocks_of trace)) (initial_consistent (clocks_of trace))).1 t)
+pub verdict_by_listing : (trace : Trace) (f : Formula) (verdict : Bool) → ordered (clocks_of trace) ≡ true → holds (run_with_watch trace) (consistent_cuts (run_with_watch trace).clocks) f (initial (run_with_watch trace).clocks) ≡ verdict → HasVerdict trace f verdict
+verdict_by_listing trace f true o h = (holds_reads (run_with_watch trace) (ordered_is (clocks_of trace) o) f (initial (clocks_of trace)) (initial_consistent (clocks_of trace))).0 h
+verdict_by_listing trace f false o h = λ t. both_ways (holds (run_with_watch trace) (consistent_cuts (run_with_watch trace).clocks) f (initial (run_with_watch trace).clocks)) h ((holds_reads (run_with_watch trace) (ordered_is (clocks_of trace) o) f (initial (clocks_of trace)) (initial_consistent (clocks_of trace))).1 t)
 
 shown_prints : (r : Run) (f : Formula) (low high : Cut) (edges : List Edge) → (is_conjunctive true f ≡ true → IsClosed r.clocks (Family r f)) → IsPrintedAs r.clocks (Smallest (Family r f)) low high edges → (b : Bool) → is_conjunctive true f ≡ b → IsPrintedAs r.clocks (λ c. MatchBool b (Family r f c) (Smallest (Family r f) c)) low high edges
 shown_prints r f low high edges closed k true e = closed_prints r f low high edges (closed e) k
 shown_prints r f low high edges closed k false e = k
 
 pub slice_by_listing : (trace : Trace) (f : Formula) (low high : Cut) (edges : List Edge) → ordered (clocks_of trace) ≡ true
-    → least_listed (family (unwatched trace) f) ≡ Some low → greatest_listed (family (unwatched trace) f) ≡ Some high → edges ≡ edges_of (clocks_of trace) (listed_slice (unwatched trace) f) high
+    → least_listed (family (run_with_watch trace) f) ≡ Some low → greatest_listed (family (run_with_watch trace) f) ≡ Some high → edges ≡ edges_of (clocks_of trace) (listed_slice (run_with_watch trace) f) high
     → HasSlice trace f low high edges
 slice_by_listing trace f low high edges o e g h =
     let order = ordered_is (clocks_of trace) o in
-    shown_prints (unwatched trace) f low high edges (λ t. regular_closed (unwatched trace) (run_of_order trace (λ name states. []) order) f t) (listed_prints (unwatched trace) order f low high edges e g h) (is_conjunctive true f) refl
+    shown_prints (run_with_watch trace) f low high edges (λ t. regular_closed (run_with_watch trace) (run_of_order trace (λ name states. stable states) order) f t) (listed_prints (run_with_watch trace) order f low high edges e g h) (is_conjunctive true f) refl
 
 nothing_listed : (r : Run) → IsOrder r.clocks → (f : Formula) → least_listed (family r f) ≡ None → (c : Cut) → Smallest (Family r f) c → ⊥
 nothing_listed r order f e c h = subst (IsLeastOf (Smallest (Family r f))) e (listed_stands r order f).bottom c h
@@ -38,5 +38,5 @@ shown_nowhere : (r : Run) (f : Formula) → ((c : Cut) → Smallest (Family r f)
 shown_nowhere r f none true c h = none c (given h)
 shown_nowhere r f none false c h = none c h
 
-pub no_slice_by_listing : (trace : Trace) (f : Formula) → ordered (clocks_of trace) ≡ true → least_listed (family (unwatched trace) f) ≡ None → HasNoSlice trace f
-no_slice_by_listing trace f o e c h = shown_nowhere (unwatched trace) f (nothing_listed (unwatched trace) (ordered_is (clocks_of trace) o) f e) (is_conjunctive true f) c h
+pub no_slice_by_listing : (trace : Trace) (f : Formula) → ordered (clocks_of trace) ≡ true → least_listed (family (run_with_watch trace) f) ≡ None → HasNoSlice trace f
+no_slice_by_listing trace f o e c h = shown_nowhere (run_with_watch trace) f (nothing_listed (run_with_watch trace) (ordered_is (clocks_of trace) o) f e) (is_conjunctive true f) c h

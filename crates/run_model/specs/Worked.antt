@@ -2,10 +2,13 @@
 use Rattle.std.specs.Prelude.{ℕ, Bool, true, false, MatchBool, List, [], ◌∷◌, ℤ, pos}
 use Rattle.run_model.specs.Cut.{Cut, initial}
 use Rattle.run_model.specs.Run.{Name, Kind, Internal, Send, Receive, Event, Process, Trace, Watches, Run, run_of}
-use Rattle.run_model.specs.Formula.{Relation, Equal, Unequal, LessOrEqual, Number, Formula, Comparison, InTransit, Empty, And, Or, Formulas, Nil, Cons}
-use Rattle.run_model.specs.Meaning.{Sat}
+use Rattle.run_model.specs.Formula.{Relation, Equal, Unequal, LessOrEqual, Number, Operator, Formula, Comparison, InTransit, Empty, And, Or, Formulas, Nil, Cons}
+use Rattle.run_model.specs.Meaning.{Sat, Family}
 use Rattle.run_model.specs.Class.{Shown}
-use Rattle.run_model.specs.Slice.{Edge, IsPrintedAs}
+use Rattle.run_model.specs.Slice.{Slice, StandsFor, Edge, IsPrintedAs}
+use Rattle.run_model.specs.Witness.{Place, PathTo, Witness, IsCanonical}
+use Rattle.std.specs.Ordering.{int_eq}
+use Rattle.std.specs.Cmp.Lexicographic.{pointwise}
 
 -- P and Q, x and y
 abbrev pub p : Name
@@ -47,8 +50,19 @@ two_events =
 abbrev pub no_events : Trace
 no_events = record { name = p; variables = []; events = [] } ∷ []
 
-abbrev pub unwatched : Trace → Run
-unwatched trace = run_of trace (λ name states. [])
+-- whether each state equals the one before it
+abbrev pub repeats : List ℤ → List (List ℤ) → List Bool
+repeats before [] = []
+repeats before (state ∷ rest) = pointwise int_eq before state ∷ repeats state rest
+
+-- a watch that is true at the first state and at each one that equals the state before it
+abbrev pub stable : List (List ℤ) → List Bool
+stable [] = []
+stable (state ∷ rest) = true ∷ repeats state rest
+
+-- the run of a log, with this watch under every name
+abbrev pub run_with_watch : Trace → Run
+run_with_watch trace = run_of trace (λ name states. stable states)
 
 abbrev pub x_is : ℕ → Formula
 x_is k = Comparison p x Equal (Number (pos k))
@@ -64,15 +78,26 @@ one_of f g = Or (Cons f (Cons g Nil))
 
 -- the verdict is the truth at the initial cut
 abbrev pub HasVerdict : Trace → Formula → Bool → Type 0
-HasVerdict trace f verdict = MatchBool verdict (Sat (unwatched trace) f (initial (unwatched trace).clocks)) (Sat (unwatched trace) f (initial (unwatched trace).clocks) → ⊥)
+HasVerdict trace f verdict = MatchBool verdict (Sat (run_with_watch trace) f (initial (run_with_watch trace).clocks)) (Sat (run_with_watch trace) f (initial (run_with_watch trace).clocks) → ⊥)
 
 -- the slice of the cuts that are shown of the formula has this text
 abbrev pub HasSlice : Trace → Formula → Cut → Cut → List Edge → Type 0
-HasSlice trace f low high edges = IsPrintedAs (unwatched trace).clocks (Shown (unwatched trace) f) low high edges
+HasSlice trace f low high edges = IsPrintedAs (run_with_watch trace).clocks (Shown (run_with_watch trace) f) low high edges
 
 -- no cut is shown
 abbrev pub HasNoSlice : Trace → Formula → Type 0
-HasNoSlice trace f = (c : Cut) → Shown (unwatched trace) f c → ⊥
+HasNoSlice trace f = (c : Cut) → Shown (run_with_watch trace) f c → ⊥
+
+abbrev pub at : ℕ → ℕ → Place
+at process position = record { process = process; position = position }
+
+abbrev pub path_to : Cut → List Place → PathTo
+path_to goal steps = record { goal = goal; steps = steps }
+
+-- the canonical witness for the operator over this operand, by whichever slice of the operand's family
+abbrev pub HasWitness : Trace → Operator → Formula → Witness → Type 0
+HasWitness trace operator operand witness =
+    (s : Slice) → StandsFor (run_with_watch trace).clocks s (Family (run_with_watch trace) operand) → IsCanonical (run_with_watch trace).clocks s operator witness
 
 abbrev pub edge : ℕ → ℕ → ℕ → ℕ → Edge
 edge cause b effect a = record { cause = cause; cause_position = b; effect = effect; effect_position = a }
