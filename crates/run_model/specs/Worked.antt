@@ -39,6 +39,13 @@ five_events =
     ∷ starting_at_zero q y (sets (1 ∷ 1 ∷ []) (Receive 0 1) 1 ∷ sets (1 ∷ 2 ∷ []) (Send 0 2) 2 ∷ [])
     ∷ []
 
+-- the first two events of P alone
+abbrev pub first_two_events : Trace
+first_two_events =
+    starting_at_zero p x (sets (1 ∷ 0 ∷ []) (Send 1 1) 1 ∷ sets (2 ∷ 0 ∷ []) Internal 2 ∷ [])
+    ∷ starting_at_zero q y []
+    ∷ []
+
 -- two processes that do not meet
 abbrev pub two_events : Trace
 two_events =

@@ -1,19 +1,23 @@
-// Worked examples as laws: the verdict, the printed slice of formulas on the small logs.
+// Worked examples as laws: the verdicts, printed slices and canonical witnesses of formulas on the small logs.
 ghost use Rattle.std.specs.Prelude.{true, false, pos, [], ◌∷◌};
-ghost use Rattle.run_model.specs.Formula.{Unequal, LessOrEqual, Number, Truth, Comparison, InTransit, Empty, Temporal, Ef, Ag, Eg};
-ghost use Rattle.run_model.specs.Worked.{p, q, x, five_events, two_events, no_events, x_is, y_is, both, one_of, edge, HasVerdict, HasSlice, HasNoSlice};
+ghost use Rattle.run_model.specs.Formula.{Unequal, LessOrEqual, Number, Truth, Comparison, Watched, InTransit, Empty, Temporal, Ef, Ag, Eg};
+ghost use Rattle.run_model.specs.Worked.{p, q, x, five_events, two_events, first_two_events, no_events, x_is, y_is, both, one_of, edge, at, path_to, HasVerdict, HasSlice, HasNoSlice, HasWitness};
+ghost use Rattle.run_model.specs.Witness.{Reach, Against, Always, StuckFinish, StuckPair, Nothing};
 
 /// `EF (P.x = 2 & Q.y = 1)` on the five events.
 pub fn two_and_one_is_reached()
     ensures verdict { HasVerdict five_events (Temporal Ef (both (x_is 2) (y_is 1))) true }
     ensures slice { HasSlice five_events (Temporal Ef (both (x_is 2) (y_is 1)))
         (0 ∷ 0 ∷ []) (2 ∷ 1 ∷ []) [] }
+    ensures witness { HasWitness five_events Ef (both (x_is 2) (y_is 1))
+        (Reach (path_to (2 ∷ 1 ∷ []) (at 0 1 ∷ at 0 2 ∷ at 1 1 ∷ []))) }
 {}
 
 /// `EF (P.x = 0 & Q.y = 1)` on the five events: no cut satisfies it.
 pub fn zero_and_one_is_never_reached()
     ensures verdict { HasVerdict five_events (Temporal Ef (both (x_is 0) (y_is 1))) false }
     ensures slice { HasNoSlice five_events (Temporal Ef (both (x_is 0) (y_is 1))) }
+    ensures witness { HasWitness five_events Ef (both (x_is 0) (y_is 1)) Nothing }
 {}
 
 /// `P.x = 0` on the five events: the initial cut alone.
@@ -27,6 +31,7 @@ pub fn one_message_at_most()
     ensures verdict { HasVerdict five_events (Temporal Ag (InTransit p q LessOrEqual 1)) true }
     ensures slice { HasSlice five_events (Temporal Ag (InTransit p q LessOrEqual 1))
         (0 ∷ 0 ∷ []) (3 ∷ 2 ∷ []) [] }
+    ensures witness { HasWitness five_events Ag (InTransit p q LessOrEqual 1) Nothing }
 {}
 
 /// `EF AG P.x = 2` on the five events, and `AG P.x = 2`, which is true from the second event of P
@@ -36,6 +41,8 @@ pub fn two_for_good()
     ensures slice { HasSlice five_events (Temporal Ef (Temporal Ag (x_is 2)))
         (0 ∷ 0 ∷ []) (3 ∷ 2 ∷ []) [] }
     ensures operand { HasSlice five_events (Temporal Ag (x_is 2)) (2 ∷ 0 ∷ []) (3 ∷ 2 ∷ []) [] }
+    ensures witness { HasWitness five_events Ef (Temporal Ag (x_is 2))
+        (Reach (path_to (2 ∷ 0 ∷ []) (at 0 1 ∷ at 0 2 ∷ []))) }
 {}
 
 /// `empty(P,Q)` and `AG empty(P,Q)` on the five events.
@@ -45,6 +52,8 @@ pub fn empty_each_time()
         (0 ∷ 0 ∷ []) (3 ∷ 2 ∷ []) (edge 1 1 0 1 ∷ []) }
     ensures verdict { HasVerdict five_events (Temporal Ag (Empty p q)) false }
     ensures slice { HasSlice five_events (Temporal Ag (Empty p q)) (1 ∷ 1 ∷ []) (3 ∷ 2 ∷ []) [] }
+    ensures witness { HasWitness five_events Ag (Empty p q)
+        (Against (path_to (1 ∷ 0 ∷ []) (at 0 1 ∷ []))) }
 {}
 
 /// `EG empty(P,Q)` on the five events: the send and its receipt come together, so no path stays
@@ -52,6 +61,7 @@ pub fn empty_each_time()
 pub fn empty_all_along()
     ensures verdict { HasVerdict five_events (Temporal Eg (Empty p q)) false }
     ensures slice { HasSlice five_events (Temporal Eg (Empty p q)) (1 ∷ 1 ∷ []) (3 ∷ 2 ∷ []) [] }
+    ensures witness { HasWitness five_events Eg (Empty p q) (StuckPair (at 0 1) (at 1 1)) }
 {}
 
 /// `EG P.x <= 2` on the five events.
@@ -60,6 +70,8 @@ pub fn two_at_most_all_along()
         true }
     ensures slice { HasSlice five_events (Temporal Eg (Comparison p x LessOrEqual (Number (pos 2))))
         (0 ∷ 0 ∷ []) (3 ∷ 2 ∷ []) [] }
+    ensures witness { HasWitness five_events Eg (Comparison p x LessOrEqual (Number (pos 2)))
+        (Always (path_to (3 ∷ 2 ∷ []) (at 0 1 ∷ at 0 2 ∷ at 1 1 ∷ at 1 2 ∷ at 0 3 ∷ []))) }
 {}
 
 /// `AG EF Q.y = 2` on the five events.
@@ -67,6 +79,7 @@ pub fn two_can_always_be_reached()
     ensures verdict { HasVerdict five_events (Temporal Ag (Temporal Ef (y_is 2))) true }
     ensures slice { HasSlice five_events (Temporal Ag (Temporal Ef (y_is 2)))
         (0 ∷ 0 ∷ []) (3 ∷ 2 ∷ []) [] }
+    ensures witness { HasWitness five_events Ag (Temporal Ef (y_is 2)) Nothing }
 {}
 
 /// `P.x = 1 & Q.y = 2 | P.x = 2 & Q.y = 1` on the five events: two of the four cuts that are shown
@@ -82,6 +95,7 @@ pub fn one_of_two_pairs()
 pub fn true_without_events()
     ensures verdict { HasVerdict no_events (Temporal Eg (Truth true)) true }
     ensures slice { HasSlice no_events (Temporal Eg (Truth true)) (0 ∷ []) (0 ∷ []) [] }
+    ensures witness { HasWitness no_events Eg (Truth true) (Always (path_to (0 ∷ []) [])) }
 {}
 
 /// `EF (P.x = 1 & Q.y = 0)` and `EF (P.x = 2 & Q.y = 1)` on the two events.
@@ -113,4 +127,23 @@ pub fn not_one()
         (0 ∷ 0 ∷ []) (3 ∷ 2 ∷ []) (edge 0 2 0 1 ∷ edge 0 2 1 1 ∷ []) }
     ensures all_along { HasVerdict five_events (Temporal Eg (Comparison p x Unequal (Number (pos 1))))
         false }
+    ensures witness { HasWitness five_events Eg (Comparison p x Unequal (Number (pos 1)))
+        (StuckPair (at 0 1) (at 0 2)) }
+{}
+
+/// `EF (P@stable & Q.y = 2)` on the five events, where the watch is true after none and after three
+/// of P's events.
+pub fn stable_and_two()
+    ensures verdict { HasVerdict five_events (Temporal Ef (both (Watched p p) (y_is 2))) true }
+    ensures slice { HasSlice five_events (Temporal Ef (both (Watched p p) (y_is 2)))
+        (0 ∷ 0 ∷ []) (3 ∷ 2 ∷ []) [] }
+    ensures witness { HasWitness five_events Ef (both (Watched p p) (y_is 2))
+        (Reach (path_to (3 ∷ 2 ∷ []) (at 0 1 ∷ at 0 2 ∷ at 1 1 ∷ at 1 2 ∷ at 0 3 ∷ []))) }
+{}
+
+/// `EF (P.x = 2 & Q.y = 1)` and `EG empty(P,Q)` on the first two of the five events.
+pub fn before_the_receipts()
+    ensures not_yet { HasVerdict first_two_events (Temporal Ef (both (x_is 2) (y_is 1))) false }
+    ensures verdict { HasVerdict first_two_events (Temporal Eg (Empty p q)) false }
+    ensures witness { HasWitness first_two_events Eg (Empty p q) StuckFinish }
 {}

@@ -10,6 +10,7 @@ use Rattle.run_model.specs.Worked.{five_events, x_is, y_is, both}
 use Rattle.run_model.proofs.Counts.{total}
 use Rattle.run_model.proofs.Listing.{holds}
 use Rattle.run_model.proofs.WorkedLemmas.{verdict_by_listing, no_slice_by_listing}
+use Rattle.run_model.proofs.WorkedWitnesses.{never_by_listing}
 use Rattle.run_model.proofs.worked_laws.zero_and_one_is_never_reached.Goals as goal
 
 pub returns-clause-verdict : goal.returns-clause-verdict
@@ -19,3 +20,7 @@ returns-clause-verdict c = verdict_by_listing five_events (Temporal Ef (both (x_
 pub returns-clause-slice : goal.returns-clause-slice
 unfolding clock lengths initial min_cut max_cut assigned state_from states_from in_transit total holds edges_of is_conjunctive is_plain processes
 returns-clause-slice c = no_slice_by_listing five_events (Temporal Ef (both (x_is 0) (y_is 1))) refl refl
+
+pub returns-clause-witness : goal.returns-clause-witness
+unfolding clock lengths initial min_cut max_cut assigned state_from states_from in_transit total holds edges_of is_conjunctive is_plain processes
+returns-clause-witness c = never_by_listing five_events (both (x_is 0) (y_is 1)) refl refl refl
