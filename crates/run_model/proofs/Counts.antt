@@ -1,5 +1,5 @@
 -- Cuts by their counts: minimum, maximum, order, the next cut, and the number of events of a cut.
-use Rattle.std.proofs.Common.{◌≡◌, ℕ, zero, suc, ◌+◌, ◌<◌, ◌≤◌, ◌⊎◌, min, max, [], ◌∷◌, length, replicate, sym, subst, refl, inl, inr, arith, le_refl, zero-le}
+use Rattle.std.proofs.Common.{set, ◌≡◌, ℕ, zero, suc, ◌+◌, ◌<◌, ◌≤◌, ◌⊎◌, min, max, [], ◌∷◌, length, replicate, sym, subst, refl, inl, inr, arith, le_refl, zero-le}
 use Rattle.std.proofs.lemmas.List.{ext_get_or, length-set, length-map, length-replicate, get_or-set_same, get_or-set_other, get_or_past}
 use Rattle.std.proofs.lemmas.Bool.{cases_eq}
 use Rattle.run_model.specs.Cut.{Cut, Clocks, count, IsWithin, min_cut, max_cut, with_next, lengths, initial}
@@ -138,6 +138,15 @@ total_below [] (y ∷ d) (suc i) h k = omega (arith, total_below [] d i (λ j. z
 total_below (x ∷ c) [] i h k = absurd (omega arith)
 total_below (x ∷ c) (y ∷ d) zero h k = omega (arith, total_within c d (λ j. h (suc j)))
 total_below (x ∷ c) (y ∷ d) (suc i) h k = omega (arith, h 0, total_below c d i (λ j. h (suc j)) k)
+
+pub total_set : (c : Cut) (i n : ℕ) → i < length c → total (set c i n) + count c i ≡ total c + n
+unfolding total
+total_set [] i n h = absurd (omega (arith, h))
+total_set (x ∷ c) zero n h = omega arith
+total_set (x ∷ c) (suc i) n h = omega (arith, total_set c i n (omega (arith, h)))
+
+pub total_next : (c : Cut) (i : ℕ) → i < length c → total (with_next c i) ≡ total c + 1
+total_next c i h = omega (arith, total_set c i (count c i + 1) h)
 
 -- a number below k has the one property, or all have the other
 pub search_below : (P Q : ℕ → Type 0) → ((j : ℕ) → P j ⊎ Q j) → (k : ℕ) → ((j : ℕ) × (j < k) × P j) ⊎ ((j : ℕ) → j < k → Q j)

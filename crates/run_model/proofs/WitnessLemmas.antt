@@ -1,19 +1,20 @@
 -- The canonical witness is of its kind.
-use Rattle.std.proofs.Common.{◌↔◌, ◌≡◌, List, [], ◌∷◌, Option, Some, None, sym, ap, ◌∙◌, subst, refl}
-use Rattle.run_model.specs.Cut.{Cut, Clocks, IsWithin, with_next, lengths, initial}
+use Rattle.std.proofs.Common.{◌≡◌, ℕ, zero, suc, ◌+◌, ◌<◌, ◌≤◌, ◌⊎◌, ◌↔◌, List, [], ◌∷◌, length, Option, Some, None, sym, ap, ◌∙◌, subst, refl, inl, inr, arith}
+use Rattle.run_model.specs.Cut.{Cut, Clocks, count, IsWithin, with_next, lengths, initial}
 use Rattle.run_model.specs.Run.{Run}
 use Rattle.run_model.specs.Consistent.{clock, IsOrder, IsConsistent, IsPath}
-use Rattle.run_model.specs.Sublattice.{IsClosed, Having}
-use Rattle.run_model.specs.Slice.{Slice, HasWithin, IsLeastOf, Cuts, StandsFor}
-use Rattle.run_model.specs.Formula.{Operator, Formula, Temporal}
+use Rattle.run_model.specs.Sublattice.{AllIn, IsClosed, Having}
+use Rattle.run_model.specs.Slice.{Slice, HasWithin, IsLeastOf, Cuts, StandsFor, Fits}
+use Rattle.run_model.specs.Formula.{Operator, Ef, Ag, Eg, Ex, Af, Ax, Formula, Temporal}
 use Rattle.run_model.specs.Meaning.{Sat, Family}
-use Rattle.run_model.specs.Witness.{Place, PathTo, Witness, StepsIn, IsOfKind, FirstSteps, IsFirst, row_at, Departs, Shares, IsPlace, IsCanonical}
+use Rattle.run_model.specs.Witness.{Place, PathTo, Witness, StepsIn, IsOfKind, FirstSteps, FirstStepsTo, IsFirst, row_at, Departs, Shares, IsPlace, IsCanonical}
 use Rattle.run_model.specs.Witness as W
-use Rattle.run_model.proofs.Counts.{within_both, initial_within}
+use Rattle.run_model.proofs.Counts.{within_both, initial_within, count-initial, total, total_next}
+use Rattle.std.proofs.lemmas.Bool.{cases_order}
 use Rattle.run_model.proofs.Orders.{event_of_run, has_past, past_consistent, past_has, initial_consistent, final_consistent}
 use Rattle.run_model.proofs.Paths.{path_last, each_time_from_ends}
 use Rattle.run_model.proofs.SliceLemmas.{least_of_member, has_within_up, cuts_member, member_cuts, one_bottom, one_row}
-use Rattle.run_model.proofs.OperatorLemmas.{rows_both}
+use Rattle.run_model.proofs.OperatorLemmas.{rows_both, pair_refutes}
 
 pub first_steps_wider : (A B : Cut → Type 0) → ((c : Cut) → A c → B c) → (c : Cut) (es : List Place) (d : Cut) → FirstSteps A c es d → StepsIn B c es d
 first_steps_wider A B h c [] d p = (h c p.0, p.1)
@@ -124,3 +125,124 @@ canonical_same o A closed s t k l operator w canonical = moved operator w canoni
         ((cuts (initial o)).0 start) ((cuts (lengths o)).0 finish)
         (first_same o (λ e. (f : Place) × IsPlace o f × Shares s e f) (λ e. (f : Place) × IsPlace o f × Shares t e f) sharing e first)
         (first_same o (Shares s e) (Shares t e) (shares e first.there) g other)
+
+-- ---- there is one canonical witness
+
+-- steps that lead somewhere lead to another cut
+steps_rise : (A : Cut → Type 0) (c : Cut) (es : List Place) (d : Cut) → FirstSteps A c es d → total c + length es ≡ total d
+steps_rise A c [] d p = omega (arith, ap total p.1)
+steps_rise A c (e ∷ es) d p = omega (arith, steps_rise A (with_next c e.process) es d p.4, total_next c e.process p.1)
+
+same_process : (A : Cut → Type 0) (c : Cut) (i j : ℕ) → A (with_next c i) → A (with_next c j) → ((k : ℕ) → k < i → A (with_next c k) → ⊥) → ((k : ℕ) → k < j → A (with_next c k) → ⊥) → i ≡ j
+same_process A c i j h k first other = elim (cases_order i j) [
+    inl e ↦ e
+  | inr w ↦ elim w [ inl l ↦ absurd (other i l h) | inr g ↦ absurd (first j g k) ]
+  ]
+
+steps_start : (A : Cut → Type 0) (c : Cut) (es : List Place) (d : Cut) → FirstSteps A c es d → A c
+steps_start A c [] d p = p.0
+steps_start A c (e ∷ es) d p = p.0
+
+one_place : (e f : Place) → e.process ≡ f.process → e.position ≡ f.position → e ≡ f
+one_place e f p q = λ i. record { process = p i; position = q i }
+
+first_steps_one : (A : Cut → Type 0) (c : Cut) (es fs : List Place) (d : Cut) → FirstSteps A c es d → FirstSteps A c fs d → es ≡ fs
+first_steps_one A c [] [] d p q = refl
+first_steps_one A c [] (f ∷ fs) d p q = absurd (omega (arith, steps_rise A c [] d p, steps_rise A c (f ∷ fs) d q))
+first_steps_one A c (e ∷ es) [] d p q = absurd (omega (arith, steps_rise A c (e ∷ es) d p, steps_rise A c [] d q))
+first_steps_one A c (e ∷ es) (f ∷ fs) d p q =
+    let same = same_process A c e.process f.process (steps_start A (with_next c e.process) es d p.4) (steps_start A (with_next c f.process) fs d q.4) p.3 q.3 in
+    let head = one_place e f same (p.2 ∙ ap (λ i. count c i + 1) same ∙ sym q.2) in
+    let rest = first_steps_one A (with_next c e.process) es fs d p.4 (subst (λ i. FirstSteps A (with_next c i) fs d) (sym same) q.4) in
+    ap (λ x. x ∷ es) head ∙ ap (λ l. f ∷ l) rest
+
+first_one : (o : Clocks) (P : Place → Type 0) (e f : Place) → IsFirst o P e → IsFirst o P f → e ≡ f
+first_one o P e f p q = elim (cases_order e.process f.process) [
+    inr w ↦ elim w [ inl l ↦ absurd (q.first e p.there (inl l) p.has) | inr g ↦ absurd (p.first f q.there (inl g) q.has) ]
+  | inl same ↦ elim (cases_order e.position f.position) [
+        inl here ↦ one_place e f same here
+      | inr w ↦ elim w [ inl l ↦ absurd (q.first e p.there (inr (same, l)) p.has) | inr g ↦ absurd (p.first f q.there (inr (sym same, g)) q.has) ]
+      ]
+  ]
+
+one_path : (A : Cut → Type 0) (c : Cut) (path other : PathTo) → path.goal ≡ other.goal → FirstSteps A c path.steps path.goal → FirstSteps A c other.steps other.goal → path ≡ other
+one_path A c path other goal p q =
+    let steps : path.steps ≡ other.steps = first_steps_one A c path.steps other.steps path.goal p (subst (λ d. FirstSteps A c other.steps d) (sym goal) q) in
+    λ i. record { goal = goal i; steps = steps i }
+
+one_path_to : (o : Clocks) (path other : PathTo) → path.goal ≡ other.goal → FirstStepsTo o path → FirstStepsTo o other → path ≡ other
+one_path_to o path other goal p q = one_path (λ c. IsConsistent o c × IsWithin c path.goal) (initial o) path other goal p (subst (λ d. FirstSteps (λ c. IsConsistent o c × IsWithin c d) (initial o) other.steps other.goal) (sym goal) q)
+
+some_goal : (k : Option Cut) (c d : Cut) → k ≡ Some c → k ≡ Some d → c ≡ d
+some_goal k c d p q = cc
+
+none_goal : (k : Option Cut) (c : Cut) → k ≡ Some c → k ≡ None → ⊥
+none_goal k c p q = cc
+
+steps_end : (A : Cut → Type 0) (c : Cut) (es : List Place) (d : Cut) → FirstSteps A c es d → A d
+steps_end A c [] d p = subst A p.1 p.0
+steps_end A c (e ∷ es) d p = steps_end A (with_next c e.process) es d p.4
+
+steps_all : (o : Clocks) (A : Cut → Type 0) → ((c : Cut) → A c → IsConsistent o c) → (c : Cut) (es : List Place) (d : Cut) → FirstSteps A c es d → IsPath o c (cuts_along c es) d × AllIn A c (cuts_along c es)
+unfolding cuts_along
+steps_all o A consistent c [] d p = ((consistent c p.0, p.1), p.0)
+steps_all o A consistent c (e ∷ es) d p =
+    let rest = steps_all o A consistent (with_next c e.process) es d p.4 in
+    ((consistent c p.0, (e.process, p.1, refl), rest.0), (p.0, rest.1))
+
+-- no steps through the slice lead to the final cut where two events share a row
+pair_stops : (o : Clocks) (s : Slice) → Fits o s → (path : PathTo) → path.goal ≡ lengths o → FirstSteps (Cuts o s) (initial o) path.steps path.goal → (e f : Place) → IsPlace o e → IsPlace o f → Shares s e f → ⊥
+pair_stops o s fits path goal steps e f there place shares =
+    let along = steps_all o (Cuts o s) (λ c k. k.consistent) (initial o) path.steps (lengths o) (subst (λ d. FirstSteps (Cuts o s) (initial o) path.steps d) goal steps) in
+    pair_refutes o (Cuts o s) e.process e.position f.process f.position there place shares.0
+      (rows_both o (Cuts o s) s fits e.process e.position f.process f.position there place (sym shares.1))
+      (initial o) (omega (arith, count-initial o e.process, there.0)) (cuts_along (initial o) path.steps, along.0, along.1)
+
+reach_one : (o : Clocks) (s : Slice) (w v : Witness) → IsCanonical o s Ef w → IsCanonical o s Ef v → w ≡ v
+reach_one o s _ _ (W.IsCanonical.reaches {path = p} b steps) (W.IsCanonical.reaches {path = q} c other) = ap W.Reach (one_path_to o p q (some_goal s.bottom p.goal q.goal b c) steps other)
+reach_one o s _ _ (W.IsCanonical.reaches {path = p} b steps) (W.IsCanonical.never c) = absurd (none_goal s.bottom p.goal b c)
+reach_one o s _ _ (W.IsCanonical.never c) (W.IsCanonical.reaches {path = p} b steps) = absurd (none_goal s.bottom p.goal b c)
+reach_one o s _ _ (W.IsCanonical.never b) (W.IsCanonical.never c) = refl
+
+against_one : (o : Clocks) (s : Slice) (w v : Witness) → IsCanonical o s Ag w → IsCanonical o s Ag v → w ≡ v
+against_one o s _ _ (W.IsCanonical.refuted_at_start n) (W.IsCanonical.refuted_at_start m) = refl
+against_one o s _ _ (W.IsCanonical.refuted_at_start n) (W.IsCanonical.refuted start first goal steps) = absurd (n start)
+against_one o s _ _ (W.IsCanonical.refuted_at_start n) (W.IsCanonical.each_time start rows) = absurd (n start)
+against_one o s _ _ (W.IsCanonical.refuted start first goal steps) (W.IsCanonical.refuted_at_start n) = absurd (n start)
+against_one o s _ _ (W.IsCanonical.refuted {path = p} {e = e} start first goal steps) (W.IsCanonical.refuted {path = q} {e = f} begin second end other) =
+    let same = first_one o (Departs o s) e f first second in
+    ap W.Against (one_path_to o p q (goal ∙ ap (λ (g : Place). clock o g.process g.position) same ∙ sym end) steps other)
+against_one o s _ _ (W.IsCanonical.refuted {e = e} start first goal steps) (W.IsCanonical.each_time begin rows) = absurd (first.has (rows e first.there))
+against_one o s _ _ (W.IsCanonical.each_time start rows) (W.IsCanonical.refuted_at_start n) = absurd (n start)
+against_one o s _ _ (W.IsCanonical.each_time start rows) (W.IsCanonical.refuted {e = e} begin first goal steps) = absurd (first.has (rows e first.there))
+against_one o s _ _ (W.IsCanonical.each_time start rows) (W.IsCanonical.each_time begin others) = refl
+
+always_one : (o : Clocks) (s : Slice) → Fits o s → (w v : Witness) → IsCanonical o s Eg w → IsCanonical o s Eg v → w ≡ v
+always_one o s fits _ _ (W.IsCanonical.stays {path = p} goal steps) (W.IsCanonical.stays {path = q} end other) = ap W.Always (one_path (Cuts o s) (initial o) p q (goal ∙ sym end) steps other)
+always_one o s fits _ _ (W.IsCanonical.stays {path = p} goal steps) (W.IsCanonical.false_at_start n) = absurd (n (steps_start (Cuts o s) (initial o) p.steps p.goal steps))
+always_one o s fits _ _ (W.IsCanonical.stays {path = p} goal steps) (W.IsCanonical.false_at_finish start n) = absurd (n (subst (Cuts o s) goal (steps_end (Cuts o s) (initial o) p.steps p.goal steps)))
+always_one o s fits _ _ (W.IsCanonical.stays {path = p} goal steps) (W.IsCanonical.come_together {first = e} start finish first other) = absurd (pair_stops o s fits p goal steps e first.has.0 first.there first.has.1 first.has.2)
+always_one o s fits _ _ (W.IsCanonical.false_at_start n) (W.IsCanonical.stays {path = p} goal steps) = absurd (n (steps_start (Cuts o s) (initial o) p.steps p.goal steps))
+always_one o s fits _ _ (W.IsCanonical.false_at_start n) (W.IsCanonical.false_at_start m) = refl
+always_one o s fits _ _ (W.IsCanonical.false_at_start n) (W.IsCanonical.false_at_finish start m) = absurd (n start)
+always_one o s fits _ _ (W.IsCanonical.false_at_start n) (W.IsCanonical.come_together start finish first other) = absurd (n start)
+always_one o s fits _ _ (W.IsCanonical.false_at_finish start n) (W.IsCanonical.stays {path = p} goal steps) = absurd (n (subst (Cuts o s) goal (steps_end (Cuts o s) (initial o) p.steps p.goal steps)))
+always_one o s fits _ _ (W.IsCanonical.false_at_finish start n) (W.IsCanonical.false_at_start m) = absurd (m start)
+always_one o s fits _ _ (W.IsCanonical.false_at_finish start n) (W.IsCanonical.false_at_finish begin m) = refl
+always_one o s fits _ _ (W.IsCanonical.false_at_finish start n) (W.IsCanonical.come_together begin finish first other) = absurd (n finish)
+always_one o s fits _ _ (W.IsCanonical.come_together {first = e} start finish first other) (W.IsCanonical.stays {path = p} goal steps) = absurd (pair_stops o s fits p goal steps e first.has.0 first.there first.has.1 first.has.2)
+always_one o s fits _ _ (W.IsCanonical.come_together start finish first other) (W.IsCanonical.false_at_start n) = absurd (n start)
+always_one o s fits _ _ (W.IsCanonical.come_together start finish first other) (W.IsCanonical.false_at_finish begin n) = absurd (n finish)
+always_one o s fits _ _ (W.IsCanonical.come_together {first = e} {other = f} start finish first other) (W.IsCanonical.come_together {first = g} {other = h} begin end second another) =
+    let same = first_one o (λ e. (f : Place) × IsPlace o f × Shares s e f) e g first second in
+    let both = first_one o (Shares s g) f h (subst (λ x. IsFirst o (Shares s x) f) same other) another in
+    ap (λ x. W.StuckPair x f) same ∙ ap (W.StuckPair g) both
+
+-- an operator over a slice has one canonical witness at most
+pub canonical_one : (o : Clocks) (s : Slice) → Fits o s → (operator : Operator) (w v : Witness) → IsCanonical o s operator w → IsCanonical o s operator v → w ≡ v
+canonical_one o s fits Ef w v p q = reach_one o s w v p q
+canonical_one o s fits Ag w v p q = against_one o s w v p q
+canonical_one o s fits Eg w v p q = always_one o s fits w v p q
+canonical_one o s fits Ex w v p q = elim p [ ]
+canonical_one o s fits Af w v p q = elim p [ ]
+canonical_one o s fits Ax w v p q = elim p [ ]

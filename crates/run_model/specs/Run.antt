@@ -75,9 +75,13 @@ states_from state (e ∷ rest) = state ∷ states_from (assigned state e.assigns
 abbrev pub states_of : Process → List (List ℤ)
 states_of p = states_from (opening_state p) p.events
 
--- the value of a variable after the first a events of its process
+-- the value of variable number v after the first a events of its process
+abbrev pub value_of : Process → ℕ → ℕ → ℤ
+value_of p a v = get_or (state_after p a) v (pos 0)
+
+-- the value of the variable of a name after the first a events
 abbrev pub value_after : Process → Name → ℕ → ℤ
-value_after p variable a = get_or (state_after p a) (number_of variable (map (λ (v : Variable). v.name) p.variables)) (pos 0)
+value_after p variable a = value_of p a (number_of variable (map (λ (v : Variable). v.name) p.variables))
 
 abbrev pub is_send_to : ℕ → Kind → Bool
 is_send_to q Internal = false
