@@ -88,10 +88,10 @@ take_next o A t join k c member apart (suc fuel) i h f =
       | inr none ↦ (i, in_length o A t join k c member i h, h, lone_step o A t join k c member apart i h none)
     ]
 
-apart_up : (t : Cut) (join : ℕ → ℕ → Cut) (c d : Cut) → IsWithin c d → Apart t join c → Apart t join d
+pub apart_up : (t : Cut) (join : ℕ → ℕ → Cut) (c d : Cut) → IsWithin c d → Apart t join c → Apart t join d
 apart_up t join c d up apart i a j b ev fv h l p q = apart i a j b ev fv (omega (arith, h, up i)) (omega (arith, l, up j)) p q
 
-reached : (o : Clocks) (A : Cut → Type 0) (t : Cut) (join : ℕ → ℕ → Cut) → IsClimbable o A t join → (c : Cut) → A c → ((j : ℕ) → j < length t → count t j ≤ count c j) → c ≡ t
+pub reached : (o : Clocks) (A : Cut → Type 0) (t : Cut) (join : ℕ → ℕ → Cut) → IsClimbable o A t join → (c : Cut) → A c → ((j : ℕ) → j < length t → count t j ≤ count c j) → c ≡ t
 reached o A t join k c member none = within_both c t ((k.consistent c member).shaped ∙ sym (k.consistent t k.top.member).shaped) (k.top.greatest c member) (λ j. elim (cases_lt j (length t)) [ inl l ↦ none j l | inr g ↦ omega (arith, count_past t j g) ])
 
 lacks : (c t : Cut) → ((j : ℕ) × (j < length t) × (count c j < count t j)) ⊎ ((j : ℕ) → j < length t → count t j ≤ count c j)
@@ -100,6 +100,10 @@ lacks c t = search_below (λ j. count c j < count t j) (λ j. count t j ≤ coun
 grows : (c : Cut) (i : ℕ) → i < length c → total c < total (with_next c i)
 grows c i h = total_below c (with_next c i) i (with_next_above c i h) (omega (arith, with_next_same c i h))
 
+-- from a member that is not the greatest, a next event leads to a member
+pub next_exists : (o : Clocks) (A : Cut → Type 0) (t : Cut) (join : ℕ → ℕ → Cut) → IsClimbable o A t join → (c : Cut) → A c → Apart t join c → (i : ℕ) → count c i < count t i → NextIn A t c
+next_exists o A t join k c member apart i h = take_next o A t join k c member apart (suc (total (join i (count c i + 1)))) i h (omega arith)
+
 climb_by : (o : Clocks) (A : Cut → Type 0) (t : Cut) (join : ℕ → ℕ → Cut) → IsClimbable o A t join → (fuel : ℕ) (c : Cut) → A c → Apart t join c → total t ≤ total c + fuel → (es : List Cut) × PathIn A c es t
 climb_by o A t join k zero c member apart f = elim (lacks c t) [
   | inl w ↦ absurd (omega (arith, f, total_below c t w.0 (k.top.greatest c member) w.2))
@@ -107,7 +111,7 @@ climb_by o A t join k zero c member apart f = elim (lacks c t) [
 ]
 climb_by o A t join k (suc fuel) c member apart f = elim (lacks c t) [
   | inl w ↦
-      let next = take_next o A t join k c member apart (suc (total (join w.0 (count c w.0 + 1)))) w.0 w.2 (omega arith) in
+      let next = next_exists o A t join k c member apart w.0 w.2 in
       let up = with_next_above c next.0 next.1 in
       let rest = climb_by o A t join k fuel (with_next c next.0) next.3 (apart_up t join c (with_next c next.0) up apart) (omega (arith, f, grows c next.0 next.1)) in
       (with_next c next.0 ∷ rest.0, (member, (next.0, next.1, refl), rest.1))

@@ -7,6 +7,7 @@ pub mod OperatorLemmas
 pub mod ClosureLemmas
 pub mod ResultSlices
 pub mod JoinLemmas
+pub mod ShownLemmas
 pub mod EdgeLemmas
 pub mod DecisionLemmas
 pub mod RelationLemmas

@@ -1,13 +1,13 @@
 -- By listing: whether clocks are those of an order, and the slice of a formula's family.
-use Rattle.std.proofs.Common.{◌≡◌, ℕ, zero, suc, ◌+◌, ◌-◌, ◌<◌, ◌≤◌, ◌⊎◌, ◌↔◌, Bool, true, false, not, ◌&&◌, ◌||◌, eqb, ltb, leb, List, [], ◌∷◌, length, filter, Option, Some, None, Decides, sym, ap, ◌∙◌, subst, refl, inl, inr, arith, le_refl, le_trans, zero-le}
+use Rattle.std.proofs.Common.{◌≡◌, ℕ, ◌+◌, ◌-◌, ◌≤◌, ◌↔◌, Bool, true, ◌&&◌, ◌||◌, eqb, ltb, leb, List, [], ◌∷◌, length, filter, Option, Some, None, sym, subst, refl, inl, inr, arith, le_refl, zero-le}
 use Rattle.std.proofs.lemmas.Bool.{cases_lt, and_parts, or_cases, eqb-true, leb-true, le-leb, ltb-true}
 use Rattle.run_model.specs.Cut.{Cut, Clocks, count, IsWithin, min_cut, max_cut, lengths}
 use Rattle.run_model.specs.Run.{Run}
-use Rattle.run_model.specs.Consistent.{clock, IsEvent, IsOrder, IsConsistent}
-use Rattle.run_model.specs.Sublattice.{AllIn, IsClosed, IsLeast, IsGreatest, Having, Smallest, given, minimum, maximum, min_of, max_of}
+use Rattle.run_model.specs.Consistent.{clock, IsEvent, IsOrder}
+use Rattle.run_model.specs.Sublattice.{IsClosed, IsGreatest, Having, Smallest, given, minimum, maximum, min_of, max_of}
 use Rattle.run_model.specs.Slice.{Slice, IsLeastOf, StandsFor, IsPrintedAs, Edge, edges_of}
 use Rattle.run_model.specs.Formula.{Formula}
-use Rattle.run_model.specs.Meaning.{Sat, Family}
+use Rattle.run_model.specs.Meaning.{Family}
 use Rattle.run_model.proofs.Counts.{count-min, count-max, within_trans, within_min, min_left, min_right, max_left, max_right, max_within}
 use Rattle.run_model.proofs.Orders.{has_process}
 use Rattle.run_model.proofs.SliceLemmas.{least_same, stands_same}

@@ -1,22 +1,19 @@
 -- A slow reading of the definitions, by listing all cuts: whether a cut is consistent, whether a formula holds, and the slice of the
 -- formula's family. It computes, and is proved to mean what the definitions say, so examples can be checked by computing.
-use Rattle.std.proofs.Common.{◌≡◌, ℕ, zero, suc, ◌+◌, ◌-◌, ◌<◌, ◌≤◌, ◌⊎◌, ◌↔◌, Bool, true, false, not, ◌&&◌, ◌||◌, cond, eqb, ltb, leb, List, [], ◌∷◌, ◌++◌, length, map, flat_map, filter, Option, Some, None, pos, Decides, sym, ap, ◌∙◌, subst, refl, inl, inr, arith, le_refl, le_trans, zero-le}
+use Rattle.std.proofs.Common.{◌≡◌, ℕ, zero, suc, ◌+◌, ◌<◌, ◌≤◌, ◌⊎◌, Bool, true, false, not, ◌&&◌, ◌||◌, eqb, leb, List, [], ◌∷◌, ◌++◌, length, map, flat_map, filter, pos, Decides, sym, ap, ◌∙◌, subst, refl, inl, inr, arith, le_refl, zero-le}
 use Rattle.std.specs.List.{range_with_len, list_all, list_any}
-use Rattle.std.proofs.lemmas.Bool.{cond_both, cases_lt, cases_eq, cases_Bool, false≢true, and_parts, and_from, or_cases, or_left, or_right, not_from_false, not-true, leb-true, le-leb, ltb-true, lt-ltb, eqb-true, eq-eqb, false_from_ne_true, both_ways}
-use Rattle.run_model.specs.Cut.{Cut, Clocks, count, IsWithin, min_cut, max_cut, with_next, Follows, lengths}
+use Rattle.std.proofs.lemmas.Bool.{cond_both, cases_lt, cases_Bool, false≢true, and_parts, and_from, or_cases, or_left, or_right, not_from_false, not-true, leb-true, le-leb, eqb-true, eq-eqb, both_ways}
+use Rattle.run_model.specs.Cut.{Cut, Clocks, count, IsWithin, with_next, lengths}
 use Rattle.run_model.specs.Run.{Run}
-use Rattle.run_model.specs.Consistent.{clock, IsEvent, IsOrder, IsConsistent, IsPath}
-use Rattle.run_model.specs.Sublattice.{AllIn, IsClosed, IsLeast, IsGreatest, Having, Smallest, given, minimum, maximum, min_of, max_of}
-use Rattle.run_model.specs.Slice.{Slice, IsLeastOf, StandsFor, IsPrintedAs, Edge, edges_of}
+use Rattle.run_model.specs.Consistent.{clock, IsOrder, IsConsistent, IsPath}
+use Rattle.run_model.specs.Sublattice.{AllIn}
 use Rattle.run_model.specs.Operators.{SomeTime, EachTime, Staying}
 use Rattle.run_model.specs.Formula.{Ef, Ag, Eg, Ex, Af, Ax, Formula, Truth, Comparison, Watched, InTransit, Empty, Not, And, Or, Temporal, Until, Formulas, Nil, Cons}
-use Rattle.run_model.specs.Meaning.{compares, value_at, side_at, in_transit, Sat, SatAll, SatSome, Family}
-use Rattle.run_model.proofs.Counts.{count_past, count-min, count-max, within_refl, within_trans, within_both, within_min, max_left, max_right, min_left, min_right, max_within, total, total_below, total_within, with_next_above, with_next_same, length-lengths}
+use Rattle.run_model.specs.Meaning.{compares, value_at, side_at, in_transit, Sat, SatAll, SatSome}
+use Rattle.run_model.proofs.Counts.{within_refl, within_both, total, total_below, total_within, with_next_above, with_next_same, length-lengths}
 use Rattle.run_model.proofs.Orders.{has_process}
-use Rattle.run_model.proofs.Paths.{path_first, path_last, path_rises, all_first, each_time_ends, each_time_from_ends}
+use Rattle.run_model.proofs.Paths.{path_first, path_last, path_rises, each_time_ends, each_time_from_ends}
 use Rattle.run_model.proofs.OperatorLemmas.{path_exists}
-use Rattle.run_model.proofs.SliceLemmas.{least_same}
-use Rattle.run_model.proofs.JoinLemmas.{smallest_in}
 
 -- ---- membership in lists
 

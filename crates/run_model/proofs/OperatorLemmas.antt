@@ -17,7 +17,7 @@ use Rattle.run_model.proofs.SliceLemmas.{least_within, least_of_member, has_with
 abbrev pub Below : Clocks → Cut → Cut → Type 0
 Below o d c = IsConsistent o c × IsWithin c d
 
-below_climbable : (o : Clocks) → IsOrder o → (d : Cut) → IsConsistent o d → IsClimbable o (Below o d) d (clock o)
+pub below_climbable : (o : Clocks) → IsOrder o → (d : Cut) → IsConsistent o d → IsClimbable o (Below o d) d (clock o)
 below_climbable o order d k = record {
   consistent = λ c h. h.0;
   has_max = λ c e h l. (max_consistent o order c e h.0 l.0, max_within c e d h.1 l.1);
@@ -28,7 +28,7 @@ below_climbable o order d k = record {
   };
 }
 
-below_apart : (o : Clocks) → IsOrder o → (c d : Cut) → IsConsistent o d → Apart d (clock o) c
+pub below_apart : (o : Clocks) → IsOrder o → (c d : Cut) → IsConsistent o d → Apart d (clock o) c
 below_apart o order c d k i a j b ev fv h l p q =
     let e = event_of_run o d k i a ev in
     let f = event_of_run o d k j b fv in

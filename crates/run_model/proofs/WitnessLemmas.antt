@@ -1,5 +1,5 @@
 -- The canonical witness is of its kind.
-use Rattle.std.proofs.Common.{◌≡◌, ℕ, zero, suc, ◌+◌, ◌<◌, ◌≤◌, ◌⊎◌, ◌↔◌, List, [], ◌∷◌, length, Option, Some, None, sym, ap, ◌∙◌, subst, refl, inl, inr, arith}
+use Rattle.std.proofs.Common.{◌≡◌, ℕ, ◌+◌, ◌<◌, ◌↔◌, List, [], ◌∷◌, length, Option, Some, None, sym, ap, ◌∙◌, subst, refl, inl, inr, arith}
 use Rattle.run_model.specs.Cut.{Cut, Clocks, count, IsWithin, with_next, lengths, initial}
 use Rattle.run_model.specs.Run.{Run}
 use Rattle.run_model.specs.Consistent.{clock, IsOrder, IsConsistent, IsPath}
@@ -135,9 +135,9 @@ steps_rise A c (e ∷ es) d p = omega (arith, steps_rise A (with_next c e.proces
 
 same_process : (A : Cut → Type 0) (c : Cut) (i j : ℕ) → A (with_next c i) → A (with_next c j) → ((k : ℕ) → k < i → A (with_next c k) → ⊥) → ((k : ℕ) → k < j → A (with_next c k) → ⊥) → i ≡ j
 same_process A c i j h k first other = elim (cases_order i j) [
-    inl e ↦ e
+  | inl e ↦ e
   | inr w ↦ elim w [ inl l ↦ absurd (other i l h) | inr g ↦ absurd (first j g k) ]
-  ]
+]
 
 steps_start : (A : Cut → Type 0) (c : Cut) (es : List Place) (d : Cut) → FirstSteps A c es d → A c
 steps_start A c [] d p = p.0
@@ -158,12 +158,12 @@ first_steps_one A c (e ∷ es) (f ∷ fs) d p q =
 
 first_one : (o : Clocks) (P : Place → Type 0) (e f : Place) → IsFirst o P e → IsFirst o P f → e ≡ f
 first_one o P e f p q = elim (cases_order e.process f.process) [
-    inr w ↦ elim w [ inl l ↦ absurd (q.first e p.there (inl l) p.has) | inr g ↦ absurd (p.first f q.there (inl g) q.has) ]
+  | inr w ↦ elim w [ inl l ↦ absurd (q.first e p.there (inl l) p.has) | inr g ↦ absurd (p.first f q.there (inl g) q.has) ]
   | inl same ↦ elim (cases_order e.position f.position) [
-        inl here ↦ one_place e f same here
-      | inr w ↦ elim w [ inl l ↦ absurd (q.first e p.there (inr (same, l)) p.has) | inr g ↦ absurd (p.first f q.there (inr (sym same, g)) q.has) ]
-      ]
+    | inl here ↦ one_place e f same here
+    | inr w ↦ elim w [ inl l ↦ absurd (q.first e p.there (inr (same, l)) p.has) | inr g ↦ absurd (p.first f q.there (inr (sym same, g)) q.has) ]
   ]
+]
 
 one_path : (A : Cut → Type 0) (c : Cut) (path other : PathTo) → path.goal ≡ other.goal → FirstSteps A c path.steps path.goal → FirstSteps A c other.steps other.goal → path ≡ other
 one_path A c path other goal p q =
@@ -195,8 +195,8 @@ pair_stops : (o : Clocks) (s : Slice) → Fits o s → (path : PathTo) → path.
 pair_stops o s fits path goal steps e f there place shares =
     let along = steps_all o (Cuts o s) (λ c k. k.consistent) (initial o) path.steps (lengths o) (subst (λ d. FirstSteps (Cuts o s) (initial o) path.steps d) goal steps) in
     pair_refutes o (Cuts o s) e.process e.position f.process f.position there place shares.0
-      (rows_both o (Cuts o s) s fits e.process e.position f.process f.position there place (sym shares.1))
-      (initial o) (omega (arith, count-initial o e.process, there.0)) (cuts_along (initial o) path.steps, along.0, along.1)
+    (rows_both o (Cuts o s) s fits e.process e.position f.process f.position there place (sym shares.1))
+    (initial o) (omega (arith, count-initial o e.process, there.0)) (cuts_along (initial o) path.steps, along.0, along.1)
 
 reach_one : (o : Clocks) (s : Slice) (w v : Witness) → IsCanonical o s Ef w → IsCanonical o s Ef v → w ≡ v
 reach_one o s _ _ (W.IsCanonical.reaches {path = p} b steps) (W.IsCanonical.reaches {path = q} c other) = ap W.Reach (one_path_to o p q (some_goal s.bottom p.goal q.goal b c) steps other)

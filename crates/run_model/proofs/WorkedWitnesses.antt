@@ -1,19 +1,19 @@
 -- How the canonical witness of a worked example is proved: by computing over the listed slice of the operand.
-use Rattle.std.proofs.Common.{◌≡◌, ℕ, zero, suc, ◌+◌, ◌-◌, ◌<◌, ◌≤◌, ◌⊎◌, ◌↔◌, Bool, true, false, not, ◌&&◌, ◌||◌, eqb, ltb, leb, List, [], ◌∷◌, length, Option, Some, None, Decides, sym, ap, ◌∙◌, subst, refl, inl, inr, arith, le_refl}
-use Rattle.std.proofs.lemmas.Bool.{cases_lt, false≢true, both_ways, and_parts, and_from, or_cases, or_left, or_right, not-true, not_from_false, eqb-true, eq-eqb, leb-true, le-leb, ltb-true, lt-ltb}
+use Rattle.std.proofs.Common.{◌≡◌, ℕ, ◌+◌, ◌-◌, Bool, true, false, not, ◌&&◌, ◌||◌, eqb, ltb, leb, List, [], ◌∷◌, length, Option, Some, None, Decides, ap, subst, refl, inl, inr, arith}
+use Rattle.std.proofs.lemmas.Bool.{false≢true, both_ways, and_parts, and_from, or_cases, or_left, or_right, not-true, not_from_false, eqb-true, eq-eqb, leb-true, ltb-true, lt-ltb}
 use Rattle.run_model.specs.Cut.{Cut, Clocks, count, IsWithin, with_next, lengths, initial}
-use Rattle.run_model.specs.Run.{Trace, Run, clocks_of}
-use Rattle.run_model.specs.Consistent.{clock, IsEvent, IsOrder, IsConsistent}
+use Rattle.run_model.specs.Run.{Trace, clocks_of}
+use Rattle.run_model.specs.Consistent.{clock, IsOrder, IsConsistent}
 use Rattle.run_model.specs.Sublattice.{IsClosed, Smallest}
 use Rattle.run_model.specs.Slice.{Slice, Cuts, StandsFor}
 use Rattle.run_model.specs.Formula.{Operator, Ef, Ag, Eg, Formula}
-use Rattle.run_model.specs.Meaning.{Sat, Family}
+use Rattle.run_model.specs.Meaning.{Family}
 use Rattle.run_model.specs.Class.{is_conjunctive}
 use Rattle.run_model.specs.Witness.{Place, PathTo, Witness, Nothing, Reach, Against, Always, StuckStart, StuckFinish, StuckPair, FirstSteps, FirstStepsTo, IsPlace, IsBefore, IsFirst, row_at, Departs, Shares, AreTwo, IsCanonical}
 use Rattle.run_model.specs.Witness as W
 use Rattle.run_model.specs.Worked.{stable, run_with_watch, HasWitness}
 use Rattle.run_model.proofs.Counts.{within_both, within_refl}
-use Rattle.run_model.proofs.Orders.{has_process, initial_consistent}
+use Rattle.run_model.proofs.Orders.{has_process}
 use Rattle.run_model.proofs.SliceLemmas.{stands_same, cuts_member, member_cuts}
 use Rattle.run_model.proofs.JoinLemmas.{smallest_of_closed}
 use Rattle.run_model.proofs.RegularLemmas.{regular_closed}

@@ -1,8 +1,8 @@
 -- Worked examples: two small logs, one without events, and the words to write formulas over them.
-use Rattle.std.specs.Prelude.{ℕ, Bool, true, false, MatchBool, List, [], ◌∷◌, ℤ, pos}
+use Rattle.std.specs.Prelude.{ℕ, Bool, true, MatchBool, List, [], ◌∷◌, ℤ, pos}
 use Rattle.run_model.specs.Cut.{Cut, initial}
-use Rattle.run_model.specs.Run.{Name, Kind, Internal, Send, Receive, Event, Process, Trace, Watches, Run, run_of}
-use Rattle.run_model.specs.Formula.{Relation, Equal, Unequal, LessOrEqual, Number, Operator, Formula, Comparison, InTransit, Empty, And, Or, Formulas, Nil, Cons}
+use Rattle.run_model.specs.Run.{Name, Kind, Internal, Send, Receive, Event, Process, Trace, Run, run_of}
+use Rattle.run_model.specs.Formula.{Equal, Number, Operator, Formula, Comparison, And, Or, Nil, Cons}
 use Rattle.run_model.specs.Meaning.{Sat, Family}
 use Rattle.run_model.specs.Class.{Shown}
 use Rattle.run_model.specs.Slice.{Slice, StandsFor, Edge, IsPrintedAs}

@@ -3,10 +3,10 @@ ghost use Rattle.std.specs.Prelude.{◌≡◌, ◌⊎◌, ◌↔◌, true, lengt
 ghost use Rattle.run_model.specs.Cut.{Cut};
 ghost use Rattle.run_model.specs.Run.{Run};
 ghost use Rattle.run_model.specs.Consistent.{IsOrder, IsConsistent};
-ghost use Rattle.run_model.specs.Sublattice.{IsClosed};
+ghost use Rattle.run_model.specs.Sublattice.{IsClosed, Smallest};
 ghost use Rattle.run_model.specs.Formula.{Formula};
 ghost use Rattle.run_model.specs.Meaning.{IsRun, Sat, Family};
-ghost use Rattle.run_model.specs.Class.{is_wide, IsRegular, IsOfClass, disjuncts, SatDisjuncts};
+ghost use Rattle.run_model.specs.Class.{is_wide, IsRegular, IsOfClass, disjuncts, SatDisjuncts, Shown};
 
 /// A formula is true or false at each consistent cut.
 pub fn truth_is_decided()
@@ -26,4 +26,13 @@ pub fn disjuncts_mean_the_formula()
         → IsConsistent r.clocks c → SatDisjuncts r (disjuncts true f) c ↔ Sat r f c }
     ensures one { (f : Formula) → IsTrue (is_wide f) → IsOfClass f → IsRegular f
         ↔ (length (disjuncts true f) ≡ 1) }
+{}
+
+/// The set that is shown of a formula is closed: the family of a regular formula, and else the smallest
+/// closed set that holds the
+/// family.
+pub fn shown_sets_are_closed()
+    ensures closed { (r : Run) → IsRun r → (f : Formula) → IsClosed r.clocks (Shown r f) }
+    ensures smallest { (r : Run) → IsRun r → (f : Formula) (c : Cut) → Shown r f c
+        ↔ Smallest (Family r f) c }
 {}

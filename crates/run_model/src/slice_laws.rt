@@ -1,9 +1,9 @@
 // Laws of slices: what a slice stands for, and what its least cut, greatest cut and edges denote.
-ghost use Rattle.std.specs.Prelude.{◌≡◌, ℕ, ◌↔◌};
+ghost use Rattle.std.specs.Prelude.{◌≡◌, ℕ, ◌↔◌, List};
 ghost use Rattle.run_model.specs.Cut.{Cut, Clocks, lengths};
 ghost use Rattle.run_model.specs.Consistent.{IsOrder, IsEvent};
 ghost use Rattle.run_model.specs.Sublattice.{IsClosed, IsLeast, IsGreatest, Smallest, Either};
-ghost use Rattle.run_model.specs.Slice.{Slice, Cuts, StandsFor, Fits, Denoted, edges_of};
+ghost use Rattle.run_model.specs.Slice.{Slice, Cuts, StandsFor, Fits, Edge, Denoted, IsPrintedAs, edges_of};
 ghost use Rattle.run_model.specs.Operators.{joined};
 
 use crate::sublattice_laws::SetOfCuts;
@@ -30,6 +30,12 @@ pub fn edges_denote_the_cuts()
     ensures { (o : Clocks) → IsOrder o → (s : Slice) (low high : Cut) → IsLeast (Cuts o s) low
         → IsGreatest (Cuts o s) high → (c : Cut) → Cuts o s c
         ↔ Denoted o low high (edges_of o s high) c }
+{}
+
+/// The least cut, the greatest cut and the edges that are printed of a closed set denote it.
+pub fn printed_text_denotes<A: SetOfCuts>()
+    ensures { (o : Clocks) → IsOrder o → IsClosed o A.has → (low high : Cut) (edges : List Edge)
+        → IsPrintedAs o A.has low high edges → (c : Cut) → A.has c ↔ Denoted o low high edges c }
 {}
 
 /// The joined slice of two sets stands for the smallest sublattice round both (Mittal and Garg).

@@ -1,8 +1,28 @@
 // Worked examples as laws: the verdicts, printed slices and canonical witnesses of formulas on the small logs.
-ghost use Rattle.std.specs.Prelude.{true, false, pos, [], ◌∷◌};
-ghost use Rattle.run_model.specs.Formula.{Unequal, LessOrEqual, Number, Truth, Comparison, Watched, InTransit, Empty, Temporal, Ef, Ag, Eg};
-ghost use Rattle.run_model.specs.Worked.{p, q, x, five_events, two_events, first_two_events, no_events, x_is, y_is, both, one_of, edge, at, path_to, HasVerdict, HasSlice, HasNoSlice, HasWitness};
+ghost use Rattle.std.specs.Prelude.{◌↔◌, true, false, pos, [], ◌∷◌, Contains, IsFalse};
+ghost use Rattle.run_model.specs.Cut.{Cut};
+ghost use Rattle.run_model.specs.Run.{clocks_of};
+ghost use Rattle.run_model.specs.Consistent.{IsConsistent};
+ghost use Rattle.run_model.specs.Meaning.{IsRun};
+ghost use Rattle.run_model.specs.Class.{is_conjunctive, is_disjunctive, IsOfClass};
+ghost use Rattle.run_model.specs.Formula.{Equal, Unequal, LessOrEqual, Number, Truth, Comparison, Watched, InTransit, Empty, Not, Temporal, Ef, Ag, Eg, Af};
+ghost use Rattle.run_model.specs.Worked.{p, q, x, five_events, two_events, first_two_events, no_events, x_is, y_is, both, one_of, edge, at, path_to, run_with_watch, HasVerdict, HasSlice, HasNoSlice, HasWitness};
 ghost use Rattle.run_model.specs.Witness.{Reach, Against, Always, StuckFinish, StuckPair, Nothing};
+
+/// The clocks of the examples are those of orders, so there are runs.
+pub fn examples_are_runs()
+    ensures five_events { IsRun (run_with_watch five_events) }
+    ensures first_two_events { IsRun (run_with_watch first_two_events) }
+    ensures two_events { IsRun (run_with_watch two_events) }
+    ensures no_events { IsRun (run_with_watch no_events) }
+{}
+
+/// The consistent cuts of the five events are these eight.
+pub fn cuts_of_the_five_events()
+    ensures { (c : Cut) → IsConsistent (clocks_of five_events) c ↔ Contains ((0 ∷ 0 ∷ []) ∷ (1 ∷
+        0 ∷ []) ∷ (1 ∷ 1 ∷ []) ∷ (1 ∷ 2 ∷ []) ∷ (2 ∷ 0 ∷ []) ∷ (2 ∷ 1 ∷ []) ∷ (2 ∷ 2 ∷ []) ∷ (3 ∷
+        2 ∷ []) ∷ []) c }
+{}
 
 /// `EF (P.x = 2 & Q.y = 1)` on the five events.
 pub fn two_and_one_is_reached()
@@ -146,4 +166,15 @@ pub fn before_the_receipts()
     ensures not_yet { HasVerdict first_two_events (Temporal Ef (both (x_is 2) (y_is 1))) false }
     ensures verdict { HasVerdict first_two_events (Temporal Eg (Empty p q)) false }
     ensures witness { HasWitness first_two_events Eg (Empty p q) StuckFinish }
+{}
+
+/// Formulas of the class and outside it: a disjunction of regular formulas, a disjunction below an
+/// operator, `AF`, and the negation of a channel's equation.
+pub fn formulas_of_the_class()
+    ensures disjunction { IsOfClass (one_of (both (x_is 1) (y_is 2)) (both (x_is 2) (y_is 1))) }
+    ensures not_regular { IsFalse (is_conjunctive true (one_of (both (x_is 1) (y_is 2)) (both
+        (x_is 2) (y_is 1)))) }
+    ensures inside { IsFalse (is_disjunctive true (Temporal Ef (one_of (x_is 2) (y_is 1)))) }
+    ensures unanalysed { IsFalse (is_disjunctive true (Temporal Af (x_is 2))) }
+    ensures negated_equation { IsFalse (is_disjunctive true (Not (InTransit p q Equal 1))) }
 {}
