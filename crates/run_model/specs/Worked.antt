@@ -1,4 +1,4 @@
--- Worked examples: two small logs, one without events, and the words to write formulas over them.
+-- Worked examples: small logs, and words to write formulas over them and what comes out.
 use Rattle.std.specs.Prelude.{ℕ, Bool, true, MatchBool, List, [], ◌∷◌, ℤ, pos}
 use Rattle.run_model.specs.Cut.{Cut, initial}
 use Rattle.run_model.specs.Run.{Name, Kind, Internal, Send, Receive, Event, Process, Trace, Run, run_of}
@@ -23,6 +23,11 @@ x = 120 ∷ []
 abbrev pub y : Name
 y = 121 ∷ []
 
+-- a cut of two processes
+abbrev pub cut : ℕ → ℕ → Cut
+cut a b = a ∷ b ∷ []
+
+-- an event that sets the first variable, and one that sets none
 abbrev pub sets : Cut → Kind → ℕ → Event
 sets clock kind value = record { clock = clock; kind = kind; assigns = record { variable = 0; value = pos value } ∷ [] }
 
@@ -35,22 +40,22 @@ starting_at_zero name variable events = record { name = name; variables = record
 -- P sends to Q, works on, and receives the answer; Q receives and answers
 abbrev pub five_events : Trace
 five_events =
-    starting_at_zero p x (sets (1 ∷ 0 ∷ []) (Send 1 1) 1 ∷ sets (2 ∷ 0 ∷ []) Internal 2 ∷ sets_nothing (3 ∷ 2 ∷ []) (Receive 1 2) ∷ [])
-    ∷ starting_at_zero q y (sets (1 ∷ 1 ∷ []) (Receive 0 1) 1 ∷ sets (1 ∷ 2 ∷ []) (Send 0 2) 2 ∷ [])
+    starting_at_zero p x (sets (cut 1 0) (Send 1 1) 1 ∷ sets (cut 2 0) Internal 2 ∷ sets_nothing (cut 3 2) (Receive 1 2) ∷ [])
+    ∷ starting_at_zero q y (sets (cut 1 1) (Receive 0 1) 1 ∷ sets (cut 1 2) (Send 0 2) 2 ∷ [])
     ∷ []
 
 -- the first two events of P alone
 abbrev pub first_two_events : Trace
 first_two_events =
-    starting_at_zero p x (sets (1 ∷ 0 ∷ []) (Send 1 1) 1 ∷ sets (2 ∷ 0 ∷ []) Internal 2 ∷ [])
+    starting_at_zero p x (sets (cut 1 0) (Send 1 1) 1 ∷ sets (cut 2 0) Internal 2 ∷ [])
     ∷ starting_at_zero q y []
     ∷ []
 
 -- two processes that do not meet
 abbrev pub two_events : Trace
 two_events =
-    starting_at_zero p x (sets (1 ∷ 0 ∷ []) Internal 1 ∷ [])
-    ∷ starting_at_zero q y (sets (0 ∷ 1 ∷ []) Internal 1 ∷ [])
+    starting_at_zero p x (sets (cut 1 0) Internal 1 ∷ [])
+    ∷ starting_at_zero q y (sets (cut 0 1) Internal 1 ∷ [])
     ∷ []
 
 -- one process without events

@@ -6,7 +6,7 @@ ghost use Rattle.run_model.specs.Consistent.{IsConsistent};
 ghost use Rattle.run_model.specs.Meaning.{IsRun};
 ghost use Rattle.run_model.specs.Class.{is_conjunctive, is_disjunctive, IsOfClass};
 ghost use Rattle.run_model.specs.Formula.{Equal, Unequal, LessOrEqual, Number, Truth, Comparison, Watched, InTransit, Empty, Not, Temporal, Ef, Ag, Eg, Af};
-ghost use Rattle.run_model.specs.Worked.{p, q, x, five_events, two_events, first_two_events, no_events, x_is, y_is, both, one_of, edge, at, path_to, run_with_watch, HasVerdict, HasSlice, HasNoSlice, HasWitness};
+ghost use Rattle.run_model.specs.Worked.{p, q, x, cut, five_events, two_events, first_two_events, no_events, x_is, y_is, both, one_of, edge, at, path_to, run_with_watch, HasVerdict, HasSlice, HasNoSlice, HasWitness};
 ghost use Rattle.run_model.specs.Witness.{Reach, Against, Always, StuckFinish, StuckPair, Nothing};
 
 /// The clocks of the examples are those of orders, so there are runs.
@@ -19,18 +19,17 @@ pub fn examples_are_runs()
 
 /// The consistent cuts of the five events are these eight.
 pub fn cuts_of_the_five_events()
-    ensures { (c : Cut) → IsConsistent (clocks_of five_events) c ↔ Contains ((0 ∷ 0 ∷ []) ∷ (1 ∷
-        0 ∷ []) ∷ (1 ∷ 1 ∷ []) ∷ (1 ∷ 2 ∷ []) ∷ (2 ∷ 0 ∷ []) ∷ (2 ∷ 1 ∷ []) ∷ (2 ∷ 2 ∷ []) ∷ (3 ∷
-        2 ∷ []) ∷ []) c }
+    ensures { (c : Cut) → IsConsistent (clocks_of five_events) c ↔ Contains
+        (cut 0 0 ∷ cut 1 0 ∷ cut 1 1 ∷ cut 1 2 ∷ cut 2 0 ∷ cut 2 1 ∷ cut 2 2 ∷ cut 3 2 ∷ []) c }
 {}
 
 /// `EF (P.x = 2 & Q.y = 1)` on the five events.
 pub fn two_and_one_is_reached()
     ensures verdict { HasVerdict five_events (Temporal Ef (both (x_is 2) (y_is 1))) true }
     ensures slice { HasSlice five_events (Temporal Ef (both (x_is 2) (y_is 1)))
-        (0 ∷ 0 ∷ []) (2 ∷ 1 ∷ []) [] }
+        (cut 0 0) (cut 2 1) [] }
     ensures witness { HasWitness five_events Ef (both (x_is 2) (y_is 1))
-        (Reach (path_to (2 ∷ 1 ∷ []) (at 0 1 ∷ at 0 2 ∷ at 1 1 ∷ []))) }
+        (Reach (path_to (cut 2 1) (at 0 1 ∷ at 0 2 ∷ at 1 1 ∷ []))) }
 {}
 
 /// `EF (P.x = 0 & Q.y = 1)` on the five events: no cut satisfies it.
@@ -43,14 +42,14 @@ pub fn zero_and_one_is_never_reached()
 /// `P.x = 0` on the five events: the initial cut alone.
 pub fn zero_at_the_start()
     ensures verdict { HasVerdict five_events (x_is 0) true }
-    ensures slice { HasSlice five_events (x_is 0) (0 ∷ 0 ∷ []) (0 ∷ 0 ∷ []) [] }
+    ensures slice { HasSlice five_events (x_is 0) (cut 0 0) (cut 0 0) [] }
 {}
 
 /// `AG intransit(P,Q) <= 1` on the five events.
 pub fn one_message_at_most()
     ensures verdict { HasVerdict five_events (Temporal Ag (InTransit p q LessOrEqual 1)) true }
     ensures slice { HasSlice five_events (Temporal Ag (InTransit p q LessOrEqual 1))
-        (0 ∷ 0 ∷ []) (3 ∷ 2 ∷ []) [] }
+        (cut 0 0) (cut 3 2) [] }
     ensures witness { HasWitness five_events Ag (InTransit p q LessOrEqual 1) Nothing }
 {}
 
@@ -59,28 +58,27 @@ pub fn one_message_at_most()
 pub fn two_for_good()
     ensures verdict { HasVerdict five_events (Temporal Ef (Temporal Ag (x_is 2))) true }
     ensures slice { HasSlice five_events (Temporal Ef (Temporal Ag (x_is 2)))
-        (0 ∷ 0 ∷ []) (3 ∷ 2 ∷ []) [] }
-    ensures operand { HasSlice five_events (Temporal Ag (x_is 2)) (2 ∷ 0 ∷ []) (3 ∷ 2 ∷ []) [] }
+        (cut 0 0) (cut 3 2) [] }
+    ensures operand { HasSlice five_events (Temporal Ag (x_is 2)) (cut 2 0) (cut 3 2) [] }
     ensures witness { HasWitness five_events Ef (Temporal Ag (x_is 2))
-        (Reach (path_to (2 ∷ 0 ∷ []) (at 0 1 ∷ at 0 2 ∷ []))) }
+        (Reach (path_to (cut 2 0) (at 0 1 ∷ at 0 2 ∷ []))) }
 {}
 
 /// `empty(P,Q)` and `AG empty(P,Q)` on the five events.
 pub fn empty_each_time()
     ensures operand_verdict { HasVerdict five_events (Empty p q) true }
-    ensures operand { HasSlice five_events (Empty p q)
-        (0 ∷ 0 ∷ []) (3 ∷ 2 ∷ []) (edge 1 1 0 1 ∷ []) }
+    ensures operand { HasSlice five_events (Empty p q) (cut 0 0) (cut 3 2) (edge 1 1 0 1 ∷ []) }
     ensures verdict { HasVerdict five_events (Temporal Ag (Empty p q)) false }
-    ensures slice { HasSlice five_events (Temporal Ag (Empty p q)) (1 ∷ 1 ∷ []) (3 ∷ 2 ∷ []) [] }
+    ensures slice { HasSlice five_events (Temporal Ag (Empty p q)) (cut 1 1) (cut 3 2) [] }
     ensures witness { HasWitness five_events Ag (Empty p q)
-        (Against (path_to (1 ∷ 0 ∷ []) (at 0 1 ∷ []))) }
+        (Against (path_to (cut 1 0) (at 0 1 ∷ []))) }
 {}
 
 /// `EG empty(P,Q)` on the five events: the send and its receipt come together, so no path stays
 /// where it is true.
 pub fn empty_all_along()
     ensures verdict { HasVerdict five_events (Temporal Eg (Empty p q)) false }
-    ensures slice { HasSlice five_events (Temporal Eg (Empty p q)) (1 ∷ 1 ∷ []) (3 ∷ 2 ∷ []) [] }
+    ensures slice { HasSlice five_events (Temporal Eg (Empty p q)) (cut 1 1) (cut 3 2) [] }
     ensures witness { HasWitness five_events Eg (Empty p q) (StuckPair (at 0 1) (at 1 1)) }
 {}
 
@@ -89,16 +87,16 @@ pub fn two_at_most_all_along()
     ensures verdict { HasVerdict five_events (Temporal Eg (Comparison p x LessOrEqual (Number (pos 2))))
         true }
     ensures slice { HasSlice five_events (Temporal Eg (Comparison p x LessOrEqual (Number (pos 2))))
-        (0 ∷ 0 ∷ []) (3 ∷ 2 ∷ []) [] }
+        (cut 0 0) (cut 3 2) [] }
     ensures witness { HasWitness five_events Eg (Comparison p x LessOrEqual (Number (pos 2)))
-        (Always (path_to (3 ∷ 2 ∷ []) (at 0 1 ∷ at 0 2 ∷ at 1 1 ∷ at 1 2 ∷ at 0 3 ∷ []))) }
+        (Always (path_to (cut 3 2) (at 0 1 ∷ at 0 2 ∷ at 1 1 ∷ at 1 2 ∷ at 0 3 ∷ []))) }
 {}
 
 /// `AG EF Q.y = 2` on the five events.
 pub fn two_can_always_be_reached()
     ensures verdict { HasVerdict five_events (Temporal Ag (Temporal Ef (y_is 2))) true }
     ensures slice { HasSlice five_events (Temporal Ag (Temporal Ef (y_is 2)))
-        (0 ∷ 0 ∷ []) (3 ∷ 2 ∷ []) [] }
+        (cut 0 0) (cut 3 2) [] }
     ensures witness { HasWitness five_events Ag (Temporal Ef (y_is 2)) Nothing }
 {}
 
@@ -108,7 +106,7 @@ pub fn one_of_two_pairs()
     ensures verdict { HasVerdict five_events (one_of (both (x_is 1) (y_is 2)) (both (x_is 2) (y_is 1)))
         false }
     ensures slice { HasSlice five_events (one_of (both (x_is 1) (y_is 2)) (both (x_is 2) (y_is 1)))
-        (1 ∷ 1 ∷ []) (2 ∷ 2 ∷ []) [] }
+        (cut 1 1) (cut 2 2) [] }
 {}
 
 /// `EG true` on a process without events.
@@ -130,21 +128,21 @@ pub fn exactly_one_step()
     ensures verdict { HasVerdict two_events (one_of (both (x_is 0) (y_is 1)) (both (x_is 1) (y_is 0)))
         false }
     ensures slice { HasSlice two_events (one_of (both (x_is 0) (y_is 1)) (both (x_is 1) (y_is 0)))
-        (0 ∷ 0 ∷ []) (1 ∷ 1 ∷ []) [] }
+        (cut 0 0) (cut 1 1) [] }
 {}
 
 /// `P.x = 0 | Q.y = 2` on the five events.
 pub fn before_or_after()
     ensures verdict { HasVerdict five_events (one_of (x_is 0) (y_is 2)) true }
     ensures slice { HasSlice five_events (one_of (x_is 0) (y_is 2))
-        (0 ∷ 0 ∷ []) (3 ∷ 2 ∷ []) (edge 1 2 0 1 ∷ edge 1 2 1 1 ∷ []) }
+        (cut 0 0) (cut 3 2) (edge 1 2 0 1 ∷ edge 1 2 1 1 ∷ []) }
 {}
 
 /// `P.x != 1` and `EG P.x != 1` on the five events.
 pub fn not_one()
     ensures verdict { HasVerdict five_events (Comparison p x Unequal (Number (pos 1))) true }
     ensures slice { HasSlice five_events (Comparison p x Unequal (Number (pos 1)))
-        (0 ∷ 0 ∷ []) (3 ∷ 2 ∷ []) (edge 0 2 0 1 ∷ edge 0 2 1 1 ∷ []) }
+        (cut 0 0) (cut 3 2) (edge 0 2 0 1 ∷ edge 0 2 1 1 ∷ []) }
     ensures all_along { HasVerdict five_events (Temporal Eg (Comparison p x Unequal (Number (pos 1))))
         false }
     ensures witness { HasWitness five_events Eg (Comparison p x Unequal (Number (pos 1)))
@@ -156,9 +154,9 @@ pub fn not_one()
 pub fn stable_and_two()
     ensures verdict { HasVerdict five_events (Temporal Ef (both (Watched p p) (y_is 2))) true }
     ensures slice { HasSlice five_events (Temporal Ef (both (Watched p p) (y_is 2)))
-        (0 ∷ 0 ∷ []) (3 ∷ 2 ∷ []) [] }
+        (cut 0 0) (cut 3 2) [] }
     ensures witness { HasWitness five_events Ef (both (Watched p p) (y_is 2))
-        (Reach (path_to (3 ∷ 2 ∷ []) (at 0 1 ∷ at 0 2 ∷ at 1 1 ∷ at 1 2 ∷ at 0 3 ∷ []))) }
+        (Reach (path_to (cut 3 2) (at 0 1 ∷ at 0 2 ∷ at 1 1 ∷ at 1 2 ∷ at 0 3 ∷ []))) }
 {}
 
 /// `EF (P.x = 2 & Q.y = 1)` and `EG empty(P,Q)` on the first two of the five events.

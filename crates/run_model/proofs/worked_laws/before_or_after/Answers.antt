@@ -5,7 +5,7 @@ use Rattle.run_model.specs.Consistent.{clock}
 use Rattle.run_model.specs.Meaning.{in_transit}
 use Rattle.run_model.specs.Class.{is_conjunctive, is_disjunctive, is_plain, processes}
 use Rattle.run_model.specs.Slice.{edges_of}
-use Rattle.run_model.specs.Worked.{five_events, x_is, y_is, one_of, edge}
+use Rattle.run_model.specs.Worked.{cut, five_events, x_is, y_is, one_of, edge}
 use Rattle.run_model.proofs.Counts.{total}
 use Rattle.run_model.proofs.Listing.{holds}
 use Rattle.run_model.proofs.WorkedLemmas.{verdict_by_listing, slice_by_listing}
@@ -17,4 +17,4 @@ returns-clause-verdict c = verdict_by_listing five_events (one_of (x_is 0) (y_is
 
 pub returns-clause-slice : goal.returns-clause-slice
 unfolding clock lengths initial min_cut max_cut assigned state_from states_from in_transit total holds edges_of is_conjunctive is_disjunctive is_plain processes
-returns-clause-slice c = slice_by_listing five_events (one_of (x_is 0) (y_is 2)) (0 ∷ 0 ∷ []) (3 ∷ 2 ∷ []) (edge 1 2 0 1 ∷ edge 1 2 1 1 ∷ []) refl refl refl refl
+returns-clause-slice c = slice_by_listing five_events (one_of (x_is 0) (y_is 2)) (cut 0 0) (cut 3 2) (edge 1 2 0 1 ∷ edge 1 2 1 1 ∷ []) refl refl refl refl

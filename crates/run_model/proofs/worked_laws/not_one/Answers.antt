@@ -6,7 +6,7 @@ use Rattle.run_model.specs.Formula.{Unequal, Number, Comparison, Temporal, Eg}
 use Rattle.run_model.specs.Meaning.{in_transit}
 use Rattle.run_model.specs.Class.{is_conjunctive, is_disjunctive, is_plain, processes}
 use Rattle.run_model.specs.Slice.{edges_of}
-use Rattle.run_model.specs.Worked.{p, x, five_events, edge, at}
+use Rattle.run_model.specs.Worked.{p, x, cut, five_events, edge, at}
 use Rattle.run_model.proofs.Counts.{total}
 use Rattle.run_model.proofs.Listing.{holds}
 use Rattle.run_model.proofs.WorkedLemmas.{verdict_by_listing, slice_by_listing}
@@ -19,7 +19,7 @@ returns-clause-verdict c = verdict_by_listing five_events (Comparison p x Unequa
 
 pub returns-clause-slice : goal.returns-clause-slice
 unfolding clock lengths initial min_cut max_cut assigned state_from states_from in_transit total holds edges_of is_conjunctive is_disjunctive is_plain processes
-returns-clause-slice c = slice_by_listing five_events (Comparison p x Unequal (Number (pos 1))) (0 ∷ 0 ∷ []) (3 ∷ 2 ∷ []) (edge 0 2 0 1 ∷ edge 0 2 1 1 ∷ []) refl refl refl refl
+returns-clause-slice c = slice_by_listing five_events (Comparison p x Unequal (Number (pos 1))) (cut 0 0) (cut 3 2) (edge 0 2 0 1 ∷ edge 0 2 1 1 ∷ []) refl refl refl refl
 
 pub returns-clause-all_along : goal.returns-clause-all_along
 unfolding clock lengths initial min_cut max_cut assigned state_from states_from in_transit total holds edges_of is_conjunctive is_disjunctive is_plain processes

@@ -6,7 +6,7 @@ use Rattle.run_model.specs.Formula.{Temporal, Ef}
 use Rattle.run_model.specs.Meaning.{in_transit}
 use Rattle.run_model.specs.Class.{is_conjunctive, is_disjunctive, is_plain, processes}
 use Rattle.run_model.specs.Slice.{edges_of}
-use Rattle.run_model.specs.Worked.{five_events, x_is, y_is, both, at, path_to}
+use Rattle.run_model.specs.Worked.{cut, five_events, x_is, y_is, both, at, path_to}
 use Rattle.run_model.proofs.Counts.{total}
 use Rattle.run_model.proofs.Listing.{holds}
 use Rattle.run_model.proofs.WorkedLemmas.{verdict_by_listing, slice_by_listing}
@@ -19,8 +19,8 @@ returns-clause-verdict c = verdict_by_listing five_events (Temporal Ef (both (x_
 
 pub returns-clause-slice : goal.returns-clause-slice
 unfolding clock lengths initial min_cut max_cut assigned state_from states_from in_transit total holds edges_of is_conjunctive is_disjunctive is_plain processes
-returns-clause-slice c = slice_by_listing five_events (Temporal Ef (both (x_is 2) (y_is 1))) (0 ∷ 0 ∷ []) (2 ∷ 1 ∷ []) [] refl refl refl refl
+returns-clause-slice c = slice_by_listing five_events (Temporal Ef (both (x_is 2) (y_is 1))) (cut 0 0) (cut 2 1) [] refl refl refl refl
 
 pub returns-clause-witness : goal.returns-clause-witness
 unfolding clock lengths initial min_cut max_cut assigned state_from states_from in_transit total holds edges_of is_conjunctive is_disjunctive is_plain processes
-returns-clause-witness c = reaches_by_listing five_events (both (x_is 2) (y_is 1)) (path_to (2 ∷ 1 ∷ []) (at 0 1 ∷ at 0 2 ∷ at 1 1 ∷ [])) refl refl refl refl
+returns-clause-witness c = reaches_by_listing five_events (both (x_is 2) (y_is 1)) (path_to (cut 2 1) (at 0 1 ∷ at 0 2 ∷ at 1 1 ∷ [])) refl refl refl refl

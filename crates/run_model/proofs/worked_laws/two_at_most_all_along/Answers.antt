@@ -6,7 +6,7 @@ use Rattle.run_model.specs.Formula.{LessOrEqual, Number, Comparison, Temporal, E
 use Rattle.run_model.specs.Meaning.{in_transit}
 use Rattle.run_model.specs.Class.{is_conjunctive, is_disjunctive, is_plain, processes}
 use Rattle.run_model.specs.Slice.{edges_of}
-use Rattle.run_model.specs.Worked.{p, x, five_events, at, path_to}
+use Rattle.run_model.specs.Worked.{p, x, cut, five_events, at, path_to}
 use Rattle.run_model.proofs.Counts.{total}
 use Rattle.run_model.proofs.Listing.{holds}
 use Rattle.run_model.proofs.WorkedLemmas.{verdict_by_listing, slice_by_listing}
@@ -19,8 +19,8 @@ returns-clause-verdict c = verdict_by_listing five_events (Temporal Eg (Comparis
 
 pub returns-clause-slice : goal.returns-clause-slice
 unfolding clock lengths initial min_cut max_cut assigned state_from states_from in_transit total holds edges_of is_conjunctive is_disjunctive is_plain processes
-returns-clause-slice c = slice_by_listing five_events (Temporal Eg (Comparison p x LessOrEqual (Number (pos 2)))) (0 ∷ 0 ∷ []) (3 ∷ 2 ∷ []) [] refl refl refl refl
+returns-clause-slice c = slice_by_listing five_events (Temporal Eg (Comparison p x LessOrEqual (Number (pos 2)))) (cut 0 0) (cut 3 2) [] refl refl refl refl
 
 pub returns-clause-witness : goal.returns-clause-witness
 unfolding clock lengths initial min_cut max_cut assigned state_from states_from in_transit total holds edges_of is_conjunctive is_disjunctive is_plain processes
-returns-clause-witness c = stays_by_listing five_events (Comparison p x LessOrEqual (Number (pos 2))) (path_to (3 ∷ 2 ∷ []) (at 0 1 ∷ at 0 2 ∷ at 1 1 ∷ at 1 2 ∷ at 0 3 ∷ [])) refl refl refl refl
+returns-clause-witness c = stays_by_listing five_events (Comparison p x LessOrEqual (Number (pos 2))) (path_to (cut 3 2) (at 0 1 ∷ at 0 2 ∷ at 1 1 ∷ at 1 2 ∷ at 0 3 ∷ [])) refl refl refl refl
