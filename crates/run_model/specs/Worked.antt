@@ -2,7 +2,7 @@
 use Rattle.std.specs.Prelude.{ℕ, Bool, true, MatchBool, List, [], ◌∷◌, ℤ, pos}
 use Rattle.run_model.specs.Cut.{Cut, initial}
 use Rattle.run_model.specs.Run.{Name, Kind, Internal, Send, Receive, Event, Process, Trace, Run, run_of}
-use Rattle.run_model.specs.Formula.{Equal, Number, Operator, Formula, Comparison, And, Or, Nil, Cons}
+use Rattle.run_model.specs.Formula.{Equal, Unequal, LessOrEqual, Number, Operator, Formula, Comparison, And, Or, Nil, Cons}
 use Rattle.run_model.specs.Meaning.{Sat, Family}
 use Rattle.run_model.specs.Class.{Shown}
 use Rattle.run_model.specs.Slice.{Slice, StandsFor, Edge, IsPrintedAs}
@@ -78,6 +78,12 @@ run_with_watch trace = run_of trace (λ name states. stable states)
 
 abbrev pub x_is : ℕ → Formula
 x_is k = Comparison p x Equal (Number (pos k))
+
+abbrev pub x_is_not : ℕ → Formula
+x_is_not k = Comparison p x Unequal (Number (pos k))
+
+abbrev pub x_at_most : ℕ → Formula
+x_at_most k = Comparison p x LessOrEqual (Number (pos k))
 
 abbrev pub y_is : ℕ → Formula
 y_is k = Comparison q y Equal (Number (pos k))

@@ -5,8 +5,8 @@ ghost use Rattle.run_model.specs.Run.{clocks_of};
 ghost use Rattle.run_model.specs.Consistent.{IsConsistent};
 ghost use Rattle.run_model.specs.Meaning.{IsRun};
 ghost use Rattle.run_model.specs.Class.{is_conjunctive, is_disjunctive, IsOfClass};
-ghost use Rattle.run_model.specs.Formula.{Equal, Unequal, LessOrEqual, Number, Truth, Comparison, Watched, InTransit, Empty, Not, Temporal, Ef, Ag, Eg, Af};
-ghost use Rattle.run_model.specs.Worked.{p, q, x, cut, five_events, two_events, first_two_events, no_events, x_is, y_is, both, one_of, edge, at, path_to, run_with_watch, HasVerdict, HasSlice, HasNoSlice, HasWitness};
+ghost use Rattle.run_model.specs.Formula.{Equal, LessOrEqual, Truth, Watched, InTransit, Empty, Not, Temporal, Ef, Ag, Eg, Af};
+ghost use Rattle.run_model.specs.Worked.{p, q, cut, five_events, two_events, first_two_events, no_events, x_is, x_is_not, x_at_most, y_is, both, one_of, edge, at, path_to, run_with_watch, HasVerdict, HasSlice, HasNoSlice, HasWitness};
 ghost use Rattle.run_model.specs.Witness.{Reach, Against, Always, StuckFinish, StuckPair, Nothing};
 
 /// The clocks of the examples are those of orders, so there are runs.
@@ -19,8 +19,8 @@ pub fn examples_are_runs()
 
 /// The consistent cuts of the five events are these eight.
 pub fn cuts_of_the_five_events()
-    ensures { (c : Cut) → IsConsistent (clocks_of five_events) c ↔ Contains
-        (cut 0 0 ∷ cut 1 0 ∷ cut 1 1 ∷ cut 1 2 ∷ cut 2 0 ∷ cut 2 1 ∷ cut 2 2 ∷ cut 3 2 ∷ []) c }
+    ensures { (c : Cut) → IsConsistent (clocks_of five_events) c ↔ Contains (cut 0 0 ∷ cut 1 0 ∷
+        cut 1 1 ∷ cut 1 2 ∷ cut 2 0 ∷ cut 2 1 ∷ cut 2 2 ∷ cut 3 2 ∷ []) c }
 {}
 
 /// `EF (P.x = 2 & Q.y = 1)` on the five events.
@@ -84,11 +84,9 @@ pub fn empty_all_along()
 
 /// `EG P.x <= 2` on the five events.
 pub fn two_at_most_all_along()
-    ensures verdict { HasVerdict five_events (Temporal Eg (Comparison p x LessOrEqual (Number (pos 2))))
-        true }
-    ensures slice { HasSlice five_events (Temporal Eg (Comparison p x LessOrEqual (Number (pos 2))))
-        (cut 0 0) (cut 3 2) [] }
-    ensures witness { HasWitness five_events Eg (Comparison p x LessOrEqual (Number (pos 2)))
+    ensures verdict { HasVerdict five_events (Temporal Eg (x_at_most 2)) true }
+    ensures slice { HasSlice five_events (Temporal Eg (x_at_most 2)) (cut 0 0) (cut 3 2) [] }
+    ensures witness { HasWitness five_events Eg (x_at_most 2)
         (Always (path_to (cut 3 2) (at 0 1 ∷ at 0 2 ∷ at 1 1 ∷ at 1 2 ∷ at 0 3 ∷ []))) }
 {}
 
@@ -140,13 +138,11 @@ pub fn before_or_after()
 
 /// `P.x != 1` and `EG P.x != 1` on the five events.
 pub fn not_one()
-    ensures verdict { HasVerdict five_events (Comparison p x Unequal (Number (pos 1))) true }
-    ensures slice { HasSlice five_events (Comparison p x Unequal (Number (pos 1)))
+    ensures verdict { HasVerdict five_events (x_is_not 1) true }
+    ensures slice { HasSlice five_events (x_is_not 1)
         (cut 0 0) (cut 3 2) (edge 0 2 0 1 ∷ edge 0 2 1 1 ∷ []) }
-    ensures all_along { HasVerdict five_events (Temporal Eg (Comparison p x Unequal (Number (pos 1))))
-        false }
-    ensures witness { HasWitness five_events Eg (Comparison p x Unequal (Number (pos 1)))
-        (StuckPair (at 0 1) (at 0 2)) }
+    ensures all_along { HasVerdict five_events (Temporal Eg (x_is_not 1)) false }
+    ensures witness { HasWitness five_events Eg (x_is_not 1) (StuckPair (at 0 1) (at 0 2)) }
 {}
 
 /// `EF (P@stable & Q.y = 2)` on the five events, where the watch is true after none and after three
