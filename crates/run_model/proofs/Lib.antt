@@ -8,6 +8,7 @@ pub mod ClosureLemmas
 pub mod ResultSlices
 pub mod JoinLemmas
 pub mod ShownLemmas
+pub mod PartLemmas
 pub mod EdgeLemmas
 pub mod DecisionLemmas
 pub mod RelationLemmas

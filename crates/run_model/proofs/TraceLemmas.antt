@@ -1,8 +1,8 @@
 -- A trace whose clocks are an order is a run; states and counts when events are added.
-use Rattle.std.proofs.Common.{◌≡◌, ℕ, zero, suc, ◌+◌, ◌≤◌, Bool, List, [], ◌∷◌, ◌++◌, length, get_or, take, ℤ, count_by, ap, subst, refl, arith}
+use Rattle.std.proofs.Common.{false, ◌≡◌, ℕ, zero, suc, ◌+◌, ◌≤◌, Bool, List, [], ◌∷◌, ◌++◌, length, get_or, take, ℤ, count_by, ap, subst, refl, arith}
 use Rattle.std.proofs.lemmas.List.{take-take}
 use Rattle.std.proofs.lemmas.List.Sums.{sum_by-take-le}
-use Rattle.run_model.specs.Run.{Event, Trace, Watches, assigned, state_from, states_from, sends, receipts, is_send_to, is_receipt_from, process_at, clocks_of, run_of}
+use Rattle.run_model.specs.Run.{Name, Run, Event, Trace, Watches, assigned, state_from, states_from, states_of, sends, receipts, is_send_to, is_receipt_from, process_at, clocks_of, run_of}
 use Rattle.run_model.specs.Consistent.{IsOrder}
 use Rattle.run_model.specs.Meaning.{IsRun}
 
@@ -49,3 +49,19 @@ pub states_from_joined : (state : List ℤ) (xs ys : List Event) → states_from
 unfolding states_from state_from
 states_from_joined state [] ys = refl
 states_from_joined state (e ∷ xs) ys = ap (λ l. state ∷ l) (states_from_joined (assigned state e.assigns) xs ys)
+
+-- ---- what formulas see is all that counts
+
+pub run_same : (r s : Run) → r.clocks ≡ s.clocks → ((name : Name) → r.process name ≡ s.process name) → ((p : ℕ) (variable : Name) (a : ℕ) → r.value p variable a ≡ s.value p variable a) → ((p : ℕ) (watch : Name) (a : ℕ) → r.watched p watch a ≡ s.watched p watch a) → ((p q a : ℕ) → r.sent p q a ≡ s.sent p q a) → ((p q a : ℕ) → r.received p q a ≡ s.received p q a) → r ≡ s
+run_same r s clocks process value watched sent received = λ i. record {
+  clocks = clocks i;
+  process = λ name. process name i;
+  value = λ p variable a. value p variable a i;
+  watched = λ p watch a. watched p watch a i;
+  sent = λ p q a. sent p q a i;
+  received = λ p q a. received p q a i;
+}
+
+-- truth needs no more of the watches than their answers over the states of each process
+pub watches_same : (trace : Trace) (watches others : Watches) → ((p : ℕ) (watch : Name) (a : ℕ) → get_or (watches watch (states_of (process_at trace p))) a false ≡ get_or (others watch (states_of (process_at trace p))) a false) → run_of trace watches ≡ run_of trace others
+watches_same trace watches others same = run_same (run_of trace watches) (run_of trace others) refl (λ name. refl) (λ p variable a. refl) same (λ p q a. refl) (λ p q a. refl)

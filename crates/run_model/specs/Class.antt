@@ -6,7 +6,9 @@ use Rattle.run_model.specs.Cut.{Cut}
 use Rattle.run_model.specs.Run.{Name, Run}
 use Rattle.run_model.specs.Formula.{Relation, Equal, Unequal, Less, LessOrEqual, Greater, GreaterOrEqual, Side, Number, Variable, Operator, Ef, Ag, Eg, Ex, Af, Ax, Formula, Truth, Comparison, Watched, InTransit, Empty, Not, And, Or, Temporal, Until, Formulas, Nil, Cons}
 use Rattle.run_model.specs.Meaning.{Sat, Family}
+use Rattle.run_model.specs.Consistent.{IsConsistent}
 use Rattle.run_model.specs.Sublattice.{Smallest}
+use Rattle.run_model.specs.Slice.{Slice, StandsFor}
 
 abbrev pub side_processes : Side → List Name
 side_processes (Number k) = []
@@ -225,6 +227,26 @@ SatParts r (f ∷ fs) c = Sat r f c × SatParts r fs c
 abbrev pub SatDisjuncts : Run → List (List Formula) → Cut → Type 0
 SatDisjuncts r [] c = ⊥
 SatDisjuncts r (d ∷ ds) c = SatParts r d c ⊎ SatDisjuncts r ds c
+
+-- the consistent cuts where all parts of a disjunct are true
+abbrev pub DisjunctFamily : Run → List Formula → Cut → Type 0
+DisjunctFamily r d c = IsConsistent r.clocks c × SatParts r d c
+
+-- one slice per disjunct, which is that of the disjunct's family
+abbrev pub StandForDisjuncts : Run → List Slice → List (List Formula) → Type 0
+StandForDisjuncts r [] [] = ⊤
+StandForDisjuncts r [] (d ∷ ds) = ⊥
+StandForDisjuncts r (s ∷ ss) [] = ⊥
+StandForDisjuncts r (s ∷ ss) (d ∷ ds) = StandsFor r.clocks s (DisjunctFamily r d) × StandForDisjuncts r ss ds
+
+abbrev pub AreRegular : List Formula → Type 0
+AreRegular [] = ⊤
+AreRegular (f ∷ fs) = IsRegular f × AreRegular fs
+
+-- every disjunct is made of regular parts
+abbrev pub HaveRegularParts : List (List Formula) → Type 0
+HaveRegularParts [] = ⊤
+HaveRegularParts (d ∷ ds) = AreRegular d × HaveRegularParts ds
 
 -- the cuts that a report of the formula shows: its family where it is regular, and else the smallest sublattice round its family
 abbrev pub Shown : Run → Formula → Cut → Type 0

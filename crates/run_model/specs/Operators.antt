@@ -1,5 +1,5 @@
 -- What the temporal operators make of a set of cuts (Sen and Garg, on finite runs), and what they and disjunction make of slices.
-use Rattle.std.specs.Prelude.{◌≡◌, ℕ, ◌≤◌, List, Option, Some, None, option_map, if◌then◌else◌, nat_le}
+use Rattle.std.specs.Prelude.{◌≡◌, ℕ, ◌≤◌, List, [], ◌∷◌, Option, Some, None, option_map, if◌then◌else◌, nat_le}
 use Rattle.run_model.specs.Cut.{Cut, Clocks, count, min_cut, max_cut, lengths, initial}
 use Rattle.run_model.specs.Consistent.{IsEvent, IsPath, clock}
 use Rattle.run_model.specs.Sublattice.{AllIn}
@@ -52,3 +52,8 @@ min_row (Some j) (Some k) = Some (min_cut j k)
 -- the slice of the smallest sublattice round two closed sets (Mittal and Garg)
 abbrev pub joined : Slice → Slice → Slice
 joined s t = record { bottom = min_row s.bottom t.bottom; row = λ i a. min_row (s.row i a) (t.row i a) }
+
+-- slices joined one after the other
+abbrev pub joined_all : Slice → List Slice → Slice
+joined_all s [] = s
+joined_all s (t ∷ ts) = joined_all (joined s t) ts

@@ -1,12 +1,14 @@
 // Laws of truth and of the class of formulas that is analysed.
-ghost use Rattle.std.specs.Prelude.{◌≡◌, ◌⊎◌, ◌↔◌, true, length, IsTrue};
+ghost use Rattle.std.specs.Prelude.{◌≡◌, ◌⊎◌, ◌↔◌, true, List, ◌∷◌, length, IsTrue};
 ghost use Rattle.run_model.specs.Cut.{Cut};
 ghost use Rattle.run_model.specs.Run.{Run};
 ghost use Rattle.run_model.specs.Consistent.{IsOrder, IsConsistent};
 ghost use Rattle.run_model.specs.Sublattice.{IsClosed, Smallest};
+ghost use Rattle.run_model.specs.Slice.{Slice, StandsFor};
+ghost use Rattle.run_model.specs.Operators.{joined_all};
 ghost use Rattle.run_model.specs.Formula.{Formula};
 ghost use Rattle.run_model.specs.Meaning.{IsRun, Sat, Family};
-ghost use Rattle.run_model.specs.Class.{is_wide, IsRegular, IsOfClass, disjuncts, SatDisjuncts, Shown};
+ghost use Rattle.run_model.specs.Class.{is_wide, IsRegular, IsOfClass, disjuncts, SatDisjuncts, DisjunctFamily, StandForDisjuncts, AreRegular, HaveRegularParts, Shown};
 
 /// A formula is true or false at each consistent cut.
 pub fn truth_is_decided()
@@ -35,4 +37,21 @@ pub fn shown_sets_are_closed()
     ensures closed { (r : Run) → IsRun r → (f : Formula) → IsClosed r.clocks (Shown r f) }
     ensures smallest { (r : Run) → IsRun r → (f : Formula) (c : Cut) → Shown r f c
         ↔ Smallest (Family r f) c }
+{}
+
+/// A regular formula is of the class, and the disjuncts of a formula of the class are made of regular parts,
+/// so their families are closed.
+pub fn disjuncts_have_regular_parts()
+    ensures of_the_class { (f : Formula) → IsRegular f → IsOfClass f }
+    ensures parts { (f : Formula) → IsOfClass f → HaveRegularParts (disjuncts true f) }
+    ensures closed { (r : Run) → IsRun r → (d : List Formula) → AreRegular d
+        → IsClosed r.clocks (DisjunctFamily r d) }
+{}
+
+/// The joined slice of the disjuncts of a formula of the class is that of the set that is shown.
+pub fn joined_disjuncts_show_the_formula()
+    ensures { (r : Run) → IsRun r → (f : Formula) → IsOfClass f
+        → (d : List Formula) (ds : List (List Formula)) → disjuncts true f ≡ d ∷ ds
+        → (s : Slice) (ss : List Slice) → StandsFor r.clocks s (DisjunctFamily r d)
+        → StandForDisjuncts r ss ds → StandsFor r.clocks (joined_all s ss) (Shown r f) }
 {}

@@ -1,0 +1,12 @@
+use Rattle.run_model.proofs.PartLemmas.{conjunctive_disjunctive, disjunct_closed, disjuncts_regular}
+use Rattle.std.proofs.Common.{true}
+use Rattle.run_model.proofs.formula_laws.disjuncts_have_regular_parts.Goals as goal
+
+pub returns-clause-of_the_class : goal.returns-clause-of_the_class
+returns-clause-of_the_class c = λ f. conjunctive_disjunctive f true
+
+pub returns-clause-parts : goal.returns-clause-parts
+returns-clause-parts c = λ f. disjuncts_regular f true
+
+pub returns-clause-closed : goal.returns-clause-closed
+returns-clause-closed c = disjunct_closed
