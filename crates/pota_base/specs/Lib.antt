@@ -1,0 +1,6 @@
+pub mod formers
+pub mod Memory
+pub mod Number
+pub mod Outside
+pub mod Shape
+pub mod Status
