@@ -1,0 +1,7 @@
+use Rattle.std.proofs.Common.{arith}
+use Rattle.std.proofs.lemmas.Grind.{common_steps}
+use Rattle.cut_lattice.proofs.Steps.{done_max}
+use Rattle.cut_lattice.proofs.cut.Cut.join_into.Goals as goal
+
+pub returns : goal.returns
+returns c = done_max c.args.self.now c.args.other.now _ _ c.loop-i.invariant c.requires (grind (arith, common_steps))

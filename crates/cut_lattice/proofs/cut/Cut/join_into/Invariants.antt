@@ -1,0 +1,6 @@
+use Rattle.std.proofs.Common.{max}
+use Rattle.cut_lattice.proofs.Steps.{DoneBelow}
+use Rattle.cut_lattice.proofs.cut.Cut.join_into.Given as goal
+
+abbrev pub invariant-loop-i : goal.invariant-loop-i
+invariant-loop-i l = DoneBelow max l.fn.self l.fn.other l.other-inside.counts.items l.i
