@@ -1,0 +1,4 @@
+pub mod Vector
+pub mod System
+pub mod Rows
+pub mod Climb

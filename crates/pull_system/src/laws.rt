@@ -1,0 +1,27 @@
+//! Laws on systems and rows. The functions do nothing.
+ghost use Rattle.std.specs.Prelude.{◌≡◌, ℕ, ◌<◌, ◌≤◌, List, length, sum, slice_index, slice_set};
+ghost use Rattle.pota_base.specs.declared.shape.EventId.{EventId};
+ghost use Rattle.pota_base.specs.Shape.{HasEvent, row_of};
+ghost use Rattle.pull_system.specs.Vector.{IsVector, IsMinimum, IsMaximum};
+ghost use Rattle.pull_system.specs.System.{SystemView, IsSystem, IsClosed, IsLeastFrom};
+ghost use Rattle.pull_system.specs.Rows.{start_of, starts, place_of};
+
+/// From each start there is exactly one least closed vector, so a row's is a function of the system and the row.
+pub fn least_vectors()
+    ensures exists { (system : SystemView) (start : List ℕ) → IsSystem system → IsVector system.lens start → (v : List ℕ) × IsLeastFrom system start v }
+    ensures unique { (system : SystemView) (start v w : List ℕ) → IsLeastFrom system start v → IsLeastFrom system start w → v ≡ w }
+{}
+
+/// Closed vectors are closed under componentwise minimum and maximum.
+pub fn closed_vectors()
+    ensures minimum { (system : SystemView) → IsSystem system → (v w m : List ℕ) → IsVector system.lens v → IsVector system.lens w → IsClosed system v → IsClosed system w → IsMinimum v w m → IsClosed system m }
+    ensures maximum { (system : SystemView) (v w m : List ℕ) → IsClosed system v → IsClosed system w → IsMaximum v w m → IsClosed system m }
+{}
+
+/// What the start of a row is, and where it stands among the starts of all rows.
+pub fn row_starts()
+    ensures bottom { (lens : List ℕ) (process : ℕ) → slice_index (start_of lens 0) process ≡ 0 }
+    ensures event { (lens : List ℕ) (event : EventId) → HasEvent lens event → start_of lens (row_of lens event) ≡ slice_set (start_of lens 0) event.process event.position }
+    ensures vector { (lens : List ℕ) (row : ℕ) → IsVector lens (start_of lens row) }
+    ensures place { (lens : List ℕ) (row process : ℕ) → row ≤ sum lens → process < length lens → slice_index (starts lens) (place_of lens row process) ≡ slice_index (start_of lens row) process }
+{}

@@ -1,0 +1,116 @@
+ghost use Rattle.std.specs.Prelude.{◌≡◌, ◌+◌, ◌≤◌, ◌<◌, length, sum, slice_index, slice_set, max, IfOk, OnOk, ◌++◌};
+ghost use Rattle.pull_system.specs.Rows.{start_of, starts};
+
+use pota_base::{NoMemory, Shape};
+use std::alloc::Global;
+use std::marker::Model;
+
+/// One vector per row of a shape. Contracts see the lengths and the words row by row.
+#[derive(Debug, Drop)]
+pub struct Rows {
+    shape: Shape,
+    words: Vec<u64>,
+}
+
+impl Model for Rows {
+    ghost use Rattle.pull_system.specs.Rows.{RowsView, AreRows};
+
+    ghost Value = { RowsView };
+
+    ghost view = { λ rows. record { lens = rows.shape; words = rows.words.items } };
+
+    ghost invariant = { λ rows. AreRows record { lens = rows.shape; words = rows.words.items } };
+}
+
+impl Rows {
+    ghost use Rattle.pull_system.specs.Rows.{AreRows, place_of};
+
+    /// Each row at its start.
+    pub fn new(alloc: Global, shape: &Shape) -> Result<Rows, NoMemory>
+        ensures { IfOk result (λ rows. rows ≡ record { lens = shape.now; words = starts shape.now }) }
+    {
+        let shape = shape.copy(alloc)?;
+        let words = start_words(alloc, &shape)?;
+        Ok(Rows { shape, words })
+    }
+
+    /// The same rows, in memory of their own.
+    pub fn copy(&self, alloc: Global) -> Result<Rows, NoMemory>
+        ensures { IfOk result (λ rows. rows ≡ self.now) }
+    {
+        let shape = self.shape.copy(alloc)?;
+        let words = Vec::from_slice(alloc, self.words.as_slice())?;
+        Ok(Rows { shape, words })
+    }
+
+    pub fn shape(&self) -> &Shape
+        ensures shape { result.now ≡ self.now.lens }
+        ensures rows { AreRows self.now }
+    {
+        &self.shape
+    }
+
+    /// The words of all rows, row by row.
+    pub fn as_words(&self) -> &[u64]
+        ensures words { result.now ≡ self.now.words }
+        ensures rows { AreRows self.now }
+    {
+        self.words.as_slice()
+    }
+
+    /// The word of a process in a row.
+    pub fn word(&self, row: u32, process: u32) -> u64
+        requires row { row ≤ sum self.now.lens }
+        requires process { process < length self.now.lens }
+        ensures { result ≡ slice_index self.now.words (place_of self.now.lens row process) }
+    {
+        self.words[self.place(row, process)]
+    }
+
+    /// Makes the word its maximum with the value.
+    pub fn raise(&mut self, row: u32, process: u32, value: u64)
+        requires row { row ≤ sum self.old.lens }
+        requires process { process < length self.old.lens }
+        ensures lens { self.new.lens ≡ self.old.lens }
+        ensures words { let place = place_of self.old.lens row process in self.new.words ≡ slice_set self.old.words place (max (slice_index self.old.words place) value) }
+    {
+        let place = self.place(row, process);
+        self.words[place] = self.words[place].max(value);
+    }
+
+    /// Where the word of a process in a row stands among the words.
+    fn place(&self, row: u32, process: u32) -> usize
+        requires row { row ≤ sum self.now.lens }
+        requires process { process < length self.now.lens }
+        ensures place { result ≡ place_of self.now.lens row process }
+        ensures there { result < length self.now.words }
+    {
+        row as usize * self.shape.procs() as usize + process as usize
+    }
+}
+
+/// The starts of all rows of the shape.
+fn start_words(alloc: Global, shape: &Shape) -> Result<Vec<u64>, NoMemory>
+    ensures { IfOk result (λ words. words.items ≡ starts shape.now) }
+{
+    let mut words = Vec::with_capacity(
+        alloc,
+        (shape.events() as usize + 1) * shape.procs() as usize,
+    )?;
+    for row in 0..=shape.events() {
+        push_start(&mut words, shape.lens(), row)?;
+    }
+    Ok(words)
+}
+
+/// Appends the start of a row.
+fn push_start(words: &mut Vec<u64>, lens: &[u32], row: u32) -> Result<(), NoMemory>
+    ensures { OnOk result (words.new.items ≡ words.old.items ++ start_of lens.now row) }
+{
+    let mut left = row;
+    for len in lens {
+        words.push(if left <= *len { left as u64 } else { 0 })?;
+        left = left.saturating_sub(*len);
+    }
+    Ok(())
+}

@@ -1,0 +1,87 @@
+ghost use Rattle.std.specs.Prelude.{◌≡◌, ◌<◌, ◌^◌, All, length};
+ghost use Rattle.pull_system.specs.System.{IsPull};
+
+use super::*;
+use pota_base::{List, NoMemory, Shape, Steps};
+use std::alloc::Global;
+use std::marker::Brand;
+use std::process::Abort;
+use std::sync::ledger::{Blank, Ledger};
+use std::test::Fail;
+
+fn pull(alloc: Global, src: u32, dst: u32, table: &[u32]) -> Result<Pull, NoMemory> {
+    let table = List::from_vec(Vec::from_slice(alloc, table)?);
+    Ok(Pull { src, dst, table })
+}
+
+/// The pulls of the order of a run of two processes with three and two events, and of the predicate that the channel is empty.
+fn empty_channel(rt: &impl Abort, alloc: Global) -> Result<System, NoMemory> {
+    let shape = Shape::new(alloc, &[3, 2])?;
+    let mut pulls = List::new(alloc);
+    pulls.push(pull(alloc, 0, 1, &[0, 0, 0, 2, 2])?)?;
+    pulls.push(pull(alloc, 1, 0, &[0, 1, 1, 1])?)?;
+    pulls.push(pull(alloc, 0, 1, &[0, 1, 1, 1, 1])?)?;
+    assert!(rt; all_fit(pulls.as_slice(), &shape));
+    assert!(rt; pulls.len() == 3);
+    System::new(alloc, &shape, pulls)
+}
+
+fn closed_at<L: Ledger>(rt: &impl Abort, blank: Blank, system: &System, vector: &[u64]) -> bool
+    requires name { blank.name ≡ L.name }
+    requires parts { blank.parts ≡ L.parts }
+    requires some { 0 < blank.parts }
+{
+    assert!(rt; system.fits(vector));
+    system.is_closed(vector, &mut Steps::<L>::new(blank))
+}
+
+#[test]
+fn closed_vectors_keep_each_pull(rt: HostRuntime) -> Result<(), Fail> {
+    let system = empty_channel(&rt, rt.alloc())?;
+    assert_eq!(rt; system.pulls(), 3);
+    for (vector, closed) in [
+        ([0, 0], true),
+        ([1, 0], false),
+        ([1, 1], true),
+        ([2, 1], true),
+        ([3, 1], false),
+        ([0, 1], false),
+        ([4, 2], true),
+    ] {
+        assert_eq!(rt;
+            closed_at::<Brand>(&rt, Blank::new(1), &system, &vector),
+            closed
+        );
+    }
+    assert_eq!(rt; system.fits(&[5, 0]), false, "past the length by two");
+    Ok(())
+}
+
+#[test]
+fn pulls_know_their_ends(rt: HostRuntime) -> Result<(), Fail> {
+    let system = empty_channel(&rt, rt.alloc())?;
+    assert!(rt; system.pulls() == 3);
+    assert_eq!(rt; system.ends(1), (1, 0));
+    assert!(rt; system.shape().procs() == 2);
+    assert_eq!(rt; system.pulls_from(0), [0, 2].as_slice());
+    let falling = pull(rt.alloc(), 0, 1, &[0, 1, 0, 1, 1])?;
+    assert_eq!(rt; falling.fits(system.shape()), false);
+    Ok(())
+}
+
+#[test]
+fn rows_begin_at_their_starts(rt: HostRuntime) -> Result<(), Fail> {
+    let shape = Shape::new(rt.alloc(), &[3, 2])?;
+    let mut rows = Rows::new(rt.alloc(), &shape)?;
+    assert_eq!(rt;
+        rows.as_words(),
+        [0, 0, 1, 0, 2, 0, 3, 0, 0, 1, 0, 2].as_slice()
+    );
+    assert!(rt; rows.shape().procs() == 2);
+    assert!(rt; rows.shape().events() == 5);
+    rows.raise(1, 1, 2);
+    rows.raise(1, 0, 0);
+    assert_eq!(rt; rows.word(1, 1), 2);
+    assert_eq!(rt; rows.word(1, 0), 1);
+    Ok(())
+}
