@@ -1,0 +1,13 @@
+//! A pure machine that raises bounds of closed vectors, one word at a time.
+#![tactic(auto)]
+
+mod laws;
+mod machine;
+mod step;
+
+pub use laws::runs;
+pub use machine::Machine;
+pub use step::Step;
+
+#[cfg(test)]
+mod tests;
