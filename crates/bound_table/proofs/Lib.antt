@@ -1,0 +1,4 @@
+pub mod Moves
+pub mod Floors
+pub mod Allowed
+pub mod Lends

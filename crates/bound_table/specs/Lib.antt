@@ -1,0 +1,3 @@
+pub mod Kept
+pub mod Rule
+pub mod Views

@@ -1,0 +1,64 @@
+-- The rule of the shared table: what holds of its words and of what the seats know, between any two steps.
+use Rattle.std.specs.Prelude.{◌≡◌, ℕ, ◌+◌, ◌*◌, ◌≤◌, List, [], true, false, length, sum, take, max, slice_index, slice_set}
+use mathlib.Core.Option.{some}
+use lib.ListN.{get_elem?}
+use Rattle.atomic_table.specs.Table.{State, Me, Step}
+use Rattle.pull_system.specs.Vector.{IsWithin}
+use Rattle.pull_system.specs.Rows.{starts}
+use Rattle.pull_system.specs.System.{SystemView}
+use Rattle.raise_machine.specs.Bounds.{AreBounds}
+use Rattle.bound_table.specs.declared.seat.Known.{Known}
+use Rattle.bound_table.specs.Kept.{larger}
+
+-- the words that are bounds: one per row and process. Others may stand behind them.
+abbrev pub word_count : List ℕ → ℕ
+word_count lens = (sum lens + 1) * length lens
+
+-- what a seat knows is true of the table: its system is the table's, and each floor is between the row's start and the word
+pub record Fits (system : SystemView) (words : List ℕ) (v : Known) : Type 0 where
+  pub one_system : v.system ≡ system
+  pub size : length v.floor ≡ length words
+  pub above : IsWithin (starts system.lens) v.floor
+  pub below : IsWithin v.floor words
+
+-- each word is between its row's start and the least closed vector, and each view that isn't spent fits
+pub record IsKept (system : SystemView) (words : List ℕ) (views : List Known) : Type 0 where
+  pub bounds : AreBounds system words
+  pub fits : (j : ℕ) (v : Known) → get_elem? views j ≡ some v → v.live ≡ true → Fits system words v
+
+abbrev pub Kept : SystemView → State (Unit {0}) Known → Type 0
+Kept system s = IsKept system (take (word_count system.lens) s.words) s.views
+
+-- a view that is not spent, whose floors are between the starts and the least closed vectors
+pub record IsSound (v : Known) : Type 0 where
+  pub live : v.live ≡ true
+  pub floor : AreBounds v.system v.floor
+
+abbrev pub with_floor : Known → List ℕ → Known
+with_floor v floor = record { live = v.live; system = v.system; floor = floor }
+
+-- the view of the first seat
+abbrev pub opened : SystemView → List ℕ → Known
+opened system floor = record { live = true; system = system; floor = floor }
+
+-- what is left of a seat that was met
+abbrev pub nobody : Known
+nobody = record { live = false; system = record { lens = []; pulls = [] }; floor = [] }
+
+-- the first view with the larger of both floors
+abbrev pub together : Known → Known → Known
+together v w = with_floor v (larger v.floor w.floor)
+
+-- a word was read, and its floor is that
+pub record Looked (st : Step (Unit {0})) (me : Me (Unit {0}) Known) (found : ℕ) (now : Me (Unit {0}) Known) : Type 0 where
+  pub view : now.0 ≡ with_floor me.0 (slice_set me.0.floor st.word found)
+  pub slots : now.1 ≡ me.1
+  pub rises : slice_index me.0.floor st.word ≤ found
+  pub sound : IsSound now.0
+
+-- a word became its maximum with the number, and its floor is that
+pub record Lifted (st : Step (Unit {0})) (me : Me (Unit {0}) Known) (found : ℕ) (now : Me (Unit {0}) Known) : Type 0 where
+  pub view : now.0 ≡ with_floor me.0 (slice_set me.0.floor st.word (max found st.first))
+  pub slots : now.1 ≡ me.1
+  pub rises : slice_index me.0.floor st.word ≤ max found st.first
+  pub sound : IsSound now.0

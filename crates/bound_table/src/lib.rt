@@ -1,0 +1,11 @@
+//! One table of bounds that callers on any number of threads raise without a lock.
+#![tactic(auto)]
+
+mod seat;
+mod table;
+
+pub use seat::Seat;
+pub use table::BoundTable;
+
+#[cfg(test)]
+mod tests;

@@ -1,0 +1,94 @@
+//! What a caller of the table holds, and the rule that each of its steps keeps.
+ghost use Rattle.bound_table.specs.Rule.{Kept, opened, nobody, together, Looked, Lifted};
+
+use atomic_table::{Join, Play, Split, TableRule};
+use pull_system::{Rows, System};
+use std::collections::LinkedList;
+use std::marker::Model;
+use std::snapshot::Snapshot;
+
+/// What the table is told once. It takes no bytes.
+#[derive(Drop)]
+pub(crate) struct Key {
+    pub(crate) system: Snapshot<System>,
+    pub(crate) floor: Snapshot<Rows>,
+}
+
+/// What a seat knows: the system, and a floor for each word. No value of it is made.
+pub(crate) struct Known {
+    live: bool,
+    system: System,
+    floor: LinkedList<u64>,
+}
+
+/// A caller's hold on a table. Contracts see its table and, row by row, a floor for each word, which the word has reached.
+///
+/// The floors lie between the starts of the rows and their least closed vectors. They take no bytes: a running program learns
+/// the floors of a row by `BoundTable::look` or `BoundTable::settle`.
+#[derive(Drop)]
+pub struct Seat {
+    pub(crate) token: atomic_table::Seat<(), Known>,
+}
+
+impl Model for Seat {
+    ghost use Rattle.std.specs.Prelude.{◌≡◌, []};
+    ghost use Rattle.bound_table.specs.Views.{SeatView};
+    ghost use Rattle.bound_table.specs.Rule.{IsSound};
+
+    ghost Value = { SeatView };
+
+    ghost view = { λ seat. record { table = record { id = seat.token.table_id; system = seat.token.me.0.system }; floor = seat.token.me.0.floor } };
+
+    ghost invariant = { λ seat. IsSound seat.token.me.0 × (seat.token.me.1 ≡ []) };
+}
+
+impl Seat {
+    ghost use Rattle.raise_machine.specs.Bounds.{AreBounds};
+
+    /// Does nothing. It tells contracts that the floors lie between the starts of the rows and their least closed vectors.
+    pub fn bounds(&self)
+        ensures { AreBounds self.now.table.system self.now.floor }
+    {
+        let _ = &self.token;
+    }
+}
+
+pub(crate) struct Bounded;
+
+impl TableRule<(), Known, Key> for Bounded {
+    ghost holds = { λ key. Kept key.system.value };
+
+    ghost first = { λ key. opened key.system.value key.floor.value.words };
+}
+
+/// A load.
+pub(crate) struct Looks;
+
+impl Play<(), Known> for Looks {
+    ghost then = { Looked };
+}
+
+/// A raise.
+pub(crate) struct Lifts;
+
+impl Play<(), Known> for Lifts {
+    ghost then = { Lifted };
+}
+
+/// A second seat that knows the same.
+pub(crate) struct Twins;
+
+impl Split<Known> for Twins {
+    ghost left = { λ v. v };
+
+    ghost right = { λ v. v };
+}
+
+/// One seat that knows what both knew.
+pub(crate) struct Meets;
+
+impl Join<Known> for Meets {
+    ghost both = { together };
+
+    ghost spent = { nobody };
+}

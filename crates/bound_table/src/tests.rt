@@ -1,0 +1,147 @@
+ghost use Rattle.std.specs.Prelude.{◌≡◌, ◌<◌, ◌≤◌, IfOk, ◌∷◌, []};
+
+use super::*;
+use pota_base::{List, NoMemory, Shape, Steps};
+use pull_system::{Pull, Rows, System, all_fit};
+use std::alloc::Global;
+use std::marker::Brand;
+use std::process::Abort;
+use std::sync::ledger::{Blank, Ledger};
+use std::test::Fail;
+use std::thread::join;
+
+fn pull(alloc: Global, src: u32, dst: u32, table: &[u32]) -> Result<Pull, NoMemory> {
+    let table = List::from_vec(Vec::from_slice(alloc, table)?);
+    Ok(Pull { src, dst, table })
+}
+
+/// The table of the order of a run of two processes with three and two events, and of one pull more.
+#[tactic(auto, using(raise_machine::proofs::Raising::starts_bounds))]
+fn order_and(rt: &impl Abort, alloc: Global, more: Pull) -> Result<(BoundTable, Seat), NoMemory>
+    ensures seat { IfOk result (λ pair. pair.1.table ≡ pair.0) }
+    ensures lens { IfOk result (λ pair. pair.0.system.lens ≡ 3 ∷ 2 ∷ []) }
+{
+    let shape = Shape::new(alloc, &[3, 2])?;
+    let mut pulls = List::new(alloc);
+    pulls.push(pull(alloc, 0, 1, &[0, 0, 0, 2, 2])?)?;
+    pulls.push(pull(alloc, 1, 0, &[0, 1, 1, 1])?)?;
+    pulls.push(more)?;
+    assert!(rt; all_fit(pulls.as_slice(), &shape));
+    assert!(rt; pulls.len() == 3);
+    let floor = Rows::new(alloc, &shape)?;
+    BoundTable::new(alloc, System::new(alloc, &shape, pulls)?, &floor)
+}
+
+fn empty_channel(rt: &impl Abort, alloc: Global) -> Result<(BoundTable, Seat), NoMemory>
+    ensures seat { IfOk result (λ pair. pair.1.table ≡ pair.0) }
+    ensures lens { IfOk result (λ pair. pair.0.system.lens ≡ 3 ∷ 2 ∷ []) }
+{
+    order_and(rt, alloc, pull(alloc, 0, 1, &[0, 1, 1, 1, 1])?)
+}
+
+fn settle_row<L: Ledger>(
+    rt: &impl Abort,
+    blank: Blank,
+    table: &BoundTable,
+    seat: &mut Seat,
+    row: u32,
+) -> [u64; 2]
+    requires name { blank.name ≡ L.name }
+    requires parts { blank.parts ≡ L.parts }
+    requires some { 0 < blank.parts }
+    requires fits { seat.old.table ≡ table.now }
+    ensures { seat.new.table ≡ seat.old.table }
+{
+    assert!(rt; row <= table.system().shape().events());
+    assert!(rt; table.system().shape().procs() == 2);
+    let mut into = [0; 2];
+    table.settle(seat, row, &mut into, &mut Steps::<L>::new(blank));
+    into
+}
+
+fn settled(rt: &impl Abort, table: &BoundTable, seat: &mut Seat, row: u32) -> [u64; 2]
+    requires { seat.old.table ≡ table.now }
+    ensures { seat.new.table ≡ seat.old.table }
+{
+    settle_row::<Brand>(rt, Blank::new(1), table, seat, row)
+}
+
+fn looked_at(rt: &impl Abort, table: &BoundTable, seat: &mut Seat, row: u32) -> [u64; 2]
+    requires { seat.old.table ≡ table.now }
+    ensures { seat.new.table ≡ seat.old.table }
+{
+    assert!(rt; row <= table.system().shape().events());
+    assert!(rt; table.system().shape().procs() == 2);
+    let mut into = [0; 2];
+    table.look(seat, row, &mut into);
+    into
+}
+
+#[test]
+fn rows_settle_to_their_least_cuts(rt: HostRuntime) -> Result<(), Fail> {
+    let (table, mut seat) = empty_channel(&rt, rt.alloc())?;
+    assert_eq!(rt; settled(&rt, &table, &mut seat, 0), [0, 0]);
+    assert_eq!(rt; settled(&rt, &table, &mut seat, 1), [1, 1]);
+    assert_eq!(rt; settled(&rt, &table, &mut seat, 3), [3, 2]);
+    assert_eq!(rt; table.close(seat).pulls(), 3);
+    Ok(())
+}
+
+#[test]
+fn rows_without_a_cut_pass_the_length(rt: HostRuntime) -> Result<(), Fail> {
+    let (table, mut seat) = order_and(&rt, rt.alloc(), pull(rt.alloc(), 0, 0, &[0, 4, 4, 4, 4])?)?;
+    assert_eq!(rt; settled(&rt, &table, &mut seat, 1), [4, 2]);
+    assert_eq!(rt; settled(&rt, &table, &mut seat, 4), [4, 2]);
+    Ok(())
+}
+
+#[test]
+fn rows_lend_what_they_have(rt: HostRuntime) -> Result<(), Fail> {
+    let (table, mut seat) = empty_channel(&rt, rt.alloc())?;
+    assert_eq!(rt; settled(&rt, &table, &mut seat, 1), [1, 1]);
+    assert!(rt; table.system().shape().events() == 5);
+    seat.bounds();
+    table.lend(&mut seat, 1, 2);
+    assert_eq!(rt; looked_at(&rt, &table, &mut seat, 2), [2, 1]);
+    Ok(())
+}
+
+/// The rows that are there are settled by a seat.
+fn settle_rows<L: Ledger>(blank: Blank, table: &BoundTable, mut seat: Seat, rows: [u32; 3]) -> Seat
+    requires name { blank.name ≡ L.name }
+    requires parts { blank.parts ≡ L.parts }
+    requires some { 0 < blank.parts }
+    requires fits { seat.table ≡ table.now }
+    ensures { result.table ≡ table.now }
+{
+    let mut steps = Steps::<L>::new(blank);
+    let mut into = [0; 2];
+    for row in rows {
+        if row <= table.system().shape().events() && table.system().shape().procs() == 2 {
+            table.settle(&mut seat, row, &mut into, &mut steps);
+        }
+    }
+    seat
+}
+
+fn work(table: &BoundTable, seat: Seat, rows: [u32; 3]) -> Seat
+    requires { seat.table ≡ table.now }
+    ensures { result.table ≡ table.now }
+{
+    settle_rows::<Brand>(Blank::new(1), table, seat, rows)
+}
+
+#[test]
+fn two_callers_meet(rt: HostRuntime) -> Result<(), Fail> {
+    let (table, mut first) = empty_channel(&rt, rt.alloc())?;
+    let second = table.split(&mut first);
+    let (mut first, second) = join(
+        &rt,
+        || work(&table, first, [0, 1, 2]),
+        || work(&table, second, [3, 4, 5]),
+    );
+    table.meet(&mut first, second);
+    assert_eq!(rt; looked_at(&rt, &table, &mut first, 1), [1, 1]);
+    assert_eq!(rt; looked_at(&rt, &table, &mut first, 3), [3, 2]);
+    Ok(())
+}
