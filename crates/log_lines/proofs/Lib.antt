@@ -1,0 +1,6 @@
+pub mod Steps
+pub mod NumberLaws
+pub mod WordLaws
+pub mod SignedLaws
+pub mod ItemLaws
+pub mod LineLaws

@@ -1,0 +1,12 @@
+//! The lines of a log text: what each one says, and its one spelling.
+#![tactic(auto)]
+
+mod draft;
+mod lines;
+mod values;
+mod words;
+
+pub use draft::{ActionDraft, EventDraft, LineError, Setting, VarsDraft};
+pub use lines::{begins_vars, is_batch, is_end, read_event, read_procs, read_vars};
+pub use pota_base::signed_at;
+pub use words::{Named, are_distinct, name_at, place_of, text_at};

@@ -1,0 +1,95 @@
+//! Lists at the end of a line, and clocks.
+
+ghost use Rattle.std.specs.Prelude.{◌≡◌, ◌^◌, ◌<◌, ◌≤◌, [], ◌∷◌, length, map};
+ghost use Rattle.log_lines.specs.Reading.{value_at, names_from, values_from, values_at, clock_from, clock_at};
+ghost use Rattle.log_lines.specs.Drafts.{Gives, value_of, values_of, value_seen, texts_of};
+
+use crate::draft::{LineError, Setting};
+use crate::words::{are_distinct, spaced_name_at, text_at};
+use pota_base::{number_at, signed_at};
+use std::alloc::Global;
+
+/// ` NAME=INT` at the front, and the bytes after it.
+#[tactic(auto, unfolding(crate::specs::Reading::value_at))]
+pub fn value_at(bytes: &[u8]) -> Option<(Setting<'_>, &[u8])>
+    ensures { value_seen result ≡ value_at bytes.now }
+{
+    let (name, rest) = spaced_name_at(bytes)?;
+    let rest = text_at(b"=", rest)?;
+    let (value, rest) = signed_at(rest)?;
+    Some((Setting { name, value }, rest))
+}
+
+/// The names to the end of the line, at most `most`.
+pub fn names_from(alloc: Global, most: usize, bytes: &[u8]) -> Result<Vec<&[u8]>, LineError>
+    ensures { Gives (λ names. texts_of names.items) result (names_from most [] bytes.now) }
+{
+    let mut names = Vec::new(alloc);
+    let mut rest = bytes;
+    for _ in 0..most {
+        if rest.is_empty() {
+            return Ok(names);
+        }
+        let (name, after) = spaced_name_at(rest).ok_or(LineError::Malformed)?;
+        names.push(name)?;
+        rest = after;
+    }
+    if !rest.is_empty() {
+        return Err(LineError::Malformed);
+    }
+    Ok(names)
+}
+
+fn values_from(alloc: Global, most: usize, bytes: &[u8]) -> Result<Vec<Setting<'_>>, LineError>
+    ensures { Gives (λ values. values_of values.items) result (values_from most [] bytes.now) }
+{
+    let mut values = Vec::new(alloc);
+    let mut rest = bytes;
+    for _ in 0..most {
+        if rest.is_empty() {
+            return Ok(values);
+        }
+        let (value, after) = value_at(rest).ok_or(LineError::Malformed)?;
+        values.push(value)?;
+        rest = after;
+    }
+    if !rest.is_empty() {
+        return Err(LineError::Malformed);
+    }
+    Ok(values)
+}
+
+/// The values to the end of the line, at most 16 and of distinct variables.
+#[tactic(auto, using(crate::proofs::Steps::value_names), unfolding(crate::specs::Reading::values_at))]
+pub fn values_at(alloc: Global, bytes: &[u8]) -> Result<Vec<Setting<'_>>, LineError>
+    ensures { Gives (λ values. values_of values.items) result (values_at bytes.now) }
+{
+    let values = values_from(alloc, 16, bytes)?;
+    if !are_distinct(&values) {
+        return Err(LineError::Malformed);
+    }
+    Ok(values)
+}
+
+fn clock_from(alloc: Global, first: u32, bytes: &[u8]) -> Result<(Vec<u32>, &[u8]), LineError>
+    ensures { Gives (λ x. (x.0.items, x.1.now)) result (clock_from (length bytes.now) (first ∷ []) bytes.now) }
+{
+    let mut clock = Vec::new(alloc);
+    clock.push(first)?;
+    let mut rest = bytes;
+    while let Some(behind) = text_at(b",", rest) {
+        let (number, after) = number_at(u64::from(u32::MAX), behind).ok_or(LineError::Malformed)?;
+        clock.push(number as u32)?;
+        rest = after;
+    }
+    Ok((clock, rest))
+}
+
+/// The clock at the front, and the bytes after its last component.
+#[tactic(auto, unfolding(crate::specs::Reading::clock_at))]
+pub fn clock_at(alloc: Global, bytes: &[u8]) -> Result<(Vec<u32>, &[u8]), LineError>
+    ensures { Gives (λ x. (x.0.items, x.1.now)) result (clock_at bytes.now) }
+{
+    let (first, rest) = number_at(u64::from(u32::MAX), bytes).ok_or(LineError::Malformed)?;
+    clock_from(alloc, first as u32, rest)
+}
