@@ -1,0 +1,12 @@
+pub mod Numbers
+pub mod Before
+pub mod States
+pub mod Lines
+pub mod LogText
+pub mod Moments
+pub mod OneBatch
+pub mod FirstForm
+pub mod Faults
+pub mod Feeding
+pub mod Reader
+pub mod Laws

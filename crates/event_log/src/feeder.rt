@@ -1,0 +1,271 @@
+//! A log that comes in pieces, up to its first fault.
+
+ghost use Rattle.std.specs.Prelude.{◌≡◌, ◌+◌, ◌^◌, ◌<◌, ◌≤◌, ◌++◌, ◌∷◌, [], false, length, None, IfOk, OnOk, IsTrue};
+ghost use Rattle.std.specs.Option.{option_to_list};
+ghost use Rattle.event_log.specs.Lines.{header_items};
+ghost use Rattle.event_log.specs.Faults.{byte_fault};
+
+use crate::item::{Fed, Item, LogCode, LogFault};
+use crate::line_reader::{LineReader, LineTold};
+use crate::log::Header;
+use crate::split::split_line;
+use pota_base::{List, NoMemory};
+use std::alloc::Global;
+
+/// The most bytes of a log.
+const MOST_BYTES: u32 = 67_108_864;
+
+/// The most bytes of a line, without its line feed.
+const MOST_LINE: usize = 4_096;
+
+const HEADING: [u8; 11] = *b"pota-log 1\n";
+
+/// The whole lines so far, and the bytes of the unfinished one.
+#[derive(Debug, Drop)]
+pub struct Feeder {
+    alloc: Global,
+    total: u32,
+    reader: LineReader,
+    line: Vec<u8>,
+    ghost counted: { reader.lines ≤ total },
+    ghost room: { total ≤ 67108864 },
+}
+
+/// What one line gave, and its fault.
+#[derive(Debug, Drop)]
+pub struct LineGiven {
+    header: Option<Header>,
+    item: Option<Item>,
+    fault: Option<LogFault>,
+}
+
+// The fault at a byte, by the number of bytes before it, whether the log has ended, and the bytes of the line before it.
+#[tactic(auto, unfolding(crate::specs::Faults::byte_fault))]
+fn byte_fault(total: u32, ended: bool, width: usize, byte: u8) -> Option<LogCode>
+    ensures { result ≡ byte_fault total ended width byte }
+{
+    if total >= MOST_BYTES {
+        return Some(LogCode::LogTooLong);
+    }
+    if total < 11 {
+        if byte != HEADING[total as usize] {
+            return Some(LogCode::BadHeader);
+        }
+    }
+    if ended {
+        return Some(LogCode::Trailing);
+    }
+    if width >= MOST_LINE {
+        if byte != b'\n' {
+            return Some(LogCode::LineTooLong);
+        }
+    }
+    None
+}
+
+impl LineGiven {
+    ghost use Rattle.std.specs.Option.{option_map};
+    ghost use Rattle.event_log.specs.Feeding.{placed_at};
+
+    fn fault(fault: LogFault) -> LineGiven
+        ensures { result ≡ record { header = None; item = None; fault = Some fault } }
+    {
+        LineGiven {
+            header: None,
+            item: None,
+            fault: Some(fault),
+        }
+    }
+
+    // What the line of this number was told to give.
+    fn of(told: LineTold, line: u32) -> LineGiven
+        ensures { result ≡ record { header = told.header; item = told.item; fault = option_map (placed_at line) told.fault } }
+    {
+        LineGiven {
+            header: told.header,
+            item: told.item,
+            fault: told.fault.map(|code| LogFault { code, line }),
+        }
+    }
+}
+
+fn with_given(
+    mut items: List<Item>,
+    header: Option<Header>,
+    item: Option<Item>,
+) -> Result<List<Item>, NoMemory>
+    ensures { IfOk result (λ all. all ≡ items ++ (header_items header ++ option_to_list item)) }
+{
+    if let Some(header) = header {
+        items.push(Item::Header(header))?;
+    }
+    if let Some(item) = item {
+        items.push(item)?;
+    }
+    Ok(items)
+}
+
+impl Feeder {
+    ghost use Rattle.event_log.specs.Before.{is_ended};
+    ghost use Rattle.event_log.specs.Moments.{HasNoFeed, lines, IsPlainByte};
+    ghost use Rattle.event_log.specs.Faults.{end_fault};
+    ghost use Rattle.event_log.specs.Feeding.{Past, CountsLines, HasFed, Gains, TakesPlain, ClosesLine, TakesFedLine, TakesPiece};
+
+    /// A reader that has read nothing. It takes no memory.
+    #[tactic(auto, unfolding(crate::specs::Moments::lines, crate::specs::Moments::line_now, crate::specs::Faults::first_fault))]
+    pub fn new(alloc: Global) -> Feeder
+        ensures { HasFed result [] }
+    {
+        Feeder {
+            alloc,
+            total: 0,
+            reader: LineReader::new(alloc),
+            line: Vec::new(alloc),
+        }
+    }
+
+    // The fault at the next byte, after `width` bytes of its line.
+    fn next_fault(&self, width: usize, byte: u8) -> Option<LogCode>
+        ensures known { (past : Past) → CountsLines self.now past → result ≡ byte_fault (length past) (is_ended (lines past)) width byte }
+        ensures room { result ≡ None → self.now.total < 67108864 }
+    {
+        byte_fault(self.total, self.reader.is_ended(), width, byte)
+    }
+
+    // A fault on the line that is read.
+    fn placed(&self, code: LogCode) -> LogFault
+        ensures { result ≡ record { code = code; line = self.now.reader.lines + 1 } }
+    {
+        LogFault {
+            code,
+            line: self.reader.line_count() + 1,
+        }
+    }
+
+    // Whether as many bytes more, and no line feed among them, can have no fault.
+    fn is_quiet(&self, len: usize) -> bool
+        ensures room { IsTrue result → (11 ≤ self.now.total) × (self.now.total + len ≤ 67108864) × (length self.now.line.items + len ≤ 4096) }
+        ensures open_ { IsTrue result → (past : Past) → CountsLines self.now past → is_ended (lines past) ≡ false }
+    {
+        if self.reader.is_ended() {
+            return false;
+        }
+        if self.total < 11 {
+            return false;
+        }
+        if len > MOST_LINE {
+            return false;
+        }
+        if self.total as usize + len > MOST_BYTES as usize {
+            return false;
+        }
+        self.line.len() + len <= MOST_LINE
+    }
+
+    // A byte that is no line feed.
+    fn take_byte(&mut self, byte: u8) -> Result<Option<LogFault>, NoMemory>
+        requires { IsPlainByte byte }
+        ensures { IfOk result (λ fault. TakesPlain self.old (byte ∷ []) fault self.new) }
+    {
+        if let Some(code) = self.next_fault(self.line.len(), byte) {
+            return Ok(Some(self.placed(code)));
+        }
+        self.line.push(byte)?;
+        self.total += 1;
+        Ok(None)
+    }
+
+    // Bytes that can have no fault.
+    fn take_quiet(&mut self, chunk: &[u8]) -> Result<(), NoMemory>
+        requires { self.old.total + length chunk.now ≤ 67108864 }
+        ensures { OnOk result (Gains self.old self.new chunk.now) }
+    {
+        self.line.extend_from_slice(chunk)?;
+        self.total += chunk.len() as u32;
+        Ok(())
+    }
+
+    // Bytes among which no line feed is: at once where they can have no fault, else one by one.
+    fn take_plain(&mut self, chunk: &[u8]) -> Result<Option<LogFault>, NoMemory>
+        requires { HasNoFeed chunk.now }
+        ensures { IfOk result (λ fault. TakesPlain self.old chunk.now fault self.new) }
+    {
+        if self.is_quiet(chunk.len()) {
+            self.take_quiet(chunk)?;
+            return Ok(None);
+        }
+        'bytes: for i in 0..chunk.len() {
+            if let Some(fault) = self.take_byte(chunk[i])? {
+                return Ok(Some(fault));
+            }
+        }
+        Ok(None)
+    }
+
+    // The line feed of this line.
+    fn close(&mut self, line: &[u8]) -> Result<LineGiven, NoMemory>
+        ensures closes { IfOk result (λ given. ClosesLine self.old line.now given self.new) }
+        ensures line { self.new.line.items ≡ self.old.line.items }
+    {
+        if let Some(code) = self.next_fault(line.len(), b'\n') {
+            return Ok(LineGiven::fault(self.placed(code)));
+        }
+        let number = self.reader.line_count() + 1;
+        self.total += 1;
+        let told = self.reader.take(self.alloc, line)?;
+        Ok(LineGiven::of(told, number))
+    }
+
+    // The rest of a line, and its line feed. A line that lies whole in the piece is judged where it lies.
+    fn take_line(&mut self, chunk: &[u8]) -> Result<LineGiven, NoMemory>
+        requires { HasNoFeed chunk.now }
+        ensures { IfOk result (λ given. TakesFedLine self.old chunk.now given self.new) }
+    {
+        if self.line.is_empty() {
+            if self.is_quiet(chunk.len()) {
+                self.total += chunk.len() as u32;
+                return self.close(chunk);
+            }
+        }
+        if let Some(fault) = self.take_plain(chunk)? {
+            return Ok(LineGiven::fault(fault));
+        }
+        let mut line = std::mem::replace(&mut self.line, Vec::new(self.alloc));
+        let given = self.close(&line)?;
+        line.clear();
+        self.line = line;
+        Ok(given)
+    }
+
+    /// Reads one piece more, and gives what it completes.
+    pub fn feed(&mut self, piece: &[u8]) -> Result<Fed, NoMemory>
+        ensures { IfOk result (λ fed. TakesPiece self.old piece.now fed self.new) }
+    {
+        let mut items = List::new(self.alloc);
+        let mut rest = piece;
+        'lines: while let Some((line, after)) = split_line(rest) {
+            let LineGiven {
+                header,
+                item,
+                fault,
+            } = self.take_line(line)?;
+            items = with_given(items, header, item)?;
+            if fault.is_some() {
+                return Ok(Fed { items, fault });
+            }
+            rest = after;
+        }
+        let fault = self.take_plain(rest)?;
+        Ok(Fed { items, fault })
+    }
+
+    /// The fault where the input ends here, without a fault so far.
+    pub fn truncated(&self) -> Option<LogFault>
+        ensures { (past : Past) → HasFed self.now past → result ≡ end_fault past }
+    {
+        if self.reader.is_ended() {
+            return None;
+        }
+        Some(self.placed(LogCode::Truncated))
+    }
+}

@@ -1,0 +1,279 @@
+//! The lines of a log in their order, each without its line feed.
+
+ghost use Rattle.std.specs.Prelude.{◌≡◌, ◌+◌, ◌-◌, ◌^◌, ◌<◌, ◌≤◌, ◌∷◌, ◌++◌, [], length, All, IfOk, OnOk, IsOk, IsSomeAnd};
+
+use crate::copies::{bindings_of, copy_of, filled, names_of};
+use crate::item::{Item, LogCode};
+use crate::log::{Binding, Header};
+use crate::numbers::event_named;
+use crate::refusals::refused;
+use log_lines::{begins_vars, is_batch, is_end, place_of, read_event, read_procs, read_vars};
+use pota_base::{List, NoMemory, Refused};
+use pota_names::Name;
+use std::alloc::Global;
+
+/// How far the lines have come.
+#[derive(Clone, Copy, Debug, PartialEq, Eq)]
+pub enum Stage {
+    /// Lines of the header may follow.
+    Header,
+    /// Events and `batch` lines may follow, or the `end` line.
+    Body,
+    Ended,
+}
+
+/// What the lines so far say, as far as the lines after them need it.
+#[derive(Debug, Drop)]
+pub struct LineReader {
+    stage: Stage,
+    lines: u32,
+    events: u32,
+    procs: List<Name>,
+    /// The variables of the processes up to that of the last `vars` line.
+    variables: List<List<Binding>>,
+    ghost counted: { events ≤ lines },
+    ghost few: { length procs ≤ 32 },
+    ghost narrow: { All (λ bindings. length bindings ≤ 16) variables },
+}
+
+/// What one line gives.
+#[derive(Debug, Drop)]
+pub struct LineTold {
+    /// The header, where the line is the first one behind it.
+    pub header: Option<Header>,
+    pub item: Option<Item>,
+    pub fault: Option<LogCode>,
+}
+
+impl LineTold {
+    ghost use Rattle.event_log.specs.Lines.{JudgedAs, told_of, header_items};
+    ghost use Rattle.event_log.specs.Before.{Told};
+
+    fn fault(code: LogCode) -> LineTold
+        ensures { result ≡ record { header = None; item = None; fault = Some code } }
+    {
+        LineTold {
+            header: None,
+            item: None,
+            fault: Some(code),
+        }
+    }
+
+    // What was judged, with the header before it.
+    fn of(
+        header: Option<Header>,
+        judged: Result<Option<Item>, Refused<LogCode>>,
+    ) -> Result<LineTold, NoMemory>
+        ensures told { IfOk result (λ t. (told : Told) → JudgedAs judged told → told_of t ≡ record { items = header_items header ++ told.items; fault = told.fault }) }
+        ensures judged { IfOk result (λ t. t.fault ≡ None → IsOk judged) }
+    {
+        match judged {
+            Ok(item) => Ok(LineTold {
+                header,
+                item,
+                fault: None,
+            }),
+            Err(Refused::Fault(code)) => Ok(LineTold {
+                header,
+                item: None,
+                fault: Some(code),
+            }),
+            Err(Refused::NoMemory) => Err(NoMemory),
+        }
+    }
+}
+
+impl LineReader {
+    ghost use Rattle.event_log.specs.declared.line_reader.Stage.TheVariants.{Header as InHeader};
+    ghost use Rattle.event_log.specs.Before.{Lines, is_ended, heading_told, procs_told, vars_told, body_told, filled};
+    ghost use Rattle.event_log.specs.Lines.{HasReadLines, JudgedAs, JudgedItem, CountsLine, TakesProcs, TakesVars, Passes, TakesLine};
+
+    /// A reader that has read no line. It takes no memory.
+    #[tactic(auto, unfolding(crate::specs::Before::names, crate::specs::Before::variables, crate::specs::Before::events, crate::specs::Before::is_header_over, crate::specs::Before::is_ended))]
+    pub fn new(alloc: Global) -> LineReader
+        ensures { HasReadLines result [] }
+    {
+        LineReader {
+            stage: Stage::Header,
+            lines: 0,
+            events: 0,
+            procs: List::new(alloc),
+            variables: List::new(alloc),
+        }
+    }
+
+    /// Whether the `end` line was read.
+    pub fn is_ended(&self) -> bool
+        ensures { (older : Lines) → HasReadLines self.now older → result ≡ is_ended older }
+    {
+        self.stage == Stage::Ended
+    }
+
+    /// How many lines were read without a fault.
+    pub fn line_count(&self) -> u32
+        ensures { result ≡ self.now.lines }
+    {
+        self.lines
+    }
+
+    // The first line.
+    fn take_heading(&mut self, line: &[u8]) -> Result<Option<Item>, Refused<LogCode>>
+        requires { self.old.lines < 2 ^ 32 - 1 }
+        ensures told { JudgedAs result (heading_told line.now) }
+        ensures next { OnOk result (CountsLine self.old self.new) }
+        ensures counts { self.new.lines ≤ self.old.lines + 1 }
+    {
+        if line != b"pota-log 1".as_slice() {
+            return Err(Refused::Fault(LogCode::BadHeader));
+        }
+        self.lines += 1;
+        Ok(None)
+    }
+
+    // The second line.
+    fn take_procs(&mut self, alloc: Global, line: &[u8]) -> Result<Option<Item>, Refused<LogCode>>
+        requires { self.old.lines < 2 ^ 32 - 1 }
+        ensures told { JudgedAs result (procs_told line.now) }
+        ensures next { OnOk result (TakesProcs self.old self.new line.now) }
+        ensures counts { self.new.lines ≤ self.old.lines + 1 }
+    {
+        let texts = refused(read_procs(alloc, line), LogCode::BadProcs)?;
+        let procs = names_of(alloc, &texts)?;
+        self.procs = procs;
+        self.lines += 1;
+        Ok(None)
+    }
+
+    // A `vars` line in its place.
+    fn take_vars(&mut self, alloc: Global, line: &[u8]) -> Result<Option<Item>, Refused<LogCode>>
+        requires { self.old.lines < 2 ^ 32 - 1 }
+        ensures told { JudgedAs result (vars_told self.old.procs self.old.variables line.now) }
+        ensures next { OnOk result (TakesVars self.old self.new line.now) }
+        ensures counts { self.new.lines ≤ self.old.lines + 1 }
+    {
+        let draft = refused(read_vars(alloc, line), LogCode::BadLine)?;
+        let Some(process) = place_of(self.procs.as_slice(), draft.process) else {
+            return Err(Refused::Fault(LogCode::UnknownProcess));
+        };
+        if process < self.variables.len() {
+            return Err(Refused::Fault(LogCode::BadLine));
+        }
+        let bindings = bindings_of(alloc, &draft.settings)?;
+        self.add_variables(alloc, process, bindings)?;
+        self.lines += 1;
+        Ok(None)
+    }
+
+    // The variables of one process more.
+    fn add_variables(
+        &mut self,
+        alloc: Global,
+        process: usize,
+        bindings: List<Binding>,
+    ) -> Result<(), NoMemory>
+        requires { length bindings ≤ 16 }
+        ensures variables { OnOk result (self.new.variables ≡ filled self.old.variables process ++ bindings ∷ []) }
+        ensures counts { self.new.lines ≡ self.old.lines }
+        ensures same { OnOk result ((self.new.procs ≡ self.old.procs) × (self.new.lines ≡ self.old.lines) × (self.new.events ≡ self.old.events) × (self.new.stage ≡ self.old.stage)) }
+    {
+        let before = std::mem::replace(&mut self.variables, List::new(alloc));
+        let mut variables = filled(alloc, before, process)?;
+        variables.push(bindings)?;
+        self.variables = variables;
+        Ok(())
+    }
+
+    // A line behind the header.
+    fn item_of(&self, alloc: Global, line: &[u8]) -> Result<Item, Refused<LogCode>>
+        requires { self.now.lines < 2 ^ 32 - 1 }
+        ensures { JudgedItem result (body_told self.now.procs self.now.variables (self.now.lines + 1) self.now.events line.now) }
+    {
+        if is_batch(line) {
+            return Ok(Item::BatchEnd);
+        }
+        if is_end(line) {
+            return Ok(Item::End);
+        }
+        let draft = refused(read_event(alloc, line), LogCode::BadLine)?;
+        let event = event_named(
+            alloc,
+            self.procs.as_slice(),
+            self.variables.as_slice(),
+            self.lines + 1,
+            self.events,
+            draft,
+        )?;
+        Ok(Item::Event(event))
+    }
+
+    // One line more, which gave this item.
+    fn pass(&mut self, item: &Item)
+        requires { self.old.lines < 2 ^ 32 - 1 }
+        ensures { Passes self.old self.new item.now }
+    {
+        self.lines += 1;
+        match item {
+            Item::Event(_) => {
+                self.events += 1;
+                self.stage = Stage::Body;
+            }
+            Item::Header(_) | Item::BatchEnd => self.stage = Stage::Body,
+            Item::End => self.stage = Stage::Ended,
+        }
+    }
+
+    // The processes and their variables, once all are known.
+    fn header(&self, alloc: Global) -> Result<Header, NoMemory>
+        ensures { IfOk result (λ h. h ≡ record { procs = self.now.procs; vars = filled self.now.variables (length self.now.procs) }) }
+    {
+        let procs = copy_of(alloc, self.procs.as_slice())?;
+        let variables = copy_of(alloc, self.variables.as_slice())?;
+        let vars = filled(alloc, variables, procs.len())?;
+        Ok(Header { procs, vars })
+    }
+
+    // A line behind the header, which has been read without a fault where it gave an item.
+    fn take_body(&mut self, alloc: Global, line: &[u8]) -> Result<Option<Item>, Refused<LogCode>>
+        requires { self.old.lines < 2 ^ 32 - 1 }
+        ensures told { JudgedAs result (body_told self.old.procs self.old.variables (self.old.lines + 1) self.old.events line.now) }
+        ensures next { IfOk result (λ i. IsSomeAnd i (Passes self.old self.new)) }
+        ensures counts { self.new.lines ≤ self.old.lines + 1 }
+    {
+        let item = self.item_of(alloc, line)?;
+        self.pass(&item);
+        Ok(Some(item))
+    }
+
+    // A line before the first one behind the header, or that one.
+    fn take_header(&mut self, alloc: Global, line: &[u8]) -> Result<LineTold, NoMemory>
+        requires room { self.old.lines < 2 ^ 32 - 1 }
+        requires stage { self.old.stage ≡ InHeader }
+        ensures takes { IfOk result (λ t. TakesLine self.old line.now t self.new) }
+        ensures counts { self.new.lines ≤ self.old.lines + 1 }
+    {
+        if self.lines == 0 {
+            return LineTold::of(None, self.take_heading(line));
+        }
+        if self.lines == 1 {
+            return LineTold::of(None, self.take_procs(alloc, line));
+        }
+        if begins_vars(line) {
+            return LineTold::of(None, self.take_vars(alloc, line));
+        }
+        let header = self.header(alloc)?;
+        LineTold::of(Some(header), self.take_body(alloc, line))
+    }
+
+    /// Reads one line more. After a fault, and without memory, the reader is of no further use.
+    pub fn take(&mut self, alloc: Global, line: &[u8]) -> Result<LineTold, NoMemory>
+        requires { self.old.lines < 2 ^ 32 - 1 }
+        ensures takes { IfOk result (λ t. TakesLine self.old line.now t self.new) }
+        ensures counts { self.new.lines ≤ self.old.lines + 1 }
+    {
+        match self.stage {
+            Stage::Header => self.take_header(alloc, line),
+            Stage::Body => LineTold::of(None, self.take_body(alloc, line)),
+            Stage::Ended => Ok(LineTold::fault(LogCode::Trailing)),
+        }
+    }
+}

@@ -1,0 +1,65 @@
+//! A log as values: names of processes and variables are numbers, from 0 in the order of the header.
+
+use log_lines::Named;
+use pota_base::List;
+use pota_names::Name;
+
+/// A variable of a process, with the value that it has in the initial state.
+#[derive(Debug, Drop)]
+pub struct Binding {
+    pub name: Name,
+    pub value: i64,
+}
+
+impl Named for Binding {
+    ghost name = { λ b. b.name };
+
+    fn name(&self) -> &[u8] {
+        self.name.as_bytes()
+    }
+}
+
+/// The processes of a run in their order, and the variables of each one.
+#[derive(Debug, Drop)]
+pub struct Header {
+    pub procs: List<Name>,
+    /// One list for each process.
+    pub vars: List<List<Binding>>,
+}
+
+/// What an event does beside its assignments.
+#[derive(Clone, Copy, Debug, PartialEq, Eq)]
+pub enum Kind {
+    Internal,
+    /// It sends message `id` to process `to`.
+    Send { to: u32, id: u64 },
+    /// It receives message `id` of process `sender`.
+    Receive { sender: u32, id: u64 },
+}
+
+/// The variable has this value from the event on.
+#[derive(Clone, Copy, Debug, PartialEq, Eq)]
+pub struct Assign {
+    /// The number of the variable among those of the event's process.
+    pub variable: u32,
+    pub value: i64,
+}
+
+#[derive(Debug, Drop)]
+pub struct Event {
+    pub process: u32,
+    /// The line of the log that spells it, counted from 1.
+    pub line: u32,
+    /// The vector clock: how many events of each process are this event or before it.
+    pub clock: List<u32>,
+    pub kind: Kind,
+    /// In the order of the log's text.
+    pub assigns: List<Assign>,
+}
+
+/// A whole log. A log that was read has at least one batch; the last one was closed by the `end` line.
+#[derive(Debug, Drop)]
+pub struct Log {
+    pub header: Header,
+    pub batches: List<List<Event>>,
+}

@@ -1,0 +1,129 @@
+//! The names of an event line as numbers.
+
+ghost use Rattle.std.specs.Prelude.{◌≡◌, ◌<◌, ◌^◌, [], length, All};
+ghost use Rattle.log_lines.specs.Names.{place_of};
+ghost use Rattle.log_lines.specs.Drafts.{action_of, event_of, value_of, values_of};
+ghost use Rattle.event_log.specs.Numbers.{Agrees, known, binding_names, variables_at, kind_in, is_to_itself, assign_in, assigns_in, event_named};
+ghost use Rattle.event_log.specs.declared.item.LogCode.TheVariants.{UnknownProcess as UnknownProcessFault};
+
+use crate::item::LogCode;
+use crate::log::{Assign, Binding, Event, Kind};
+use log_lines::{ActionDraft, EventDraft, Setting, place_of};
+use pota_base::{List, Refused};
+use pota_names::Name;
+use std::alloc::Global;
+
+/// The most events that a log may have.
+const MOST_EVENTS: u32 = 50_000;
+
+/// The number of the process of this name.
+pub fn process_of(procs: &[Name], name: &[u8]) -> Result<u32, Refused<LogCode>>
+    requires { length procs.now < 2 ^ 32 }
+    ensures { Agrees result (known UnknownProcessFault (place_of procs.now name.now)) }
+{
+    match place_of(procs, name) {
+        Some(place) => Ok(place as u32),
+        None => Err(Refused::Fault(LogCode::UnknownProcess)),
+    }
+}
+
+fn kind_in(procs: &[Name], action: ActionDraft<'_>) -> Result<Kind, Refused<LogCode>>
+    requires { length procs.now < 2 ^ 32 }
+    ensures { Agrees result (kind_in procs.now (action_of action.entry)) }
+{
+    match action {
+        ActionDraft::Internal => Ok(Kind::Internal),
+        ActionDraft::Send { to, id } => {
+            let to = process_of(procs, to)?;
+            Ok(Kind::Send { to, id })
+        }
+        ActionDraft::Receive { sender, id } => {
+            let sender = process_of(procs, sender)?;
+            Ok(Kind::Receive { sender, id })
+        }
+    }
+}
+
+fn is_to_itself(process: u32, kind: Kind) -> bool
+    ensures { result ≡ is_to_itself process kind }
+{
+    match kind {
+        Kind::Internal => false,
+        Kind::Send { to, .. } => to == process,
+        Kind::Receive { sender, .. } => sender == process,
+    }
+}
+
+/// The variables of a process.
+pub fn variables_at(variables: &[List<Binding>], process: u32) -> &[Binding]
+    ensures list { result.now ≡ variables_at variables.now process }
+{
+    match variables.get(process as usize) {
+        Some(bindings) => bindings.as_slice(),
+        None => &[],
+    }
+}
+
+fn assign_in(variables: &[Binding], setting: Setting<'_>) -> Result<Assign, Refused<LogCode>>
+    requires { length variables.now < 2 ^ 32 }
+    ensures { Agrees result (assign_in (binding_names variables.now) (value_of setting.entry)) }
+{
+    match place_of(variables, setting.name) {
+        Some(place) => Ok(Assign {
+            variable: place as u32,
+            value: setting.value,
+        }),
+        None => Err(Refused::Fault(LogCode::UnknownVariable)),
+    }
+}
+
+fn assigns_in(
+    alloc: Global,
+    variables: &[Binding],
+    settings: &[Setting<'_>],
+) -> Result<List<Assign>, Refused<LogCode>>
+    requires { length variables.now < 2 ^ 32 }
+    ensures { Agrees result (assigns_in (binding_names variables.now) [] (values_of settings.now)) }
+{
+    let mut assigns = List::new(alloc);
+    for setting in settings {
+        let assign = assign_in(variables, *setting)?;
+        assigns.push(assign)?;
+    }
+    Ok(assigns)
+}
+
+/// The event of a line, after `events` events of the log. The acting process is looked up first, then the peer.
+#[tactic(auto, unfolding(crate::specs::Numbers::event_named))]
+pub fn event_named(
+    alloc: Global,
+    procs: &[Name],
+    variables: &[List<Binding>],
+    line: u32,
+    events: u32,
+    draft: EventDraft<'_>,
+) -> Result<Event, Refused<LogCode>>
+    requires few { length procs.now < 2 ^ 32 }
+    requires narrow { All (λ bindings. length bindings < 2 ^ 32) variables.now }
+    ensures { Agrees result (event_named procs.now variables.now line events (event_of draft.entry)) }
+{
+    let process = process_of(procs, draft.actor)?;
+    let kind = kind_in(procs, draft.action)?;
+    if draft.clock.len() != procs.len() {
+        return Err(Refused::Fault(LogCode::ClockWidth));
+    }
+    if is_to_itself(process, kind) {
+        return Err(Refused::Fault(LogCode::SelfMessage));
+    }
+    let assigns = assigns_in(alloc, variables_at(variables, process), &draft.settings)?;
+    if events >= MOST_EVENTS {
+        return Err(Refused::Fault(LogCode::TooManyEvents));
+    }
+    Ok(Event {
+        process,
+        line,
+        clock: List::from_vec(draft.clock),
+        kind,
+        assigns,
+    })
+}

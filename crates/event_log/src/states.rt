@@ -1,0 +1,174 @@
+//! The data of a growing trace.
+ghost use Rattle.std.specs.Prelude.{◌≡◌, ℕ, ◌-◌, pos, ◌+◌, ◌<◌, ◌≤◌, [], List, length, map, get_or, replicate, slice_index_or, sum, IfOk, OnOk, OnErr};
+ghost use Rattle.std.specs.List.{AllByRecursion};
+ghost use Rattle.run_model.specs.Run.{state_after, process_at};
+ghost use Rattle.pota_base.specs.Shape.{HasEvent};
+ghost use Rattle.event_log.specs.declared.log.Event.{Event};
+ghost use Rattle.event_log.specs.LogText.{LogFits};
+ghost use Rattle.event_log.specs.States.{HistoryView, StatesView, IsHeader, IsKnown, MayFollow, openings_of, histories_of, with_batch, trace_of, states_of, events_in, nothing, Grown, HasRoom, Added};
+
+use crate::history::History;
+use crate::log::{Event, Header, Log};
+use pota_base::{EventId, List, NoMemory, Shape};
+use std::alloc::Global;
+use std::marker::Model;
+
+/// The data of a trace: a header, and the events of each process in their order. It keeps the values
+/// of all variables after each event.
+#[derive(Debug, Drop)]
+pub struct States {
+    header: Header,
+    shape: Shape,
+    histories: Vec<History>,
+    alloc: Global,
+}
+
+impl Model for States {
+    ghost use Rattle.std.specs.Prelude.{map};
+    ghost use Rattle.event_log.specs.States.{HistoryView, StatesView, AreStates};
+
+    ghost Value = { StatesView };
+
+    ghost view = { λ s. record { header = s.header; events = map (λ (h : HistoryView). h.events) s.histories.items } };
+
+    ghost invariant = { λ s. AreStates s.header s.shape s.histories.items };
+}
+
+// How many events each process has.
+fn lens_of(alloc: Global, histories: &[History]) -> Result<Vec<u32>, NoMemory>
+    requires { sum (map (λ (h : HistoryView). length h.events) histories.now) ≤ 50000 }
+    ensures { IfOk result (λ lens. lens.items ≡ map (λ (h : HistoryView). length h.events) histories.now) }
+{
+    let mut lens = Vec::new(alloc);
+    for history in histories {
+        lens.push(history.len() as u32)?;
+    }
+    Ok(lens)
+}
+
+// Keeps the first events of each process, as many as the shape has.
+fn cut_back(histories: &mut Vec<History>, shape: &Shape)
+    requires count { length shape.now ≡ length histories.old.items }
+    requires fits { (p : ℕ) → get_or shape.now p 0 ≤ length (get_or histories.old.items p nothing).events }
+    // Histories that have grown since they had this shape are again what they were.
+    ensures { (before : List HistoryView) → Grown before histories.old.items → shape.now ≡ map (λ (h : HistoryView). length h.events) before → histories.new.items ≡ before }
+{
+    for process in 0..shape.procs() {
+        let len = shape.len_of(process);
+        histories[process as usize].truncate(len as usize);
+    }
+}
+
+// Puts each event of the batch behind those of its process. Without memory some may be there.
+fn add_all(histories: &mut Vec<History>, batch: Vec<Event>) -> Result<(), NoMemory>
+    requires { AllByRecursion (HasRoom histories.old.items) batch.items }
+    ensures ok { OnOk result (Added histories.old.items batch.items histories.new.items) }
+    ensures grown { Grown histories.old.items histories.new.items }
+{
+    let mut events = batch.into_iter();
+    while let Some(event) = events.next() {
+        let process = event.process as usize;
+        histories[process].push(event)?;
+    }
+    Ok(())
+}
+
+impl States {
+    /// The states of processes that have no events yet.
+    pub fn new(alloc: Global, header: Header) -> Result<States, NoMemory>
+        requires { IsHeader header }
+        ensures { IfOk result (λ s. s ≡ record { header = header; events = replicate (length header.procs) [] }) }
+    {
+        let mut histories = Vec::new(alloc);
+        for variables in header.vars.as_slice() {
+            histories.push(History::new(alloc, variables.as_slice())?)?;
+        }
+        let lens = lens_of(alloc, &histories)?;
+        let shape = Shape::new(alloc, &lens)?;
+        Ok(States {
+            header,
+            shape,
+            histories,
+            alloc,
+        })
+    }
+
+    /// The names of the processes, and their variables.
+    pub fn header(&self) -> &Header
+        ensures header { result.now ≡ self.now.header }
+    {
+        &self.header
+    }
+
+    /// How many events each process has.
+    pub fn shape(&self) -> &Shape
+        ensures { result.now ≡ map length self.now.events }
+    {
+        &self.shape
+    }
+
+    /// The value of a variable of a process after so many of its events.
+    pub fn value(&self, process: u32, position: u32, variable: u32) -> i64
+        requires process { process < length self.now.events }
+        requires state { position ≤ length (get_or self.now.events process []) }
+        requires variable { variable < length (get_or self.now.header.vars process []) }
+        ensures { result ≡ get_or (state_after (process_at (trace_of self.now) process) position) variable (pos 0) }
+    {
+        self.histories[process as usize].value(position as usize, variable as usize)
+    }
+
+    /// The event at a position of a process.
+    pub fn event(&self, event: EventId) -> &Event
+        requires { HasEvent (map length self.now.events) event }
+        ensures { result.now ≡ slice_index_or (get_or self.now.events event.process []) (event.position - 1) result.now }
+    {
+        self.histories[event.process as usize].event(event.position as usize)
+    }
+
+    /// Puts the events of a batch behind those that are there. Without memory it is as before.
+    pub fn extend(&mut self, batch: List<Event>) -> Result<(), NoMemory>
+        requires { MayFollow self.old.header self.old.events batch }
+        ensures ok { OnOk result (self.new ≡ record self.old { events = with_batch self.old.events batch }) }
+        ensures err { OnErr result (self.new ≡ self.old) }
+    {
+        match grow(self.alloc, &mut self.histories, batch.into_vec()) {
+            Ok(shape) => {
+                self.shape = shape;
+                Ok(())
+            }
+            Err(no_memory) => {
+                cut_back(&mut self.histories, &self.shape);
+                Err(no_memory)
+            }
+        }
+    }
+}
+
+// Puts the events of a batch behind those that are there, and gives the new shape. Without memory
+// some may be there.
+fn grow(alloc: Global, histories: &mut Vec<History>, batch: Vec<Event>) -> Result<Shape, NoMemory>
+    requires room { AllByRecursion (HasRoom histories.old.items) batch.items }
+    requires some { 1 ≤ length histories.old.items }
+    requires few { length histories.old.items ≤ 32 }
+    requires events { sum (map length (events_in histories.old.items)) + length batch.items ≤ 50000 }
+    ensures ok { IfOk result (λ shape. Added histories.old.items batch.items histories.new.items × (shape ≡ map (λ (h : HistoryView). length h.events) histories.new.items)) }
+    ensures grown { Grown histories.old.items histories.new.items }
+{
+    add_all(histories, batch)?;
+    let lens = lens_of(alloc, histories)?;
+    Shape::new(alloc, &lens)
+}
+
+/// The states of a log after all of its batches.
+pub fn states_of(alloc: Global, log: Log) -> Result<States, NoMemory>
+    requires { LogFits log }
+    ensures { IfOk result (λ s. s ≡ states_of log) }
+{
+    let Log { header, batches } = log;
+    let mut states = States::new(alloc, header)?;
+    let mut rest = batches.into_vec().into_iter();
+    while let Some(batch) = rest.next() {
+        states.extend(batch)?;
+    }
+    Ok(states)
+}
