@@ -1,0 +1,11 @@
+pub mod RequestLaws
+pub mod Words
+pub mod Spelled
+pub mod Telling
+pub mod Reaching
+pub mod Apart
+pub mod Named
+pub mod Reading
+pub mod Judged
+pub mod OneLog
+pub mod Running

@@ -1,0 +1,8 @@
+use Rattle.pota_top.proofs.Running.{decided, left_open}
+use Rattle.pota_top.proofs.top.pota.Goals as goal
+
+pub returns-clause-decided : goal.returns-clause-decided
+returns-clause-decided g c calm bytes cs log told asks logged = decided _ _ _ _ _ _ _ _ _ _ c.answer_words-outcome.ensures calm bytes told cs log asks logged
+
+pub returns-clause-left_open : goal.returns-clause-left_open
+returns-clause-left_open g c calm bytes told other = left_open _ _ _ _ _ _ _ _ _ _ c.answer_words-outcome.ensures calm bytes told other

@@ -1,0 +1,9 @@
+pub mod Input
+pub mod Judging
+pub mod Outcome
+pub mod Passing
+pub mod Reaching
+pub mod Report
+pub mod Request
+pub mod RequestReading
+pub mod Run

@@ -1,0 +1,54 @@
+-- What the words ask for: `check` and a formula `EF (NAME.NAME = INT & ..)` with 2 to 62 comparisons.
+use Rattle.std.specs.Prelude.{◌≡◌, ℕ, ℤ, ◌≤◌, true, List, [], ◌∷◌, ◌++◌, length, FitsSigned, codes}
+use Rattle.std.specs.Int.{w64}
+use Rattle.std.specs.List.{AllByRecursion}
+use Rattle.std.specs.Fmt.{signed_decimal}
+use Rattle.log_lines.specs.Names.{Name, is_name}
+use Rattle.run_model.specs.Formula.{Formula, Formulas, Comparison, Temporal, And, Nil, Cons, Equal, Number, Ef}
+
+-- `NAME.NAME = INT`: the variable of the process has the value
+pub record Condition : Type 0 where
+  pub process : Name
+  pub variable : Name
+  pub value : ℤ
+
+-- the condition's text, and what follows it
+abbrev pub condition_text : Condition → List ℕ → List ℕ
+condition_text c rest = c.process ++ 46 ∷ (c.variable ++ 32 ∷ 61 ∷ 32 ∷ (signed_decimal c.value ++ rest))
+
+-- ` & ` before each further condition
+abbrev pub further_text : List Condition → List ℕ
+further_text [] = []
+further_text (c ∷ cs) = 32 ∷ 38 ∷ 32 ∷ condition_text c (further_text cs)
+
+-- `EF (`, the conditions joined by ` & `, and `)`
+abbrev pub formula_text : List Condition → List ℕ
+formula_text [] = codes "EF ()"
+formula_text (c ∷ cs) = codes "EF (" ++ condition_text c (further_text cs) ++ codes ")"
+
+abbrev pub conjuncts : List Condition → Formulas
+conjuncts [] = Nil
+conjuncts (c ∷ cs) = Cons (Comparison c.process c.variable Equal (Number c.value)) (conjuncts cs)
+
+-- the formula that the conditions spell: some path reaches a cut where all of them hold
+abbrev pub formula_of : List Condition → Formula
+formula_of cs = Temporal Ef (And (conjuncts cs))
+
+pub record ConditionFits (c : Condition) : Type 0 where
+  pub process : is_name c.process ≡ true
+  pub variable : is_name c.variable ≡ true
+  pub value : FitsSigned w64 c.value
+
+-- the text is that of these conditions
+pub record IsFormula (text : List ℕ) (cs : List Condition) : Type 0 where
+  pub spelled : text ≡ formula_text cs
+  pub some : 2 ≤ length cs
+  pub few : length cs ≤ 62
+  pub fits : AllByRecursion ConditionFits cs
+  pub short : length text ≤ 4096
+
+-- the words are `check` and that text
+pub record Asks (words : List (List ℕ)) (cs : List Condition) : Type 0 where
+  pub text : List ℕ
+  pub two : words ≡ codes "check" ∷ text ∷ []
+  pub formula : IsFormula text cs
