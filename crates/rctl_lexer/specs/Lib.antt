@@ -1,0 +1,5 @@
+pub mod Runs
+pub mod Words
+pub mod Front
+pub mod Lexing
+pub mod Worked
