@@ -1,0 +1,16 @@
+pub mod Settled
+pub mod Reading
+pub mod Within
+pub mod Texts
+pub mod Keeps
+pub mod Begins
+pub mod Stands
+pub mod Leads
+pub mod Scan
+pub mod Precedes
+pub mod Levels
+pub mod Numbers
+pub mod First
+pub mod Fits
+pub mod Free
+pub mod WorkedRows
