@@ -1,0 +1,4 @@
+pub mod Rules
+pub mod MemberBrackets
+pub mod Printing
+mod WorkedTexts
