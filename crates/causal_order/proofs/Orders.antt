@@ -1,0 +1,176 @@
+-- Consistent cuts by the clocks of the last events that they have.
+use Rattle.std.proofs.Common.{◌≡◌, ℕ, ◌+◌, ◌<◌, ◌≤◌, true, false, List, [], length, sum, map, replicate, zero, suc, refl, sym, ap, ◌∙◌, subst, arith, inl, inr}
+use Rattle.std.specs.Prelude.{◌↔◌}
+use Rattle.std.proofs.lemmas.Bool.{cases_eq, cases_lt}
+use Rattle.std.proofs.lemmas.List.{ext_get_or, length-replicate}
+use Rattle.std.proofs.lemmas.List.Sums.{sum_by-cons}
+use Rattle.pota_base.specs.Shape.{IsShape, HasEvent}
+use Rattle.pota_base.specs.declared.shape.EventId.{EventId}
+use Rattle.run_model.specs.Cut.{Cut, Clocks, count, IsWithin, lengths, with_next}
+use Rattle.run_model.specs.Consistent.{IsEvent, IsOrder, IsConsistent, HappenedBefore, clock}
+use Rattle.run_model.specs.Sublattice.{IsLeast, Having}
+use Rattle.run_model.proofs.Counts.{count_past, with_next_same, with_next_other, with_next_above, within_trans, length-with_next}
+use Rattle.run_model.proofs.Orders.{past_least}
+use Rattle.cut_lattice.proofs.Steps.{DoneBelow}
+use Rattle.event_log.specs.declared.log.Event.{Event}
+use Rattle.causal_order.specs.Blocks.{AreOrdered}
+use Rattle.causal_order.specs.Growth.{with_clocks}
+use Rattle.causal_order.proofs.Growing.{length-lengths, length-with_clocks, sum_grown}
+
+pub holds : {P : Type 0} → P → (true ≡ true) ↔ P
+holds p = (λ _. p, λ _. refl)
+
+pub fails : {P : Type 0} → (P → ⊥) → (false ≡ true) ↔ P
+fails f = (λ h. absurd (no h), λ p. absurd (f p))
+  where
+    no : false ≡ true → ⊥
+    no h = cc
+
+pub event_there : (o : Clocks) (e : EventId) → HasEvent (lengths o) e → IsEvent (lengths o) e.process e.position
+event_there o e h = (h.first, h.last)
+
+-- ---- the past
+
+pub all_done : (c d e : Cut) (i : ℕ) → DoneBelow (λ (x y : ℕ). x) c d e i → length d ≡ length c → length c ≤ i → e ≡ c
+all_done c d e i h same all = ext_get_or 0 e c (omega (arith, h.len)) (λ k lt. h.below k (omega (arith, h.len)))
+
+pub past_of : (o : Clocks) (e : EventId) (c : Cut) → IsOrder o → HasEvent (lengths o) e → c ≡ clock o e.process e.position
+    → IsLeast (Having (IsConsistent o) e.process e.position) c
+past_of o e c order there is = subst (IsLeast (Having (IsConsistent o) e.process e.position)) (sym is) (past_least o order e.process e.position (event_there o e there))
+
+-- ---- happened before
+
+pub is_before : (o : Clocks) (i a j b : ℕ) → 0 < a → a ≤ count (clock o j b) i → ((i ≡ j) × (a ≡ b) → ⊥) → HappenedBefore o i a j b
+is_before o i a j b some within differs = record { in_past = (some, within); differs = differs }
+
+-- ---- consistent cuts
+
+-- the cut has only events of the process that are there, and the past of its last one
+pub record HasLast (o : Clocks) (c : Cut) (k : ℕ) : Type 0 where
+  pub there : count c k ≤ count (lengths o) k
+  pub past : 0 < count c k → IsWithin (clock o k (count c k)) c
+
+pub has_none : (o : Clocks) (c : Cut) (k : ℕ) → count c k ≡ 0 → HasLast o c k
+has_none o c k none = record { there = omega arith; past = λ pos. absurd (omega arith) }
+
+-- the count of the event's own process is the cut's
+pub has_last : (o : Clocks) (c : Cut) (k : ℕ) → IsOrder o → 0 < count c k → count c k ≤ count (lengths o) k
+    → ((j : ℕ) → (j ≡ k → ⊥) → count (clock o k (count c k)) j ≤ count c j) → HasLast o c k
+has_last o c k order some there others = record {
+  there = there;
+  past = λ pos j. elim (cases_eq j k) [
+    | inl e ↦ subst (λ (x : ℕ). count (clock o k (count c k)) x ≤ count c x) (sym e) (omega (arith, order.own k (count c k) (pos, there)))
+    | inr ne ↦ others j ne
+  ];
+}
+
+pub all_last : (o : Clocks) (c : Cut) (i : ℕ) → length c ≡ length o → ((k : ℕ) → k < i → HasLast o c k) → length o ≤ i → IsConsistent o c
+all_last o c i width h all = record {
+  shaped = width;
+  within = λ k. (each k).there;
+  pasts = λ k. (each k).past;
+}
+  where
+    each : (k : ℕ) → HasLast o c k
+    each k = elim (cases_lt k i) [
+      | inl lt ↦ h k lt
+      | inr ge ↦ has_none o c k (count_past c k (omega arith))
+    ]
+
+pub too_many : (o : Clocks) (c : Cut) (k : ℕ) → count (lengths o) k < count c k → IsConsistent o c → ⊥
+too_many o c k more h = omega (arith, h.within k)
+
+pub others_of_last : (o : Clocks) (c : Cut) (k : ℕ) → 0 < count c k → IsConsistent o c → (j : ℕ) → (j ≡ k → ⊥) → count (clock o k (count c k)) j ≤ count c j
+others_of_last o c k some h j ne = h.pasts k some j
+
+-- ---- the next event of a process
+
+pub next_consistent : (o : Clocks) (c : Cut) (p : ℕ) → IsOrder o → p < length o → IsConsistent o c → count c p < count (lengths o) p
+    → ((j : ℕ) → (j ≡ p → ⊥) → count (clock o p (count c p + 1)) j ≤ count c j) → IsConsistent o (with_next c p)
+next_consistent o c p order there h more others =
+    let lt : p < length c = omega (arith, h.shaped) in
+    let next = with_next_same c p lt in
+    record {
+      shaped = length-with_next c p ∙ h.shaped;
+      within = λ i. elim (cases_eq i p) [
+        | inl e ↦ subst (λ (x : ℕ). count (with_next c p) x ≤ count (lengths o) x) (sym e) (omega (arith, next))
+        | inr ne ↦ omega (arith, with_next_other c p i ne, h.within i)
+      ];
+      pasts = λ i pos. elim (cases_eq i p) [
+        | inl e ↦ subst (λ (x : ℕ). IsWithin (clock o x (count (with_next c p) x)) (with_next c p)) (sym e) (last lt)
+        | inr ne ↦ subst (λ (n : ℕ). IsWithin (clock o i n) (with_next c p)) (sym (with_next_other c p i ne))
+            (within_trans (clock o i (count c i)) c (with_next c p) (h.pasts i (omega (arith, with_next_other c p i ne))) (with_next_above c p lt))
+      ];
+    }
+  where
+    last : p < length c → IsWithin (clock o p (count (with_next c p) p)) (with_next c p)
+    last lt j = subst (λ (n : ℕ). count (clock o p n) j ≤ count (with_next c p) j) (sym (with_next_same c p lt)) (elim (cases_eq j p) [
+      | inl e ↦ subst (λ (x : ℕ). count (clock o p (count c p + 1)) x ≤ count (with_next c p) x) (sym e)
+          (omega (arith, order.own p (count c p + 1) (omega arith, omega arith), with_next_same c p lt))
+      | inr ne ↦ omega (arith, others j ne, with_next_other c p j ne)
+    ])
+
+pub next_others : (o : Clocks) (c : Cut) (p : ℕ) → p < length c → IsConsistent o (with_next c p) → (j : ℕ) → (j ≡ p → ⊥) → count (clock o p (count c p + 1)) j ≤ count c j
+next_others o c p lt h j ne =
+    let some : 0 < count (with_next c p) p = omega (arith, with_next_same c p lt) in
+    let past : count (clock o p (count (with_next c p) p)) j ≤ count (with_next c p) j = h.pasts p some j in
+    let same : count (clock o p (count c p + 1)) j ≤ count (with_next c p) j = subst (λ (n : ℕ). count (clock o p n) j ≤ count (with_next c p) j) (with_next_same c p lt) past in
+    omega (arith, with_next_other c p j ne)
+
+-- ---- no events
+
+abbrev pub without_events : ℕ → Clocks
+without_events n = replicate n []
+
+none_of : (n p : ℕ) → count (lengths (without_events n)) p ≡ 0
+unfolding lengths
+none_of zero p = refl
+none_of (suc n) zero = refl
+none_of (suc n) (suc p) = none_of n p
+
+none_in_all : (n : ℕ) → sum (lengths (without_events n)) ≡ 0
+unfolding lengths
+none_in_all zero = refl
+none_in_all (suc n) = sum_by-cons (λ k. k) 0 (map length (without_events n)) ∙ omega (arith, none_in_all n)
+
+no_event : (n i a : ℕ) → IsEvent (lengths (without_events n)) i a → ⊥
+no_event n i a ev = omega (arith, ev.0, ev.1, none_of n i)
+
+pub no_events_order : (n : ℕ) → IsOrder (without_events n)
+no_events_order n = record {
+  shaped = λ i a ev. absurd (no_event n i a ev);
+  own = λ i a ev. absurd (no_event n i a ev);
+  named = λ i a ev. absurd (no_event n i a ev);
+  transitive = λ i a j b ev _. absurd (no_event n i a ev);
+  loopless = λ i a j b ev _ _. absurd (no_event n i a ev);
+}
+
+pub no_events_few : (n : ℕ) (o : Clocks) → o ≡ without_events n → sum (lengths o) ≤ 50000
+no_events_few n o is = omega (arith, ap (λ (x : Clocks). sum (lengths x)) is, none_in_all n)
+
+pub no_events_shape : (n : ℕ) (o : Clocks) (lens : List ℕ) → o ≡ without_events n → lens ≡ lengths o → 1 ≤ n → n ≤ 32 → IsShape lens
+no_events_shape n o lens is at some few =
+    let count : length lens ≡ n = ap length at ∙ length-lengths o ∙ ap length is ∙ length-replicate n [] in
+    record { some = omega arith; few = omega arith; events = omega (arith, ap sum at, no_events_few n o is) }
+
+pub no_events_ordered : (n : ℕ) (o : Clocks) (shape lens : List ℕ) → o ≡ without_events n → lens ≡ lengths o → shape ≡ lens → 1 ≤ n → n ≤ 32 → AreOrdered shape o
+no_events_ordered n o shape lens is at same some few = record {
+  fits = no_events_shape n o shape is (same ∙ at) some few;
+  lens = same ∙ at;
+  order = subst IsOrder (sym is) (no_events_order n);
+}
+
+-- ---- more events
+
+pub grown_shape : (o : Clocks) (events : List Event) (now : Clocks) (lens : List ℕ) → now ≡ with_clocks o events → lens ≡ lengths now → 1 ≤ length o → length o ≤ 32
+    → sum (lengths o) + length events ≤ 50000 → IsShape lens
+grown_shape o events now lens is at some few sum_few =
+    let count : length lens ≡ length o = ap length at ∙ length-lengths now ∙ ap length is ∙ length-with_clocks o events in
+    record {
+      some = omega arith;
+      few = omega arith;
+      events = omega (arith, ap sum at, ap (λ (x : Clocks). sum (lengths x)) is, sum_grown o events);
+    }
+
+pub grown_few : (o : Clocks) (events : List Event) (now : Clocks) → now ≡ with_clocks o events → sum (lengths o) + length events ≤ 50000 → sum (lengths now) ≤ 50000
+grown_few o events now is few = omega (arith, ap (λ (x : Clocks). sum (lengths x)) is, sum_grown o events)
