@@ -1,0 +1,12 @@
+pub mod Below
+pub mod Joining
+pub mod SoundOrders
+pub mod NewNames
+pub mod Growth
+pub mod Faultless
+pub mod BatchLaws
+pub mod FirstPlaces
+pub mod MessageLaws
+pub mod Counting
+pub mod Judged
+pub mod Admitting

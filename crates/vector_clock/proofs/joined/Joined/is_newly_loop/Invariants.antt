@@ -1,0 +1,10 @@
+use Rattle.std.proofs.Common.{◌≡◌, ℕ, false, ◌&&◌}
+use Rattle.std.specs.Prelude.{nat_le}
+use Rattle.run_model.specs.Cut.{count}
+use Rattle.vector_clock.specs.Events.{some_below}
+use Rattle.vector_clock.specs.Faults.{named_clock}
+use Rattle.vector_clock.specs.Sound.{newly_names}
+use Rattle.vector_clock.proofs.joined.Joined.is_newly_loop.Given as goal
+
+abbrev pub invariant-loop-other : goal.invariant-loop-other
+invariant-loop-other l = some_below l.other (λ (k : ℕ). newly_names l.self l.place l.event k && nat_le l.place (count (named_clock l.self l.event k) l.event.process)) ≡ false

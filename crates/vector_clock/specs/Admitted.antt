@@ -1,0 +1,57 @@
+-- What is known of the clocks of a log whose events were checked so far.
+use Rattle.std.specs.Prelude.{◌≡◌, ℕ, Bool, false, ◌==◌, List, ◌∷◌, ◌++◌, Option, None, Some, Result, Ok, Err}
+use Rattle.pota_base.specs.declared.fault.Refused.{Refused}
+use Rattle.pota_base.specs.declared.fault.Refused.TheVariants.{Fault, NoMemory}
+use Rattle.std.specs.Ordering.{nat_cmp, ordering_then}
+use Rattle.std.specs.declared.cmp.Ordering.{Ordering}
+use Rattle.std.specs.BTreeMap.{get}
+use Rattle.event_log.specs.declared.log.Event.{Event}
+use Rattle.vector_clock.specs.declared.message.Message.{Message}
+use Rattle.vector_clock.specs.declared.places.Places.{Places}
+use Rattle.vector_clock.specs.declared.messages.Messages.{Messages}
+use Rattle.vector_clock.specs.declared.clocks.Clocks.{Clocks}
+use Rattle.vector_clock.specs.Events.{Events, own_events, clocks_of, place}
+use Rattle.vector_clock.specs.Messages.{first_send, first_receipt}
+
+-- messages by sender, then receiver, then number
+abbrev pub message_cmp : Message → Message → Ordering
+message_cmp m n = ordering_then (nat_cmp m.sender n.sender) (ordering_then (nat_cmp m.receiver n.receiver) (nat_cmp m.id n.id))
+
+-- the place that is kept for each message is the function's
+abbrev pub ArePlaces : Places → (Message → Option ℕ) → Type 0
+ArePlaces p f = (m : Message) → get message_cmp p.first m ≡ f m
+
+-- this is the place
+abbrev pub is_place : ℕ → Option ℕ → Bool
+is_place place None = false
+is_place place (Some a) = a == place
+
+-- the first events that send and receive messages are kept for these events
+pub record HasMessages (messages : Messages) (events : Events) : Type 0 where
+  pub sent : ArePlaces messages.sent (first_send events)
+  pub received : ArePlaces messages.received (first_receipt events)
+
+-- the event stands at this place among all events, behind those before it
+pub record StandsIn (before all : Events) (e : Event) (a : ℕ) : Type 0 where
+  pub place_is : a ≡ place before e
+  pub rest : List Event
+  pub split : own_events all e.process ≡ own_events before e.process ++ e ∷ rest
+
+-- the clocks are those of these events, all of which were admitted
+pub record HasAdmitted (c : Clocks) (events : Events) : Type 0 where
+  pub order : c.order ≡ clocks_of events
+  pub messages : HasMessages c.messages events
+
+-- ---- answers that are refused
+
+-- what holds of a fault
+abbrev pub IfFault : {T F : Type 0} → Result T (Refused F) → (F → Type 0) → Type 0
+IfFault (Ok x) P = Unit {0}
+IfFault (Err (Fault f)) P = P f
+IfFault (Err NoMemory) P = Unit {0}
+
+-- what holds where memory was wanted
+abbrev pub IfWantsMemory : {T F : Type 0} → Result T (Refused F) → Type 0 → Type 0
+IfWantsMemory (Ok x) P = Unit {0}
+IfWantsMemory (Err (Fault f)) P = Unit {0}
+IfWantsMemory (Err NoMemory) P = P

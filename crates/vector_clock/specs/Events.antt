@@ -1,0 +1,61 @@
+-- The events of a log by process, and their vector clocks.
+use Rattle.std.specs.Prelude.{ℕ, zero, suc, ◌+◌, ◌≤◌, Bool, false, ◌||◌, nat_lt, List, [], ◌∷◌, length, map, get_or, set, replicate}
+use Rattle.std.specs.List.{AllByRecursion}
+use Rattle.run_model.specs.Cut.{Cut, Clocks, count}
+use Rattle.event_log.specs.declared.log.Event.{Event}
+use Rattle.event_log.specs.declared.log.Log.{Log}
+use Rattle.event_log.specs.LogText.{KindWithin, event_count}
+use Rattle.causal_order.specs.Growth.{HasClock}
+
+-- the events of each process in their order
+abbrev pub Events : Type 0
+Events = List (List Event)
+
+-- so many processes without events
+abbrev pub no_events : ℕ → Events
+no_events procs = replicate procs []
+
+abbrev pub own_events : Events → ℕ → List Event
+own_events events p = get_or events p []
+
+abbrev pub clocks_of : Events → Clocks
+clocks_of events = map (map (λ (e : Event). e.clock)) events
+
+-- the place of an event behind these events of its process, counted from 1
+abbrev pub place : Events → Event → ℕ
+place before e = length (own_events before e.process) + 1
+
+-- how many events each process has after these events more
+unfoldable pub raised : List ℕ → List Event → List ℕ
+raised lens [] = lens
+raised lens (e ∷ es) = raised (set lens e.process (get_or lens e.process 0 + 1)) es
+
+-- some number below n passes the test
+unfoldable pub some_below : ℕ → (ℕ → Bool) → Bool
+some_below zero test = false
+some_below (suc n) test = some_below n test || test n
+
+-- some count of the first clock is greater than that of the second
+abbrev pub is_beyond : Cut → Cut → Bool
+is_beyond c v = some_below (length c) (λ j. nat_lt (count v j) (count c j))
+
+-- the event has its place in a log of so many processes: its process and its peer are there, and its clock has one count for each
+pub record EventFits (procs : ℕ) (e : Event) : Type 0 where
+  pub clock : HasClock procs e
+  pub peer : KindWithin procs e.kind
+
+-- the batch fits so many processes that have so many events
+pub record BatchFits (procs events : ℕ) (batch : List Event) : Type 0 where
+  pub each : AllByRecursion (EventFits procs) batch
+  pub few : events + length batch ≤ 50000
+
+-- batches of which each event has its place
+abbrev pub AllFit : ℕ → List (List Event) → Type 0
+AllFit procs batches = AllByRecursion (λ (batch : List Event). AllByRecursion (EventFits procs) batch) batches
+
+-- a log of 1 to 32 processes and at most 50,000 events, each of which has its place
+pub record CanBeChecked (log : Log) : Type 0 where
+  pub some : 1 ≤ length log.header.procs
+  pub few : length log.header.procs ≤ 32
+  pub each : AllFit (length log.header.procs) log.batches
+  pub events : event_count log.batches ≤ 50000

@@ -1,0 +1,113 @@
+//! The clocks of a log, checked batch by batch.
+ghost use Rattle.std.specs.Prelude.{◌≡◌, ℕ, ◌+◌, ◌<◌, ◌≤◌, Some, None, length, sum, IfOk, OnOk, OnErr};
+ghost use Rattle.run_model.specs.Cut.{lengths};
+ghost use Rattle.event_log.specs.States.{with_batch, with_batches};
+ghost use Rattle.vector_clock.specs.Events.{Events, BatchFits, CanBeChecked, no_events, clocks_of};
+ghost use Rattle.vector_clock.specs.Faults.{batch_fault, log_fault};
+ghost use Rattle.vector_clock.specs.Admitted.{HasAdmitted, HasMessages, IfFault};
+
+use crate::judging::first_fault;
+use crate::messages::Messages;
+use causal_order::Order;
+use event_log::{Event, Log, LogFault};
+use pota_base::{NoMemory, Refused};
+use std::alloc::Global;
+
+/// The vector clocks and the messages of a log, of which each batch was checked before it was taken.
+#[derive(Debug, Drop)]
+pub struct Clocks {
+    order: Order,
+    messages: Messages,
+    alloc: Global,
+}
+
+impl Clocks {
+    /// The clocks of 1 to 32 processes without events.
+    pub fn new(alloc: Global, procs: u32) -> Result<Clocks, NoMemory>
+        requires some { 1 ≤ procs }
+        requires few { procs ≤ 32 }
+        ensures { IfOk result (λ clocks. HasAdmitted clocks (no_events procs)) }
+    {
+        Ok(Clocks {
+            order: Order::new(alloc, procs)?,
+            messages: Messages::new(alloc),
+            alloc,
+        })
+    }
+
+    /// Checks a batch and takes it whole, or none of it. A fault is the first of its events in their order, at the line of its
+    /// event.
+    ///
+    /// It goes over each clock of the batch once, and over the clock of the last event of each process that an event newly names:
+    /// one that its clock counts and that of the event before on its process doesn't. So an event costs about one row of counts
+    /// for each event that it newly names. A message costs a look-up in an ordered map.
+    pub fn admit(&mut self, batch: &[Event]) -> Result<(), Refused<LogFault>>
+        requires { BatchFits (length self.old.order) (sum (lengths self.old.order)) batch.now }
+        ensures ok { OnOk result ((events : Events) → HasAdmitted self.old events → (batch_fault events batch.now ≡ None) × HasAdmitted self.new (with_batch events batch.now)) }
+        ensures fault { IfFault result (λ fault. (events : Events) → HasAdmitted self.old events → batch_fault events batch.now ≡ Some fault) }
+        ensures same { OnErr result ((events : Events) → HasAdmitted self.old events → HasAdmitted self.new events) }
+    {
+        if batch.is_empty() {
+            return Ok(());
+        }
+        let mut taken = Vec::from_slice(self.alloc, self.order.shape().lens())?;
+        self.messages.note_all(batch, &mut taken)?;
+        match self.judge(batch) {
+            Ok(()) => Ok(()),
+            Err(refused) => {
+                self.messages.forget_all(batch, &mut taken);
+                Err(refused)
+            }
+        }
+    }
+
+    // Takes the clocks of a batch that has no fault, where the messages are those up to the end of the batch.
+    fn judge(&mut self, batch: &[Event]) -> Result<(), Refused<LogFault>>
+        requires { BatchFits (length self.old.order) (sum (lengths self.old.order)) batch.now }
+        ensures ok { OnOk result ((events : Events) → self.old.order ≡ clocks_of events → HasMessages self.old.messages (with_batch events batch.now) → (batch_fault events batch.now ≡ None) × (self.new.order ≡ clocks_of (with_batch events batch.now))) }
+        ensures fault { IfFault result (λ fault. (events : Events) → self.old.order ≡ clocks_of events → HasMessages self.old.messages (with_batch events batch.now) → batch_fault events batch.now ≡ Some fault) }
+        ensures messages { self.new.messages ≡ self.old.messages }
+        ensures same { OnErr result (self.new.order ≡ self.old.order) }
+    {
+        if let Some(fault) = first_fault(self.alloc, &self.order, &self.messages, batch)? {
+            return Err(Refused::Fault(fault));
+        }
+        self.order.extend(batch)?;
+        Ok(())
+    }
+
+    /// The order of all events that were admitted.
+    pub fn order(&self) -> &Order
+        ensures { result.now ≡ self.now.order }
+    {
+        &self.order
+    }
+
+    /// The order of all events that were admitted.
+    pub fn into_order(self) -> Order
+        ensures { result ≡ self.order }
+    {
+        let Clocks {
+            order,
+            messages: _,
+            alloc: _,
+        } = self;
+        order
+    }
+}
+
+/// Checks the batches of a log in turn, and gives the order of its events. A fault is the first one.
+pub fn check(alloc: Global, log: &Log) -> Result<Order, Refused<LogFault>>
+    requires { CanBeChecked log.now }
+    ensures ok { IfOk result (λ order. (log_fault log.now ≡ None) × (order ≡ clocks_of (with_batches (no_events (length log.now.header.procs)) log.now.batches))) }
+    ensures fault { IfFault result (λ fault. log_fault log.now ≡ Some fault) }
+{
+    let mut clocks = Clocks::new(alloc, log.header.procs.len() as u32)?;
+    for batch in log.batches.as_slice() {
+        match clocks.admit(batch.as_slice()) {
+            Ok(()) => {}
+            Err(refused) => return Err(refused),
+        }
+    }
+    Ok(clocks.into_order())
+}

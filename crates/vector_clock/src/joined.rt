@@ -1,0 +1,188 @@
+//! The clocks of all events up to the end of a batch, and the faults of a clock among them.
+ghost use Rattle.std.specs.Prelude.{◌≡◌, ◌-◌, ◌<◌, ◌≤◌, nat_le, [], length, get_or, IfOk};
+ghost use Rattle.std.specs.List.{AllByRecursion};
+ghost use Rattle.run_model.specs.Cut.{IsWithin, lengths};
+ghost use Rattle.run_model.specs.Consistent.{clock};
+ghost use Rattle.causal_order.specs.Growth.{HasClock, with_clocks};
+ghost use Rattle.vector_clock.specs.Faults.{clock_fault as fault_of_clock, goes_back as falls_back, is_dangling as counts_too_many};
+ghost use Rattle.vector_clock.specs.Sound.{IsSound, counted_before as counted_by, newly_names as names_newly, is_newly_open as is_open, is_newly_loop as is_loop};
+
+use crate::beyond::is_beyond;
+use causal_order::{ClockTable, Order};
+use event_log::{Event, LogCode};
+use pota_base::{EventId, NoMemory};
+use std::alloc::Global;
+use std::marker::Model;
+
+/// The clocks of the events that were admitted, and those of a batch behind them. Contracts see all of them.
+#[derive(Drop)]
+pub struct Joined<'a> {
+    admitted: &'a Order,
+    added: ClockTable,
+}
+
+impl<'a> Model for Joined<'a> {
+    ghost use Rattle.std.specs.Prelude.{List, ℕ, ◌≡◌, length};
+    ghost use Rattle.vector_clock.specs.Sound.{joined_clocks};
+
+    ghost Value = { List (List (List ℕ)) };
+
+    ghost view = { λ j. joined_clocks j.admitted.now j.added };
+
+    ghost invariant = { λ j. length j.added ≡ length j.admitted.now };
+}
+
+impl<'a> Joined<'a> {
+    /// The clocks of a batch behind those that were admitted.
+    pub fn new(alloc: Global, admitted: &'a Order, batch: &[Event]) -> Result<Joined<'a>, NoMemory>
+        requires { AllByRecursion (HasClock (length admitted.now)) batch.now }
+        ensures { IfOk result (λ j. j ≡ with_clocks admitted.now batch.now) }
+    {
+        let mut added = ClockTable::new(alloc, admitted.shape().procs())?;
+        added.extend(batch)?;
+        Ok(Joined { admitted, added })
+    }
+
+    // How many processes there are.
+    fn procs(&self) -> u32
+        ensures { result ≡ length self.now }
+    {
+        self.admitted.shape().procs()
+    }
+
+    // Whether the process has so many events.
+    fn has(&self, process: u32, position: u32) -> bool
+        requires { process < length self.now }
+        ensures { result ≡ nat_le position (length (get_or self.now process [])) }
+    {
+        let admitted = self.admitted.shape().len_of(process);
+        position <= admitted || (position - admitted) as usize <= self.added.len_of(process)
+    }
+
+    // The clock of the event at a position of a process.
+    fn clock(&self, process: u32, position: u32) -> &[u32]
+        requires process { process < length self.now }
+        requires first { 1 ≤ position }
+        requires last { position ≤ length (get_or self.now process []) }
+        ensures clock { result.now ≡ clock self.now process position }
+        ensures width { length result.now ≡ length self.now }
+    {
+        let admitted = self.admitted.shape().len_of(process);
+        if position <= admitted {
+            self.admitted.clock(EventId { process, position })
+        } else {
+            self.added.clock(process, position - admitted)
+        }
+    }
+
+    // How many events of process `other` the event before a place of the process counts.
+    fn counted_before(&self, process: u32, place: u32, other: u32) -> u32
+        requires process { process < length self.now }
+        requires other { other < length self.now }
+        requires place { place ≤ length (get_or self.now process []) }
+        ensures { result ≡ counted_by self.now process place other }
+    {
+        if place > 1 {
+            self.clock(process, place - 1)[other as usize]
+        } else {
+            0
+        }
+    }
+
+    // Whether the clock names an event of process `other` that the event before on its process doesn't count.
+    fn newly_names(&self, event: &Event, place: u32, other: u32) -> bool
+        requires process { event.now.process < length self.now }
+        requires width { length event.now.clock ≡ length self.now }
+        requires other { other < length self.now }
+        requires place { place ≤ length (get_or self.now event.now.process []) }
+        ensures { result ≡ names_newly self.now place event.now other }
+    {
+        other != event.process
+            && self.counted_before(event.process, place, other) < *event.clock.get(other as usize)
+    }
+
+    // Whether the clock counts more events of a process than there are.
+    fn is_dangling(&self, event: &Event) -> bool
+        requires { length event.now.clock ≡ length self.now }
+        ensures { result ≡ counts_too_many self.now event.now }
+    {
+        let clock = event.clock.as_slice();
+        for process in 0..self.procs() {
+            if !self.has(process, clock[process as usize]) {
+                return true;
+            }
+        }
+        false
+    }
+
+    // Whether the clock of an event that is newly named isn't within the event's clock.
+    fn is_newly_open(&self, event: &Event, place: u32) -> bool
+        requires process { event.now.process < length self.now }
+        requires width { length event.now.clock ≡ length self.now }
+        requires named { IsWithin event.now.clock (lengths self.now) }
+        requires place { place ≤ length (get_or self.now event.now.process []) }
+        ensures { result ≡ is_open self.now place event.now }
+    {
+        let clock = event.clock.as_slice();
+        for other in 0..self.procs() {
+            if self.newly_names(event, place, other)
+                && is_beyond(self.clock(other, clock[other as usize]), clock)
+            {
+                return true;
+            }
+        }
+        false
+    }
+
+    // Whether an event that is newly named has the event in its own past.
+    fn is_newly_loop(&self, event: &Event, place: u32) -> bool
+        requires process { event.now.process < length self.now }
+        requires width { length event.now.clock ≡ length self.now }
+        requires named { IsWithin event.now.clock (lengths self.now) }
+        requires place { place ≤ length (get_or self.now event.now.process []) }
+        ensures { result ≡ is_loop self.now place event.now }
+    {
+        let clock = event.clock.as_slice();
+        for other in 0..self.procs() {
+            if self.newly_names(event, place, other)
+                && self.clock(other, clock[other as usize])[event.process as usize] >= place
+            {
+                return true;
+            }
+        }
+        false
+    }
+
+    // Whether a count is less than that of the event before on the process.
+    fn goes_back(&self, event: &Event, place: u32) -> bool
+        requires process { event.now.process < length self.now }
+        requires width { length event.now.clock ≡ length self.now }
+        requires place { place ≤ length (get_or self.now event.now.process []) }
+        ensures { result ≡ falls_back self.now place event.now }
+    {
+        place > 1 && is_beyond(self.clock(event.process, place - 1), event.clock.as_slice())
+    }
+
+    /// The first fault of the clock of an event at its place. The event before on its process has none.
+    pub fn clock_fault(&self, event: &Event, place: u32) -> Option<LogCode>
+        requires process { event.now.process < length self.now }
+        requires width { length event.now.clock ≡ length self.now }
+        requires place { place ≤ length (get_or self.now event.now.process []) }
+        requires before { 1 < place → IsSound self.now event.now.process (place - 1) }
+        ensures { result ≡ fault_of_clock self.now place event.now }
+    {
+        if *event.clock.get(event.process as usize) != place {
+            Some(LogCode::ClockOwn)
+        } else if self.goes_back(event, place) {
+            Some(LogCode::ClockBack)
+        } else if self.is_dangling(event) {
+            Some(LogCode::ClockDangling)
+        } else if self.is_newly_open(event, place) {
+            Some(LogCode::ClockOpen)
+        } else if self.is_newly_loop(event, place) {
+            Some(LogCode::ClockLoop)
+        } else {
+            None
+        }
+    }
+}

@@ -1,0 +1,63 @@
+//! The first fault of a batch behind the events that were admitted.
+ghost use Rattle.std.specs.Prelude.{◌≡◌, ℕ, ◌+◌, ◌-◌, ◌<◌, ◌≤◌, [], length, get_or, sum, None, IfOk};
+ghost use Rattle.std.specs.List.{AllByRecursion};
+ghost use Rattle.run_model.specs.Cut.{lengths};
+ghost use Rattle.run_model.specs.Consistent.{IsOrder};
+ghost use Rattle.event_log.specs.States.{with_batch};
+ghost use Rattle.causal_order.specs.Growth.{with_clocks};
+ghost use Rattle.vector_clock.specs.Events.{Events, EventFits, BatchFits, clocks_of};
+ghost use Rattle.vector_clock.specs.Faults.{batch_fault, clock_fault as fault_of_clock, event_fault as fault_of_event};
+ghost use Rattle.vector_clock.specs.Sound.{IsSound};
+ghost use Rattle.vector_clock.specs.Admitted.{HasMessages, StandsIn};
+
+use crate::joined::Joined;
+use crate::messages::Messages;
+use causal_order::Order;
+use event_log::{Event, LogCode, LogFault};
+use pota_base::NoMemory;
+use std::alloc::Global;
+
+// The first fault of an event at its place: of its clock, then of its message.
+fn event_fault(
+    joined: &Joined<'_>,
+    messages: &Messages,
+    event: &Event,
+    place: u32,
+) -> Option<LogCode>
+    requires fits { EventFits (length joined.now) event.now }
+    requires place { place ≤ length (get_or joined.now event.now.process []) }
+    requires before { 1 < place → IsSound joined.now event.now.process (place - 1) }
+    ensures clock { result ≡ None → fault_of_clock joined.now place event.now ≡ None }
+    ensures first { (before all : Events) → joined.now ≡ clocks_of all → HasMessages messages.now all → StandsIn before all event.now place → result ≡ fault_of_event before all event.now }
+{
+    match joined.clock_fault(event, place) {
+        Some(code) => Some(code),
+        None => messages.message_fault(event, place),
+    }
+}
+
+/// The first fault of a batch. The messages are those up to the end of the batch.
+pub fn first_fault(
+    alloc: Global,
+    order: &Order,
+    messages: &Messages,
+    batch: &[Event],
+) -> Result<Option<LogFault>, NoMemory>
+    requires { BatchFits (length order.now) (sum (lengths order.now)) batch.now }
+    ensures fault { IfOk result (λ fault. (before : Events) → order.now ≡ clocks_of before → HasMessages messages.now (with_batch before batch.now) → fault ≡ batch_fault before batch.now) }
+    ensures order { IfOk result (λ fault. fault ≡ None → IsOrder (with_clocks order.now batch.now)) }
+{
+    let joined = Joined::new(alloc, order, batch)?;
+    let mut taken = Vec::from_slice(alloc, order.shape().lens())?;
+    for event in batch {
+        let place = taken[event.process as usize] + 1;
+        if let Some(code) = event_fault(&joined, messages, event, place) {
+            return Ok(Some(LogFault {
+                code,
+                line: event.line,
+            }));
+        }
+        taken[event.process as usize] = place;
+    }
+    Ok(None)
+}

@@ -1,0 +1,177 @@
+//! The messages of a log, and their faults.
+ghost use Rattle.std.specs.Prelude.{◌≡◌, ℕ, ◌+◌, ◌<◌, ◌≤◌, nat_lt, if◌then◌else◌, Some, None, length, map, sum, OnOk, OnErr};
+ghost use Rattle.std.specs.List.{AllByRecursion};
+ghost use Rattle.event_log.specs.States.{with_event, with_batch};
+ghost use Rattle.run_model.specs.Cut.{count};
+ghost use Rattle.event_log.specs.declared.item.LogCode.TheVariants.{ReceiveEarly};
+ghost use Rattle.event_log.specs.LogText.{KindWithin};
+ghost use Rattle.vector_clock.specs.Events.{Events, EventFits, no_events, place as place_of, raised};
+ghost use Rattle.vector_clock.specs.Faults.{message_fault as fault_of_message, is_twice as is_again};
+ghost use Rattle.vector_clock.specs.Admitted.{HasMessages, StandsIn};
+
+use crate::message::{Message, message_received};
+use crate::places::Places;
+use event_log::{Event, Kind, LogCode};
+use pota_base::NoMemory;
+use std::alloc::Global;
+
+/// Where each message was sent and received first.
+#[derive(Debug, Drop)]
+pub struct Messages {
+    sent: Places,
+    received: Places,
+}
+
+impl Messages {
+    /// No messages. It takes no memory.
+    pub fn new(alloc: Global) -> Messages
+        ensures { (procs : ℕ) → HasMessages result (no_events procs) }
+    {
+        Messages {
+            sent: Places::new(alloc),
+            received: Places::new(alloc),
+        }
+    }
+
+    /// Keeps the place of an event for the message that it sends or receives, unless an event before has it. Without memory it is
+    /// as before.
+    pub fn note(&mut self, event: &Event, place: u32) -> Result<(), NoMemory>
+        ensures ok { OnOk result ((events : Events) → HasMessages self.old events → event.now.process < length events → place ≡ place_of events event.now → HasMessages self.new (with_event events event.now)) }
+        ensures err { OnErr result ((events : Events) → HasMessages self.old events → HasMessages self.new events) }
+    {
+        match event.kind {
+            Kind::Internal => Ok(()),
+            Kind::Send { to, id } => self.sent.note(
+                Message {
+                    sender: event.process,
+                    receiver: to,
+                    id,
+                },
+                place,
+            ),
+            Kind::Receive { sender, id } => self.received.note(
+                Message {
+                    sender,
+                    receiver: event.process,
+                    id,
+                },
+                place,
+            ),
+        }
+    }
+
+    /// Keeps nothing of the last event.
+    pub fn forget(&mut self, event: &Event, place: u32)
+        ensures { (events : Events) → HasMessages self.old (with_event events event.now) → event.now.process < length events → place ≡ place_of events event.now → HasMessages self.new events }
+    {
+        match event.kind {
+            Kind::Internal => {}
+            Kind::Send { to, id } => self.sent.forget(
+                &Message {
+                    sender: event.process,
+                    receiver: to,
+                    id,
+                },
+                place,
+            ),
+            Kind::Receive { sender, id } => self.received.forget(
+                &Message {
+                    sender,
+                    receiver: event.process,
+                    id,
+                },
+                place,
+            ),
+        }
+    }
+
+    // Whether an event before sends, or receives, the message that this one sends, or receives.
+    fn is_twice(&self, event: &Event, place: u32) -> bool
+        ensures { (before all : Events) → HasMessages self.now all → StandsIn before all event.now place → result ≡ is_again before event.now }
+    {
+        match event.kind {
+            Kind::Internal => false,
+            Kind::Send { to, id } => {
+                let message = Message {
+                    sender: event.process,
+                    receiver: to,
+                    id,
+                };
+                !self.sent.is_at(&message, place)
+            }
+            Kind::Receive { sender, id } => {
+                let message = Message {
+                    sender,
+                    receiver: event.process,
+                    id,
+                };
+                !self.received.is_at(&message, place)
+            }
+        }
+    }
+
+    /// The first fault of the message that an event at its place sends or receives.
+    pub fn message_fault(&self, event: &Event, place: u32) -> Option<LogCode>
+        requires { KindWithin (length event.now.clock) event.now.kind }
+        ensures { (before all : Events) → HasMessages self.now all → StandsIn before all event.now place → result ≡ fault_of_message before all event.now }
+    {
+        if self.is_twice(event, place) {
+            return Some(LogCode::MessageTwice);
+        }
+        let Some(message) = message_received(event.process, event.kind) else {
+            return None;
+        };
+        match self.sent.place_of(&message) {
+            None => Some(LogCode::ReceiveUnsent),
+            Some(sent) => early_fault(event, message.sender, sent),
+        }
+    }
+
+    /// Keeps the places of the events of a batch, behind so many events of each process, and counts them. Without memory it is as
+    /// before.
+    pub fn note_all(&mut self, batch: &[Event], taken: &mut Vec<u32>) -> Result<(), NoMemory>
+        requires each { AllByRecursion (EventFits (length taken.old.items)) batch.now }
+        requires few { sum taken.old.items + length batch.now ≤ 50000 }
+        ensures ok { OnOk result ((events : Events) → HasMessages self.old events → taken.old.items ≡ map length events → HasMessages self.new (with_batch events batch.now)) }
+        ensures counts { OnOk result (taken.new.items ≡ raised taken.old.items batch.now) }
+        ensures err { OnErr result ((events : Events) → HasMessages self.old events → taken.old.items ≡ map length events → HasMessages self.new events) }
+    {
+        for i in 0..batch.len() {
+            let event = &batch[i];
+            let place = taken[event.process as usize] + 1;
+            match self.note(event, place) {
+                Ok(()) => taken[event.process as usize] = place,
+                Err(no_memory) => {
+                    self.forget_all(&batch[..i], taken);
+                    return Err(no_memory);
+                }
+            }
+        }
+        Ok(())
+    }
+
+    /// Keeps nothing of the last events, which are those of a batch. The counts of the events of each process count them.
+    pub fn forget_all(&mut self, batch: &[Event], taken: &mut Vec<u32>)
+        requires { AllByRecursion (EventFits (length taken.old.items)) batch.now }
+        ensures { (events : Events) → HasMessages self.old (with_batch events batch.now) → taken.old.items ≡ map length (with_batch events batch.now) → HasMessages self.new events }
+    {
+        for i in (0..batch.len()).rev() {
+            let event = &batch[i];
+            let place = taken[event.process as usize];
+            self.forget(event, place);
+            taken[event.process as usize] = place.saturating_sub(1);
+        }
+    }
+}
+
+// The fault of a receipt of a message that was sent at this place of its sender.
+fn early_fault(event: &Event, sender: u32, sent: u32) -> Option<LogCode>
+    requires { sender < length event.now.clock }
+    ensures { result ≡ (if nat_lt (count event.now.clock sender) sent then Some ReceiveEarly else None) }
+{
+    if event.clock.as_slice()[sender as usize] < sent {
+        Some(LogCode::ReceiveEarly)
+    } else {
+        None
+    }
+}
