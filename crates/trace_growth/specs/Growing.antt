@@ -1,0 +1,40 @@
+-- A trace that grows batch by batch.
+use Rattle.std.specs.Prelude.{◌≡◌, ℕ, ◌+◌, ◌^◌, ◌-◌, min, Bool, false, List, length}
+use Rattle.std.specs.List.{AllByRecursion}
+use Rattle.event_log.specs.declared.log.Event.{Event}
+use Rattle.event_log.specs.declared.log.Header.{Header}
+use Rattle.event_log.specs.States.{StatesView, MayFollow, opened, with_batch}
+use Rattle.vector_clock.specs.declared.clocks.Clocks.{Clocks}
+use Rattle.vector_clock.specs.Events.{EventFits}
+use Rattle.vector_clock.specs.Admitted.{HasAdmitted}
+
+-- the data of the events that were taken, how many batches they came in, and whether memory was wanted
+pub record TraceView : Type 0 where
+  pub states : StatesView
+  pub batches : ℕ
+  pub spent : Bool
+
+-- a trace without batches
+abbrev pub opened_trace : Header → TraceView
+opened_trace header = record { states = opened header; batches = 0; spent = false }
+
+-- one batch more; the count stays at the greatest number of 32 bits
+abbrev pub one_more : ℕ → ℕ
+one_more batches = min (batches + 1) (2 ^ 32 - 1)
+
+-- the trace with the events of a batch behind those that are there
+abbrev pub with_trace_batch : TraceView → List Event → TraceView
+with_trace_batch trace batch = record {
+  states = record { header = trace.states.header; events = with_batch trace.states.events batch };
+  batches = one_more trace.batches;
+  spent = trace.spent;
+}
+
+-- the batch fits the batches before it: it may follow their events, and each of its events has its place among the processes
+pub record FitsTrace (trace : TraceView) (batch : List Event) : Type 0 where
+  pub follows : MayFollow trace.states.header trace.states.events batch
+  pub each : AllByRecursion (EventFits (length trace.states.events)) batch
+
+-- the fields fit each other, unless memory was wanted: the clocks are those of the states' events
+abbrev pub IsTrace : StatesView → Clocks → Bool → Type 0
+IsTrace states clocks spent = spent ≡ false → HasAdmitted clocks states.events
