@@ -1,0 +1,253 @@
+//! Formulas, by recursive descent. No call goes deeper than the levels of a formula, since each level that opens is counted.
+
+ghost use Rattle.rctl_grammar.specs.Grammar.{path_word, spelled, tok};
+ghost use Rattle.rctl_grammar.specs.Machine.{no_sign};
+ghost use Rattle.rctl_grammar.specs.declared.token.Kind.TheVariants.{OpenRound};
+ghost use Rattle.rctl_grammar.specs.declared.token.Token.{Token as First};
+ghost use Rattle.rctl_grammar.specs.declared.token.Word.{Word as WordIs};
+ghost use Rattle.rctl_parse.specs.Parts.{sign_of, IsLeafRole, WordRead, WordFault, UnaryFault, UnaryRead, PathRead, EnclosedRead, EnclosedFault, ConjunctionFault, ConjunctionRead, FormulaFails, FormulaRead};
+ghost use Rattle.rctl_parse.specs.Prefixes.{IsPrefix, prefix_tree};
+ghost use Rattle.rctl_parse.specs.Reading.{Faults};
+ghost use Rattle.run_model.specs.Run.{Name as Bytes};
+ghost use Rattle.std.specs.Prelude.{◌≡◌, ◌∷◌, ◌<◌, length, Bool, IfOk, MatchResult};
+
+use crate::around::{Around, Stop, refused_here};
+use crate::leaf::{comparison, emptiness, place_of, transit, watch};
+use crate::role::{LeafRole, Opening, Role, opening_of, role_of};
+use crate::symbol::{Symbol, after, wanted};
+use pota_base::{List, NoMemory};
+use pota_names::Name;
+use rctl_grammar::{Atom, Boxed, End, Operator, Token, Tree, Word};
+use std::alloc::Global;
+
+/// A part of a formula: its tree, the nodes up to its end, and the tokens behind it.
+#[derive(Drop)]
+pub struct Part<'a> {
+    pub tree: Tree,
+    pub nodes: u32,
+    pub rest: &'a [Token],
+}
+
+/// What stands before a unary inside another.
+#[derive(Clone, Copy)]
+pub enum Prefix {
+    Negation,
+    Operator(Operator),
+}
+
+impl Prefix {
+    /// The tree of the prefix at `at` over `tree`.
+    fn over(self, alloc: Global, tree: Tree, at: u32) -> Result<Tree, NoMemory>
+        ensures { IfOk result (λ whole. whole ≡ prefix_tree self tree at) }
+    {
+        let inner = Boxed::new(alloc, tree)?;
+        match self {
+            Prefix::Negation => Ok(Tree::Not { inner, at }),
+            Prefix::Operator(operator) => Ok(Tree::Temporal {
+                operator,
+                inner,
+                at,
+            }),
+        }
+    }
+}
+
+// What the leaf says that the word at `at` begins.
+fn atom<'a>(
+    alloc: Global,
+    role: LeafRole<'a>,
+    name: &Name,
+    at: u32,
+    rest: &'a [Token],
+    end: End,
+) -> Result<(Atom, &'a [Token]), Stop>
+    ensures { (w : WordIs) → IsLeafRole role.entry w rest.now → MatchResult result (λ x. WordRead (record { word = w; name = name.now; at = at }) rest.now x.1.now end x.0) (λ stop. Faults stop (λ f. WordFault (record { word = w; name = name.now; at = at }) rest.now end f)) }
+{
+    match role {
+        LeafRole::Compared(behind) => comparison(alloc, place_of(alloc, name, at)?, behind, end),
+        LeafRole::Watched(behind) => watch(alloc, place_of(alloc, name, at)?, behind, end),
+        LeafRole::Constant(value) => Ok((Atom::Truth(value), rest)),
+        LeafRole::Transit => transit(alloc, rest, end),
+        LeafRole::Emptiness => emptiness(alloc, rest, end),
+        LeafRole::Nothing => Err(refused_here(rest, end)),
+    }
+}
+
+// The leaf that the word at `at` begins.
+fn leaf<'a>(
+    alloc: Global,
+    role: LeafRole<'a>,
+    name: &Name,
+    at: u32,
+    rest: &'a [Token],
+    around: Around,
+) -> Result<Part<'a>, Stop>
+    ensures { (w : WordIs) → IsLeafRole role.entry w rest.now → MatchResult result (λ part. UnaryRead (spelled w name.now at ∷ rest.now) part.rest.now around part.nodes part.tree) (λ stop. Faults stop (λ f. UnaryFault (spelled w name.now at ∷ rest.now) around f)) }
+{
+    let behind = around.counted(at)?;
+    let (atom, rest) = atom(alloc, role, name, at, rest, around.end)?;
+    let tree = Tree::Leaf { atom, at };
+    Ok(Part {
+        tree,
+        nodes: behind.nodes,
+        rest,
+    })
+}
+
+// From behind the `E` or `A` at `at`: what stands around behind the `[`, and the tokens there.
+fn path(at: u32, rest: &[Token], around: Around) -> Result<(Around, &[Token]), Stop>
+    ensures shorter { IfOk result (λ x. length x.1.now < length rest.now) }
+    ensures path { (all : Bool) (name : Bytes) → sign_of rest.now ≡ no_sign → MatchResult result (λ x. PathRead all name at rest.now x.1.now around x.0) (λ stop. Faults stop (λ f. UnaryFault (spelled (path_word all) name at ∷ rest.now) around f)) }
+{
+    let behind = around.counted(at)?;
+    let (opened, rest) = wanted(rest, around.end, Symbol::OpenSquare)?;
+    Ok((behind.opened(opened)?, rest))
+}
+
+#[cycle(parser)]
+fn unary<'a>(alloc: Global, tokens: &'a [Token], around: Around) -> Result<Part<'a>, Stop>
+    ensures { MatchResult result (λ part. UnaryRead tokens.now part.rest.now around part.nodes part.tree) (λ stop. Faults stop (λ f. UnaryFault tokens.now around f)) }
+{
+    match opening_of(tokens) {
+        Opening::Negation(at, rest) => prefixed(alloc, Prefix::Negation, at, rest, around),
+        Opening::Group(at, rest) => group(alloc, at, rest, around),
+        Opening::Word(word, name, at, rest) => match role_of(word, rest) {
+            Role::Operator(operator) => prefixed(
+                alloc,
+                Prefix::Operator(operator),
+                at,
+                rest,
+                around,
+            ),
+            Role::Path(all) => until(alloc, all, at, rest, around),
+            Role::Leaf(role) => leaf(alloc, role, name, at, rest, around),
+        },
+        Opening::Nothing => Err(refused_here(tokens, around.end)),
+    }
+}
+
+// From behind the `!` or the operator's word at `at`.
+#[cycle(parser)]
+fn prefixed<'a>(
+    alloc: Global,
+    prefix: Prefix,
+    at: u32,
+    rest: &'a [Token],
+    around: Around,
+) -> Result<Part<'a>, Stop>
+    ensures { (first : First) → IsPrefix prefix first at rest.now → MatchResult result (λ part. UnaryRead (first ∷ rest.now) part.rest.now around part.nodes part.tree) (λ stop. Faults stop (λ f. UnaryFault (first ∷ rest.now) around f)) }
+{
+    let inside = around.entered(at)?;
+    let Part { tree, nodes, rest } = unary(alloc, rest, inside)?;
+    let tree = prefix.over(alloc, tree, at)?;
+    Ok(Part { tree, nodes, rest })
+}
+
+// From behind the `(` at `at`.
+#[cycle(parser)]
+fn group<'a>(alloc: Global, at: u32, rest: &'a [Token], around: Around) -> Result<Part<'a>, Stop>
+    ensures { MatchResult result (λ part. UnaryRead (tok OpenRound at ∷ rest.now) part.rest.now around part.nodes part.tree) (λ stop. Faults stop (λ f. UnaryFault (tok OpenRound at ∷ rest.now) around f)) }
+{
+    let inside = around.opened(at)?;
+    enclosed(alloc, rest, inside, Symbol::CloseRound)
+}
+
+// From behind the `E` or `A` at `at`.
+#[cycle(parser)]
+fn until<'a>(
+    alloc: Global,
+    all: bool,
+    at: u32,
+    rest: &'a [Token],
+    around: Around,
+) -> Result<Part<'a>, Stop>
+    ensures { (name : Bytes) → sign_of rest.now ≡ no_sign → MatchResult result (λ part. UnaryRead (spelled (path_word all) name at ∷ rest.now) part.rest.now around part.nodes part.tree) (λ stop. Faults stop (λ f. UnaryFault (spelled (path_word all) name at ∷ rest.now) around f)) }
+{
+    let (inside, rest) = path(at, rest, around)?;
+    let Part { tree, nodes, rest } = enclosed(alloc, rest, inside, Symbol::Until)?;
+    let left = Boxed::new(alloc, tree)?;
+    let inside = inside.at_nodes(nodes);
+    let Part { tree, nodes, rest } = enclosed(alloc, rest, inside, Symbol::CloseSquare)?;
+    let right = Boxed::new(alloc, tree)?;
+    let tree = Tree::Until {
+        all,
+        left,
+        right,
+        at,
+    };
+    Ok(Part { tree, nodes, rest })
+}
+
+// The formula at the front, and the symbol that ends it.
+#[cycle(parser)]
+fn enclosed<'a>(
+    alloc: Global,
+    tokens: &'a [Token],
+    inside: Around,
+    symbol: Symbol,
+) -> Result<Part<'a>, Stop>
+    ensures { MatchResult result (λ part. EnclosedRead symbol tokens.now part.rest.now inside part.nodes part.tree) (λ stop. Faults stop (λ f. EnclosedFault symbol tokens.now inside f)) }
+{
+    let Part { tree, nodes, rest } = formula(alloc, tokens, inside)?;
+    let (_, rest) = wanted(rest, inside.end, symbol)?;
+    Ok(Part { tree, nodes, rest })
+}
+
+#[cycle(parser)]
+fn conjunction<'a>(alloc: Global, tokens: &'a [Token], around: Around) -> Result<Part<'a>, Stop>
+    ensures { MatchResult result (λ part. ConjunctionRead tokens.now part.rest.now around part.nodes part.tree) (λ stop. Faults stop (λ f. ConjunctionFault tokens.now around f)) }
+{
+    let first = unary(alloc, tokens, around)?;
+    let Some((at, mut more)) = after(first.rest, Symbol::Amp) else {
+        return Ok(first);
+    };
+    let mut members = List::new(alloc);
+    members.push(first.tree)?;
+    let Around { mut nodes, .. } = around.at_nodes(first.nodes).counted(at)?;
+    'members: loop {
+        let Part {
+            tree,
+            nodes: total,
+            rest,
+        } = unary(alloc, more, around.at_nodes(nodes))?;
+        members.push(tree)?;
+        nodes = total;
+        match after(rest, Symbol::Amp) {
+            Some((_, behind)) => more = behind,
+            None => {
+                let tree = Tree::And { members, at };
+                return Ok(Part { tree, nodes, rest });
+            }
+        }
+    }
+}
+
+/// The formula at the front of the tokens.
+#[cycle(parser)]
+pub fn formula<'a>(alloc: Global, tokens: &'a [Token], around: Around) -> Result<Part<'a>, Stop>
+    ensures { MatchResult result (λ part. FormulaRead tokens.now part.rest.now around part.nodes part.tree) (λ stop. Faults stop (λ f. FormulaFails tokens.now around f)) }
+{
+    let first = conjunction(alloc, tokens, around)?;
+    let Some((at, mut more)) = after(first.rest, Symbol::Bar) else {
+        return Ok(first);
+    };
+    let mut members = List::new(alloc);
+    members.push(first.tree)?;
+    let Around { mut nodes, .. } = around.at_nodes(first.nodes).counted(at)?;
+    'members: loop {
+        let Part {
+            tree,
+            nodes: total,
+            rest,
+        } = conjunction(alloc, more, around.at_nodes(nodes))?;
+        members.push(tree)?;
+        nodes = total;
+        match after(rest, Symbol::Bar) {
+            Some((_, behind)) => more = behind,
+            None => {
+                let tree = Tree::Or { members, at };
+                return Ok(Part { tree, nodes, rest });
+            }
+        }
+    }
+}
