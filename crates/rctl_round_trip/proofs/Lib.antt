@@ -1,0 +1,9 @@
+pub mod Pieces
+pub mod Spelling
+pub mod Texts
+pub mod Measures
+pub mod Derived
+pub mod Origin
+pub mod Sound
+pub mod Short
+pub mod RoundTrips
