@@ -11,10 +11,6 @@ pub mod BodyLaws
 pub mod WriteLaws
 pub mod Texts
 pub mod Plain
-pub mod BatchSteps
-pub mod WholeText
-pub mod Batches
-pub mod LocalSteps
 pub mod ReadNames
 pub mod FaultLaws
 pub mod FeedSteps

@@ -4,8 +4,6 @@ pub mod States
 pub mod Lines
 pub mod LogText
 pub mod Moments
-pub mod OneBatch
-pub mod FirstForm
 pub mod Faults
 pub mod Feeding
 pub mod Reader

@@ -157,11 +157,6 @@ pub record LogFits (log : Log) : Type 0 where
   pub batches : BatchesFit log.header (length (header_lines log.header) + 1) log.batches
   pub few : event_count log.batches ≤ 50000
 
--- a log that has a text and one batch
-pub record IsOneBatch (log : Log) : Type 0 where
-  pub fits : LogFits log
-  pub one : length log.batches ≡ 1
-
 -- ---- lists turned round
 
 -- the newest first: the items of a list in front of those before them

@@ -3,29 +3,25 @@
 
 mod copies;
 mod feeder;
-mod first_form;
 mod history;
 mod item;
 mod laws;
 mod line_reader;
 mod log;
 mod numbers;
-mod one_batch;
 mod reader;
 mod refusals;
 mod split;
 mod states;
 mod writing;
 
-pub use first_form::read_first_form;
 pub use history::History;
 pub use item::{Fed, Item, LogCode, LogFault};
 pub use laws::{a_log_reads_back, no_fault_is_a_log};
 pub use log::{Assign, Binding, Event, Header, Kind, Log};
-pub use one_batch::read_one_batch;
 pub use pota_names::Name;
 pub use reader::Reader;
-pub use states::{States, states_of};
+pub use states::States;
 pub use writing::write_log;
 
 #[cfg(test)]

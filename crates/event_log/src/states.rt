@@ -4,11 +4,10 @@ ghost use Rattle.std.specs.List.{AllByRecursion};
 ghost use Rattle.run_model.specs.Run.{state_after, process_at};
 ghost use Rattle.pota_base.specs.Shape.{HasEvent};
 ghost use Rattle.event_log.specs.declared.log.Event.{Event};
-ghost use Rattle.event_log.specs.LogText.{LogFits};
-ghost use Rattle.event_log.specs.States.{HistoryView, StatesView, IsHeader, IsKnown, MayFollow, openings_of, histories_of, with_batch, trace_of, states_of, events_in, nothing, Grown, HasRoom, Added};
+ghost use Rattle.event_log.specs.States.{HistoryView, StatesView, IsHeader, IsKnown, MayFollow, openings_of, histories_of, with_batch, trace_of, events_in, nothing, Grown, HasRoom, Added};
 
 use crate::history::History;
-use crate::log::{Event, Header, Log};
+use crate::log::{Event, Header};
 use pota_base::{EventId, List, NoMemory, Shape};
 use std::alloc::Global;
 use std::marker::Model;
@@ -157,18 +156,4 @@ fn grow(alloc: Global, histories: &mut Vec<History>, batch: Vec<Event>) -> Resul
     add_all(histories, batch)?;
     let lens = lens_of(alloc, histories)?;
     Shape::new(alloc, &lens)
-}
-
-/// The states of a log after all of its batches.
-pub fn states_of(alloc: Global, log: Log) -> Result<States, NoMemory>
-    requires { LogFits log }
-    ensures { IfOk result (λ s. s ≡ states_of log) }
-{
-    let Log { header, batches } = log;
-    let mut states = States::new(alloc, header)?;
-    let mut rest = batches.into_vec().into_iter();
-    while let Some(batch) = rest.next() {
-        states.extend(batch)?;
-    }
-    Ok(states)
 }

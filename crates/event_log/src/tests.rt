@@ -1,25 +1,13 @@
+ghost use Rattle.std.specs.Prelude.{◌≡◌, [], ◌∷◌, IfOk, IfSome};
+ghost use Rattle.event_log.specs.Laws.{IsLog};
+
 use super::*;
+use pota_base::{List, NoMemory};
+use std::alloc::Global;
 use std::test::*;
 
 const LOG: &[u8] =
     b"pota-log 1\nprocs P Q\nvars P x=0\nvars Q y=0\nev P 1,0 int x=1\nev Q 0,1 int y=1\nend\n";
-
-#[test]
-fn first_form(rt: HostRuntime) -> Result<(), Fail> {
-    let log = read_first_form(rt.alloc(), LOG)
-        .ok()
-        .flatten()
-        .ok_or("a log of the first form")?;
-    assert_eq!(rt; log.header.procs.len(), 2);
-    assert_eq!(rt; log.batches.len(), 1);
-    Ok(())
-}
-
-#[test]
-fn no_first_form(rt: HostRuntime) {
-    let cut = &LOG[..LOG.len() - 1];
-    assert!(rt; matches!(read_first_form(rt.alloc(), cut), Ok(None)));
-}
 
 #[test]
 fn in_pieces(rt: HostRuntime) -> Result<(), Fail> {
@@ -85,13 +73,56 @@ fn faults(rt: HostRuntime) {
     assert_eq!(rt; fault_of(&rt, b"pota-log 1\nprocs P\nend"), Some(cut));
 }
 
+// `procs P`, `vars P x=0`, `ev P 1 int x=1`, `end`
+fn small_log(alloc: Global) -> Result<Option<Log>, NoMemory>
+    ensures { IfOk result (λ o. IfSome o IsLog) }
+{
+    let Some(process) = Name::new(alloc, b"P")? else {
+        return Ok(None);
+    };
+    let Some(variable) = Name::new(alloc, b"x")? else {
+        return Ok(None);
+    };
+    let assign = Assign {
+        variable: 0,
+        value: 1,
+    };
+    let event = Event {
+        process: 0,
+        line: 4,
+        clock: one(alloc, 1)?,
+        kind: Kind::Internal,
+        assigns: one(alloc, assign)?,
+    };
+    let binding = Binding {
+        name: variable,
+        value: 0,
+    };
+    let header = Header {
+        procs: one(alloc, process)?,
+        vars: one(alloc, one(alloc, binding)?)?,
+    };
+    Ok(Some(Log {
+        header,
+        batches: one(alloc, one(alloc, event)?)?,
+    }))
+}
+
+fn one<T: Drop>(alloc: Global, item: T) -> Result<List<T>, NoMemory>
+    ensures { IfOk result (λ list. list ≡ item ∷ []) }
+{
+    let mut list = List::new(alloc);
+    list.push(item)?;
+    Ok(list)
+}
+
 #[test]
 fn written(rt: HostRuntime) -> Result<(), Fail> {
-    let log = read_one_batch(rt.alloc(), LOG)
-        .ok()
-        .flatten()
-        .ok_or("a log")?;
+    let log = small_log(rt.alloc()).ok().flatten().ok_or("a log")?;
     let text = write_log(rt.alloc(), &log).ok().ok_or("memory")?;
-    assert_eq!(rt; text.as_slice(), LOG);
+    assert_eq!(rt;
+        text.as_slice(),
+        b"pota-log 1\nprocs P\nvars P x=0\nev P 1 int x=1\nend\n".as_slice()
+    );
     Ok(())
 }

@@ -3,9 +3,13 @@ pub mod Words
 pub mod Spelled
 pub mod Telling
 pub mod Reaching
-pub mod Apart
 pub mod Named
-pub mod Reading
-pub mod Judged
+pub mod Fitting
+pub mod Dues
+pub mod SessionSteps
+pub mod Logs
+pub mod ReadingSteps
+pub mod Apart
 pub mod OneLog
+pub mod Judged
 pub mod Running

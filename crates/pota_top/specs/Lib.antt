@@ -1,4 +1,5 @@
-pub mod Input
+pub mod Due
+pub mod FaultText
 pub mod Judging
 pub mod Outcome
 pub mod Passing
@@ -7,3 +8,4 @@ pub mod Report
 pub mod Request
 pub mod RequestReading
 pub mod Run
+pub mod Session

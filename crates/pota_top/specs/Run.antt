@@ -1,19 +1,23 @@
 -- What a run of the analyser promises: the answer to the words and the bytes of the log.
-use Rattle.std.specs.Prelude.{◌≡◌, ℕ, ◌<◌, ◌≤◌, ◌⊎◌, ◌↔◌, Bool, true, false, List, [], length, Option, Some, None, if◌then◌else◌}
+use Rattle.std.specs.Prelude.{◌≡◌, ℕ, ◌≤◌, ◌⊎◌, ◌↔◌, Bool, true, false, List, [], length, Option, Some, None, if◌then◌else◌}
 use Rattle.std.specs.Io.KnownBytes.{Appends, Consumes, IsAtEnd}
 use Rattle.pota_base.specs.Outside.{Rose, IsPrefix}
 use Rattle.pota_base.specs.declared.status.Status.{Status}
 use Rattle.pota_base.specs.declared.status.Status.TheVariants as status
+use Rattle.event_log.specs.declared.item.LogFault.{LogFault}
 use Rattle.event_log.specs.declared.log.Log.{Log}
+use Rattle.event_log.specs.Laws.{IsLog}
 use Rattle.event_log.specs.LogText.{log_text}
-use Rattle.event_log.specs.FirstForm.{IsFirstForm}
 use Rattle.event_log.specs.States.{trace_of_log}
 use Rattle.run_model.specs.Cut.{lengths, initial}
 use Rattle.run_model.specs.Run.{Watches, run_of, clocks_of}
 use Rattle.run_model.specs.Meaning.{Sat}
+use Rattle.vector_clock.specs.Faults.{log_fault}
 use Rattle.pota_top.specs.declared.outcome.Fault.{Fault}
 use Rattle.pota_top.specs.declared.outcome.Fault.TheVariants as fault
 use Rattle.pota_top.specs.declared.outcome.Outcome.{Outcome}
+use Rattle.pota_top.specs.Due.{due, events_of, first_foreign}
+use Rattle.pota_top.specs.Outcome.{status_of}
 use Rattle.pota_top.specs.Request.{Condition, formula_of, Asks}
 use Rattle.pota_top.specs.Passing.{AreNamed}
 use Rattle.pota_top.specs.Report.{Report, report_text}
@@ -28,13 +32,17 @@ IsTrueAtStart log cs = Sat (run_of (trace_of_log log) no_watches) (formula_of cs
 
 -- what the report says of a log and the text of a formula
 abbrev pub report_of : Log → List ℕ → Bool → Report
-report_of log formula verdict = record { batch = 1; procs = log.header.procs; lengths = lengths (clocks_of (trace_of_log log)); formula = formula; verdict = verdict }
+report_of log formula verdict =
+    record { batch = length log.batches; procs = log.header.procs; lengths = lengths (clocks_of (trace_of_log log)); formula = formula; verdict = verdict }
 
--- the bytes are the text of this log of the first form, and its header has the names of the conditions
+-- The bytes are the text of this log, whose clocks and messages have no fault. Its header has the names of the conditions, and no
+-- clock names an event of another process.
 pub record IsLogFor (bytes : List ℕ) (cs : List Condition) (log : Log) : Type 0 where
-  pub form : IsFirstForm log
+  pub is : IsLog log
   pub spelled : bytes ≡ log_text log
+  pub ordered : log_fault log ≡ None
   pub named : AreNamed log.header cs
+  pub apart : first_foreign (events_of log.batches) ≡ None
 
 -- the words ask for a formula, the bytes are a log for it, the verdict is its truth there, and the report says so
 pub record Answers (words : List (List ℕ)) (bytes report : List ℕ) (verdict : Bool) : Type 0 where
@@ -49,26 +57,36 @@ pub record Answers (words : List (List ℕ)) (bytes report : List ℕ) (verdict 
 abbrev pub IsOtherRequest : List (List ℕ) → Type 0
 IsOtherRequest words = (cs : List Condition) → Asks words cs → ⊥
 
--- the bytes are no log of the first form that has the names of the formula asked for
-abbrev pub IsOtherLog : List (List ℕ) → List ℕ → Type 0
-IsOtherLog words bytes = (cs : List Condition) (log : Log) → Asks words cs → IsLogFor bytes cs log → ⊥
-
--- the source was read to its end, or further than a log of the first form goes
-abbrev pub IsReadFar : Option (List ℕ) → List ℕ → Type 0
-IsReadFar left read = IsAtEnd left ⊎ (65536 < length read)
-
 -- a verdict, with its report written whole
 pub record HasVerdict (left : Option (List ℕ)) (words : List (List ℕ)) (read written : List ℕ) (o : Outcome) (verdict : Bool) : Type 0 where
   pub ended : IsAtEnd left
   pub answers : Answers words read written verdict
-  pub batches : o.batches ≡ 1
+  pub batches : o.batches ≡ length answers.log.batches
   pub fault : o.fault ≡ None
 
--- nothing was written, and no batch was taken
+-- nothing was written, and no batch was counted
 pub record HasNothing (bytes : List ℕ) (o : Outcome) (f : Fault) : Type 0 where
   pub written : bytes ≡ []
   pub batches : o.batches ≡ 0
   pub fault : o.fault ≡ Some f
+
+-- this fault is due of the bytes read, and so is the number of batches; nothing was written
+pub record IsRefused (left : Option (List ℕ)) (words : List (List ℕ)) (read written : List ℕ) (o : Outcome) (f : Fault) : Type 0 where
+  pub conditions : List Condition
+  pub asks : Asks words conditions
+  pub ended : Bool
+  pub at_end : ended ≡ true → IsAtEnd left
+  pub due_is : due ended conditions read ≡ record { batches = o.batches; fault = Some f }
+  pub fault : o.fault ≡ Some f
+  pub nothing : written ≡ []
+
+-- no fault is due of the bytes read; nothing was written
+pub record IsCutShort (words : List (List ℕ)) (read written : List ℕ) (o : Outcome) : Type 0 where
+  pub conditions : List Condition
+  pub asks : Asks words conditions
+  pub due_is : due false conditions read ≡ record { batches = o.batches; fault = None }
+  pub fault : o.fault ≡ Some fault.Read
+  pub nothing : written ≡ []
 
 -- a part of a report was written
 pub record HasPart (left : Option (List ℕ)) (words : List (List ℕ)) (read written : List ℕ) (o : Outcome) : Type 0 where
@@ -77,7 +95,7 @@ pub record HasPart (left : Option (List ℕ)) (words : List (List ℕ)) (read wr
   pub verdict : Bool
   pub answers : Answers words read report verdict
   pub part : IsPrefix written report
-  pub batches : o.batches ≡ 1
+  pub batches : o.batches ≡ length answers.log.batches
   pub fault : o.fault ≡ Some fault.Write
 
 -- What a status says, by what the source has left, the counts of faults before and after, the words, and the bytes read and written.
@@ -85,14 +103,14 @@ pub record HasPart (left : Option (List ℕ)) (words : List (List ℕ)) (read wr
 abbrev pub Answer : Status → Option (List ℕ) → ℕ → ℕ → ℕ → ℕ → List (List ℕ) → List ℕ → List ℕ → Outcome → Type 0
 Answer status.True left lf lf' of of' words read written o = HasVerdict left words read written o true
 Answer status.False left lf lf' of of' words read written o = HasVerdict left words read written o false
-Answer status.NotBuilt left lf lf' of of' words read written o = HasNothing written o (fault.NotBuilt 0)
-    × ((IsOtherRequest words × (read ≡ [])) ⊎ (IsReadFar left read × IsOtherLog words read))
-Answer status.ReadFault left lf lf' of of' words read written o = HasNothing written o fault.Read × Rose lf lf'
+Answer status.Log left lf lf' of of' words read written o = (f : LogFault) × IsRefused left words read written o (fault.Log f)
+Answer status.NotBuilt left lf lf' of of' words read written o = (HasNothing written o (fault.NotBuilt 0) × IsOtherRequest words × (read ≡ []))
+    ⊎ ((line : ℕ) × IsRefused left words read written o (fault.NotBuilt line))
+Answer status.ReadFault left lf lf' of of' words read written o = IsCutShort words read written o × Rose lf lf'
 Answer status.WriteFault left lf lf' of of' words read written o = HasPart left words read written o × Rose of of'
 Answer status.OutOfMemory left lf lf' of of' words read written o = HasNothing written o fault.Memory
 Answer status.Usage left lf lf' of of' words read written o = ⊥
 Answer status.Formula left lf lf' of of' words read written o = ⊥
-Answer status.Log left lf lf' of of' words read written o = ⊥
 
 -- a whole run: what was read and written in it, that no count fell, and what its status says
 pub record Ran (left left' held held' : Option (List ℕ)) (lf lf' of of' : ℕ) (words : List (List ℕ)) (o : Outcome) : Type 0 where
@@ -112,17 +130,27 @@ pub record Decides (log : Log) (cs : List Condition) (formula : List ℕ) (held 
   pub status : o.status ≡ (if verdict then status.True else status.False)
   pub truth : (verdict ≡ true) ↔ IsTrueAtStart log cs
   pub written : Appends held held' (report_text (report_of log formula verdict))
-  pub batches : o.batches ≡ 1
+  pub batches : o.batches ≡ length log.batches
 
 abbrev pub IsCalm : ℕ → ℕ → ℕ → ℕ → Outcome → Type 0
 IsCalm lf lf' of of' o = (Rose lf lf' → ⊥) × (Rose of of' → ⊥) × (o.status ≡ status.OutOfMemory → ⊥)
 
--- a log of the first form that has the names of the formula asked for is decided
+-- a log that has the names of the formula asked for, and whose clocks name no event of another process, is decided
 abbrev pub IsDecided : Option (List ℕ) → List (List ℕ) → Option (List ℕ) → Option (List ℕ) → Outcome → Type 0
 IsDecided left words held held' o = (bytes : List ℕ) (cs : List Condition) (log : Log) → left ≡ Some bytes → (asks : Asks words cs) → IsLogFor bytes cs log
     → Decides log cs asks.text held held' o
 
--- for anything else the answer is that it isn't built, and nothing is written
-abbrev pub IsLeftOpen : Option (List ℕ) → List (List ℕ) → Option (List ℕ) → Option (List ℕ) → Outcome → Type 0
-IsLeftOpen left words held held' o = (bytes : List ℕ) → left ≡ Some bytes → IsOtherLog words bytes
-    → (o.status ≡ status.NotBuilt) × (o.fault ≡ Some (fault.NotBuilt 0)) × (o.batches ≡ 0) × Appends held held' []
+-- a fault that is due of the bytes is the answer, and nothing is written
+pub record Refuses (batches : ℕ) (f : Fault) (held held' : Option (List ℕ)) (o : Outcome) : Type 0 where
+  pub status : o.status ≡ status_of f
+  pub batches_are : o.batches ≡ batches
+  pub fault : o.fault ≡ Some f
+  pub written : Appends held held' []
+
+abbrev pub IsRefusedAsDue : Option (List ℕ) → List (List ℕ) → Option (List ℕ) → Option (List ℕ) → Outcome → Type 0
+IsRefusedAsDue left words held held' o = (bytes : List ℕ) (cs : List Condition) (batches : ℕ) (f : Fault) → left ≡ Some bytes → Asks words cs
+    → due true cs bytes ≡ record { batches = batches; fault = Some f } → Refuses batches f held held' o
+
+-- other words are not answered, and nothing is written
+abbrev pub IsLeftOpen : List (List ℕ) → Option (List ℕ) → Option (List ℕ) → Outcome → Type 0
+IsLeftOpen words held held' o = IsOtherRequest words → Refuses 0 (fault.NotBuilt 0) held held' o

@@ -1,0 +1,31 @@
+#!/usr/bin/env bash
+# Prints the time of reading and of checking a generated log apart, and the time that the program takes for the texts that cost the
+# most. It works on a scratch copy of the crates, where what is timed is proved and built.
+set -e
+top=$(cd "$(dirname "$0")/../.." && pwd)
+scratch=$(mktemp -d)
+trap 'rm -rf "$scratch"' EXIT
+git -C "$scratch" init -q
+cp "$top/HANDLES" "$scratch/"
+mkdir "$scratch/crates"
+for name in run_model pota_base pota_names cut_lattice log_lines event_log causal_order vector_clock trace_growth pota_top pota worked_rows; do
+    mkdir "$scratch/crates/$name"
+    (cd "$top/crates/$name" && tar cf - --exclude=out .) | tar xf - -C "$scratch/crates/$name"
+    grep "^$name:" "$top/crates.txt" >> "$scratch/crates.txt"
+done
+cd "$scratch/crates/worked_rows"
+rm -r data stdout src/case.rt src/verdict.rt
+cp "$top/bench/log/main.txt" src/main.rt
+rt run 2>/dev/null
+
+header='pota-log 1\nprocs P\nvars P x=0\n'
+head -c 67108864 /dev/urandom > "$scratch/garbage"
+(printf "$header"; head -c 67108800 /dev/zero | tr '\0' a) > "$scratch/one_line"
+(printf "$header"; head -c 67108800 /dev/zero | tr '\0' '\n') > "$scratch/line_feeds"
+(printf "$header"; yes batch | head -n 10999999; echo end) > "$scratch/batches"
+cd "$scratch/crates/pota"
+rt run > /dev/null 2>&1 < stdin -- check 'EF (P.x = 0 & P.x = 0)' || true
+for text in garbage one_line line_feeds batches; do
+    echo "$text: $(wc -c < "$scratch/$text") bytes"
+    time ./out/pota check 'EF (P.x = 0 & P.x = 0)' < "$scratch/$text" || true
+done
