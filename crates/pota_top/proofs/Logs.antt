@@ -247,6 +247,13 @@ unfolding judged
 judged_waits cs j [] not w = not w
 judged_waits cs j (i ∷ xs) not w = judged_waits cs (judge cs j i) xs (judge_waits cs j i not) w
 
+-- the header stands in a text without a fault
+pub header_stands : (cs : List Condition) (bytes : List ℕ) → end_fault (onto bytes []) ≡ None → judgement_of cs bytes ≡ waiting → ⊥
+header_stands cs bytes ended is =
+    let l = fault_free_log bytes ended in
+    let waits : judged cs (opened cs l.0.header) (batch_items l.0.batches) ≡ waiting = sym (judged-log cs l.0) ∙ ap (judged cs waiting) (sym l.1.items_are) ∙ is in
+    judged_waits cs (opened cs l.0.header) (batch_items l.0.batches) (opened_waits cs l.0.header) (subst IsWaiting (sym waits) tt)
+
 chosen_none : (o : Option LogFault) (rest : Option Fault) → choose o (λ f. Some (fault.Log f)) rest ≡ None → (o ≡ None) × (rest ≡ None)
 chosen_none None rest h = (refl, h)
 chosen_none (Some f) rest h = absurd (none-some (fault.Log f) (sym h))
@@ -262,11 +269,7 @@ due_log cs bytes n h = go (judgement_of cs bytes) refl (ap (λ (d : Due). d.faul
     text = end_fault (onto bytes [])
 
     go : (j : Judgement) → judgement_of cs bytes ≡ j → (told (judgement_of cs bytes) (end_fault (onto bytes [])) (not_apart (judgement_of cs bytes))).fault ≡ None → (log : Log) × IsLogFor bytes cs log
-    go waiting is none =
-        let ended = (chosen_none (end_fault (onto bytes [])) None (rw is at none)).0 in
-        let l = fault_free_log bytes ended in
-        let waits : judged cs (opened cs l.0.header) (batch_items l.0.batches) ≡ waiting = sym (judged-log cs l.0) ∙ ap (judged cs waiting) (sym l.1.items_are) ∙ is in
-        absurd (judged_waits cs (opened cs l.0.header) (batch_items l.0.batches) (opened_waits cs l.0.header) (subst IsWaiting (sym waits) tt))
+    go waiting is none = absurd (header_stands cs bytes (chosen_none (end_fault (onto bytes [])) None (rw is at none)).0 is)
     go (growing g) is none =
         let parts = chosen_none (end_fault (onto bytes [])) (option_map (λ line. fault.NotBuilt line) (first_foreign (events_of g.closed ++ g.open_))) (rw is at none) in
         let l = log_of cs bytes g parts.0 is (mapped_none (first_foreign (events_of g.closed ++ g.open_)) parts.1) in

@@ -16,17 +16,18 @@ use Rattle.event_log.proofs.Lists.{onto-append, length-onto}
 use Rattle.trace_growth.specs.Growing.{TraceView}
 use Rattle.pota_top.specs.declared.outcome.Fault.{Fault}
 use Rattle.pota_top.specs.declared.outcome.Fault.TheVariants as fault
+use Rattle.pota_top.specs.declared.session.Growing.{Growing}
 use Rattle.pota_top.specs.declared.session.Session.{Session}
 use Rattle.pota_top.specs.declared.session.Session.TheVariants as session
 use Rattle.pota_top.specs.declared.session.Stop.{Stop}
 use Rattle.pota_top.specs.declared.reading.Turn.{Turn}
 use Rattle.pota_top.specs.declared.reading.Turn.TheVariants as turn
 use Rattle.pota_top.specs.Request.{Condition}
-use Rattle.pota_top.specs.Due.{Judgement, waiting, growing, refused, judged, Due, told, judgement_of, due}
-use Rattle.pota_top.specs.Session.{FitFirst, MayFollow, IsSession, batches_in, Takes, Hands, HasJudged, IsDue, IsTraceFor, TakesPiece, Finishes, StopsAt, TurnsTo, Turns, HasReadLog}
+use Rattle.pota_top.specs.Due.{Growth, Judgement, waiting, growing, refused, judged, Due, told, judgement_of, due}
+use Rattle.pota_top.specs.Session.{IsGrowth, FitFirst, MayFollow, IsSession, batches_in, Takes, Hands, HasJudged, IsDue, IsTraceFor, TakesPiece, Finishes, StopsAt, TurnsTo, Turns, HasReadLog}
 use Rattle.pota_top.proofs.Fitting.{items_fit}
 use Rattle.pota_top.proofs.Dues.{judged-append, follows_all, within_limit, IsOfLog, due_of_log}
-use Rattle.pota_top.proofs.Logs.{finished}
+use Rattle.pota_top.proofs.Logs.{finished, header_stands}
 
 -- ---- one piece
 
@@ -83,6 +84,17 @@ pub ends : (cs : List Condition) (r : Reader) (s : Session) (bytes : List ℕ) (
 ends cs r s bytes o t known finishes none hands =
     let h = hands (judgement_of cs bytes) known.session in
     finished cs bytes h.0 t (sym (finishes (onto bytes []) known.read) ∙ none) h.1 h.2 h.3
+
+-- what an open session hands is what its judgement says
+pub opened_hands : (s : Session) (k : Growing) (t : TraceView) → s ≡ session.Open k → ((g : Growth) → IsGrowth k g → Hands (growing g) (Ok t)) → (j : Judgement) → IsSession s j → Hands j (Ok t)
+opened_hands s k t opened hands j is =
+    let w = subst (λ (x : Session). IsSession x j) opened is in
+    subst (λ (x : Judgement). Hands x (Ok t)) (sym w.1) (hands w.0 w.2)
+
+-- no session waits at the end of a text without a fault
+pub not_waiting : (cs : List Condition) (r : Reader) (s : Session) (bytes : List ℕ) (o : Option LogFault) → HasJudged cs r s bytes → ((past : List ℕ) → HasRead r past → o ≡ end_fault past) → o ≡ None → s ≡ session.Waiting → ⊥
+not_waiting cs r s bytes o known finishes none waits =
+    header_stands cs bytes (sym (finishes (onto bytes []) known.read) ∙ none) (subst (λ (x : Session). IsSession x (judgement_of cs bytes)) waits known.session)
 
 -- ---- one turn
 

@@ -52,7 +52,11 @@ fn finish(reader: &mut Reader, session: Session) -> Result<Turn, Refused<Stop>>
     if let Some(fault) = reader.finish() {
         return Err(Refused::Fault(session.stop(Fault::Log(fault))));
     }
-    match session.into_trace() {
+    // A text without a fault has a header.
+    let Session::Open(growing) = session else {
+        unreachable!()
+    };
+    match growing.into_trace() {
         Ok(trace) => Ok(Turn::End(trace)),
         Err(refused) => Err(refused),
     }

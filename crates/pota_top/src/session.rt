@@ -134,8 +134,8 @@ impl Growing {
         }
     }
 
-    // The trace, where no clock names an event of another process.
-    fn into_trace(self) -> Result<Trace, Refused<Stop>>
+    /// The trace, where no clock names an event of another process.
+    pub fn into_trace(self) -> Result<Trace, Refused<Stop>>
         requires { (g : Growth) × IsGrowth self g }
         ensures { (g : Growth) → IsGrowth self g → Hands (growing g) result }
     {
@@ -157,7 +157,7 @@ impl Growing {
 impl Session {
     ghost use Rattle.event_log.specs.declared.item.Item.{Item};
     ghost use Rattle.pota_top.specs.Due.{Judgement, opened, judge, judged};
-    ghost use Rattle.pota_top.specs.Session.{IsSession, MayFollow, Takes, Hands, batches_in};
+    ghost use Rattle.pota_top.specs.Session.{IsSession, MayFollow, Takes, batches_in};
 
     // The header stands.
     fn open(
@@ -238,17 +238,5 @@ impl Session {
             Session::Open(growing) => growing.trace.batches(),
         };
         Stop { batches, fault }
-    }
-
-    /// The trace of all items, at the end of a log without a fault.
-    pub fn into_trace(self) -> Result<Trace, Refused<Stop>>
-        requires { (j : Judgement) × IsSession self j }
-        ensures { (j : Judgement) → IsSession self j → Hands j result }
-    {
-        match self {
-            // A log without a fault has a header, so this answer is never given.
-            Session::Waiting => Err(Refused::NoMemory),
-            Session::Open(growing) => growing.into_trace(),
-        }
     }
 }
