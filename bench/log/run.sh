@@ -2,20 +2,12 @@
 # Prints the time of reading and of checking a generated log apart, and the time that the program takes for the texts that cost the
 # most. It works on a scratch copy of the crates, where what is timed is proved and built.
 set -e
-top=$(cd "$(dirname "$0")/../.." && pwd)
-scratch=$(mktemp -d)
-trap 'rm -rf "$scratch"' EXIT
-git -C "$scratch" init -q
-cp "$top/HANDLES" "$scratch/"
-mkdir "$scratch/crates"
-for name in run_model pota_base pota_names cut_lattice log_lines event_log causal_order vector_clock trace_growth pota_top pota worked_rows; do
-    mkdir "$scratch/crates/$name"
-    (cd "$top/crates/$name" && tar cf - --exclude=out .) | tar xf - -C "$scratch/crates/$name"
-    grep "^$name:" "$top/crates.txt" >> "$scratch/crates.txt"
-done
+here=$(cd "$(dirname "$0")" && pwd)
+. "$here/../scratch.sh"
+scratch_crates run_model pota_base pota_names cut_lattice log_lines event_log causal_order vector_clock trace_growth pota_top pota worked_rows
 cd "$scratch/crates/worked_rows"
 rm -r data stdout src/case.rt src/verdict.rt
-cp "$top/bench/log/main.txt" src/main.rt
+cp "$here/main.txt" src/main.rt
 rt run 2>/dev/null
 
 header='pota-log 1\nprocs P\nvars P x=0\n'
