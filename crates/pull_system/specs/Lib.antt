@@ -1,4 +1,5 @@
 pub mod Vector
 pub mod System
+pub mod Pulls
 pub mod Rows
 pub mod Climb

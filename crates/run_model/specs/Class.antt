@@ -156,6 +156,15 @@ unfoldable mutual
 abbrev pub IsRegular : Formula → Type 0
 IsRegular f = IsTrue (is_conjunctive true f)
 
+-- what a run has to keep for a formula to be regular in it: nothing more, since sends and receipts never fall in any run
+abbrev pub IsKeptFor : Run → Formula → Type 0
+IsKeptFor r f = ⊤
+
+-- a formula is regular in a run by its form, and by what the run keeps for it
+pub record IsRegularIn (r : Run) (f : Formula) : Type 0 where
+  pub form : IsRegular f
+  pub kept : IsKeptFor r f
+
 -- a formula of the class that is analysed
 abbrev pub IsOfClass : Formula → Type 0
 IsOfClass f = IsTrue (is_disjunctive true f)

@@ -33,6 +33,12 @@ pub record IsRun (r : Run) : Type 0 where
   pub sent_rises : (p q a b : ℕ) → a ≤ b → r.sent p q a ≤ r.sent p q b
   pub received_rises : (p q a b : ℕ) → a ≤ b → r.received p q a ≤ r.received p q b
 
+-- at a consistent cut no channel has more receipts than sends, as in every log whose messages have no fault
+abbrev pub ReceiptsHaveSends : Run → Type 0
+ReceiptsHaveSends r =
+    (p q : ℕ) → (p ≡ q → ⊥) → (c : Cut) → IsConsistent r.clocks c
+    → r.received p q (count c q) ≤ r.sent p q (count c p)
+
 -- EX, AF, AX and until are outside the fragment that is analysed. They are refused before any truth is asked, so no meaning is given
 -- to them and no promise speaks of them
 abbrev mutual
