@@ -1,10 +1,12 @@
 -- The order of a run by its vector clocks, the consistent cuts, and the paths through them.
-use Rattle.std.specs.Prelude.{◌≡◌, ℕ, ◌-◌, ◌<◌, ◌≤◌, List, [], ◌∷◌, length, get_or}
+use Rattle.std.specs.Prelude.{◌≡◌, ℕ, zero, suc, ◌<◌, ◌≤◌, List, [], ◌∷◌, length, get_or}
 use Rattle.run_model.specs.Cut.{Cut, Clocks, count, IsWithin, Follows, lengths}
 
--- the past of event a of process i, which has the event itself: its vector clock (Fidge; Mattern). Events count from 1
+-- the past of event a of process i, which has the event itself: its vector clock (Fidge; Mattern). Events count from 1, so that
+-- there is no past of event 0
 unfoldable pub clock : Clocks → ℕ → ℕ → Cut
-clock o i a = get_or (get_or o i []) (a - 1) []
+clock o i zero = []
+clock o i (suc a) = get_or (get_or o i []) a []
 
 -- event a of process i is in the cut
 abbrev pub IsEvent : Cut → ℕ → ℕ → Type 0
@@ -19,8 +21,10 @@ pub record IsOrder (o : Clocks) : Type 0 where
   pub transitive : (i a j b : ℕ) → IsEvent (lengths o) i a → IsEvent (clock o i a) j b → IsWithin (clock o j b) (clock o i a)
   pub loopless : (i a j b : ℕ) → IsEvent (lengths o) i a → IsEvent (clock o i a) j b → a ≤ count (clock o j b) i → (i ≡ j) × (a ≡ b)
 
--- event a of process i happened before event b of process j (Lamport), as the clocks state it
+-- event a of process i happened before event b of process j (Lamport), as the clocks state it, where both are there
 pub record HappenedBefore (o : Clocks) (i a j b : ℕ) : Type 0 where
+  pub first : IsEvent (lengths o) i a
+  pub second : IsEvent (lengths o) j b
   pub in_past : IsEvent (clock o j b) i a
   pub differs : (i ≡ j) × (a ≡ b) → ⊥
 

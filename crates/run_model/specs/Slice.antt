@@ -1,6 +1,6 @@
 -- Slices (Mittal and Garg): a closed set of cuts by its least cut and, for each event, the least cut that has the event
 -- (Birkhoff: a finite distributive lattice is known by its join-irreducible members).
-use Rattle.std.specs.Prelude.{◌≡◌, ℕ, zero, suc, ◌≤◌, List, [], ◌∷◌, Option, Some, None, All, ◌&&◌, nat_lt, if◌then◌else◌, length, flat_map}
+use Rattle.std.specs.Prelude.{◌≡◌, ℕ, zero, suc, ◌≤◌, List, [], ◌∷◌, Option, Some, None, MatchOption, All, ◌&&◌, nat_lt, if◌then◌else◌, length, flat_map}
 use Rattle.std.specs.List.{range_with_len}
 use Rattle.run_model.specs.Cut.{Cut, Clocks, count, IsWithin, lengths}
 use Rattle.run_model.specs.Consistent.{IsConsistent, IsEvent, clock}
@@ -78,10 +78,24 @@ edges_of o s high =
     flat_map (λ p. flat_map (λ a. flat_map (edge_into o s p a) (range_with_len 0 (length (cut_of (s.row p a))))) (range_with_len 1 (count high p)))
     (range_with_len 0 (length high))
 
--- how a set's slice is printed: its least cut, its greatest cut and its edges
+-- how a slice with cuts is printed: its least cut, its greatest cut and its edges
 pub record IsPrintedAs (o : Clocks) (A : Cut → Type 0) (low high : Cut) (edges : List Edge) : Type 0 where
   pub slice : Slice
   pub stands : StandsFor o slice A
   pub least : IsLeast A low
   pub greatest : IsGreatest A high
   pub listed : edges ≡ edges_of o slice high
+
+-- the text of a slice: its least and its greatest cut and its edges, or no bounds where the slice is empty
+pub record SliceText : Type 0 where
+  pub bounds : Option (Cut × Cut)
+  pub edges : List Edge
+
+-- the set that the text of a slice denotes
+abbrev pub DenotedBy : Clocks → SliceText → Cut → Type 0
+DenotedBy o text c = MatchOption text.bounds ⊥ (λ bounds. Denoted o bounds.0 bounds.1 text.edges c)
+
+-- the text is that of the set's slice
+abbrev pub IsTextOf : Clocks → (Cut → Type 0) → SliceText → Type 0
+IsTextOf o A text = MatchOption text.bounds ((text.edges ≡ []) × ((c : Cut) → A c → ⊥))
+    (λ bounds. IsPrintedAs o A bounds.0 bounds.1 text.edges)

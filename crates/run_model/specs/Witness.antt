@@ -1,11 +1,11 @@
 -- Witnesses of a temporal formula at the initial cut: the kinds, when a witness is of its kind, and the canonical one (both ours).
-use Rattle.std.specs.Prelude.{◌≡◌, ℕ, ◌+◌, ◌<◌, ◌≤◌, ◌⊎◌, ◌↔◌, Bool, true, false, IsFalse, List, [], ◌∷◌, length, Option, Some, None}
+use Rattle.std.specs.Prelude.{◌≡◌, ℕ, ◌+◌, ◌<◌, ◌≤◌, ◌⊎◌, ◌↔◌, Bool, true, false, IsFalse, List, [], ◌∷◌, length, Option, Some, None, MatchOption}
 use Rattle.run_model.specs.Cut.{Cut, Clocks, count, IsWithin, with_next, lengths, initial}
 use Rattle.run_model.specs.Run.{Run}
 use Rattle.run_model.specs.Consistent.{clock, IsEvent, IsConsistent}
 use Rattle.run_model.specs.Sublattice.{IsLeast}
-use Rattle.run_model.specs.Slice.{Slice, Cuts}
-use Rattle.run_model.specs.Formula.{Operator, Ef, Ag, Eg, Formula, Truth, Comparison, Watched, InTransit, Empty, Not, And, Or, Temporal, Until}
+use Rattle.run_model.specs.Slice.{Slice, Cuts, StandsFor}
+use Rattle.run_model.specs.Formula.{Operator, Ef, Ag, Eg, Ex, Af, Ax, Formula, Truth, Comparison, Watched, InTransit, Empty, Not, And, Or, Temporal, Until}
 use Rattle.run_model.specs.Meaning.{Sat, Family}
 
 -- an event by its process, from 0, and its position there, from 1
@@ -102,17 +102,52 @@ Departs o s e = row_at s e ≡ Some (clock o e.process e.position) → ⊥
 abbrev pub Shares : Slice → Place → Place → Type 0
 Shares s e f = AreTwo e f × (row_at s f ≡ row_at s e)
 
+-- the operators whose parts get a witness: EF, AG and EG by the words that they stand for
+pub data WitnessOperator : Type 0 where
+  ExistsFinally : WitnessOperator
+  AlwaysGlobally : WitnessOperator
+  ExistsGlobally : WitnessOperator
+
+-- the part that an operator makes of its operand
+abbrev pub part_of : WitnessOperator → Formula → Formula
+part_of ExistsFinally f = Temporal Ef f
+part_of AlwaysGlobally f = Temporal Ag f
+part_of ExistsGlobally f = Temporal Eg f
+
 -- the witness that is given for an operator over an operand with this slice
-pub data IsCanonical (o : Clocks) (s : Slice) : Operator → Witness → Type 0 where
+pub data IsCanonical (o : Clocks) (s : Slice) : WitnessOperator → Witness → Type 0 where
   -- EF: to the least cut, if there is one
-  reaches : {path : PathTo} → s.bottom ≡ Some path.goal → FirstStepsTo o path → IsCanonical o s Ef (Reach path)
-  never : s.bottom ≡ None → IsCanonical o s Ef Nothing
+  reaches : {path : PathTo} → s.bottom ≡ Some path.goal → FirstStepsTo o path → IsCanonical o s ExistsFinally (Reach path)
+  never : s.bottom ≡ None → IsCanonical o s ExistsFinally Nothing
   -- AG: against the initial cut, else against the past of the first event whose row is not its past
-  refuted_at_start : (Cuts o s (initial o) → ⊥) → IsCanonical o s Ag (Against (record { goal = initial o; steps = [] }))
-  refuted : {path : PathTo} {e : Place} → Cuts o s (initial o) → IsFirst o (Departs o s) e → path.goal ≡ clock o e.process e.position → FirstStepsTo o path → IsCanonical o s Ag (Against path)
-  each_time : Cuts o s (initial o) → ((e : Place) → IsPlace o e → row_at s e ≡ Some (clock o e.process e.position)) → IsCanonical o s Ag Nothing
+  refuted_at_start : (Cuts o s (initial o) → ⊥) → IsCanonical o s AlwaysGlobally (Against (record { goal = initial o; steps = [] }))
+  refuted : {path : PathTo} {e : Place} → Cuts o s (initial o) → IsFirst o (Departs o s) e → path.goal ≡ clock o e.process e.position → FirstStepsTo o path → IsCanonical o s AlwaysGlobally (Against path)
+  each_time : Cuts o s (initial o) → ((e : Place) → IsPlace o e → row_at s e ≡ Some (clock o e.process e.position)) → IsCanonical o s AlwaysGlobally Nothing
   -- EG: a path through the slice, else what stands against it: the initial cut, the final cut, or the first two events that share a row
-  stays : {path : PathTo} → path.goal ≡ lengths o → FirstSteps (Cuts o s) (initial o) path.steps path.goal → IsCanonical o s Eg (Always path)
-  false_at_start : (Cuts o s (initial o) → ⊥) → IsCanonical o s Eg StuckStart
-  false_at_finish : Cuts o s (initial o) → (Cuts o s (lengths o) → ⊥) → IsCanonical o s Eg StuckFinish
-  come_together : {first other : Place} → Cuts o s (initial o) → Cuts o s (lengths o) → IsFirst o (λ e. (f : Place) × IsPlace o f × Shares s e f) first → IsFirst o (Shares s first) other → IsCanonical o s Eg (StuckPair first other)
+  stays : {path : PathTo} → path.goal ≡ lengths o → FirstSteps (Cuts o s) (initial o) path.steps path.goal → IsCanonical o s ExistsGlobally (Always path)
+  false_at_start : (Cuts o s (initial o) → ⊥) → IsCanonical o s ExistsGlobally StuckStart
+  false_at_finish : Cuts o s (initial o) → (Cuts o s (lengths o) → ⊥) → IsCanonical o s ExistsGlobally StuckFinish
+  come_together : {first other : Place} → Cuts o s (initial o) → Cuts o s (lengths o) → IsFirst o (λ e. (f : Place) × IsPlace o f × Shares s e f) first → IsFirst o (Shares s first) other → IsCanonical o s ExistsGlobally (StuckPair first other)
+
+-- the operator and the operand of a part that gets a witness
+abbrev pub explained : Formula → Option (WitnessOperator × Formula)
+explained (Truth b) = None
+explained (Comparison process variable relation side) = None
+explained (Watched process watch) = None
+explained (InTransit sender receiver relation k) = None
+explained (Empty sender receiver) = None
+explained (Not f) = None
+explained (And fs) = None
+explained (Or fs) = None
+explained (Temporal Ef f) = Some (ExistsFinally, f)
+explained (Temporal Ag f) = Some (AlwaysGlobally, f)
+explained (Temporal Eg f) = Some (ExistsGlobally, f)
+explained (Temporal Ex f) = None
+explained (Temporal Af f) = None
+explained (Temporal Ax f) = None
+explained (Until all left right) = None
+
+-- the witness of a part in a run: the canonical one by the slice of its operand's family, and none where the part has no such operand
+abbrev pub IsWitnessOf : Run → Formula → Witness → Type 0
+IsWitnessOf r f w = MatchOption (explained f) (w ≡ Nothing)
+    (λ part. (s : Slice) × StandsFor r.clocks s (Family r part.1) × IsCanonical r.clocks s part.0 w)

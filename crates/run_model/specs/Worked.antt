@@ -6,7 +6,7 @@ use Rattle.run_model.specs.Formula.{Equal, Unequal, LessOrEqual, Number, Operato
 use Rattle.run_model.specs.Meaning.{Sat, Family}
 use Rattle.run_model.specs.Class.{Shown}
 use Rattle.run_model.specs.Slice.{Slice, StandsFor, Edge, IsPrintedAs}
-use Rattle.run_model.specs.Witness.{Place, PathTo, Witness, IsCanonical}
+use Rattle.run_model.specs.Witness.{WitnessOperator, Place, PathTo, Witness, IsCanonical}
 use Rattle.std.specs.Ordering.{int_eq}
 use Rattle.std.specs.Cmp.Lexicographic.{pointwise}
 
@@ -113,7 +113,7 @@ abbrev pub path_to : Cut → List Place → PathTo
 path_to goal steps = record { goal = goal; steps = steps }
 
 -- the canonical witness for the operator over this operand, by whichever slice of the operand's family
-abbrev pub HasWitness : Trace → Operator → Formula → Witness → Type 0
+abbrev pub HasWitness : Trace → WitnessOperator → Formula → Witness → Type 0
 HasWitness trace operator operand witness =
     (s : Slice) → StandsFor (run_with_watch trace).clocks s (Family (run_with_watch trace) operand) → IsCanonical (run_with_watch trace).clocks s operator witness
 

@@ -7,10 +7,10 @@ ghost use Rattle.run_model.specs.Sublattice.{IsClosed, IsLeast, IsGreatest, Havi
 /// Happened before is a strict partial order (Lamport), and the events of one process stand in it in their
 /// order.
 pub fn happened_before_is_an_order()
-    ensures transitive { (o : Clocks) → IsOrder o → (i a j b k d : ℕ) → IsEvent (lengths o) k d
+    ensures transitive { (o : Clocks) → IsOrder o → (i a j b k d : ℕ)
         → HappenedBefore o i a j b → HappenedBefore o j b k d → HappenedBefore o i a k d }
     ensures irreflexive { (o : Clocks) (i a : ℕ) → HappenedBefore o i a i a → ⊥ }
-    ensures asymmetric { (o : Clocks) → IsOrder o → (i a j b : ℕ) → IsEvent (lengths o) j b
+    ensures asymmetric { (o : Clocks) → IsOrder o → (i a j b : ℕ)
         → HappenedBefore o i a j b → HappenedBefore o j b i a → ⊥ }
     ensures along_a_process { (o : Clocks) → IsOrder o → (i a b : ℕ) → IsEvent (lengths o) i b
         → 0 < a → a < b → HappenedBefore o i a i b }
