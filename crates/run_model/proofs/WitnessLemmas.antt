@@ -5,7 +5,7 @@ use Rattle.run_model.specs.Run.{Run}
 use Rattle.run_model.specs.Consistent.{clock, IsOrder, IsConsistent, IsPath}
 use Rattle.run_model.specs.Sublattice.{AllIn, IsClosed, Having}
 use Rattle.run_model.specs.Slice.{Slice, HasWithin, IsLeastOf, Cuts, StandsFor, Fits}
-use Rattle.run_model.specs.Formula.{Operator, Ef, Ag, Eg, Ex, Af, Ax, Formula, Temporal}
+use Rattle.run_model.specs.Formula.{Formula}
 use Rattle.run_model.specs.Meaning.{Sat, Family}
 use Rattle.run_model.specs.Witness.{WitnessOperator, ExistsFinally, AlwaysGlobally, ExistsGlobally, part_of, Place, PathTo, Witness, StepsIn, IsOfKind, FirstSteps, FirstStepsTo, IsFirst, row_at, Departs, Shares, IsPlace, IsCanonical}
 use Rattle.run_model.specs.Witness as W

@@ -6,7 +6,7 @@ use Rattle.run_model.specs.Run.{Trace, clocks_of}
 use Rattle.run_model.specs.Consistent.{clock, IsOrder, IsConsistent}
 use Rattle.run_model.specs.Sublattice.{IsClosed, Smallest}
 use Rattle.run_model.specs.Slice.{Slice, Cuts, StandsFor}
-use Rattle.run_model.specs.Formula.{Operator, Ef, Ag, Eg, Formula}
+use Rattle.run_model.specs.Formula.{Formula}
 use Rattle.run_model.specs.Meaning.{Family}
 use Rattle.run_model.specs.Class.{is_conjunctive}
 use Rattle.run_model.specs.Witness.{WitnessOperator, ExistsFinally, AlwaysGlobally, ExistsGlobally, Place, PathTo, Witness, Nothing, Reach, Against, Always, StuckStart, StuckFinish, StuckPair, FirstSteps, FirstStepsTo, IsPlace, IsBefore, IsFirst, row_at, Departs, Shares, AreTwo, IsCanonical}

@@ -5,7 +5,7 @@ use Rattle.run_model.specs.Run.{Run}
 use Rattle.run_model.specs.Consistent.{clock, IsEvent, IsConsistent}
 use Rattle.run_model.specs.Sublattice.{IsLeast}
 use Rattle.run_model.specs.Slice.{Slice, Cuts, StandsFor}
-use Rattle.run_model.specs.Formula.{Operator, Ef, Ag, Eg, Ex, Af, Ax, Formula, Truth, Comparison, Watched, InTransit, Empty, Not, And, Or, Temporal, Until}
+use Rattle.run_model.specs.Formula.{Ef, Ag, Eg, Ex, Af, Ax, Formula, Truth, Comparison, Watched, InTransit, Empty, Not, And, Or, Temporal, Until}
 use Rattle.run_model.specs.Meaning.{Sat, Family}
 
 -- an event by its process, from 0, and its position there, from 1

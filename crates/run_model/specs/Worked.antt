@@ -2,7 +2,7 @@
 use Rattle.std.specs.Prelude.{ℕ, Bool, true, MatchBool, List, [], ◌∷◌, ℤ, pos}
 use Rattle.run_model.specs.Cut.{Cut, initial}
 use Rattle.run_model.specs.Run.{Name, Kind, Internal, Send, Receive, Event, Process, Trace, Run, run_of}
-use Rattle.run_model.specs.Formula.{Equal, Unequal, LessOrEqual, Number, Operator, Formula, Comparison, And, Or, Nil, Cons}
+use Rattle.run_model.specs.Formula.{Equal, Unequal, LessOrEqual, Number, Formula, Comparison, And, Or, Nil, Cons}
 use Rattle.run_model.specs.Meaning.{Sat, Family}
 use Rattle.run_model.specs.Class.{Shown}
 use Rattle.run_model.specs.Slice.{Slice, StandsFor, Edge, IsPrintedAs}
