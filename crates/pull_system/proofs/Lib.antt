@@ -1,4 +1,5 @@
 pub mod Marks
+pub mod PullLists
 pub mod Starts
 pub mod Sums
 pub mod Pulls

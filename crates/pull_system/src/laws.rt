@@ -1,5 +1,7 @@
 //! Laws on systems and rows. The functions do nothing.
-ghost use Rattle.std.specs.Prelude.{◌≡◌, ℕ, ◌<◌, ◌≤◌, List, length, sum, slice_index, slice_set};
+ghost use Rattle.std.specs.Prelude.{◌≡◌, ◌↔◌, ℕ, ◌<◌, ◌≤◌, Bool, true, List, ◌++◌, length, sum, slice_index, slice_set};
+ghost use Rattle.pull_system.specs.declared.pull.Pull.{Pull};
+ghost use Rattle.pull_system.specs.Pulls.{ClosedUnder, first_below};
 ghost use Rattle.pota_base.specs.declared.shape.EventId.{EventId};
 ghost use Rattle.pota_base.specs.Shape.{HasEvent, row_of};
 ghost use Rattle.pull_system.specs.Vector.{IsVector, IsMinimum, IsMaximum};
@@ -24,4 +26,23 @@ pub fn row_starts()
     ensures event { (lens : List ℕ) (event : EventId) → HasEvent lens event → start_of lens (row_of lens event) ≡ slice_set (start_of lens 0) event.process event.position }
     ensures vector { (lens : List ℕ) (row : ℕ) → IsVector lens (start_of lens row) }
     ensures place { (lens : List ℕ) (row process : ℕ) → row ≤ sum lens → process < length lens → slice_index (starts lens) (place_of lens row process) ≡ slice_index (start_of lens row) process }
+{}
+
+/// Closedness under a list of pulls: that of a system is under its pulls, and two lists joined are both.
+pub fn closed_lists()
+    ensures system { (system : SystemView) (v : List ℕ) → IsClosed system v ↔ ClosedUnder system.pulls v }
+    ensures left { (ps qs : List Pull) (v : List ℕ) → ClosedUnder (ps ++ qs) v → ClosedUnder ps v }
+    ensures right { (ps qs : List Pull) (v : List ℕ) → ClosedUnder (ps ++ qs) v → ClosedUnder qs v }
+    ensures both { (ps qs : List Pull) (v : List ℕ) → ClosedUnder ps v → ClosedUnder qs v
+        → ClosedUnder (ps ++ qs) v }
+{}
+
+/// The least number below a bound that passes a test, or the bound.
+pub fn first_numbers()
+    ensures within { (test : ℕ → Bool) (n : ℕ) → first_below test n ≤ n }
+    ensures passes { (test : ℕ → Bool) (n : ℕ) → first_below test n < n → test (first_below test n) ≡ true }
+    ensures least { (test : ℕ → Bool) (n k : ℕ) → k < n → test k ≡ true → first_below test n ≤ k }
+    ensures grows { (test after : ℕ → Bool) (n m : ℕ) → n ≤ m
+        → ((k : ℕ) → k < n → after k ≡ true → test k ≡ true)
+        → first_below test n ≤ first_below after m }
 {}
