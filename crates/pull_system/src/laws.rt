@@ -4,9 +4,11 @@ ghost use Rattle.pull_system.specs.declared.pull.Pull.{Pull};
 ghost use Rattle.pull_system.specs.Pulls.{ClosedUnder, first_below};
 ghost use Rattle.pota_base.specs.declared.shape.EventId.{EventId};
 ghost use Rattle.pota_base.specs.Shape.{HasEvent, row_of};
-ghost use Rattle.pull_system.specs.Vector.{IsVector, IsMinimum, IsMaximum};
+ghost use Rattle.pull_system.specs.Vector.{IsWithin, IsVector, IsMinimum, IsMaximum};
 ghost use Rattle.pull_system.specs.System.{SystemView, IsSystem, IsClosed, IsLeastFrom};
-ghost use Rattle.pull_system.specs.Rows.{start_of, starts, place_of};
+ghost use Rattle.pull_system.specs.Rows.{RowsView, AreLeastRows, start_of, starts, place_of, row_at};
+ghost use Rattle.pull_system.specs.Growth.{Grows, grown_words};
+ghost use Rattle.pull_system.specs.Climb.{IsBelowLeast};
 
 /// From each start there is exactly one least closed vector, so a row's is a function of the system and the row.
 pub fn least_vectors()
@@ -45,4 +47,16 @@ pub fn first_numbers()
     ensures grows { (test after : ℕ → Bool) (n m : ℕ) → n ≤ m
         → ((k : ℕ) → k < n → after k ≡ true → test k ≡ true)
         → first_below test n ≤ first_below after m }
+{}
+
+/// What grows from one system to a later one of more events, whose pulls ask at least what the earlier ones do.
+pub fn growing_systems()
+    ensures least { (before after : SystemView) → IsSystem before → Grows before after
+        → (start v w : List ℕ) → IsLeastFrom before start v → IsLeastFrom after start w
+        → IsWithin v w }
+    ensures rows { (before after : SystemView) → IsSystem before → Grows before after
+        → (old : RowsView) → old.lens ≡ before.lens → AreLeastRows before old.words
+        → (row : ℕ) → row ≤ sum after.lens
+        → IsBelowLeast after (start_of after.lens row)
+        (row_at after.lens (grown_words after.lens old) row) }
 {}
