@@ -113,3 +113,25 @@ row_at-first_rows lens row_of sizes row there =
     ext_get_or 0 _ _ (size ∙ sym (sizes row)) (λ i below.
     let i_there : i < length lens = omega arith in
     get_or-row_at lens words row i i_there ∙ first_rows-place row_of (length lens) (sum lens + 1) (λ r _. sizes r) row i (omega arith) i_there)
+
+lt_or_ge : (i n : ℕ) → (i < n) ⊎ (n ≤ i)
+lt_or_ge i n = grind arith
+
+append_within : (xs ys vs ws : List ℕ) → length xs ≡ length ys → ((i : ℕ) → get_or xs i 0 ≤ get_or ys i 0) → ((i : ℕ) → get_or vs i 0 ≤ get_or ws i 0) → (i : ℕ) → get_or (xs ++ vs) i 0 ≤ get_or (ys ++ ws) i 0
+append_within xs ys vs ws size front back i =
+    elim (lt_or_ge i (length xs)) [
+      | inl there ↦ omega (arith, front i, get_or-append xs vs 0 i there, get_or-append ys ws 0 i (omega arith))
+      | inr past ↦
+          let k : ℕ = i - length xs in
+          let at_xs : i ≡ length xs + k = omega arith in
+          let at_ys : i ≡ length ys + k = omega arith in
+          omega (arith, back k, ap (λ j. get_or (xs ++ vs) j 0) at_xs, get_or-append-add xs vs k 0, ap (λ j. get_or (ys ++ ws) j 0) at_ys, get_or-append-add ys ws k 0)
+    ]
+
+-- rows within rows
+pub first_rows-within : (f g : ℕ → List ℕ) (size rows : ℕ) → ((row : ℕ) → length (f row) ≡ size) → ((row : ℕ) → length (g row) ≡ size) → ((row i : ℕ) → get_or (f row) i 0 ≤ get_or (g row) i 0) → (i : ℕ)
+    → get_or (first_rows f rows) i 0 ≤ get_or (first_rows g rows) i 0
+first_rows-within f g size zero size_f size_g within i = omega arith
+first_rows-within f g size (suc rows) size_f size_g within i =
+    append_within (first_rows f rows) (first_rows g rows) (f rows) (g rows) (length-first_rows f size rows (λ r _. size_f r) ∙ sym (length-first_rows g size rows (λ r _. size_g r)))
+    (first_rows-within f g size rows size_f size_g within) (within rows) i
