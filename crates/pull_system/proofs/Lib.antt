@@ -1,4 +1,6 @@
 pub mod Marks
+pub mod PullLists
+pub mod Growing
 pub mod Starts
 pub mod Sums
 pub mod Pulls
