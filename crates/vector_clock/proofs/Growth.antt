@@ -66,7 +66,7 @@ grown_with old now (e ∷ batch) grown fits =
     grown_with old (with_row now e.process e.clock) batch (grown_more old now e.process e.clock grown fits.0.process)
     (subst (λ (n : ℕ). AllByRecursion (HasClock n) batch) (sym (length-set now e.process _)) fits.1)
 
-clock_suc : (o : Clocks) (p a : ℕ) → clock o p (suc a) ≡ get_or (get_or o p []) a []
+pub clock_suc : (o : Clocks) (p a : ℕ) → clock o p (suc a) ≡ get_or (get_or o p []) a []
 unfolding clock
 clock_suc o p a = refl
 
