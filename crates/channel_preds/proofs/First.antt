@@ -1,7 +1,7 @@
 -- The first number that passes a test.
 use Rattle.std.proofs.Common.{◌≡◌, ℕ, zero, suc, ◌<◌, ◌≤◌, Bool, true, false, inl, inr, refl, ap, sym, subst, ◌∙◌, arith, below_more}
 use Rattle.std.specs.Prelude.{nat_lt, if◌then◌else◌}
-use Rattle.std.proofs.lemmas.Bool.{cases_lt, lt-ltb, le-ltb}
+use Rattle.std.proofs.lemmas.Bool.{cases_lt, lt-ltb, le-ltb, false≢true}
 use Rattle.pull_system.specs.Pulls.{first_below}
 
 -- it is within the bound, passes if it is below it, and none before it passes
@@ -26,3 +26,31 @@ pub first_is : (test : ℕ → Bool) (n : ℕ) → IsFirst test n (first_below t
 unfolding first_below
 first_is test zero = record { within = omega arith; passes = λ h. absurd (omega arith); before = λ y h. absurd (omega arith) }
 first_is test (suc n) = next_first test n (first_below test n) (test n) refl (first_is test n)
+
+-- there is one first number
+pub first_below_is : (test : ℕ → Bool) (n r : ℕ) → IsFirst test n r → first_below test n ≡ r
+first_below_is test n r h =
+    let f = first_is test n in
+    elim (cases_lt (first_below test n) r) [
+      | inl less ↦ absurd (false≢true (sym (h.before (first_below test n) less) ∙ f.passes (omega (arith, h.within))))
+      | inr more ↦ elim (cases_lt r (first_below test n)) [
+        | inl less ↦ absurd (false≢true (sym (f.before r less) ∙ h.passes (omega (arith, f.within))))
+        | inr same ↦ omega arith
+      ]
+    ]
+
+-- a first number is within each number below the bound that passes
+pub first_least : (test : ℕ → Bool) (n y : ℕ) → y < n → test y ≡ true → first_below test n ≤ y
+first_least test n y lt yes_ = elim (cases_lt y (first_below test n)) [
+  | inl less ↦ absurd (false≢true (sym ((first_is test n).before y less) ∙ yes_))
+  | inr done ↦ done
+]
+
+-- with more numbers, of which those below the old bound pass only where they did before, it is no less
+pub first_grows : (test after : ℕ → Bool) (n m : ℕ) → n ≤ m → ((y : ℕ) → y < n → after y ≡ true → test y ≡ true) → first_below test n ≤ first_below after m
+first_grows test after n m h passes =
+    let f = first_is after m in
+    elim (cases_lt (first_below after m) n) [
+      | inl less ↦ first_least test n (first_below after m) less (passes (first_below after m) less (f.passes (omega (arith, h))))
+      | inr past ↦ omega (arith, (first_is test n).within)
+    ]

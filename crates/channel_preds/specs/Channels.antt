@@ -1,5 +1,5 @@
 -- The messages of a channel, counted along its two processes, and the pulls that bounds on their number ask for.
-use Rattle.std.specs.Prelude.{ℕ, ◌+◌, ◌-◌, ◌≤◌, ◌<◌, ◌==◌, min, nat_le, Bool, false, List, [], ◌∷◌, length, map, take, get_or, count_by, slice_index, if◌then◌else◌}
+use Rattle.std.specs.Prelude.{◌≡◌, ℕ, ◌+◌, ◌-◌, ◌≤◌, ◌<◌, ◌==◌, min, nat_le, Bool, false, List, [], ◌∷◌, length, map, take, get_or, count_by, slice_index, if◌then◌else◌}
 use Rattle.std.specs.List.{range_with_len}
 use Rattle.run_model.specs.Run.{is_send_to, is_receipt_from}
 use Rattle.event_log.specs.declared.log.Event.{Event}
@@ -65,18 +65,54 @@ channel_of states sender receiver = record {
   received = counts_of (receipts_from sender receiver) (events_at states receiver);
 }
 
+-- the channel is between processes of the shape, and has a count after each number of their events
+pub record FitsShape (lens : List ℕ) (channel : ChannelView) : Type 0 where
+  pub sender : channel.sender < length lens
+  pub receiver : channel.receiver < length lens
+  pub sent : length channel.sent ≡ slice_index lens channel.sender + 1
+  pub received : length channel.received ≡ slice_index lens channel.receiver + 1
+
+-- the vector's components at the two processes are numbers of their events, none past the end
+pub record IsWithinChannel (channel : ChannelView) (v : List ℕ) : Type 0 where
+  pub sender : slice_index v channel.sender < length channel.sent
+  pub receiver : slice_index v channel.receiver < length channel.received
+
+-- the sends and the receipts within a vector
+abbrev pub sent_at : ChannelView → List ℕ → ℕ
+sent_at channel v = slice_index channel.sent (slice_index v channel.sender)
+
+abbrev pub received_at : ChannelView → List ℕ → ℕ
+received_at channel v = slice_index channel.received (slice_index v channel.receiver)
+
 -- ---- the pulls
 
--- For each position of the leading process, the first position of the following one whose count, with `extra`, has reached the
--- leading count, with `more`; or the number of counts where there is none. The last entry is the one before it again.
+-- the first position whose count, with `extra`, has reached the bound, or the number of counts where there is none
+abbrev pub first_reaching : List ℕ → ℕ → ℕ → ℕ
+first_reaching follows extra bound =
+    first_below (λ y. nat_le bound (slice_index follows y + extra)) (length follows)
+
+-- a count of the leading process; past its last one, that one again
+abbrev pub lead_at : List ℕ → ℕ → ℕ
+lead_at leads x = slice_index leads (min x (length leads - 1))
+
+-- for each position of the leading process the first one of the following process whose count, with `extra`, has reached the
+-- leading count, with `more`; one entry past the last position is that of the last position again
 abbrev pub first_positions : List ℕ → ℕ → List ℕ → ℕ → List ℕ
 first_positions leads more follows extra =
-    map (λ x. first_below (λ y. nat_le (slice_index leads (min x (length leads - 1)) + more) (slice_index follows y + extra)) (length follows)) (range_with_len 0 (length leads + 1))
+    map (λ x. first_reaching follows extra (lead_at leads x + more)) (range_with_len 0 (length leads + 1))
 
 -- at most k messages are under way: the receipts, with k, have reached the sends
 abbrev pub at_most_pull : ChannelView → ℕ → Pull
-at_most_pull channel k = record { src = channel.sender; dst = channel.receiver; table = first_positions channel.sent 0 channel.received k }
+at_most_pull channel k = record {
+  src = channel.sender;
+  dst = channel.receiver;
+  table = first_positions channel.sent 0 channel.received k;
+}
 
 -- at least k messages are under way: the sends have reached the receipts, with k
 abbrev pub at_least_pull : ChannelView → ℕ → Pull
-at_least_pull channel k = record { src = channel.receiver; dst = channel.sender; table = first_positions channel.received k channel.sent 0 }
+at_least_pull channel k = record {
+  src = channel.receiver;
+  dst = channel.sender;
+  table = first_positions channel.received k channel.sent 0;
+}

@@ -3,5 +3,6 @@
 
 mod channel;
 mod counted;
+mod positions;
 
-pub use channel::{Channel, counts};
+pub use channel::{Channel, at_least, at_most, counts};
