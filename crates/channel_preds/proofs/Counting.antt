@@ -1,5 +1,5 @@
 -- Counts along the events of a process.
-use Rattle.std.proofs.Common.{◌≡◌, ℕ, zero, suc, ◌+◌, ◌-◌, ◌<◌, ◌≤◌, Bool, true, false, List, [], ◌∷◌, ◌++◌, length, map, take, get_or, refl, ap, sym, ◌∙◌, arith}
+use Rattle.std.proofs.Common.{◌≡◌, ℕ, zero, suc, ◌+◌, ◌-◌, ◌<◌, ◌≤◌, Bool, true, false, List, [], ◌∷◌, ◌++◌, length, map, take, get_or, refl, ap, sym, subst, ◌∙◌, arith}
 use Rattle.std.specs.Prelude.{if◌then◌else◌, count_by}
 use Rattle.std.specs.List.{range_with_len}
 use Rattle.std.proofs.lemmas.List.Sums.{count_by-le-length, count_by_more_yes, count_by_more_no, sum_by-take-le, get_or-le-sum_by}
@@ -9,7 +9,7 @@ use Rattle.pota_base.specs.Shape.{IsShape}
 use Rattle.event_log.specs.States.{StatesView}
 use Rattle.event_log.specs.declared.log.Event.{Event}
 use Rattle.channel_preds.specs.declared.counted.Counted.{Counted}
-use Rattle.channel_preds.specs.Channels.{is_counted, count_of, counts_of, AreCounts, events_at}
+use Rattle.channel_preds.specs.Channels.{is_counted, count_of, counts_of, AreCounts, events_at, sends_to, receipts_from, ChannelView, channel_of, FitsShape}
 
 -- the counts after at most i events are told, and this is the last of them
 pub record CountedSoFar (which : Counted) (events : List Event) (i count : ℕ) (counts : List ℕ) : Type 0 where
@@ -79,3 +79,16 @@ pub few_events : (states : StatesView) (lens : List ℕ) (process : ℕ) → pro
 few_events states lens process there shape is =
     let size : length lens ≡ length states.events = ap (λ (l : List ℕ). length l) shape ∙ length-map states.events (λ (es : List Event). length es) in
     omega (arith, is.events, length-events_at states lens process (get_or lens process 0) there shape refl, get_or-le-sum_by (λ (n : ℕ). n) lens process 0 (omega arith))
+
+-- the channel has a count after each number of events of its processes
+pub channel_fits : (states : StatesView) (p q : ℕ) → p < length states.events → q < length states.events → (channel : ChannelView) → channel ≡ channel_of states p q
+    → FitsShape (map length states.events) channel
+channel_fits states p q source target channel is =
+    let lens : List ℕ = map length states.events in
+    let size : length lens ≡ length states.events = length-map states.events length in
+    subst (λ (ch : ChannelView). FitsShape lens ch) (sym is) (record {
+      sender = omega arith;
+      receiver = omega arith;
+      sent = length-counts_of (sends_to p q) (events_at states p) ∙ ap (λ (n : ℕ). n + 1) (length-events_at states lens p (get_or lens p 0) source refl refl);
+      received = length-counts_of (receipts_from p q) (events_at states q) ∙ ap (λ (n : ℕ). n + 1) (length-events_at states lens q (get_or lens q 0) target refl refl);
+    })

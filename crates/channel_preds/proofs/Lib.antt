@@ -1,3 +1,3 @@
-pub mod First
 pub mod Counting
 pub mod Reaching
+pub mod Tables

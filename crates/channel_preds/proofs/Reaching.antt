@@ -6,24 +6,23 @@ use Rattle.std.proofs.lemmas.Bool.{le-leb, lt-leb, leb-true, leb-false}
 use Rattle.std.proofs.lemmas.List.FromFn.{map-range_with_len_more}
 use Rattle.pull_system.specs.Pulls.{first_below}
 use Rattle.channel_preds.specs.Channels.{AreCounts, first_reaching, lead_at, first_positions}
-use Rattle.channel_preds.proofs.First.{IsFirst, first_is, first_below_is}
+use Rattle.pull_system.proofs.PullLists.{first_within}
+use Rattle.pull_system.proofs.FirstNumbers.{first_is, first_none, first_before}
 
-reached : List ℕ → ℕ → ℕ → ℕ → Bool
+abbrev pub reached : List ℕ → ℕ → ℕ → ℕ → Bool
 reached follows extra bound y = nat_le bound (get_or follows y 0 + extra)
 
 -- this is the first position that has reached the bound
 pub first_reached : (follows : List ℕ) (extra bound r : ℕ) → r < length follows → ((y : ℕ) → y < r → get_or follows y 0 + extra < bound) → bound ≤ get_or follows r 0 + extra
     → r ≡ first_reaching follows extra bound
 first_reached follows extra bound r there before at =
-    sym (first_below_is (λ y. nat_le bound (get_or follows y 0 + extra)) (length follows) r
-        (record { within = omega arith; passes = λ _. le-leb bound _ at; before = λ y lt. lt-leb bound _ (before y lt) }))
+    sym (first_is (reached follows extra bound) (length follows) r there (le-leb bound _ at) (λ y lt. lt-leb bound _ (before y lt)))
 
 -- none has
 pub none_reached : (follows : List ℕ) (extra bound : ℕ) → ((y : ℕ) → y < length follows → get_or follows y 0 + extra < bound)
     → length follows ≡ first_reaching follows extra bound
 none_reached follows extra bound before =
-    sym (first_below_is (λ y. nat_le bound (get_or follows y 0 + extra)) (length follows) (length follows)
-        (record { within = omega arith; passes = λ lt. absurd (omega arith); before = λ y lt. lt-leb bound _ (before y lt) }))
+    sym (first_none (reached follows extra bound) (length follows) (λ y lt. lt-leb bound _ (before y lt)))
 
 -- ---- one entry after the other
 
@@ -47,14 +46,14 @@ placed_more leads more follows extra i place table counts there h next is =
     let lead : lead_at leads i ≡ get_or leads i 0 = ap (λ (x : ℕ). get_or leads x 0) here in
     let same : next ≡ entry leads more follows extra i = is ∙ ap (λ (l : ℕ). first_reaching follows extra (l + more)) (sym lead) in
     let before : i + 1 - 1 ≡ i = omega arith in
-    let f = first_is (λ y. nat_le (get_or leads i 0 + more) (get_or follows y 0 + extra)) (length follows) in
+    let bound = get_or leads i 0 + more in
     record {
       told = ap (λ (l : List ℕ). l ++ next ∷ []) h.told ∙ ap (λ (n : ℕ). map (entry leads more follows extra) (range_with_len 0 i) ++ n ∷ []) same
           ∙ sym (map-range_with_len_more (entry leads more follows extra) 0 i i (omega arith));
-      within = omega (arith, is, f.within);
+      within = omega (arith, is, first_within (reached follows extra bound) (length follows));
       last = λ _. same ∙ ap (entry leads more follows extra) (sym before);
       none = λ x y from end lt.
-          let low : get_or follows y 0 + extra < get_or leads i 0 + more = leb-false _ _ (f.before y (omega (arith, is))) in
+          let low : get_or follows y 0 + extra < get_or leads i 0 + more = leb-false _ _ (first_before (reached follows extra bound) (length follows) y (omega (arith, is))) in
           omega (arith, low, counts.rises i x (omega arith) end);
     }
 
@@ -67,6 +66,3 @@ placed_all leads more follows extra i place table counts end h =
     ap (λ (l : List ℕ). l ++ place ∷ []) h.told ∙ ap (λ (n : ℕ). map (entry leads more follows extra) (range_with_len 0 i) ++ n ∷ []) same
     ∙ sym (map-range_with_len_more (entry leads more follows extra) 0 i i (omega arith))
     ∙ ap (λ (n : ℕ). map (entry leads more follows extra) (range_with_len 0 (n + 1))) end
-
-pub reaching_within : (follows : List ℕ) (extra bound : ℕ) → first_reaching follows extra bound ≤ length follows
-reaching_within follows extra bound = (first_is (λ y. nat_le bound (get_or follows y 0 + extra)) (length follows)).within

@@ -46,11 +46,8 @@ pub fn counts(
     ensures channel { IfOk result (λ channel. channel ≡ channel_of states.now sender receiver) }
     ensures shape { IfOk result (FitsShape (map length states.now.events)) }
 {
-    let (sends, receipts) = if sender == receiver {
-        (Counted::Nothing, Counted::Nothing)
-    } else {
-        (Counted::SendsTo(receiver), Counted::ReceiptsFrom(sender))
-    };
+    let sends = Counted::sends(sender, receiver);
+    let receipts = Counted::receipts(sender, receiver);
     let sent = count_along(alloc, states, sender, sends)?;
     let received = count_along(alloc, states, receiver, receipts)?;
     Ok(Channel {

@@ -1,7 +1,8 @@
 //! What a channel counts along each of its processes.
 ghost use Rattle.std.specs.Prelude.{◌≡◌, [], ◌<◌, length, get_or, IfOk};
 ghost use Rattle.event_log.specs.States.{kind_of};
-ghost use Rattle.channel_preds.specs.Channels.{is_counted, counts_of, AreCounts, events_at};
+ghost use Rattle.channel_preds.specs.Channels.{is_counted, sends_to, receipts_from};
+ghost use Rattle.channel_preds.specs.Channels.{counts_of, AreCounts, events_at};
 
 use event_log::{Kind, States};
 use pota_base::{EventId, List, NoMemory};
@@ -16,6 +17,28 @@ pub enum Counted {
 }
 
 impl Counted {
+    /// The sends from one process to another. A process sends nothing to itself.
+    pub fn sends(sender: u32, receiver: u32) -> Counted
+        ensures { result ≡ sends_to sender receiver }
+    {
+        if sender == receiver {
+            Counted::Nothing
+        } else {
+            Counted::SendsTo(receiver)
+        }
+    }
+
+    /// The receipts at one process from another. A process receives nothing from itself.
+    pub fn receipts(sender: u32, receiver: u32) -> Counted
+        ensures { result ≡ receipts_from sender receiver }
+    {
+        if sender == receiver {
+            Counted::Nothing
+        } else {
+            Counted::ReceiptsFrom(sender)
+        }
+    }
+
     /// Whether an event of this kind is counted.
     pub fn has(self, kind: Kind) -> bool
         ensures { result ≡ is_counted self kind }
