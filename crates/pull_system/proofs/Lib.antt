@@ -1,5 +1,6 @@
 pub mod Marks
 pub mod PullLists
+pub mod FirstNumbers
 pub mod Growing
 pub mod Starts
 pub mod Sums
