@@ -9,7 +9,8 @@ ghost use Rattle.run_model.specs.Meaning.{IsRun, Sat, Family};
 ghost use Rattle.run_model.specs.Class.{IsRegular, IsRegularIn, parts, disjuncts, SatParts};
 ghost use Rattle.model_laws.specs.Agreement.{AgreeOn};
 
-/// A regular formula has one disjunct, which is its parts, and is true exactly where all of them are.
+/// A regular formula has one disjunct, which is its parts, and is true exactly where all of them
+/// are.
 pub fn parts_mean_the_formula()
     ensures one_disjunct { (f : Formula) → IsRegular f → disjuncts true f ≡ parts true f ∷ [] }
     ensures meaning { (r : Run) → IsOrder r.clocks → (f : Formula) → IsRegular f

@@ -1,4 +1,5 @@
-// Worked examples as laws: the verdicts, printed slices and canonical witnesses of formulas on the small logs.
+// Worked examples as laws: the verdicts, printed slices and canonical witnesses of formulas on the
+// small logs.
 ghost use Rattle.std.specs.Prelude.{◌↔◌, true, false, pos, [], ◌∷◌, Contains, IsFalse};
 ghost use Rattle.run_model.specs.Cut.{Cut};
 ghost use Rattle.run_model.specs.Run.{clocks_of};
@@ -79,7 +80,8 @@ pub fn empty_each_time()
 pub fn empty_all_along()
     ensures verdict { HasVerdict five_events (Temporal Eg (Empty p q)) false }
     ensures slice { HasSlice five_events (Temporal Eg (Empty p q)) (cut 1 1) (cut 3 2) [] }
-    ensures witness { HasWitness five_events ExistsGlobally (Empty p q) (StuckPair (at 0 1) (at 1 1)) }
+    ensures witness { HasWitness five_events ExistsGlobally (Empty p q)
+        (StuckPair (at 0 1) (at 1 1)) }
 {}
 
 /// `EG P.x <= 2` on the five events.
@@ -101,7 +103,8 @@ pub fn two_can_always_be_reached()
 /// `P.x = 1 & Q.y = 2 | P.x = 2 & Q.y = 1` on the five events: two of the four cuts that are shown
 /// satisfy neither side.
 pub fn one_of_two_pairs()
-    ensures verdict { HasVerdict five_events (one_of (both (x_is 1) (y_is 2)) (both (x_is 2) (y_is 1)))
+    ensures verdict { HasVerdict five_events
+        (one_of (both (x_is 1) (y_is 2)) (both (x_is 2) (y_is 1)))
         false }
     ensures slice { HasSlice five_events (one_of (both (x_is 1) (y_is 2)) (both (x_is 2) (y_is 1)))
         (cut 1 1) (cut 2 2) [] }
@@ -111,7 +114,8 @@ pub fn one_of_two_pairs()
 pub fn true_without_events()
     ensures verdict { HasVerdict no_events (Temporal Eg (Truth true)) true }
     ensures slice { HasSlice no_events (Temporal Eg (Truth true)) (0 ∷ []) (0 ∷ []) [] }
-    ensures witness { HasWitness no_events ExistsGlobally (Truth true) (Always (path_to (0 ∷ []) [])) }
+    ensures witness { HasWitness no_events ExistsGlobally (Truth true)
+        (Always (path_to (0 ∷ []) [])) }
 {}
 
 /// `EF (P.x = 1 & Q.y = 0)` and `EF (P.x = 2 & Q.y = 1)` on the two events.
@@ -123,7 +127,8 @@ pub fn one_before_the_other()
 /// `P.x = 0 & Q.y = 1 | P.x = 1 & Q.y = 0` on the two events: the initial cut is shown, and the
 /// formula is false there.
 pub fn exactly_one_step()
-    ensures verdict { HasVerdict two_events (one_of (both (x_is 0) (y_is 1)) (both (x_is 1) (y_is 0)))
+    ensures verdict { HasVerdict two_events
+        (one_of (both (x_is 0) (y_is 1)) (both (x_is 1) (y_is 0)))
         false }
     ensures slice { HasSlice two_events (one_of (both (x_is 0) (y_is 1)) (both (x_is 1) (y_is 0)))
         (cut 0 0) (cut 1 1) [] }
@@ -142,7 +147,8 @@ pub fn not_one()
     ensures slice { HasSlice five_events (x_is_not 1)
         (cut 0 0) (cut 3 2) (edge 0 2 0 1 ∷ edge 0 2 1 1 ∷ []) }
     ensures all_along { HasVerdict five_events (Temporal Eg (x_is_not 1)) false }
-    ensures witness { HasWitness five_events ExistsGlobally (x_is_not 1) (StuckPair (at 0 1) (at 0 2)) }
+    ensures witness { HasWitness five_events ExistsGlobally (x_is_not 1)
+        (StuckPair (at 0 1) (at 0 2)) }
 {}
 
 /// `EF (P@stable & Q.y = 2)` on the five events, where the watch is true after none and after three
