@@ -1,8 +1,8 @@
 -- What a trace is at each moment, and what a batch adds to it.
-use Rattle.std.proofs.Common.{◌≡◌, ℕ, zero, suc, List, [], ◌∷◌, ◌++◌, length, map, get_or, refl, sym, ap, ◌∙◌, subst, arith, append-nil}
-use Rattle.std.specs.Prelude.{ℤ, None}
+use Rattle.std.proofs.Common.{◌≡◌, ℕ, zero, suc, List, [], ◌∷◌, ◌++◌, length, map, get_or, refl, sym, ap, ◌∙◌, subst, arith}
+use Rattle.std.specs.Prelude.{ℤ, Bool, false, None}
 use Rattle.std.specs.List.{AllByRecursion}
-use Rattle.std.proofs.lemmas.List.{length-replicate}
+use Rattle.std.proofs.lemmas.List.{map-append}
 use Rattle.event_log.specs.declared.log.Event.{Event}
 use Rattle.event_log.specs.declared.log.Binding.{Binding}
 use Rattle.event_log.specs.declared.log.Header.{Header}
@@ -13,14 +13,14 @@ use Rattle.causal_order.specs.Growth.{HasGrown, with_clocks}
 use Rattle.causal_order.proofs.Growing.{grown_none}
 use Rattle.vector_clock.specs.declared.clocks.Clocks as code
 use Rattle.vector_clock.specs.Events.{Events, EventFits, clocks_of, own_events, no_events}
-use Rattle.vector_clock.specs.Faults.{batch_fault, fault_from}
+use Rattle.vector_clock.specs.Faults.{batch_fault}
 use Rattle.vector_clock.specs.Faultless.{AreFaultless, no_batch, one_batch}
 use Rattle.vector_clock.specs.Admitted.{HasAdmitted}
 use Rattle.vector_clock.proofs.BatchLaws.{trace_clocks}
 use Rattle.vector_clock.proofs.Growth.{length-clocks_of, clocks_more, fits_have_clocks, grown_with, length-with_batch}
 use Rattle.vector_clock.proofs.Delivered.{events_grow}
 use Rattle.vector_clock.proofs.Receipts.{faultless_count, faultless_run, run_events}
-use Rattle.trace_growth.specs.Growing.{TraceView, FitsTrace, HasTaken, IsTrace, with_trace_batch}
+use Rattle.trace_growth.specs.Growing.{TraceView, FitsTrace, HasTaken, KeepsTrace, IsTrace}
 use Rattle.trace_growth.specs.Laws.{StatesHaveGrown}
 
 -- ---- each moment
@@ -97,3 +97,16 @@ states_grow states batch is fits p =
     let opening : run.opening_state after ≡ run.opening_state before = opening_same states.header.procs states.header.vars states.events new p names vars same in
     let behind = states_behind (run.opening_state before) before.events (map event_of grown.0) in
     (behind.0, ap (λ (state : List ℤ). run.states_from state after.events) opening ∙ ap (run.states_from (run.opening_state before)) events ∙ behind.1)
+
+-- ---- as the code's values say it
+
+pub kept_trace : (states : StatesView) (clocks : code.Clocks) (spent : Bool) (batches : ℕ) (trace : TraceView) → KeepsTrace states clocks spent
+    → ◌≡◌ {A = TraceView} (record { states = states; batches = batches; spent = spent }) trace → trace.spent ≡ false → IsTrace trace.states
+kept_trace states clocks spent batches trace keeps view live =
+    let taken = keeps (ap (λ (t : TraceView). t.spent) view ∙ live) in
+    subst IsTrace (ap (λ (t : TraceView). t.states) view) (is_trace states taken.header taken.faultless)
+
+pub fits_inside : (states : StatesView) (trace : TraceView) (batch bytes : List Event) → states ≡ trace.states → FitsTrace trace batch → bytes ≡ batch → AllByRecursion (EventFits (length states.events)) bytes
+fits_inside states trace batch bytes is fits same =
+    subst (λ (b : List Event). AllByRecursion (EventFits (length states.events)) b) (sym same)
+    (subst (λ (s : StatesView). AllByRecursion (EventFits (length s.events)) batch) (sym is) fits.each)

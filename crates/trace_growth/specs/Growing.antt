@@ -42,8 +42,8 @@ pub record FitsTrace (trace : TraceView) (batch : List Event) : Type 0 where
 pub record IsTrace (states : StatesView) : Type 0 where
   pub whole : AreWhole states
   pub faultless : AreFaultless (length states.header.procs) states.events
-  pub run : IsLoggedRun (trace_of states)
   pub clocks : run.clocks_of (trace_of states) ≡ clocks_of states.events
+  pub run : IsLoggedRun (trace_of states)
 
 -- the fields fit each other: the clocks are those of the states' events, which came without a fault
 pub record HasTaken (states : StatesView) (clocks : Clocks) : Type 0 where
