@@ -17,7 +17,7 @@ mod writing;
 
 pub use history::History;
 pub use item::{Fed, Item, LogCode, LogFault};
-pub use laws::{a_log_reads_back, no_fault_is_a_log};
+pub use laws::{a_log_reads_back, items_fit, no_fault_is_a_log};
 pub use log::{Assign, Binding, Event, Header, Kind, Log};
 pub use pota_names::Name;
 pub use reader::Reader;

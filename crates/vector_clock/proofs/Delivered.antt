@@ -200,11 +200,11 @@ events_grow events (e ∷ batch) fits p =
     let rest = events_grow (with_event events e) batch (subst (λ (n : ℕ). AllByRecursion (EventFits n) batch) (sym (length-set events e.process _)) fits.1) p in
     elim (cases_eq p e.process) [
       | inl same ↦ (
-          e ∷ rest.0,
-          rest.1
-          ∙ ap (λ (es : List Event). es ++ rest.0) (ap (own_events (with_event events e)) same ∙ own_same events e fits.0.clock.process ∙ ap (λ (k : ℕ). own_events events k ++ e ∷ []) (sym same))
-          ∙ append_assoc (own_events events p) (e ∷ []) rest.0,
-        )
+        e ∷ rest.0,
+        rest.1
+            ∙ ap (λ (es : List Event). es ++ rest.0) (ap (own_events (with_event events e)) same ∙ own_same events e fits.0.clock.process ∙ ap (λ (k : ℕ). own_events events k ++ e ∷ []) (sym same))
+            ∙ append_assoc (own_events events p) (e ∷ []) rest.0,
+      )
       | inr other ↦ (rest.0, rest.1 ∙ ap (λ (es : List Event). es ++ rest.0) (own_other events e p other))
     ]
 

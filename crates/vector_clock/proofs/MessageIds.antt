@@ -51,8 +51,13 @@ counted : (of : Kind → List ℕ) (test : run.Kind → Bool) → ((k : Kind) �
     → length (ids of es) ≡ count_by (λ (e : run.Event). test e.kind) (map event_of es)
 counted of test one [] = refl
 counted of test one (e ∷ es) =
-    omega (arith, length-append (of e.kind) (ids of es), one e.kind, counted of test one es,
-    sum_by-cons (λ (x : run.Event). if test x.kind then 1 else 0) (event_of e) (map event_of es))
+    omega (
+      arith,
+      length-append (of e.kind) (ids of es),
+      one e.kind,
+      counted of test one es,
+      sum_by-cons (λ (x : run.Event). if test x.kind then 1 else 0) (event_of e) (map event_of es),
+    )
 
 pub length-sent_ids : (q : ℕ) (es : List Event) → length (ids (sent_id q) es) ≡ count_by (λ (e : run.Event). run.is_send_to q e.kind) (map event_of es)
 length-sent_ids q es = counted (sent_id q) (run.is_send_to q) (sent_one q) es

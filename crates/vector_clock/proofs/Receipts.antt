@@ -143,7 +143,7 @@ receipts_have_sends events p q c order delivered consistent =
 -- ---- the run
 
 -- the events of a process of the run
-run_events : (names : List (List ℕ)) (vars : List (List Binding)) (events : Events) (p : ℕ) → length names ≡ length events → length vars ≡ length events
+pub run_events : (names : List (List ℕ)) (vars : List (List Binding)) (events : Events) (p : ℕ) → length names ≡ length events → length vars ≡ length events
     → (run.process_at (processes_of names vars events) p).events ≡ map event_of (own_events events p)
 run_events [] vars [] p h k = refl
 run_events [] vars (es ∷ events) p h k = absurd (omega arith)

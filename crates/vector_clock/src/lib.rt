@@ -12,7 +12,8 @@ mod places;
 
 pub use clocks::{Clocks, check};
 pub use laws::{
-    faultless_is_a_run, no_fault_is_a_run, no_fault_is_an_order, only_new_names_count, worked_faults,
+    faultless_is_a_run, no_fault_is_a_run, no_fault_is_an_order, only_new_names_count,
+    worked_faults,
 };
 
 #[cfg(test)]

@@ -25,7 +25,7 @@ use Rattle.event_log.proofs.LineSteps.{told-ended, told-heading, told-procs, tol
 use Rattle.event_log.proofs.ReadLaws.{items-next, fine_again}
 use Rattle.event_log.proofs.BodyLaws.{LogRead, log_read}
 use Rattle.event_log.proofs.FaultLaws.{fault_free, stuck_items-byte, items_byte-next}
-use Rattle.pota_top.specs.Session.{FitFrom, FitFirst}
+use Rattle.event_log.specs.FittingItems.{FitFrom, FitFirst}
 
 -- ---- fronts
 
