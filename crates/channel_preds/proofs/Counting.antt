@@ -3,7 +3,7 @@ use Rattle.std.proofs.Common.{◌≡◌, ℕ, zero, suc, ◌+◌, ◌-◌, ◌<�
 use Rattle.std.specs.Prelude.{if◌then◌else◌, count_by}
 use Rattle.std.specs.List.{range_with_len}
 use Rattle.std.proofs.lemmas.List.Sums.{count_by-le-length, count_by_more_yes, count_by_more_no, sum_by-take-le, get_or-le-sum_by}
-use Rattle.std.proofs.lemmas.List.{take-take, get_or-map, length-map}
+use Rattle.std.proofs.lemmas.List.{take-take, take-append-le, get_or-map, length-map}
 use Rattle.std.proofs.lemmas.List.FromFn.{map-range_with_len_more, length-map-range_with_len, get_or-map-range_with_len}
 use Rattle.pota_base.specs.Shape.{IsShape}
 use Rattle.event_log.specs.States.{StatesView}
@@ -60,12 +60,15 @@ count_of-rises which events a b h =
     omega (arith, ap (λ (es : List Event). count_by (λ (e : Event). is_counted which e.kind) es) part,
         sum_by-take-le (λ (e : Event). if is_counted which e.kind then 1 else 0) (take b events) a)
 
-pub counts_are : (which : Counted) (events : List Event) → length events ≤ 50000 → AreCounts (counts_of which events)
-counts_are which events few = record {
+pub counts_are : (which : Counted) (events : List Event) → AreCounts (counts_of which events)
+counts_are which events = record {
   some = omega (arith, length-counts_of which events);
-  few = omega (arith, length-counts_of which events);
   rises = λ x y h there. omega (arith, length-counts_of which events, get_or-counts_of which events x, get_or-counts_of which events y, count_of-rises which events x y h);
 }
+
+-- the counts before more events came are the first of those after
+pub counts_of-append : (which : Counted) (events more : List Event) (a : ℕ) → a ≤ length events → count_of which (events ++ more) a ≡ count_of which events a
+counts_of-append which events more a h = ap (λ (es : List Event). count_by (λ (e : Event). is_counted which e.kind) es) (take-append-le a events more h)
 
 -- ---- the lengths of the processes
 

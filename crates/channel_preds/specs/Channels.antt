@@ -45,12 +45,14 @@ pub record ChannelView : Type 0 where
 -- a count after each number of events of a process, none included; it never falls
 pub record AreCounts (counts : List ℕ) : Type 0 where
   pub some : 1 ≤ length counts
-  pub few : length counts ≤ 50001
   pub rises : (x y : ℕ) → x ≤ y → y < length counts → slice_index counts x ≤ slice_index counts y
 
+-- a run has at most 50,000 events
 pub record IsChannel (channel : ChannelView) : Type 0 where
   pub sent : AreCounts channel.sent
   pub received : AreCounts channel.received
+  pub few_sent : length channel.sent ≤ 50001
+  pub few_received : length channel.received ≤ 50001
 
 -- the events of a process
 abbrev pub events_at : StatesView → ℕ → List Event

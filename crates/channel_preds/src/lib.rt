@@ -3,6 +3,8 @@
 
 mod channel;
 mod counted;
+mod laws;
 mod positions;
 
 pub use channel::{Channel, at_least, at_most, counts};
+pub use laws::{bounds_hold_where_they_are_true, channel_pulls_grow};
