@@ -4,7 +4,6 @@ pub mod Spelled
 pub mod Telling
 pub mod Reaching
 pub mod Named
-pub mod Fitting
 pub mod Dues
 pub mod SessionSteps
 pub mod Logs
