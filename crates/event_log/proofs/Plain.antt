@@ -27,7 +27,7 @@ decimal_plain n fits = decimal_by_steps (λ _ ds. HasNoFeed ds)
     (λ k ds big ih. all_append IsPlainByte ds ((48 + k % 10) ∷ []) ih (ne_eqb (48 + k % 10) 10 (omega arith), tt))
     n fits
 
-signed_plain : (z : ℤ) → FitsSigned w64 z → HasNoFeed (signed_decimal z)
+pub signed_plain : (z : ℤ) → FitsSigned w64 z → HasNoFeed (signed_decimal z)
 signed_plain (pos n) fits = decimal_plain n (omega (arith, ints))
 signed_plain (negsuc n) fits = (refl, decimal_plain (suc n) (omega (arith, ints)))
 

@@ -114,6 +114,29 @@ plain_in bytes =
     else if bytes_eq bytes (codes "stuck finish") then Some witness.StuckFinish
     else None
 
+-- ---- the steps of a path
+
+abbrev pub has_path : Witness → Bool
+has_path (witness.Reach path) = true
+has_path (witness.Against path) = true
+has_path (witness.Always path) = true
+has_path w = false
+
+abbrev pub steps_of : Witness → List EventId
+steps_of (witness.Reach path) = path.steps
+steps_of (witness.Against path) = path.steps
+steps_of (witness.Always path) = path.steps
+steps_of w = []
+
+-- the witness with these steps of its path, if it has one
+abbrev pub with_steps : Witness → List EventId → Witness
+with_steps (witness.Reach path) steps = witness.Reach (record { goal = path.goal; steps = steps })
+with_steps (witness.Against path) steps = witness.Against (record { goal = path.goal; steps = steps })
+with_steps (witness.Always path) steps = witness.Always (record { goal = path.goal; steps = steps })
+with_steps w steps = w
+
+-- ---- the line of a witness
+
 -- what is told behind the numbers of a witness
 unfoldable pub kind_in : List Name → Cut → List ℕ → Option Witness
 kind_in procs lengths bytes =

@@ -6,7 +6,7 @@ use Rattle.run_model.specs.Cut.{Cut, IsWithin}
 use Rattle.pota_base.specs.declared.shape.EventId.{EventId}
 use Rattle.pota_base.specs.Shape.{HasEvent}
 use Rattle.log_lines.specs.Names.{Name}
-use Rattle.log_lines.specs.Spelling.{clock_text}
+use Rattle.log_lines.specs.Spelling.{ProcsFit, clock_text}
 use Rattle.event_log.specs.LogText.{name_at}
 use Rattle.witness_kinds.specs.declared.Path.{Path}
 use Rattle.witness_kinds.specs.declared.Witness.{Witness}
@@ -115,3 +115,8 @@ pub record WitnessTextFits (lengths : Cut) (w : WitnessText) : Type 0 where
   pub disjunct : IsPositive w.disjunct
   pub part : IsPositive w.part
   pub witness : WitnessFits lengths w.witness
+
+-- the names and the lengths of the processes of a run
+pub record RunFits (names : List Name) (counts : Cut) : Type 0 where
+  pub procs : ProcsFit names
+  pub lengths : LengthsFit names counts
