@@ -120,3 +120,8 @@ pub record WitnessTextFits (lengths : Cut) (w : WitnessText) : Type 0 where
 pub record RunFits (names : List Name) (counts : Cut) : Type 0 where
   pub procs : ProcsFit names
   pub lengths : LengthsFit names counts
+
+-- the processes of the events of a pair have names
+abbrev pub IsNamed : List Name → Witness → Type 0
+IsNamed procs (witness.StuckPair first other) = (first.process < length procs) × (other.process < length procs)
+IsNamed procs w = Unit {0}
