@@ -21,6 +21,7 @@ use Rattle.event_log.proofs.EventLaws.{line_fits}
 use Rattle.event_log.specs.Moments.{IsPlainByte, HasNoFeed}
 use Rattle.event_log.proofs.WriteLaws.{vars_fit}
 
+-- no number, name, list of either or clock has a line feed
 pub decimal_plain : (n : ℕ) → n < 2 ^ 64 → HasNoFeed (decimal n)
 decimal_plain n fits = decimal_by_steps (λ _ ds. HasNoFeed ds)
     (λ k low. (ne_eqb (48 + k) 10 (omega arith), tt))
@@ -45,7 +46,7 @@ pub names_plain : (ns : List Name) → AllByRecursion (λ n. is_name n ≡ true)
 names_plain [] fits = tt
 names_plain (n ∷ ns) fits = (refl, all_append IsPlainByte n (names_text ns) (name_plain n fits.0) (names_plain ns fits.1))
 
-values_plain : (vs : List NamedValue) → AllByRecursion ValueFits vs → HasNoFeed (values_text vs)
+pub values_plain : (vs : List NamedValue) → AllByRecursion ValueFits vs → HasNoFeed (values_text vs)
 values_plain [] fits = tt
 values_plain (v ∷ vs) fits = (refl, all_append IsPlainByte v.name (61 ∷ (signed_decimal v.value ++ values_text vs)) (name_plain v.name fits.0.name) (refl, all_append IsPlainByte (signed_decimal v.value) (values_text vs) (signed_plain v.value fits.0.value) (values_plain vs fits.1)))
 

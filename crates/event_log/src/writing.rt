@@ -23,7 +23,7 @@ pub fn put_spaced(out: &mut Bytes, word: &[u8]) -> Result<(), NoMemory>
     out.extend_from_slice(word)
 }
 
-/// Appends the names, each behind a space.
+/// Writes ` NAME` for each of the names.
 pub fn put_names(out: &mut Bytes, names: &[Name]) -> Result<(), NoMemory>
     ensures { OnOk result (out.new ≡ out.old ++ names_text names.now) }
 {
@@ -89,7 +89,7 @@ fn put_clock_rest(out: &mut Bytes, clock: &[u32]) -> Result<(), NoMemory>
     Ok(())
 }
 
-/// Appends the numbers with a comma between each two.
+/// Writes the counts of a clock or a cut, with commas between them.
 pub fn put_clock(out: &mut Bytes, clock: &[u32]) -> Result<(), NoMemory>
     ensures { OnOk result (out.new ≡ out.old ++ clock_text clock.now) }
 {

@@ -1,6 +1,5 @@
 pub mod RequestLaws
 pub mod Words
-pub mod Spelled
 pub mod Telling
 pub mod Reaching
 pub mod Named
