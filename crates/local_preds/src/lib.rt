@@ -1,13 +1,9 @@
-// A library with one function.
+//! Local expressions: the truth of one in each state of its process, as a pull.
 #![tactic(auto)]
 
-ghost use Rattle.std.specs.Prelude.{◌≡◌};
-ghost use Rattle.local_preds.specs.Echo.{echo_of};
+mod along;
+mod holding;
+// mod rows;
 
-// The `ensures` clause is the contract: what `echo` returns is `echo_of` of its argument, a definition
-// in `specs/Echo.antt`, which a caller's clause can cite too.
-pub fn echo(x: usize) -> usize
-    ensures { result ≡ echo_of x }
-{
-    x
-}
+pub use along::{constant_pulls, pulls_of};
+// pub use rows::truth_row;
