@@ -93,7 +93,8 @@ fn assigns_in(
     Ok(assigns)
 }
 
-/// The event of a line, after `events` events of the log. The acting process is looked up first, then the peer.
+/// The event of a line, after `events` events of the log. The acting process is looked up first,
+/// then the peer.
 #[tactic(auto, unfolding(crate::specs::Numbers::event_named))]
 pub fn event_named(
     alloc: Global,
