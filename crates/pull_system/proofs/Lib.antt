@@ -1,6 +1,7 @@
 pub mod Marks
 pub mod PullLists
 pub mod Growing
+pub mod Asking
 pub mod Starts
 pub mod Sums
 pub mod Pulls
