@@ -1,6 +1,7 @@
 //! Systems of monotone pulls between the components of a vector, and one vector per row.
 #![tactic(auto)]
 
+mod asks;
 mod laws;
 mod pull;
 mod risen;
