@@ -6,3 +6,5 @@ pub mod Class
 pub mod Alike
 pub mod Names
 pub mod Sizes
+pub mod Derived
+pub mod Meaning

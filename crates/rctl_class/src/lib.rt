@@ -17,10 +17,15 @@ ghost use Rattle.rctl_parse.specs.Reading.{Faults};
 ghost use Rattle.std.specs.Prelude.{◌≡◌, false, MatchResult, Some, true};
 
 mod channel;
+mod laws;
 mod local;
 mod named;
 mod walk;
 
+pub use laws::{
+    disjuncts_mean_the_formula, faultless_formulas_are_of_the_class,
+    read_formulas_are_within_limits,
+};
 pub use named::{Classed, NamedExpr, NamedPart, NamedSide};
 
 use pota_base::{List, Refused};
