@@ -1,6 +1,7 @@
 -- The data of a trace: the header, and the events of each process in their order.
-use Rattle.std.specs.Prelude.{◌≡◌, ℕ, ℤ, ◌+◌, ◌<◌, ◌≤◌, List, [], ◌∷◌, ◌++◌, length, map, take, set, sum, get_or, replicate}
+use Rattle.std.specs.Prelude.{◌≡◌, ℕ, ℤ, ◌+◌, ◌<◌, ◌≤◌, true, List, [], ◌∷◌, ◌++◌, length, map, take, set, sum, get_or, replicate}
 use Rattle.std.specs.List.{AllByRecursion}
+use Rattle.log_lines.specs.Names.{are_distinct}
 use Rattle.event_log.specs.declared.log.Binding.{Binding}
 use Rattle.event_log.specs.declared.log.Header.{Header}
 use Rattle.event_log.specs.declared.log.Kind.{Kind}
@@ -8,6 +9,7 @@ use Rattle.event_log.specs.declared.log.Kind.TheVariants as kind
 use Rattle.event_log.specs.declared.log.Assign.{Assign}
 use Rattle.event_log.specs.declared.log.Event.{Event}
 use Rattle.event_log.specs.declared.log.Log.{Log}
+use Rattle.event_log.specs.Numbers.{binding_names}
 use Rattle.run_model.specs.Run as run
 
 -- ---- logged values as the run model has them, without their lines
@@ -87,11 +89,22 @@ unfoldable pub with_batch : List (List Event) → List Event → List (List Even
 with_batch events [] = events
 with_batch events (e ∷ rest) = with_batch (with_event events e) rest
 
--- as many processes as lists of variables, 1 to 32
+-- no two variables have one name
+abbrev pub AreNamedApart : List Binding → Type 0
+AreNamedApart bindings = are_distinct (binding_names bindings) ≡ true
+
+-- 1 to 32 processes and a list of variables for each. No two processes have one name, nor have two variables of one process
 pub record IsHeader (header : Header) : Type 0 where
   pub some : 1 ≤ length header.procs
   pub few : length header.procs ≤ 32
   pub vars : length header.vars ≡ length header.procs
+  pub distinct : are_distinct header.procs ≡ true
+  pub variables : AllByRecursion AreNamedApart header.vars
+
+-- a header, and a list of events for each of its processes
+pub record AreWhole (s : StatesView) : Type 0 where
+  pub header : IsHeader s.header
+  pub events : length s.events ≡ length s.header.procs
 
 -- the process of the event is there, and so are the variables that it assigns
 pub record IsKnown (header : Header) (e : Event) : Type 0 where

@@ -83,6 +83,15 @@ impl History {
         self.values[position * self.width + variable]
     }
 
+    /// The values of all variables after so many events, in the order of the variables.
+    pub fn state(&self, position: usize) -> &[i64]
+        requires { position ≤ length self.now.events }
+        ensures { result.now ≡ get_or (states_in self.now) position [] }
+    {
+        let start = position * self.width;
+        &self.values[start..start + self.width]
+    }
+
     /// The event at a position, counted from 1.
     pub fn event(&self, position: usize) -> &Event
         requires first { 1 ≤ position }

@@ -66,9 +66,10 @@ impl Reader {
     }
 
     /// The input has ended. Gives the first fault of all its bytes, and `Truncated` where there is none and the `end` line
-    /// wasn't completed. It takes no memory.
+    /// wasn't completed. The reader is as before. It takes no memory.
     pub fn finish(&mut self) -> Option<LogFault>
-        ensures { (past : Past) → HasRead self.old past → result ≡ end_fault past }
+        ensures fault { (past : Past) → HasRead self.old past → result ≡ end_fault past }
+        ensures same { self.new ≡ self.old }
     {
         if self.fault.is_some() {
             return self.fault;

@@ -1,10 +1,10 @@
 //! The data of a growing trace.
 ghost use Rattle.std.specs.Prelude.{◌≡◌, ℕ, ◌-◌, pos, ◌+◌, ◌<◌, ◌≤◌, [], List, length, map, get_or, replicate, slice_index_or, sum, IfOk, OnOk, OnErr};
 ghost use Rattle.std.specs.List.{AllByRecursion};
-ghost use Rattle.run_model.specs.Run.{state_after, process_at};
+ghost use Rattle.run_model.specs.Run.{state_after, states_of, process_at};
 ghost use Rattle.pota_base.specs.Shape.{HasEvent};
 ghost use Rattle.event_log.specs.declared.log.Event.{Event};
-ghost use Rattle.event_log.specs.States.{HistoryView, StatesView, IsHeader, IsKnown, MayFollow, openings_of, histories_of, with_batch, trace_of, events_in, nothing, Grown, HasRoom, Added};
+ghost use Rattle.event_log.specs.States.{HistoryView, StatesView, IsHeader, IsKnown, AreWhole, MayFollow, openings_of, histories_of, with_batch, trace_of, events_in, nothing, Grown, HasRoom, Added};
 
 use crate::history::History;
 use crate::log::{Event, Header};
@@ -95,6 +95,7 @@ impl States {
     /// The names of the processes, and their variables.
     pub fn header(&self) -> &Header
         ensures header { result.now ≡ self.now.header }
+        ensures whole { AreWhole self.now }
     {
         &self.header
     }
@@ -116,7 +117,17 @@ impl States {
         self.histories[process as usize].value(position as usize, variable as usize)
     }
 
-    /// The event at a position of a process.
+    /// The state of a process after so many of its events: the values of its variables, in their order.
+    pub fn state(&self, process: u32, position: u32) -> &[i64]
+        requires process { process < length self.now.events }
+        requires state { position ≤ length (get_or self.now.events process []) }
+        ensures state { result.now ≡ get_or (states_of (process_at (trace_of self.now) process)) position [] }
+        ensures width { length result.now ≡ length (get_or self.now.header.vars process []) }
+    {
+        self.histories[process as usize].state(position as usize)
+    }
+
+    /// The event at a position of a process, counted from 1.
     pub fn event(&self, event: EventId) -> &Event
         requires { HasEvent (map length self.now.events) event }
         ensures { result.now ≡ slice_index_or (get_or self.now.events event.process []) (event.position - 1) result.now }

@@ -15,15 +15,16 @@ use pota_base::{Bytes, List, NoMemory, put_i64, put_u64};
 use pota_names::Name;
 use std::alloc::Global;
 
-fn put_spaced(out: &mut Bytes, word: &[u8]) -> Result<(), NoMemory>
+/// Appends a space and the word.
+pub fn put_spaced(out: &mut Bytes, word: &[u8]) -> Result<(), NoMemory>
     ensures { OnOk result (out.new ≡ out.old ++ 32 ∷ word.now) }
 {
     out.push(b' ')?;
     out.extend_from_slice(word)
 }
 
-// ` NAME NAME ..`
-fn put_names(out: &mut Bytes, names: &[Name]) -> Result<(), NoMemory>
+/// Writes ` NAME` for each of the names.
+pub fn put_names(out: &mut Bytes, names: &[Name]) -> Result<(), NoMemory>
     ensures { OnOk result (out.new ≡ out.old ++ names_text names.now) }
 {
     for name in names {
@@ -88,7 +89,8 @@ fn put_clock_rest(out: &mut Bytes, clock: &[u32]) -> Result<(), NoMemory>
     Ok(())
 }
 
-fn put_clock(out: &mut Bytes, clock: &[u32]) -> Result<(), NoMemory>
+/// Writes the counts of a clock or a cut, with commas between them.
+pub fn put_clock(out: &mut Bytes, clock: &[u32]) -> Result<(), NoMemory>
     ensures { OnOk result (out.new ≡ out.old ++ clock_text clock.now) }
 {
     match clock {

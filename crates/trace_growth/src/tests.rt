@@ -65,7 +65,7 @@ fn a_message(alloc: Global, n: u32) -> Result<List<Event>, NoMemory>
 
 // `procs P Q`
 fn two_processes(alloc: Global) -> Result<Option<Header>, NoMemory>
-    ensures { IfOk result (λ o. IfSome o (λ h. (length h.procs ≡ 2) × (length h.vars ≡ 2))) }
+    ensures { IfOk result (λ o. IfSome o (λ h. IsHeader h × (length h.procs ≡ 2))) }
 {
     let (Some(p), Some(q)) = (Name::new(alloc, b"P")?, Name::new(alloc, b"Q")?) else {
         return Ok(None);

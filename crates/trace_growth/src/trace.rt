@@ -6,7 +6,7 @@ ghost use Rattle.event_log.specs.States.{IsHeader, trace_of};
 ghost use Rattle.vector_clock.specs.Events.{clocks_of};
 ghost use Rattle.vector_clock.specs.Faults.{batch_fault};
 ghost use Rattle.vector_clock.specs.Admitted.{IfFault, IfWantsMemory};
-ghost use Rattle.trace_growth.specs.Growing.{opened_trace, with_trace_batch, one_more, FitsTrace};
+ghost use Rattle.trace_growth.specs.Growing.{opened_trace, with_trace_batch, one_more, FitsTrace, IsTrace};
 
 use causal_order::Order;
 use event_log::{Event, Header, LogFault, States};
@@ -27,13 +27,13 @@ pub struct Trace {
 }
 
 impl Model for Trace {
-    ghost use Rattle.trace_growth.specs.Growing.{TraceView, IsTrace};
+    ghost use Rattle.trace_growth.specs.Growing.{TraceView, KeepsTrace};
 
     ghost Value = { TraceView };
 
     ghost view = { λ t. record { states = t.states; batches = t.batches; spent = t.spent } };
 
-    ghost invariant = { λ t. IsTrace t.states t.clocks t.spent };
+    ghost invariant = { λ t. KeepsTrace t.states t.clocks t.spent };
 }
 
 impl Trace {
@@ -105,10 +105,11 @@ impl Trace {
         self.states.header()
     }
 
-    /// The data of the events.
+    /// The data of the events. Whatever watches are handed in, they are a run.
     pub fn states(&self) -> &States
         requires { self.now.spent ≡ false }
-        ensures { result.now ≡ self.now.states }
+        ensures states { result.now ≡ self.now.states }
+        ensures trace { IsTrace self.now.states }
     {
         &self.states
     }
@@ -116,7 +117,8 @@ impl Trace {
     /// The order of the events, by their vector clocks.
     pub fn order(&self) -> &Order
         requires { self.now.spent ≡ false }
-        ensures { result.now ≡ clocks_of self.now.states.events }
+        ensures order { result.now ≡ clocks_of self.now.states.events }
+        ensures trace { IsTrace self.now.states }
     {
         self.clocks.order()
     }

@@ -25,6 +25,7 @@ fn event_fault(
     place: u32,
 ) -> Option<LogCode>
     requires fits { EventFits (length joined.now) event.now }
+    requires first { 1 ≤ place }
     requires place { place ≤ length (get_or joined.now event.now.process []) }
     requires before { 1 < place → IsSound joined.now event.now.process (place - 1) }
     ensures clock { result ≡ None → fault_of_clock joined.now place event.now ≡ None }

@@ -3,7 +3,7 @@ ghost use Rattle.std.specs.Prelude.{◌≡◌, Some, None};
 ghost use Rattle.event_log.specs.declared.item.LogCode.TheVariants.{ClockOwn, ClockBack, ClockDangling, ClockOpen, ClockLoop, MessageTwice, ReceiveUnsent, ReceiveEarly};
 ghost use Rattle.vector_clock.specs.Events.{no_events};
 ghost use Rattle.vector_clock.specs.Faults.{batch_fault, batches_fault};
-ghost use Rattle.vector_clock.specs.Laws.{NoFaultIsAnOrder, NoFaultIsARun, OnlyNewNamesCount};
+ghost use Rattle.vector_clock.specs.Laws.{NoFaultIsAnOrder, NoFaultIsARun, FaultlessIsARun, RunHasTheClocks, OnlyNewNamesCount};
 ghost use Rattle.vector_clock.specs.Worked.{skips_its_place, forgets_an_event, names_no_event, leaves_a_past_out, name_each_other, sends_again, receives_no_message, receives_before_the_send, two_messages, names_the_next_batch};
 
 /// The clocks of batches without a fault are those of an order.
@@ -11,9 +11,15 @@ pub fn no_fault_is_an_order()
     ensures { NoFaultIsAnOrder }
 {}
 
-/// A log without a fault is that of a run.
+/// A log without a fault is a run. No channel of it has more receipts than sends at a consistent cut.
 pub fn no_fault_is_a_run()
     ensures { NoFaultIsARun }
+{}
+
+/// The same of events that came batch after batch, none of which had a fault.
+pub fn faultless_is_a_run()
+    ensures run { FaultlessIsARun }
+    ensures clocks { RunHasTheClocks }
 {}
 
 /// Only the events that a clock newly names need be looked at: those that the event before on its process doesn't count.

@@ -11,7 +11,10 @@ mod messages;
 mod places;
 
 pub use clocks::{Clocks, check};
-pub use laws::{no_fault_is_a_run, no_fault_is_an_order, only_new_names_count, worked_faults};
+pub use laws::{
+    faultless_is_a_run, no_fault_is_a_run, no_fault_is_an_order, only_new_names_count,
+    worked_faults,
+};
 
 #[cfg(test)]
 mod tests;

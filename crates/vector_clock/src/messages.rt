@@ -41,22 +41,10 @@ impl Messages {
     {
         match event.kind {
             Kind::Internal => Ok(()),
-            Kind::Send { to, id } => self.sent.note(
-                Message {
-                    sender: event.process,
-                    receiver: to,
-                    id,
-                },
-                place,
-            ),
-            Kind::Receive { sender, id } => self.received.note(
-                Message {
-                    sender,
-                    receiver: event.process,
-                    id,
-                },
-                place,
-            ),
+            Kind::Send { to, id } => self.sent.note(Message::new(event.process, to, id), place),
+            Kind::Receive { sender, id } => self
+                .received
+                .note(Message::new(sender, event.process, id), place),
         }
     }
 
@@ -66,53 +54,37 @@ impl Messages {
     {
         match event.kind {
             Kind::Internal => {}
-            Kind::Send { to, id } => self.sent.forget(
-                &Message {
-                    sender: event.process,
-                    receiver: to,
-                    id,
-                },
-                place,
-            ),
-            Kind::Receive { sender, id } => self.received.forget(
-                &Message {
-                    sender,
-                    receiver: event.process,
-                    id,
-                },
-                place,
-            ),
+            Kind::Send { to, id } => self
+                .sent
+                .forget(&Message::new(event.process, to, id), place),
+            Kind::Receive { sender, id } => self
+                .received
+                .forget(&Message::new(sender, event.process, id), place),
         }
     }
 
     // Whether an event before sends, or receives, the message that this one sends, or receives.
     fn is_twice(&self, event: &Event, place: u32) -> bool
+        requires { 1 ≤ place }
         ensures { (before all : Events) → HasMessages self.now all → StandsIn before all event.now place → result ≡ is_again before event.now }
     {
         match event.kind {
             Kind::Internal => false,
             Kind::Send { to, id } => {
-                let message = Message {
-                    sender: event.process,
-                    receiver: to,
-                    id,
-                };
+                let message = Message::new(event.process, to, id);
                 !self.sent.is_at(&message, place)
             }
             Kind::Receive { sender, id } => {
-                let message = Message {
-                    sender,
-                    receiver: event.process,
-                    id,
-                };
+                let message = Message::new(sender, event.process, id);
                 !self.received.is_at(&message, place)
             }
         }
     }
 
-    /// The first fault of the message that an event at its place sends or receives.
+    /// The first fault of the message that an event at its place, counted from 1, sends or receives.
     pub fn message_fault(&self, event: &Event, place: u32) -> Option<LogCode>
-        requires { KindWithin (length event.now.clock) event.now.kind }
+        requires first { 1 ≤ place }
+        requires peer { KindWithin (length event.now.clock) event.now.kind }
         ensures { (before all : Events) → HasMessages self.now all → StandsIn before all event.now place → result ≡ fault_of_message before all event.now }
     {
         if self.is_twice(event, place) {
