@@ -3,7 +3,7 @@
 
 mod along;
 mod holding;
-// mod rows;
+mod rows;
 
 pub use along::{constant_pulls, pulls_of};
-// pub use rows::truth_row;
+pub use rows::truth_row;
