@@ -5,11 +5,13 @@ use Rattle.event_log.specs.declared.item.Item.TheVariants as item
 use Rattle.event_log.specs.declared.log.Header.{Header}
 use Rattle.event_log.specs.LogText.{HeaderFits, EventFits}
 
--- items of a log with this header behind so many events: each event fits the header, and there are at most 50,000
+-- items of a log with this header behind so many events: each event fits the header, and there are
+-- at most 50,000
 abbrev pub FitFrom : Header → ℕ → List Item → Type 0
 FitFrom h events [] = Unit {0}
 FitFrom h events (item.Header other ∷ items) = ⊥
-FitFrom h events (item.Event e ∷ items) = EventFits h e × (events < 50000) × FitFrom h (events + 1) items
+FitFrom h events (item.Event e ∷ items) =
+    EventFits h e × (events < 50000) × FitFrom h (events + 1) items
 FitFrom h events (item.BatchEnd ∷ items) = FitFrom h events items
 FitFrom h events (item.End ∷ items) = FitFrom h events items
 

@@ -23,7 +23,8 @@ kind_of (kind.Send to id) = run.Send to id
 kind_of (kind.Receive sender id) = run.Receive sender id
 
 abbrev pub event_of : Event → run.Event
-event_of e = record { clock = e.clock; kind = kind_of e.kind; assigns = map assignment_of e.assigns }
+event_of e =
+    record { clock = e.clock; kind = kind_of e.kind; assigns = map assignment_of e.assigns }
 
 abbrev pub variable_of : Binding → run.Variable
 variable_of b = record { name = b.name; value = b.value }
@@ -75,7 +76,9 @@ abbrev pub processes_of : List (List ℕ) → List (List Binding) → List (List
 processes_of [] vars events = []
 processes_of (n ∷ ns) [] events = []
 processes_of (n ∷ ns) (v ∷ vs) [] = []
-processes_of (n ∷ ns) (v ∷ vs) (es ∷ ess) = record { name = n; variables = map variable_of v; events = map event_of es } ∷ processes_of ns vs ess
+processes_of (n ∷ ns) (v ∷ vs) (es ∷ ess) =
+    record { name = n; variables = map variable_of v; events = map event_of es }
+    ∷ processes_of ns vs ess
 
 abbrev pub trace_of : StatesView → run.Trace
 trace_of s = processes_of s.header.procs s.header.vars s.events
@@ -93,7 +96,8 @@ with_batch events (e ∷ rest) = with_batch (with_event events e) rest
 abbrev pub AreNamedApart : List Binding → Type 0
 AreNamedApart bindings = are_distinct (binding_names bindings) ≡ true
 
--- 1 to 32 processes and a list of variables for each. No two processes have one name, nor have two variables of one process
+-- 1 to 32 processes and a list of variables for each. No two processes have one name, nor have two
+-- variables of one process
 pub record IsHeader (header : Header) : Type 0 where
   pub some : 1 ≤ length header.procs
   pub few : length header.procs ≤ 32
@@ -112,7 +116,8 @@ pub record IsKnown (header : Header) (e : Event) : Type 0 where
   pub assigns : AssignsWithin (length (get_or header.vars e.process [])) e
 
 -- the batch may follow these events
-pub record MayFollow (header : Header) (events : List (List Event)) (batch : List Event) : Type 0 where
+pub record MayFollow (header : Header) (events : List (List Event)) (batch : List Event)
+    : Type 0 where
   pub known : AllByRecursion (IsKnown header) batch
   pub few : sum (map length events) + length batch ≤ 50000
 
@@ -121,8 +126,10 @@ pub record MayFollow (header : Header) (events : List (List Event)) (batch : Lis
 abbrev pub events_in : List HistoryView → List (List Event)
 events_in histories = map (λ (h : HistoryView). h.events) histories
 
--- the fields fit each other: one history for each process, with its opening values, and the shape is that of the events
-pub record AreStates (header : Header) (shape : List ℕ) (histories : List HistoryView) : Type 0 where
+-- the fields fit each other: one history for each process, with its opening values, and the shape
+-- is that of the events
+pub record AreStates (header : Header) (shape : List ℕ) (histories : List HistoryView)
+    : Type 0 where
   pub fits : IsHeader header
   pub openings : map (λ (h : HistoryView). h.opening) histories ≡ openings_of header.vars
   pub lens : shape ≡ map (λ (h : HistoryView). length h.events) histories
@@ -133,7 +140,10 @@ nothing = record { opening = []; events = [] }
 -- each history is the old one with more events behind it
 pub record Grown (old new : List HistoryView) : Type 0 where
   pub count : length new ≡ length old
-  pub each : (p : ℕ) → (more : List Event) × (get_or new p nothing ≡ record { opening = (get_or old p nothing).opening; events = (get_or old p nothing).events ++ more })
+  pub each : (p : ℕ) → (more : List Event)
+      × (get_or new p nothing ≡ record (get_or old p nothing) {
+        events = (get_or old p nothing).events ++ more;
+      })
 
 -- the history of the event's process is there, and has the variables that the event assigns
 pub record HasRoom (histories : List HistoryView) (e : Event) : Type 0 where
@@ -141,7 +151,8 @@ pub record HasRoom (histories : List HistoryView) (e : Event) : Type 0 where
   pub assigns : AssignsWithin (length (get_or histories e.process nothing).opening) e
 
 -- the new histories are the old ones with each event of the batch behind those of its process
-pub record Added (old : List HistoryView) (batch : List Event) (new : List HistoryView) : Type 0 where
+pub record Added (old : List HistoryView) (batch : List Event) (new : List HistoryView)
+    : Type 0 where
   pub grown : Grown old new
   pub events : events_in new ≡ with_batch (events_in old) batch
 
@@ -158,7 +169,10 @@ opened header = record { header = header; events = replicate (length header.proc
 
 -- the data of a log after all of its batches
 abbrev pub states_of : Log → StatesView
-states_of log = record { header = log.header; events = with_batches (replicate (length log.header.procs) []) log.batches }
+states_of log = record {
+  header = log.header;
+  events = with_batches (replicate (length log.header.procs) []) log.batches;
+}
 
 abbrev pub trace_of_log : Log → run.Trace
 trace_of_log log = trace_of (states_of log)

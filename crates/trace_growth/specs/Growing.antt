@@ -10,7 +10,8 @@ use Rattle.vector_clock.specs.Events.{EventFits, clocks_of}
 use Rattle.vector_clock.specs.Faultless.{AreFaultless, IsLoggedRun}
 use Rattle.vector_clock.specs.Admitted.{HasAdmitted}
 
--- the data of the events that were taken, how many batches they came in, and whether memory was wanted
+-- the data of the events that were taken, how many batches they came in, and whether memory was
+-- wanted
 pub record TraceView : Type 0 where
   pub states : StatesView
   pub batches : ℕ
@@ -32,13 +33,15 @@ with_trace_batch trace batch = record {
   spent = trace.spent;
 }
 
--- the batch fits the batches before it: it may follow their events, and each of its events has its place among the processes
+-- the batch fits the batches before it: it may follow their events, and each of its events has its
+-- place among the processes
 pub record FitsTrace (trace : TraceView) (batch : List Event) : Type 0 where
   pub follows : MayFollow trace.states.header trace.states.events batch
   pub each : AllByRecursion (EventFits (length trace.states.events)) batch
 
--- what a trace is at each moment: data of processes whose events came batch after batch without a fault. So it is a run, whose
--- receipts have their sends, and the vector clocks of its events are those of the run
+-- what a trace is at each moment: data of processes whose events came batch after batch without a
+-- fault. So it is a run, whose receipts have their sends, and the vector clocks of its events are
+-- those of the run
 pub record IsTrace (states : StatesView) : Type 0 where
   pub whole : AreWhole states
   pub faultless : AreFaultless (length states.header.procs) states.events

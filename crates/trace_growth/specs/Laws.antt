@@ -15,11 +15,14 @@ StatesHaveGrown old new = (p : ℕ) → (more : List (List ℤ))
 
 -- a batch that fits puts clocks and states behind those that are there, and changes none
 abbrev pub BatchOnlyAdds : Type 0
-BatchOnlyAdds = (trace : TraceView) (batch : List Event) → IsTrace trace.states → FitsTrace trace batch
-    → HasGrown (clocks_of trace.states.events) (clocks_of (with_trace_batch trace batch).states.events)
+BatchOnlyAdds =
+    (trace : TraceView) (batch : List Event) → IsTrace trace.states → FitsTrace trace batch
+    → HasGrown (clocks_of trace.states.events)
+    (clocks_of (with_trace_batch trace batch).states.events)
     × StatesHaveGrown (trace_of trace.states) (trace_of (with_trace_batch trace batch).states)
 
 -- after a batch without a fault it is a trace again
 abbrev pub FaultlessBatchKeepsATrace : Type 0
-FaultlessBatchKeepsATrace = (trace : TraceView) (batch : List Event) → IsTrace trace.states → FitsTrace trace batch
+FaultlessBatchKeepsATrace =
+    (trace : TraceView) (batch : List Event) → IsTrace trace.states → FitsTrace trace batch
     → batch_fault trace.states.events batch ≡ None → IsTrace (with_trace_batch trace batch).states

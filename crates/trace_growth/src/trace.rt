@@ -51,12 +51,15 @@ impl Trace {
         })
     }
 
-    /// Takes a whole batch, or none of it. A fault is the first of its clocks and messages, at the line of its event, and the
-    /// trace is then as before. After want of memory the trace is spent.
+    /// Takes a whole batch, or none of it. A fault is the first of its clocks and messages, at the
+    /// line of its event, and the trace is then as before. After want of memory the trace is spent.
     pub fn extend(&mut self, batch: List<Event>) -> Result<(), Refused<LogFault>>
         requires { FitsTrace self.old batch }
-        ensures ok { OnOk result ((self.old.spent ≡ false) × (batch_fault self.old.states.events batch ≡ None) × (self.new ≡ with_trace_batch self.old batch)) }
-        ensures fault { IfFault result (λ fault. (self.old.spent ≡ false) × (batch_fault self.old.states.events batch ≡ Some fault) × (self.new ≡ self.old)) }
+        ensures ok { OnOk result ((self.old.spent ≡ false)
+            × (batch_fault self.old.states.events batch ≡ None)
+            × (self.new ≡ with_trace_batch self.old batch)) }
+        ensures fault { IfFault result (λ fault. (self.old.spent ≡ false)
+            × (batch_fault self.old.states.events batch ≡ Some fault) × (self.new ≡ self.old)) }
         // so a spent trace answers want of memory, and stays spent
         ensures memory { IfWantsMemory result (self.new.spent ≡ true) }
     {
@@ -137,7 +140,8 @@ impl Trace {
         requires process { process < length self.now.states.events }
         requires state { position ≤ length (get_or self.now.states.events process []) }
         requires variable { variable < length (get_or self.now.states.header.vars process []) }
-        ensures { result ≡ get_or (state_after (process_at (trace_of self.now.states) process) position) variable (pos 0) }
+        ensures { result ≡ get_or
+            (state_after (process_at (trace_of self.now.states) process) position) variable (pos 0) }
     {
         self.states.value(process, position, variable)
     }
@@ -146,7 +150,8 @@ impl Trace {
     pub fn event(&self, event: EventId) -> &Event
         requires here { self.now.spent ≡ false }
         requires there { HasEvent (map length self.now.states.events) event }
-        ensures { result.now ≡ slice_index_or (get_or self.now.states.events event.process []) (event.position - 1) result.now }
+        ensures { result.now ≡ slice_index_or (get_or self.now.states.events event.process [])
+            (event.position - 1) result.now }
     {
         self.states.event(event)
     }

@@ -11,10 +11,12 @@ use Rattle.vector_clock.specs.Faults.{batch_fault}
 -- the events of so many processes that came batch after batch, none of which had a fault
 pub data AreFaultless (procs : ℕ) : Events → Type 0 where
   no_batch : AreFaultless procs (no_events procs)
-  one_batch : {before : Events} → (batch : List Event) → AreFaultless procs before → AllByRecursion (EventFits procs) batch
+  one_batch : {before : Events} → (batch : List Event) → AreFaultless procs before
+      → AllByRecursion (EventFits procs) batch
       → batch_fault before batch ≡ None → AreFaultless procs (with_batch before batch)
 
--- whatever the watches are, this is a run, and at a consistent cut no channel has more receipts than sends
+-- whatever the watches are, this is a run, and at a consistent cut no channel has more receipts
+-- than sends
 pub record IsLoggedRun (trace : Trace) : Type 0 where
   pub run : (watches : Watches) → IsRun (run_of trace watches)
   pub receipts : (watches : Watches) → ReceiptsHaveSends (run_of trace watches)

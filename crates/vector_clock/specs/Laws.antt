@@ -15,24 +15,31 @@ use Rattle.vector_clock.specs.Sound.{IsSound, is_newly_open, is_newly_loop}
 -- the clocks of batches without a fault are those of an order
 abbrev pub NoFaultIsAnOrder : Type 0
 NoFaultIsAnOrder = (procs : ℕ) (batches : List (List Event)) → AllFit procs batches
-    → batches_fault (no_events procs) batches ≡ None → IsOrder (clocks_of (with_batches (no_events procs) batches))
+    → batches_fault (no_events procs) batches ≡ None
+    → IsOrder (clocks_of (with_batches (no_events procs) batches))
 
 -- a log without a fault is a run, whose receipts have their sends
 abbrev pub NoFaultIsARun : Type 0
 NoFaultIsARun = (log : Log) → LogFits log → log_fault log ≡ None → IsLoggedRun (trace_of_log log)
 
--- and so are events that came batch after batch without a fault, with a list of variables for each process
+-- and so are events that came batch after batch without a fault, with a list of variables for each
+-- process
 abbrev pub FaultlessIsARun : Type 0
 FaultlessIsARun = (s : StatesView) → length s.header.vars ≡ length s.header.procs
     → AreFaultless (length s.header.procs) s.events → IsLoggedRun (trace_of s)
 
 -- the clocks of that run are those of the events
 abbrev pub RunHasTheClocks : Type 0
-RunHasTheClocks = (s : StatesView) → length s.header.procs ≡ length s.events → length s.header.vars ≡ length s.events
+RunHasTheClocks =
+    (s : StatesView) → length s.header.procs ≡ length s.events
+    → length s.header.vars ≡ length s.events
     → run.clocks_of (trace_of s) ≡ clocks_of s.events
 
--- where the event before on its process has no fault of its clock, and the event's own count and its rise are right, only the events
--- that its clock newly names decide whether it is open or in a loop
+-- where the event before on its process has no fault of its clock, and the event's own count and
+-- its rise are right, only the events that its clock newly names decide whether it is open or in a
+-- loop
 abbrev pub OnlyNewNamesCount : Type 0
-OnlyNewNamesCount = (o : Clocks) (a : ℕ) (e : Event) → (1 < a → IsSound o e.process (a - 1)) → has_wrong_own a e ≡ false → goes_back o a e ≡ false
+OnlyNewNamesCount =
+    (o : Clocks) (a : ℕ) (e : Event) → (1 < a → IsSound o e.process (a - 1))
+    → has_wrong_own a e ≡ false → goes_back o a e ≡ false
     → (is_open o e ≡ is_newly_open o a e) × (is_loop o a e ≡ is_newly_loop o a e)
