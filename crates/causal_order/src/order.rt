@@ -134,8 +134,8 @@ impl Order {
     pub fn before(&self, first: EventId, second: EventId) -> bool
         requires first { HasEvent (lengths self.now) first }
         requires second { HasEvent (lengths self.now) second }
-        ensures { IsTrue result ↔ HappenedBefore self.now first.process first.position
-            second.process second.position }
+        ensures { IsTrue result
+            ↔ HappenedBefore self.now first.process first.position second.process second.position }
     {
         first != second && self.clock(second)[first.process as usize] >= first.position
     }
@@ -145,8 +145,8 @@ impl Order {
         requires event { HasEvent (lengths self.now) event }
         requires width { length into.old ≡ length self.now }
         ensures past { into.new ≡ clock self.now event.process event.position }
-        ensures least { IsLeast (Having (IsConsistent self.now) event.process event.position)
-            into.new }
+        ensures least { IsLeast
+            (Having (IsConsistent self.now) event.process event.position) into.new }
     {
         let clock = self.clock(event);
         for process in 0..self.shape.procs() {

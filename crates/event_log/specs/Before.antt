@@ -140,8 +140,8 @@ told older line =
     else if length older == 0 then heading_told line
     else if length older == 1 then procs_told line
     else if is_header_over older || not (begins_vars line)
-    then with_header older (body_told (names older) (variables older) (length older + 1)
-    (events older) line)
+    then with_header older
+    (body_told (names older) (variables older) (length older + 1) (events older) line)
     else vars_told (names older) (variables older) line
 
 -- ---- lines without a fault

@@ -55,8 +55,8 @@ items (b ∷ past) =
 -- the fault where the input ends there: the first one, else that the `end` line wasn't completed
 abbrev pub end_fault : List ℕ → Option LogFault
 end_fault past =
-    choose (first_fault past) (λ f. Some f)
-    (if is_ended (lines past) then None else Some (placed past code.Truncated))
+    choose (first_fault past) (λ f. Some f) (if is_ended (lines past) then None
+    else Some (placed past code.Truncated))
 
 -- the same over bytes in their order
 abbrev pub fault_of : List ℕ → Option LogFault

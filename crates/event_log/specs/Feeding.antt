@@ -55,15 +55,15 @@ pub record LineGives (g : LineGiven) (past now : Past) : Type 0 where
 
 abbrev pub ClosesLine : Feeder → Past → LineGiven → Feeder → Type 0
 ClosesLine old line g new =
-    (past : Past) → CountsLines old past → line ≡ line_now past → LineGives g past (10 ∷ past)
-    × (g.fault ≡ None → CountsLines new (10 ∷ past))
+    (past : Past) → CountsLines old past → line ≡ line_now past
+    → LineGives g past (10 ∷ past) × (g.fault ≡ None → CountsLines new (10 ∷ past))
 
 abbrev pub TakesFedLine : Feeder → Past → LineGiven → Feeder → Type 0
 TakesFedLine old line g new =
-    (past : Past) → HasFed old past → LineGives g past (10 ∷ onto line past)
-    × (g.fault ≡ None → HasFed new (10 ∷ onto line past))
+    (past : Past) → HasFed old past
+    → LineGives g past (10 ∷ onto line past) × (g.fault ≡ None → HasFed new (10 ∷ onto line past))
 
 abbrev pub TakesPiece : Feeder → Past → Fed → Feeder → Type 0
 TakesPiece old piece fed new =
-    (past : Past) → HasFed old past → FedIs fed past (onto piece past)
-    × (fed.fault ≡ None → HasFed new (onto piece past))
+    (past : Past) → HasFed old past
+    → FedIs fed past (onto piece past) × (fed.fault ≡ None → HasFed new (onto piece past))

@@ -103,5 +103,5 @@ pub record Passes (old new : LineReader) (i : Item) : Type 0 where
 -- has read that line too.
 abbrev pub TakesLine : LineReader → Line → LineTold → LineReader → Type 0
 TakesLine old line t new =
-    (older : List Line) → HasReadLines old older → (told_of t ≡ told older line)
-    × (t.fault ≡ None → HasReadLines new (line ∷ older))
+    (older : List Line) → HasReadLines old older
+    → (told_of t ≡ told older line) × (t.fault ≡ None → HasReadLines new (line ∷ older))

@@ -51,8 +51,8 @@ is_to_itself process (kind.Receive sender id) = sender == process
 -- an assignment with its variable by number
 abbrev pub assign_in : List Name → NamedValue → Result Assign LogCode
 assign_in variables v =
-    known code.UnknownVariable (place_of variables v.name) >>= λ i. Ok
-    (record { variable = i; value = v.value })
+    known code.UnknownVariable (place_of variables v.name)
+    >>= λ i. Ok (record { variable = i; value = v.value })
 
 -- the assignments, after those in front
 unfoldable pub assigns_in : List Name → List Assign → List NamedValue → Result (List Assign) LogCode
@@ -71,13 +71,8 @@ event_named procs variables line events e =
     (guarded code.SelfMessage (not (is_to_itself process kind))
     (assigns_in (binding_names (variables_at variables process)) [] e.assigns >>= λ assigns.
     guarded code.TooManyEvents (nat_lt events 50000)
-    (Ok (record {
-      process = process;
-      line = line;
-      clock = e.clock;
-      kind = kind;
-      assigns = assigns;
-    }))))
+    (Ok (record { process = process; line = line; clock = e.clock; kind = kind; assigns = assigns }
+    ))))
 
 -- what a function that may run out of memory returned is this
 abbrev pub Agrees : {A : Type 0} → Result A (Refused LogCode) → Result A LogCode → Type 0

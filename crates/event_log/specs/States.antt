@@ -116,10 +116,10 @@ pub record IsKnown (header : Header) (e : Event) : Type 0 where
   pub assigns : AssignsWithin (length (get_or header.vars e.process [])) e
 
 -- the batch may follow these events
-pub record MayFollow (header : Header) (events : List (List Event)) (batch : List Event) : Type 0
-  where
-    pub known : AllByRecursion (IsKnown header) batch
-    pub few : sum (map length events) + length batch ≤ 50000
+pub record MayFollow (header : Header) (events : List (List Event)) (batch : List Event)
+    : Type 0 where
+  pub known : AllByRecursion (IsKnown header) batch
+  pub few : sum (map length events) + length batch ≤ 50000
 
 -- ---- what the code keeps
 
@@ -128,11 +128,11 @@ events_in histories = map (λ (h : HistoryView). h.events) histories
 
 -- the fields fit each other: one history for each process, with its opening values, and the shape
 -- is that of the events
-pub record AreStates (header : Header) (shape : List ℕ) (histories : List HistoryView) : Type 0
-  where
-    pub fits : IsHeader header
-    pub openings : map (λ (h : HistoryView). h.opening) histories ≡ openings_of header.vars
-    pub lens : shape ≡ map (λ (h : HistoryView). length h.events) histories
+pub record AreStates (header : Header) (shape : List ℕ) (histories : List HistoryView)
+    : Type 0 where
+  pub fits : IsHeader header
+  pub openings : map (λ (h : HistoryView). h.opening) histories ≡ openings_of header.vars
+  pub lens : shape ≡ map (λ (h : HistoryView). length h.events) histories
 
 abbrev pub nothing : HistoryView
 nothing = record { opening = []; events = [] }
@@ -141,8 +141,9 @@ nothing = record { opening = []; events = [] }
 pub record Grown (old new : List HistoryView) : Type 0 where
   pub count : length new ≡ length old
   pub each : (p : ℕ) → (more : List Event)
-      × (get_or new p nothing ≡ record
-      { opening = (get_or old p nothing).opening; events = (get_or old p nothing).events ++ more })
+      × (get_or new p nothing ≡ record (get_or old p nothing) {
+        events = (get_or old p nothing).events ++ more;
+      })
 
 -- the history of the event's process is there, and has the variables that the event assigns
 pub record HasRoom (histories : List HistoryView) (e : Event) : Type 0 where
@@ -150,10 +151,10 @@ pub record HasRoom (histories : List HistoryView) (e : Event) : Type 0 where
   pub assigns : AssignsWithin (length (get_or histories e.process nothing).opening) e
 
 -- the new histories are the old ones with each event of the batch behind those of its process
-pub record Added (old : List HistoryView) (batch : List Event) (new : List HistoryView) : Type 0
-  where
-    pub grown : Grown old new
-    pub events : events_in new ≡ with_batch (events_in old) batch
+pub record Added (old : List HistoryView) (batch : List Event) (new : List HistoryView)
+    : Type 0 where
+  pub grown : Grown old new
+  pub events : events_in new ≡ with_batch (events_in old) batch
 
 -- ---- the trace of a log
 
@@ -168,12 +169,10 @@ opened header = record { header = header; events = replicate (length header.proc
 
 -- the data of a log after all of its batches
 abbrev pub states_of : Log → StatesView
-states_of log =
-    record {
-      header = log.header;
-      events = with_batches (replicate (length log.header.procs) [])
-          log.batches;
-    }
+states_of log = record {
+  header = log.header;
+  events = with_batches (replicate (length log.header.procs) []) log.batches;
+}
 
 abbrev pub trace_of_log : Log → run.Trace
 trace_of_log log = trace_of (states_of log)

@@ -38,10 +38,10 @@ impl Model for History {
 fn push_state(values: &mut Vec<i64>, width: usize, assigns: &[Assign]) -> Result<(), NoMemory>
     requires last { width ≤ length values.old.items }
     requires within { AllByRecursion (λ (a : Assign). a.variable < width) assigns.now }
-    ensures ok { OnOk result (values.new.items ≡ values.old.items
-        ++ assigned (drop (length values.old.items - width) values.old.items)
-        (map assignment_of assigns.now)) }
-    ensures err { OnErr result (take (length values.old.items) values.new.items ≡ values.old.items) }
+    ensures ok { OnOk result (values.new.items ≡ values.old.items ++ assigned
+        (drop (length values.old.items - width) values.old.items) (map assignment_of assigns.now)) }
+    ensures err { OnErr result (take (length values.old.items) values.new.items
+        ≡ values.old.items) }
 {
     let next = values.len();
     for i in next - width..next {
@@ -57,8 +57,8 @@ fn push_state(values: &mut Vec<i64>, width: usize, assigns: &[Assign]) -> Result
 impl History {
     /// The history of a process with these variables, without events.
     pub fn new(alloc: Global, variables: &[Binding]) -> Result<History, NoMemory>
-        ensures { IfOk result (λ h. h ≡ record
-            { opening = map (λ (b : Binding). b.value) variables.now; events = [] }) }
+        ensures { IfOk result (λ h. h
+            ≡ record { opening = map (λ (b : Binding). b.value) variables.now; events = [] }) }
     {
         let mut values = Vec::new(alloc);
         for variable in variables {

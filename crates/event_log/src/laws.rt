@@ -9,8 +9,8 @@ ghost use Rattle.event_log.specs.Laws.{IsLog, IsWellFormed, IsTextOf};
 
 /// The text of a log has no fault, and reading it gives the items of the log.
 pub fn a_log_reads_back()
-    ensures { (log : Log) → IsLog log → IsWellFormed (log_text log)
-        × (items_in (log_text log) ≡ log_items log) }
+    ensures { (log : Log) → IsLog log
+        → IsWellFormed (log_text log) × (items_in (log_text log) ≡ log_items log) }
 {}
 
 /// A text without a fault is the text of a log, whose items reading it gives, and which can be

@@ -64,8 +64,8 @@ impl LineTold {
         header: Option<Header>,
         judged: Result<Option<Item>, Refused<LogCode>>,
     ) -> Result<LineTold, NoMemory>
-        ensures told { IfOk result (λ t. (told : Told) → JudgedAs judged told
-            → told_of t ≡ record { items = header_items header ++ told.items; fault = told.fault }) }
+        ensures told { IfOk result (λ t. (told : Told) → JudgedAs judged told → told_of t
+            ≡ record { items = header_items header ++ told.items; fault = told.fault }) }
         ensures judged { IfOk result (λ t. t.fault ≡ None → IsOk judged) }
     {
         match judged {
@@ -173,8 +173,8 @@ impl LineReader {
         bindings: List<Binding>,
     ) -> Result<(), NoMemory>
         requires { length bindings ≤ 16 }
-        ensures variables { OnOk result (self.new.variables ≡ filled self.old.variables process
-            ++ bindings ∷ []) }
+        ensures variables { OnOk result (self.new.variables
+            ≡ filled self.old.variables process ++ bindings ∷ []) }
         ensures counts { self.new.lines ≡ self.old.lines }
         ensures same { OnOk result ((self.new.procs ≡ self.old.procs)
             × (self.new.lines ≡ self.old.lines) × (self.new.events ≡ self.old.events)
@@ -229,8 +229,10 @@ impl LineReader {
 
     // The processes and their variables, once all are known.
     fn header(&self, alloc: Global) -> Result<Header, NoMemory>
-        ensures { IfOk result (λ h. h ≡ record
-            { procs = self.now.procs; vars = filled self.now.variables (length self.now.procs) }) }
+        ensures { IfOk result (λ h. h ≡ record {
+          procs = self.now.procs;
+          vars = filled self.now.variables (length self.now.procs);
+        }) }
     {
         let procs = copy_of(alloc, self.procs.as_slice())?;
         let variables = copy_of(alloc, self.variables.as_slice())?;

@@ -106,7 +106,8 @@ pub fn event_named(
 ) -> Result<Event, Refused<LogCode>>
     requires few { length procs.now < 2 ^ 32 }
     requires narrow { All (λ bindings. length bindings < 2 ^ 32) variables.now }
-    ensures { Agrees result (event_named procs.now variables.now line events (event_of draft.entry)) }
+    ensures { Agrees result
+        (event_named procs.now variables.now line events (event_of draft.entry)) }
 {
     let process = process_of(procs, draft.actor)?;
     let kind = kind_in(procs, draft.action)?;

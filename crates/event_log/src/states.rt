@@ -30,8 +30,7 @@ impl Model for States {
 
     ghost view = { λ s. record {
       header = s.header;
-      events = map (λ (h : HistoryView). h.events)
-          s.histories.items;
+      events = map (λ (h : HistoryView). h.events) s.histories.items;
     } };
 
     ghost invariant = { λ s. AreStates s.header s.shape s.histories.items };
@@ -53,8 +52,8 @@ fn lens_of(alloc: Global, histories: &[History]) -> Result<Vec<u32>, NoMemory>
 // Keeps the first events of each process, as many as the shape has.
 fn cut_back(histories: &mut Vec<History>, shape: &Shape)
     requires count { length shape.now ≡ length histories.old.items }
-    requires fits { (p : ℕ) → get_or shape.now p 0
-        ≤ length (get_or histories.old.items p nothing).events }
+    requires fits { (p : ℕ)
+        → get_or shape.now p 0 ≤ length (get_or histories.old.items p nothing).events }
     // Histories that have grown since they had this shape are again what they were.
     ensures { (before : List HistoryView) → Grown before histories.old.items
         → shape.now ≡ map (λ (h : HistoryView). length h.events) before
@@ -84,8 +83,8 @@ impl States {
     /// The states of processes that have no events yet.
     pub fn new(alloc: Global, header: Header) -> Result<States, NoMemory>
         requires { IsHeader header }
-        ensures { IfOk result (λ s. s ≡ record
-            { header = header; events = replicate (length header.procs) [] }) }
+        ensures { IfOk result (λ s. s
+            ≡ record { header = header; events = replicate (length header.procs) [] }) }
     {
         let mut histories = Vec::new(alloc);
         for variables in header.vars.as_slice() {
@@ -121,8 +120,8 @@ impl States {
         requires process { process < length self.now.events }
         requires state { position ≤ length (get_or self.now.events process []) }
         requires variable { variable < length (get_or self.now.header.vars process []) }
-        ensures { result ≡ get_or (state_after (process_at (trace_of self.now) process) position)
-            variable (pos 0) }
+        ensures { result ≡ get_or
+            (state_after (process_at (trace_of self.now) process) position) variable (pos 0) }
     {
         self.histories[process as usize].value(position as usize, variable as usize)
     }
@@ -132,8 +131,8 @@ impl States {
     pub fn state(&self, process: u32, position: u32) -> &[i64]
         requires process { process < length self.now.events }
         requires state { position ≤ length (get_or self.now.events process []) }
-        ensures state { result.now ≡ get_or (states_of (process_at (trace_of self.now) process))
-            position [] }
+        ensures state { result.now
+            ≡ get_or (states_of (process_at (trace_of self.now) process)) position [] }
         ensures width { length result.now ≡ length (get_or self.now.header.vars process []) }
     {
         self.histories[process as usize].state(position as usize)

@@ -15,8 +15,7 @@ use pota_base::{Bytes, List, NoMemory, put_i64, put_u64};
 use pota_names::Name;
 use std::alloc::Global;
 
-/// Appends a space and the word.
-pub fn put_spaced(out: &mut Bytes, word: &[u8]) -> Result<(), NoMemory>
+fn put_spaced(out: &mut Bytes, word: &[u8]) -> Result<(), NoMemory>
     ensures { OnOk result (out.new ≡ out.old ++ 32 ∷ word.now) }
 {
     out.push(b' ')?;
@@ -35,8 +34,8 @@ pub fn put_names(out: &mut Bytes, names: &[Name]) -> Result<(), NoMemory>
 
 // ` NAME=INT`
 fn put_value(out: &mut Bytes, name: &[u8], value: i64) -> Result<(), NoMemory>
-    ensures { OnOk result (out.new ≡ out.old
-        ++ values_text (record { name = name.now; value = value } ∷ [])) }
+    ensures { OnOk result (out.new
+        ≡ out.old ++ values_text (record { name = name.now; value = value } ∷ [])) }
 {
     put_spaced(out, name)?;
     out.push(b'=')?;
@@ -60,8 +59,8 @@ fn put_bindings(out: &mut Bytes, bindings: &[Binding]) -> Result<(), NoMemory>
 
 fn put_assign(out: &mut Bytes, variables: &[Binding], assign: Assign) -> Result<(), NoMemory>
     requires { assign.variable < length variables.now }
-    ensures { OnOk result (out.new ≡ out.old
-        ++ values_text (named_values variables.now (assign ∷ []))) }
+    ensures { OnOk result (out.new
+        ≡ out.old ++ values_text (named_values variables.now (assign ∷ []))) }
 {
     put_value(
         out,
@@ -72,8 +71,8 @@ fn put_assign(out: &mut Bytes, variables: &[Binding], assign: Assign) -> Result<
 
 fn put_assigns(out: &mut Bytes, variables: &[Binding], assigns: &[Assign]) -> Result<(), NoMemory>
     requires { AllByRecursion (AssignFits variables.now) assigns.now }
-    ensures { OnOk result (out.new ≡ out.old
-        ++ values_text (named_values variables.now assigns.now)) }
+    ensures { OnOk result (out.new
+        ≡ out.old ++ values_text (named_values variables.now assigns.now)) }
 {
     for assign in assigns {
         put_assign(out, variables, *assign)?;
@@ -180,8 +179,8 @@ fn put_batches(out: &mut Bytes, header: &Header, batches: &[List<Event>]) -> Res
 
 // The `vars` line of a process, where it has variables.
 fn put_vars(out: &mut Bytes, process: &Name, bindings: &[Binding]) -> Result<(), NoMemory>
-    ensures { OnOk result (out.new ≡ out.old
-        ++ text_of (vars_lines (process.now ∷ []) (bindings.now ∷ []))) }
+    ensures { OnOk result (out.new
+        ≡ out.old ++ text_of (vars_lines (process.now ∷ []) (bindings.now ∷ []))) }
 {
     if bindings.is_empty() {
         return Ok(());

@@ -117,8 +117,8 @@ vars_in line = do
   rest ← text_at (118 ∷ 97 ∷ 114 ∷ 115 ∷ []) line
   process ← spaced_name_at rest
   variables ← values_at process.1
-  if nat_lt 0 (length variables) then Some (record { process = process.0; variables = variables })
-      else None
+  if nat_lt 0 (length variables)
+      then Some (record { process = process.0; variables = variables }) else None
 
 unfoldable pub procs_in : List ℕ → Option (List Name)
 procs_in line = do

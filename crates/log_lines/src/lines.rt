@@ -102,7 +102,8 @@ pub fn read_event(alloc: Global, line: &[u8]) -> Result<EventDraft<'_>, LineErro
 
 /// The variables of a process, with their opening values, that the line spells.
 pub fn read_vars(alloc: Global, line: &[u8]) -> Result<VarsDraft<'_>, LineError>
-    ensures found { IfOk result (λ v. VarsLineFits (vars_of v) × (line.now ≡ vars_line (vars_of v))) }
+    ensures found { IfOk result (λ v. VarsLineFits (vars_of v)
+        × (line.now ≡ vars_line (vars_of v))) }
     ensures only { (v : VarsLine) → VarsLineFits v → line.now ≡ vars_line v
         → Gives vars_of result (Some v) }
     ensures exact { Gives vars_of result (vars_in line.now) }

@@ -140,8 +140,8 @@ impl Trace {
         requires process { process < length self.now.states.events }
         requires state { position ≤ length (get_or self.now.states.events process []) }
         requires variable { variable < length (get_or self.now.states.header.vars process []) }
-        ensures { result ≡ get_or (state_after (process_at (trace_of self.now.states) process)
-            position) variable (pos 0) }
+        ensures { result ≡ get_or
+            (state_after (process_at (trace_of self.now.states) process) position) variable (pos 0) }
     {
         self.states.value(process, position, variable)
     }

@@ -12,8 +12,8 @@ use Rattle.event_log.specs.States.{with_event, with_batch}
 use Rattle.vector_clock.specs.Events.{Events, no_events, clocks_of, place, some_below, is_beyond}
 use Rattle.vector_clock.specs.Messages.{message_sent, message_received, first_send, first_receipt}
 
--- ---- the faults of a clock: o has the clocks of all events up to the end of the batch, and a is the
--- event's place on its process
+-- ---- the faults of a clock. Here o has the clocks of all events up to the end of the batch, and a
+-- is the event's place on its process
 
 -- the clock names an event of process j: it counts events of j, and j isn't the event's own process
 abbrev pub names : Event → ℕ → Bool
@@ -53,8 +53,8 @@ clock_fault o a e =
     else if is_loop o a e then Some code.ClockLoop
     else None
 
--- ---- the faults of a message: `before` has the events of the log before the event, and `all` those
--- up to the end of the batch
+-- ---- the faults of a message. Here `before` has the events of the log before the event, and `all`
+-- those up to the end of the batch
 
 -- it sends, or receives, a message that an event before it sends, or receives
 abbrev pub is_twice : Events → Event → Bool

@@ -113,9 +113,8 @@ impl Clocks {
 /// one.
 pub fn check(alloc: Global, log: &Log) -> Result<Order, Refused<LogFault>>
     requires { CanBeChecked log.now }
-    ensures ok { IfOk result (λ order. (log_fault log.now ≡ None)
-        × (order ≡ clocks_of (with_batches (no_events (length log.now.header.procs))
-        log.now.batches))) }
+    ensures ok { IfOk result (λ order. (log_fault log.now ≡ None) × (order
+        ≡ clocks_of (with_batches (no_events (length log.now.header.procs)) log.now.batches))) }
     ensures fault { IfFault result (λ fault. log_fault log.now ≡ Some fault) }
 {
     let mut clocks = Clocks::new(alloc, log.header.procs.len() as u32)?;

@@ -50,7 +50,8 @@ pub fn first_fault(
     ensures fault { IfOk result (λ fault. (before : Events) → order.now ≡ clocks_of before
         → HasMessages messages.now (with_batch before batch.now)
         → fault ≡ batch_fault before batch.now) }
-    ensures order { IfOk result (λ fault. fault ≡ None → IsOrder (with_clocks order.now batch.now)) }
+    ensures order { IfOk result (λ fault. fault ≡ None
+        → IsOrder (with_clocks order.now batch.now)) }
 {
     let joined = Joined::new(alloc, order, batch)?;
     let mut taken = Vec::from_slice(alloc, order.shape().lens())?;

@@ -153,8 +153,8 @@ impl Messages {
 // The fault of a receipt of a message that was sent at this place of its sender.
 fn early_fault(event: &Event, sender: u32, sent: u32) -> Option<LogCode>
     requires { sender < length event.now.clock }
-    ensures { result ≡ (if nat_lt (count event.now.clock sender) sent then Some ReceiveEarly
-        else None) }
+    ensures { result
+        ≡ (if nat_lt (count event.now.clock sender) sent then Some ReceiveEarly else None) }
 {
     if event.clock.as_slice()[sender as usize] < sent {
         Some(LogCode::ReceiveEarly)
