@@ -13,22 +13,46 @@ use Rattle.run_model.specs.Formula.{LessOrEqual, GreaterOrEqual, InTransit}
 use Rattle.run_model.specs.Meaning.{Sat, ReceiptsHaveSends, in_transit}
 use Rattle.run_model.proofs.RelationLemmas.{holds_of, from_holds}
 use Rattle.event_log.specs.declared.log.Event.{Event}
-use Rattle.event_log.specs.States.{StatesView, trace_of, event_of, kind_of}
+use Rattle.event_log.specs.States.{StatesView, AreWhole, trace_of, event_of, kind_of}
 use Rattle.event_log.proofs.Keeping.{process_is}
+use Rattle.event_log.proofs.NameNumbers.{names_are, number_again}
 use Rattle.pull_system.specs.Pulls.{ClosedUnder}
 use Rattle.channel_preds.specs.declared.counted.Counted.{Counted}
 use Rattle.channel_preds.specs.declared.counted.Counted.TheVariants as counted
 use Rattle.channel_preds.specs.Channels.{count_of, counts_of, events_at, sends_to, receipts_from, channel_of, sent_at, received_at}
-use Rattle.channel_preds.specs.Truth.{run_in, AreEnds, at_most_pulls, at_least_pulls}
+use Rattle.channel_preds.specs.Truth.{run_in, name_of, at_most_pulls, at_least_pulls}
 use Rattle.channel_preds.proofs.Counting.{length-counts_of, get_or-counts_of, counts_are}
 use Rattle.channel_preds.proofs.Tables.{positions_close}
+
+-- two names stand for these processes of the run
+pub record AreEnds (states : StatesView) (watches : Watches) (sender receiver : Name) (p q : ℕ) : Type 0 where
+  pub whole : AreWhole states
+  pub sender_there : p < length states.events
+  pub receiver_there : q < length states.events
+  pub sender_is : (run_in states watches).process sender ≡ p
+  pub receiver_is : (run_in states watches).process receiver ≡ q
+
+number_is : (states : StatesView) (watches : Watches) → AreWhole states → (p : ℕ) → p < length states.events → (run_in states watches).process (name_of states p) ≡ p
+number_is states watches whole p there =
+    ap (run.number_of (name_of states p)) (names_are states whole.header.vars whole.events)
+    ∙ number_again states.header.procs p whole.header.distinct (omega (arith, whole.events))
+
+ends_are : (states : StatesView) (watches : Watches) → AreWhole states → (p q : ℕ) → p < length states.events → q < length states.events
+    → AreEnds states watches (name_of states p) (name_of states q) p q
+ends_are states watches whole p q source target = record {
+  whole = whole;
+  sender_there = source;
+  receiver_there = target;
+  sender_is = number_is states watches whole p source;
+  receiver_is = number_is states watches whole q target;
+}
 
 -- the events of a process in the run are those that were logged
 events_are : (states : StatesView) (watches : Watches) (sender receiver : Name) (p q : ℕ) → AreEnds states watches sender receiver p q → (i : ℕ) → i < length states.events
     → (process_at (trace_of states) i).events ≡ map event_of (events_at states i)
 events_are states watches sender receiver p q ends i there =
     ap (λ (x : run.Process). x.events)
-        (process_is states.header.procs states.header.vars states.events i (omega (arith, ends.events)) (omega (arith, ends.events, ends.header.vars)) there)
+        (process_is states.header.procs states.header.vars states.events i (omega (arith, ends.whole.events)) (omega (arith, ends.whole.events, ends.whole.header.vars)) there)
 
 -- a cut has no more events of a process than there are
 lengths_are : (t : Trace) (i : ℕ) → get_or (lengths (clocks_of t)) i 0 ≡ length (process_at t i).events
@@ -122,10 +146,10 @@ named states watches sender receiver p q ends c =
     let r = run_in states watches in
     ap (λ (i : ℕ). in_transit r i (r.process receiver) c) ends.sender_is ∙ ap (λ (j : ℕ). in_transit r p j c) ends.receiver_is
 
-pub at_most_means : (states : StatesView) (watches : Watches) (sender receiver : Name) (p q k : ℕ) → AreEnds states watches sender receiver p q
+at_most_between : (states : StatesView) (watches : Watches) (sender receiver : Name) (p q k : ℕ) → AreEnds states watches sender receiver p q
     → (c : Cut) → IsConsistent (clocks_of (trace_of states)) c
     → ClosedUnder (at_most_pulls states p q k) c ↔ Sat (run_in states watches) (InTransit sender receiver LessOrEqual k) c
-at_most_means states watches sender receiver p q k ends c consistent =
+at_most_between states watches sender receiver p q k ends c consistent =
     let r = run_in states watches in
     let transit = in_transit r (r.process sender) (r.process receiver) c in
     let counted_ = is_counted states watches sender receiver p q ends c consistent in
@@ -140,10 +164,10 @@ at_most_means states watches sender receiver p q k ends c consistent =
       λ true_. close.1 (omega (arith, is, holds_of LessOrEqual transit k true_)),
     )
 
-pub at_least_means : (states : StatesView) (watches : Watches) (sender receiver : Name) (p q k : ℕ) → AreEnds states watches sender receiver p q → ReceiptsHaveSends (run_in states watches)
+at_least_between : (states : StatesView) (watches : Watches) (sender receiver : Name) (p q k : ℕ) → AreEnds states watches sender receiver p q → ReceiptsHaveSends (run_in states watches)
     → (c : Cut) → IsConsistent (clocks_of (trace_of states)) c
     → ClosedUnder (at_least_pulls states p q k) c ↔ Sat (run_in states watches) (InTransit sender receiver GreaterOrEqual k) c
-at_least_means states watches sender receiver p q k ends have c consistent =
+at_least_between states watches sender receiver p q k ends have c consistent =
     let r = run_in states watches in
     let transit = in_transit r (r.process sender) (r.process receiver) c in
     let counted_ = is_counted states watches sender receiver p q ends c consistent in
@@ -158,3 +182,16 @@ at_least_means states watches sender receiver p q k ends have c consistent =
       λ closed. from_holds GreaterOrEqual transit k (omega (arith, is, low, close.0 closed)),
       λ true_. close.1 (omega (arith, is, low, holds_of GreaterOrEqual transit k true_)),
     )
+
+pub at_most_means : (states : StatesView) (watches : Watches) (p q k : ℕ) → AreWhole states → p < length states.events → q < length states.events
+    → (c : Cut) → IsConsistent (clocks_of (trace_of states)) c
+    → ClosedUnder (at_most_pulls states p q k) c ↔ Sat (run_in states watches) (InTransit (name_of states p) (name_of states q) LessOrEqual k) c
+at_most_means states watches p q k whole source target =
+    at_most_between states watches (name_of states p) (name_of states q) p q k (ends_are states watches whole p q source target)
+
+pub at_least_means : (states : StatesView) (watches : Watches) (p q k : ℕ) → AreWhole states → p < length states.events → q < length states.events
+    → ReceiptsHaveSends (run_in states watches)
+    → (c : Cut) → IsConsistent (clocks_of (trace_of states)) c
+    → ClosedUnder (at_least_pulls states p q k) c ↔ Sat (run_in states watches) (InTransit (name_of states p) (name_of states q) GreaterOrEqual k) c
+at_least_means states watches p q k whole source target =
+    at_least_between states watches (name_of states p) (name_of states q) p q k (ends_are states watches whole p q source target)

@@ -1,9 +1,9 @@
 -- Channels in a run that was logged, and in one that has grown.
-use Rattle.std.specs.Prelude.{◌≡◌, ℕ, ◌<◌, List, [], ◌∷◌, ◌++◌, length, map}
-use Rattle.run_model.specs.Cut.{Cut}
+use Rattle.std.specs.Prelude.{◌≡◌, ℕ, List, [], ◌∷◌, ◌++◌, length, map}
 use Rattle.run_model.specs.Run.{Name, Run, Watches, run_of}
 use Rattle.event_log.specs.declared.log.Event.{Event}
-use Rattle.event_log.specs.States.{StatesView, IsHeader, trace_of}
+use Rattle.event_log.specs.LogText.{name_at}
+use Rattle.event_log.specs.States.{StatesView, trace_of}
 use Rattle.pull_system.specs.declared.pull.Pull.{Pull}
 use Rattle.channel_preds.specs.Channels.{channel_of, at_most_pull, at_least_pull, events_at}
 
@@ -11,14 +11,9 @@ use Rattle.channel_preds.specs.Channels.{channel_of, at_most_pull, at_least_pull
 abbrev pub run_in : StatesView → Watches → Run
 run_in states watches = run_of (trace_of states) watches
 
--- the two names stand for these processes of the run, and each process has its variables and its events
-pub record AreEnds (states : StatesView) (watches : Watches) (sender receiver : Name) (p q : ℕ) : Type 0 where
-  pub header : IsHeader states.header
-  pub events : length states.events ≡ length states.header.procs
-  pub sender_there : p < length states.events
-  pub receiver_there : q < length states.events
-  pub sender_is : (run_in states watches).process sender ≡ p
-  pub receiver_is : (run_in states watches).process receiver ≡ q
+-- the name of a process by its number
+abbrev pub name_of : StatesView → ℕ → Name
+name_of states p = name_at states.header.procs p
 
 -- the pulls that say of a run that at most, or at least, k messages are under way from p to q
 abbrev pub at_most_pulls : StatesView → ℕ → ℕ → ℕ → List Pull
