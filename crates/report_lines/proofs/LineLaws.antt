@@ -16,7 +16,7 @@ use Rattle.log_lines.specs.Spelling.{clock_text}
 use Rattle.log_lines.specs.Reading.{text_at, clock_at}
 use Rattle.pota_base.specs.Number.{digits_from}
 use Rattle.log_lines.proofs.WordLaws.{bind_some, text_takes}
-use Rattle.report_lines.specs.declared.kinds.Edge.{Edge}
+use Rattle.slice_graph.specs.declared.edges.Edge.{Edge}
 use Rattle.report_lines.specs.Formula.{IsCanonical, is_canonical}
 use Rattle.report_lines.specs.Spelling.{event_text, truth_text, bounds_text, batch_line, lengths_line, formula_line, verdict_line, slice_line, edge_line, step_line, IsPositive, LengthsFit, CutFits, EdgeFits, BoundsFit, RunFits}
 use Rattle.report_lines.specs.Reading.{alone, positive_at, cut_at, within_at, event_at, batch_in, lengths_in, formula_in, truth_in, verdict_in, bounds_in, slice_in, edge_in, step_in}

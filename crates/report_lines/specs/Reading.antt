@@ -10,7 +10,7 @@ use Rattle.log_lines.specs.Reading.{choose, text_at, spaced_name_at, clock_at}
 use Rattle.witness_kinds.specs.declared.Path.{Path}
 use Rattle.witness_kinds.specs.declared.Witness.{Witness}
 use Rattle.witness_kinds.specs.declared.Witness.TheVariants as witness
-use Rattle.report_lines.specs.declared.kinds.Edge.{Edge}
+use Rattle.slice_graph.specs.declared.edges.Edge.{Edge}
 use Rattle.report_lines.specs.declared.kinds.WitnessText.{WitnessText}
 use Rattle.report_lines.specs.Spelling.{title}
 use Rattle.report_lines.specs.Formula.{is_canonical}

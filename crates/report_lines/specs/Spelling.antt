@@ -11,7 +11,7 @@ use Rattle.event_log.specs.LogText.{name_at}
 use Rattle.witness_kinds.specs.declared.Path.{Path}
 use Rattle.witness_kinds.specs.declared.Witness.{Witness}
 use Rattle.witness_kinds.specs.declared.Witness.TheVariants as witness
-use Rattle.report_lines.specs.declared.kinds.Edge.{Edge}
+use Rattle.slice_graph.specs.declared.edges.Edge.{Edge}
 use Rattle.report_lines.specs.declared.kinds.WitnessText.{WitnessText}
 
 -- ---- parts of lines

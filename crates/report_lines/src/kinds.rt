@@ -1,14 +1,6 @@
 //! What some lines of a report say.
 
-use pota_base::EventId;
 use witness_kinds::Witness;
-
-/// An edge of a slice (Mittal and Garg): a cut with the effect has the cause.
-#[derive(Clone, Copy, Debug, PartialEq, Eq)]
-pub struct Edge {
-    pub cause: EventId,
-    pub effect: EventId,
-}
 
 /// The witness of one part of a formula.
 #[derive(Debug, Drop)]

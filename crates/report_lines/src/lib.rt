@@ -9,7 +9,7 @@ mod witnesses;
 mod writing;
 
 pub use head::{is_title, read_batch, read_formula, read_lengths, read_verdict};
-pub use kinds::{Edge, WitnessText};
+pub use kinds::WitnessText;
 pub use slices::{read_edge, read_slice, read_step};
 pub use witnesses::read_witness;
 pub use writing::{put_edge, put_slice, put_step, put_witness};

@@ -3,12 +3,12 @@
 ghost use Rattle.std.specs.Prelude.{◌≡◌, ◌≤◌, length, IfOk};
 ghost use Rattle.report_lines.specs.Reading.{bounds_in, slice_in, edge_in, step_in};
 
-use crate::kinds::Edge;
 use crate::parts::{event_at, within_at};
 use cut_lattice::Cut;
 use log_lines::text_at;
 use pota_base::{EventId, NoMemory};
 use pota_names::Name;
+use slice_graph::Edge;
 use std::alloc::Global;
 
 // Two cuts parted by a space.

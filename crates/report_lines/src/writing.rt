@@ -6,11 +6,12 @@ ghost use Rattle.event_log.specs.LogText.{text_of};
 ghost use Rattle.witness_kinds.specs.declared.Witness.TheVariants.{StuckPair};
 ghost use Rattle.report_lines.specs.Spelling.{event_text, bounds_text, kind_text, slice_line, edge_line, witness_line, step_line, IsNamed};
 
-use crate::kinds::{Edge, WitnessText};
+use crate::kinds::WitnessText;
 use cut_lattice::Cut;
 use event_log::{put_clock, put_spaced};
 use pota_base::{Bytes, EventId, NoMemory, put_u64};
 use pota_names::Name;
+use slice_graph::Edge;
 use witness_kinds::Witness;
 
 // ` NAME NAT`
@@ -76,12 +77,7 @@ fn put_goal(out: &mut Bytes, word: &[u8], goal: &Cut) -> Result<(), NoMemory>
     put_clock(out, goal.as_slice())
 }
 
-fn put_pair(
-    out: &mut Bytes,
-    procs: &[Name],
-    first: EventId,
-    other: EventId,
-) -> Result<(), NoMemory>
+fn put_pair(out: &mut Bytes, procs: &[Name], first: EventId, other: EventId) -> Result<(), NoMemory>
     requires first { first.process < length procs.now }
     requires other { other.process < length procs.now }
     ensures { OnOk result (out.new ≡ out.old ++ kind_text procs.now (StuckPair first other)) }
