@@ -36,7 +36,7 @@ pub use pota_names::Name;
 pub use reader::Reader;
 pub use split::split_line;
 pub use states::States;
-pub use writing::{put_clock, put_names, write_log};
+pub use writing::{put_clock, put_names, put_spaced, write_log};
 
 #[cfg(test)]
 mod tests;

@@ -1,4 +1,7 @@
 pub mod Marks
+pub mod PullLists
+pub mod FirstNumbers
+pub mod Growing
 pub mod Starts
 pub mod Sums
 pub mod Pulls

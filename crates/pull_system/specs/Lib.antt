@@ -2,4 +2,5 @@ pub mod Vector
 pub mod System
 pub mod Pulls
 pub mod Rows
+pub mod Growth
 pub mod Climb

@@ -7,7 +7,9 @@ mod risen;
 mod rows;
 mod system;
 
-pub use laws::{closed_vectors, least_vectors, row_starts};
+pub use laws::{
+    closed_lists, closed_vectors, first_numbers, growing_systems, least_vectors, row_starts,
+};
 pub use pull::{Pull, all_fit};
 pub use risen::Risen;
 pub use rows::Rows;

@@ -23,7 +23,7 @@ use Rattle.causal_order.proofs.Orders.{no_events_order}
 use Rattle.vector_clock.specs.Events.{Events, EventFits, AllFit, no_events, own_events, clocks_of}
 use Rattle.vector_clock.specs.Faults.{batch_fault, batches_fault, log_fault}
 use Rattle.vector_clock.specs.Faultless.{AreFaultless, no_batch, one_batch, IsLoggedRun}
-use Rattle.vector_clock.proofs.Growth.{own_clocks, clocks_none, length-with_batch}
+use Rattle.vector_clock.proofs.Growth.{clock_suc, own_clocks, clocks_none, length-with_batch}
 use Rattle.vector_clock.proofs.BatchLaws.{batch_order, trace_clocks, all_fit}
 use Rattle.vector_clock.proofs.Faultless.{chosen_none}
 use Rattle.vector_clock.proofs.MessageIds.{sent_id, received_id, ids, ids-append, in_either, member_stays, length-sent_ids, length-received_ids}
@@ -122,11 +122,9 @@ received_within sent p c M step (e ∷ es) (suc n) each rows id h =
 -- the clock of each event of q within the cut is within the cut
 clocks_within : (events : Events) (q : ℕ) (c : Cut) → IsOrder (clocks_of events) → IsConsistent (clocks_of events) c
     → (i : ℕ) → i < count c q → IsWithin (get_or (map (λ (e : Event). e.clock) (own_events events q)) i []) c
-unfolding clock
 clocks_within events q c order consistent i lt =
-    let at : i + 1 - 1 ≡ i = omega arith in
-    subst (λ (row : Cut). IsWithin row c) (ap (λ (k : ℕ). get_or (get_or (clocks_of events) q []) k []) at ∙ ap (λ (rows : List Cut). get_or rows i []) (own_clocks events q))
-    (has_past (clocks_of events) order c consistent q (i + 1) (omega arith, omega arith))
+    subst (λ (row : Cut). IsWithin row c) (clock_suc (clocks_of events) q i ∙ ap (λ (rows : List Cut). get_or rows i []) (own_clocks events q))
+    (has_past (clocks_of events) order c consistent q (suc i) (omega arith, omega arith))
 
 pub receipts_have_sends : (events : Events) (p q : ℕ) (c : Cut) → IsOrder (clocks_of events) → AreDelivered events events → IsConsistent (clocks_of events) c
     → length (ids (received_id p) (take (count c q) (own_events events q))) ≤ length (ids (sent_id q) (take (count c p) (own_events events p)))

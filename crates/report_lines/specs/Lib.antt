@@ -1,0 +1,3 @@
+pub mod Formula
+pub mod Spelling
+pub mod Reading
