@@ -3,3 +3,4 @@ pub mod Floors
 pub mod Seeing
 pub mod Allowed
 pub mod Lends
+pub mod Claiming

@@ -2,6 +2,7 @@
 ghost use Rattle.bound_table.specs.Rule.{Kept, opened, nobody, together, Looked, Lifted};
 
 use atomic_table::{Join, Play, Split, TableRule};
+use process_claims::Claimer;
 use pull_system::{Rows, System};
 use std::collections::LinkedList;
 use std::marker::Model;
@@ -21,13 +22,15 @@ pub(crate) struct Known {
     floor: LinkedList<u64>,
 }
 
-/// A caller's hold on a table. Contracts see its table and, row by row, a floor for each word, which the word has reached.
+/// A caller's hold on a table. Contracts see its table and, row by row, a floor for each word, which the word has reached; and
+/// the processes that it claims, and those that it saw taken.
 ///
 /// The floors lie between the starts of the rows and their least closed vectors. They take no bytes: a running program learns
 /// the floors of a row by `BoundTable::look` or `BoundTable::settle`.
 #[derive(Drop)]
 pub struct Seat {
     pub(crate) token: atomic_table::Seat<(), Known>,
+    pub(crate) claimer: Claimer,
 }
 
 impl Model for Seat {
@@ -37,7 +40,7 @@ impl Model for Seat {
 
     ghost Value = { SeatView };
 
-    ghost view = { λ seat. record { table = record { id = seat.token.table_id; system = seat.token.me.0.system }; floor = seat.token.me.0.floor } };
+    ghost view = { λ seat. record { table = record { id = seat.token.table_id; claims = seat.claimer.table; system = seat.token.me.0.system }; floor = seat.token.me.0.floor; claims = seat.claimer.claims; marks = seat.claimer.marks } };
 
     ghost invariant = { λ seat. IsSound seat.token.me.0 × (seat.token.me.1 ≡ []) };
 }

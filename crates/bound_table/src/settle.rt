@@ -10,6 +10,7 @@ ghost use Rattle.pull_system.specs.Asks.{IsAskedBy, AreAsks};
 ghost use Rattle.raise_machine.specs.Bounds.{word_at, has_start};
 ghost use Rattle.bound_table.specs.Asking.{IsAsking, IsRaised};
 ghost use Rattle.bound_table.specs.Kept.{Follows};
+ghost use Rattle.bound_table.specs.Views.{KeepsClaims};
 
 use crate::seat::Seat;
 use crate::table::BoundTable;
@@ -32,7 +33,7 @@ impl BoundTable {
         requires fits { seat.old.table ≡ self.now }
         requires row { row ≤ sum self.now.system.lens }
         requires into { length into.old ≡ length self.now.system.lens }
-        ensures table { seat.new.table ≡ seat.old.table }
+        ensures keeps { KeepsClaims seat.old seat.new }
         ensures follows { Follows self.now.system row seat.old.floor seat.new.floor into.new }
         ensures least { IsLeast self.now.system row into.new }
         ensures looks { let pulls = length self.now.system.pulls in
@@ -74,7 +75,7 @@ impl BoundTable {
             → slice_index into.old process
             ≤ word_at self.now.system.lens seat.old.floor before process }
         requires event { has_start self.now.system.lens seat.old.floor row before ≡ true }
-        ensures table { seat.new.table ≡ seat.old.table }
+        ensures keeps { KeepsClaims seat.old seat.new }
         ensures follows { Follows self.now.system row seat.old.floor seat.new.floor into.new }
         ensures least { IsLeast self.now.system row into.new }
         ensures looks { let pulls = length self.now.system.pulls in
@@ -106,7 +107,7 @@ impl BoundTable {
         requires into { length into.old ≡ length self.now.system.lens }
         requires vector { length vector.old ≡ length self.now.system.lens }
         requires seen { length seen.old ≡ length self.now.system.lens }
-        ensures table { seat.new.table ≡ seat.old.table }
+        ensures keeps { KeepsClaims seat.old seat.new }
         ensures follows { Follows self.now.system row seat.old.floor seat.new.floor into.new }
         ensures least { IsLeast self.now.system row into.new }
         ensures looks { let pulls = length self.now.system.pulls in
@@ -144,7 +145,7 @@ impl BoundTable {
         requires event { has_start self.now.system.lens seat.old.floor row before ≡ true }
         requires vector { length vector.old ≡ length self.now.system.lens }
         requires seen { length seen.old ≡ length self.now.system.lens }
-        ensures table { seat.new.table ≡ seat.old.table }
+        ensures keeps { KeepsClaims seat.old seat.new }
         ensures follows { Follows self.now.system row seat.old.floor seat.new.floor into.new }
         ensures least { IsLeast self.now.system row into.new }
         ensures looks { let pulls = length self.now.system.pulls in
@@ -172,7 +173,7 @@ impl BoundTable {
             → slice_index lent.now process
             ≤ word_at self.now.system.lens seat.old.floor before process }
         requires event { has_start self.now.system.lens seat.old.floor row before ≡ true }
-        ensures table { seat.new.table ≡ seat.old.table }
+        ensures keeps { KeepsClaims seat.old seat.new }
         ensures follows { Follows self.now.system row seat.old.floor seat.new.floor vector.new }
         ensures reaches { IsWithin lent.now vector.new }
     {
@@ -192,7 +193,7 @@ impl BoundTable {
         requires process { process < length self.now.system.lens }
         requires lent { lent ≤ word_at self.now.system.lens seat.old.floor before process }
         requires event { has_start self.now.system.lens seat.old.floor row before ≡ true }
-        ensures table { seat.new.table ≡ seat.old.table }
+        ensures keeps { KeepsClaims seat.old seat.new }
         ensures raised { IsRaised self.now.system seat.old.floor seat.new.floor row process lent result }
     {
         let word = self.load(seat, self.place(row, process));
@@ -216,7 +217,7 @@ impl BoundTable {
         requires row { row ≤ sum self.now.system.lens }
         requires follows { Follows self.now.system row seat.old.floor seat.old.floor vector.old }
         requires seen { length seen.old ≡ length self.now.system.lens }
-        ensures table { seat.new.table ≡ seat.old.table }
+        ensures keeps { KeepsClaims seat.old seat.new }
         ensures asking { IsAsking self.now.system row seat.old.floor seat.new.floor vector.new seen.new }
         ensures reaches { IsWithin vector.old seen.new }
         ensures looks { steps.new ≤ steps.old + length self.now.system.pulls }
@@ -241,7 +242,7 @@ impl BoundTable {
         requires fits { seat.old.table ≡ self.now }
         requires row { row ≤ sum self.now.system.lens }
         requires asking { IsAsking self.now.system row seat.old.floor seat.old.floor vector.old seen.old }
-        ensures table { seat.new.table ≡ seat.old.table }
+        ensures keeps { KeepsClaims seat.old seat.new }
         ensures follows { Follows self.now.system row seat.old.floor seat.new.floor vector.new }
         ensures least { IsLeast self.now.system row vector.new }
         ensures looks { let pulls = length self.now.system.pulls in
@@ -268,7 +269,7 @@ impl BoundTable {
         requires fits { seat.old.table ≡ self.now }
         requires row { row ≤ sum self.now.system.lens }
         requires asking { IsAsking self.now.system row seat.old.floor seat.old.floor vector.old seen.old }
-        ensures table { seat.new.table ≡ seat.old.table }
+        ensures keeps { KeepsClaims seat.old seat.new }
         ensures asking { IsAsking self.now.system row seat.old.floor seat.new.floor vector.new seen.new }
         ensures done { result ≡ 0 → IsWithin vector.new seen.new }
         ensures reaches { IsWithin vector.old seen.new }
@@ -300,7 +301,7 @@ impl BoundTable {
         requires process { process < length self.now.system.lens }
         requires asking { IsAsking self.now.system row seat.old.floor seat.old.floor vector.old seen.old }
         ensures few { result ≤ 1 }
-        ensures table { seat.new.table ≡ seat.old.table }
+        ensures keeps { KeepsClaims seat.old seat.new }
         ensures asking { IsAsking self.now.system row seat.old.floor seat.new.floor vector.new seen.new }
         ensures idle { result ≡ 0 → vector.new ≡ vector.old }
         ensures kept { IsWithin seen.old seen.new }
@@ -336,7 +337,7 @@ impl BoundTable {
         requires process { process < length self.now.system.lens }
         requires follows { Follows self.now.system row seat.old.floor seat.old.floor vector.old }
         requires reached { x ≤ slice_index vector.old process }
-        ensures table { seat.new.table ≡ seat.old.table }
+        ensures keeps { KeepsClaims seat.old seat.new }
         ensures follows { Follows self.now.system row seat.old.floor seat.new.floor vector.new }
         ensures holds { (k : ℕ) → k < length self.now.system.pulls → source_of self.now.system k ≡ process
             → ask self.now.system k x ≤ slice_index vector.new (target_of self.now.system k) }
@@ -364,7 +365,7 @@ impl BoundTable {
         requires follows { Follows self.now.system row seat.old.floor seat.old.floor vector.old }
         requires reached { x ≤ slice_index vector.old process }
         requires asks { AreAsks self.now.system process x asks.now }
-        ensures table { seat.new.table ≡ seat.old.table }
+        ensures keeps { KeepsClaims seat.old seat.new }
         ensures follows { Follows self.now.system row seat.old.floor seat.new.floor vector.new }
         ensures reaches { IsWithin asks.now vector.new }
     {
@@ -395,7 +396,7 @@ impl BoundTable {
         requires follows { Follows self.now.system row seat.old.floor seat.old.floor vector.old }
         requires reached { x ≤ slice_index vector.old process }
         requires asked { (asked ≡ 0) ⊎ IsAskedBy self.now.system process x target asked }
-        ensures table { seat.new.table ≡ seat.old.table }
+        ensures keeps { KeepsClaims seat.old seat.new }
         ensures follows { Follows self.now.system row seat.old.floor seat.new.floor vector.new }
         ensures reaches { asked ≤ slice_index vector.new target }
     {

@@ -1,4 +1,4 @@
-ghost use Rattle.std.specs.Prelude.{◌≡◌, ◌≢◌, ℕ, ◌+◌, ◌*◌, ◌<◌, ◌≤◌, List, true, length, sum, slice_index, slice_set, IfOk};
+ghost use Rattle.std.specs.Prelude.{◌≡◌, ◌≢◌, ℕ, ◌+◌, ◌*◌, ◌<◌, ◌≤◌, List, [], ◌∷◌, ◌++◌, true, false, length, sum, slice_index, slice_set, IfOk};
 ghost use Rattle.pull_system.specs.Vector.{IsWithin, IsMaximum};
 ghost use Rattle.pull_system.specs.System.{IsSystem};
 ghost use Rattle.pull_system.specs.Rows.{place_of};
@@ -8,10 +8,12 @@ ghost use Rattle.raise_machine.specs.Machine.{is_allowed};
 ghost use Rattle.bound_table.specs.Asking.{IsPullStep, IsRaised};
 ghost use Rattle.bound_table.specs.Kept.{Follows};
 ghost use Rattle.bound_table.specs.Rule.{word_count};
+ghost use Rattle.bound_table.specs.Views.{KeepsClaims};
 
 use crate::seat::{Bounded, Key, Known, Lifts, Looks, Meets, Seat, Twins};
 use atomic_table::Table;
 use pota_base::NoMemory;
+use process_claims::Claims;
 use pull_system::{Rows, System};
 use std::alloc::Global;
 use std::marker::Model;
@@ -20,10 +22,11 @@ use std::snapshot::Snapshot;
 /// One word per row and process, shared by callers that hold a seat each. Contracts see its system, and which table it is.
 ///
 /// Between any two steps each word lies between its row's start and the row's least closed vector, and has reached the floor
-/// that each seat has for it. No call waits for another caller.
+/// that each seat has for it. A process that a seat claims is claimed by no other. No call waits for another caller.
 #[derive(Drop)]
 pub struct BoundTable {
     table: Table<(), Known, Key, Bounded, Global>,
+    claims: Claims,
     system: System,
 }
 
@@ -35,9 +38,9 @@ impl Model for BoundTable {
 
     ghost Value = { TableView };
 
-    ghost view = { λ table. record { id = table.table.shared.table_id; system = table.system } };
+    ghost view = { λ table. record { id = table.table.shared.table_id; claims = table.claims; system = table.system } };
 
-    ghost invariant = { λ table. (table.table.shared.key.system.value ≡ table.system) × (table.table.shared.table_id.words ≡ word_count table.system.lens) × IsShape table.system.lens };
+    ghost invariant = { λ table. (table.table.shared.key.system.value ≡ table.system) × (table.table.shared.table_id.words ≡ word_count table.system.lens) × IsShape table.system.lens × (table.claims.words ≡ length table.system.lens) };
 }
 
 impl BoundTable {
@@ -46,39 +49,67 @@ impl BoundTable {
         requires lens { floor.now.lens ≡ system.lens }
         requires bounds { AreBounds system floor.now.words }
         ensures system { IfOk result (λ pair. pair.0.system ≡ system) }
-        ensures seat { IfOk result (λ pair. pair.1 ≡ record { table = pair.0; floor = floor.now.words }) }
+        ensures seat { IfOk result (λ pair. pair.1 ≡ record { table = pair.0; floor = floor.now.words; claims = []; marks = [] }) }
     {
         let key = Key {
             system: Snapshot::of(&system),
             floor: Snapshot::of(floor),
         };
         let (table, token) = Table::of_words(alloc, floor.as_words(), &key)?;
-        Ok((BoundTable { table, system }, Seat { token }))
+        let (claims, claimer) = Claims::new(alloc, system.shape().procs())?;
+        let table = BoundTable {
+            table,
+            claims,
+            system,
+        };
+        Ok((table, Seat { token, claimer }))
     }
 
-    /// A second seat with the same floor.
+    /// A second seat with the same floor, which claims nothing.
     pub fn split(&self, seat: &mut Seat) -> Seat
         requires fits { seat.old.table ≡ self.now }
         ensures same { seat.new ≡ seat.old }
-        ensures twin { result ≡ seat.old }
+        ensures table { result.table ≡ seat.old.table }
+        ensures floor { result.floor ≡ seat.old.floor }
+        ensures claims { result.claims ≡ [] }
+        ensures marks { result.marks ≡ seat.old.marks ++ seat.old.claims }
     {
         let _ = &self.system;
         Seat {
             token: self.table.shared.split_seat::<Twins>(&mut seat.token),
+            claimer: self.claims.split(&mut seat.claimer),
         }
     }
 
-    /// Makes the seat's floor the maximum of both seats' floors.
+    /// Makes the seat's floor the maximum of both seats' floors, and gives it what the other claims and saw taken.
     pub fn meet(&self, seat: &mut Seat, other: Seat)
         requires fits { seat.old.table ≡ self.now }
         requires other_fits { other.table ≡ self.now }
         ensures table { seat.new.table ≡ seat.old.table }
+        ensures claims { seat.new.claims ≡ seat.old.claims ++ other.claims }
+        ensures marks { seat.new.marks ≡ seat.old.marks ++ other.marks }
         ensures floor { IsMaximum seat.old.floor other.floor seat.new.floor }
         ensures bounds { AreBounds self.now.system seat.new.floor }
     {
         let _ = &self.system;
-        let Seat { token } = other;
+        let Seat { token, claimer } = other;
         self.table.shared.join_seat::<Meets>(&mut seat.token, token);
+        self.claims.meet(&mut seat.claimer, claimer);
+    }
+
+    /// Claims the process, and is true, where this call finds it not taken. Where it finds it taken it is false.
+    pub fn claim(&self, seat: &mut Seat, process: u32) -> bool
+        requires fits { seat.old.table ≡ self.now }
+        requires process { process < length self.now.system.lens }
+        ensures table { seat.new.table ≡ seat.old.table }
+        ensures floor { seat.new.floor ≡ seat.old.floor }
+        ensures claimed { result ≡ true → (seat.new.claims ≡ seat.old.claims ++ process ∷ [])
+            × (seat.new.marks ≡ seat.old.marks) }
+        ensures taken { result ≡ false → (seat.new.claims ≡ seat.old.claims)
+            × (seat.new.marks ≡ seat.old.marks ++ process ∷ []) }
+    {
+        let _ = &self.system;
+        self.claims.claim(&mut seat.claimer, process)
     }
 
     /// Lends the system of the table.
@@ -94,8 +125,13 @@ impl BoundTable {
         ensures { result ≡ self.system }
     {
         drop(seat);
-        let BoundTable { table, system } = self;
+        let BoundTable {
+            table,
+            claims,
+            system,
+        } = self;
         drop(table);
+        drop(claims);
         system
     }
 
@@ -104,7 +140,7 @@ impl BoundTable {
         requires fits { seat.old.table ≡ self.now }
         requires row { row ≤ sum self.now.system.lens }
         requires into { length into.old ≡ length self.now.system.lens }
-        ensures table { seat.new.table ≡ seat.old.table }
+        ensures keeps { KeepsClaims seat.old seat.new }
         ensures follows { Follows self.now.system row seat.old.floor seat.new.floor into.new }
     {
         seat.bounds();
@@ -121,7 +157,7 @@ impl BoundTable {
         requires from_row { from_row ≤ sum self.now.system.lens }
         requires to_row { to_row ≤ sum self.now.system.lens }
         requires event { has_start self.now.system.lens seat.old.floor to_row from_row ≡ true }
-        ensures table { seat.new.table ≡ seat.old.table }
+        ensures keeps { KeepsClaims seat.old seat.new }
         ensures lent { (process : ℕ) → process < length self.now.system.lens → word_at self.now.system.lens seat.new.floor from_row process ≤ word_at self.now.system.lens seat.new.floor to_row process }
         ensures others { (row process : ℕ) → row ≢ from_row → row ≢ to_row → process < length self.now.system.lens → word_at self.now.system.lens seat.new.floor row process ≡ word_at self.now.system.lens seat.old.floor row process }
         ensures rises { IsWithin seat.old.floor seat.new.floor }
@@ -132,6 +168,25 @@ impl BoundTable {
             let y = self.load(seat, self.place(from_row, process));
             let _raised = self.raise_by_lend(seat, from_row, to_row, process, y);
         }
+    }
+
+    /// The seat's floors of all rows, after a look at the words of all rows.
+    pub fn floors(&self, alloc: Global, seat: &mut Seat) -> Result<Rows, NoMemory>
+        requires fits { seat.old.table ≡ self.now }
+        ensures keeps { KeepsClaims seat.old seat.new }
+        ensures rows { IfOk result (λ rows.
+            rows ≡ record { lens = self.now.system.lens; words = seat.new.floor }) }
+        ensures rises { IsWithin seat.old.floor seat.new.floor }
+        ensures bounds { AreBounds self.now.system seat.new.floor }
+    {
+        seat.bounds();
+        let shape = self.system.shape();
+        let count = (shape.events() as usize + 1) * shape.procs() as usize;
+        let mut words = Vec::with_capacity(alloc, count)?;
+        for word in 0..count {
+            words.push(self.load(seat, word))?;
+        }
+        Rows::from_words(alloc, shape, words)
     }
 
     /// Where the word of a process in a row stands among the words.
@@ -149,7 +204,7 @@ impl BoundTable {
     pub(crate) fn load(&self, seat: &mut Seat, word: usize) -> u64
         requires fits { seat.old.table ≡ self.now }
         requires word { word < word_count self.now.system.lens }
-        ensures table { seat.new.table ≡ seat.old.table }
+        ensures keeps { KeepsClaims seat.old seat.new }
         ensures floor { seat.new.floor ≡ slice_set seat.old.floor word result }
         ensures rises { slice_index seat.old.floor word ≤ result }
         ensures bounds { AreBounds self.now.system seat.new.floor }
@@ -164,7 +219,7 @@ impl BoundTable {
         requires fits { seat.old.table ≡ self.now }
         requires target { target < length self.now.system.lens }
         requires step { IsPullStep self.now.system seat.old.floor row target asked }
-        ensures table { seat.new.table ≡ seat.old.table }
+        ensures keeps { KeepsClaims seat.old seat.new }
         ensures raised { IsRaised self.now.system seat.old.floor seat.new.floor row target asked result }
     {
         let word = self.place(row, target);
@@ -187,7 +242,7 @@ impl BoundTable {
     ) -> u64
         requires fits { seat.old.table ≡ self.now }
         requires step { is_allowed self.now.system seat.old.floor (Lend to_row from_row process y) ≡ true }
-        ensures table { seat.new.table ≡ seat.old.table }
+        ensures keeps { KeepsClaims seat.old seat.new }
         ensures raised { IsRaised self.now.system seat.old.floor seat.new.floor to_row process y result }
     {
         let word = self.place(to_row, process);

@@ -1,4 +1,4 @@
-ghost use Rattle.std.specs.Prelude.{◌≡◌, ◌+◌, ◌≤◌, ◌<◌, length, sum, slice_index, slice_set, max, IfOk, IfSome, OnOk, ◌++◌};
+ghost use Rattle.std.specs.Prelude.{◌≡◌, ◌+◌, ◌*◌, ◌≤◌, ◌<◌, length, sum, slice_index, slice_set, max, IfOk, IfSome, OnOk, ◌++◌};
 ghost use Rattle.pota_base.specs.Shape.{IsShape};
 ghost use Rattle.pull_system.specs.Rows.{start_of, starts, row_at};
 ghost use Rattle.pull_system.specs.Growth.{DidNotFall, grown_row, grown_words, old_row};
@@ -33,6 +33,15 @@ impl Rows {
     {
         let shape = shape.copy(alloc)?;
         let words = start_words(alloc, &shape)?;
+        Ok(Rows { shape, words })
+    }
+
+    /// Rows of a shape with these words, row by row.
+    pub fn from_words(alloc: Global, shape: &Shape, words: Vec<u64>) -> Result<Rows, NoMemory>
+        requires { length words.items ≡ (sum shape.now + 1) * length shape.now }
+        ensures { IfOk result (λ rows. rows ≡ record { lens = shape.now; words = words.items }) }
+    {
+        let shape = shape.copy(alloc)?;
         Ok(Rows { shape, words })
     }
 

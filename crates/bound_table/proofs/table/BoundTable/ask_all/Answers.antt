@@ -4,11 +4,12 @@ use Rattle.pull_system.specs.System.{SystemView}
 use Rattle.pull_system.proofs.Asking.{pulls_from_few}
 use Rattle.bound_table.proofs.Floors.{follows_trans, follows_again, follows_rises, within_one}
 use Rattle.bound_table.proofs.Seeing.{hold_none, hold_put, put_next, within_first, first_more, hold_upto}
+use Rattle.bound_table.proofs.Claiming.{keeps_refl, keeps_trans}
 use Rattle.bound_table.proofs.table.BoundTable.ask_all.Goals as goal
 
 pub loop-process-init : goal.loop-process-init
 loop-process-init g c = record {
-  table = search rules;
+  keeps = keeps_refl _;
   follows = c.requires.follows;
   size = c.requires.seen;
   within = λ p below. absurd (omega arith);
@@ -32,7 +33,7 @@ loop-process-preserved g c =
     let before = follows_rises system c.args.row _ _ _ c.args.vector.now vector c.requires.follows inv.follows in
     let rises = follows_rises system c.args.row _ _ _ vector c.ask_from.new.vector inv.follows c.ask_from.ensures.follows in
     let seen_there : process < length c.loop-process.seen = omega (arith, inv.size) in record {
-      table = c.ask_from.ensures.table ∙ inv.table;
+      keeps = keeps_trans _ _ _ inv.keeps c.ask_from.ensures.keeps;
       follows = follows_trans system c.args.row _ _ _ _ _ inv.follows c.ask_from.ensures.follows;
       size = length-set c.loop-process.seen process x ∙ inv.size;
       within = put_next (λ i n. n ≤ get_or c.ask_from.new.vector i 0) c.loop-process.seen _ process x seen_there refl (λ i below. omega (arith, inv.within i below, rises.each i)) (rises.each process);

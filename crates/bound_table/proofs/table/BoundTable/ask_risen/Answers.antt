@@ -3,11 +3,12 @@ use Rattle.pull_system.specs.System.{SystemView}
 use Rattle.pull_system.proofs.Asking.{pulls_from_few}
 use Rattle.bound_table.proofs.Floors.{follows_rises}
 use Rattle.bound_table.proofs.Seeing.{asking_trans, asking_again, within_first, first_more, upto_next, pays_more}
+use Rattle.bound_table.proofs.Claiming.{keeps_refl, keeps_trans}
 use Rattle.bound_table.proofs.table.BoundTable.ask_risen.Goals as goal
 
 pub loop-process-init : goal.loop-process-init
 loop-process-init g c = record {
-  table = search rules;
+  keeps = keeps_refl _;
   asking = c.requires.asking;
   done = λ none p below. absurd (omega arith);
   reaches = λ p below. absurd (omega arith);
@@ -30,7 +31,7 @@ loop-process-preserved g c =
     let there : process < length system.lens = search rules in
     let before = follows_rises system c.args.row _ _ _ c.args.vector.now c.loop-process.vector c.requires.asking.follows inv.asking.follows in
     let reached = upto_next (λ i. get_or c.args.vector.now i 0 ≤ get_or c.ask_again-asked.new.seen i 0) process (λ i below. omega (arith, inv.reaches i below, again.kept.each i)) (omega (arith, before.each process, again.reaches)) in record {
-      table = again.table ∙ inv.table;
+      keeps = keeps_trans _ _ _ inv.keeps again.keeps;
       asking = asking_trans system c.args.row _ _ _ _ _ _ _ inv.asking again.asking;
       done = λ none.
           let idle : c.ask_again-asked.result ≡ 0 = omega arith in

@@ -2,13 +2,14 @@ use Rattle.std.proofs.Common.{rules, arith, ap, ◌≡◌, ◌≤◌, ◌∙◌,
 use Rattle.pull_system.specs.System.{SystemView}
 use Rattle.bound_table.proofs.Floors.{follows_again}
 use Rattle.bound_table.proofs.Seeing.{asking_trans, asking_again, asking_least, asking_sum, asking_room, within_sum, settle_looks, looks_more, pays_more, first_looks}
+use Rattle.bound_table.proofs.Claiming.{keeps_refl, keeps_trans}
 use Rattle.bound_table.proofs.table.BoundTable.close_row.Goals as goal
 
 pub loop-asked-init : goal.loop-asked-init
 loop-asked-init g c =
     let system : SystemView = c.args.self.now.system in
     let risen = c.ask_risen-asked.ensures in record {
-      table = risen.table;
+      keeps = risen.keeps;
       asking = risen.asking;
       done = risen.done;
       looks = first_looks _ _ _ _ _ risen.looks (within_sum _ _ (omega (arith, c.requires.asking.follows.size, risen.asking.size)) risen.reaches);
@@ -27,7 +28,7 @@ loop-asked-preserved g c =
     let system : SystemView = c.args.self.now.system in
     let inv = c.loop-asked.invariant in
     let risen = c.ask_risen-asked-in-loop-asked.ensures in record {
-      table = risen.table ∙ inv.table;
+      keeps = keeps_trans _ _ _ inv.keeps risen.keeps;
       asking = asking_trans system c.args.row _ _ _ _ _ _ _ inv.asking risen.asking;
       done = risen.done;
       looks = looks_more _ _ _ _ _ _ _ risen.pays inv.looks;

@@ -6,6 +6,7 @@ use Rattle.raise_machine.specs.Bounds.{word_at}
 use Rattle.bound_table.proofs.Allowed.{lend_allowed}
 use Rattle.bound_table.proofs.Floors.{place_there, within_trans}
 use Rattle.bound_table.proofs.Lends.{has_start_more, set_within, reached, LendsAt, lends_within, lends_others, lends_next}
+use Rattle.bound_table.proofs.Claiming.{keeps_refl, keeps_trans}
 use Rattle.bound_table.proofs.table.BoundTable.lend.Goals as goal
 
 pub raise_by_lend-raised-requires-clause-step : goal.raise_by_lend-raised-requires-clause-step
@@ -44,7 +45,7 @@ loop-process-preserved c =
     } in
     let within = lends_within _ _ _ _ _ _ _ _ _ at in
     record {
-      table = c.raise_by_lend-raised.ensures.table ∙ c.load-y.ensures.table ∙ inv.table;
+      keeps = keeps_trans _ _ _ (keeps_trans _ _ _ inv.keeps c.load-y.ensures.keeps) c.raise_by_lend-raised.ensures.keeps;
       event = has_start_more system.lens c.loop-process.seat.floor c.raise_by_lend-raised.new.seat.floor c.args.to_row c.args.from_row within inv.event;
       lent = lends_next _ _ _ _ _ _ _ _ _ at inv.lent;
       others = λ row p not_from not_to p_there. lends_others _ _ _ _ _ _ _ _ _ at row p not_from not_to p_there ∙ inv.others row p not_from not_to p_there;

@@ -5,11 +5,12 @@ use Rattle.bound_table.proofs.Allowed.{bounds_along}
 use Rattle.bound_table.proofs.Lends.{has_start_more}
 use Rattle.bound_table.proofs.Floors.{follows_none}
 use Rattle.bound_table.proofs.Seeing.{follows_next, raised_within_floor, put_next, within_first}
+use Rattle.bound_table.proofs.Claiming.{keeps_refl, keeps_trans}
 use Rattle.bound_table.proofs.table.BoundTable.lend_row.Goals as goal
 
 pub loop-process-init : goal.loop-process-init
 loop-process-init c = record {
-  table = search rules;
+  keeps = keeps_refl _;
   event = c.requires.event;
   lent = c.requires.lent;
   follows = follows_none _ _ _ _ c.requires.vector (bounds_along _ _ _ _ (search rules) (search rules) c.bounds.ensures);
@@ -23,7 +24,7 @@ loop-process-preserved c =
     let process : ℕ = c.loop-process.process in
     let there : process < length system.lens = search rules in
     let within = raised_within_floor system _ _ c.args.row process _ _ c.lend_word.ensures.raised in record {
-      table = c.lend_word.ensures.table ∙ inv.table;
+      keeps = keeps_trans _ _ _ inv.keeps c.lend_word.ensures.keeps;
       event = has_start_more system.lens _ _ c.args.row c.args.before within inv.event;
       lent = λ p p_there. omega (arith, inv.lent p p_there, within.each (place_of system.lens c.args.before p));
       follows = follows_next system c.args.row process _ c.lend_word.result _ _ _ _ _ c.requires.row inv.follows there c.lend_word.ensures.raised refl;

@@ -1,9 +1,10 @@
 use Rattle.std.proofs.Common.{◌≡◌}
 use Rattle.bound_table.specs.Kept.{FollowsFirst}
+use Rattle.bound_table.specs.Views.{KeepsClaims}
 use Rattle.bound_table.proofs.table.BoundTable.look.Given as goal
 
 abbrev pub invariant-loop-process : goal.invariant-loop-process
 invariant-loop-process l = record {
-  table : l.seat.table ≡ l.fn.seat.table;
+  keeps : KeepsClaims l.fn.seat l.seat;
   follows : FollowsFirst l.self.system l.row l.process l.fn.seat.floor l.seat.floor l.into;
 }

@@ -2,11 +2,12 @@ use Rattle.std.proofs.Common.{rules, arith, ap, ◌≡◌, ◌<◌, ◌∙◌, �
 use Rattle.pull_system.specs.System.{SystemView}
 use Rattle.bound_table.proofs.Floors.{follows_trans, follows_again, follows_rises, within_one}
 use Rattle.bound_table.proofs.Seeing.{within_first, upto_next}
+use Rattle.bound_table.proofs.Claiming.{keeps_refl, keeps_trans}
 use Rattle.bound_table.proofs.table.BoundTable.rise_to.Goals as goal
 
 pub loop-target-init : goal.loop-target-init
 loop-target-init c = record {
-  table = search rules;
+  keeps = keeps_refl _;
   follows = c.requires.follows;
   reached = c.requires.reached;
   reaches = λ p below. absurd (omega arith);
@@ -25,7 +26,7 @@ loop-target-preserved c =
     let system : SystemView = c.args.self.now.system in
     let inv = c.loop-target.invariant in
     let rises = follows_rises system c.args.row _ _ _ c.loop-target.vector c.rise_at.new.vector inv.follows c.rise_at.ensures.follows in record {
-      table = c.rise_at.ensures.table ∙ inv.table;
+      keeps = keeps_trans _ _ _ inv.keeps c.rise_at.ensures.keeps;
       follows = follows_trans system c.args.row _ _ _ _ _ inv.follows c.rise_at.ensures.follows;
       reached = omega (arith, inv.reached, rises.each c.args.process);
       reaches = upto_next (λ i. get_or c.args.asks.now i 0 ≤ get_or c.rise_at.new.vector i 0) c.loop-target.target (λ i below. omega (arith, inv.reaches i below, rises.each i)) c.rise_at.ensures.reaches;
