@@ -1,16 +1,17 @@
 -- A table to which the rows of a slice are pushed, one after the other.
-use Rattle.std.proofs.Common.{◌≡◌, ℕ, zero, suc, ◌+◌, ◌<◌, ◌≤◌, List, [], ◌∷◌, ◌++◌, length, get_or, take, sum, Option, Some, None, refl, sym, ap, ◌∙◌, subst, arith, below_more}
-use Rattle.std.proofs.lemmas.List.{get_or_append_left, get_or_push, length_push}
+use Rattle.std.proofs.Common.{◌≡◌, ℕ, zero, suc, ◌+◌, ◌<◌, ◌≤◌, List, [], ◌∷◌, ◌++◌, length, get_or, take, sum, replicate, Option, Some, None, refl, sym, ap, ◌∙◌, subst, arith, below_more}
+use Rattle.std.proofs.lemmas.List.{get_or_append_left, get_or_push, length_push, length-replicate}
 use Rattle.pota_base.specs.Shape.{HasEvent, row_of}
 use Rattle.pota_base.specs.declared.shape.EventId.{EventId}
 use Rattle.run_model.specs.Cut.{Cut, Clocks, lengths}
 use Rattle.run_model.specs.Consistent.{IsEvent}
 use Rattle.run_model.specs.Sublattice.{IsClosed}
 use Rattle.run_model.specs.Slice.{Slice, StandsFor}
+use Rattle.run_model.specs.Operators.{nowhere}
 use Rattle.run_model.proofs.Orders.{has_process}
 use Rattle.run_model.proofs.SliceLemmas.{stands_rows, stands_fits}
 use Rattle.slice_graph.specs.Views.{SliceView, slice_of, no_row}
-use Rattle.slice_graph.specs.Fitting.{FitsOrder}
+use Rattle.slice_graph.specs.Fitting.{FitsOrder, Agrees}
 use Rattle.slice_graph.proofs.Events.{rows_apart, row_there}
 
 -- the first n rows are there, each as it should be
@@ -52,13 +53,6 @@ event_row lens s r e k there at is = record {
   event = λ f h same. is ∙ ap (λ (x : EventId). s.row x.process x.position) (rows_apart lens e f there h (at ∙ sym same));
 }
 
--- the code's slice is the model's at the bottom and at events
-pub record Agrees (o : Clocks) (s : Slice) (v : SliceView) : Type 0 where
-  pub shape : v.lens ≡ lengths o
-  pub count : length v.rows ≡ sum v.lens + 1
-  pub bottom : s.bottom ≡ (slice_of v).bottom
-  pub rows : (i a : ℕ) → IsEvent (lengths o) i a → s.row i a ≡ (slice_of v).row i a
-
 pub built_agrees : (o : Clocks) (s : Slice) (v : SliceView) (n : ℕ) → BuiltBy (lengths o) (IsRowOf (lengths o) s) n v → n ≡ sum (lengths o) + 1 → Agrees o s v
 built_agrees o s v n h all = record {
   shape = h.shape;
@@ -77,3 +71,17 @@ agrees_stands o s v A h k = stands_rows o s (slice_of v) A h.bottom h.rows k
 -- a slice that stands for a closed set fits the order
 pub fits_of_set : (o : Clocks) (v : SliceView) (A : Cut → Type 0) → IsClosed o A → v.lens ≡ lengths o → length v.rows ≡ sum v.lens + 1 → StandsFor o (slice_of v) A → FitsOrder o v
 fits_of_set o v A closed shape count k = record { shape = shape; count = count; stands = stands_fits o A closed (slice_of v) k }
+
+-- a slice without cuts
+pub empty_agrees : (o : Clocks) (v : SliceView) → v ≡ record { lens = lengths o; rows = replicate (sum (lengths o) + 1) no_row } → Agrees o nowhere v
+empty_agrees o v is = subst (Agrees o nowhere) (sym is) (record {
+  shape = refl;
+  count = length-replicate (sum (lengths o) + 1) no_row;
+  bottom = sym (nothing (sum (lengths o) + 1) 0);
+  rows = λ i a ev. sym (nothing (sum (lengths o) + 1) (sum (take i (lengths o)) + a));
+})
+  where
+    nothing : (n r : ℕ) → get_or (replicate n no_row) r no_row ≡ no_row
+    nothing zero r = refl
+    nothing (suc n) zero = refl
+    nothing (suc n) (suc r) = nothing n r

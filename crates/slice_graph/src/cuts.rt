@@ -16,12 +16,11 @@ pub fn event_at(shape: &Shape, row: u32) -> EventId
     shape.event_of(row).unwrap()
 }
 
-/// Whether each of the words is at most the cut's count.
-pub fn is_within(words: &[u32], cut: &Cut) -> bool
-    requires { length words.now ≡ length cut.now }
-    ensures { IsTrue result ↔ IsWithin words.now cut.now }
+/// Whether each of the words is at most the count of its process.
+pub fn is_within(words: &[u32], counts: &[u32]) -> bool
+    requires { length words.now ≡ length counts.now }
+    ensures { IsTrue result ↔ IsWithin words.now counts.now }
 {
-    let counts = cut.as_slice();
     for process in 0..counts.len() {
         if words[process] > counts[process] {
             return false;

@@ -2,7 +2,7 @@
 ghost use Rattle.std.specs.Prelude.{◌≡◌, ℕ, ◌+◌, ◌<◌, ◌≤◌, ◌↔◌, [], ◌∷◌, None, length, sum, get_or, replicate, IsTrue, IfOk, MatchOption, option_map};
 ghost use Rattle.std.specs.Option.{option_copied};
 ghost use Rattle.pota_base.specs.Shape.{HasEvent};
-ghost use Rattle.run_model.specs.Cut.{Cut as CutOfRun, Clocks, count};
+ghost use Rattle.run_model.specs.Cut.{Cut as CutOfRun, Clocks, count, lengths};
 ghost use Rattle.run_model.specs.Consistent.{IsOrder};
 ghost use Rattle.run_model.specs.Sublattice.{IsGreatest, Having};
 ghost use Rattle.run_model.specs.Slice.{Cuts, IsLeastOf};
@@ -36,7 +36,7 @@ impl Model for Slice {
 }
 
 impl Slice {
-    ghost use Rattle.slice_graph.specs.Views.{AreRows, IsCut, HasLasts};
+    ghost use Rattle.slice_graph.specs.Views.{AreRows, IsCut, IsRow, HasLasts};
     ghost use Rattle.slice_graph.specs.Words.{row_words};
     ghost use Rattle.slice_graph.specs.Fitting.{FitsOrder};
 
@@ -86,6 +86,7 @@ impl Slice {
     /// Its least cut. There is none exactly where the slice has no cut.
     pub fn bottom(&self) -> Option<&[u32]>
         ensures bottom { option_copied result ≡ (slice_of self.now).bottom }
+        ensures within { IsRow self.now.lens (option_copied result) }
         ensures least { (o : Clocks) → FitsOrder o self.now
             → IsLeastOf (Cuts o (slice_of self.now)) (option_copied result) }
     {
@@ -111,6 +112,7 @@ impl Slice {
     pub fn least_with(&self, event: EventId) -> Option<&[u32]>
         requires { HasEvent self.now.lens event }
         ensures row { option_copied result ≡ (slice_of self.now).row event.process event.position }
+        ensures within { IsRow self.now.lens (option_copied result) }
         ensures least { (o : Clocks) → FitsOrder o self.now
             → IsLeastOf (Having (Cuts o (slice_of self.now)) event.process event.position)
             (option_copied result) }
@@ -121,7 +123,8 @@ impl Slice {
     /// The cut of a row. Row 0 is the bottom's.
     pub fn row(&self, row: u32) -> Option<&[u32]>
         requires { row ≤ sum self.now.lens }
-        ensures { option_copied result ≡ get_or self.now.rows row no_row }
+        ensures row { option_copied result ≡ get_or self.now.rows row no_row }
+        ensures within { IsRow self.now.lens (option_copied result) }
     {
         self.table.cut(row as usize)
     }
@@ -148,8 +151,27 @@ impl Slice {
         ensures cuts { (o : Clocks) → FitsOrder o self.now → IsTrue result
             ↔ Cuts o (slice_of self.now) cut.now }
     {
+        self.holds_lasts(cut.as_slice())
+    }
+
+    /// Whether the slice has the final cut. It takes no memory.
+    pub fn has_final(&self) -> bool
+        ensures lasts { IsTrue result ↔ HasLasts self.now self.now.lens }
+        ensures cuts { (o : Clocks) → FitsOrder o self.now → IsTrue result
+            ↔ Cuts o (slice_of self.now) (lengths o) }
+    {
+        self.holds_lasts(self.shape().lens())
+    }
+
+    /// Whether a cut with these counts holds the rows of the last events that it has.
+    fn holds_lasts(&self, counts: &[u32]) -> bool
+        requires { IsCut self.now.lens counts.now }
+        ensures lasts { IsTrue result ↔ HasLasts self.now counts.now }
+        ensures cuts { (o : Clocks) → FitsOrder o self.now → IsTrue result
+            ↔ Cuts o (slice_of self.now) counts.now }
+    {
         for process in 0..self.shape().procs() {
-            if !is_within(self.words(process, cut.get(process)), cut) {
+            if !is_within(self.words(process, counts[process as usize]), counts) {
                 return false;
             }
         }
