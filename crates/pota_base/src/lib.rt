@@ -1,5 +1,14 @@
 //! What every crate of the analyser stands on: lists, the shape of a run, the outside, numbers, and
 //! the answers of a call.
+//!
+//! A `List` is its items, and each call's list afterwards is a stated function of the list before.
+//! `Shape` is its lengths; `row_of` is the row order, and `event_of` gives the event of each row
+//! but row 0. Numbers are read exactly in their one spelling, and written so (`read_u64`,
+//! `read_i64`, `put_u64`, `put_i64`). A `Source` and a `Sink` say which bytes were taken or put,
+//! and that each failure has its cause in a count; `write_all` writes the whole or a prefix;
+//! `MemSource` and `MemSink` meet them, and say exactly when they fail.
+//!
+//! Not said: that memory suffices. Tests show that the calls succeed where it is ample.
 #![tactic(auto)]
 
 mod fault;

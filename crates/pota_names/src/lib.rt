@@ -1,5 +1,8 @@
 //! The names of processes, variables and watches, which the text of a log and that of a formula
 //! spell alike.
+//!
+//! `Name::new` gives a name exactly where the bytes are one: a letter or `_`, then letters, digits
+//! or `_`, 1 to 64 bytes in all.
 #![tactic(auto)]
 
 ghost use Rattle.pota_names.specs.Names.{is_name, is_name_byte, is_name_start};

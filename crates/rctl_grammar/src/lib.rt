@@ -1,5 +1,9 @@
 //! The grammar of the formula language: its tokens, its trees, the derivations that join them, and
 //! the first fault of a text.
+//!
+//! All of it is definitions but one law: the tree of a derivation, without its places, is the
+//! formula that the derivation spells (`trees_are_spelled`). RCTL is regular CTL: branching-time
+//! logic (EF, AG, EG and the others) over regular predicates (Sen and Garg).
 #![tactic(auto)]
 
 mod boxed;

@@ -96,7 +96,7 @@ front (b ∷ rest) =
     if is_blank b then at_front.Blank
     else if is_name_start b then word_front (b ∷ rest) (run_of is_name_byte rest)
     else if may_begin_number b then
-      (if begins_number b rest then number_front (b ∷ rest) (run_of is_digit rest) else at_front.Bad)
+    (if begins_number b rest then number_front (b ∷ rest) (run_of is_digit rest) else at_front.Bad)
     else sign_front b rest
 
 -- a token has at most so many bytes

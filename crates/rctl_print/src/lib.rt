@@ -1,4 +1,5 @@
-//! The canonical text of a formula.
+//! The canonical text of a formula: `print` gives it for every tree. That it is read again as that
+//! tree is the round trip's law, in a crate above.
 #![tactic(auto)]
 
 ghost use Rattle.std.specs.Prelude.{◌≡◌, IfOk};
