@@ -21,13 +21,16 @@ lengths_grow before after grown i =
     let g = grown.each i in
     omega (arith, count-lengths before i, count-lengths after i, ap length g.1, length-append (get_or before i []) g.0)
 
-past_kept : (before after : Clocks) → HasGrown before after → (i j x : ℕ) → x ≤ count (lengths before) i → past_count before i j x ≡ past_count after i j x
+clock_kept : (before after : Clocks) → HasGrown before after → (i a : ℕ) → 0 < a → a ≤ count (lengths before) i → clock before i a ≡ clock after i a
 unfolding clock
-past_kept before after grown i j zero there = refl
-past_kept before after grown i j (suc x) there =
+clock_kept before after grown i zero pos there = absurd (omega arith)
+clock_kept before after grown i (suc a) pos there =
     let g = grown.each i in
-    sym (ap (λ (c : Cut). count c j) (ap (λ (row : List Cut). get_or row (suc x - 1) []) g.1
-    ∙ get_or_append_left (get_or before i []) g.0 [] (suc x - 1) (omega (arith, there, count-lengths before i))))
+    sym (ap (λ (row : List Cut). get_or row a []) g.1 ∙ get_or_append_left (get_or before i []) g.0 [] a (omega (arith, there, count-lengths before i)))
+
+past_kept : (before after : Clocks) → HasGrown before after → (i j x : ℕ) → x ≤ count (lengths before) i → past_count before i j x ≡ past_count after i j x
+past_kept before after grown i j zero there = refl
+past_kept before after grown i j (suc x) there = ap (λ (c : Cut). count c j) (clock_kept before after grown i (suc x) (omega arith) there)
 
 pull_grows : (before after : Clocks) → IsOrder after → HasGrown before after → (i j : ℕ)
     → PullGrows (lengths before) (lengths after) (record { src = i; dst = j; table = order_table before i j }) (record { src = i; dst = j; table = order_table after i j })
