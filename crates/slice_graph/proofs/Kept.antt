@@ -13,11 +13,11 @@ use Rattle.run_model.proofs.Orders.{min_consistent, max_consistent, has_process}
 use Rattle.run_model.proofs.SliceLemmas.{least_same, exact_slice}
 use Rattle.pull_system.specs.Vector.{IsWithin as IsBelow, IsVector, IsMinimum, IsMaximum}
 use Rattle.pull_system.specs.System.{SystemView, IsSystem, IsClosed, IsClosedFrom, IsLeastFrom}
-use Rattle.pull_system.specs.Rows.{IsLeast, start_of, row_at}
+use Rattle.pull_system.specs.Rows.{IsLeast, AreLeastRows, start_of, row_at}
 use Rattle.pull_system.proofs.Starts.{start_of-bottom, start_of-event, length-start_of}
 use Rattle.pull_system.proofs.Existence.{minimum_closed, maximum_closed}
 use Rattle.slice_graph.specs.Views.{SliceView, slice_of, no_row}
-use Rattle.slice_graph.specs.Fitting.{FitsOrder, HasOrder, ClosedCuts, AreLeast, IsKept}
+use Rattle.slice_graph.specs.Fitting.{FitsOrder, HasOrder, ClosedCuts, IsKept}
 use Rattle.slice_graph.proofs.Building.{BuiltBy, fits_of_set}
 use Rattle.slice_graph.proofs.Events.{row_there}
 
@@ -92,9 +92,9 @@ abbrev pub KeptRow : List ℕ → List ℕ → ℕ → Option Cut → Type 0
 KeptRow lens words r k = IsKept lens (row_at lens words r) k
 
 stands_here : (o : Clocks) (system : SystemView) (words : List ℕ) (v : SliceView) (n : ℕ) → BuiltBy system.lens (KeptRow system.lens words) n v → n ≡ sum system.lens + 1
-    → system.lens ≡ lengths o → length (lengths o) ≡ length o → HasOrder o system → AreLeast system words → StandsFor o (slice_of v) (ClosedCuts o system)
+    → system.lens ≡ lengths o → length (lengths o) ≡ length o → HasOrder o system → AreLeastRows system words → StandsFor o (slice_of v) (ClosedCuts o system)
 stands_here o system words v n h all lens count has least = record {
-  bottom = bottom_kept o system lens count has (row_at system.lens words 0) (least 0 (omega arith)) (get_or v.rows 0 no_row) (h.each 0 (omega arith));
+  bottom = bottom_kept o system lens count has (row_at system.lens words 0) (least.each 0 (omega arith)) (get_or v.rows 0 no_row) (h.each 0 (omega arith));
   rows = λ i a ev.
       let e : EventId = record { process = i; position = a } in
       let there : HasEvent system.lens e = record {
@@ -104,12 +104,12 @@ stands_here o system words v n h all lens count has least = record {
       } in
       let within = row_there system.lens e there in
       subst (λ (ns : List ℕ). IsLeastOf (Having (ClosedCuts o system) i a) (get_or v.rows (sum (take i ns) + a) no_row)) (sym h.shape)
-      (event_kept o system lens count has e there (row_at system.lens words (row_of system.lens e)) (least (row_of system.lens e) within)
+      (event_kept o system lens count has e there (row_at system.lens words (row_of system.lens e)) (least.each (row_of system.lens e) within)
       (get_or v.rows (row_of system.lens e) no_row) (h.each (row_of system.lens e) (omega arith)));
 }
 
 pub kept_stands : (o : Clocks) (lens words : List ℕ) (v : SliceView) (n : ℕ) → BuiltBy lens (KeptRow lens words) n v → n ≡ sum lens + 1 → lens ≡ lengths o → length (lengths o) ≡ length o
-    → (system : SystemView) → system.lens ≡ lengths o → HasOrder o system → AreLeast system words → StandsFor o (slice_of v) (ClosedCuts o system)
+    → (system : SystemView) → system.lens ≡ lengths o → HasOrder o system → AreLeastRows system words → StandsFor o (slice_of v) (ClosedCuts o system)
 kept_stands o lens words v n h all is count system at has least =
     let same : lens ≡ system.lens = is ∙ sym at in
     stands_here o system words v n (subst (λ (ns : List ℕ). BuiltBy ns (KeptRow ns words) n v) same h) (all ∙ ap (λ (ns : List ℕ). sum ns + 1) same) at count has least
@@ -132,13 +132,13 @@ closed_cuts_closed o order system is lens count = record {
     vector c h = record { size = size_of o system.lens lens c h.shaped count; within = λ i. omega (arith, h.within i, ap (λ (ns : List ℕ). get_or ns i 0) lens) }
 
 pub kept_fits : (o : Clocks) → IsOrder o → (lens words : List ℕ) (v : SliceView) (n : ℕ) → BuiltBy lens (KeptRow lens words) n v → n ≡ sum lens + 1 → lens ≡ lengths o → length (lengths o) ≡ length o
-    → (system : SystemView) → IsSystem system → system.lens ≡ lengths o → HasOrder o system → AreLeast system words → FitsOrder o v
+    → (system : SystemView) → IsSystem system → system.lens ≡ lengths o → HasOrder o system → AreLeastRows system words → FitsOrder o v
 kept_fits o order lens words v n h all is count system sys at has least =
     fits_of_set o v (ClosedCuts o system) (closed_cuts_closed o order system sys at count) (h.shape ∙ is) (h.size ∙ all ∙ ap (λ (ns : List ℕ). sum ns + 1) (sym h.shape))
     (kept_stands o lens words v n h all is count system at has least)
 
 pub kept_cuts : (o : Clocks) → IsOrder o → (lens words : List ℕ) (v : SliceView) (n : ℕ) → BuiltBy lens (KeptRow lens words) n v → n ≡ sum lens + 1 → lens ≡ lengths o → length (lengths o) ≡ length o
-    → (system : SystemView) → IsSystem system → system.lens ≡ lengths o → HasOrder o system → AreLeast system words → (c : Cut) → IsConsistent o c → Cuts o (slice_of v) c ↔ IsClosed system c
+    → (system : SystemView) → IsSystem system → system.lens ≡ lengths o → HasOrder o system → AreLeastRows system words → (c : Cut) → IsConsistent o c → Cuts o (slice_of v) c ↔ IsClosed system c
 kept_cuts o order lens words v n h all is count system sys at has least c consistent =
     let exact = exact_slice o (ClosedCuts o system) (closed_cuts_closed o order system sys at count) (slice_of v) (kept_stands o lens words v n h all is count system at has least) c in
     (λ cut. (exact.1 cut).1, λ closed. exact.0 (consistent, closed))

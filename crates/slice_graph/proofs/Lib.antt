@@ -8,3 +8,4 @@ pub mod Pairs
 pub mod OrderPulls
 pub mod SlicePulls
 pub mod EdgeSteps
+pub mod OrderGrowing

@@ -46,7 +46,7 @@ past_none : (o : Clocks) (i j x : ℕ) → x ≡ 0 → past_count o i j x ≡ 0
 past_none o i j zero is = refl
 past_none o i j (suc x) is = absurd (omega arith)
 
-counts_rise : (o : Clocks) → IsOrder o → (i j x y : ℕ) → x ≤ y → y ≤ count (lengths o) i → past_count o i j x ≤ past_count o i j y
+pub counts_rise : (o : Clocks) → IsOrder o → (i j x y : ℕ) → x ≤ y → y ≤ count (lengths o) i → past_count o i j x ≤ past_count o i j y
 counts_rise o order i j x y up there = elim (cases_lt 0 x) [
   | inr none ↦ omega (arith, past_none o i j x (omega arith))
   | inl pos ↦ omega (arith, past_is o i j x pos, past_is o i j y (omega arith), past_rises o order i x y (omega arith, there) pos up j)

@@ -13,7 +13,7 @@ edge_of e = record {
   effect_position = e.effect.position;
 }
 
--- the edge into event a of process p from process q, by the event's row, the row before it and the event's past
+-- the edge into event a of process p from process q, by its row, the row before and its past
 abbrev pub edge_by : Cut → Cut → Cut → ℕ → ℕ → ℕ → List EdgeOfRun
 edge_by row before past p a q =
     if nat_lt (count before q) (count row q) && nat_lt (count past q) (count row q)

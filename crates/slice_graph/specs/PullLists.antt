@@ -16,7 +16,7 @@ abbrev pub past_count : Clocks → ℕ → ℕ → ℕ → ℕ
 past_count o i j zero = 0
 past_count o i j (suc x) = count (clock o i (suc x)) j
 
--- what the order asks of process j where process i has x events; one past the last event it asks for the same
+-- what the order asks of process j where process i has x events, and past the last one the same
 abbrev pub order_entry : Clocks → ℕ → ℕ → ℕ → ℕ
 order_entry o i j x = past_count o i j (min x (count (lengths o) i))
 
@@ -25,15 +25,18 @@ order_table o i j = map (order_entry o i j) (range_with_len 0 (count (lengths o)
 
 -- the pull between two processes that are not the same
 abbrev pub order_pull : Clocks → ℕ → ℕ → List Pull
-order_pull o i j = if i == j then [] else record { src = i; dst = j; table = order_table o i j } ∷ []
+order_pull o i j =
+    if i == j then [] else record { src = i; dst = j; table = order_table o i j } ∷ []
 
 -- the pulls of the order: a cut is closed under them exactly where it is consistent
 abbrev pub pulls_of_order : Clocks → List Pull
 pulls_of_order o = by_pairs (order_pull o) (length o)
 
--- what the slice asks of process j where process i has x events: the count of the row, and one past the last event what no cut has
+-- what the slice asks of process j where process i has x events: the row's count, and past the last
+-- event what no cut has
 abbrev pub slice_entry : SliceView → ℕ → ℕ → ℕ → ℕ
-slice_entry v i j x = if nat_le x (count v.lens i) then count (row_words v i x) j else count v.lens j + 1
+slice_entry v i j x =
+    if nat_le x (count v.lens i) then count (row_words v i x) j else count v.lens j + 1
 
 abbrev pub slice_table : SliceView → ℕ → ℕ → List ℕ
 slice_table v i j = map (slice_entry v i j) (range_with_len 0 (count v.lens i + 2))

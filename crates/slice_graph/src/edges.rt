@@ -23,8 +23,9 @@ pub struct Edge {
 }
 
 impl Slice {
-    /// The edges of the slice: from the last event of each process that an event's row has and neither the row before nor the
-    /// event's own past has, to the event. They stand by their effects in row order, and then by their causes.
+    /// The edges of the slice: from the last event of each process that an event's row has and neither
+    /// the row before nor the event's own past has, to the event. They stand by their effects in row
+    /// order, and then by their causes.
     pub fn edges(&self, alloc: Global, order: &Order) -> Result<List<Edge>, NoMemory>
         requires { FitsOrder order.now self.now }
         ensures none { (slice_of self.now).bottom ≡ None → IfOk result (λ edges. edges ≡ []) }
@@ -55,7 +56,8 @@ fn edges_within(
 ) -> Result<List<Edge>, NoMemory>
     requires fits { FitsOrder order.now slice.now }
     requires top { IsGreatest (Cuts order.now (slice_of slice.now)) top.now }
-    ensures { IfOk result (λ edges. map edge_of edges ≡ edges_of order.now (slice_of slice.now) top.now) }
+    ensures { IfOk result (λ edges. map edge_of edges
+        ≡ edges_of order.now (slice_of slice.now) top.now) }
 {
     let mut edges = List::new(alloc);
     for process in 0..slice.shape().procs() {

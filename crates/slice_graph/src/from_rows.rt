@@ -6,9 +6,9 @@ ghost use Rattle.run_model.specs.Cut.{Cut as CutOfRun, Clocks, IsWithin, lengths
 ghost use Rattle.run_model.specs.Consistent.{IsConsistent};
 ghost use Rattle.run_model.specs.Slice.{StandsFor, Cuts};
 ghost use Rattle.pull_system.specs.System.{SystemView, IsSystem, IsClosed};
-ghost use Rattle.pull_system.specs.Rows.{row_at};
+ghost use Rattle.pull_system.specs.Rows.{AreLeastRows, row_at};
 ghost use Rattle.slice_graph.specs.Views.{SliceView, IsRow, no_row, slice_of};
-ghost use Rattle.slice_graph.specs.Fitting.{FitsOrder, HasOrder, ClosedCuts, AreLeast, IsKept};
+ghost use Rattle.slice_graph.specs.Fitting.{FitsOrder, HasOrder, ClosedCuts, IsKept};
 
 use crate::slice::Slice;
 use crate::table::CutTable;
@@ -19,8 +19,8 @@ use pull_system::Rows;
 use std::alloc::Global;
 
 impl Slice {
-    /// The slice of the consistent cuts that are closed under a system, from the least closed vectors of its rows. A vector with a
-    /// component above its length says that there is no such cut.
+    /// The slice of the consistent cuts that are closed under a system, from the least closed vectors
+    /// of its rows. A vector with a component above its length says that there is no such cut.
     pub fn from_rows(alloc: Global, order: &Order, rows: &Rows) -> Result<Slice, NoMemory>
         requires { rows.now.lens ≡ lengths order.now }
         ensures lens { IfOk result (λ slice. slice.lens ≡ lengths order.now) }
@@ -28,14 +28,14 @@ impl Slice {
             → IsKept rows.now.lens (row_at rows.now.lens rows.now.words row)
             (get_or slice.rows row no_row)) }
         ensures stands { IfOk result (λ slice. (system : SystemView) → system.lens ≡ lengths order.now
-            → HasOrder order.now system → AreLeast system rows.now.words
+            → HasOrder order.now system → AreLeastRows system rows.now.words
             → StandsFor order.now (slice_of slice) (ClosedCuts order.now system)) }
         ensures fits { IfOk result (λ slice. (system : SystemView) → IsSystem system
             → system.lens ≡ lengths order.now → HasOrder order.now system
-            → AreLeast system rows.now.words → FitsOrder order.now slice) }
+            → AreLeastRows system rows.now.words → FitsOrder order.now slice) }
         ensures cuts { IfOk result (λ slice. (system : SystemView) → IsSystem system
             → system.lens ≡ lengths order.now → HasOrder order.now system
-            → AreLeast system rows.now.words → (c : CutOfRun) → IsConsistent order.now c
+            → AreLeastRows system rows.now.words → (c : CutOfRun) → IsConsistent order.now c
             → Cuts order.now (slice_of slice) c ↔ IsClosed system c) }
     {
         let _shape = order.shape();
@@ -48,7 +48,8 @@ impl Slice {
         Slice::of(alloc, table)
     }
 
-    /// The slice with this bottom and the cuts of the events in row order. It is for callers that have each cut by itself.
+    /// The slice with this bottom and the cuts of the events in row order. It is for callers that have
+    /// each cut by itself.
     pub fn from_cuts(
         alloc: Global,
         shape: &Shape,
@@ -58,7 +59,8 @@ impl Slice {
         requires count { length rows ≡ sum shape.now }
         requires bottom { IsRow shape.now bottom }
         requires rows { (row : ℕ) → IsRow shape.now (get_or rows row no_row) }
-        ensures { IfOk result (λ slice. slice ≡ record { lens = shape.now; rows = bottom ∷ rows }) }
+        ensures { IfOk result (λ slice. slice
+            ≡ record { lens = shape.now; rows = bottom ∷ rows }) }
     {
         let mut table = CutTable::new(alloc, shape)?;
         push_row(&mut table, &bottom)?;
@@ -72,7 +74,8 @@ impl Slice {
 /// Puts a row behind the others.
 fn push_row(table: &mut CutTable, row: &Option<Cut>) -> Result<(), NoMemory>
     requires { IsRow table.old.lens row.now }
-    ensures { OnOk result (table.new ≡ record table.old { rows = table.old.rows ++ row.now ∷ [] }) }
+    ensures { OnOk result (table.new
+        ≡ record table.old { rows = table.old.rows ++ row.now ∷ [] }) }
 {
     match row {
         Some(cut) => table.push_cut(cut.as_slice()),
@@ -80,7 +83,8 @@ fn push_row(table: &mut CutTable, row: &Option<Cut>) -> Result<(), NoMemory>
     }
 }
 
-/// Puts behind the other rows the cut that a row's vector is, and none where a component is above its length.
+/// Puts behind the other rows the cut that a row's vector is, and none where a component is above its
+/// length.
 fn push_kept(table: &mut CutTable, rows: &Rows, row: u32, cut: &mut Cut) -> Result<(), NoMemory>
     requires row { row ≤ sum rows.now.lens }
     requires lens { table.old.lens ≡ rows.now.lens }

@@ -12,11 +12,12 @@ use pota_base::{EventId, List, NoMemory};
 use pull_system::Pull;
 use std::alloc::Global;
 
-/// The pulls of the order: for each source and each other process as the target, in this order, what the clocks of the source's
-/// events have of the target.
+/// The pulls of the order: for each source and each other process as the target, in this order, what
+/// the clocks of the source's events have of the target.
 pub fn order_pulls(alloc: Global, order: &Order) -> Result<List<Pull>, NoMemory>
     ensures list { IfOk result (λ pulls. pulls ≡ pulls_of_order order.now) }
-    ensures count { IfOk result (λ pulls. length pulls ≡ length order.now * (length order.now - 1)) }
+    ensures count { IfOk result (λ pulls. length pulls
+        ≡ length order.now * (length order.now - 1)) }
     ensures pulls { IfOk result (λ pulls. All (IsPull (lengths order.now)) pulls) }
     ensures closed { IfOk result (λ pulls. (c : Cut) → length c ≡ length order.now
         → IsWithin c (lengths order.now) → ClosedUnder pulls c ↔ IsConsistent order.now c) }

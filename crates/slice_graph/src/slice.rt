@@ -15,8 +15,9 @@ use pota_base::{EventId, NoMemory, Shape};
 use std::alloc::Global;
 use std::marker::Model;
 
-/// A slice (Mittal and Garg): its least cut, and for each event the least of its cuts that has the event. Contracts see the lengths
-/// of the processes and the rows, and say of its cuts what holds by each order that the slice fits.
+/// A slice (Mittal and Garg): its least cut, and for each event the least of its cuts that has the
+/// event. Contracts see the lengths of the processes and the rows, and say of its cuts what holds by
+/// each order that the slice fits.
 #[derive(Debug, Drop)]
 pub struct Slice {
     table: CutTable,
@@ -51,7 +52,8 @@ impl Slice {
 
     /// The slice of no cut.
     pub fn empty(alloc: Global, shape: &Shape) -> Result<Slice, NoMemory>
-        ensures { IfOk result (λ slice. slice ≡ record { lens = shape.now; rows = replicate (sum shape.now + 1) no_row }) }
+        ensures { IfOk result (λ slice. slice
+            ≡ record { lens = shape.now; rows = replicate (sum shape.now + 1) no_row }) }
     {
         let mut table = CutTable::new(alloc, shape)?;
         for _row in 0..shape.events() + 1 {
@@ -129,8 +131,8 @@ impl Slice {
         self.table.cut(row as usize)
     }
 
-    /// The words of the row of the last of the first events of a process, and those of the bottom where there is no event.
-    /// A row without a cut has one more than each length, so that no cut holds it.
+    /// The words of the row of the last of the first events of a process, and those of the bottom where
+    /// there is no event. A row without a cut has one more than each length, so that no cut holds it.
     pub fn words(&self, process: u32, position: u32) -> &[u32]
         requires process { process < length self.now.lens }
         requires position { position ≤ count self.now.lens process }

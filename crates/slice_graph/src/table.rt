@@ -9,11 +9,13 @@ use pota_base::{NoMemory, Shape};
 use std::alloc::Global;
 use std::marker::Model;
 
-/// The rows of a slice, or the first of them, which are pushed in row order. All of them stand in one piece of memory.
+/// The rows of a slice, or the first of them, which are pushed in row order. All of them stand in one
+/// piece of memory.
 #[derive(Debug, Drop)]
 pub struct CutTable {
     shape: Shape,
-    /// The words of a row without a cut: each is one more than the process's length, so that no cut holds them.
+    /// The words of a row without a cut: each is one more than the process's length, so that no cut
+    /// holds them.
     absent: Vec<u32>,
     /// How many rows there are.
     len: usize,
@@ -110,7 +112,8 @@ impl CutTable {
     /// Puts a row with a cut behind the others. Without memory for it the table is as before.
     pub fn push_cut(&mut self, cut: &[u32]) -> Result<(), NoMemory>
         requires { IsCut self.old.lens cut.now }
-        ensures ok { OnOk result (self.new ≡ record self.old { rows = self.old.rows ++ Some cut.now ∷ [] }) }
+        ensures ok { OnOk result (self.new
+            ≡ record self.old { rows = self.old.rows ++ Some cut.now ∷ [] }) }
         ensures err { OnErr result (self.new ≡ self.old) }
     {
         self.words.extend_from_slice(cut)?;
@@ -120,7 +123,8 @@ impl CutTable {
 
     /// Puts a row without a cut behind the others. Without memory for it the table is as before.
     pub fn push_none(&mut self) -> Result<(), NoMemory>
-        ensures ok { OnOk result (self.new ≡ record self.old { rows = self.old.rows ++ no_row ∷ [] }) }
+        ensures ok { OnOk result (self.new
+            ≡ record self.old { rows = self.old.rows ++ no_row ∷ [] }) }
         ensures err { OnErr result (self.new ≡ self.old) }
     {
         self.words.extend_from_slice(self.absent.as_slice())?;
