@@ -1,5 +1,6 @@
 -- The command as `clap` is told of it.
-use Rattle.std.specs.Prelude.{Bool, true, false, ◌∷◌, [], Option, Some, List, map, find, fold, codes}
+use Rattle.std.specs.Prelude.{Bool, true, false, ◌∷◌, [], Option, Some, List, map, find, fold}
+use Rattle.std.specs.Prelude.{codes}
 use Rattle.std.specs.Option.{option_map_or}
 use Rattle.std.specs.Str.{bytes_eq}
 use Rattle.clap.specs.Words.{App, Rule, Row, new_app, new_rule, first_of, with_rule}
@@ -32,11 +33,16 @@ places = codes "command" ∷ codes "formula" ∷ []
 
 -- the words come without the program's name, and no flag for help or the version is added
 abbrev pub bare_app : App
-bare_app = on_top (λ s. record s { no_binary_name = true; disable_help_flag = true; disable_version_flag = true }) (new_app (codes "pota"))
+bare_app = on_top (λ s. record s {
+  no_binary_name = true;
+  disable_help_flag = true;
+  disable_version_flag = true;
+}) (new_app (codes "pota"))
 
 -- the command
 abbrev pub pota_app : App
-pota_app = with_all flag_named flags (with_all option_named options (with_all place places bare_app))
+pota_app = with_all flag_named flags
+    (with_all option_named options (with_all place places bare_app))
 
 -- the words, and no default, gave the value
 abbrev pub from_words : Option ValueSource → Bool
@@ -45,7 +51,8 @@ from_words _ = false
 
 -- whether a flag stood among the words
 abbrev pub stands_in : Text → List Row → Bool
-stands_in name rows = option_map_or (λ (r : Row). from_words r.source) (find (λ (r : Row). bytes_eq r.id name) rows) false
+stands_in name rows = option_map_or (λ (r : Row). from_words r.source)
+    (find (λ (r : Row). bytes_eq r.id name) rows) false
 
 -- the values among the rows that `clap` found
 abbrev pub values_in : List Row → Values

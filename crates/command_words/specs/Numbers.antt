@@ -1,12 +1,16 @@
 -- The numbers among the values.
-use Rattle.std.specs.Prelude.{ℕ, ◌-◌, ◌^◌, ◌&&◌, nat_le, Option, None, Some, option_and_then, if◌then◌else◌}
+use Rattle.std.specs.Prelude.{ℕ, ◌-◌, ◌^◌, ◌&&◌, nat_le, Option, None, Some, option_and_then}
+use Rattle.std.specs.Prelude.{if◌then◌else◌}
 use Rattle.pota_base.specs.Number.{number_at, whole}
 use Rattle.command_words.specs.Rule.{Text}
 use Rattle.command_words.specs.declared.request.Sizes.{Sizes}
 
--- the number of 64 bits that the whole text spells, in decimal digits without a sign or a leading zero, where it is in this range
+-- the number of 64 bits that the whole text spells, in decimal digits without a sign or a leading
+-- zero, where it is in this range
 abbrev pub number : ℕ → ℕ → Text → Option ℕ
-number low high text = option_and_then (λ n. if nat_le low n && nat_le n high then Some n else None) (whole (number_at (2 ^ 64 - 1) text))
+number low high text =
+    option_and_then (λ n. if nat_le low n && nat_le n high then Some n else None)
+    (whole (number_at (2 ^ 64 - 1) text))
 
 -- 1 to 16 workers, and one where the words say nothing of them
 abbrev pub workers_of : Option Text → Option ℕ

@@ -1,5 +1,6 @@
 -- What the words ask for.
-use Rattle.std.specs.Prelude.{ℕ, Bool, ◌||◌, List, Option, None, Some, is_some, option_map, option_and_then, codes, if◌then◌else◌}
+use Rattle.std.specs.Prelude.{ℕ, Bool, ◌||◌, List, Option, None, Some, is_some, option_map}
+use Rattle.std.specs.Prelude.{option_and_then, codes, if◌then◌else◌}
 use Rattle.std.specs.Str.{bytes_eq}
 use Rattle.command_words.specs.declared.request.Task.{Task}
 use Rattle.command_words.specs.declared.request.Task.TheVariants.{Check, Bench}
@@ -54,7 +55,8 @@ pub record Wanted : Type 0 where
   pub task : Task
 
 abbrev pub wanted : Values → Option Wanted
-wanted v = option_and_then (λ command. option_and_then (λ formula. option_and_then (λ task. option_and_then (λ workers.
+wanted v = option_and_then (λ command. option_and_then (λ formula.
+    option_and_then (λ task. option_and_then (λ workers.
     Some (record { formula = formula; workers = workers; task = task }))
     (workers_of v.workers)) (task_of command v)) v.formula) v.command
 

@@ -1,5 +1,7 @@
 -- Which words the command line takes, read from left to right.
-use Rattle.std.specs.Prelude.{ℕ, zero, suc, Bool, false, not, ◌||◌, ◌==◌, List, [], ◌∷◌, ◌++◌, Option, None, Some, is_some, option_map, option_and_then, find, fold, codes, if◌then◌else◌}
+use Rattle.std.specs.Prelude.{ℕ, zero, suc, Bool, false, not, ◌||◌, ◌==◌, List, [], ◌∷◌, ◌++◌}
+use Rattle.std.specs.Prelude.{Option, None, Some, is_some, option_map, option_and_then, find, fold}
+use Rattle.std.specs.Prelude.{codes, if◌then◌else◌}
 use Rattle.std.specs.List.{list_any}
 use Rattle.std.specs.Option.{option_map_or}
 use Rattle.std.specs.Str.{bytes_eq}
@@ -44,7 +46,8 @@ pub record Use : Type 0 where
   pub name : Text
   pub value : Text
 
--- what the words so far have given: the uses in their order, the option that waits for its value, and the number of positionals
+-- what the words so far have given: the uses in their order, the option that waits for its value,
+-- and the number of positionals
 pub record Given : Type 0 where
   pub uses : List Use
   pub waits : Option Text
@@ -57,15 +60,27 @@ abbrev pub is_used : Text → List Use → Bool
 is_used name uses = list_any (λ (u : Use). bytes_eq u.name name) uses
 
 abbrev pub value_of : Text → List Use → Option Text
-value_of name uses = option_map (λ (u : Use). u.value) (find (λ (u : Use). bytes_eq u.name name) uses)
+value_of name uses =
+    option_map (λ (u : Use). u.value) (find (λ (u : Use). bytes_eq u.name name) uses)
 
 -- one use more, after which nothing waits
 abbrev pub with_use : Text → Text → Given → Given
-with_use name value g = record g { uses = g.uses ++ record { name = name; value = value } ∷ []; waits = None }
+with_use name value g = record g {
+  uses = g.uses ++ record { name = name; value = value } ∷ [];
+  waits = None;
+}
 
 -- an option or a flag stands once
 abbrev pub once : Text → Given → Given → Option Given
 once name g next = if is_used name g.uses then None else Some next
+
+-- the option waits for its value
+abbrev pub waiting : Text → Given → Option Given
+waiting name g = once name g (record g { waits = Some name })
+
+-- a flag is used with the value `true`
+abbrev pub with_flag : Text → Given → Option Given
+with_flag name g = once name g (with_use name (codes "true") g)
 
 -- the first positional is the command, the second the formula, and there is no third
 abbrev pub with_place : ℕ → Text → Given → Option Given
@@ -75,8 +90,8 @@ with_place (suc (suc n)) word g = None
 
 -- the word where no option waits for its value
 abbrev pub with_word : Kind → Text → Given → Option Given
-with_word (takes_value name) word g = once name g (record g { waits = Some name })
-with_word (flag name) word g = once name g (with_use name (codes "true") g)
+with_word (takes_value name) word g = waiting name g
+with_word (flag name) word g = with_flag name g
 with_word unknown word g = None
 with_word positional word g = with_place g.places word g
 

@@ -23,7 +23,11 @@ abbrev pub uses_seen : List Part → List Use
 uses_seen = map (λ (p : Part). record { name = p.name.now; value = p.value.now })
 
 abbrev pub given_seen : Reading → Given
-given_seen r = record { uses = uses_seen r.parts.items; waits = text_seen r.waits; places = r.places }
+given_seen r = record {
+  uses = uses_seen r.parts.items;
+  waits = text_seen r.waits;
+  places = r.places;
+}
 
 -- whether a step took its word, and what stands behind it
 abbrev pub Took : Option Given → Bool → Given → Type 0

@@ -1,7 +1,8 @@
 //! The command as `clap` is told of it.
 ghost use Rattle.std.specs.Prelude.{◌≡◌, IfOk, false, Some, codes};
 ghost use Rattle.clap.specs.Words.{rule_of, app_of, with_rule};
-ghost use Rattle.command_words.specs.ByClap.{place, option_named, flag_named, with_all, places, bare_app, pota_app};
+ghost use Rattle.command_words.specs.ByClap.{place, option_named, flag_named, with_all, places};
+ghost use Rattle.command_words.specs.ByClap.{bare_app, pota_app};
 ghost use Rattle.command_words.specs.Rule.{options, flags};
 
 use clap::{Arg, ArgAction, Command};
@@ -33,7 +34,8 @@ fn with_place<'a>(
     command: Command<'a>,
     name: &'a str,
 ) -> Result<Command<'a>, AllocError>
-    ensures { IfOk result (λ added. app_of added ≡ with_rule (app_of command.entry) (place name.entry.now)) }
+    ensures { IfOk result (λ added.
+        app_of added ≡ with_rule (app_of command.entry) (place name.entry.now)) }
 {
     command.arg(place(alloc, name))
 }
@@ -43,7 +45,8 @@ fn with_option<'a>(
     command: Command<'a>,
     name: &'a str,
 ) -> Result<Command<'a>, AllocError>
-    ensures { IfOk result (λ added. app_of added ≡ with_rule (app_of command.entry) (option_named name.entry.now)) }
+    ensures { IfOk result (λ added.
+        app_of added ≡ with_rule (app_of command.entry) (option_named name.entry.now)) }
 {
     command.arg(option_named(alloc, name))
 }
@@ -53,7 +56,8 @@ fn with_flag<'a>(
     command: Command<'a>,
     name: &'a str,
 ) -> Result<Command<'a>, AllocError>
-    ensures { IfOk result (λ added. app_of added ≡ with_rule (app_of command.entry) (flag_named name.entry.now)) }
+    ensures { IfOk result (λ added.
+        app_of added ≡ with_rule (app_of command.entry) (flag_named name.entry.now)) }
 {
     command.arg(flag_named(alloc, name))
 }
@@ -77,7 +81,8 @@ fn with_places<'a>(alloc: Global) -> Result<Command<'a>, AllocError>
 
 // An option more is a line here.
 fn with_options<'a>(alloc: Global, command: Command<'a>) -> Result<Command<'a>, AllocError>
-    ensures { IfOk result (λ c. app_of c ≡ with_all option_named options (app_of command.entry)) }
+    ensures { IfOk result (λ c.
+        app_of c ≡ with_all option_named options (app_of command.entry)) }
 {
     let command = with_option(alloc, command, "workers")?;
     let command = with_option(alloc, command, "seed")?;
@@ -87,7 +92,8 @@ fn with_options<'a>(alloc: Global, command: Command<'a>) -> Result<Command<'a>, 
 
 // A flag more is a line here.
 fn with_flags<'a>(alloc: Global, command: Command<'a>) -> Result<Command<'a>, AllocError>
-    ensures { IfOk result (λ c. app_of c ≡ with_all flag_named flags (app_of command.entry)) }
+    ensures { IfOk result (λ c.
+        app_of c ≡ with_all flag_named flags (app_of command.entry)) }
 {
     let command = with_flag(alloc, command, "slice")?;
     let command = with_flag(alloc, command, "witness")?;

@@ -7,7 +7,8 @@ ghost use Rattle.command_words.specs.Rule.{Text, Given, given};
 
 /// `clap` takes all words that the rule takes, so on these it fails only for want of memory.
 pub fn clap_takes_the_rule()
-    ensures { (words : List Text) (g : Given) → given words ≡ Some g → takes pota_app words ≡ true }
+    ensures { (words : List Text) (g : Given) → given words ≡ Some g
+        → takes pota_app words ≡ true }
 {}
 
 /// On words of the rule the values that `clap` finds are those of the rule.

@@ -43,7 +43,8 @@ pub fn workers(text: Option<&str>) -> Option<u32>
 }
 
 pub fn sizes(seed: Option<&str>, procs: Option<&str>, events: Option<&str>) -> Option<Sizes>
-    ensures { result ≡ sizes_of (text_seen seed.entry) (text_seen procs.entry) (text_seen events.entry) }
+    ensures { result
+        ≡ sizes_of (text_seen seed.entry) (text_seen procs.entry) (text_seen events.entry) }
 {
     let seed = number(seed?, 0, u64::MAX)?;
     let procs = small_number(procs?, 1, 32)?;

@@ -1,7 +1,8 @@
 //! Whether the rule takes the words.
-ghost use Rattle.std.specs.Prelude.{◌≡◌, Some, None, IfOk, OnOk, is_some, map, codes};
+ghost use Rattle.std.specs.Prelude.{◌≡◌, Some, None, IfOk, OnOk, is_some, map};
 ghost use Rattle.std.specs.String.{string_bytes};
-ghost use Rattle.command_words.specs.Rule.{is_used, nothing_given, with_use, step, once, with_word, with_place, given, kind_of};
+ghost use Rattle.command_words.specs.Rule.{is_used, nothing_given, with_use, waiting, with_flag, step};
+ghost use Rattle.command_words.specs.Rule.{with_word, with_place, given, kind_of};
 ghost use Rattle.command_words.specs.Seen.{given_seen, kind_seen, Took};
 
 use crate::kind::{WordKind, begins_dash, kind_of};
@@ -43,7 +44,8 @@ impl<'a> Reading<'a> {
     }
 
     fn add(&mut self, name: &'static str, value: &'a str) -> Result<(), NoMemory>
-        ensures { OnOk result (given_seen self.new ≡ with_use name.entry.now value.entry.now (given_seen self.old)) }
+        ensures { OnOk result (given_seen self.new
+            ≡ with_use name.entry.now value.entry.now (given_seen self.old)) }
     {
         self.parts.push(Part { name, value })?;
         self.waits = None;
@@ -51,7 +53,7 @@ impl<'a> Reading<'a> {
     }
 
     fn wait(&mut self, name: &'static str) -> bool
-        ensures { Took (once name.entry.now (given_seen self.old) (record (given_seen self.old) { waits = Some name.entry.now })) result (given_seen self.new) }
+        ensures { Took (waiting name.entry.now (given_seen self.old)) result (given_seen self.new) }
     {
         if self.is_used(name) {
             return false;
@@ -61,7 +63,8 @@ impl<'a> Reading<'a> {
     }
 
     fn add_flag(&mut self, name: &'static str) -> Result<bool, NoMemory>
-        ensures { IfOk result (λ taken. Took (once name.entry.now (given_seen self.old) (with_use name.entry.now (codes "true") (given_seen self.old))) taken (given_seen self.new)) }
+        ensures { IfOk result (λ taken.
+            Took (with_flag name.entry.now (given_seen self.old)) taken (given_seen self.new)) }
     {
         if self.is_used(name) {
             return Ok(false);
@@ -71,7 +74,9 @@ impl<'a> Reading<'a> {
     }
 
     fn add_place(&mut self, word: &'a str) -> Result<bool, NoMemory>
-        ensures { IfOk result (λ taken. Took (with_place self.old.places word.entry.now (given_seen self.old)) taken (given_seen self.new)) }
+        ensures { IfOk result (λ taken. Took
+            (with_place self.old.places word.entry.now (given_seen self.old))
+            taken (given_seen self.new)) }
     {
         match self.places {
             0 => {
@@ -89,7 +94,9 @@ impl<'a> Reading<'a> {
     }
 
     fn add_word(&mut self, word: &'a str) -> Result<bool, NoMemory>
-        ensures { IfOk result (λ taken. Took (with_word (kind_of word.entry.now) word.entry.now (given_seen self.old)) taken (given_seen self.new)) }
+        ensures { IfOk result (λ taken. Took
+            (with_word (kind_of word.entry.now) word.entry.now (given_seen self.old))
+            taken (given_seen self.new)) }
     {
         match kind_of(word) {
             WordKind::TakesValue(name) => Ok(self.wait(name)),
@@ -100,7 +107,8 @@ impl<'a> Reading<'a> {
     }
 
     fn take(&mut self, word: &'a str) -> Result<bool, NoMemory>
-        ensures { IfOk result (λ taken. Took (step (Some (given_seen self.old)) word.entry.now) taken (given_seen self.new)) }
+        ensures { IfOk result (λ taken. Took
+            (step (Some (given_seen self.old)) word.entry.now) taken (given_seen self.new)) }
     {
         let Some(name) = self.waits else {
             return self.add_word(word);

@@ -3,7 +3,8 @@ ghost use Rattle.std.specs.Prelude.{◌≡◌, IfOk, IfErr, Some, List, option_m
 ghost use Rattle.std.specs.String.{string_bytes};
 ghost use Rattle.clap.specs.Words.{found_of, kind_of, rows_of};
 ghost use Rattle.command_words.specs.ByClap.{values_in};
-ghost use Rattle.command_words.specs.Request.{values_of, check_of, bench_of, task_of, wanted, request_of};
+ghost use Rattle.command_words.specs.Request.{values_of, check_of, bench_of, task_of, wanted};
+ghost use Rattle.command_words.specs.Request.{request_of};
 ghost use Rattle.command_words.specs.Rule.{Given, given};
 ghost use Rattle.command_words.specs.Seen.{values_seen, request_seen};
 
@@ -107,9 +108,11 @@ fn wanted<'a>(values: &TextValues<'a>) -> Option<Request<'a>>
 
 // What `clap` finds in the words. On words of the rule it fails only for want of memory.
 fn matches<'a>(alloc: Global, words: &'a [String]) -> Result<ArgMatches<'a>, Error>
-    ensures values { IfOk result (λ m. (g : Given) → given (map string_bytes words.entry.now) ≡ Some g
+    ensures values { IfOk result (λ m. (g : Given)
+        → given (map string_bytes words.entry.now) ≡ Some g
         → values_in (rows_of (found_of m)) ≡ values_of g) }
-    ensures memory { IfErr result (λ e. (g : Given) → given (map string_bytes words.entry.now) ≡ Some g
+    ensures memory { IfErr result (λ e. (g : Given)
+        → given (map string_bytes words.entry.now) ≡ Some g
         → kind_of e ≡ ErrorKind.OutOfMemory) }
 {
     command(alloc)?.try_get_matches_from(words)
@@ -117,7 +120,8 @@ fn matches<'a>(alloc: Global, words: &'a [String]) -> Result<ArgMatches<'a>, Err
 
 /// What the words ask for, and `None` exactly where they are refused.
 pub fn read_request<'a>(alloc: Global, words: &'a [String]) -> Result<Option<Request<'a>>, NoMemory>
-    ensures { IfOk result (λ found. option_map request_seen found ≡ request_of (map string_bytes words.entry.now)) }
+    ensures { IfOk result (λ found.
+        option_map request_seen found ≡ request_of (map string_bytes words.entry.now)) }
 {
     if !are_in_form(alloc, words)? {
         return Ok(None);

@@ -1,0 +1,11 @@
+pub mod Next
+pub mod Places
+pub mod Turns
+pub mod Steps
+pub mod Choices
+pub mod Clean
+pub mod Clear
+pub mod Loops
+pub mod Fits
+pub mod Size
+pub mod Naming
