@@ -102,3 +102,7 @@ lines_of (draft.Judged r) = head_lines r
 lines_of (draft.Sliced r s) = head_lines r ++ slice_lines r.procs s
 lines_of (draft.Walked r w steps) = body_lines r ++ witness_lines r.procs (walked w steps)
 lines_of (draft.Over r) = report_lines r
+
+-- the draft lacks its last line, or something is left behind it
+abbrev pub IsUnfinished : Draft → List ℕ → Type 0
+IsUnfinished d rest = (r : Report) → d ≡ draft.Over r → rest ≡ [] → ⊥

@@ -2,8 +2,12 @@
 #![tactic(auto)]
 
 mod draft;
+mod reading;
 mod report;
+mod writing;
 
 pub use draft::Draft;
+pub use reading::read_report;
 pub use report::{Report, ReportFault, SliceText};
 pub use report_lines::{Edge, WitnessText};
+pub use writing::write_report;
