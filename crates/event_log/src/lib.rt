@@ -15,16 +15,14 @@ mod split;
 mod states;
 mod writing;
 
-pub use copies::names_of;
 pub use history::History;
 pub use item::{Fed, Item, LogCode, LogFault};
 pub use laws::{a_log_reads_back, no_fault_is_a_log};
 pub use log::{Assign, Binding, Event, Header, Kind, Log};
 pub use pota_names::Name;
 pub use reader::Reader;
-pub use split::split_line;
 pub use states::States;
-pub use writing::{put_clock, put_names, put_spaced, write_log};
+pub use writing::write_log;
 
 #[cfg(test)]
 mod tests;

@@ -15,16 +15,15 @@ use pota_base::{Bytes, List, NoMemory, put_i64, put_u64};
 use pota_names::Name;
 use std::alloc::Global;
 
-/// Appends a space and the word.
-pub fn put_spaced(out: &mut Bytes, word: &[u8]) -> Result<(), NoMemory>
+fn put_spaced(out: &mut Bytes, word: &[u8]) -> Result<(), NoMemory>
     ensures { OnOk result (out.new ≡ out.old ++ 32 ∷ word.now) }
 {
     out.push(b' ')?;
     out.extend_from_slice(word)
 }
 
-/// Appends the names, each behind a space.
-pub fn put_names(out: &mut Bytes, names: &[Name]) -> Result<(), NoMemory>
+// ` NAME NAME ..`
+fn put_names(out: &mut Bytes, names: &[Name]) -> Result<(), NoMemory>
     ensures { OnOk result (out.new ≡ out.old ++ names_text names.now) }
 {
     for name in names {
@@ -89,8 +88,7 @@ fn put_clock_rest(out: &mut Bytes, clock: &[u32]) -> Result<(), NoMemory>
     Ok(())
 }
 
-/// Appends the numbers with a comma between each two.
-pub fn put_clock(out: &mut Bytes, clock: &[u32]) -> Result<(), NoMemory>
+fn put_clock(out: &mut Bytes, clock: &[u32]) -> Result<(), NoMemory>
     ensures { OnOk result (out.new ≡ out.old ++ clock_text clock.now) }
 {
     match clock {
