@@ -9,7 +9,7 @@ use Rattle.pull_system.specs.Rows.{start_of, place_of, row_at}
 use Rattle.pull_system.specs.Climb.{IsBelowLeast}
 use Rattle.pull_system.proofs.Climbing.{set_case, lt_or_le}
 use Rattle.pull_system.proofs.Sums.{sum-within}
-use Rattle.pull_system.proofs.Starts.{length-start_of}
+use Rattle.pull_system.proofs.Starts.{length-start_of, get_or-row_at, length-row_at}
 use Rattle.raise_machine.specs.Bounds.{AreBounds, word_at}
 use Rattle.raise_machine.proofs.Raising.{word_in_range, word_below, word_above}
 use Rattle.bound_table.specs.Kept.{KeepsOthers, FollowsFirst, Follows}
@@ -125,16 +125,6 @@ follows_rises system row a b c v w first second = record {
 
 pub follows_sum : (system : SystemView) (row : ℕ) (a b c v w : List ℕ) → Follows system row a b v → Follows system row b c w → sum v ≤ sum w
 follows_sum system row a b c v w first second = sum-within v w (omega (arith, first.size, second.size)) (follows_rises system row a b c v w first second).each
-
--- the words of a row as a list
-pub get_or-row_at : (lens words : List ℕ) (row process : ℕ) → process < length lens → get_or (row_at lens words row) process 0 ≡ word_at lens words row process
-get_or-row_at lens words row process there =
-    get_or-take ((row + 1) * length lens + 0 - (row * length lens + 0)) (drop (row * length lens + 0) words) process 0 (omega arith)
-    ∙ get_or-drop (row * length lens + 0) words process 0 ∙ ap (λ i. get_or words i 0) (let e : row * length lens + 0 + process ≡ row * length lens + process = omega arith in e)
-
-length-row_at : (lens words : List ℕ) (row : ℕ) → row ≤ sum lens → length words ≡ (sum lens + 1) * length lens → length (row_at lens words row) ≡ length lens
-length-row_at lens words row row_there size =
-    omega (arith, length-take ((row + 1) * length lens + 0 - (row * length lens + 0)) (drop (row * length lens + 0) words), length-drop (row * length lens + 0) words, mul-le-mul_left (length lens) (let h : row + 1 ≤ sum lens + 1 = omega arith in h))
 
 -- the row before the look is within what was read
 pub row_sum : (system : SystemView) (row : ℕ) (old b v : List ℕ) → row ≤ sum system.lens → AreBounds system old → Follows system row old b v → sum (row_at system.lens old row) ≤ sum v

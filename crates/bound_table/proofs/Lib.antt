@@ -1,4 +1,5 @@
 pub mod Moves
 pub mod Floors
+pub mod Seeing
 pub mod Allowed
 pub mod Lends

@@ -2,6 +2,7 @@
 #![tactic(auto)]
 
 mod seat;
+mod settle;
 mod table;
 
 pub use seat::Seat;

@@ -1,22 +1,21 @@
 ghost use Rattle.std.specs.Prelude.{◌≡◌, ◌≢◌, ℕ, ◌+◌, ◌*◌, ◌<◌, ◌≤◌, List, true, length, sum, slice_index, slice_set, IfOk};
 ghost use Rattle.pull_system.specs.Vector.{IsWithin, IsMaximum};
-ghost use Rattle.pull_system.specs.System.{IsSystem, source_of, target_of, ask};
-ghost use Rattle.pull_system.specs.Rows.{place_of, row_at, IsLeast};
-ghost use Rattle.pull_system.specs.Climb.{IsSettled, IsLook, AreMarks, marked};
-ghost use Rattle.raise_machine.specs.declared.step.Step.TheVariants.{Pull, Lend};
-ghost use Rattle.raise_machine.specs.Bounds.{IsBound, AreBounds, word_at, has_start};
+ghost use Rattle.pull_system.specs.System.{IsSystem};
+ghost use Rattle.pull_system.specs.Rows.{place_of};
+ghost use Rattle.raise_machine.specs.declared.step.Step.TheVariants.{Lend};
+ghost use Rattle.raise_machine.specs.Bounds.{AreBounds, word_at, has_start};
 ghost use Rattle.raise_machine.specs.Machine.{is_allowed};
-ghost use Rattle.bound_table.specs.Kept.{KeepsOthers, FollowsFirst, Follows};
+ghost use Rattle.bound_table.specs.Asking.{IsPullStep, IsRaised};
+ghost use Rattle.bound_table.specs.Kept.{Follows};
 ghost use Rattle.bound_table.specs.Rule.{word_count};
 
 use crate::seat::{Bounded, Key, Known, Lifts, Looks, Meets, Seat, Twins};
 use atomic_table::Table;
-use pota_base::{NoMemory, Steps};
-use pull_system::{Risen, Rows, System};
+use pota_base::NoMemory;
+use pull_system::{Rows, System};
 use std::alloc::Global;
 use std::marker::Model;
 use std::snapshot::Snapshot;
-use std::sync::ledger::Ledger;
 
 /// One word per row and process, shared by callers that hold a seat each. Contracts see its system, and which table it is.
 ///
@@ -114,120 +113,6 @@ impl BoundTable {
         }
     }
 
-    /// Raises the row until the seat's floors for it are closed. They and `into` are then the least closed vector of the row.
-    ///
-    /// After a look at the words each pull is looked up once, and then again each time that its source has risen. So with P
-    /// pulls it takes at most `P * (1 + rise)` look-ups, the rise being that of the seat's floors, and at most P where these
-    /// were the least closed vector. It waits for nobody, and takes no memory.
-    pub fn settle<L: Ledger>(
-        &self,
-        seat: &mut Seat,
-        row: u32,
-        into: &mut [u64],
-        steps: &mut Steps<L>,
-    )
-        requires fits { seat.old.table ≡ self.now }
-        requires row { row ≤ sum self.now.system.lens }
-        requires into { length into.old ≡ length self.now.system.lens }
-        ensures table { seat.new.table ≡ seat.old.table }
-        ensures follows { Follows self.now.system row seat.old.floor seat.new.floor into.new }
-        ensures least { IsLeast self.now.system row into.new }
-        ensures looks { steps.new + length self.now.system.pulls * sum (row_at self.now.system.lens seat.old.floor row) ≤ steps.old + length self.now.system.pulls * (1 + sum into.new) }
-    {
-        seat.bounds();
-        self.look(seat, row, into);
-        let mut risen = Risen::new();
-        self.ask_all(seat, row, into, &mut risen, steps);
-        while let Some(process) = risen.take() {
-            self.ask_from(seat, row, process, into, &mut risen, steps);
-        }
-    }
-
-    /// Looks up each pull once.
-    fn ask_all<L: Ledger>(
-        &self,
-        seat: &mut Seat,
-        row: u32,
-        into: &mut [u64],
-        risen: &mut Risen,
-        steps: &mut Steps<L>,
-    )
-        requires fits { seat.old.table ≡ self.now }
-        requires row { row ≤ sum self.now.system.lens }
-        requires follows { Follows self.now.system row seat.old.floor seat.old.floor into.old }
-        requires marks { AreMarks self.now.system.lens risen.old }
-        ensures table { seat.new.table ≡ seat.old.table }
-        ensures follows { Follows self.now.system row seat.old.floor seat.new.floor into.new }
-        ensures settled { IsSettled self.now.system into.new risen.new (λ k. Unit {0}) }
-        ensures marks { AreMarks self.now.system.lens risen.new }
-        ensures pays { marked risen.new + sum into.old ≤ marked risen.old + sum into.new }
-        ensures looks { steps.new ≡ steps.old + length self.now.system.pulls }
-        ensures system { IsSystem self.now.system }
-    {
-        for k in 0..self.system.pulls() {
-            self.ask_one(seat, row, k, into, risen, steps);
-        }
-    }
-
-    /// Looks up each pull from the process, where all pulls from the others are settled.
-    fn ask_from<L: Ledger>(
-        &self,
-        seat: &mut Seat,
-        row: u32,
-        process: u32,
-        into: &mut [u64],
-        risen: &mut Risen,
-        steps: &mut Steps<L>,
-    )
-        requires fits { seat.old.table ≡ self.now }
-        requires row { row ≤ sum self.now.system.lens }
-        requires process { process < length self.now.system.lens }
-        requires follows { Follows self.now.system row seat.old.floor seat.old.floor into.old }
-        requires marks { AreMarks self.now.system.lens risen.old }
-        requires settled { IsSettled self.now.system into.old risen.old (λ k. source_of self.now.system k ≢ process) }
-        ensures table { seat.new.table ≡ seat.old.table }
-        ensures follows { Follows self.now.system row seat.old.floor seat.new.floor into.new }
-        ensures settled { IsSettled self.now.system into.new risen.new (λ k. Unit {0}) }
-        ensures marks { AreMarks self.now.system.lens risen.new }
-        ensures pays { marked risen.new + sum into.old ≤ marked risen.old + sum into.new }
-        ensures looks { steps.new ≤ steps.old + length self.now.system.pulls }
-    {
-        for &k in self.system.pulls_from(process) {
-            self.ask_one(seat, row, k, into, risen, steps);
-        }
-    }
-
-    /// Looks up one pull: where it does not hold, the word of its target rises to what it asks for, and the target is marked.
-    fn ask_one<L: Ledger>(
-        &self,
-        seat: &mut Seat,
-        row: u32,
-        k: u32,
-        into: &mut [u64],
-        risen: &mut Risen,
-        steps: &mut Steps<L>,
-    )
-        requires fits { seat.old.table ≡ self.now }
-        requires row { row ≤ sum self.now.system.lens }
-        requires pull { k < length self.now.system.pulls }
-        requires follows { Follows self.now.system row seat.old.floor seat.old.floor into.old }
-        requires marks { AreMarks self.now.system.lens risen.old }
-        ensures table { seat.new.table ≡ seat.old.table }
-        ensures follows { Follows self.now.system row seat.old.floor seat.new.floor into.new }
-        ensures look { IsLook self.now.system k into.old into.new risen.old risen.new }
-        ensures marks { AreMarks self.now.system.lens risen.new }
-        ensures pays { marked risen.new + sum into.old ≤ marked risen.old + sum into.new }
-        ensures step { steps.new ≡ steps.old + 1 }
-        ensures system { IsSystem self.now.system }
-    {
-        let (source, target) = self.system.ends(k);
-        let asked = self.system.pull(k, into[source as usize], steps);
-        if into[target as usize] < asked {
-            into[target as usize] = self.raise_by_pull(seat, row, k, asked);
-            risen.mark(target);
-        }
-    }
-
     /// Raises each word of `to_row` to at least the seat's floor for `from_row`, after a look at the words of `from_row`.
     ///
     /// The seat's floor for `to_row` has the event of `from_row`, or `from_row` is the bottom's.
@@ -245,22 +130,23 @@ impl BoundTable {
         seat.bounds();
         for process in 0..self.system.shape().procs() {
             let y = self.load(seat, self.place(from_row, process));
-            self.raise_by_lend(seat, from_row, to_row, process, y);
+            let _raised = self.raise_by_lend(seat, from_row, to_row, process, y);
         }
     }
 
     /// Where the word of a process in a row stands among the words.
-    fn place(&self, row: u32, process: u32) -> usize
+    pub(crate) fn place(&self, row: u32, process: u32) -> usize
         requires row { row ≤ sum self.now.system.lens }
         requires process { process < length self.now.system.lens }
         ensures place { result ≡ place_of self.now.system.lens row process }
         ensures there { result < word_count self.now.system.lens }
+        ensures system { IsSystem self.now.system }
     {
         row as usize * self.system.shape().procs() as usize + process as usize
     }
 
     /// Reads one word, which becomes the seat's floor for it.
-    fn load(&self, seat: &mut Seat, word: usize) -> u64
+    pub(crate) fn load(&self, seat: &mut Seat, word: usize) -> u64
         requires fits { seat.old.table ≡ self.now }
         requires word { word < word_count self.now.system.lens }
         ensures table { seat.new.table ≡ seat.old.table }
@@ -272,19 +158,15 @@ impl BoundTable {
         self.table.shared.load::<Looks>(&mut seat.token, word)
     }
 
-    /// The machine's step of pull `k` in the row, at the seat's floor for the source: the word of the target becomes at least
-    /// `asked`. It gives what the word became, which is the seat's floor for it.
-    fn raise_by_pull(&self, seat: &mut Seat, row: u32, k: u32, asked: u64) -> u64
+    /// The machine's step of a pull in the row: the word of its target becomes at least `asked`, what it asks for at a value that
+    /// the seat's floor for its source has reached. It gives what the word became, which is the seat's floor for it.
+    pub(crate) fn raise_by_pull(&self, seat: &mut Seat, row: u32, target: u32, asked: u64) -> u64
         requires fits { seat.old.table ≡ self.now }
-        requires allowed { is_allowed self.now.system seat.old.floor (Pull row k (word_at self.now.system.lens seat.old.floor row (source_of self.now.system k))) ≡ true }
-        requires asked { asked ≡ ask self.now.system k (word_at self.now.system.lens seat.old.floor row (source_of self.now.system k)) }
+        requires target { target < length self.now.system.lens }
+        requires step { IsPullStep self.now.system seat.old.floor row target asked }
         ensures table { seat.new.table ≡ seat.old.table }
-        ensures floor { seat.new.floor ≡ slice_set seat.old.floor (place_of self.now.system.lens row (target_of self.now.system k)) result }
-        ensures rises { word_at self.now.system.lens seat.old.floor row (target_of self.now.system k) ≤ result }
-        ensures reaches { asked ≤ result }
-        ensures bounds { AreBounds self.now.system seat.new.floor }
+        ensures raised { IsRaised self.now.system seat.old.floor seat.new.floor row target asked result }
     {
-        let (_, target) = self.system.ends(k);
         let word = self.place(row, target);
         let found = self
             .table
@@ -294,18 +176,25 @@ impl BoundTable {
     }
 
     /// The machine's step of lending: the word of `to_row` becomes at least `y`, which the seat's floor for `from_row` has
-    /// reached.
-    fn raise_by_lend(&self, seat: &mut Seat, from_row: u32, to_row: u32, process: u32, y: u64)
+    /// reached. It gives what the word became, which is the seat's floor for it.
+    pub(crate) fn raise_by_lend(
+        &self,
+        seat: &mut Seat,
+        from_row: u32,
+        to_row: u32,
+        process: u32,
+        y: u64,
+    ) -> u64
         requires fits { seat.old.table ≡ self.now }
-        requires allowed { is_allowed self.now.system seat.old.floor (Lend to_row from_row process y) ≡ true }
+        requires step { is_allowed self.now.system seat.old.floor (Lend to_row from_row process y) ≡ true }
         ensures table { seat.new.table ≡ seat.old.table }
-        ensures floor { (raised : ℕ) × (seat.new.floor ≡ slice_set seat.old.floor (place_of self.now.system.lens to_row process) raised) × (y ≤ raised) × (word_at self.now.system.lens seat.old.floor to_row process ≤ raised) }
-        ensures bounds { AreBounds self.now.system seat.new.floor }
+        ensures raised { IsRaised self.now.system seat.old.floor seat.new.floor to_row process y result }
     {
         let word = self.place(to_row, process);
-        let _found = self
+        let found = self
             .table
             .shared
             .fetch_max::<Lifts>(&mut seat.token, word, y);
+        found.max(y)
     }
 }

@@ -40,8 +40,8 @@ past_of o e c order there is = subst (IsLeast (Having (IsConsistent o) e.process
 
 -- ---- happened before
 
-pub is_before : (o : Clocks) (i a j b : ℕ) → 0 < a → a ≤ count (clock o j b) i → ((i ≡ j) × (a ≡ b) → ⊥) → HappenedBefore o i a j b
-is_before o i a j b some within differs = record { in_past = (some, within); differs = differs }
+pub is_before : (o : Clocks) (i a j b : ℕ) → IsEvent (lengths o) i a → IsEvent (lengths o) j b → a ≤ count (clock o j b) i → ((i ≡ j) × (a ≡ b) → ⊥) → HappenedBefore o i a j b
+is_before o i a j b first second within differs = record { first = first; second = second; in_past = (first.0, within); differs = differs }
 
 -- ---- consistent cuts
 

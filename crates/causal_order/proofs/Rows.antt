@@ -10,7 +10,7 @@ unfolding rows_of
 length-rows_of width zero counts = refl
 length-rows_of width (suc n) counts = ap (λ (k : ℕ). suc k) (length-rows_of width n (drop width counts))
 
-row_at : (width n p : ℕ) (counts : List ℕ) → p < n → get_or (rows_of width n counts) p [] ≡ take width (drop (p * width) counts)
+pub row_at : (width n p : ℕ) (counts : List ℕ) → p < n → get_or (rows_of width n counts) p [] ≡ take width (drop (p * width) counts)
 unfolding rows_of
 row_at width zero p counts h = absurd (omega arith)
 row_at width (suc n) zero counts h =
@@ -20,7 +20,7 @@ row_at width (suc n) (suc p) counts h =
     let place : suc p * width ≡ width + p * width = omega arith in
     row_at width n p (drop width counts) (omega arith) ∙ ap (take width) (drop-drop (p * width) width counts) ∙ ap (λ (k : ℕ). take width (drop k counts)) (sym place)
 
-rows_push : (width n : ℕ) (counts row : List ℕ) → length counts ≡ n * width → length row ≡ width → rows_of width (suc n) (counts ++ row) ≡ rows_of width n counts ++ row ∷ []
+pub rows_push : (width n : ℕ) (counts row : List ℕ) → length counts ≡ n * width → length row ≡ width → rows_of width (suc n) (counts ++ row) ≡ rows_of width n counts ++ row ∷ []
 unfolding rows_of
 rows_push width zero [] row h k = ap (λ (r : List ℕ). r ∷ []) (take_all width row (omega arith))
 rows_push width zero (x ∷ counts) row h k = absurd (omega arith)

@@ -34,9 +34,12 @@ block_width bs o p b is wide lt at =
     let count = count_is bs o is in
     ap (λ (x : BlockView). x.width) (block_is bs p b (omega (arith, count)) at) ∙ wide p (omega (arith, count)) ∙ count
 
-pub clock_is : (o : Clocks) (p position : ℕ) (rows : List Cut) (row : Cut) → row ≡ get_or rows (position - 1) [] → rows ≡ get_or o p [] → row ≡ clock o p position
+pub clock_is : (o : Clocks) (p position : ℕ) (rows : List Cut) (row : Cut) → 0 < position → row ≡ get_or rows (position - 1) [] → rows ≡ get_or o p [] → row ≡ clock o p position
 unfolding clock
-clock_is o p position rows row is at = is ∙ ap (λ (rs : List Cut). get_or rs (position - 1) []) at
+clock_is o p zero rows row some is at = absurd (omega (arith, some))
+clock_is o p (suc a) rows row some is at =
+    let place : suc a - 1 ≡ a = omega arith in
+    is ∙ ap (λ (rs : List Cut). get_or rs (suc a - 1) []) at ∙ ap (λ (k : ℕ). get_or (get_or o p []) k []) place
 
 pub still_wide : (bs : List BlockView) (p : ℕ) (b new : BlockView) → AreWide bs → p < length bs → b ≡ get_or bs p b → new.width ≡ b.width → AreWide (set bs p new)
 still_wide bs p b new wide lt at same q h =

@@ -19,7 +19,8 @@ pub record HasClock (procs : ℕ) (e : Event) : Type 0 where
   pub process : e.process < procs
   pub width : length e.clock ≡ procs
 
--- the events may follow those with these clocks: all clocks, old and new, are those of one order, and there are at most 50,000
+-- the events may follow those with these clocks: all clocks, old and new, are those of one order,
+-- and there are at most 50,000
 pub record MayExtend (o : Clocks) (events : List Event) : Type 0 where
   pub each : AllByRecursion (HasClock (length o)) events
   pub few : sum (lengths o) + length events ≤ 50000

@@ -6,7 +6,8 @@ use pota_base::NoMemory;
 use std::alloc::Global;
 use std::marker::Model;
 
-/// The vector clocks of the events of one process, in their order. All counts stand in one piece of memory.
+/// The vector clocks of the events of one process, in their order. All counts stand in one piece of
+/// memory.
 #[derive(Debug, Drop)]
 pub struct Block {
     /// How many counts a clock has.
@@ -61,7 +62,8 @@ impl Block {
     /// Adds a clock. Without memory for it the block is as before.
     pub fn push(&mut self, clock: &[u32]) -> Result<(), NoMemory>
         requires { length clock.now ≡ self.old.width }
-        ensures ok { OnOk result (self.new ≡ record self.old { rows = self.old.rows ++ clock.now ∷ [] }) }
+        ensures ok { OnOk result (self.new
+            ≡ record self.old { rows = self.old.rows ++ clock.now ∷ [] }) }
         ensures err { OnErr result (self.new ≡ self.old) }
     {
         self.counts.extend_from_slice(clock)?;

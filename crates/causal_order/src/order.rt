@@ -14,8 +14,8 @@ use pota_base::{EventId, NoMemory, Shape};
 use std::alloc::Global;
 use std::marker::Model;
 
-/// The order of the events of a run, as their vector clocks state it. Contracts see the clocks of each process, and know that
-/// they are those of an order.
+/// The order of the events of a run, as their vector clocks state it. Contracts see the clocks of
+/// each process, and know that they are those of an order.
 #[derive(Debug, Drop)]
 pub struct Order {
     shape: Shape,
@@ -39,20 +39,23 @@ fn cut_back(table: &mut ClockTable, shape: &Shape)
     requires count { length shape.now ≡ length table.old }
     requires fits { (p : ℕ) → get_or shape.now p 0 ≤ length (get_or table.old p []) }
     // A table that has grown since it had this shape is again what it was.
-    ensures { (before : Clocks) → HasGrown before table.old → shape.now ≡ lengths before → table.new ≡ before }
+    ensures { (before : Clocks) → HasGrown before table.old → shape.now ≡ lengths before
+        → table.new ≡ before }
 {
     for process in 0..shape.procs() {
         table.truncate(process, shape.len_of(process));
     }
 }
 
-// Puts the clocks of the events behind those that are there, and gives the new shape. Without memory some may be there.
+// Puts the clocks of the events behind those that are there, and gives the new shape. Without
+// memory some may be there.
 fn grow(alloc: Global, table: &mut ClockTable, events: &[Event]) -> Result<Shape, NoMemory>
     requires each { AllByRecursion (HasClock (length table.old)) events.now }
     requires some { 1 ≤ length table.old }
     requires most { length table.old ≤ 32 }
     requires few { sum (lengths table.old) + length events.now ≤ 50000 }
-    ensures ok { IfOk result (λ shape. (table.new ≡ with_clocks table.old events.now) × (shape ≡ lengths table.new) × IsShape shape) }
+    ensures ok { IfOk result (λ shape. (table.new ≡ with_clocks table.old events.now)
+        × (shape ≡ lengths table.new) × IsShape shape) }
     ensures grown { HasGrown table.old table.new }
 {
     table.extend(events)?;
@@ -131,7 +134,8 @@ impl Order {
     pub fn before(&self, first: EventId, second: EventId) -> bool
         requires first { HasEvent (lengths self.now) first }
         requires second { HasEvent (lengths self.now) second }
-        ensures { IsTrue result ↔ HappenedBefore self.now first.process first.position second.process second.position }
+        ensures { IsTrue result
+            ↔ HappenedBefore self.now first.process first.position second.process second.position }
     {
         first != second && self.clock(second)[first.process as usize] >= first.position
     }
@@ -141,7 +145,8 @@ impl Order {
         requires event { HasEvent (lengths self.now) event }
         requires width { length into.old ≡ length self.now }
         ensures past { into.new ≡ clock self.now event.process event.position }
-        ensures least { IsLeast (Having (IsConsistent self.now) event.process event.position) into.new }
+        ensures least { IsLeast
+            (Having (IsConsistent self.now) event.process event.position) into.new }
     {
         let clock = self.clock(event);
         for process in 0..self.shape.procs() {
@@ -172,7 +177,8 @@ impl Order {
     pub fn can_take(&self, cut: &Cut, process: u32) -> bool
         requires process { process < length self.now }
         requires consistent { IsConsistent self.now cut.now }
-        ensures { IsTrue result ↔ ((count cut.now process < count (lengths self.now) process) × IsConsistent self.now (with_next cut.now process)) }
+        ensures { IsTrue result ↔ ((count cut.now process < count (lengths self.now) process)
+            × IsConsistent self.now (with_next cut.now process)) }
     {
         let position = cut.get(process);
         if position >= self.shape.len_of(process) {

@@ -12,7 +12,8 @@ use pota_base::NoMemory;
 use std::alloc::Global;
 use std::marker::Model;
 
-/// The vector clocks of the events of each process, each with one count for each process. They need not be those of an order.
+/// The vector clocks of the events of each process, each with one count for each process. They need
+/// not be those of an order.
 #[derive(Debug, Drop)]
 pub struct ClockTable {
     blocks: Vec<Block>,

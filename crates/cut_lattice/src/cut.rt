@@ -5,7 +5,8 @@ use pota_base::{NoMemory, Shape};
 use std::alloc::Global;
 use std::marker::Model;
 
-/// A cut of a run: how many of its first events each process has in it. Contracts see the list of counts.
+/// A cut of a run: how many of its first events each process has in it. Contracts see the list of
+/// counts.
 #[derive(Debug, Drop)]
 pub struct Cut {
     counts: Vec<u32>,

@@ -161,6 +161,14 @@ free_byte b past free before none =
       }
     ]
 
+-- a text without a fault is no longer than a log may be
+pub free_small : (past : List ℕ) → first_fault past ≡ None → length past ≤ 67108864
+free_small [] h = omega arith
+free_small (b ∷ past) h =
+    let before = fault_before b past h in
+    let quiet = moment_quiet (byte_fault (length past) (is_ended (lines past)) (length (line_now past)) b) (feed_told b past) (mapped_none past (moment_told b past).fault (sym (fault-next b past before) ∙ h)) in
+    omega (arith, byte_room (length past) (is_ended (lines past)) (length (line_now past)) b quiet.0)
+
 pub fault_free : (past : List ℕ) → first_fault past ≡ None → FaultFree past
 unfolding lines line_now items items_of AreFine
 fault_free [] h = record { fine = tt; end_now = λ _. refl; items_are = refl }

@@ -92,6 +92,33 @@ value_in_row state (e ∷ es) (suc a) v d h k =
     ap (λ (n : ℕ). get_or (state ++ joined (states_from next es)) n d) place
     ∙ get_or-append-add state (joined (states_from next es)) (a * length state + v) d ∙ rest
 
+-- the state at a place is its row
+pub row_at : (state : List ℤ) (es : List Event) (a : ℕ) → a ≤ length es
+    → take (length state) (drop (a * length state) (joined (states_from state es))) ≡ get_or (states_from state es) a []
+unfolding states_from
+row_at state [] zero h =
+    let place : 0 * length state ≡ 0 = omega arith in
+    ap (λ (n : ℕ). take (length state) (drop n (state ++ []))) place ∙ take_at state [] (length state) refl
+row_at state [] (suc a) h = absurd (omega arith)
+row_at state (e ∷ es) zero h =
+    let place : 0 * length state ≡ 0 = omega arith in
+    ap (λ (n : ℕ). take (length state) (drop n (state ++ joined (states_from (assigned state e.assigns) es)))) place ∙ take_at state _ (length state) refl
+row_at state (e ∷ es) (suc a) h =
+    let next = assigned state e.assigns in
+    let place : suc a * length state ≡ length state + a * length state = omega arith in
+    let rest : take (length state) (drop (a * length state) (joined (states_from next es))) ≡ get_or (states_from next es) a [] =
+    subst (λ (w : ℕ). take w (drop (a * w) (joined (states_from next es))) ≡ get_or (states_from next es) a []) (length-assigned state e.assigns) (row_at next es a (omega arith)) in
+    ap (λ (n : ℕ). take (length state) (drop n (state ++ joined (states_from next es)))) place
+    ∙ ap (take (length state)) (drop-append-add state (joined (states_from next es)) (a * length state)) ∙ rest
+
+-- each state has a value for each variable
+pub length-state : (state : List ℤ) (es : List Event) (a : ℕ) → a ≤ length es → length (get_or (states_from state es) a []) ≡ length state
+unfolding states_from
+length-state state [] zero h = refl
+length-state state [] (suc a) h = absurd (omega arith)
+length-state state (e ∷ es) zero h = refl
+length-state state (e ∷ es) (suc a) h = length-state (assigned state e.assigns) es a (omega arith) ∙ length-assigned state e.assigns
+
 -- ---- one row more, copied from the last one and then assigned to
 
 -- the values after the old ones are the last row's, up to that at place i of the old ones
@@ -213,6 +240,21 @@ history_value w vs es a v h le lt =
       within = omega (arith, len, more);
       value = ap (λ (n : ℕ). get_or vs (a * n + v) (pos 0)) (sym h.wide) ∙ ap (λ (xs : List ℤ). get_or xs (a * length opening + v) (pos 0)) h.rows
           ∙ value_in_row opening (map event_of es) a v (pos 0) (omega (arith, length-map es event_of)) (omega (arith, h.wide));
+    }
+
+pub record StateThere (w : ℕ) (vs : List ℤ) (es : List logged.Event) (a : ℕ) : Type 0 where
+  pub within : a * w + w ≤ length vs
+  pub state : take w (drop (a * w) vs) ≡ get_or (states_from (take w vs) (map event_of es)) a []
+
+pub history_state : (w : ℕ) (vs : List ℤ) (es : List logged.Event) (a : ℕ) → IsHistory w vs es → a ≤ length es → StateThere w vs es a
+history_state w vs es a h le =
+    let opening = take w vs in
+    let len = history_len w vs es h in
+    let more : (a + 1) * w ≤ (length es + 1) * w = mul-le-mul_right w (omega arith) in
+    record {
+      within = omega (arith, len, more);
+      state = ap (λ (n : ℕ). take n (drop (a * n) vs)) (sym h.wide) ∙ ap (λ (xs : List ℤ). take (length opening) (drop (a * length opening) xs)) h.rows
+          ∙ row_at opening (map event_of es) a (omega (arith, length-map es event_of));
     }
 
 -- ---- as the code's values say it

@@ -158,6 +158,19 @@ values_of_variables : (vs : List Binding) → map (λ (x : run.Variable). x.valu
 values_of_variables [] = refl
 values_of_variables (v ∷ vs) = ap (λ (l : List ℤ). v.value ∷ l) (values_of_variables vs)
 
+-- the states that are kept of a process are those of the run
+pub states_of_run : (header : Header) (shape : List ℕ) (hs : List HistoryView) (p : ℕ) → AreStates header shape hs → p < length hs
+    → states_in (get_or hs p nothing) ≡ run.states_of (run.process_at (processes_of header.procs header.vars (events_in hs)) p)
+states_of_run header shape hs p h lt =
+    let count = count_is header shape hs h in
+    let len : length (events_in hs) ≡ length hs = length-map hs (λ (x : HistoryView). x.events) in
+    let process = process_is header.procs header.vars (events_in hs) p (omega (arith, count, h.fits.vars)) (omega (arith, count)) (omega (arith, len)) in
+    let events : get_or (events_in hs) p [] ≡ (get_or hs p nothing).events = get_or-map (λ (x : HistoryView). x.events) hs p nothing [] lt in
+    let here = get_or hs p nothing in
+    ap (λ (o : List ℤ). run.states_from o (map event_of here.events)) (opening_is header shape hs p h lt ∙ sym (values_of_variables (get_or header.vars p [])))
+    ∙ ap (λ (es : List Event). run.states_from (map (λ (x : run.Variable). x.value) (map variable_of (get_or header.vars p []))) (map event_of es)) (sym events)
+    ∙ ap run.states_of (sym process)
+
 pub value_of_run : (header : Header) (shape : List ℕ) (hs : List HistoryView) (p a v : ℕ) → AreStates header shape hs → p < length hs → a ≤ length (get_or hs p nothing).events
     → get_or (get_or (states_in (get_or hs p nothing)) a []) v (pos 0)
     ≡ get_or (run.state_after (run.process_at (processes_of header.procs header.vars (events_in hs)) p) a) v (pos 0)
@@ -216,3 +229,12 @@ value_is header shape hs s p a v h states view there le =
     ap (λ (x : HistoryView). get_or (get_or (states_in x) a []) v (pos 0)) there.read
     ∙ value_of_run header shape hs p a v states there.within (omega (arith, le, ap (λ (x : HistoryView). length x.events) there.read))
     ∙ ap (λ (x : StatesView). get_or (run.state_after (run.process_at (processes_of x.header.procs x.header.vars x.events) p) a) v (pos 0)) view
+
+-- a state that is kept, as callers see the states
+pub state_is : (header : Header) (shape : List ℕ) (hs : List HistoryView) (s : StatesView) (p a : ℕ) (h : HistoryView) → AreStates header shape hs
+    → ◌≡◌ {A = StatesView} (record { header = header; events = events_in hs }) s → IsThere header hs s p h
+    → get_or (states_in h) a [] ≡ get_or (run.states_of (run.process_at (processes_of s.header.procs s.header.vars s.events) p)) a []
+state_is header shape hs s p a h states view there =
+    ap (λ (x : HistoryView). get_or (states_in x) a []) there.read
+    ∙ ap (λ (rows : List (List ℤ)). get_or rows a []) (states_of_run header shape hs p states there.within)
+    ∙ ap (λ (x : StatesView). get_or (run.states_of (run.process_at (processes_of x.header.procs x.header.vars x.events) p)) a []) view

@@ -17,3 +17,5 @@ pub mod FeedSteps
 pub mod WellFormed
 pub mod Narrow
 pub mod Appends
+pub mod FittingItems
+pub mod NameNumbers

@@ -21,13 +21,14 @@ use Rattle.event_log.proofs.EventLaws.{line_fits}
 use Rattle.event_log.specs.Moments.{IsPlainByte, HasNoFeed}
 use Rattle.event_log.proofs.WriteLaws.{vars_fit}
 
-decimal_plain : (n : ℕ) → n < 2 ^ 64 → HasNoFeed (decimal n)
+-- no number, name, list of either or clock has a line feed
+pub decimal_plain : (n : ℕ) → n < 2 ^ 64 → HasNoFeed (decimal n)
 decimal_plain n fits = decimal_by_steps (λ _ ds. HasNoFeed ds)
     (λ k low. (ne_eqb (48 + k) 10 (omega arith), tt))
     (λ k ds big ih. all_append IsPlainByte ds ((48 + k % 10) ∷ []) ih (ne_eqb (48 + k % 10) 10 (omega arith), tt))
     n fits
 
-signed_plain : (z : ℤ) → FitsSigned w64 z → HasNoFeed (signed_decimal z)
+pub signed_plain : (z : ℤ) → FitsSigned w64 z → HasNoFeed (signed_decimal z)
 signed_plain (pos n) fits = decimal_plain n (omega (arith, ints))
 signed_plain (negsuc n) fits = (refl, decimal_plain (suc n) (omega (arith, ints)))
 
@@ -38,14 +39,14 @@ bytes_plain : (bytes : List ℕ) → list_all is_name_byte bytes ≡ true → Ha
 bytes_plain [] h = tt
 bytes_plain (b ∷ bs) h = let p = and_parts (is_name_byte b) (list_all is_name_byte bs) h in (name_byte_plain b p.0, bytes_plain bs p.1)
 
-name_plain : (n : Name) → is_name n ≡ true → HasNoFeed n
+pub name_plain : (n : Name) → is_name n ≡ true → HasNoFeed n
 name_plain n h = bytes_plain n (name_parts n h).bytes
 
-names_plain : (ns : List Name) → AllByRecursion (λ n. is_name n ≡ true) ns → HasNoFeed (names_text ns)
+pub names_plain : (ns : List Name) → AllByRecursion (λ n. is_name n ≡ true) ns → HasNoFeed (names_text ns)
 names_plain [] fits = tt
 names_plain (n ∷ ns) fits = (refl, all_append IsPlainByte n (names_text ns) (name_plain n fits.0) (names_plain ns fits.1))
 
-values_plain : (vs : List NamedValue) → AllByRecursion ValueFits vs → HasNoFeed (values_text vs)
+pub values_plain : (vs : List NamedValue) → AllByRecursion ValueFits vs → HasNoFeed (values_text vs)
 values_plain [] fits = tt
 values_plain (v ∷ vs) fits = (refl, all_append IsPlainByte v.name (61 ∷ (signed_decimal v.value ++ values_text vs)) (name_plain v.name fits.0.name) (refl, all_append IsPlainByte (signed_decimal v.value) (values_text vs) (signed_plain v.value fits.0.value) (values_plain vs fits.1)))
 
@@ -53,7 +54,7 @@ clock_rest_plain : (ns : List ℕ) → AllByRecursion (λ n. n < 2 ^ 32) ns → 
 clock_rest_plain [] fits = tt
 clock_rest_plain (n ∷ ns) fits = (refl, all_append IsPlainByte (decimal n) (clock_rest ns) (decimal_plain n (omega (arith, fits.0))) (clock_rest_plain ns fits.1))
 
-clock_plain : (ns : List ℕ) → AllByRecursion (λ n. n < 2 ^ 32) ns → HasNoFeed (clock_text ns)
+pub clock_plain : (ns : List ℕ) → AllByRecursion (λ n. n < 2 ^ 32) ns → HasNoFeed (clock_text ns)
 clock_plain [] fits = tt
 clock_plain (n ∷ ns) fits = all_append IsPlainByte (decimal n) (clock_rest ns) (decimal_plain n (omega (arith, fits.0))) (clock_rest_plain ns fits.1)
 

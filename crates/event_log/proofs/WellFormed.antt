@@ -22,7 +22,7 @@ use Rattle.event_log.proofs.ReadLaws.{items-next, fine_next}
 use Rattle.event_log.proofs.Texts.{text_read, text_again}
 use Rattle.event_log.proofs.Lists.{length-onto}
 use Rattle.event_log.proofs.Plain.{log_plain}
-use Rattle.event_log.proofs.FaultLaws.{fault_free, fault-next, items_byte-next}
+use Rattle.event_log.proofs.FaultLaws.{fault_free, free_small, fault-next, items_byte-next}
 
 -- ---- a text without a fault is that of a log
 
@@ -42,7 +42,8 @@ fault_free_log bytes h =
     let e = ended_fault (onto bytes []) h in
     let f = fault_free (onto bytes []) e.0 in
     let r = text_read bytes (record { fine = f.fine; ended = e.1; whole = f.end_now e.1 }) in
-    (r.log, record { fits = r.fits; text_is = r.text_is; items_are = f.items_are ∙ r.items_are })
+    let small : length (log_text r.log) ≤ 67108864 = omega (arith, free_small (onto bytes []) e.0, length-onto bytes [], ap length r.text_is) in
+    (r.log, record { log_is = record { fits = r.fits; small = small }; text_is = r.text_is; items_are = f.items_are ∙ r.items_are })
 
 -- ---- the text of a log has no fault
 

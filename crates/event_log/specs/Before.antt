@@ -1,4 +1,5 @@
--- What the lines before a line say, and what a line gives after them. The lines are without their line feeds, the newest first.
+-- What the lines before a line say, and what a line gives after them. The lines are without their
+-- line feeds, the newest first.
 use Rattle.std.specs.Prelude.{◌≡◌, ℕ, ◌+◌, ◌-◌, Bool, true, false, not, ◌&&◌, ◌||◌, ◌==◌, nat_le, List, [], ◌∷◌, ◌++◌, length, map, replicate, Option, None, Some, is_some, unwrap_or, Result, Ok, Err, if◌then◌else◌}
 use Rattle.std.specs.Str.{bytes_eq}
 use Rattle.log_lines.specs.Names.{Name, place_of}
@@ -33,7 +34,8 @@ names (line ∷ older) = if length older == 1 then unwrap_or (procs_in line) [] 
 -- whether a line past the second doesn't begin with `vars`
 unfoldable pub is_header_over : List Line → Bool
 is_header_over [] = false
-is_header_over (line ∷ older) = (nat_le 2 (length older) && not (begins_vars line)) || is_header_over older
+is_header_over (line ∷ older) =
+    (nat_le 2 (length older) && not (begins_vars line)) || is_header_over older
 
 -- lists for as many processes, those added without variables
 abbrev pub filled : List (List Binding) → ℕ → List (List Binding)
@@ -49,18 +51,22 @@ with_variables variables (Some process) v = filled variables process ++ bindings
 
 -- the variables with those of a `vars` line
 abbrev pub variables_after : List Name → List (List Binding) → Line → List (List Binding)
-variables_after procs variables line = choose (vars_in line) (λ v. with_variables variables (place_of procs v.process) v) variables
+variables_after procs variables line =
+    choose (vars_in line) (λ v. with_variables variables (place_of procs v.process) v) variables
 
--- The variables of the processes up to that of the last `vars` line, where those lines stand before all others.
+-- The variables of the processes up to that of the last `vars` line, where those lines stand before
+-- all others.
 unfoldable pub variables : List Line → List (List Binding)
 variables [] = []
 variables (line ∷ older) =
-    if nat_le 2 (length older) && (not (is_header_over older) && begins_vars line) then variables_after (names older) (variables older) line
+    if nat_le 2 (length older) && (not (is_header_over older) && begins_vars line)
+    then variables_after (names older) (variables older) line
     else variables older
 
 -- the header that the lines spell
 abbrev pub header_of : List Line → Header
-header_of older = record { procs = names older; vars = filled (variables older) (length (names older)) }
+header_of older =
+    record { procs = names older; vars = filled (variables older) (length (names older)) }
 
 -- whether the line begins with `ev`
 abbrev pub begins_event : Line → Bool
@@ -69,7 +75,8 @@ begins_event line = is_some (text_at (101 ∷ 118 ∷ []) line)
 -- how many events there are
 unfoldable pub events : List Line → ℕ
 events [] = 0
-events (line ∷ older) = if nat_le 2 (length older) && begins_event line then events older + 1 else events older
+events (line ∷ older) =
+    if nat_le 2 (length older) && begins_event line then events older + 1 else events older
 
 -- whether the `end` line is among the lines
 unfoldable pub is_ended : List Line → Bool
@@ -105,7 +112,9 @@ vars_placed variables None = refuses code.UnknownProcess
 vars_placed variables (Some process) = requires code.BadLine (nat_le (length variables) process)
 
 abbrev pub vars_told : List Name → List (List Binding) → Line → Told
-vars_told procs variables line = choose (vars_in line) (λ v. vars_placed variables (place_of procs v.process)) (refuses code.BadLine)
+vars_told procs variables line =
+    choose (vars_in line) (λ v. vars_placed variables (place_of procs v.process))
+    (refuses code.BadLine)
 
 abbrev pub event_told : Result Event LogCode → Told
 event_told (Ok e) = gives (item.Event e ∷ [])
@@ -116,18 +125,23 @@ abbrev pub body_told : List Name → List (List Binding) → ℕ → ℕ → Lin
 body_told procs variables number events line =
     if bytes_eq line batch_line then gives (item.BatchEnd ∷ [])
     else if bytes_eq line end_line then gives (item.End ∷ [])
-    else choose (event_in line) (λ e. event_told (event_named procs variables number events e)) (refuses code.BadLine)
+    else choose (event_in line) (λ e. event_told (event_named procs variables number events e))
+    (refuses code.BadLine)
 
 -- the first line behind the header gives the header too, whatever is wrong with the line
 abbrev pub with_header : List Line → Told → Told
-with_header older told = if is_header_over older then told else record { items = item.Header (header_of older) ∷ told.items; fault = told.fault }
+with_header older told =
+    if is_header_over older then told
+    else record { items = item.Header (header_of older) ∷ told.items; fault = told.fault }
 
 unfoldable pub told : List Line → Line → Told
 told older line =
     if is_ended older then refuses code.Trailing
     else if length older == 0 then heading_told line
     else if length older == 1 then procs_told line
-    else if is_header_over older || not (begins_vars line) then with_header older (body_told (names older) (variables older) (length older + 1) (events older) line)
+    else if is_header_over older || not (begins_vars line)
+    then with_header older
+    (body_told (names older) (variables older) (length older + 1) (events older) line)
     else vars_told (names older) (variables older) line
 
 -- ---- lines without a fault

@@ -1,5 +1,5 @@
--- The first fault of a text and the items that it gives, looked up over all its bytes. Each byte is a moment, and the
--- bytes before it, the newest first, are its past.
+-- The first fault of a text and the items that it gives, looked up over all its bytes. Each byte is
+-- a moment, and the bytes before it, the newest first, are its past.
 use Rattle.std.specs.Prelude.{◌≡◌, ℕ, ◌+◌, Bool, not, ◌&&◌, ◌==◌, nat_lt, nat_le, List, [], ◌∷◌, ◌++◌, length, slice_index, Option, None, Some, is_some, if◌then◌else◌}
 use Rattle.std.specs.Option.{option_map}
 use Rattle.log_lines.specs.Reading.{choose}
@@ -16,8 +16,8 @@ use Rattle.event_log.specs.Moments.{line_now, lines}
 abbrev pub heading_line : List ℕ
 heading_line = heading ++ 10 ∷ []
 
--- The fault at a byte, by the number of bytes before it, whether the `end` line was completed, and the bytes of its line
--- before it: the first that is there.
+-- The fault at a byte, by the number of bytes before it, whether the `end` line was completed, and
+-- the bytes of its line before it: the first that is there.
 unfoldable pub byte_fault : ℕ → Bool → ℕ → ℕ → Option LogCode
 byte_fault total ended width b =
     if nat_le 67108864 total then Some code.LogTooLong
@@ -32,7 +32,9 @@ feed_told b past = if b == 10 then told (lines past) (line_now past) else gives 
 
 -- what the byte gives after its past
 abbrev pub moment_told : ℕ → List ℕ → Told
-moment_told b past = choose (byte_fault (length past) (is_ended (lines past)) (length (line_now past)) b) refuses (feed_told b past)
+moment_told b past =
+    choose (byte_fault (length past) (is_ended (lines past)) (length (line_now past)) b) refuses
+    (feed_told b past)
 
 -- a fault's line is 1 plus the line feeds before it
 abbrev pub placed : List ℕ → LogCode → LogFault
@@ -41,16 +43,20 @@ placed past fault = record { code = fault; line = length (lines past) + 1 }
 -- the first fault of the first moment that has one
 unfoldable pub first_fault : List ℕ → Option LogFault
 first_fault [] = None
-first_fault (b ∷ past) = choose (first_fault past) (λ f. Some f) (option_map (placed past) (moment_told b past).fault)
+first_fault (b ∷ past) =
+    choose (first_fault past) (λ f. Some f) (option_map (placed past) (moment_told b past).fault)
 
 -- the items of all moments up to the first that has a fault, which may give some before it
 unfoldable pub items : List ℕ → List Item
 items [] = []
-items (b ∷ past) = if is_some (first_fault past) then items past else items past ++ (moment_told b past).items
+items (b ∷ past) =
+    if is_some (first_fault past) then items past else items past ++ (moment_told b past).items
 
 -- the fault where the input ends there: the first one, else that the `end` line wasn't completed
 abbrev pub end_fault : List ℕ → Option LogFault
-end_fault past = choose (first_fault past) (λ f. Some f) (if is_ended (lines past) then None else Some (placed past code.Truncated))
+end_fault past =
+    choose (first_fault past) (λ f. Some f) (if is_ended (lines past) then None
+    else Some (placed past code.Truncated))
 
 -- the same over bytes in their order
 abbrev pub fault_of : List ℕ → Option LogFault

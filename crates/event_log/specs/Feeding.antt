@@ -1,4 +1,5 @@
--- What the reader of a log in pieces keeps of the bytes that it has read, their past, and what its calls give.
+-- What the reader of a log in pieces keeps of the bytes that it has read, their past, and what its
+-- calls give.
 use Rattle.std.specs.Prelude.{◌≡◌, ℕ, ◌+◌, List, ◌∷◌, ◌++◌, length, Option, None}
 use Rattle.std.specs.Option.{option_to_list}
 use Rattle.event_log.specs.declared.item.LogCode.{LogCode}
@@ -53,10 +54,16 @@ pub record LineGives (g : LineGiven) (past now : Past) : Type 0 where
   pub fault_is : g.fault ≡ first_fault now
 
 abbrev pub ClosesLine : Feeder → Past → LineGiven → Feeder → Type 0
-ClosesLine old line g new = (past : Past) → CountsLines old past → line ≡ line_now past → LineGives g past (10 ∷ past) × (g.fault ≡ None → CountsLines new (10 ∷ past))
+ClosesLine old line g new =
+    (past : Past) → CountsLines old past → line ≡ line_now past
+    → LineGives g past (10 ∷ past) × (g.fault ≡ None → CountsLines new (10 ∷ past))
 
 abbrev pub TakesFedLine : Feeder → Past → LineGiven → Feeder → Type 0
-TakesFedLine old line g new = (past : Past) → HasFed old past → LineGives g past (10 ∷ onto line past) × (g.fault ≡ None → HasFed new (10 ∷ onto line past))
+TakesFedLine old line g new =
+    (past : Past) → HasFed old past
+    → LineGives g past (10 ∷ onto line past) × (g.fault ≡ None → HasFed new (10 ∷ onto line past))
 
 abbrev pub TakesPiece : Feeder → Past → Fed → Feeder → Type 0
-TakesPiece old piece fed new = (past : Past) → HasFed old past → FedIs fed past (onto piece past) × (fed.fault ≡ None → HasFed new (onto piece past))
+TakesPiece old piece fed new =
+    (past : Past) → HasFed old past
+    → FedIs fed past (onto piece past) × (fed.fault ≡ None → HasFed new (onto piece past))

@@ -15,6 +15,6 @@ IsWellFormed bytes = end_fault (onto bytes []) ≡ None
 
 -- the bytes are the text of the log, and give its items
 pub record IsTextOf (bytes : List ℕ) (log : Log) : Type 0 where
-  pub fits : LogFits log
+  pub log_is : IsLog log
   pub text_is : bytes ≡ log_text log
   pub items_are : items_in bytes ≡ log_items log

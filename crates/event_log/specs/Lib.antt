@@ -8,3 +8,4 @@ pub mod Faults
 pub mod Feeding
 pub mod Reader
 pub mod Laws
+pub mod FittingItems

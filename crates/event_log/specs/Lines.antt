@@ -17,7 +17,8 @@ use Rattle.event_log.specs.declared.line_reader.Stage.TheVariants as stage
 use Rattle.event_log.specs.Before.{Line, names, variables, variables_after, events, is_header_over, is_ended, Told, gives, refuses, told}
 
 -- what was read, and this fault where it was malformed
-abbrev pub RefusedAs : {A : Type 0} → Result A LineError → LogCode → Result A (Refused LogCode) → Type 0
+abbrev pub RefusedAs : {A : Type 0} → Result A LineError → LogCode → Result A (Refused LogCode)
+    → Type 0
 RefusedAs (Ok x) code answer = answer ≡ Ok x
 RefusedAs (Err error.Malformed) code answer = answer ≡ Err (refused.Fault code)
 RefusedAs (Err error.NoMemory) code answer = answer ≡ Err refused.NoMemory
@@ -98,6 +99,9 @@ pub record Passes (old new : LineReader) (i : Item) : Type 0 where
   pub events_are : new.events ≡ events_after i old.events
   pub stage_is : new.stage ≡ stage_after i
 
--- What the lines so far and one line more give, unless memory ran out. Without a fault the reader has read that line too.
+-- What the lines so far and one line more give, unless memory ran out. Without a fault the reader
+-- has read that line too.
 abbrev pub TakesLine : LineReader → Line → LineTold → LineReader → Type 0
-TakesLine old line t new = (older : List Line) → HasReadLines old older → (told_of t ≡ told older line) × (t.fault ≡ None → HasReadLines new (line ∷ older))
+TakesLine old line t new =
+    (older : List Line) → HasReadLines old older
+    → (told_of t ≡ told older line) × (t.fault ≡ None → HasReadLines new (line ∷ older))

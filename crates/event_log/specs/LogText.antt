@@ -50,7 +50,9 @@ abbrev pub vars_lines : List Name → List (List Binding) → List Line
 vars_lines procs [] = []
 vars_lines [] (bindings ∷ others) = []
 vars_lines (p ∷ procs) ([] ∷ others) = vars_lines procs others
-vars_lines (p ∷ procs) ((b ∷ bindings) ∷ others) = vars_line (record { process = p; variables = values_of (b ∷ bindings) }) ∷ vars_lines procs others
+vars_lines (p ∷ procs) ((b ∷ bindings) ∷ others) =
+    vars_line (record { process = p; variables = values_of (b ∷ bindings) })
+    ∷ vars_lines procs others
 
 abbrev pub header_lines : Header → List Line
 header_lines h = heading ∷ procs_line h.procs ∷ vars_lines h.procs h.vars
@@ -122,7 +124,8 @@ KindWithin procs (kind.Receive sender id) = sender < procs
 abbrev pub KindFits : ℕ → ℕ → Kind → Type 0
 KindFits procs process kind.Internal = Unit {0}
 KindFits procs process (kind.Send to id) = (to < procs) × (to ≢ process) × (id < 2 ^ 64)
-KindFits procs process (kind.Receive sender id) = (sender < procs) × (sender ≢ process) × (id < 2 ^ 64)
+KindFits procs process (kind.Receive sender id) =
+    (sender < procs) × (sender ≢ process) × (id < 2 ^ 64)
 
 pub record AssignFits (variables : List Binding) (a : Assign) : Type 0 where
   pub variable : a.variable < length variables
@@ -136,7 +139,8 @@ pub record EventFits (h : Header) (e : Event) : Type 0 where
   pub kind : KindFits (length h.procs) e.process e.kind
   pub few : length e.assigns ≤ 16
   pub assigns : AllByRecursion (AssignFits (variables_at h.vars e.process)) e.assigns
-  pub distinct : are_distinct (names_of (map (named (variables_at h.vars e.process)) e.assigns)) ≡ true
+  pub distinct : are_distinct (names_of (map (named (variables_at h.vars e.process)) e.assigns))
+      ≡ true
 
 -- the events stand on the lines from this one on
 abbrev pub EventsFit : Header → ℕ → List Event → Type 0

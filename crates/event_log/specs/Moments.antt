@@ -1,4 +1,5 @@
--- Looking back over the bytes of a text. Each byte is a moment; the bytes so far, the newest first, are its past.
+-- Looking back over the bytes of a text. Each byte is a moment; the bytes so far, the newest first,
+-- are its past.
 use Rattle.std.specs.Prelude.{◌≡◌, ℕ, true, false, ◌==◌, List, [], ◌∷◌, ◌++◌, if◌then◌else◌}
 use Rattle.std.specs.List.{AllByRecursion}
 use Rattle.event_log.specs.Before.{Line, is_ended, AreFine}

@@ -37,8 +37,10 @@ variables_at variables process = slice_index_or variables process []
 
 abbrev pub kind_in : List Name → Action → Result Kind LogCode
 kind_in procs Internal = Ok kind.Internal
-kind_in procs (Send to id) = known code.UnknownProcess (place_of procs to) >>= λ p. Ok (kind.Send p id)
-kind_in procs (Receive sender id) = known code.UnknownProcess (place_of procs sender) >>= λ p. Ok (kind.Receive p id)
+kind_in procs (Send to id) =
+    known code.UnknownProcess (place_of procs to) >>= λ p. Ok (kind.Send p id)
+kind_in procs (Receive sender id) =
+    known code.UnknownProcess (place_of procs sender) >>= λ p. Ok (kind.Receive p id)
 
 -- whether a message is one from the process to itself
 abbrev pub is_to_itself : ℕ → Kind → Bool
@@ -48,15 +50,20 @@ is_to_itself process (kind.Receive sender id) = sender == process
 
 -- an assignment with its variable by number
 abbrev pub assign_in : List Name → NamedValue → Result Assign LogCode
-assign_in variables v = known code.UnknownVariable (place_of variables v.name) >>= λ i. Ok (record { variable = i; value = v.value })
+assign_in variables v =
+    known code.UnknownVariable (place_of variables v.name)
+    >>= λ i. Ok (record { variable = i; value = v.value })
 
 -- the assignments, after those in front
 unfoldable pub assigns_in : List Name → List Assign → List NamedValue → Result (List Assign) LogCode
 assigns_in variables front [] = Ok front
-assigns_in variables front (v ∷ vs) = assign_in variables v >>= λ a. assigns_in variables (front ++ a ∷ []) vs
+assigns_in variables front (v ∷ vs) =
+    assign_in variables v >>= λ a. assigns_in variables (front ++ a ∷ []) vs
 
--- The event of this line, after so many events of the log. The acting process is looked up first, then the peer of a message.
-unfoldable pub event_named : List Name → List (List Binding) → ℕ → ℕ → EventLine → Result Event LogCode
+-- The event of this line, after so many events of the log. The acting process is looked up first,
+-- then the peer of a message.
+unfoldable pub event_named : List Name → List (List Binding) → ℕ → ℕ → EventLine
+    → Result Event LogCode
 event_named procs variables line events e =
     known code.UnknownProcess (place_of procs e.actor) >>= λ process.
     kind_in procs e.action >>= λ kind.
@@ -64,7 +71,8 @@ event_named procs variables line events e =
     (guarded code.SelfMessage (not (is_to_itself process kind))
     (assigns_in (binding_names (variables_at variables process)) [] e.assigns >>= λ assigns.
     guarded code.TooManyEvents (nat_lt events 50000)
-    (Ok (record { process = process; line = line; clock = e.clock; kind = kind; assigns = assigns }))))
+    (Ok (record { process = process; line = line; clock = e.clock; kind = kind; assigns = assigns }
+    ))))
 
 -- what a function that may run out of memory returned is this
 abbrev pub Agrees : {A : Type 0} → Result A (Refused LogCode) → Result A LogCode → Type 0

@@ -1,6 +1,7 @@
 -- The data of a trace: the header, and the events of each process in their order.
-use Rattle.std.specs.Prelude.{◌≡◌, ℕ, ℤ, ◌+◌, ◌<◌, ◌≤◌, List, [], ◌∷◌, ◌++◌, length, map, take, set, sum, get_or, replicate}
+use Rattle.std.specs.Prelude.{◌≡◌, ℕ, ℤ, ◌+◌, ◌<◌, ◌≤◌, true, List, [], ◌∷◌, ◌++◌, length, map, take, set, sum, get_or, replicate}
 use Rattle.std.specs.List.{AllByRecursion}
+use Rattle.log_lines.specs.Names.{are_distinct}
 use Rattle.event_log.specs.declared.log.Binding.{Binding}
 use Rattle.event_log.specs.declared.log.Header.{Header}
 use Rattle.event_log.specs.declared.log.Kind.{Kind}
@@ -8,6 +9,7 @@ use Rattle.event_log.specs.declared.log.Kind.TheVariants as kind
 use Rattle.event_log.specs.declared.log.Assign.{Assign}
 use Rattle.event_log.specs.declared.log.Event.{Event}
 use Rattle.event_log.specs.declared.log.Log.{Log}
+use Rattle.event_log.specs.Numbers.{binding_names}
 use Rattle.run_model.specs.Run as run
 
 -- ---- logged values as the run model has them, without their lines
@@ -21,7 +23,8 @@ kind_of (kind.Send to id) = run.Send to id
 kind_of (kind.Receive sender id) = run.Receive sender id
 
 abbrev pub event_of : Event → run.Event
-event_of e = record { clock = e.clock; kind = kind_of e.kind; assigns = map assignment_of e.assigns }
+event_of e =
+    record { clock = e.clock; kind = kind_of e.kind; assigns = map assignment_of e.assigns }
 
 abbrev pub variable_of : Binding → run.Variable
 variable_of b = record { name = b.name; value = b.value }
@@ -73,7 +76,9 @@ abbrev pub processes_of : List (List ℕ) → List (List Binding) → List (List
 processes_of [] vars events = []
 processes_of (n ∷ ns) [] events = []
 processes_of (n ∷ ns) (v ∷ vs) [] = []
-processes_of (n ∷ ns) (v ∷ vs) (es ∷ ess) = record { name = n; variables = map variable_of v; events = map event_of es } ∷ processes_of ns vs ess
+processes_of (n ∷ ns) (v ∷ vs) (es ∷ ess) =
+    record { name = n; variables = map variable_of v; events = map event_of es }
+    ∷ processes_of ns vs ess
 
 abbrev pub trace_of : StatesView → run.Trace
 trace_of s = processes_of s.header.procs s.header.vars s.events
@@ -87,11 +92,23 @@ unfoldable pub with_batch : List (List Event) → List Event → List (List Even
 with_batch events [] = events
 with_batch events (e ∷ rest) = with_batch (with_event events e) rest
 
--- as many processes as lists of variables, 1 to 32
+-- no two variables have one name
+abbrev pub AreNamedApart : List Binding → Type 0
+AreNamedApart bindings = are_distinct (binding_names bindings) ≡ true
+
+-- 1 to 32 processes and a list of variables for each. No two processes have one name, nor have two
+-- variables of one process
 pub record IsHeader (header : Header) : Type 0 where
   pub some : 1 ≤ length header.procs
   pub few : length header.procs ≤ 32
   pub vars : length header.vars ≡ length header.procs
+  pub distinct : are_distinct header.procs ≡ true
+  pub variables : AllByRecursion AreNamedApart header.vars
+
+-- a header, and a list of events for each of its processes
+pub record AreWhole (s : StatesView) : Type 0 where
+  pub header : IsHeader s.header
+  pub events : length s.events ≡ length s.header.procs
 
 -- the process of the event is there, and so are the variables that it assigns
 pub record IsKnown (header : Header) (e : Event) : Type 0 where
@@ -99,7 +116,8 @@ pub record IsKnown (header : Header) (e : Event) : Type 0 where
   pub assigns : AssignsWithin (length (get_or header.vars e.process [])) e
 
 -- the batch may follow these events
-pub record MayFollow (header : Header) (events : List (List Event)) (batch : List Event) : Type 0 where
+pub record MayFollow (header : Header) (events : List (List Event)) (batch : List Event)
+    : Type 0 where
   pub known : AllByRecursion (IsKnown header) batch
   pub few : sum (map length events) + length batch ≤ 50000
 
@@ -108,8 +126,10 @@ pub record MayFollow (header : Header) (events : List (List Event)) (batch : Lis
 abbrev pub events_in : List HistoryView → List (List Event)
 events_in histories = map (λ (h : HistoryView). h.events) histories
 
--- the fields fit each other: one history for each process, with its opening values, and the shape is that of the events
-pub record AreStates (header : Header) (shape : List ℕ) (histories : List HistoryView) : Type 0 where
+-- the fields fit each other: one history for each process, with its opening values, and the shape
+-- is that of the events
+pub record AreStates (header : Header) (shape : List ℕ) (histories : List HistoryView)
+    : Type 0 where
   pub fits : IsHeader header
   pub openings : map (λ (h : HistoryView). h.opening) histories ≡ openings_of header.vars
   pub lens : shape ≡ map (λ (h : HistoryView). length h.events) histories
@@ -120,7 +140,10 @@ nothing = record { opening = []; events = [] }
 -- each history is the old one with more events behind it
 pub record Grown (old new : List HistoryView) : Type 0 where
   pub count : length new ≡ length old
-  pub each : (p : ℕ) → (more : List Event) × (get_or new p nothing ≡ record { opening = (get_or old p nothing).opening; events = (get_or old p nothing).events ++ more })
+  pub each : (p : ℕ) → (more : List Event)
+      × (get_or new p nothing ≡ record (get_or old p nothing) {
+        events = (get_or old p nothing).events ++ more;
+      })
 
 -- the history of the event's process is there, and has the variables that the event assigns
 pub record HasRoom (histories : List HistoryView) (e : Event) : Type 0 where
@@ -128,7 +151,8 @@ pub record HasRoom (histories : List HistoryView) (e : Event) : Type 0 where
   pub assigns : AssignsWithin (length (get_or histories e.process nothing).opening) e
 
 -- the new histories are the old ones with each event of the batch behind those of its process
-pub record Added (old : List HistoryView) (batch : List Event) (new : List HistoryView) : Type 0 where
+pub record Added (old : List HistoryView) (batch : List Event) (new : List HistoryView)
+    : Type 0 where
   pub grown : Grown old new
   pub events : events_in new ≡ with_batch (events_in old) batch
 
@@ -145,7 +169,10 @@ opened header = record { header = header; events = replicate (length header.proc
 
 -- the data of a log after all of its batches
 abbrev pub states_of : Log → StatesView
-states_of log = record { header = log.header; events = with_batches (replicate (length log.header.procs) []) log.batches }
+states_of log = record {
+  header = log.header;
+  events = with_batches (replicate (length log.header.procs) []) log.batches;
+}
 
 abbrev pub trace_of_log : Log → run.Trace
 trace_of_log log = trace_of (states_of log)

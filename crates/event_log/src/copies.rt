@@ -80,7 +80,8 @@ pub fn bindings_of(alloc: Global, settings: &[Setting<'_>]) -> Result<List<Bindi
 
 fn binding_of(alloc: Global, setting: Setting<'_>) -> Result<Binding, NoMemory>
     requires { is_name setting.name.now ≡ true }
-    ensures { IfOk result (λ b. b ≡ record { name = setting.entry.name.now; value = setting.entry.value }) }
+    ensures { IfOk result (λ b. b
+        ≡ record { name = setting.entry.name.now; value = setting.entry.value }) }
 {
     let name = name_of(alloc, setting.name)?;
     Ok(Binding {

@@ -39,7 +39,8 @@ pub struct LineGiven {
     fault: Option<LogFault>,
 }
 
-// The fault at a byte, by the number of bytes before it, whether the log has ended, and the bytes of the line before it.
+// The fault at a byte, by the number of bytes before it, whether the log has ended, and the bytes
+// of the line before it.
 #[tactic(auto, unfolding(crate::specs::Faults::byte_fault))]
 fn byte_fault(total: u32, ended: bool, width: usize, byte: u8) -> Option<LogCode>
     ensures { result ≡ byte_fault total ended width byte }
@@ -79,7 +80,11 @@ impl LineGiven {
 
     // What the line of this number was told to give.
     fn of(told: LineTold, line: u32) -> LineGiven
-        ensures { result ≡ record { header = told.header; item = told.item; fault = option_map (placed_at line) told.fault } }
+        ensures { result ≡ record {
+          header = told.header;
+          item = told.item;
+          fault = option_map (placed_at line) told.fault;
+        } }
     {
         LineGiven {
             header: told.header,
@@ -126,7 +131,8 @@ impl Feeder {
 
     // The fault at the next byte, after `width` bytes of its line.
     fn next_fault(&self, width: usize, byte: u8) -> Option<LogCode>
-        ensures known { (past : Past) → CountsLines self.now past → result ≡ byte_fault (length past) (is_ended (lines past)) width byte }
+        ensures known { (past : Past) → CountsLines self.now past
+            → result ≡ byte_fault (length past) (is_ended (lines past)) width byte }
         ensures room { result ≡ None → self.now.total < 67108864 }
     {
         byte_fault(self.total, self.reader.is_ended(), width, byte)
@@ -144,8 +150,10 @@ impl Feeder {
 
     // Whether as many bytes more, and no line feed among them, can have no fault.
     fn is_quiet(&self, len: usize) -> bool
-        ensures room { IsTrue result → (11 ≤ self.now.total) × (self.now.total + len ≤ 67108864) × (length self.now.line.items + len ≤ 4096) }
-        ensures open_ { IsTrue result → (past : Past) → CountsLines self.now past → is_ended (lines past) ≡ false }
+        ensures room { IsTrue result → (11 ≤ self.now.total) × (self.now.total + len ≤ 67108864)
+            × (length self.now.line.items + len ≤ 4096) }
+        ensures open_ { IsTrue result → (past : Past) → CountsLines self.now past
+            → is_ended (lines past) ≡ false }
     {
         if self.reader.is_ended() {
             return false;
@@ -216,7 +224,8 @@ impl Feeder {
         Ok(LineGiven::of(told, number))
     }
 
-    // The rest of a line, and its line feed. A line that lies whole in the piece is judged where it lies.
+    // The rest of a line, and its line feed. A line that lies whole in the piece is judged where it
+    // lies.
     fn take_line(&mut self, chunk: &[u8]) -> Result<LineGiven, NoMemory>
         requires { HasNoFeed chunk.now }
         ensures { IfOk result (λ given. TakesFedLine self.old chunk.now given self.new) }

@@ -33,12 +33,15 @@ impl Model for History {
     ghost invariant = { λ h. IsHistory h.width h.values.items h.events.items };
 }
 
-// The state after the last one in the rows of `width` values, under these assignments, as one more row.
+// The state after the last one in the rows of `width` values, under these assignments, as one more
+// row.
 fn push_state(values: &mut Vec<i64>, width: usize, assigns: &[Assign]) -> Result<(), NoMemory>
     requires last { width ≤ length values.old.items }
     requires within { AllByRecursion (λ (a : Assign). a.variable < width) assigns.now }
-    ensures ok { OnOk result (values.new.items ≡ values.old.items ++ assigned (drop (length values.old.items - width) values.old.items) (map assignment_of assigns.now)) }
-    ensures err { OnErr result (take (length values.old.items) values.new.items ≡ values.old.items) }
+    ensures ok { OnOk result (values.new.items ≡ values.old.items ++ assigned
+        (drop (length values.old.items - width) values.old.items) (map assignment_of assigns.now)) }
+    ensures err { OnErr result (take (length values.old.items) values.new.items
+        ≡ values.old.items) }
 {
     let next = values.len();
     for i in next - width..next {
@@ -54,7 +57,8 @@ fn push_state(values: &mut Vec<i64>, width: usize, assigns: &[Assign]) -> Result
 impl History {
     /// The history of a process with these variables, without events.
     pub fn new(alloc: Global, variables: &[Binding]) -> Result<History, NoMemory>
-        ensures { IfOk result (λ h. h ≡ record { opening = map (λ (b : Binding). b.value) variables.now; events = [] }) }
+        ensures { IfOk result (λ h. h
+            ≡ record { opening = map (λ (b : Binding). b.value) variables.now; events = [] }) }
     {
         let mut values = Vec::new(alloc);
         for variable in variables {
@@ -83,6 +87,15 @@ impl History {
         self.values[position * self.width + variable]
     }
 
+    /// The values of all variables after so many events, in the order of the variables.
+    pub fn state(&self, position: usize) -> &[i64]
+        requires { position ≤ length self.now.events }
+        ensures { result.now ≡ get_or (states_in self.now) position [] }
+    {
+        let start = position * self.width;
+        &self.values[start..start + self.width]
+    }
+
     /// The event at a position, counted from 1.
     pub fn event(&self, position: usize) -> &Event
         requires first { 1 ≤ position }
@@ -95,7 +108,8 @@ impl History {
     /// Adds an event. Without memory for it the history is as before, and the event is dropped.
     pub fn push(&mut self, event: Event) -> Result<(), NoMemory>
         requires { AssignsWithin (length self.old.opening) event }
-        ensures ok { OnOk result (self.new ≡ record self.old { events = self.old.events ++ event ∷ [] }) }
+        ensures ok { OnOk result (self.new
+            ≡ record self.old { events = self.old.events ++ event ∷ [] }) }
         ensures err { OnErr result (self.new ≡ self.old) }
     {
         let rows = self.values.len();

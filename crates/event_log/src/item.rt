@@ -67,7 +67,8 @@ pub enum Item {
     End,
 }
 
-/// What a piece of a log gives: the items that it completes, and the first fault among the bytes so far.
+/// What a piece of a log gives: the items that it completes, and the first fault among the bytes so
+/// far.
 #[derive(Debug, Drop)]
 pub struct Fed {
     pub items: List<Item>,

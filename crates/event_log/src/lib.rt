@@ -1,4 +1,16 @@
 //! The text of a log: what its lines say, the first fault of any text, and the text of a log.
+//!
+//! `Reader::feed` gives the items and the first fault of the bytes so far, however they are cut
+//! into pieces (`read`); after want of memory it answers that from then on (`spent`, `err`).
+//! `Reader::finish` gives the first fault of the whole text (`fault`). `write_log` writes the text
+//! of a log. Laws: that text has no fault and gives the log's items (`a_log_reads_back`); a text
+//! without a fault is that of a log that can be written (`no_fault_is_a_log`); the items of any
+//! bytes are those of a log, as far as they go (`items_fit`).
+//!
+//! `States` keeps the state of each process after each of its events (`state`, `value`) and takes a
+//! batch whole or not at all (`extend`).
+//!
+//! Not said: how much memory there is, and how long a call takes.
 #![tactic(auto)]
 
 mod copies;
@@ -15,14 +27,16 @@ mod split;
 mod states;
 mod writing;
 
+pub use copies::names_of;
 pub use history::History;
 pub use item::{Fed, Item, LogCode, LogFault};
-pub use laws::{a_log_reads_back, no_fault_is_a_log};
+pub use laws::{a_log_reads_back, items_fit, no_fault_is_a_log};
 pub use log::{Assign, Binding, Event, Header, Kind, Log};
 pub use pota_names::Name;
 pub use reader::Reader;
+pub use split::split_line;
 pub use states::States;
-pub use writing::write_log;
+pub use writing::{put_clock, put_names, put_spaced, write_log};
 
 #[cfg(test)]
 mod tests;

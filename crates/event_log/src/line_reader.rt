@@ -64,7 +64,8 @@ impl LineTold {
         header: Option<Header>,
         judged: Result<Option<Item>, Refused<LogCode>>,
     ) -> Result<LineTold, NoMemory>
-        ensures told { IfOk result (λ t. (told : Told) → JudgedAs judged told → told_of t ≡ record { items = header_items header ++ told.items; fault = told.fault }) }
+        ensures told { IfOk result (λ t. (told : Told) → JudgedAs judged told → told_of t
+            ≡ record { items = header_items header ++ told.items; fault = told.fault }) }
         ensures judged { IfOk result (λ t. t.fault ≡ None → IsOk judged) }
     {
         match judged {
@@ -172,9 +173,12 @@ impl LineReader {
         bindings: List<Binding>,
     ) -> Result<(), NoMemory>
         requires { length bindings ≤ 16 }
-        ensures variables { OnOk result (self.new.variables ≡ filled self.old.variables process ++ bindings ∷ []) }
+        ensures variables { OnOk result (self.new.variables
+            ≡ filled self.old.variables process ++ bindings ∷ []) }
         ensures counts { self.new.lines ≡ self.old.lines }
-        ensures same { OnOk result ((self.new.procs ≡ self.old.procs) × (self.new.lines ≡ self.old.lines) × (self.new.events ≡ self.old.events) × (self.new.stage ≡ self.old.stage)) }
+        ensures same { OnOk result ((self.new.procs ≡ self.old.procs)
+            × (self.new.lines ≡ self.old.lines) × (self.new.events ≡ self.old.events)
+            × (self.new.stage ≡ self.old.stage)) }
     {
         let before = std::mem::replace(&mut self.variables, List::new(alloc));
         let mut variables = filled(alloc, before, process)?;
@@ -186,7 +190,8 @@ impl LineReader {
     // A line behind the header.
     fn item_of(&self, alloc: Global, line: &[u8]) -> Result<Item, Refused<LogCode>>
         requires { self.now.lines < 2 ^ 32 - 1 }
-        ensures { JudgedItem result (body_told self.now.procs self.now.variables (self.now.lines + 1) self.now.events line.now) }
+        ensures { JudgedItem result (body_told self.now.procs self.now.variables
+            (self.now.lines + 1) self.now.events line.now) }
     {
         if is_batch(line) {
             return Ok(Item::BatchEnd);
@@ -224,7 +229,10 @@ impl LineReader {
 
     // The processes and their variables, once all are known.
     fn header(&self, alloc: Global) -> Result<Header, NoMemory>
-        ensures { IfOk result (λ h. h ≡ record { procs = self.now.procs; vars = filled self.now.variables (length self.now.procs) }) }
+        ensures { IfOk result (λ h. h ≡ record {
+          procs = self.now.procs;
+          vars = filled self.now.variables (length self.now.procs);
+        }) }
     {
         let procs = copy_of(alloc, self.procs.as_slice())?;
         let variables = copy_of(alloc, self.variables.as_slice())?;
@@ -235,7 +243,8 @@ impl LineReader {
     // A line behind the header, which has been read without a fault where it gave an item.
     fn take_body(&mut self, alloc: Global, line: &[u8]) -> Result<Option<Item>, Refused<LogCode>>
         requires { self.old.lines < 2 ^ 32 - 1 }
-        ensures told { JudgedAs result (body_told self.old.procs self.old.variables (self.old.lines + 1) self.old.events line.now) }
+        ensures told { JudgedAs result (body_told self.old.procs self.old.variables
+            (self.old.lines + 1) self.old.events line.now) }
         ensures next { IfOk result (λ i. IsSomeAnd i (Passes self.old self.new)) }
         ensures counts { self.new.lines ≤ self.old.lines + 1 }
     {

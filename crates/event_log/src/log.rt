@@ -1,4 +1,5 @@
-//! A log as values: names of processes and variables are numbers, from 0 in the order of the header.
+//! A log as values: names of processes and variables are numbers, from 0 in the order of the
+//! header.
 
 use log_lines::Named;
 use pota_base::List;
@@ -57,7 +58,8 @@ pub struct Event {
     pub assigns: List<Assign>,
 }
 
-/// A whole log. A log that was read has at least one batch; the last one was closed by the `end` line.
+/// A whole log. A log that was read has at least one batch; the last one was closed by the `end`
+/// line.
 #[derive(Debug, Drop)]
 pub struct Log {
     pub header: Header,

@@ -93,7 +93,8 @@ fn assigns_in(
     Ok(assigns)
 }
 
-/// The event of a line, after `events` events of the log. The acting process is looked up first, then the peer.
+/// The event of a line, after `events` events of the log. The acting process is looked up first,
+/// then the peer.
 #[tactic(auto, unfolding(crate::specs::Numbers::event_named))]
 pub fn event_named(
     alloc: Global,
@@ -105,7 +106,8 @@ pub fn event_named(
 ) -> Result<Event, Refused<LogCode>>
     requires few { length procs.now < 2 ^ 32 }
     requires narrow { All (λ bindings. length bindings < 2 ^ 32) variables.now }
-    ensures { Agrees result (event_named procs.now variables.now line events (event_of draft.entry)) }
+    ensures { Agrees result
+        (event_named procs.now variables.now line events (event_of draft.entry)) }
 {
     let process = process_of(procs, draft.actor)?;
     let kind = kind_in(procs, draft.action)?;

@@ -7,9 +7,11 @@ use crate::item::{Fed, LogCode, LogFault};
 use pota_base::{List, NoMemory};
 use std::alloc::Global;
 
-/// Reads the text of a log in pieces, whatever their lengths. What it gives are functions of the bytes so far.
+/// Reads the text of a log in pieces, whatever their lengths. What it gives are functions of the
+/// bytes so far.
 ///
-/// After a fault it gives no items and the same fault. After want of memory it answers want of memory.
+/// After a fault it gives no items and the same fault. After want of memory it answers want of
+/// memory.
 #[derive(Debug, Drop)]
 pub struct Reader {
     alloc: Global,
@@ -36,10 +38,11 @@ impl Reader {
         }
     }
 
-    /// Reads one piece more. Gives the items that the bytes so far complete and that were not given before, and the first
-    /// fault among the bytes so far.
+    /// Reads one piece more. Gives the items that the bytes so far complete and that were not given
+    /// before, and the first fault among the bytes so far.
     pub fn feed(&mut self, piece: &[u8]) -> Result<Fed, NoMemory>
-        ensures read { IfOk result (λ fed. (past : Past) → HasRead self.old past → FedIs fed past (onto piece.now past) × HasRead self.new (onto piece.now past)) }
+        ensures read { IfOk result (λ fed. (past : Past) → HasRead self.old past
+            → FedIs fed past (onto piece.now past) × HasRead self.new (onto piece.now past)) }
         // After want of memory every later piece meets it too.
         ensures spent { IsSpent self.old → IsErr result }
         ensures err { OnErr result (IsSpent self.new) }
@@ -65,10 +68,11 @@ impl Reader {
         }
     }
 
-    /// The input has ended. Gives the first fault of all its bytes, and `Truncated` where there is none and the `end` line
-    /// wasn't completed. It takes no memory.
+    /// The input has ended. Gives the first fault of all its bytes, and `Truncated` where there is
+    /// none and the `end` line wasn't completed. The reader is as before. It takes no memory.
     pub fn finish(&mut self) -> Option<LogFault>
-        ensures { (past : Past) → HasRead self.old past → result ≡ end_fault past }
+        ensures fault { (past : Past) → HasRead self.old past → result ≡ end_fault past }
+        ensures same { self.new ≡ self.old }
     {
         if self.fault.is_some() {
             return self.fault;

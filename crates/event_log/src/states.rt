@@ -1,10 +1,10 @@
 //! The data of a growing trace.
 ghost use Rattle.std.specs.Prelude.{◌≡◌, ℕ, ◌-◌, pos, ◌+◌, ◌<◌, ◌≤◌, [], List, length, map, get_or, replicate, slice_index_or, sum, IfOk, OnOk, OnErr};
 ghost use Rattle.std.specs.List.{AllByRecursion};
-ghost use Rattle.run_model.specs.Run.{state_after, process_at};
+ghost use Rattle.run_model.specs.Run.{state_after, states_of, process_at};
 ghost use Rattle.pota_base.specs.Shape.{HasEvent};
 ghost use Rattle.event_log.specs.declared.log.Event.{Event};
-ghost use Rattle.event_log.specs.States.{HistoryView, StatesView, IsHeader, IsKnown, MayFollow, openings_of, histories_of, with_batch, trace_of, events_in, nothing, Grown, HasRoom, Added};
+ghost use Rattle.event_log.specs.States.{HistoryView, StatesView, IsHeader, IsKnown, AreWhole, MayFollow, openings_of, histories_of, with_batch, trace_of, events_in, nothing, Grown, HasRoom, Added};
 
 use crate::history::History;
 use crate::log::{Event, Header};
@@ -12,8 +12,8 @@ use pota_base::{EventId, List, NoMemory, Shape};
 use std::alloc::Global;
 use std::marker::Model;
 
-/// The data of a trace: a header, and the events of each process in their order. It keeps the values
-/// of all variables after each event.
+/// The data of a trace: a header, and the events of each process in their order. It keeps the
+/// values of all variables after each event.
 #[derive(Debug, Drop)]
 pub struct States {
     header: Header,
@@ -28,7 +28,10 @@ impl Model for States {
 
     ghost Value = { StatesView };
 
-    ghost view = { λ s. record { header = s.header; events = map (λ (h : HistoryView). h.events) s.histories.items } };
+    ghost view = { λ s. record {
+      header = s.header;
+      events = map (λ (h : HistoryView). h.events) s.histories.items;
+    } };
 
     ghost invariant = { λ s. AreStates s.header s.shape s.histories.items };
 }
@@ -36,7 +39,8 @@ impl Model for States {
 // How many events each process has.
 fn lens_of(alloc: Global, histories: &[History]) -> Result<Vec<u32>, NoMemory>
     requires { sum (map (λ (h : HistoryView). length h.events) histories.now) ≤ 50000 }
-    ensures { IfOk result (λ lens. lens.items ≡ map (λ (h : HistoryView). length h.events) histories.now) }
+    ensures { IfOk result (λ lens. lens.items
+        ≡ map (λ (h : HistoryView). length h.events) histories.now) }
 {
     let mut lens = Vec::new(alloc);
     for history in histories {
@@ -48,9 +52,12 @@ fn lens_of(alloc: Global, histories: &[History]) -> Result<Vec<u32>, NoMemory>
 // Keeps the first events of each process, as many as the shape has.
 fn cut_back(histories: &mut Vec<History>, shape: &Shape)
     requires count { length shape.now ≡ length histories.old.items }
-    requires fits { (p : ℕ) → get_or shape.now p 0 ≤ length (get_or histories.old.items p nothing).events }
+    requires fits { (p : ℕ)
+        → get_or shape.now p 0 ≤ length (get_or histories.old.items p nothing).events }
     // Histories that have grown since they had this shape are again what they were.
-    ensures { (before : List HistoryView) → Grown before histories.old.items → shape.now ≡ map (λ (h : HistoryView). length h.events) before → histories.new.items ≡ before }
+    ensures { (before : List HistoryView) → Grown before histories.old.items
+        → shape.now ≡ map (λ (h : HistoryView). length h.events) before
+        → histories.new.items ≡ before }
 {
     for process in 0..shape.procs() {
         let len = shape.len_of(process);
@@ -76,7 +83,8 @@ impl States {
     /// The states of processes that have no events yet.
     pub fn new(alloc: Global, header: Header) -> Result<States, NoMemory>
         requires { IsHeader header }
-        ensures { IfOk result (λ s. s ≡ record { header = header; events = replicate (length header.procs) [] }) }
+        ensures { IfOk result (λ s. s
+            ≡ record { header = header; events = replicate (length header.procs) [] }) }
     {
         let mut histories = Vec::new(alloc);
         for variables in header.vars.as_slice() {
@@ -95,6 +103,7 @@ impl States {
     /// The names of the processes, and their variables.
     pub fn header(&self) -> &Header
         ensures header { result.now ≡ self.now.header }
+        ensures whole { AreWhole self.now }
     {
         &self.header
     }
@@ -111,15 +120,29 @@ impl States {
         requires process { process < length self.now.events }
         requires state { position ≤ length (get_or self.now.events process []) }
         requires variable { variable < length (get_or self.now.header.vars process []) }
-        ensures { result ≡ get_or (state_after (process_at (trace_of self.now) process) position) variable (pos 0) }
+        ensures { result ≡ get_or
+            (state_after (process_at (trace_of self.now) process) position) variable (pos 0) }
     {
         self.histories[process as usize].value(position as usize, variable as usize)
     }
 
-    /// The event at a position of a process.
+    /// The state of a process after so many of its events: the values of its variables, in their
+    /// order.
+    pub fn state(&self, process: u32, position: u32) -> &[i64]
+        requires process { process < length self.now.events }
+        requires state { position ≤ length (get_or self.now.events process []) }
+        ensures state { result.now
+            ≡ get_or (states_of (process_at (trace_of self.now) process)) position [] }
+        ensures width { length result.now ≡ length (get_or self.now.header.vars process []) }
+    {
+        self.histories[process as usize].state(position as usize)
+    }
+
+    /// The event at a position of a process, counted from 1.
     pub fn event(&self, event: EventId) -> &Event
         requires { HasEvent (map length self.now.events) event }
-        ensures { result.now ≡ slice_index_or (get_or self.now.events event.process []) (event.position - 1) result.now }
+        ensures { result.now ≡ slice_index_or (get_or self.now.events event.process [])
+            (event.position - 1) result.now }
     {
         self.histories[event.process as usize].event(event.position as usize)
     }
@@ -127,7 +150,8 @@ impl States {
     /// Puts the events of a batch behind those that are there. Without memory it is as before.
     pub fn extend(&mut self, batch: List<Event>) -> Result<(), NoMemory>
         requires { MayFollow self.old.header self.old.events batch }
-        ensures ok { OnOk result (self.new ≡ record self.old { events = with_batch self.old.events batch }) }
+        ensures ok { OnOk result (self.new
+            ≡ record self.old { events = with_batch self.old.events batch }) }
         ensures err { OnErr result (self.new ≡ self.old) }
     {
         match grow(self.alloc, &mut self.histories, batch.into_vec()) {
@@ -149,8 +173,10 @@ fn grow(alloc: Global, histories: &mut Vec<History>, batch: Vec<Event>) -> Resul
     requires room { AllByRecursion (HasRoom histories.old.items) batch.items }
     requires some { 1 ≤ length histories.old.items }
     requires few { length histories.old.items ≤ 32 }
-    requires events { sum (map length (events_in histories.old.items)) + length batch.items ≤ 50000 }
-    ensures ok { IfOk result (λ shape. Added histories.old.items batch.items histories.new.items × (shape ≡ map (λ (h : HistoryView). length h.events) histories.new.items)) }
+    requires events { sum (map length (events_in histories.old.items)) + length batch.items
+        ≤ 50000 }
+    ensures ok { IfOk result (λ shape. Added histories.old.items batch.items histories.new.items
+        × (shape ≡ map (λ (h : HistoryView). length h.events) histories.new.items)) }
     ensures grown { Grown histories.old.items histories.new.items }
 {
     add_all(histories, batch)?;

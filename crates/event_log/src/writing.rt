@@ -22,8 +22,8 @@ fn put_spaced(out: &mut Bytes, word: &[u8]) -> Result<(), NoMemory>
     out.extend_from_slice(word)
 }
 
-// ` NAME NAME ..`
-fn put_names(out: &mut Bytes, names: &[Name]) -> Result<(), NoMemory>
+/// Writes ` NAME` for each of the names.
+pub fn put_names(out: &mut Bytes, names: &[Name]) -> Result<(), NoMemory>
     ensures { OnOk result (out.new ≡ out.old ++ names_text names.now) }
 {
     for name in names {
@@ -34,7 +34,8 @@ fn put_names(out: &mut Bytes, names: &[Name]) -> Result<(), NoMemory>
 
 // ` NAME=INT`
 fn put_value(out: &mut Bytes, name: &[u8], value: i64) -> Result<(), NoMemory>
-    ensures { OnOk result (out.new ≡ out.old ++ values_text (record { name = name.now; value = value } ∷ [])) }
+    ensures { OnOk result (out.new
+        ≡ out.old ++ values_text (record { name = name.now; value = value } ∷ [])) }
 {
     put_spaced(out, name)?;
     out.push(b'=')?;
@@ -58,7 +59,8 @@ fn put_bindings(out: &mut Bytes, bindings: &[Binding]) -> Result<(), NoMemory>
 
 fn put_assign(out: &mut Bytes, variables: &[Binding], assign: Assign) -> Result<(), NoMemory>
     requires { assign.variable < length variables.now }
-    ensures { OnOk result (out.new ≡ out.old ++ values_text (named_values variables.now (assign ∷ []))) }
+    ensures { OnOk result (out.new
+        ≡ out.old ++ values_text (named_values variables.now (assign ∷ []))) }
 {
     put_value(
         out,
@@ -69,7 +71,8 @@ fn put_assign(out: &mut Bytes, variables: &[Binding], assign: Assign) -> Result<
 
 fn put_assigns(out: &mut Bytes, variables: &[Binding], assigns: &[Assign]) -> Result<(), NoMemory>
     requires { AllByRecursion (AssignFits variables.now) assigns.now }
-    ensures { OnOk result (out.new ≡ out.old ++ values_text (named_values variables.now assigns.now)) }
+    ensures { OnOk result (out.new
+        ≡ out.old ++ values_text (named_values variables.now assigns.now)) }
 {
     for assign in assigns {
         put_assign(out, variables, *assign)?;
@@ -88,7 +91,8 @@ fn put_clock_rest(out: &mut Bytes, clock: &[u32]) -> Result<(), NoMemory>
     Ok(())
 }
 
-fn put_clock(out: &mut Bytes, clock: &[u32]) -> Result<(), NoMemory>
+/// Writes the counts of a clock or a cut, with commas between them.
+pub fn put_clock(out: &mut Bytes, clock: &[u32]) -> Result<(), NoMemory>
     ensures { OnOk result (out.new ≡ out.old ++ clock_text clock.now) }
 {
     match clock {
@@ -175,7 +179,8 @@ fn put_batches(out: &mut Bytes, header: &Header, batches: &[List<Event>]) -> Res
 
 // The `vars` line of a process, where it has variables.
 fn put_vars(out: &mut Bytes, process: &Name, bindings: &[Binding]) -> Result<(), NoMemory>
-    ensures { OnOk result (out.new ≡ out.old ++ text_of (vars_lines (process.now ∷ []) (bindings.now ∷ []))) }
+    ensures { OnOk result (out.new
+        ≡ out.old ++ text_of (vars_lines (process.now ∷ []) (bindings.now ∷ []))) }
 {
     if bindings.is_empty() {
         return Ok(());

@@ -40,7 +40,12 @@ action_of (drafted.Send to id) = Send to.now id
 action_of (drafted.Receive sender id) = Receive sender.now id
 
 abbrev pub event_of : EventDraft → EventLine
-event_of e = record { actor = e.actor.now; clock = e.clock.items; action = action_of e.action; assigns = values_of e.settings.items }
+event_of e = record {
+  actor = e.actor.now;
+  clock = e.clock.items;
+  action = action_of e.action;
+  assigns = values_of e.settings.items;
+}
 
 abbrev pub vars_of : VarsDraft → VarsLine
 vars_of v = record { process = v.process.now; variables = values_of v.settings.items }

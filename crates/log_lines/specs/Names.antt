@@ -9,7 +9,8 @@ Name = List ℕ
 -- the place of the first of the names, counted from `start`, that is this one
 abbrev pub place_from : ℕ → List Name → Name → Option ℕ
 place_from start [] name = None
-place_from start (n ∷ ns) name = if bytes_eq n name then Some start else place_from (start + 1) ns name
+place_from start (n ∷ ns) name =
+    if bytes_eq n name then Some start else place_from (start + 1) ns name
 
 abbrev pub place_of : List Name → Name → Option ℕ
 place_of names name = place_from 0 names name

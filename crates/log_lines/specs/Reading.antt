@@ -1,5 +1,5 @@
--- Reading a line from left to right: what stands at the front of the bytes, with the bytes after it, or None where it
--- does not stand there. What was read before stands in the argument `front`.
+-- Reading a line from left to right: what stands at the front of the bytes, with the bytes after
+-- it, or None where it does not stand there. What was read before stands in the argument `front`.
 use Rattle.std.specs.Prelude.{ℕ, zero, suc, ◌+◌, ◌-◌, ◌^◌, Bool, ◌&&◌, ◌==◌, nat_lt, nat_le, List, [], ◌∷◌, ◌++◌, length, take, drop, slice_index, Option, None, Some, is_some, if◌then◌else◌}
 pub use Rattle.pota_base.specs.Number.{◌>>=◌, number_at, signed_at}
 use Rattle.log_lines.specs.Names.{Name, is_name_start, is_name_byte, are_distinct}
@@ -19,7 +19,9 @@ front test [] = 0
 front test (b ∷ bs) = if test b then front test bs + 1 else 0
 
 abbrev pub name_of : ℕ → List ℕ → Option (Name × List ℕ)
-name_of k bytes = if (nat_lt 0 k && nat_le k 64) && is_name_start (slice_index bytes 0) then Some (take k bytes, drop k bytes) else None
+name_of k bytes =
+    if (nat_lt 0 k && nat_le k 64) && is_name_start (slice_index bytes 0)
+    then Some (take k bytes, drop k bytes) else None
 
 -- the longest run of letters, digits and underscores, where it is a name
 unfoldable pub name_at : List ℕ → Option (Name × List ℕ)
@@ -40,9 +42,12 @@ value_at bytes = do
 -- ---- lists, to the end of the line
 
 -- at most `most` items more, each read by `item_at`
-unfoldable pub items_from : {A : Type 0} → (List ℕ → Option (A × List ℕ)) → ℕ → List A → List ℕ → Option (List A)
+unfoldable pub items_from : {A : Type 0} → (List ℕ → Option (A × List ℕ)) → ℕ → List A → List ℕ
+    → Option (List A)
 items_from item_at zero front bytes = if length bytes == 0 then Some front else None
-items_from item_at (suc most) front bytes = if length bytes == 0 then Some front else (item_at bytes >>= λ x. items_from item_at most (front ++ x.0 ∷ []) x.1)
+items_from item_at (suc most) front bytes =
+    if length bytes == 0 then Some front
+    else (item_at bytes >>= λ x. items_from item_at most (front ++ x.0 ∷ []) x.1)
 
 abbrev pub names_from : ℕ → List Name → List ℕ → Option (List Name)
 names_from most front bytes = items_from spaced_name_at most front bytes
@@ -65,7 +70,8 @@ choose (Some x) some none = some x
 unfoldable pub clock_from : ℕ → List ℕ → List ℕ → Option (List ℕ × List ℕ)
 clock_from zero front bytes = Some (front, bytes)
 clock_from (suc fuel) front bytes =
-    choose (text_at (44 ∷ []) bytes) (λ after. number_at (2 ^ 32 - 1) after >>= λ n. clock_from fuel (front ++ n.0 ∷ []) n.1)
+    choose (text_at (44 ∷ []) bytes)
+    (λ after. number_at (2 ^ 32 - 1) after >>= λ n. clock_from fuel (front ++ n.0 ∷ []) n.1)
     (Some (front, bytes))
 
 unfoldable pub clock_at : List ℕ → Option (List ℕ × List ℕ)
@@ -111,7 +117,8 @@ vars_in line = do
   rest ← text_at (118 ∷ 97 ∷ 114 ∷ 115 ∷ []) line
   process ← spaced_name_at rest
   variables ← values_at process.1
-  if nat_lt 0 (length variables) then Some (record { process = process.0; variables = variables }) else None
+  if nat_lt 0 (length variables)
+      then Some (record { process = process.0; variables = variables }) else None
 
 unfoldable pub procs_in : List ℕ → Option (List Name)
 procs_in line = do

@@ -65,7 +65,9 @@ vars_line v = 118 ∷ 97 ∷ 114 ∷ 115 ∷ 32 ∷ (v.process ++ values_text v.
 
 -- `ev NAME CLOCK KIND NAME=INT ..`
 abbrev pub event_line : EventLine → List ℕ
-event_line e = 101 ∷ 118 ∷ 32 ∷ (e.actor ++ 32 ∷ (clock_text e.clock ++ 32 ∷ (action_text e.action ++ values_text e.assigns)))
+event_line e =
+    101 ∷ 118 ∷ 32
+    ∷ (e.actor ++ 32 ∷ (clock_text e.clock ++ 32 ∷ (action_text e.action ++ values_text e.assigns)))
 
 -- `batch`
 abbrev pub batch_line : List ℕ

@@ -90,9 +90,11 @@ fn procs_in(alloc: Global, line: &[u8]) -> Result<Vec<&[u8]>, LineError>
 /// The event that the line spells.
 pub fn read_event(alloc: Global, line: &[u8]) -> Result<EventDraft<'_>, LineError>
     // What is read is spelled so.
-    ensures found { IfOk result (λ e. EventLineFits (event_of e) × (line.now ≡ event_line (event_of e))) }
+    ensures found { IfOk result (λ e. EventLineFits (event_of e)
+        × (line.now ≡ event_line (event_of e))) }
     // What is spelled so is read, unless memory runs out.
-    ensures only { (e : EventLine) → EventLineFits e → line.now ≡ event_line e → Gives event_of result (Some e) }
+    ensures only { (e : EventLine) → EventLineFits e → line.now ≡ event_line e
+        → Gives event_of result (Some e) }
     ensures exact { Gives event_of result (event_in line.now) }
 {
     event_in(alloc, line)
@@ -100,8 +102,10 @@ pub fn read_event(alloc: Global, line: &[u8]) -> Result<EventDraft<'_>, LineErro
 
 /// The variables of a process, with their opening values, that the line spells.
 pub fn read_vars(alloc: Global, line: &[u8]) -> Result<VarsDraft<'_>, LineError>
-    ensures found { IfOk result (λ v. VarsLineFits (vars_of v) × (line.now ≡ vars_line (vars_of v))) }
-    ensures only { (v : VarsLine) → VarsLineFits v → line.now ≡ vars_line v → Gives vars_of result (Some v) }
+    ensures found { IfOk result (λ v. VarsLineFits (vars_of v)
+        × (line.now ≡ vars_line (vars_of v))) }
+    ensures only { (v : VarsLine) → VarsLineFits v → line.now ≡ vars_line v
+        → Gives vars_of result (Some v) }
     ensures exact { Gives vars_of result (vars_in line.now) }
 {
     vars_in(alloc, line)
@@ -109,8 +113,10 @@ pub fn read_vars(alloc: Global, line: &[u8]) -> Result<VarsDraft<'_>, LineError>
 
 /// The names of the processes that the line spells, in their order.
 pub fn read_procs(alloc: Global, line: &[u8]) -> Result<Vec<&[u8]>, LineError>
-    ensures found { IfOk result (λ names. ProcsFit (texts_of names.items) × (line.now ≡ procs_line (texts_of names.items))) }
-    ensures only { (names : List Name) → ProcsFit names → line.now ≡ procs_line names → Gives (λ ns. texts_of ns.items) result (Some names) }
+    ensures found { IfOk result (λ names. ProcsFit (texts_of names.items)
+        × (line.now ≡ procs_line (texts_of names.items))) }
+    ensures only { (names : List Name) → ProcsFit names → line.now ≡ procs_line names
+        → Gives (λ ns. texts_of ns.items) result (Some names) }
     ensures exact { Gives (λ names. texts_of names.items) result (procs_in line.now) }
 {
     procs_in(alloc, line)

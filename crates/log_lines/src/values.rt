@@ -72,7 +72,8 @@ pub fn values_at(alloc: Global, bytes: &[u8]) -> Result<Vec<Setting<'_>>, LineEr
 }
 
 fn clock_from(alloc: Global, first: u32, bytes: &[u8]) -> Result<(Vec<u32>, &[u8]), LineError>
-    ensures { Gives (λ x. (x.0.items, x.1.now)) result (clock_from (length bytes.now) (first ∷ []) bytes.now) }
+    ensures { Gives (λ x. (x.0.items, x.1.now)) result
+        (clock_from (length bytes.now) (first ∷ []) bytes.now) }
 {
     let mut clock = Vec::new(alloc);
     clock.push(first)?;

@@ -1,4 +1,5 @@
--- Numbers at the front of some bytes: decimal digits, without a leading zero, with `-` before a negative number.
+-- Numbers at the front of some bytes: decimal digits, without a leading zero, with `-` before a
+-- negative number.
 use Rattle.std.specs.Prelude.{ℕ, ℤ, pos, negsuc, ◌+◌, ◌-◌, ◌*◌, ◌^◌, Bool, ◌&&◌, ◌==◌, nat_lt, nat_le, List, [], ◌∷◌, Option, None, Some, if◌then◌else◌}
 use Rattle.std.specs.Borrow.{Bor}
 
@@ -23,7 +24,8 @@ unfoldable pub digits_from : ℕ → ℕ → ℕ → List ℕ → Option (ℕ ×
 digits_from most value len [] = digits_end value len []
 digits_from most value len (b ∷ rest) = if is_digit b then
     (if is_leading_zero value len then None
-    else if nat_le (value * 10 + (b - 48)) most then digits_from most (value * 10 + (b - 48)) (len + 1) rest
+    else if nat_le (value * 10 + (b - 48)) most
+    then digits_from most (value * 10 + (b - 48)) (len + 1) rest
     else None)
     else digits_end value len (b ∷ rest)
 
@@ -33,7 +35,8 @@ number_at most bytes = digits_from most 0 0 bytes
 
 -- the number after a `-`, which isn't 0
 abbrev pub minus_at : List ℕ → Option (ℤ × List ℕ)
-minus_at bytes = number_at (2 ^ 63) bytes >>= λ n. if n.0 == 0 then None else Some (negsuc (n.0 - 1), n.1)
+minus_at bytes =
+    number_at (2 ^ 63) bytes >>= λ n. if n.0 == 0 then None else Some (negsuc (n.0 - 1), n.1)
 
 abbrev pub plus_at : List ℕ → Option (ℤ × List ℕ)
 plus_at bytes = number_at (2 ^ 63 - 1) bytes >>= λ n. Some (pos n.0, n.1)

@@ -11,11 +11,13 @@ pub record HasCause {T E : Type 0} (before now : ℕ) (result : Result T E) : Ty
   pub later : before ≤ now
   pub failed : OnErr result (Rose before now)
 
--- At `Ok(n)` the sink has taken the first n bytes of the piece, and took none of some only where its count rose;
--- at `Err` it has taken nothing.
-abbrev pub WriteHolds : {E : Type 0} → Option (List ℕ) → Option (List ℕ) → ℕ → ℕ → Result ℕ E → List ℕ → Type 0
+-- At `Ok(n)` the sink has taken the first n bytes of the piece, and took none of some only where
+-- its count rose; at `Err` it has taken nothing.
+abbrev pub WriteHolds : {E : Type 0} → Option (List ℕ) → Option (List ℕ) → ℕ → ℕ → Result ℕ E
+    → List ℕ → Type 0
 WriteHolds held held' before now result piece = MatchResult result
-    (λ n. (n ≤ length piece) × Appends held held' (take n piece) × (n ≡ 0 → 0 < length piece → Rose before now))
+    (λ n. (n ≤ length piece) × Appends held held' (take n piece)
+    × (n ≡ 0 → 0 < length piece → Rose before now))
     (λ _. Keeps held held')
 
 -- the first list is the front of the second

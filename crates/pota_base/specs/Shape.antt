@@ -13,11 +13,13 @@ pub record HasEvent (lens : List ℕ) (event : EventId) : Type 0 where
   pub first : 1 ≤ event.position
   pub last : event.position ≤ slice_index lens event.process
 
--- the row order: row 0 is the bottom's, then come the events of process 0 in order, then those of process 1, and so on
+-- the row order: row 0 is the bottom's, then come the events of process 0 in order, then those of
+-- process 1, and so on
 abbrev pub row_of : List ℕ → EventId → ℕ
 row_of lens event = sum (take event.process lens) + event.position
 
 -- where each process's rows begin, less one: what came before it
 pub record AreStarts (lens starts : List ℕ) : Type 0 where
   pub count : length starts ≡ length lens + 1
-  pub each : (process : ℕ) → process ≤ length lens → slice_index starts process ≡ sum (take process lens)
+  pub each : (process : ℕ) → process ≤ length lens
+      → slice_index starts process ≡ sum (take process lens)

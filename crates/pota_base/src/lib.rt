@@ -1,4 +1,5 @@
-//! What every crate of the analyser stands on: lists, the shape of a run, the outside, numbers, and the answers of a call.
+//! What every crate of the analyser stands on: lists, the shape of a run, the outside, numbers, and
+//! the answers of a call.
 #![tactic(auto)]
 
 mod fault;

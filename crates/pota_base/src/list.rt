@@ -76,7 +76,8 @@ impl<T> List<T> {
         &self.items[i]
     }
 
-    /// Puts `item` in the place of the item at index `i`, and gives the old one. It takes no memory.
+    /// Puts `item` in the place of the item at index `i`, and gives the old one. It takes no
+    /// memory.
     pub fn replace(&mut self, i: usize, item: T) -> T
         requires { i < length self.old }
         ensures item { slice_get self.old i ≡ Some result }

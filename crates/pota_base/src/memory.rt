@@ -36,13 +36,20 @@ pub struct MemSource {
 impl Model for MemSource {
     ghost Value = { SourceState };
 
-    ghost view = { λ s. record { bytes = drop s.at s.bytes.items; faults = s.faults; calls = s.calls; most = s.most; failing = s.failing.items } };
+    ghost view = { λ s. record {
+      bytes = drop s.at s.bytes.items;
+      faults = s.faults;
+      calls = s.calls;
+      most = s.most;
+      failing = s.failing.items;
+    } };
 
     ghost invariant = { λ s. (s.at ≤ length s.bytes.items) × (1 ≤ s.most) };
 }
 
 impl MemSource {
-    /// A source of these bytes, at most `most` a call, that fails at the calls that `failing` numbers.
+    /// A source of these bytes, at most `most` a call, that fails at the calls that `failing`
+    /// numbers.
     pub fn new(
         alloc: Global,
         bytes: &[u8],
@@ -50,7 +57,8 @@ impl MemSource {
         failing: &[u64],
     ) -> Result<MemSource, NoMemory>
         requires { 1 ≤ most }
-        ensures { IfOk result (λ s. s ≡ record { bytes = bytes.now; faults = 0; calls = 0; most = most; failing = failing.now }) }
+        ensures { IfOk result (λ s. s ≡ record
+            { bytes = bytes.now; faults = 0; calls = 0; most = most; failing = failing.now }) }
     {
         Ok(MemSource {
             bytes: bytes.to_vec(alloc)?,
@@ -74,7 +82,9 @@ impl Source for MemSource {
         ensures cause { HasCause self.old.faults self.new.faults result }
 
         ensures fails { IsErr result ↔ (is_named self.old.failing self.old.calls ≡ true) }
-        ensures gives { IfOk result (λ n. (n ≡ min self.old.most (min (length self.old.bytes) (length into.old))) × (self.new ≡ given self.old n)) }
+        ensures gives { IfOk result (λ n.
+            (n ≡ min self.old.most (min (length self.old.bytes) (length into.old)))
+            × (self.new ≡ given self.old n)) }
         ensures err { OnErr result (self.new ≡ given_up self.old) }
     {
         self.calls = self.calls.saturating_add(1);
@@ -102,7 +112,14 @@ pub struct MemSink {
 impl Model for MemSink {
     ghost Value = { SinkState };
 
-    ghost view = { λ s. record { bytes = take s.len s.bytes.items; faults = s.faults; calls = s.calls; most = s.most; room = length s.bytes.items; failing = s.failing.items } };
+    ghost view = { λ s. record {
+      bytes = take s.len s.bytes.items;
+      faults = s.faults;
+      calls = s.calls;
+      most = s.most;
+      room = length s.bytes.items;
+      failing = s.failing.items;
+    } };
 
     ghost invariant = { λ s. (s.len ≤ length s.bytes.items) × (1 ≤ s.most) };
 }
@@ -117,7 +134,8 @@ impl MemSink {
         failing: &[u64],
     ) -> Result<MemSink, NoMemory>
         requires { 1 ≤ most }
-        ensures { IfOk result (λ s. s ≡ record { bytes = []; faults = 0; calls = 0; most = most; room = room; failing = failing.now }) }
+        ensures { IfOk result (λ s. s ≡ record
+            { bytes = []; faults = 0; calls = 0; most = most; room = room; failing = failing.now }) }
     {
         Ok(MemSink {
             bytes: vec![in alloc; 0u8; room]?,
@@ -143,13 +161,17 @@ impl Sink for MemSink {
     ghost faults = { λ s. s.faults };
 
     fn write(&mut self, piece: &[u8]) -> Result<usize, Failed>
-        ensures bytes { WriteHolds (Some self.old.bytes) (Some self.new.bytes) self.old.faults self.new.faults result piece.now }
+        ensures bytes { WriteHolds (Some self.old.bytes) (Some self.new.bytes) self.old.faults
+            self.new.faults result piece.now }
         ensures cause { HasCause self.old.faults self.new.faults result }
 
         ensures fails { IsErr result ↔ (is_named self.old.failing self.old.calls ≡ true) }
-        ensures count { IfOk result (λ n. n ≡ min self.old.most (min (length piece.now) (self.old.room - length self.old.bytes))) }
-        ensures takes { OnOk result (length self.old.bytes < self.old.room → IfOk result (λ n. self.new ≡ taken self.old (take n piece.now))) }
-        ensures full { OnOk result (length self.old.bytes ≡ self.old.room → 0 < length piece.now → self.new ≡ refused self.old) }
+        ensures count { IfOk result (λ n. n
+            ≡ min self.old.most (min (length piece.now) (self.old.room - length self.old.bytes))) }
+        ensures takes { OnOk result (length self.old.bytes < self.old.room
+            → IfOk result (λ n. self.new ≡ taken self.old (take n piece.now))) }
+        ensures full { OnOk result (length self.old.bytes ≡ self.old.room → 0 < length piece.now
+            → self.new ≡ refused self.old) }
         ensures err { OnErr result (self.new ≡ refused self.old) }
     {
         self.calls = self.calls.saturating_add(1);

@@ -1,7 +1,7 @@
 //! The outside: where bytes come from and where they go.
 //!
-//! What a source has left and what a sink holds may be untold, as it is for standard input. Then the
-//! clauses on bytes say nothing, and those on the counts of faults stand.
+//! What a source has left and what a sink holds may be untold, as it is for standard input. Then
+//! the clauses on bytes say nothing, and those on the counts of faults stand.
 ghost use Rattle.std.specs.Prelude.{◌≡◌, ℕ, ◌<◌, ◌≤◌, List, Option, OnOk, OnErr};
 ghost use Rattle.std.specs.Io.{ReadsAtMost};
 ghost use Rattle.std.specs.Io.KnownBytes.{Appends, ReadConsumes};
@@ -11,15 +11,16 @@ use crate::Failed;
 
 /// Bytes that come piece by piece.
 ///
-/// `left` is what is still to come, where that is told; `faults` counts the failures so far. A count
-/// never falls, and at 2^64 - 1 it stays: from there on every failure is taken to have its cause.
+/// `left` is what is still to come, where that is told; `faults` counts the failures so far. A
+/// count never falls, and at 2^64 - 1 it stays: from there on every failure is taken to have its
+/// cause.
 pub trait Source {
     ghost left: { Self → Option (List ℕ) };
 
     ghost faults: { Self → ℕ };
 
-    /// Reads some bytes into the front of `into`, and says how many. 0 bytes into room for some mean
-    /// the end of the input.
+    /// Reads some bytes into the front of `into`, and says how many. 0 bytes into room for some
+    /// mean the end of the input.
     ///
     /// # Errors
     ///
@@ -39,14 +40,15 @@ pub trait Sink {
 
     ghost faults: { Self → ℕ };
 
-    /// Takes some bytes from the front of `piece`, and says how many. To take none of some counts as
-    /// a fault.
+    /// Takes some bytes from the front of `piece`, and says how many. To take none of some counts
+    /// as a fault.
     ///
     /// # Errors
     ///
     /// `Failed` where the writing failed; nothing was taken then.
     fn write(&mut self, piece: &[u8]) -> Result<usize, Failed>
-        ensures bytes { WriteHolds (held self.old) (held self.new) (faults self.old) (faults self.new) result piece.now }
+        ensures bytes { WriteHolds (held self.old) (held self.new) (faults self.old)
+            (faults self.new) result piece.now }
         ensures cause { HasCause (faults self.old) (faults self.new) result };
 }
 

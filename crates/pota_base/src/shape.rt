@@ -16,7 +16,8 @@ pub struct EventId {
 
 /// How many events each process of a run has. Contracts see the list of these lengths.
 ///
-/// The rows of a shape are numbered: row 0 is the bottom's, then come the events of process 0 in order, then those of process 1.
+/// The rows of a shape are numbered: row 0 is the bottom's, then come the events of process 0 in
+/// order, then those of process 1.
 #[derive(Debug, Drop)]
 pub struct Shape {
     lens: Vec<u32>,
@@ -32,7 +33,8 @@ impl Model for Shape {
 
     ghost view = { λ shape. shape.lens.items };
 
-    ghost invariant = { λ shape. IsShape shape.lens.items × AreStarts shape.lens.items shape.starts.items };
+    ghost invariant = { λ shape. IsShape shape.lens.items
+        × AreStarts shape.lens.items shape.starts.items };
 }
 
 impl Shape {

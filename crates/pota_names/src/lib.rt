@@ -1,4 +1,5 @@
-//! The names of processes, variables and watches, which the text of a log and that of a formula spell alike.
+//! The names of processes, variables and watches, which the text of a log and that of a formula
+//! spell alike.
 #![tactic(auto)]
 
 ghost use Rattle.pota_names.specs.Names.{is_name, is_name_byte, is_name_start};
@@ -45,7 +46,8 @@ fn are_name(bytes: &[u8]) -> bool
     }
 }
 
-/// A name, seen as its bytes. Each value is a name: a letter or `_`, then letters, digits or `_`, 1 to 64 bytes in all.
+/// A name, seen as its bytes. Each value is a name: a letter or `_`, then letters, digits or `_`, 1
+/// to 64 bytes in all.
 #[derive(Debug, Drop)]
 pub struct Name {
     bytes: List<u8>,
@@ -68,7 +70,8 @@ impl Model for Name {
 impl Name {
     /// The name that the bytes spell, and `None` exactly where they are no name.
     pub fn new(alloc: Global, bytes: &[u8]) -> Result<Option<Name>, NoMemory>
-        ensures { IfOk result (λ found. MatchOption found (is_name bytes.now ≡ false) (λ name. IsTrue (is_name bytes.now) × (name ≡ bytes.now))) }
+        ensures { IfOk result (λ found. MatchOption found (is_name bytes.now ≡ false)
+            (λ name. IsTrue (is_name bytes.now) × (name ≡ bytes.now))) }
     {
         if !are_name(bytes) {
             return Ok(None);

@@ -146,11 +146,11 @@ unfolding lengths
 lengths_in [] = refl
 lengths_in (es ∷ ess) = ap (λ (k : ℕ). k ∷ lengths (clocks_in ess)) (length-map es (λ (e : Event). e.clock)) ∙ ap (λ (c : Cut). length es ∷ c) (lengths_in ess)
 
-clock_at : (ess : List (List Event)) (i a : ℕ) → 0 < a → a ≤ length (get_or ess i []) → clock (clocks_in ess) i a ≡ (get_or (get_or ess i []) (a - 1) no_event).clock
+clock_at : (ess : List (List Event)) (i a : ℕ) → a + 1 ≤ length (get_or ess i []) → clock (clocks_in ess) i (suc a) ≡ (get_or (get_or ess i []) a no_event).clock
 unfolding clock
-clock_at [] i a some le = absurd (omega arith)
-clock_at (es ∷ ess) zero a some le = get_or-map (λ (e : Event). e.clock) es (a - 1) no_event [] (omega arith)
-clock_at (es ∷ ess) (suc i) a some le = clock_at ess i a some le
+clock_at [] i a le = absurd (omega (arith, le))
+clock_at (es ∷ ess) zero a le = get_or-map (λ (e : Event). e.clock) es a no_event [] (omega (arith, le))
+clock_at (es ∷ ess) (suc i) a le = clock_at ess i a le
 
 pub record Logged (log : Log) : Type 0 where
   pub apart : IsApart (run.clocks_of (trace_of_log log))
@@ -164,7 +164,10 @@ apart_of n ess k order = record {
   own = order.own;
   others = λ i a j e other.
       let le : a ≤ length (get_or ess i []) = omega (arith, e.1, length_at ess i) in
-      ap (λ (c : Cut). count c j) (clock_at ess i a e.0 le) ∙ k.all i (a - 1) no_event (omega (arith, e.0, le)) j other;
+      let next : a ≡ suc (a - 1) = omega (arith, e.0) in
+      let before : a - 1 + 1 ≤ length (get_or ess i []) = omega (arith, e.0, le) in
+      ap (λ (n : ℕ). count (clock (clocks_in ess) i n) j) next
+      ∙ ap (λ (c : Cut). count c j) (clock_at ess i (a - 1) before) ∙ k.all i (a - 1) no_event (omega (arith, before)) j other;
 }
 
 -- what the run of such a log is

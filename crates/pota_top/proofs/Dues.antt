@@ -23,7 +23,8 @@ use Rattle.pota_top.specs.declared.outcome.Fault.{Fault}
 use Rattle.pota_top.specs.declared.outcome.Fault.TheVariants as fault
 use Rattle.pota_top.specs.Request.{Condition}
 use Rattle.pota_top.specs.Due.{first_foreign, events_of, Growth, Judgement, waiting, growing, refused, events_before, are_known, closing, judge, judged, Due, told, not_apart, judgement_of, due}
-use Rattle.pota_top.specs.Session.{FitFrom, MayFollow, events_in}
+use Rattle.event_log.specs.FittingItems.{FitFrom}
+use Rattle.pota_top.specs.Session.{MayFollow, events_in}
 
 -- ---- items one after the other
 
@@ -93,22 +94,6 @@ follows_first (growing g) item.End rest fit = tt
 follows_first (refused n f) i rest fit = tt
 
 -- ---- bytes
-
--- a text without a fault is no longer than a log may be
-pub within_limit : (past : List ℕ) → first_fault past ≡ None → length past ≤ 67108864
-within_limit [] none = omega arith
-within_limit (b ∷ past) none =
-    let before = fault_before b past none in
-    let room = byte_room (length past) (is_ended (lines past)) (length (line_now past)) b (no_byte (byte_fault (length past) (is_ended (lines past)) (length (line_now past)) b) (mapped (moment_told b past).fault (sym (fault-next b past before) ∙ none))) in
-    omega (arith, room)
-  where
-    mapped : (o : Option LogCode) → option_map (placed past) o ≡ None → o ≡ None
-    mapped None h = refl
-    mapped (Some c) h = absurd (none-some (placed past c) (sym h))
-
-    no_byte : (o : Option LogCode) → (choose o refuses (feed_told b past)).fault ≡ None → o ≡ None
-    no_byte None h = refl
-    no_byte (Some c) h = absurd (none-some c (sym h))
 
 -- later bytes add items behind those before
 items_byte : (c : ℕ) (before : List ℕ) → (more : List Item) × (items (c ∷ before) ≡ items before ++ more)

@@ -30,7 +30,7 @@ use Rattle.pota_top.specs.Session.{IsTraceFor}
 use Rattle.pota_top.specs.Run.{IsTrueAtStart, IsLogFor, no_watches}
 use Rattle.pota_top.proofs.Apart.{logged, log_kept, clocks_in}
 use Rattle.pota_top.proofs.Logs.{counted_all}
-use Rattle.pota_top.proofs.Named.{names_are, place_is}
+use Rattle.event_log.proofs.NameNumbers.{names_are, place_is}
 use Rattle.pota_top.proofs.Reaching.{reached_passes, passes_reached}
 
 few_at : (vars : List (List Binding)) (i : ℕ) → AllByRecursion BindingsFit vars → length (variables_at vars i) ≤ 16
@@ -66,7 +66,7 @@ place_within (n ∷ ns) start p name h = elim (cases_Bool (bytes_eq n name)) [
 there_of : (s : StatesView) (cs : List Condition) → IsWhole s → AreNamed s.header cs → AreThere (trace_of s) cs
 there_of s [] w named = tt
 there_of s (c ∷ cs) w named =
-    let names = names_are s w in
+    let names = names_are s w.vars w.events in
     let count : length (trace_of s) ≡ length s.header.procs = sym (length-map (trace_of s) (λ (p : Process). p.name)) ∙ ap length names in
     let number : number_of c.process (names_in (trace_of s)) ≡ named.0.process =
     ap (number_of c.process) names ∙ place_is s.header.procs c.process named.0.process named.0.process_there in
@@ -80,7 +80,7 @@ decides bytes log cs b h order passing =
     let l = logged log h.is.fits h.apart order in
     let w = log_whole bytes cs log h in
     let t = trace_of_log log in
-    let names = names_are (states_of log) w in
+    let names = names_are (states_of log) w.vars w.events in
     let size : length t ≡ length (states_of log).events =
     sym (length-map t (λ (p : Process). p.name)) ∙ ap length names ∙ sym l.processes in (
       λ yes. passes_reached t no_watches cs l.apart (there_of (states_of log) cs w h.named)

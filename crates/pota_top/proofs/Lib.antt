@@ -1,10 +1,8 @@
 pub mod RequestLaws
 pub mod Words
-pub mod Spelled
 pub mod Telling
 pub mod Reaching
 pub mod Named
-pub mod Fitting
 pub mod Dues
 pub mod SessionSteps
 pub mod Logs

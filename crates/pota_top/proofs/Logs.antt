@@ -34,7 +34,7 @@ use Rattle.pota_top.specs.Request.{Condition}
 use Rattle.pota_top.specs.Due.{line_behind, first_foreign, events_of, Growth, Judgement, waiting, growing, refused, counted, are_known, opened, closing, closed, judged, Due, judgement_of, due, line_count, told, not_apart, events_before, judge}
 use Rattle.pota_top.specs.Run.{IsLogFor}
 use Rattle.pota_top.specs.Session.{HasTaken, IsTraceFor}
-use Rattle.pota_top.proofs.Dues.{judged-none, judged-one, refused-stays, within_limit}
+use Rattle.pota_top.proofs.Dues.{judged-none, judged-one, refused-stays}
 use Rattle.pota_top.proofs.SessionSteps.{known_named, named_known, with_batches-push}
 use Rattle.std.specs.Prelude.{if◌then◌else◌}
 use Rattle.std.specs.Option.{option_map}
@@ -172,14 +172,6 @@ log_due cs bytes log l =
     let apart : first_foreign (events_of log.batches ++ []) ≡ None = ap first_foreign (append-nil (events_of log.batches)) ∙ l.apart in
     rw (all, free, apart) (ap (λ (n : ℕ). let d : Due = record { batches = n; fault = None } in d) (counted_all log l.is))
 
--- no fault at the end is none before
-free_before : (bytes : List ℕ) → end_fault (onto bytes []) ≡ None → fault_of bytes ≡ None
-free_before bytes h = go (fault_of bytes) h
-  where
-    go : (o : Option LogFault) → choose o (λ f. Some f) (if is_ended (lines (onto bytes [])) then None else Some (placed (onto bytes []) code.Truncated)) ≡ None → o ≡ None
-    go None k = refl
-    go (Some f) k = absurd (none-some f (sym k))
-
 -- the log of which the bytes are the text
 pub record LogOf (cs : List Condition) (bytes : List ℕ) (g : Growth) : Type 0 where
   pub log : Log
@@ -200,11 +192,10 @@ log_of cs bytes g ended is apart =
     let all : judged cs waiting (log_items log) ≡ growing g = ap (judged cs waiting) (sym l.1.items_are) ∙ is in
     let known = taken_log cs log g all in
     let same : kept log.header log.batches ≡ g = ap (growth_in g) known.is in
-    let small : length (log_text log) ≤ 67108864 = omega (arith, within_limit (onto bytes []) (free_before bytes ended), length-onto bytes [], ap length l.1.text_is) in
     record {
       log = log;
       logged = record {
-        is = record { fits = l.1.fits; small = small };
+        is = l.1.log_is;
         spelled = l.1.text_is;
         ordered = known.free;
         named = known_named log.header cs known.known;

@@ -24,9 +24,11 @@ use Rattle.pota_top.specs.declared.reading.Turn.{Turn}
 use Rattle.pota_top.specs.declared.reading.Turn.TheVariants as turn
 use Rattle.pota_top.specs.Request.{Condition}
 use Rattle.pota_top.specs.Due.{Growth, Judgement, waiting, growing, refused, judged, Due, told, judgement_of, due}
-use Rattle.pota_top.specs.Session.{IsGrowth, FitFirst, MayFollow, IsSession, batches_in, Takes, Hands, HasJudged, IsDue, IsTraceFor, TakesPiece, Finishes, StopsAt, TurnsTo, Turns, HasReadLog}
-use Rattle.pota_top.proofs.Fitting.{items_fit}
-use Rattle.pota_top.proofs.Dues.{judged-append, follows_all, within_limit, IsOfLog, due_of_log}
+use Rattle.event_log.specs.FittingItems.{FitFirst}
+use Rattle.pota_top.specs.Session.{IsGrowth, MayFollow, IsSession, batches_in, Takes, Hands, HasJudged, IsDue, IsTraceFor, TakesPiece, Finishes, StopsAt, TurnsTo, Turns, HasReadLog}
+use Rattle.event_log.proofs.FittingItems.{items_fit}
+use Rattle.event_log.proofs.FaultLaws.{free_small}
+use Rattle.pota_top.proofs.Dues.{judged-append, follows_all, IsOfLog, due_of_log}
 use Rattle.pota_top.proofs.Logs.{finished, header_stands}
 
 -- ---- one piece
@@ -224,7 +226,7 @@ module _ (left now : Option (List ℕ)) (lf lf_now : ℕ) (cs : List Condition) 
       let t = more_turned x s' is turned h.bytes h.judged_so in
       let before = total_is cs r s h.bytes h.judged_so in
       let after = total_is cs r' s' (h.bytes ++ t.read) t.to.1 in
-      let limit = within_limit (onto (h.bytes ++ t.read) []) t.to.1.free in
+      let limit = free_small (onto (h.bytes ++ t.read) []) t.to.1.free in
       omega (arith, before, after, limit, length-onto (h.bytes ++ t.read) [], length-append h.bytes t.read, t.to.0)
 
   stopped_at : (stop : Stop) (lf_at : ℕ) (bytes : List ℕ) → lf ≤ lf_at → StopsAt stop.fault stop.batches left' lf_at lf' cs bytes → StopsAt stop.fault stop.batches left' lf lf' cs bytes

@@ -309,6 +309,3 @@ batches_of (session.Open o) j is k e =
   where
     open_in : (x y : Growing) → session.Open x ≡ session.Open y → x ≡ y
     open_in x y h = cc
-
-pub header_known : (h : Header) → HeaderFits h → IsHeader h
-header_known h fits = record { some = fits.procs.some; few = fits.procs.few; vars = fits.all }

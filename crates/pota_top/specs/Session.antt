@@ -12,6 +12,7 @@ use Rattle.event_log.specs.declared.log.Header.{Header}
 use Rattle.event_log.specs.declared.log.Log.{Log}
 use Rattle.event_log.specs.declared.reader.Reader.{Reader}
 use Rattle.event_log.specs.Faults.{fault_of}
+use Rattle.event_log.specs.FittingItems.{FitFrom, FitFirst}
 use Rattle.event_log.specs.LogText.{onto, HeaderFits, EventFits, event_count}
 use Rattle.event_log.specs.Reader.{HasRead}
 use Rattle.event_log.specs.States.{with_batches}
@@ -30,22 +31,6 @@ use Rattle.pota_top.specs.Due.{counted, Growth, Judgement, waiting, growing, ref
 use Rattle.pota_top.specs.Run.{IsLogFor}
 
 -- ---- items that may follow
-
--- items of a log with this header behind so many events
-abbrev pub FitFrom : Header → ℕ → List Item → Type 0
-FitFrom h events [] = Unit {0}
-FitFrom h events (item.Header other ∷ items) = ⊥
-FitFrom h events (item.Event e ∷ items) = EventFits h e × (events < 50000) × FitFrom h (events + 1) items
-FitFrom h events (item.BatchEnd ∷ items) = FitFrom h events items
-FitFrom h events (item.End ∷ items) = FitFrom h events items
-
--- items of a log from its header on
-abbrev pub FitFirst : List Item → Type 0
-FitFirst [] = Unit {0}
-FitFirst (item.Header h ∷ items) = HeaderFits h × FitFrom h 0 items
-FitFirst (item.Event e ∷ items) = ⊥
-FitFirst (item.BatchEnd ∷ items) = ⊥
-FitFirst (item.End ∷ items) = ⊥
 
 abbrev pub events_in : Growth → ℕ
 events_in g = event_count g.closed + length g.open_

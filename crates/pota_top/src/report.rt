@@ -1,47 +1,12 @@
 //! The text of a report.
-ghost use Rattle.std.specs.Prelude.{◌≡◌, ◌++◌, ◌∷◌, [], map, codes, OnOk, IfOk, length, ◌<◌};
-ghost use Rattle.std.specs.Fmt.{decimal};
-ghost use Rattle.log_lines.specs.Spelling.{names_text, clock_text, clock_rest};
+ghost use Rattle.std.specs.Prelude.{◌≡◌, ◌++◌, OnOk, IfOk};
 ghost use Rattle.pota_top.specs.Report.{Report, report_text, truth_text};
 
-use event_log::Name;
+use event_log::{Name, put_clock, put_names};
 use pota_base::{Bytes, NoMemory, put_u64};
 use std::alloc::Global;
 
-// Appends ` NAME` for each name.
-fn put_names(out: &mut Bytes, names: &[Name]) -> Result<(), NoMemory>
-    ensures { OnOk result (out.new ≡ out.old ++ names_text names.now) }
-{
-    for name in names {
-        out.push(b' ')?;
-        out.extend_from_slice(name.as_bytes())?;
-    }
-    Ok(())
-}
-
-// Appends `,NAT` for each number.
-fn put_further(out: &mut Bytes, counts: &[u32]) -> Result<(), NoMemory>
-    ensures { OnOk result (out.new ≡ out.old ++ clock_rest counts.now) }
-{
-    for count in counts {
-        out.push(b',')?;
-        put_u64(out, u64::from(*count))?;
-    }
-    Ok(())
-}
-
-// Appends `NAT,NAT..`.
-fn put_cut(out: &mut Bytes, counts: &[u32]) -> Result<(), NoMemory>
-    ensures { OnOk result (out.new ≡ out.old ++ clock_text counts.now) }
-{
-    let Some((first, rest)) = counts.split_first() else {
-        return Ok(());
-    };
-    put_u64(out, u64::from(*first))?;
-    put_further(out, rest)
-}
-
-// Appends the name of a field, and a space.
+// Appends `true` or `false`.
 fn put_truth(out: &mut Bytes, truth: bool) -> Result<(), NoMemory>
     ensures { OnOk result (out.new ≡ out.old ++ truth_text truth) }
 {
@@ -69,7 +34,7 @@ pub fn report_text(
     out.extend_from_slice(b"\nprocs")?;
     put_names(&mut out, procs)?;
     out.extend_from_slice(b"\nlengths ")?;
-    put_cut(&mut out, lengths)?;
+    put_clock(&mut out, lengths)?;
     out.extend_from_slice(b"\nformula ")?;
     out.extend_from_slice(formula)?;
     out.extend_from_slice(b"\nverdict ")?;

@@ -1,4 +1,8 @@
 pub mod Marks
+pub mod PullLists
+pub mod FirstNumbers
+pub mod Growing
+pub mod Asking
 pub mod Starts
 pub mod Sums
 pub mod Pulls

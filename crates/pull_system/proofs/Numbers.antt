@@ -11,7 +11,7 @@ abbrev pub source_in : List Pull → ℕ → ℕ
 source_in pulls k = (slice_index_or pulls k no_pull).src
 
 -- one pull more: it is from the process, or not
-numbers_case : (pulls : List Pull) (process count : ℕ)
+pub numbers_case : (pulls : List Pull) (process count : ℕ)
     → ((source_in pulls count ≡ process) × (numbers_from pulls process (suc count) ≡ numbers_from pulls process count ++ count ∷ []))
     ⊎ ((source_in pulls count ≢ process) × (numbers_from pulls process (suc count) ≡ numbers_from pulls process count))
 numbers_case pulls process count =

@@ -1,25 +1,27 @@
 -- The starts of the rows, by their places.
-use Rattle.std.proofs.Common.{◌≡◌, ℕ, zero, suc, ◌+◌, ◌-◌, ◌*◌, ◌<◌, ◌≤◌, ◌⊎◌, inl, inr, Bool, List, [], ◌∷◌, ◌++◌, length, sum, get_or, set, take, refl, arith, length-append, ap, ◌∙◌, sym}
+use Rattle.std.proofs.Common.{◌≡◌, ℕ, zero, suc, ◌+◌, ◌-◌, ◌*◌, ◌<◌, ◌≤◌, ◌⊎◌, inl, inr, Bool, List, [], ◌∷◌, ◌++◌, length, sum, get_or, set, take, drop, refl, arith, length-append, ap, ◌∙◌, sym}
 use Rattle.std.specs.Prelude.{nat_le, if◌then◌else◌}
 use Rattle.std.proofs.lemmas.Bool.Decides.{leb_tells}
-use Rattle.std.proofs.lemmas.List.{get_or-append-add}
+use Rattle.std.proofs.lemmas.List.{get_or-append-add, get_or-take, get_or-drop, length-take, length-drop, ext_get_or}
 use Rattle.std.proofs.lemmas.List.Sums.{sum_by-cons}
 use Rattle.std.proofs.Math.ListN.{get_or-append}
 use Rattle.std.proofs.Math.Nat.{mul-le-mul_left}
 use Rattle.pota_base.specs.Shape.{IsShape}
 use Rattle.pull_system.specs.Vector.{IsVector}
-use Rattle.pull_system.specs.Rows.{start_of, first_starts, starts, place_of, AreRows}
+use Rattle.pull_system.specs.Rows.{start_of, first_rows, starts, place_of, row_at, AreRows}
 
 pub length-start_of : (lens : List ℕ) (row : ℕ) → length (start_of lens row) ≡ length lens
 length-start_of [] row = refl
 length-start_of (len ∷ lens) row = ap (λ n. suc n) (length-start_of lens (row - len))
 
-pub length-first_starts : (lens : List ℕ) (rows : ℕ) → length (first_starts lens rows) ≡ rows * length lens
-length-first_starts lens zero = omega arith
-length-first_starts lens (suc rows) = omega (arith, length-append (first_starts lens rows) (start_of lens rows), length-first_starts lens rows, length-start_of lens rows)
+-- rows of one size, one after the other
+pub length-first_rows : (row_of : ℕ → List ℕ) (size rows : ℕ) → ((row : ℕ) → row < rows → length (row_of row) ≡ size) → length (first_rows row_of rows) ≡ rows * size
+length-first_rows row_of size zero sizes = omega arith
+length-first_rows row_of size (suc rows) sizes =
+    omega (arith, length-append (first_rows row_of rows) (row_of rows), length-first_rows row_of size rows (λ row below. sizes row (omega arith)), sizes rows (omega arith))
 
 pub length_starts : (lens : List ℕ) → length (starts lens) ≡ (sum lens + 1) * length lens
-length_starts lens = length-first_starts lens (sum lens + 1)
+length_starts lens = length-first_rows (start_of lens) (length lens) (sum lens + 1) (λ row _. length-start_of lens row)
 
 pub are_rows : (lens words : List ℕ) → IsShape lens → words ≡ starts lens → AreRows record { lens = lens; words = words }
 are_rows lens words shape same = record { shape = shape; size = ap length same ∙ length_starts lens }
@@ -34,11 +36,11 @@ start_of-bottom [] process = refl
 start_of-bottom (len ∷ lens) zero = elim (head_case len 0) [ inl h ↦ h.1 | inr h ↦ h.1 ]
 start_of-bottom (len ∷ lens) (suc process) = ap (λ row. get_or (start_of lens row) process 0) (omega arith) ∙ start_of-bottom lens process
 
-cons_same : (x y : ℕ) (xs ys : List ℕ) → x ≡ y → xs ≡ ys → x ∷ xs ≡ y ∷ ys
+pub cons_same : (x y : ℕ) (xs ys : List ℕ) → x ≡ y → xs ≡ ys → x ∷ xs ≡ y ∷ ys
 cons_same x y xs ys p q = cc
 
 -- the row is among the first process's
-in_head : (len : ℕ) (lens : List ℕ) (row : ℕ) → row ≤ len → start_of (len ∷ lens) row ≡ row ∷ start_of lens 0
+pub in_head : (len : ℕ) (lens : List ℕ) (row : ℕ) → row ≤ len → start_of (len ∷ lens) row ≡ row ∷ start_of lens 0
 in_head len lens row within =
     elim (head_case len row) [
       | inl h ↦ cons_same _ _ _ _ h.1 (ap (λ r. start_of lens r) (omega arith))
@@ -46,7 +48,7 @@ in_head len lens row within =
     ]
 
 -- the row is past the first process's
-in_tail : (len : ℕ) (lens : List ℕ) (row rest : ℕ) → 1 ≤ rest → row ≡ len + rest → start_of (len ∷ lens) row ≡ 0 ∷ start_of lens rest
+pub in_tail : (len : ℕ) (lens : List ℕ) (row rest : ℕ) → 1 ≤ rest → row ≡ len + rest → start_of (len ∷ lens) row ≡ 0 ∷ start_of lens rest
 in_tail len lens row rest first same =
     elim (head_case len row) [
       | inl h ↦ absurd (omega (arith, h.0))
@@ -73,19 +75,63 @@ start_of-vector lens row = record { size = length-start_of lens row; within = st
 last : (k count : ℕ) → k < suc count → (k < count) ⊎ (k ≡ count)
 last k count h = grind arith
 
-pub first_starts-place : (lens : List ℕ) (rows row process : ℕ) → row < rows → process < length lens → get_or (first_starts lens rows) (row * length lens + process) 0 ≡ get_or (start_of lens row) process 0
-first_starts-place lens zero row process below there = absurd (omega arith)
-first_starts-place lens (suc rows) row process below there =
+pub first_rows-place : (row_of : ℕ → List ℕ) (size rows : ℕ) → ((row : ℕ) → row < rows → length (row_of row) ≡ size) → (row process : ℕ) → row < rows → process < size
+    → get_or (first_rows row_of rows) (row * size + process) 0 ≡ get_or (row_of row) process 0
+first_rows-place row_of size zero sizes row process below there = absurd (omega arith)
+first_rows-place row_of size (suc rows) sizes row process below there =
+    let fewer : (r : ℕ) → r < rows → length (row_of r) ≡ size = λ r h. sizes r (omega arith) in
+    let all = length-first_rows row_of size rows fewer in
     elim (last row rows below) [
       | inl less ↦
-          get_or-append (first_starts lens rows) (start_of lens rows) 0 (row * length lens + process) (omega (arith, length-first_starts lens rows, mul-le-mul_left (length lens) (let h : row + 1 ≤ rows = omega arith in h)))
-          ∙ first_starts-place lens rows row process less there
+          get_or-append (first_rows row_of rows) (row_of rows) 0 (row * size + process) (omega (arith, all, mul-le-mul_left size (let h : row + 1 ≤ rows = omega arith in h)))
+          ∙ first_rows-place row_of size rows fewer row process less there
       | inr same ↦
-          ap (λ r. get_or (first_starts lens rows ++ start_of lens rows) (r * length lens + process) 0) same
-          ∙ ap (λ n. get_or (first_starts lens rows ++ start_of lens rows) (n + process) 0) (sym (length-first_starts lens rows))
-          ∙ get_or-append-add (first_starts lens rows) (start_of lens rows) process 0
-          ∙ ap (λ r. get_or (start_of lens r) process 0) (sym same)
+          ap (λ r. get_or (first_rows row_of rows ++ row_of rows) (r * size + process) 0) same
+          ∙ ap (λ n. get_or (first_rows row_of rows ++ row_of rows) (n + process) 0) (sym all)
+          ∙ get_or-append-add (first_rows row_of rows) (row_of rows) process 0
+          ∙ ap (λ r. get_or (row_of r) process 0) (sym same)
     ]
 
 pub starts-place : (lens : List ℕ) (row process : ℕ) → row ≤ sum lens → process < length lens → get_or (starts lens) (place_of lens row process) 0 ≡ get_or (start_of lens row) process 0
-starts-place lens row process below there = first_starts-place lens (sum lens + 1) row process (omega arith) there
+starts-place lens row process below there = first_rows-place (start_of lens) (length lens) (sum lens + 1) (λ r _. length-start_of lens r) row process (omega arith) there
+
+-- the words of a row as a list
+pub get_or-row_at : (lens words : List ℕ) (row process : ℕ) → process < length lens → get_or (row_at lens words row) process 0 ≡ get_or words (place_of lens row process) 0
+get_or-row_at lens words row process there =
+    get_or-take ((row + 1) * length lens + 0 - (row * length lens + 0)) (drop (row * length lens + 0) words) process 0 (omega arith)
+    ∙ get_or-drop (row * length lens + 0) words process 0 ∙ ap (λ i. get_or words i 0) (let e : row * length lens + 0 + process ≡ row * length lens + process = omega arith in e)
+
+pub length-row_at : (lens words : List ℕ) (row : ℕ) → row ≤ sum lens → length words ≡ (sum lens + 1) * length lens → length (row_at lens words row) ≡ length lens
+length-row_at lens words row row_there size =
+    omega (arith, length-take ((row + 1) * length lens + 0 - (row * length lens + 0)) (drop (row * length lens + 0) words), length-drop (row * length lens + 0) words, mul-le-mul_left (length lens) (let h : row + 1 ≤ sum lens + 1 = omega arith in h))
+
+-- the words of one row among rows of one size
+pub row_at-first_rows : (lens : List ℕ) (row_of : ℕ → List ℕ) → ((row : ℕ) → length (row_of row) ≡ length lens) → (row : ℕ) → row ≤ sum lens → row_at lens (first_rows row_of (sum lens + 1)) row ≡ row_of row
+row_at-first_rows lens row_of sizes row there =
+    let words : List ℕ = first_rows row_of (sum lens + 1) in
+    let size : length (row_at lens words row) ≡ length lens = length-row_at lens words row there (length-first_rows row_of (length lens) (sum lens + 1) (λ r _. sizes r)) in
+    ext_get_or 0 _ _ (size ∙ sym (sizes row)) (λ i below.
+    let i_there : i < length lens = omega arith in
+    get_or-row_at lens words row i i_there ∙ first_rows-place row_of (length lens) (sum lens + 1) (λ r _. sizes r) row i (omega arith) i_there)
+
+lt_or_ge : (i n : ℕ) → (i < n) ⊎ (n ≤ i)
+lt_or_ge i n = grind arith
+
+append_within : (xs ys vs ws : List ℕ) → length xs ≡ length ys → ((i : ℕ) → get_or xs i 0 ≤ get_or ys i 0) → ((i : ℕ) → get_or vs i 0 ≤ get_or ws i 0) → (i : ℕ) → get_or (xs ++ vs) i 0 ≤ get_or (ys ++ ws) i 0
+append_within xs ys vs ws size front back i =
+    elim (lt_or_ge i (length xs)) [
+      | inl there ↦ omega (arith, front i, get_or-append xs vs 0 i there, get_or-append ys ws 0 i (omega arith))
+      | inr past ↦
+          let k : ℕ = i - length xs in
+          let at_xs : i ≡ length xs + k = omega arith in
+          let at_ys : i ≡ length ys + k = omega arith in
+          omega (arith, back k, ap (λ j. get_or (xs ++ vs) j 0) at_xs, get_or-append-add xs vs k 0, ap (λ j. get_or (ys ++ ws) j 0) at_ys, get_or-append-add ys ws k 0)
+    ]
+
+-- rows within rows
+pub first_rows-within : (f g : ℕ → List ℕ) (size rows : ℕ) → ((row : ℕ) → length (f row) ≡ size) → ((row : ℕ) → length (g row) ≡ size) → ((row i : ℕ) → get_or (f row) i 0 ≤ get_or (g row) i 0) → (i : ℕ)
+    → get_or (first_rows f rows) i 0 ≤ get_or (first_rows g rows) i 0
+first_rows-within f g size zero size_f size_g within i = omega arith
+first_rows-within f g size (suc rows) size_f size_g within i =
+    append_within (first_rows f rows) (first_rows g rows) (f rows) (g rows) (length-first_rows f size rows (λ r _. size_f r) ∙ sym (length-first_rows g size rows (λ r _. size_g r)))
+    (first_rows-within f g size rows size_f size_g within) (within rows) i

@@ -1,5 +1,5 @@
 -- Sums of vectors that are within one another.
-use Rattle.std.proofs.Common.{◌≡◌, ℕ, suc, ◌+◌, ◌<◌, ◌≤◌, List, [], ◌∷◌, length, get_or, set, sum, arith}
+use Rattle.std.proofs.Common.{◌≡◌, ℕ, zero, suc, ◌+◌, ◌<◌, ◌≤◌, List, [], ◌∷◌, length, get_or, set, sum, arith}
 use Rattle.std.proofs.lemmas.List.Sums.{sum_by-cons, sum_by-set}
 use Rattle.pull_system.specs.Vector.{IsVector}
 
@@ -24,3 +24,9 @@ sum-vector (y ∷ lens) (x ∷ v) size within =
 
 pub sum-is_vector : (lens v : List ℕ) → IsVector lens v → sum v ≤ sum lens + length lens
 sum-is_vector lens v is = sum-vector lens v is.size is.within
+
+-- a component is at most the sum
+pub component_le : (v : List ℕ) (i : ℕ) → get_or v i 0 ≤ sum v
+component_le [] i = omega arith
+component_le (x ∷ v) zero = omega (arith, sum_by-cons (λ (n : ℕ). n) x v)
+component_le (x ∷ v) (suc i) = omega (arith, sum_by-cons (λ (n : ℕ). n) x v, component_le v i)

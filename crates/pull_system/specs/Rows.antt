@@ -1,5 +1,5 @@
 -- One vector per row: row 0 is the bottom's, the others are the events' in row order.
-use Rattle.std.specs.Prelude.{◌≡◌, ℕ, zero, suc, ◌+◌, ◌-◌, ◌*◌, List, [], ◌∷◌, ◌++◌, length, sum, slice_range, nat_le, if◌then◌else◌}
+use Rattle.std.specs.Prelude.{◌≡◌, ℕ, zero, suc, ◌+◌, ◌-◌, ◌*◌, ◌≤◌, List, [], ◌∷◌, ◌++◌, length, sum, slice_range, nat_le, if◌then◌else◌}
 use Rattle.pota_base.specs.Shape.{IsShape}
 use Rattle.pull_system.specs.System.{SystemView, IsLeastFrom}
 
@@ -29,11 +29,15 @@ pub record AreRows (rows : RowsView) : Type 0 where
 abbrev pub row_at : List ℕ → List ℕ → ℕ → List ℕ
 row_at lens words row = slice_range words (place_of lens row 0) (place_of lens (row + 1) 0)
 
--- the starts of the first rows, one after the other
-abbrev pub first_starts : List ℕ → ℕ → List ℕ
-first_starts lens zero = []
-first_starts lens (suc row) = first_starts lens row ++ start_of lens row
+-- the first rows, one after the other
+abbrev pub first_rows : (ℕ → List ℕ) → ℕ → List ℕ
+first_rows row_of zero = []
+first_rows row_of (suc row) = first_rows row_of row ++ row_of row
 
 -- the starts of all rows
 abbrev pub starts : List ℕ → List ℕ
-starts lens = first_starts lens (sum lens + 1)
+starts lens = first_rows (start_of lens) (sum lens + 1)
+
+-- each row is its least closed vector
+pub record AreLeastRows (system : SystemView) (words : List ℕ) : Type 0 where
+  pub each : (row : ℕ) → row ≤ sum system.lens → IsLeast system row (row_at system.lens words row)

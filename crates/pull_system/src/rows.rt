@@ -1,5 +1,7 @@
-ghost use Rattle.std.specs.Prelude.{◌≡◌, ◌+◌, ◌≤◌, ◌<◌, length, sum, slice_index, slice_set, max, IfOk, OnOk, ◌++◌};
-ghost use Rattle.pull_system.specs.Rows.{start_of, starts};
+ghost use Rattle.std.specs.Prelude.{◌≡◌, ◌+◌, ◌≤◌, ◌<◌, length, sum, slice_index, slice_set, max, IfOk, IfSome, OnOk, ◌++◌};
+ghost use Rattle.pota_base.specs.Shape.{IsShape};
+ghost use Rattle.pull_system.specs.Rows.{start_of, starts, row_at};
+ghost use Rattle.pull_system.specs.Growth.{DidNotFall, grown_row, grown_words, old_row};
 
 use pota_base::{NoMemory, Shape};
 use std::alloc::Global;
@@ -43,6 +45,19 @@ impl Rows {
         Ok(Rows { shape, words })
     }
 
+    /// The rows of a run after its shape has grown: row 0 and the rows of the old events as they were, and each new event's row
+    /// at its start.
+    pub fn grown(alloc: Global, old: &Rows, shape: &Shape) -> Result<Rows, NoMemory>
+        requires { DidNotFall old.now.lens shape.now }
+        ensures { IfOk result (λ rows.
+            rows ≡ record { lens = shape.now; words = grown_words shape.now old.now }) }
+    {
+        let _ = &old.words;
+        let shape = shape.copy(alloc)?;
+        let words = grow_words(alloc, &shape, old)?;
+        Ok(Rows { shape, words })
+    }
+
     pub fn shape(&self) -> &Shape
         ensures shape { result.now ≡ self.now.lens }
         ensures rows { AreRows self.now }
@@ -56,6 +71,15 @@ impl Rows {
         ensures rows { AreRows self.now }
     {
         self.words.as_slice()
+    }
+
+    /// The words of one row.
+    pub fn row(&self, row: u32) -> &[u64]
+        requires { row ≤ sum self.now.lens }
+        ensures words { result.now ≡ row_at self.now.lens self.now.words row }
+        ensures size { length result.now ≡ length self.now.lens }
+    {
+        &self.words[self.place(row, 0)..self.place(row, 0) + self.shape.procs() as usize]
     }
 
     /// The word of a process in a row.
@@ -113,4 +137,54 @@ fn push_start(words: &mut Vec<u64>, lens: &[u32], row: u32) -> Result<(), NoMemo
         left = left.saturating_sub(*len);
     }
     Ok(())
+}
+
+/// The words of the rows after the shape has grown.
+fn grow_words(alloc: Global, shape: &Shape, old: &Rows) -> Result<Vec<u64>, NoMemory>
+    requires { DidNotFall old.now.lens shape.now }
+    ensures { IfOk result (λ words. words.items ≡ grown_words shape.now old.now) }
+{
+    let mut words = Vec::with_capacity(
+        alloc,
+        (shape.events() as usize + 1) * shape.procs() as usize,
+    )?;
+    for row in 0..=shape.events() {
+        push_grown(&mut words, shape.lens(), old, row)?;
+    }
+    Ok(words)
+}
+
+/// Appends a row as it was, or the start of a new event's row.
+fn push_grown(words: &mut Vec<u64>, lens: &[u32], old: &Rows, row: u32) -> Result<(), NoMemory>
+    requires { length old.now.lens ≡ length lens.now }
+    ensures { OnOk result (words.new.items ≡ words.old.items ++ grown_row lens.now old.now row) }
+{
+    match old_row(old.shape().lens(), lens, row) {
+        Some(kept) => words.extend_from_slice(old.row(kept))?,
+        None => push_start(words, lens, row)?,
+    }
+    Ok(())
+}
+
+/// The row that an event had before, where it is not new. The bottom's row is kept.
+fn old_row(old: &[u32], lens: &[u32], row: u32) -> Option<u32>
+    requires count { length old.now ≡ length lens.now }
+    requires shape { IsShape old.now }
+    ensures row { result ≡ old_row old.now lens.now row }
+    ensures there { IfSome result (λ kept. kept ≤ sum old.now) }
+{
+    let mut before = 0;
+    let mut left = row;
+    for (process, &len) in lens.iter().enumerate() {
+        if left <= len {
+            return if left <= old[process] {
+                Some(before + left)
+            } else {
+                None
+            };
+        }
+        left -= len;
+        before += old[process];
+    }
+    None
 }

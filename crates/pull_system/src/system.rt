@@ -1,6 +1,7 @@
-ghost use Rattle.std.specs.Prelude.{◌≡◌, ℕ, ◌+◌, ◌^◌, ◌<◌, ◌≤◌, ◌↔◌, length, All, IsTrue, IfOk, []};
+ghost use Rattle.std.specs.Prelude.{◌≡◌, ℕ, ◌+◌, ◌^◌, ◌<◌, ◌≤◌, ◌↔◌, length, slice_index, All, IsTrue, IfOk, []};
 ghost use Rattle.pull_system.specs.System.{IsPull, HoldsPull, numbers_from, AreBySource};
 
+use crate::asks::{all_asks, row_of};
 use crate::pull::Pull;
 use pota_base::{List, NoMemory, Shape, Steps};
 use std::alloc::Global;
@@ -14,22 +15,26 @@ pub struct System {
     pulls: List<Pull>,
     /// The numbers of each process's outgoing pulls.
     by_source: List<List<u32>>,
+    /// For each process one row per value of its component, of one entry per target: the most that a pull asks of it, 0 for none.
+    asks: List<List<u16>>,
 }
 
 impl Model for System {
     ghost use Rattle.pull_system.specs.System.{SystemView, IsSystem, AreBySource};
+    ghost use Rattle.pull_system.specs.Asks.{AreAllAsks};
 
     ghost Value = { SystemView };
 
     ghost view = { λ system. record { lens = system.shape; pulls = system.pulls } };
 
-    ghost invariant = { λ system. IsSystem record { lens = system.shape; pulls = system.pulls } × AreBySource record { lens = system.shape; pulls = system.pulls } system.by_source };
+    ghost invariant = { λ system. IsSystem record { lens = system.shape; pulls = system.pulls } × AreBySource record { lens = system.shape; pulls = system.pulls } system.by_source × AreAllAsks record { lens = system.shape; pulls = system.pulls } system.asks };
 }
 
 impl System {
     ghost use Rattle.pota_base.specs.Shape.{IsShape};
     ghost use Rattle.pull_system.specs.Vector.{IsVector};
     ghost use Rattle.pull_system.specs.System.{SystemView, IsSystem, IsClosed, pull_at, ask, source_of, target_of};
+    ghost use Rattle.pull_system.specs.Asks.{AreAsks};
 
     /// The system of these pulls, of which there are fewer than 2^32. They keep their order.
     pub fn new(alloc: Global, shape: &Shape, pulls: List<Pull>) -> Result<System, NoMemory>
@@ -39,10 +44,12 @@ impl System {
     {
         let shape = shape.copy(alloc)?;
         let by_source = sort_by_source(alloc, &shape, &pulls)?;
+        let asks = all_asks(alloc, &shape, &pulls, &by_source)?;
         Ok(System {
             shape,
             pulls,
             by_source,
+            asks,
         })
     }
 
@@ -57,6 +64,21 @@ impl System {
         steps.tick();
         let pull = self.pulls.get(k as usize);
         *pull.table.get(x as usize) as u64
+    }
+
+    /// What the pulls from the process ask of each process where its component is `x`: the most that one of them asks for, and
+    /// 0 where there is none. It stands for one look-up of each of them, and counts that many steps.
+    pub fn asks<L: Ledger>(&self, process: u32, x: u64, steps: &mut Steps<L>) -> &[u16]
+        requires process { process < length self.now.lens }
+        requires entry { x ≤ slice_index self.now.lens process + 1 }
+        ensures asks { AreAsks self.now process x result.now }
+        ensures steps { let numbers = numbers_from self.now.pulls process (length self.now.pulls) in
+            steps.new ≡ steps.old + length numbers }
+        ensures system { IsSystem self.now }
+    {
+        count_looks(self.pulls_from(process).len(), steps);
+        let rows = self.asks.get(process as usize);
+        row_of(rows.as_slice(), x as usize, self.shape.procs() as usize)
     }
 
     /// The source and the target of pull `k`. It reads no table.
@@ -161,4 +183,13 @@ fn numbers_from(alloc: Global, process: u32, pulls: &List<Pull>) -> Result<List<
         }
     }
     Ok(numbers)
+}
+
+/// Counts as many steps.
+fn count_looks<L: Ledger>(looks: usize, counter: &mut Steps<L>)
+    ensures { counter.new ≡ counter.old + looks }
+{
+    for _look in 0..looks {
+        counter.tick();
+    }
 }

@@ -69,6 +69,59 @@ fn pulls_know_their_ends(rt: HostRuntime) -> Result<(), Fail> {
     Ok(())
 }
 
+/// What the pulls from a process ask of both processes at the value.
+fn asked_at<L: Ledger>(
+    rt: &impl Abort,
+    blank: Blank,
+    system: &System,
+    process: u32,
+    x: u64,
+) -> [u16; 2]
+    requires name { blank.name ≡ L.name }
+    requires parts { blank.parts ≡ L.parts }
+    requires some { 0 < blank.parts }
+{
+    assert!(rt; process < system.shape().procs());
+    assert!(rt; x <= system.shape().len_of(process) as u64 + 1);
+    assert!(rt; system.shape().procs() == 2);
+    let mut steps = Steps::<L>::new(blank);
+    let asks = system.asks(process, x, &mut steps);
+    [asks[0], asks[1]]
+}
+
+#[test]
+fn asks_are_the_most_of_each_source(rt: HostRuntime) -> Result<(), Fail> {
+    let system = empty_channel(&rt, rt.alloc())?;
+    for (process, x, asks) in [
+        (0, 0, [0, 0]),
+        (0, 1, [0, 1]),
+        (0, 3, [0, 2]),
+        (1, 2, [1, 0]),
+    ] {
+        assert_eq!(rt;
+            asked_at::<Brand>(&rt, Blank::new(1), &system, process, x),
+            asks
+        );
+    }
+    Ok(())
+}
+
+#[test]
+fn rows_grow_with_their_shape(rt: HostRuntime) -> Result<(), Fail> {
+    let mut old = Rows::new(rt.alloc(), &Shape::new(rt.alloc(), &[1, 1])?)?;
+    assert!(rt; old.shape().procs() == 2);
+    assert!(rt; old.shape().events() == 2);
+    old.raise(0, 1, 1);
+    old.raise(2, 0, 1);
+    let shape = Shape::new(rt.alloc(), &[2, 1])?;
+    assert!(rt; old.shape().len_of(0) == 1 && old.shape().len_of(1) == 1);
+    let rows = Rows::grown(rt.alloc(), &old, &shape)?;
+    assert_eq!(rt; rows.as_words(), [0, 1, 1, 0, 2, 0, 1, 1].as_slice());
+    assert!(rt; rows.shape().events() == 3);
+    assert_eq!(rt; rows.row(3), [1, 1].as_slice());
+    Ok(())
+}
+
 #[test]
 fn rows_begin_at_their_starts(rt: HostRuntime) -> Result<(), Fail> {
     let shape = Shape::new(rt.alloc(), &[3, 2])?;

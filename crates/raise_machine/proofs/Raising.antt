@@ -10,10 +10,13 @@ use Rattle.pota_base.specs.Shape.{HasEvent, row_of}
 use Rattle.std.proofs.Math.Nat.{mul-le-mul_left}
 use Rattle.pull_system.specs.Vector.{IsWithin}
 use Rattle.pull_system.specs.System.{SystemView, IsSystem, IsPull, IsClosedFrom, source_of, target_of, ask}
-use Rattle.pull_system.specs.Rows.{start_of, starts, place_of}
+use Rattle.pull_system.specs.Rows.{RowsView, AreLeastRows, start_of, starts, place_of, first_rows}
+use Rattle.pull_system.specs.Growth.{Grows, grown_row, grown_words}
+use Rattle.pull_system.specs.Climb.{IsBelowLeast}
 use Rattle.pull_system.proofs.Pulls.{pull-of, ask-closed}
-use Rattle.pull_system.proofs.Climbing.{set_case, lt_or_le, tops_closed}
-use Rattle.pull_system.proofs.Starts.{starts-place, start_of-vector, start_of-bottom, start_of-event, length-start_of, length_starts}
+use Rattle.pull_system.proofs.Climbing.{set_case, lt_or_le, tops_closed, starts_below}
+use Rattle.pull_system.proofs.Growing.{grown_row_below}
+use Rattle.pull_system.proofs.Starts.{starts-place, start_of-vector, start_of-bottom, start_of-event, length-start_of, length-first_rows, first_rows-place, first_rows-within}
 use Rattle.raise_machine.specs.Bounds.{IsBound, AreBounds, word_at, raised, are_covered, has_start}
 
 pub bound_less : (system : SystemView) (place m n : ℕ) → m ≤ n → IsBound system place n → IsBound system place m
@@ -106,20 +109,43 @@ pub has_start-true : (lens words : List ℕ) (row other : ℕ) → has_start len
 has_start-true lens words row other is i there =
     omega (arith, covers-true (start_of lens other) words (place_of lens row 0) is i (omega (arith, length-start_of lens other)), ap (λ j. get_or words j 0) (let e : row * length lens + 0 + i ≡ row * length lens + i = omega arith in e))
 
--- the starts themselves are such words
-pub starts_bounds : (system : SystemView) → AreBounds system (starts system.lens)
-starts_bounds system = record {
-  size = length_starts system.lens;
-  above = record { each = λ i. omega arith };
+-- rows that are each below the least
+pub rows_bounds : (system : SystemView) (row_of : ℕ → List ℕ) → ((row : ℕ) → IsBelowLeast system (start_of system.lens row) (row_of row)) → AreBounds system (first_rows row_of (sum system.lens + 1))
+rows_bounds system row_of rows = record {
+  size = length-first_rows row_of (length system.lens) (sum system.lens + 1) (λ row _. sizes row);
+  above = record { each = first_rows-within (start_of system.lens) row_of (length system.lens) (sum system.lens + 1) (length-start_of system.lens) sizes (λ row. (rows row).above.each) };
   below = λ place. record { each = λ row process there same c closed. below place row process there same c closed };
 }
   where
-    below : (place row process : ℕ) → process < length system.lens → place ≡ place_of system.lens row process → (c : List ℕ) → IsClosedFrom system (start_of system.lens row) c → get_or (starts system.lens) place 0 ≤ get_or c process 0
+    sizes : (row : ℕ) → length (row_of row) ≡ length system.lens
+    sizes row = (rows row).vector.size
+
+    below : (place row process : ℕ) → process < length system.lens → place ≡ place_of system.lens row process → (c : List ℕ) → IsClosedFrom system (start_of system.lens row) c
+        → get_or (first_rows row_of (sum system.lens + 1)) place 0 ≤ get_or c process 0
     below place row process there same c closed =
+        let words : List ℕ = first_rows row_of (sum system.lens + 1) in
         elim (lt_or_le row (sum system.lens + 1)) [
-          | inl within ↦ omega (arith, ap (λ j. get_or (starts system.lens) j 0) same, starts-place system.lens row process (omega arith) there, closed.above.each process)
-          | inr past ↦ omega (arith, get_or_past (starts system.lens) place 0 (omega (arith, length_starts system.lens, mul-le-mul_left (length system.lens) past)))
+          | inl within ↦
+              omega (
+                arith,
+                ap (λ j. get_or words j 0) same,
+                first_rows-place row_of (length system.lens) (sum system.lens + 1) (λ r _. sizes r) row process within there,
+                ((rows row).below c closed).each process,
+              )
+          | inr past ↦
+              omega (arith, get_or_past words place 0 (omega (arith, length-first_rows row_of (length system.lens) (sum system.lens + 1) (λ r _. sizes r), mul-le-mul_left (length system.lens) past)))
         ]
+
+-- the starts themselves are such words
+pub starts_bounds : (system : SystemView) → AreBounds system (starts system.lens)
+starts_bounds system = rows_bounds system (start_of system.lens) (λ row. at_start system row)
+  where
+    at_start : (system : SystemView) (row : ℕ) → IsBelowLeast system (start_of system.lens row) (start_of system.lens row)
+    at_start system row = starts_below system (start_of system.lens row) (start_of-vector system.lens row)
+
+-- and the least rows of an earlier system, grown
+pub grown_bounds : (before after : SystemView) → IsSystem before → Grows before after → (old : RowsView) → old.lens ≡ before.lens → AreLeastRows before old.words → AreBounds after (grown_words after.lens old)
+grown_bounds before after is grows old same least = rows_bounds after (grown_row after.lens old) (grown_row_below before after is grows old same least)
 
 covers-all : (xs words : List ℕ) (place : ℕ) → ((i : ℕ) → i < length xs → get_or xs i 0 ≤ get_or words (place + i) 0) → are_covered xs words place ≡ true
 covers-all [] words place all = refl

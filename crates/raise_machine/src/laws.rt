@@ -1,7 +1,8 @@
 ghost use Rattle.std.specs.Prelude.{◌≡◌, ℕ, ◌<◌, ◌≤◌, List, length, sum, slice_index};
 ghost use Rattle.pull_system.specs.Vector.{IsWithin};
 ghost use Rattle.pull_system.specs.System.{SystemView, IsSystem, IsClosed};
-ghost use Rattle.pull_system.specs.Rows.{IsLeast};
+ghost use Rattle.pull_system.specs.Rows.{RowsView, AreLeastRows, IsLeast};
+ghost use Rattle.pull_system.specs.Growth.{Grows, grown_words};
 ghost use Rattle.raise_machine.specs.declared.step.Step.{Step};
 ghost use Rattle.raise_machine.specs.Bounds.{AreBounds, word_at};
 ghost use Rattle.raise_machine.specs.Machine.{words_at, IsSeen};
@@ -13,4 +14,12 @@ pub fn runs()
     ensures bounds { (system : SystemView) (words : List ℕ) (steps : List Step) (n : ℕ) → IsSystem system → AreBounds system words → AreBounds system (words_at system words steps n) }
     ensures settles { (system : SystemView) (words : List ℕ) (steps : List Step) (row : ℕ) (moments : ℕ → ℕ) (v : List ℕ) → row ≤ sum system.lens → IsSystem system → AreBounds system words → IsSeen system words steps row moments v → IsClosed system v → IsLeast system row v }
     ensures stays { (system : SystemView) (words : List ℕ) (steps : List Step) (row : ℕ) (moments : ℕ → ℕ) (v : List ℕ) → row ≤ sum system.lens → IsSystem system → AreBounds system words → IsSeen system words steps row moments v → IsClosed system v → (n : ℕ) → ((process : ℕ) → process < length system.lens → moments process ≤ n) → (process : ℕ) → process < length system.lens → word_at system.lens (words_at system words steps n) row process ≡ slice_index v process }
+{}
+
+/// A table may begin from the rows of an earlier system that has grown into this one: its least rows, grown, lie between the
+/// starts and the least rows of the later system. It does nothing.
+pub fn grown_rows()
+    ensures { (before after : SystemView) → IsSystem before → Grows before after
+        → (old : RowsView) → old.lens ≡ before.lens → AreLeastRows before old.words
+        → AreBounds after (grown_words after.lens old) }
 {}

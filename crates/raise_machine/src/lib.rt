@@ -5,7 +5,7 @@ mod laws;
 mod machine;
 mod step;
 
-pub use laws::runs;
+pub use laws::{grown_rows, runs};
 pub use machine::Machine;
 pub use step::Step;
 

@@ -45,7 +45,8 @@ abbrev mutual
   -- the nodes whose places stand before a unary
   pub nodes_open : Open → ℕ
   nodes_open (first_of outer before) = nodes_outer outer + nodes_before before
-  nodes_open (next_of outer before c at) = nodes_outer outer + nodes_before before + nodes_conjunction c + amp_nodes c
+  nodes_open (next_of outer before c at) =
+      nodes_outer outer + nodes_before before + nodes_conjunction c + amp_nodes c
   nodes_open (in_negation o at) = nodes_open o + 1
   nodes_open (in_temporal o operator name at) = nodes_open o + 1
 
@@ -106,10 +107,13 @@ is_operator word.Plain = false
 abbrev pub word_limit : Open → Spelled → NameSign → Option FormulaFault
 word_limit o w by_dot = node_stands (nodes_open o) w.at
 word_limit o w by_at = node_stands (nodes_open o) w.at
-word_limit o w no_sign = either (if is_operator w.word then level_opens (depth o) w.at else None) (node_stands (nodes_open o) w.at)
+word_limit o w no_sign =
+    either (if is_operator w.word then level_opens (depth o) w.at else None)
+    (node_stands (nodes_open o) w.at)
 
 abbrev pub operand_limit : Open → Kind → ℕ → Option FormulaFault
-operand_limit o kind.Bang here = either (level_opens (depth o) here) (node_stands (nodes_open o) here)
+operand_limit o kind.Bang here =
+    either (level_opens (depth o) here) (node_stands (nodes_open o) here)
 operand_limit o kind.OpenRound here = level_opens (depth o) here
 operand_limit o k here = None
 
@@ -136,7 +140,8 @@ amp_limit nodes zero here = None
 amp_limit nodes (suc n) here = node_stands nodes here
 
 abbrev pub after_limit : Outer → Before → Conjunction → Following → ℕ → Option FormulaFault
-after_limit outer before c by_amp here = amp_limit (nodes_outer outer + nodes_before before + nodes_conjunction c) (amp_nodes c) here
+after_limit outer before c by_amp here =
+    amp_limit (nodes_outer outer + nodes_before before + nodes_conjunction c) (amp_nodes c) here
 after_limit outer nothing c by_bar here = node_stands (nodes_outer outer + nodes_conjunction c) here
 after_limit outer (bar d at) c by_bar here = None
 after_limit outer before c by_another here = None
@@ -158,7 +163,8 @@ follow_limit o w by_dot k here = None
 follow_limit o w by_at k here = None
 follow_limit o w no_sign k here = settled_limit (settled o w) k here
 
--- the first limit that a token breaks; a word's own waits for the token behind it, and comes before what that one breaks
+-- the first limit that a token breaks; a word's own waits for the token behind it, and comes before
+-- what that one breaks
 abbrev pub limit : State → Kind → ℕ → Option FormulaFault
 limit (a_word o w) k here = either (word_limit o w (sign k)) (follow_limit o w (sign k) k here)
 limit (operand o) k here = limit_now (operand o) k here
@@ -195,12 +201,15 @@ is_whole None = false
 -- what is wrong where the tokens end
 abbrev pub end_fault : State → End → Option FormulaFault
 end_fault s (end.BadToken at) = either (end_limit s) (Some (token_at at))
-end_fault s (end.Ends at) = either (end_limit s) (if is_whole (whole_of s) then None else Some (syntax_at at))
+end_fault s (end.Ends at) =
+    either (end_limit s) (if is_whole (whole_of s) then None else Some (syntax_at at))
 
 -- the first fault from a state on
 abbrev pub fault_of : State → List Token → End → Option FormulaFault
 fault_of s [] ending = end_fault s ending
-fault_of s (t ∷ ts) ending = then_on (placed (limit s t.kind t.at) (step_kind s t.kind t.at) t.at) (λ next. fault_of next ts ending)
+fault_of s (t ∷ ts) ending =
+    then_on (placed (limit s t.kind t.at) (step_kind s t.kind t.at) t.at)
+    (λ next. fault_of next ts ending)
 
 -- the first fault of a text of these tokens, `None` where it is a formula within the limits
 abbrev pub first_fault : List Token → End → Option FormulaFault

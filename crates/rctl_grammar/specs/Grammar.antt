@@ -1,19 +1,19 @@
 -- The grammar of formulas, one alternative a constructor, each token with its place:
 --
---   disjunction = conjunction *( "|" conjunction )
---   conjunction = unary *( "&" unary )
---   unary       = "!" unary / operator unary / "(" disjunction ")" / leaf
---               / ( "E" / "A" ) "[" disjunction "U" disjunction "]"
---   operator    = "EF" / "AG" / "EG" / "EX" / "AF" / "AX"
---   leaf        = "true" / "false"
---               / name "." name compare side
---               / name "@" name
---               / "intransit" "(" name "," name ")" compare number
---               / "empty" "(" name "," name ")"
---   side        = number / name "." name
+-- disjunction = conjunction *( "|" conjunction )
+-- conjunction = unary *( "&" unary )
+-- unary       = "!" unary / operator unary / "(" disjunction ")" / leaf
+-- / ( "E" / "A" ) "[" disjunction "U" disjunction "]"
+-- operator    = "EF" / "AG" / "EG" / "EX" / "AF" / "AX"
+-- leaf        = "true" / "false"
+-- / name "." name compare side
+-- / name "@" name
+-- / "intransit" "(" name "," name ")" compare number
+-- / "empty" "(" name "," name ")"
+-- side        = number / name "." name
 --
--- A formula is a disjunction. Any word serves as a name: no other alternative has a `.` or an `@` behind a word, so that one
--- before a `.` or an `@` is a name.
+-- A formula is a disjunction. Any word serves as a name: no other alternative has a `.` or an `@`
+-- behind a word, so that one before a `.` or an `@` is a name.
 use Rattle.std.specs.Prelude.{◌≡◌, ℕ, ℤ, pos, negsuc, Bool, true, false, ◌+◌, max, ◌&&◌, List, [], ◌∷◌, ◌++◌, Option, None, Some}
 use Rattle.run_model.specs.Run.{Name}
 use Rattle.rctl_grammar.specs.declared.token.Kind.{Kind}
@@ -62,7 +62,8 @@ pub data Leaf : Type 0 where
   constant : (value : Bool) (name : Name) (at : ℕ) → Leaf
   comparison : (left : Variable) (compare : Compare) (at : ℕ) (right : RightSide) → Leaf
   watch : (process : Spelled) (at : ℕ) (name : Spelled) → Leaf
-  transit : (name : Name) (at : ℕ) (channel : Channel) (compare : Compare) (compare_at : ℕ) (value : Option ℤ) (value_at : ℕ) → Leaf
+  transit : (name : Name) (at : ℕ) (channel : Channel) (compare : Compare) (compare_at : ℕ)
+      (value : Option ℤ) (value_at : ℕ) → Leaf
   emptiness : (name : Name) (at : ℕ) (channel : Channel) → Leaf
 
 -- "E" or "A", and its "["
@@ -87,7 +88,8 @@ mutual
     temporal : (operator : Operator) (name : Name) (at : ℕ) (u : Unary) → Unary
     group : (opened : ℕ) (d : Disjunction) (closed : ℕ) → Unary
     -- with the name and the place of the "U", and the place of the "]"
-    until : (path : Path) (left : Disjunction) (name : Name) (at : ℕ) (right : Disjunction) (closed : ℕ) → Unary
+    until : (path : Path) (left : Disjunction) (name : Name) (at : ℕ) (right : Disjunction)
+        (closed : ℕ) → Unary
 
 -- ---- the tokens of a derivation, and then the rest
 
@@ -119,7 +121,9 @@ path_word true = word.A
 path_word false = word.E
 
 abbrev pub text_channel : Channel → List Token → List Token
-text_channel c rest = tok kind.OpenRound c.opened ∷ named c.sender ∷ tok kind.Comma c.comma ∷ named c.receiver ∷ tok kind.CloseRound c.closed ∷ rest
+text_channel c rest =
+    tok kind.OpenRound c.opened ∷ named c.sender ∷ tok kind.Comma c.comma ∷ named c.receiver
+    ∷ tok kind.CloseRound c.closed ∷ rest
 
 abbrev pub text_variable : Variable → List Token → List Token
 text_variable v rest = named v.process ∷ tok kind.Dot v.dot ∷ named v.variable ∷ rest
@@ -130,10 +134,13 @@ text_side (variable v) rest = text_variable v rest
 
 abbrev pub text_leaf : Leaf → List Token → List Token
 text_leaf (constant value name at) rest = spelled (truth_word value) name at ∷ rest
-text_leaf (comparison left compare at right) rest = text_variable left (tok (kind.Compare compare) at ∷ text_side right rest)
+text_leaf (comparison left compare at right) rest =
+    text_variable left (tok (kind.Compare compare) at ∷ text_side right rest)
 text_leaf (watch process at name) rest = named process ∷ tok kind.At at ∷ named name ∷ rest
-text_leaf (transit name at channel compare compare_at value value_at) rest = spelled word.InTransit name at ∷
-    text_channel channel (tok (kind.Compare compare) compare_at ∷ tok (kind.Number value) value_at ∷ rest)
+text_leaf (transit name at channel compare compare_at value value_at) rest =
+    spelled word.InTransit name at ∷
+    text_channel channel (tok (kind.Compare compare) compare_at ∷ tok (kind.Number value) value_at
+    ∷ rest)
 text_leaf (emptiness name at channel) rest = spelled word.Empty name at ∷ text_channel channel rest
 
 abbrev pub text_path : Path → List Token → List Token
@@ -151,10 +158,13 @@ abbrev mutual
   pub text_unary : Unary → List Token → List Token
   text_unary (leaf l) rest = text_leaf l rest
   text_unary (negation at u) rest = tok kind.Bang at ∷ text_unary u rest
-  text_unary (temporal operator name at u) rest = spelled (word_of operator) name at ∷ text_unary u rest
-  text_unary (group opened d closed) rest = tok kind.OpenRound opened ∷ text_disjunction d (tok kind.CloseRound closed ∷ rest)
+  text_unary (temporal operator name at u) rest =
+      spelled (word_of operator) name at ∷ text_unary u rest
+  text_unary (group opened d closed) rest =
+      tok kind.OpenRound opened ∷ text_disjunction d (tok kind.CloseRound closed ∷ rest)
   text_unary (until path left name at right closed) rest =
-      text_path path (text_disjunction left (spelled word.U name at ∷ text_disjunction right (tok kind.CloseSquare closed ∷ rest)))
+      text_path path (text_disjunction left
+      (spelled word.U name at ∷ text_disjunction right (tok kind.CloseSquare closed ∷ rest)))
 
 -- the tokens are those of the derivation
 abbrev pub IsFormula : List Token → Disjunction → Type 0
@@ -186,11 +196,14 @@ side_of (variable v) = side.Variable (placed_name v.process) (placed_name v.vari
 
 abbrev pub atom_of : Leaf → Atom
 atom_of (constant value name at) = atom.Truth value
-atom_of (comparison left compare at right) = atom.Local (placed_name left.process) (placed_name left.variable) compare (side_of right)
+atom_of (comparison left compare at right) =
+    atom.Local (placed_name left.process) (placed_name left.variable) compare (side_of right)
 atom_of (watch process at name) = atom.Watch (placed_name process) (placed_name name)
 atom_of (transit name at channel compare compare_at value value_at) =
-    atom.InTransit (placed_name channel.sender) (placed_name channel.receiver) compare (count_of value)
-atom_of (emptiness name at channel) = atom.Empty (placed_name channel.sender) (placed_name channel.receiver)
+    atom.InTransit (placed_name channel.sender) (placed_name channel.receiver) compare
+    (count_of value)
+atom_of (emptiness name at channel) =
+    atom.Empty (placed_name channel.sender) (placed_name channel.receiver)
 
 -- the place of a leaf's first token
 abbrev pub first_token : Leaf → ℕ
@@ -231,12 +244,14 @@ abbrev mutual
   tree_unary (negation at u) = tree.Not (tree_unary u) at
   tree_unary (temporal operator name at u) = tree.Temporal operator (tree_unary u) at
   tree_unary (group opened d closed) = tree_disjunction d
-  tree_unary (until path left name at right closed) = tree.Until path.all (tree_disjunction left) (tree_disjunction right) path.at
+  tree_unary (until path left name at right closed) =
+      tree.Until path.all (tree_disjunction left) (tree_disjunction right) path.at
 
 -- ---- limits
 
 abbrev mutual
-  -- how many levels are open at once: each `!`, operator, group and until opens one for what it holds
+  -- how many levels are open at once: each `!`, operator, group and until opens one for what it
+  -- holds
   pub levels_disjunction : Disjunction → ℕ
   levels_disjunction (one_conjunction c) = levels_conjunction c
   levels_disjunction (or d at c) = max (levels_disjunction d) (levels_conjunction c)
@@ -250,7 +265,8 @@ abbrev mutual
   levels_unary (negation at u) = 1 + levels_unary u
   levels_unary (temporal operator name at u) = 1 + levels_unary u
   levels_unary (group opened d closed) = 1 + levels_disjunction d
-  levels_unary (until path left name at right closed) = 1 + max (levels_disjunction left) (levels_disjunction right)
+  levels_unary (until path left name at right closed) =
+      1 + max (levels_disjunction left) (levels_disjunction right)
 
 -- an And is one node, which stands at its first `&`
 abbrev pub amp_nodes : Conjunction → ℕ
@@ -276,7 +292,8 @@ abbrev mutual
   nodes_unary (negation at u) = 1 + nodes_unary u
   nodes_unary (temporal operator name at u) = 1 + nodes_unary u
   nodes_unary (group opened d closed) = nodes_disjunction d
-  nodes_unary (until path left name at right closed) = 1 + nodes_disjunction left + nodes_disjunction right
+  nodes_unary (until path left name at right closed) =
+      1 + nodes_disjunction left + nodes_disjunction right
 
 -- a number is in the range of 64 bits
 abbrev pub in_range : Option ℤ → Bool
@@ -316,4 +333,5 @@ abbrev mutual
   unary_in_range (negation at u) = unary_in_range u
   unary_in_range (temporal operator name at u) = unary_in_range u
   unary_in_range (group opened d closed) = disjunction_in_range d
-  unary_in_range (until path left name at right closed) = disjunction_in_range left && disjunction_in_range right
+  unary_in_range (until path left name at right closed) =
+      disjunction_in_range left && disjunction_in_range right

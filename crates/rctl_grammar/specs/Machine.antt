@@ -1,5 +1,5 @@
--- A reading of tokens from left to right: what of a derivation stands before a place, and what one more token makes of it. It says
--- which tokens a formula may go on with.
+-- A reading of tokens from left to right: what of a derivation stands before a place, and what one
+-- more token makes of it. It says which tokens a formula may go on with.
 use Rattle.std.specs.Prelude.{ℕ, ℤ, Bool, true, false, List, [], ◌∷◌, Option, None, Some}
 use Rattle.pota_base.specs.Number.{◌>>=◌}
 use Rattle.run_model.specs.Run.{Name}
@@ -32,12 +32,16 @@ pub data Front : Type 0 where
   process_at : (process : Spelled) (at : ℕ) → Front
   channel_word : (word : ChannelWord) (name : Name) (at : ℕ) → Front
   channel_opened : (word : ChannelWord) (name : Name) (at : ℕ) (opened : ℕ) → Front
-  channel_sender : (word : ChannelWord) (name : Name) (at : ℕ) (opened : ℕ) (sender : Spelled) → Front
-  channel_comma : (word : ChannelWord) (name : Name) (at : ℕ) (opened : ℕ) (sender : Spelled) (comma : ℕ) → Front
-  channel_receiver : (word : ChannelWord) (name : Name) (at : ℕ) (opened : ℕ) (sender : Spelled) (comma : ℕ) (receiver : Spelled) → Front
+  channel_sender : (word : ChannelWord) (name : Name) (at : ℕ) (opened : ℕ) (sender : Spelled)
+      → Front
+  channel_comma : (word : ChannelWord) (name : Name) (at : ℕ) (opened : ℕ) (sender : Spelled)
+      (comma : ℕ) → Front
+  channel_receiver : (word : ChannelWord) (name : Name) (at : ℕ) (opened : ℕ) (sender : Spelled)
+      (comma : ℕ) (receiver : Spelled) → Front
   -- "intransit" and its channel are read
   transit_channel : (name : Name) (at : ℕ) (channel : Channel) → Front
-  transit_compared : (name : Name) (at : ℕ) (channel : Channel) (compare : Compare) (compare_at : ℕ) → Front
+  transit_compared : (name : Name) (at : ℕ) (channel : Channel) (compare : Compare) (compare_at : ℕ)
+      → Front
 
 -- the disjunction so far, with the bar behind it
 pub data Before : Type 0 where
@@ -159,26 +163,41 @@ until_in k at = None
 
 -- the right side begins: with a number it ends
 abbrev pub step_side : Variable → Compare → ℕ → Kind → ℕ → Option LeafStep
-step_side left compare at (kind.Number value) here = Some (whole (comparison left compare at (number value here)))
-step_side left compare at (kind.Word w name) here = Some (going (right_process left compare at (record { word = w; name = name; at = here })))
+step_side left compare at (kind.Number value) here =
+    Some (whole (comparison left compare at (number value here)))
+step_side left compare at (kind.Word w name) here =
+    Some (going (right_process left compare at (record { word = w; name = name; at = here })))
 step_side left compare at k here = None
 
 abbrev pub step_leaf : Front → Kind → ℕ → Option LeafStep
-step_leaf (process_dot process dot) k here = word_in k here >>= λ w. Some (going (left_side (record { process = process; dot = dot; variable = w })))
+step_leaf (process_dot process dot) k here =
+    word_in k here >>= λ w. Some (going
+    (left_side (record { process = process; dot = dot; variable = w })))
 step_leaf (left_side left) k here = compare_in k here >>= λ c. Some (going (compared left c.0 c.1))
 step_leaf (compared left compare at) k here = step_side left compare at k here
-step_leaf (right_process left compare at process) k here = dot_in k here >>= λ dot. Some (going (right_dot left compare at process dot))
+step_leaf (right_process left compare at process) k here =
+    dot_in k here >>= λ dot. Some (going (right_dot left compare at process dot))
 step_leaf (right_dot left compare at process dot) k here = word_in k here >>= λ w.
-    Some (whole (comparison left compare at (variable (record { process = process; dot = dot; variable = w }))))
+    Some (whole (comparison left compare at
+    (variable (record { process = process; dot = dot; variable = w }))))
 step_leaf (process_at process at) k here = word_in k here >>= λ w. Some (whole (watch process at w))
-step_leaf (channel_word w name at) k here = open_round_in k here >>= λ opened. Some (going (channel_opened w name at opened))
-step_leaf (channel_opened w name at opened) k here = word_in k here >>= λ sender. Some (going (channel_sender w name at opened sender))
-step_leaf (channel_sender w name at opened sender) k here = comma_in k here >>= λ comma. Some (going (channel_comma w name at opened sender comma))
-step_leaf (channel_comma w name at opened sender comma) k here = word_in k here >>= λ receiver. Some (going (channel_receiver w name at opened sender comma receiver))
-step_leaf (channel_receiver w name at opened sender comma receiver) k here = close_round_in k here >>= λ closed.
-    Some (step_channel w name at (record { opened = opened; sender = sender; comma = comma; receiver = receiver; closed = closed }))
-step_leaf (transit_channel name at channel) k here = compare_in k here >>= λ c. Some (going (transit_compared name at channel c.0 c.1))
-step_leaf (transit_compared name at channel compare compare_at) k here = number_in k here >>= λ value.
+step_leaf (channel_word w name at) k here =
+    open_round_in k here >>= λ opened. Some (going (channel_opened w name at opened))
+step_leaf (channel_opened w name at opened) k here =
+    word_in k here >>= λ sender. Some (going (channel_sender w name at opened sender))
+step_leaf (channel_sender w name at opened sender) k here =
+    comma_in k here >>= λ comma. Some (going (channel_comma w name at opened sender comma))
+step_leaf (channel_comma w name at opened sender comma) k here =
+    word_in k here >>= λ receiver. Some
+    (going (channel_receiver w name at opened sender comma receiver))
+step_leaf (channel_receiver w name at opened sender comma receiver) k here =
+    close_round_in k here >>= λ closed.
+    Some (step_channel w name at (record
+    { opened = opened; sender = sender; comma = comma; receiver = receiver; closed = closed }))
+step_leaf (transit_channel name at channel) k here =
+    compare_in k here >>= λ c. Some (going (transit_compared name at channel c.0 c.1))
+step_leaf (transit_compared name at channel compare compare_at) k here =
+    number_in k here >>= λ value.
     Some (whole (transit name at channel compare compare_at value.0 value.1))
 
 abbrev pub put_leaf : Open → LeafStep → State
@@ -188,19 +207,24 @@ put_leaf o (whole l) = plug o (leaf l)
 abbrev pub step_operand : Open → Kind → ℕ → Option State
 step_operand o kind.Bang here = Some (operand (in_negation o here))
 step_operand o kind.OpenRound here = Some (operand (first_of (in_group o here) nothing))
-step_operand o (kind.Word w name) here = Some (a_word o (record { word = w; name = name; at = here }))
+step_operand o (kind.Word w name) here =
+    Some (a_word o (record { word = w; name = name; at = here }))
 step_operand o k here = None
 
 abbrev pub step_path : Open → Bool → Name → ℕ → Kind → ℕ → Option State
 step_path o all name at k here = open_square_in k here >>= λ opened.
-    Some (operand (first_of (in_left o (record { all = all; name = name; at = at; opened = opened })) nothing))
+    Some (operand (first_of (in_left o
+    (record { all = all; name = name; at = at; opened = opened })) nothing))
 
 -- the disjunction ends. Behind the left side of an until the word "U" is its own
 abbrev pub step_close : Outer → Disjunction → Kind → ℕ → Option State
 step_close top d k here = None
-step_close (in_group o opened) d k here = close_round_in k here >>= λ closed. Some (plug o (group opened d closed))
-step_close (in_left o path) d k here = until_in k here >>= λ u. Some (operand (first_of (in_right o path d u.0 u.1) nothing))
-step_close (in_right o path left name at) d k here = close_square_in k here >>= λ closed. Some (plug o (until path left name at d closed))
+step_close (in_group o opened) d k here =
+    close_round_in k here >>= λ closed. Some (plug o (group opened d closed))
+step_close (in_left o path) d k here =
+    until_in k here >>= λ u. Some (operand (first_of (in_right o path d u.0 u.1) nothing))
+step_close (in_right o path left name at) d k here =
+    close_square_in k here >>= λ closed. Some (plug o (until path left name at d closed))
 
 -- what may stand behind a conjunction
 pub data Following : Type 0 where
@@ -215,7 +239,8 @@ following k = by_another
 
 abbrev pub step_after : Outer → Before → Conjunction → Following → Kind → ℕ → Option State
 step_after outer before c by_amp k here = Some (operand (next_of outer before c here))
-step_after outer before c by_bar k here = Some (operand (first_of outer (bar (joined before c) here)))
+step_after outer before c by_bar k here =
+    Some (operand (first_of outer (bar (joined before c) here)))
 step_after outer before c by_another k here = step_close outer (joined before c) k here
 
 -- a step of a state that no word waits in
@@ -284,19 +309,27 @@ abbrev pub text_front : Front → List Token → List Token
 text_front (process_dot process dot) rest = named process ∷ tok kind.Dot dot ∷ rest
 text_front (left_side left) rest = text_variable left rest
 text_front (compared left compare at) rest = text_compared left compare at rest
-text_front (right_process left compare at process) rest = text_compared left compare at (named process ∷ rest)
-text_front (right_dot left compare at process dot) rest = text_compared left compare at (named process ∷ tok kind.Dot dot ∷ rest)
+text_front (right_process left compare at process) rest =
+    text_compared left compare at (named process ∷ rest)
+text_front (right_dot left compare at process dot) rest =
+    text_compared left compare at (named process ∷ tok kind.Dot dot ∷ rest)
 text_front (process_at process at) rest = named process ∷ tok kind.At at ∷ rest
 text_front (channel_word w name at) rest = spelled (channel_name w) name at ∷ rest
-text_front (channel_opened w name at opened) rest = spelled (channel_name w) name at ∷ tok kind.OpenRound opened ∷ rest
-text_front (channel_sender w name at opened sender) rest = spelled (channel_name w) name at ∷ tok kind.OpenRound opened ∷ named sender ∷ rest
+text_front (channel_opened w name at opened) rest =
+    spelled (channel_name w) name at ∷ tok kind.OpenRound opened ∷ rest
+text_front (channel_sender w name at opened sender) rest =
+    spelled (channel_name w) name at ∷ tok kind.OpenRound opened ∷ named sender ∷ rest
 text_front (channel_comma w name at opened sender comma) rest =
-    spelled (channel_name w) name at ∷ tok kind.OpenRound opened ∷ named sender ∷ tok kind.Comma comma ∷ rest
+    spelled (channel_name w) name at ∷ tok kind.OpenRound opened ∷ named sender
+    ∷ tok kind.Comma comma ∷ rest
 text_front (channel_receiver w name at opened sender comma receiver) rest =
-    spelled (channel_name w) name at ∷ tok kind.OpenRound opened ∷ named sender ∷ tok kind.Comma comma ∷ named receiver ∷ rest
-text_front (transit_channel name at channel) rest = spelled word.InTransit name at ∷ text_channel channel rest
+    spelled (channel_name w) name at ∷ tok kind.OpenRound opened ∷ named sender
+    ∷ tok kind.Comma comma ∷ named receiver ∷ rest
+text_front (transit_channel name at channel) rest =
+    spelled word.InTransit name at ∷ text_channel channel rest
 text_front (transit_compared name at channel compare compare_at) rest =
-    spelled word.InTransit name at ∷ text_channel channel (tok (kind.Compare compare) compare_at ∷ rest)
+    spelled word.InTransit name at ∷ text_channel channel
+    (tok (kind.Compare compare) compare_at ∷ rest)
 
 abbrev pub text_before : Before → List Token → List Token
 text_before nothing rest = rest
@@ -307,17 +340,21 @@ abbrev mutual
   text_outer top rest = rest
   text_outer (in_group o opened) rest = text_open o (tok kind.OpenRound opened ∷ rest)
   text_outer (in_left o path) rest = text_open o (text_path path rest)
-  text_outer (in_right o path left name at) rest = text_open o (text_path path (text_disjunction left (spelled word.U name at ∷ rest)))
+  text_outer (in_right o path left name at) rest =
+      text_open o (text_path path (text_disjunction left (spelled word.U name at ∷ rest)))
 
   pub text_open : Open → List Token → List Token
   text_open (first_of outer before) rest = text_outer outer (text_before before rest)
-  text_open (next_of outer before c at) rest = text_outer outer (text_before before (text_conjunction c (tok kind.Amp at ∷ rest)))
+  text_open (next_of outer before c at) rest =
+      text_outer outer (text_before before (text_conjunction c (tok kind.Amp at ∷ rest)))
   text_open (in_negation o at) rest = text_open o (tok kind.Bang at ∷ rest)
-  text_open (in_temporal o operator name at) rest = text_open o (spelled (word_of operator) name at ∷ rest)
+  text_open (in_temporal o operator name at) rest =
+      text_open o (spelled (word_of operator) name at ∷ rest)
 
 abbrev pub text_of : State → List Token → List Token
 text_of (operand o) rest = text_open o rest
 text_of (a_word o w) rest = text_open o (named w ∷ rest)
 text_of (in_leaf o front) rest = text_open o (text_front front rest)
 text_of (a_path o all name at) rest = text_open o (spelled (path_word all) name at ∷ rest)
-text_of (after outer before c) rest = text_outer outer (text_before before (text_conjunction c rest))
+text_of (after outer before c) rest =
+    text_outer outer (text_before before (text_conjunction c rest))

@@ -1,4 +1,5 @@
--- Formulas without their places in the text. A conjunction and a disjunction have at least two members.
+-- Formulas without their places in the text. A conjunction and a disjunction have at least two
+-- members.
 use Rattle.std.specs.Prelude.{ℕ, ℤ, Bool, true, false, List, [], ◌∷◌}
 use Rattle.run_model.specs.Run.{Name}
 use Rattle.run_model.specs.Formula as model
@@ -49,7 +50,8 @@ plain_side (side.Variable process name) = variable process.name name.name
 
 abbrev pub plain_atom : Atom → PlainAtom
 plain_atom (atom.Truth value) = truth value
-plain_atom (atom.Local process name compare right) = comparison process.name name.name compare (plain_side right)
+plain_atom (atom.Local process name compare right) =
+    comparison process.name name.name compare (plain_side right)
 plain_atom (atom.Watch process name) = watch process.name name.name
 plain_atom (atom.InTransit sender receiver compare k) = transit sender.name receiver.name compare k
 plain_atom (atom.Empty sender receiver) = emptiness sender.name receiver.name
@@ -112,7 +114,8 @@ abbrev mutual
   shape_unary (negation at u) = not (shape_unary u)
   shape_unary (temporal operator name at u) = under operator (shape_unary u)
   shape_unary (group opened d closed) = shape_disjunction d
-  shape_unary (until path left name at right closed) = until_of path.all (shape_disjunction left) (shape_disjunction right)
+  shape_unary (until path left name at right closed) =
+      until_of path.all (shape_disjunction left) (shape_disjunction right)
 
 -- ---- what a formula means
 
@@ -138,9 +141,11 @@ model_side (variable process name) = model.Variable process name
 
 abbrev pub model_atom : PlainAtom → model.Formula
 model_atom (truth value) = model.Truth value
-model_atom (comparison process name compare right) = model.Comparison process name (relation_of compare) (model_side right)
+model_atom (comparison process name compare right) =
+    model.Comparison process name (relation_of compare) (model_side right)
 model_atom (watch process name) = model.Watched process name
-model_atom (transit sender receiver compare k) = model.InTransit sender receiver (relation_of compare) k
+model_atom (transit sender receiver compare k) =
+    model.InTransit sender receiver (relation_of compare) k
 model_atom (emptiness sender receiver) = model.Empty sender receiver
 
 abbrev mutual
@@ -148,7 +153,8 @@ abbrev mutual
   pub model_of : Shape → model.Formula
   model_of (plain a) = model_atom a
   model_of (not s) = model.Not (model_of s)
-  model_of (conjunction front last) = model.And (models front (model.Cons (model_of last) model.Nil))
+  model_of (conjunction front last) =
+      model.And (models front (model.Cons (model_of last) model.Nil))
   model_of (disjunction front last) = model.Or (models front (model.Cons (model_of last) model.Nil))
   model_of (under operator s) = model.Temporal (model_operator operator) (model_of s)
   model_of (until_of all left right) = model.Until all (model_of left) (model_of right)

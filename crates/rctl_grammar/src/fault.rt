@@ -1,4 +1,5 @@
-/// The operators that lie outside the class of formulas that are decided. `Eu` and `Au` are the untils.
+/// The operators that lie outside the class of formulas that are decided. `Eu` and `Au` are the
+/// untils.
 #[derive(Clone, Copy, Debug, PartialEq, Eq)]
 pub enum Outside {
     Ex,
@@ -11,9 +12,11 @@ pub enum Outside {
 /// What is wrong with a formula's text.
 #[derive(Clone, Copy, Debug, PartialEq, Eq)]
 pub enum FormulaCode {
-    /// A byte that begins no token, a number with a leading zero or `-0`, a word of more than 64 bytes, a `-` without a digit after it.
+    /// A byte that begins no token, a number with a leading zero or `-0`, a word of more than 64
+    /// bytes, a `-` without a digit after it.
     Token,
-    /// The tokens before this one begin a formula, and with it they do not; or the text ends and is no formula.
+    /// The tokens before this one begin a formula, and with it they do not; or the text ends and is
+    /// no formula.
     Syntax,
     /// A number outside the range of 64 bits, or a negative one compared with `intransit`.
     Number,

@@ -1,4 +1,5 @@
-//! The grammar of the formula language: its tokens, its trees, the derivations that join them, and the first fault of a text.
+//! The grammar of the formula language: its tokens, its trees, the derivations that join them, and
+//! the first fault of a text.
 #![tactic(auto)]
 
 mod boxed;

@@ -43,7 +43,8 @@ pub enum Atom {
         process: Place,
         watch: Place,
     },
-    /// The number of messages under way from the sender to the receiver, against `k`, which is at most 2^63 - 1.
+    /// The number of messages under way from the sender to the receiver, against `k`, which is at
+    /// most 2^63 - 1.
     InTransit {
         sender: Place,
         receiver: Place,
@@ -68,8 +69,9 @@ pub enum Operator {
     Ax,
 }
 
-/// A formula's nodes. The place `at` of a node is a byte of the text, from 0: of a leaf's first token, of `!`, of the first `&` of
-/// an And, of the first `|` of an Or, of the operator's word, of the `E` or `A` of an until.
+/// A formula's nodes. The place `at` of a node is a byte of the text, from 0: of a leaf's first
+/// token, of `!`, of the first `&` of an And, of the first `|` of an Or, of the operator's word, of
+/// the `E` or `A` of an until.
 #[derive(Debug, Drop)]
 pub enum Tree {
     Leaf {

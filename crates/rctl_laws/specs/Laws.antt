@@ -23,7 +23,9 @@ pub record IsWithinLimits (d : Disjunction) : Type 0 where
 
 -- tokens of such a formula up to the end of the text have no fault
 abbrev pub WithinLimitsIsRead : Type 0
-WithinLimitsIsRead = (tokens : List Token) (d : Disjunction) (len : ℕ) → IsFormula tokens d → IsWithinLimits d → first_fault tokens (end.Ends len) ≡ None
+WithinLimitsIsRead =
+    (tokens : List Token) (d : Disjunction) (len : ℕ) → IsFormula tokens d → IsWithinLimits d
+    → first_fault tokens (end.Ends len) ≡ None
 
 -- the tokens are those of a formula within the limits, and the text ends behind them
 pub record IsFree (tokens : List Token) (ending : End) : Type 0 where
@@ -35,13 +37,19 @@ pub record IsFree (tokens : List Token) (ending : End) : Type 0 where
 
 -- and no other tokens are without a fault
 abbrev pub NoFaultIsWithinLimits : Type 0
-NoFaultIsWithinLimits = (tokens : List Token) (ending : End) → first_fault tokens ending ≡ None → IsFree tokens ending
+NoFaultIsWithinLimits =
+    (tokens : List Token) (ending : End) → first_fault tokens ending ≡ None → IsFree tokens ending
 
 -- the first fault of a text is one that it has
 abbrev pub FirstFaultStands : Type 0
-FirstFaultStands = (tokens : List Token) (ending : End) (fault : FormulaFault) → first_fault tokens ending ≡ Some fault → HasFault tokens ending fault.code fault.place
+FirstFaultStands =
+    (tokens : List Token) (ending : End) (fault : FormulaFault)
+    → first_fault tokens ending ≡ Some fault → HasFault tokens ending fault.code fault.place
 
--- a text that has a fault has a first fault, which is that one or comes before it. Its tokens stand one behind the other
+-- a text that has a fault has a first fault, which is that one or comes before it. Its tokens stand
+-- one behind the other
 abbrev pub FirstFaultPrecedes : Type 0
-FirstFaultPrecedes = (tokens : List Token) (ending : End) (c : FormulaCode) (at : ℕ) → Ascend 0 tokens (place_of ending) → HasFault tokens ending c at
+FirstFaultPrecedes =
+    (tokens : List Token) (ending : End) (c : FormulaCode) (at : ℕ)
+    → Ascend 0 tokens (place_of ending) → HasFault tokens ending c at
     → (fault : FormulaFault) × (first_fault tokens ending ≡ Some fault) × Precedes fault c at

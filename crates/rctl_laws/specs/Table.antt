@@ -1,5 +1,5 @@
--- The faults that a text of tokens has, each by the tokens before it, and their order. Nothing here is read from left to right: a
--- text may have many faults.
+-- The faults that a text of tokens has, each by the tokens before it, and their order. Nothing here
+-- is read from left to right: a text may have many faults.
 use Rattle.std.specs.Prelude.{◌≡◌, ℕ, negsuc, ◌+◌, ◌<◌, ◌≤◌, ◌⊎◌, Bool, List, [], ◌∷◌, ◌++◌, Some, None}
 use Rattle.run_model.specs.Run.{Name}
 use Rattle.rctl_grammar.specs.declared.token.Kind.{Kind}
@@ -19,7 +19,8 @@ use Rattle.rctl_grammar.specs.Machine.{Before, Outer, Open, sign, no_sign, text_
 use Rattle.rctl_grammar.specs.FirstFault.{MOST_LEVELS, MOST_NODES, depth, nodes_open, nodes_outer, nodes_before}
 
 -- the token is one of these, at this place, with those tokens before it and behind it
-pub record IsAt (tokens : List Token) (at : ℕ) (before : List Token) (token : Token) (rest : List Token) : Type 0 where
+pub record IsAt (tokens : List Token) (at : ℕ) (before : List Token) (token : Token)
+    (rest : List Token) : Type 0 where
   pub whole : tokens ≡ before ++ token ∷ rest
   pub place : token.at ≡ at
 
@@ -49,7 +50,8 @@ pub record EndsWithTransit (before : List Token) : Type 0 where
   pub channel : Channel
   pub compare : Compare
   pub compare_at : ℕ
-  pub text : before ≡ front ++ spelled word.InTransit name at ∷ text_channel channel (tok (kind.Compare compare) compare_at ∷ [])
+  pub text : before ≡ front ++ spelled word.InTransit name at
+      ∷ text_channel channel (tok (kind.Compare compare) compare_at ∷ [])
 
 abbrev pub IsNegative : Kind → Type 0
 IsNegative k = (n : ℕ) × (k ≡ kind.Number (Some (negsuc n)))
@@ -71,7 +73,10 @@ NamesNone (t ∷ ts) = sign t.kind ≡ no_sign
 
 -- `!`, `(`, or an operator's word
 abbrev pub OpensOperand : Kind → List Token → Type 0
-OpensOperand k rest = (k ≡ kind.Bang) ⊎ ((k ≡ kind.OpenRound) ⊎ ((operator : Operator) × (name : Name) × (k ≡ kind.Word (word_of operator) name) × NamesNone rest))
+OpensOperand k rest =
+    (k ≡ kind.Bang) ⊎ ((k ≡ kind.OpenRound)
+    ⊎ ((operator : Operator) × (name : Name) × (k ≡ kind.Word (word_of operator) name)
+    × NamesNone rest))
 
 -- the `[` behind `E` or `A`
 pub record OpensUntil (around : Open) (before : List Token) (k : Kind) : Type 0 where
@@ -89,7 +94,8 @@ pub record IsTooDeep (tokens : List Token) (at : ℕ) : Type 0 where
   pub stands : IsAt tokens at before token rest
   pub around : Open
   pub deep : MOST_LEVELS ≤ depth around
-  pub opens : ((before ≡ text_open around []) × OpensOperand token.kind rest) ⊎ OpensUntil around before token.kind
+  pub opens : ((before ≡ text_open around []) × OpensOperand token.kind rest)
+      ⊎ OpensUntil around before token.kind
 
 -- ---- nodes
 
@@ -119,7 +125,8 @@ pub record IsFirstBar (before : List Token) (k : Kind) (nodes : ℕ) : Type 0 wh
 
 -- the token is the place of a node, and so many nodes have theirs before it
 abbrev pub IsNode : List Token → Kind → ℕ → Type 0
-IsNode before k nodes = BeginsUnary before k nodes ⊎ (IsFirstAmp before k nodes ⊎ IsFirstBar before k nodes)
+IsNode before k nodes =
+    BeginsUnary before k nodes ⊎ (IsFirstAmp before k nodes ⊎ IsFirstBar before k nodes)
 
 -- the token is the place of the 65th node or a later one
 pub record IsTooMany (tokens : List Token) (at : ℕ) : Type 0 where
@@ -151,6 +158,7 @@ rank code.TooDeep = 3
 rank code.TooManyNodes = 4
 rank c = 5
 
--- the fault is the other or comes before it: at a lesser place, or at the same place with no greater rank
+-- the fault is the other or comes before it: at a lesser place, or at the same place with no
+-- greater rank
 abbrev pub Precedes : FormulaFault → FormulaCode → ℕ → Type 0
 Precedes fault c at = (fault.place < at) ⊎ ((fault.place ≡ at) × (rank fault.code ≤ rank c))

@@ -20,7 +20,8 @@ pub fn first_fault_stands()
     ensures { FirstFaultStands }
 {}
 
-/// No fault that a text has comes before its first fault, neither by its place nor, at one place, by the order of the faults.
+/// No fault that a text has comes before its first fault, neither by its place nor, at one place,
+/// by the order of the faults.
 pub fn first_fault_precedes()
     ensures { FirstFaultPrecedes }
 {}

@@ -1,5 +1,6 @@
-//! The laws of the grammar of formulas: tokens have one reading, they have no fault exactly where they are a formula within the
-//! limits, and their first fault is the first of those that they have.
+//! The laws of the grammar of formulas: tokens have one reading, they have no fault exactly where
+//! they are a formula within the limits, and their first fault is the first of those that they
+//! have.
 #![tactic(auto)]
 
 mod laws;

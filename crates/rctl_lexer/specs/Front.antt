@@ -24,7 +24,7 @@ abbrev pub starts_with : ℕ → List ℕ → Bool
 starts_with byte [] = false
 starts_with byte (b ∷ bs) = b == byte
 
--- ---- words: the longest run of letters, digits and `_`, which is a name and so has at most 64 bytes
+-- ---- words: the longest run of letters, digits and `_`, a name and so at most 64 bytes
 
 unfoldable pub word_front : List ℕ → ℕ → Front
 word_front text extra =
@@ -40,7 +40,9 @@ may_begin_number b = is_digit b || b == 45
 
 -- no digit follows a leading 0, and a digit other than 0 follows `-`
 abbrev pub begins_number : ℕ → List ℕ → Bool
-begins_number b rest = if b == 45 then starts_digit rest && not (starts_with 48 rest) else not (b == 48 && starts_digit rest)
+begins_number b rest =
+    if b == 45 then starts_digit rest && not (starts_with 48 rest)
+    else not (b == 48 && starts_digit rest)
 
 -- the number that the text spells, where it has 64 bits
 abbrev pub number_value : List ℕ → Option ℤ
@@ -93,7 +95,8 @@ front [] = at_front.Bad
 front (b ∷ rest) =
     if is_blank b then at_front.Blank
     else if is_name_start b then word_front (b ∷ rest) (run_of is_name_byte rest)
-    else if may_begin_number b then (if begins_number b rest then number_front (b ∷ rest) (run_of is_digit rest) else at_front.Bad)
+    else if may_begin_number b then
+      (if begins_number b rest then number_front (b ∷ rest) (run_of is_digit rest) else at_front.Bad)
     else sign_front b rest
 
 -- a token has at most so many bytes

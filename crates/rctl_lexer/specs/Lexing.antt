@@ -15,10 +15,12 @@ after tokens more = record { tokens = tokens ++ more.tokens; end = more.end }
 -- what is at byte `at`, and then the tokens from behind it on, where so many bytes more are passed
 abbrev pub lex_front : Front → ℕ → (ℕ → Lexed) → Lexed
 lex_front at_front.Blank at more = more 0
-lex_front (at_front.Token kind extra) at more = after (record { kind = kind; at = at } ∷ []) (more extra)
+lex_front (at_front.Token kind extra) at more =
+    after (record { kind = kind; at = at } ∷ []) (more extra)
 lex_front at_front.Bad at more = record { tokens = []; end = end_is.BadToken at }
 
--- the tokens of a text from byte `at` on, of which the first `passed` bytes are those of the token before
+-- the tokens of a text from byte `at` on, of which the first `passed` bytes are those of the token
+-- before
 unfoldable pub lex_from : ℕ → ℕ → List ℕ → Lexed
 lex_from passed at [] = record { tokens = []; end = end_is.Ends at }
 lex_from zero at (x ∷ xs) = lex_front (front (x ∷ xs)) at (λ extra. lex_from extra (at + 1) xs)

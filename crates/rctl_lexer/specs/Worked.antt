@@ -48,20 +48,24 @@ zero_alone : lex (codes "0") ≡ whole (tok (kind.Number (Some (pos 0))) 0 ∷ [
 unfolding lex_from front number_front signed_at digits_from
 zero_alone = refl
 
-least_number : lex (codes "-9223372036854775808") ≡ whole (tok (kind.Number (Some (negsuc 9223372036854775807))) 0 ∷ []) (end_is.Ends 20)
+least_number : lex (codes "-9223372036854775808")
+    ≡ whole (tok (kind.Number (Some (negsuc 9223372036854775807))) 0 ∷ []) (end_is.Ends 20)
 unfolding lex_from front number_front signed_at digits_from
 least_number = refl
 
-greatest_number : lex (codes "9223372036854775807") ≡ whole (tok (kind.Number (Some (pos 9223372036854775807))) 0 ∷ []) (end_is.Ends 19)
+greatest_number : lex (codes "9223372036854775807")
+    ≡ whole (tok (kind.Number (Some (pos 9223372036854775807))) 0 ∷ []) (end_is.Ends 19)
 unfolding lex_from front number_front signed_at digits_from
 greatest_number = refl
 
-number_out_of_range : lex (codes "9223372036854775808") ≡ whole (tok (kind.Number None) 0 ∷ []) (end_is.Ends 19)
+number_out_of_range : lex (codes "9223372036854775808")
+    ≡ whole (tok (kind.Number None) 0 ∷ []) (end_is.Ends 19)
 unfolding lex_from front number_front signed_at digits_from
 number_out_of_range = refl
 
 -- 97 is an `a`
-longest_word : lex (replicate 64 97) ≡ whole (tok (kind.Word word.Plain (replicate 64 97)) 0 ∷ []) (end_is.Ends 64)
+longest_word : lex (replicate 64 97)
+    ≡ whole (tok (kind.Word word.Plain (replicate 64 97)) 0 ∷ []) (end_is.Ends 64)
 unfolding lex_from front word_front word_of
 longest_word = refl
 
@@ -69,7 +73,9 @@ word_too_long : lex (replicate 65 97) ≡ nothing
 unfolding lex_from front word_front word_of
 word_too_long = refl
 
-comparisons : lex (codes "<=<!=!") ≡ whole (tok (kind.Compare compare.Le) 0 ∷ tok (kind.Compare compare.Lt) 2 ∷ tok (kind.Compare compare.Ne) 3 ∷ tok kind.Bang 5 ∷ []) (end_is.Ends 6)
+comparisons : lex (codes "<=<!=!")
+    ≡ whole (tok (kind.Compare compare.Le) 0 ∷ tok (kind.Compare compare.Lt) 2
+    ∷ tok (kind.Compare compare.Ne) 3 ∷ tok kind.Bang 5 ∷ []) (end_is.Ends 6)
 unfolding lex_from front sign_front sign_of with_equals
 comparisons = refl
 
@@ -83,10 +89,14 @@ unfolding lex_from front sign_front sign_of with_equals
 no_letter = refl
 
 -- what a process named EF is, the tokens behind it say
-process_ef : lex (codes "EF.x") ≡ whole (tok (kind.Word word.Ef (codes "EF")) 0 ∷ tok kind.Dot 2 ∷ tok (kind.Word word.Plain (codes "x")) 3 ∷ []) (end_is.Ends 4)
+process_ef : lex (codes "EF.x") ≡ whole
+    (tok (kind.Word word.Ef (codes "EF")) 0 ∷ tok kind.Dot 2
+    ∷ tok (kind.Word word.Plain (codes "x")) 3 ∷ []) (end_is.Ends 4)
 unfolding lex_from front word_front word_of sign_front sign_of with_equals
 process_ef = refl
 
-stops_at_a_bad_token : lex (codes "x = 02 & y") ≡ whole (tok (kind.Word word.Plain (codes "x")) 0 ∷ tok (kind.Compare compare.Eq) 2 ∷ []) (end_is.BadToken 4)
+stops_at_a_bad_token : lex (codes "x = 02 & y")
+    ≡ whole (tok (kind.Word word.Plain (codes "x")) 0 ∷ tok (kind.Compare compare.Eq) 2 ∷ [])
+    (end_is.BadToken 4)
 unfolding lex_from front word_front word_of sign_front sign_of with_equals
 stops_at_a_bad_token = refl

@@ -17,7 +17,8 @@ pub struct Lexed {
     pub end: End,
 }
 
-/// The tokens of a text, each as long as it can be, up to the end of the text or the first byte at which no token begins.
+/// The tokens of a text, each as long as it can be, up to the end of the text or the first byte at
+/// which no token begins.
 pub fn lex(alloc: Global, text: &[u8]) -> Result<Lexed, NoMemory>
     requires { length text.now ≤ 65536 }
     ensures lexed { IfOk result (λ lexed. lexed ≡ lex text.now) }

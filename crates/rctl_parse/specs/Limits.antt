@@ -8,4 +8,6 @@ Opened around inside = (around.level < 16) × (inside ≡ record around { level 
 
 -- one level deeper, behind one node more
 abbrev pub Entered : Around → Around → Type 0
-Entered around inside = (around.level < 16) × (around.nodes < 64) × (inside ≡ record around { level = around.level + 1; nodes = around.nodes + 1 })
+Entered around inside =
+    (around.level < 16) × (around.nodes < 64)
+    × (inside ≡ record around { level = around.level + 1; nodes = around.nodes + 1 })

@@ -11,7 +11,8 @@ use Rattle.rctl_grammar.specs.FirstFault.{first_fault}
 use Rattle.rctl_lexer.specs.Lexing.{lex}
 use Rattle.rctl_laws.specs.Laws.{IsWithinLimits}
 
--- the tokens, up to the end of the text, are those of a formula within the limits, and this is its tree, places included
+-- the tokens, up to the end of the text, are those of a formula within the limits, and this is its
+-- tree, places included
 pub record IsTreeOf (tokens : List Token) (ending : End) (t : Tree) : Type 0 where
   pub d : Disjunction
   pub text : IsFormula tokens d
@@ -30,4 +31,6 @@ long_fault text = first_fault (lex text).tokens (lex text).end
 
 -- the first fault of a text: too long comes before all
 abbrev pub fault_of_text : List ℕ → Option FormulaFault
-fault_of_text text = if nat_lt 4096 (length text) then Some (record { code = code.TooLong; place = 4096 }) else long_fault text
+fault_of_text text =
+    if nat_lt 4096 (length text) then Some (record { code = code.TooLong; place = 4096 })
+    else long_fault text

@@ -42,7 +42,8 @@ IsOpening opening.Nothing ts = NoUnary ts
 
 -- a word that no formula has in the place of a unary
 abbrev pub NoRole : Word → Type 0
-NoRole w = (o : Open) (name : Name) (at : ℕ) → settled o (record { word = w; name = name; at = at }) ≡ None
+NoRole w =
+    (o : Open) (name : Name) (at : ℕ) → settled o (record { word = w; name = name; at = at }) ≡ None
 
 -- the leaf that a word begins before these tokens
 abbrev pub IsLeafRole : LeafRole → Word → List Token → Type 0
@@ -71,27 +72,32 @@ IsRole (role.Leaf l) w ts = IsLeafRole l w ts
 
 -- ---- unaries
 
--- a leaf is read from behind its word to the rest, whatever stands around it that has room for a node
+-- a leaf is read from behind its word to the rest, whatever stands around it that has room for a
+-- node
 pub record WordRead (w : Spelled) (ts rest : List Token) (ending : End) (a : Atom) : Type 0 where
   pub l : Leaf
   pub atom : atom_of l ≡ a
   pub place : first_token l ≡ w.at
   pub in_range : leaf_in_range l ≡ true
   pub text : named w ∷ ts ≡ text_leaf l rest
-  pub goes : (o : Open) → nodes_open o < 64 → fault_of (a_word o w) ts ending ≡ fault_of (plug o (leaf l)) rest ending
+  pub goes : (o : Open) → nodes_open o < 64
+      → fault_of (a_word o w) ts ending ≡ fault_of (plug o (leaf l)) rest ending
   pub shorter : length rest < length (named w ∷ ts)
 
 abbrev pub WordFault : Spelled → List Token → End → FormulaFault → Type 0
 WordFault w ts ending f = (o : Open) → nodes_open o < 64 → fault_of (a_word o w) ts ending ≡ Some f
 
 abbrev pub UnaryFault : List Token → Around → FormulaFault → Type 0
-UnaryFault ts around f = (o : Open) → depth o ≡ around.level → nodes_open o ≡ around.nodes → fault_of (operand o) ts around.end ≡ Some f
+UnaryFault ts around f =
+    (o : Open) → depth o ≡ around.level → nodes_open o ≡ around.nodes
+    → fault_of (operand o) ts around.end ≡ Some f
 
 pub record UnaryRead (ts rest : List Token) (around : Around) (nodes : ℕ) (t : Tree) : Type 0 where
   pub u : Unary
   pub tree : tree_unary u ≡ t
   pub text : ts ≡ text_unary u rest
-  pub goes : (o : Open) → depth o ≡ around.level → nodes_open o ≡ around.nodes → fault_of (operand o) ts around.end ≡ fault_of (plug o u) rest around.end
+  pub goes : (o : Open) → depth o ≡ around.level → nodes_open o ≡ around.nodes
+      → fault_of (operand o) ts around.end ≡ fault_of (plug o u) rest around.end
   pub counts : nodes ≡ around.nodes + nodes_unary u
   pub fits : nodes ≤ 64
   pub levels : levels_unary u ≤ 16 - around.level
@@ -99,42 +105,52 @@ pub record UnaryRead (ts rest : List Token) (around : Around) (nodes : ℕ) (t :
   pub shorter : length rest < length ts
 
 -- behind the word of an until, and behind its `[`
-pub record PathRead (all : Bool) (name : Name) (at : ℕ) (ts rest : List Token) (around inside : Around) : Type 0 where
+pub record PathRead (all : Bool) (name : Name) (at : ℕ) (ts rest : List Token)
+    (around inside : Around) : Type 0 where
   pub opened : ℕ
   pub enters : Entered around inside
   pub text : ts ≡ tok kind.OpenSquare opened ∷ rest
   pub goes : (o : Open) → depth o ≡ around.level → nodes_open o ≡ around.nodes
       → fault_of (operand o) (spelled (path_word all) name at ∷ ts) around.end
-      ≡ fault_of (operand (first_of (in_left o (record { all = all; name = name; at = at; opened = opened })) nothing)) rest around.end
+      ≡ fault_of (operand (first_of (in_left o
+      (record { all = all; name = name; at = at; opened = opened })) nothing)) rest around.end
 
 -- ---- conjunctions
 
 abbrev pub ConjunctionFault : List Token → Around → FormulaFault → Type 0
-ConjunctionFault ts around f = (outer : Outer) (before : Before) → depth_outer outer ≡ around.level → nodes_outer outer + nodes_before before ≡ around.nodes
+ConjunctionFault ts around f =
+    (outer : Outer) (before : Before) → depth_outer outer ≡ around.level
+    → nodes_outer outer + nodes_before before ≡ around.nodes
     → fault_of (operand (first_of outer before)) ts around.end ≡ Some f
 
-pub record ConjunctionRead (ts rest : List Token) (around : Around) (nodes : ℕ) (t : Tree) : Type 0 where
-  pub c : Conjunction
-  pub tree : tree_conjunction c ≡ t
-  pub text : ts ≡ text_conjunction c rest
-  pub goes : (outer : Outer) (before : Before) → depth_outer outer ≡ around.level → nodes_outer outer + nodes_before before ≡ around.nodes
-      → fault_of (operand (first_of outer before)) ts around.end ≡ fault_of (after outer before c) rest around.end
-  pub counts : nodes ≡ around.nodes + nodes_conjunction c
-  pub fits : nodes ≤ 64
-  pub levels : levels_conjunction c ≤ 16 - around.level
-  pub in_range : conjunction_in_range c ≡ true
-  pub ends : found amp_in rest ≡ None
-  pub shorter : length rest < length ts
+pub record ConjunctionRead (ts rest : List Token) (around : Around) (nodes : ℕ) (t : Tree) : Type 0
+  where
+    pub c : Conjunction
+    pub tree : tree_conjunction c ≡ t
+    pub text : ts ≡ text_conjunction c rest
+    pub goes : (outer : Outer) (before : Before) → depth_outer outer ≡ around.level
+        → nodes_outer outer + nodes_before before ≡ around.nodes
+        → fault_of (operand (first_of outer before)) ts around.end
+        ≡ fault_of (after outer before c) rest around.end
+    pub counts : nodes ≡ around.nodes + nodes_conjunction c
+    pub fits : nodes ≤ 64
+    pub levels : levels_conjunction c ≤ 16 - around.level
+    pub in_range : conjunction_in_range c ≡ true
+    pub ends : found amp_in rest ≡ None
+    pub shorter : length rest < length ts
 
 -- the members so far, behind an `&`
-pub record ConjunctionSoFar (ts more : List Token) (around : Around) (nodes : ℕ) (members : List Tree) (at : ℕ) : Type 0 where
+pub record ConjunctionSoFar (ts more : List Token) (around : Around) (nodes : ℕ)
+    (members : List Tree) (at : ℕ) : Type 0 where
   pub c : Conjunction
   pub amp : ℕ
   pub trees : conjuncts c ≡ members
   pub first : first_amp c amp ≡ at
   pub text : ts ≡ text_conjunction c (tok kind.Amp amp ∷ more)
-  pub goes : (outer : Outer) (before : Before) → depth_outer outer ≡ around.level → nodes_outer outer + nodes_before before ≡ around.nodes
-      → fault_of (operand (first_of outer before)) ts around.end ≡ fault_of (operand (next_of outer before c amp)) more around.end
+  pub goes : (outer : Outer) (before : Before) → depth_outer outer ≡ around.level
+      → nodes_outer outer + nodes_before before ≡ around.nodes
+      → fault_of (operand (first_of outer before)) ts around.end
+      ≡ fault_of (operand (next_of outer before c amp)) more around.end
   pub counts : nodes ≡ around.nodes + nodes_conjunction c + amp_nodes c
   pub levels : levels_conjunction c ≤ 16 - around.level
   pub in_range : conjunction_in_range c ≡ true
@@ -143,32 +159,38 @@ pub record ConjunctionSoFar (ts more : List Token) (around : Around) (nodes : �
 -- ---- formulas
 
 abbrev pub FormulaFails : List Token → Around → FormulaFault → Type 0
-FormulaFails ts around f = (outer : Outer) → depth_outer outer ≡ around.level → nodes_outer outer ≡ around.nodes → fault_of (operand (first_of outer nothing)) ts around.end ≡ Some f
+FormulaFails ts around f =
+    (outer : Outer) → depth_outer outer ≡ around.level → nodes_outer outer ≡ around.nodes
+    → fault_of (operand (first_of outer nothing)) ts around.end ≡ Some f
 
-pub record FormulaRead (ts rest : List Token) (around : Around) (nodes : ℕ) (t : Tree) : Type 0 where
-  pub before : Before
-  pub c : Conjunction
-  pub tree : tree_disjunction (joined before c) ≡ t
-  pub text : ts ≡ text_disjunction (joined before c) rest
-  pub goes : (outer : Outer) → depth_outer outer ≡ around.level → nodes_outer outer ≡ around.nodes
-      → fault_of (operand (first_of outer nothing)) ts around.end ≡ fault_of (after outer before c) rest around.end
-  pub counts : nodes ≡ around.nodes + nodes_disjunction (joined before c)
-  pub fits : nodes ≤ 64
-  pub levels : levels_disjunction (joined before c) ≤ 16 - around.level
-  pub in_range : disjunction_in_range (joined before c) ≡ true
-  pub no_amp : found amp_in rest ≡ None
-  pub no_bar : found bar_in rest ≡ None
-  pub shorter : length rest < length ts
+pub record FormulaRead (ts rest : List Token) (around : Around) (nodes : ℕ) (t : Tree) : Type 0
+  where
+    pub before : Before
+    pub c : Conjunction
+    pub tree : tree_disjunction (joined before c) ≡ t
+    pub text : ts ≡ text_disjunction (joined before c) rest
+    pub goes : (outer : Outer) → depth_outer outer ≡ around.level → nodes_outer outer ≡ around.nodes
+        → fault_of (operand (first_of outer nothing)) ts around.end
+        ≡ fault_of (after outer before c) rest around.end
+    pub counts : nodes ≡ around.nodes + nodes_disjunction (joined before c)
+    pub fits : nodes ≤ 64
+    pub levels : levels_disjunction (joined before c) ≤ 16 - around.level
+    pub in_range : disjunction_in_range (joined before c) ≡ true
+    pub no_amp : found amp_in rest ≡ None
+    pub no_bar : found bar_in rest ≡ None
+    pub shorter : length rest < length ts
 
 -- the members so far, behind a `|`
-pub record FormulaSoFar (ts more : List Token) (around : Around) (nodes : ℕ) (members : List Tree) (at : ℕ) : Type 0 where
+pub record FormulaSoFar (ts more : List Token) (around : Around) (nodes : ℕ) (members : List Tree)
+    (at : ℕ) : Type 0 where
   pub d : Disjunction
   pub bar_at : ℕ
   pub trees : disjuncts d ≡ members
   pub first : first_bar d bar_at ≡ at
   pub text : ts ≡ text_disjunction d (tok kind.Bar bar_at ∷ more)
   pub goes : (outer : Outer) → depth_outer outer ≡ around.level → nodes_outer outer ≡ around.nodes
-      → fault_of (operand (first_of outer nothing)) ts around.end ≡ fault_of (operand (first_of outer (bar d bar_at))) more around.end
+      → fault_of (operand (first_of outer nothing)) ts around.end
+      ≡ fault_of (operand (first_of outer (bar d bar_at))) more around.end
   pub counts : nodes ≡ around.nodes + nodes_disjunction d + bar_nodes d
   pub levels : levels_disjunction d ≤ 16 - around.level
   pub in_range : disjunction_in_range d ≡ true
@@ -176,7 +198,8 @@ pub record FormulaSoFar (ts more : List Token) (around : Around) (nodes : ℕ) (
 
 -- ---- formulas that a symbol ends
 
-pub record EnclosedRead (symbol : Symbol) (ts rest : List Token) (inside : Around) (nodes : ℕ) (t : Tree) : Type 0 where
+pub record EnclosedRead (symbol : Symbol) (ts rest : List Token) (inside : Around) (nodes : ℕ)
+    (t : Tree) : Type 0 where
   pub behind : List Token
   pub at : ℕ
   pub read : FormulaRead ts behind inside nodes t
@@ -184,7 +207,8 @@ pub record EnclosedRead (symbol : Symbol) (ts rest : List Token) (inside : Aroun
   pub shorter : length rest < length ts
 
 -- the formula is read, and the symbol isn't there
-pub record Unclosed (symbol : Symbol) (ts : List Token) (inside : Around) (f : FormulaFault) : Type 0 where
+pub record Unclosed (symbol : Symbol) (ts : List Token) (inside : Around) (f : FormulaFault) : Type
+    0 where
   pub behind : List Token
   pub nodes : ℕ
   pub t : Tree

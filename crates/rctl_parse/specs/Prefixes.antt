@@ -13,7 +13,8 @@ use Rattle.rctl_parse.specs.Parts.{sign_of}
 
 abbrev pub IsPrefix : Prefix → Token → ℕ → List Token → Type 0
 IsPrefix prefix.Negation first at ts = first ≡ tok kind.Bang at
-IsPrefix (prefix.Operator operator) first at ts = (name : Name) × (first ≡ spelled (word_of operator) name at) × (sign_of ts ≡ no_sign)
+IsPrefix (prefix.Operator operator) first at ts =
+    (name : Name) × (first ≡ spelled (word_of operator) name at) × (sign_of ts ≡ no_sign)
 
 abbrev pub prefix_tree : Prefix → Tree → ℕ → Tree
 prefix_tree prefix.Negation t at = tree.Not t at

@@ -75,7 +75,8 @@ symbol_in symbol.Bar = bar_in
 symbol_in symbol.Until = until_at
 
 -- a token that was looked for isn't there
-abbrev pub Misses : {A : Type 0} → (Kind → ℕ → Option A) → List Token → End → Refused FormulaFault → Type 0
+abbrev pub Misses : {A : Type 0} → (Kind → ℕ → Option A) → List Token → End → Refused FormulaFault
+    → Type 0
 Misses look ts ending stop = Faults stop (λ f. (found look ts ≡ None) × (f ≡ here ts ending))
 
 -- ---- leaves
@@ -102,13 +103,16 @@ text_step (going front) rest = text_front front rest
 text_step (whole l) rest = text_leaf l rest
 
 -- from behind a front to the rest a leaf goes on to this step, whatever stands around it
-pub record Moves (front : Front) (ts rest : List Token) (ending : End) (next : LeafStep) : Type 0 where
-  pub text : text_front front ts ≡ text_step next rest
-  pub goes : (o : Open) → fault_of (in_leaf o front) ts ending ≡ fault_of (put_leaf o next) rest ending
-  pub shorter : length rest < length ts
+pub record Moves (front : Front) (ts rest : List Token) (ending : End) (next : LeafStep) : Type 0
+  where
+    pub text : text_front front ts ≡ text_step next rest
+    pub goes : (o : Open) → fault_of (in_leaf o front) ts ending
+        ≡ fault_of (put_leaf o next) rest ending
+    pub shorter : length rest < length ts
 
 -- a leaf is read from behind its front to the rest: its atom, and the place of its first token
-pub record LeafRead (front : Front) (ts rest : List Token) (ending : End) (a : Atom) (at : ℕ) : Type 0 where
+pub record LeafRead (front : Front) (ts rest : List Token) (ending : End) (a : Atom) (at : ℕ) : Type
+    0 where
   pub l : Leaf
   pub atom : atom_of l ≡ a
   pub place : first_token l ≡ at
@@ -120,11 +124,14 @@ pub record SideRead (ts rest : List Token) (ending : End) (s : Side) : Type 0 wh
   pub r : RightSide
   pub side : side_of r ≡ s
   pub in_range : side_in_range r ≡ true
-  pub moves : (left : Variable) (c : Compare) (at : ℕ) → Moves (compared left c at) ts rest ending (whole (comparison left c at r))
+  pub moves : (left : Variable) (c : Compare) (at : ℕ)
+      → Moves (compared left c at) ts rest ending (whole (comparison left c at r))
 
 -- the two processes of a channel
-pub record ChannelRead (ts rest : List Token) (ending : End) (sender receiver : Place) : Type 0 where
-  pub c : Channel
-  pub sender_is : placed_name c.sender ≡ sender
-  pub receiver_is : placed_name c.receiver ≡ receiver
-  pub moves : (w : ChannelWord) (name : Name) (at : ℕ) → Moves (channel_word w name at) ts rest ending (step_channel w name at c)
+pub record ChannelRead (ts rest : List Token) (ending : End) (sender receiver : Place) : Type 0
+  where
+    pub c : Channel
+    pub sender_is : placed_name c.sender ≡ sender
+    pub receiver_is : placed_name c.receiver ≡ receiver
+    pub moves : (w : ChannelWord) (name : Name) (at : ℕ)
+        → Moves (channel_word w name at) ts rest ending (step_channel w name at c)

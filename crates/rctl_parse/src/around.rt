@@ -16,7 +16,8 @@ const MOST_LEVELS: u32 = 16;
 
 const MOST_NODES: u32 = 64;
 
-/// What stands around a part of a formula: the end of the tokens, the levels open there, the nodes whose places stand before it.
+/// What stands around a part of a formula: the end of the tokens, the levels open there, the nodes
+/// whose places stand before it.
 #[derive(Clone, Copy)]
 pub struct Around {
     pub end: End,
@@ -41,7 +42,8 @@ impl Around {
 
     /// Inside the level that the token at `at` opens. `Fault` where it is too deep.
     pub fn opened(self, at: u32) -> Result<Around, Stop>
-        ensures { MatchResult result (λ inside. Opened self inside) (λ stop. (16 ≤ self.level) × (stop ≡ Fault (too_deep_at at))) }
+        ensures { MatchResult result (λ inside. Opened self inside)
+            (λ stop. (16 ≤ self.level) × (stop ≡ Fault (too_deep_at at))) }
     {
         if self.level >= MOST_LEVELS {
             return Err(fault(FormulaCode::TooDeep, at));
@@ -54,7 +56,9 @@ impl Around {
 
     /// Behind the node whose place is `at`. `Fault` where there are too many.
     pub fn counted(self, at: u32) -> Result<Around, Stop>
-        ensures { MatchResult result (λ behind. (self.nodes < 64) × (behind ≡ record self { nodes = self.nodes + 1 })) (λ stop. (64 ≤ self.nodes) × (stop ≡ Fault (too_many_at at))) }
+        ensures { MatchResult result (λ behind. (self.nodes < 64)
+            × (behind ≡ record self { nodes = self.nodes + 1 }))
+            (λ stop. (64 ≤ self.nodes) × (stop ≡ Fault (too_many_at at))) }
     {
         if self.nodes >= MOST_NODES {
             return Err(fault(FormulaCode::TooManyNodes, at));
@@ -67,7 +71,9 @@ impl Around {
 
     /// Inside the level that the token at `at` opens, and behind the node whose place it is.
     pub fn entered(self, at: u32) -> Result<Around, Stop>
-        ensures { MatchResult result (λ inside. Entered self inside) (λ stop. Faults stop (λ f. either (level_opens self.level at) (node_stands self.nodes at) ≡ Some f)) }
+        ensures { MatchResult result (λ inside. Entered self inside)
+            (λ stop. Faults stop (λ f. either (level_opens self.level at)
+            (node_stands self.nodes at) ≡ Some f)) }
     {
         self.opened(at)?.counted(at)
     }

@@ -29,7 +29,8 @@ pub fn place_of(alloc: Global, name: &Name, at: u32) -> Result<Place, NoMemory>
 
 /// The name at the front, and the tokens behind it.
 fn place(alloc: Global, tokens: &[Token], end: End) -> Result<(Place, &[Token]), Stop>
-    ensures { MatchResult result (λ x. found place_in tokens.now ≡ Some (x.0, x.1.now)) (λ stop. Misses word_in tokens.now end stop) }
+    ensures { MatchResult result (λ x. found place_in tokens.now ≡ Some (x.0, x.1.now))
+        (λ stop. Misses word_in tokens.now end stop) }
 {
     match tokens {
         [
@@ -44,7 +45,8 @@ fn place(alloc: Global, tokens: &[Token], end: End) -> Result<(Place, &[Token]),
 }
 
 fn compare(tokens: &[Token], end: End) -> Result<(Compare, &[Token]), Stop>
-    ensures { MatchResult result (λ x. found comparison_in tokens.now ≡ Some (x.0, x.1.now)) (λ stop. Misses compare_in tokens.now end stop) }
+    ensures { MatchResult result (λ x. found comparison_in tokens.now ≡ Some (x.0, x.1.now))
+        (λ stop. Misses compare_in tokens.now end stop) }
 {
     match tokens {
         [
@@ -60,7 +62,8 @@ fn compare(tokens: &[Token], end: End) -> Result<(Compare, &[Token]), Stop>
 
 // The number at the front with its place, and the tokens behind it.
 fn number(tokens: &[Token]) -> Option<(Option<i64>, u32, &[Token])>
-    ensures { MatchOption result (found number_in tokens.now ≡ None) (λ x. found number_in tokens.now ≡ Some ((x.0, x.1), x.2.now)) }
+    ensures { MatchOption result (found number_in tokens.now ≡ None)
+        (λ x. found number_in tokens.now ≡ Some ((x.0, x.1), x.2.now)) }
 {
     match tokens {
         [
@@ -75,7 +78,9 @@ fn number(tokens: &[Token]) -> Option<(Option<i64>, u32, &[Token])>
 }
 
 fn number_side(value: Option<i64>, at: u32) -> Result<Side, Stop>
-    ensures { MatchResult result (λ side. (in_range value ≡ true) × (side ≡ Number (number_of value))) (λ stop. (in_range value ≡ false) × (stop ≡ Fault (number_at at))) }
+    ensures { MatchResult result (λ side. (in_range value ≡ true)
+        × (side ≡ Number (number_of value)))
+        (λ stop. (in_range value ≡ false) × (stop ≡ Fault (number_at at))) }
 {
     match value {
         Some(x) => Ok(Side::Number(x)),
@@ -85,7 +90,10 @@ fn number_side(value: Option<i64>, at: u32) -> Result<Side, Stop>
 
 // The number that messages under way are compared with.
 fn count(tokens: &[Token], end: End) -> Result<(u64, &[Token]), Stop>
-    ensures { MatchResult result (λ x. CountRead tokens.now x.1.now x.0) (λ stop. Faults stop (λ f. (name : Bytes) (at : ℕ) (channel : Channel) (compare : Compare) (compare_at : ℕ) → LeafFault (transit_compared name at channel compare compare_at) tokens.now end f)) }
+    ensures { MatchResult result (λ x. CountRead tokens.now x.1.now x.0)
+        (λ stop. Faults stop (λ f. (name : Bytes) (at : ℕ) (channel : Channel) (compare : Compare)
+        (compare_at : ℕ) → LeafFault (transit_compared name at channel compare compare_at)
+        tokens.now end f)) }
 {
     let Some((value, at, rest)) = number(tokens) else {
         return Err(refused_here(tokens, end));
@@ -100,7 +108,9 @@ fn count(tokens: &[Token], end: End) -> Result<(u64, &[Token]), Stop>
 }
 
 fn side(alloc: Global, tokens: &[Token], end: End) -> Result<(Side, &[Token]), Stop>
-    ensures { MatchResult result (λ x. SideRead tokens.now x.1.now end x.0) (λ stop. Faults stop (λ f. (left : Variable) (c : Compared) (at : ℕ) → LeafFault (compared left c at) tokens.now end f)) }
+    ensures { MatchResult result (λ x. SideRead tokens.now x.1.now end x.0)
+        (λ stop. Faults stop (λ f. (left : Variable) (c : Compared) (at : ℕ)
+        → LeafFault (compared left c at) tokens.now end f)) }
 {
     if let Some((value, at, rest)) = number(tokens) {
         return Ok((number_side(value, at)?, rest));
@@ -118,7 +128,10 @@ pub fn comparison(
     tokens: &[Token],
     end: End,
 ) -> Result<(Atom, &[Token]), Stop>
-    ensures { MatchResult result (λ x. (p : Spelled) (dot : ℕ) → placed_name p ≡ process → LeafRead (process_dot p dot) tokens.now x.1.now end x.0 p.at) (λ stop. Faults stop (λ f. (p : Spelled) (dot : ℕ) → LeafFault (process_dot p dot) tokens.now end f)) }
+    ensures { MatchResult result (λ x. (p : Spelled) (dot : ℕ) → placed_name p ≡ process
+        → LeafRead (process_dot p dot) tokens.now x.1.now end x.0 p.at)
+        (λ stop. Faults stop (λ f. (p : Spelled) (dot : ℕ)
+        → LeafFault (process_dot p dot) tokens.now end f)) }
 {
     let (variable, rest) = place(alloc, tokens, end)?;
     let (compare, rest) = compare(rest, end)?;
@@ -141,7 +154,10 @@ pub fn watch(
     tokens: &[Token],
     end: End,
 ) -> Result<(Atom, &[Token]), Stop>
-    ensures { MatchResult result (λ x. (p : Spelled) (at : ℕ) → placed_name p ≡ process → LeafRead (process_at p at) tokens.now x.1.now end x.0 p.at) (λ stop. Faults stop (λ f. (p : Spelled) (at : ℕ) → LeafFault (process_at p at) tokens.now end f)) }
+    ensures { MatchResult result (λ x. (p : Spelled) (at : ℕ) → placed_name p ≡ process
+        → LeafRead (process_at p at) tokens.now x.1.now end x.0 p.at)
+        (λ stop. Faults stop (λ f. (p : Spelled) (at : ℕ)
+        → LeafFault (process_at p at) tokens.now end f)) }
 {
     let (watch, rest) = place(alloc, tokens, end)?;
     Ok((Atom::Watch { process, watch }, rest))
@@ -149,7 +165,9 @@ pub fn watch(
 
 // The sender and the receiver, between round brackets.
 fn channel(alloc: Global, tokens: &[Token], end: End) -> Result<(Place, Place, &[Token]), Stop>
-    ensures { MatchResult result (λ x. ChannelRead tokens.now x.2.now end x.0 x.1) (λ stop. Faults stop (λ f. (w : ChannelWord) (name : Bytes) (at : ℕ) → LeafFault (channel_word w name at) tokens.now end f)) }
+    ensures { MatchResult result (λ x. ChannelRead tokens.now x.2.now end x.0 x.1)
+        (λ stop. Faults stop (λ f. (w : ChannelWord) (name : Bytes) (at : ℕ)
+        → LeafFault (channel_word w name at) tokens.now end f)) }
 {
     let (_, rest) = wanted(tokens, end, Symbol::OpenRound)?;
     let (sender, rest) = place(alloc, rest, end)?;
@@ -161,7 +179,10 @@ fn channel(alloc: Global, tokens: &[Token], end: End) -> Result<(Place, Place, &
 
 /// A count of messages under way, from behind its word.
 pub fn transit(alloc: Global, tokens: &[Token], end: End) -> Result<(Atom, &[Token]), Stop>
-    ensures { MatchResult result (λ x. (name : Bytes) (at : ℕ) → LeafRead (channel_word of_transit name at) tokens.now x.1.now end x.0 at) (λ stop. Faults stop (λ f. (name : Bytes) (at : ℕ) → LeafFault (channel_word of_transit name at) tokens.now end f)) }
+    ensures { MatchResult result (λ x. (name : Bytes) (at : ℕ)
+        → LeafRead (channel_word of_transit name at) tokens.now x.1.now end x.0 at)
+        (λ stop. Faults stop (λ f. (name : Bytes) (at : ℕ)
+        → LeafFault (channel_word of_transit name at) tokens.now end f)) }
 {
     let (sender, receiver, rest) = channel(alloc, tokens, end)?;
     let (compare, rest) = compare(rest, end)?;
@@ -179,7 +200,10 @@ pub fn transit(alloc: Global, tokens: &[Token], end: End) -> Result<(Atom, &[Tok
 
 /// An empty channel, from behind its word.
 pub fn emptiness(alloc: Global, tokens: &[Token], end: End) -> Result<(Atom, &[Token]), Stop>
-    ensures { MatchResult result (λ x. (name : Bytes) (at : ℕ) → LeafRead (channel_word of_emptiness name at) tokens.now x.1.now end x.0 at) (λ stop. Faults stop (λ f. (name : Bytes) (at : ℕ) → LeafFault (channel_word of_emptiness name at) tokens.now end f)) }
+    ensures { MatchResult result (λ x. (name : Bytes) (at : ℕ)
+        → LeafRead (channel_word of_emptiness name at) tokens.now x.1.now end x.0 at)
+        (λ stop. Faults stop (λ f. (name : Bytes) (at : ℕ)
+        → LeafFault (channel_word of_emptiness name at) tokens.now end f)) }
 {
     let (sender, receiver, rest) = channel(alloc, tokens, end)?;
     Ok((Atom::Empty { sender, receiver }, rest))

@@ -1,4 +1,5 @@
-//! The formula language: the reading of its texts, and their first fault. Texts are printed by `print`.
+//! The formula language: the reading of its texts, and their first fault. Texts are printed by
+//! `print`.
 #![tactic(auto)]
 
 mod around;

@@ -1,4 +1,5 @@
-//! Formulas, by recursive descent. No call goes deeper than the levels of a formula, since each level that opens is counted.
+//! Formulas, by recursive descent. No call goes deeper than the levels of a formula, since each
+//! level that opens is counted.
 
 ghost use Rattle.rctl_grammar.specs.Grammar.{path_word, spelled, tok};
 ghost use Rattle.rctl_grammar.specs.Machine.{no_sign};
@@ -61,7 +62,10 @@ fn atom<'a>(
     rest: &'a [Token],
     end: End,
 ) -> Result<(Atom, &'a [Token]), Stop>
-    ensures { (w : WordIs) → IsLeafRole role.entry w rest.now → MatchResult result (λ x. WordRead (record { word = w; name = name.now; at = at }) rest.now x.1.now end x.0) (λ stop. Faults stop (λ f. WordFault (record { word = w; name = name.now; at = at }) rest.now end f)) }
+    ensures { (w : WordIs) → IsLeafRole role.entry w rest.now
+        → MatchResult result (λ x. WordRead (record { word = w; name = name.now; at = at }) rest.now
+        x.1.now end x.0) (λ stop. Faults stop
+        (λ f. WordFault (record { word = w; name = name.now; at = at }) rest.now end f)) }
 {
     match role {
         LeafRole::Compared(behind) => comparison(alloc, place_of(alloc, name, at)?, behind, end),
@@ -82,7 +86,10 @@ fn leaf<'a>(
     rest: &'a [Token],
     around: Around,
 ) -> Result<Part<'a>, Stop>
-    ensures { (w : WordIs) → IsLeafRole role.entry w rest.now → MatchResult result (λ part. UnaryRead (spelled w name.now at ∷ rest.now) part.rest.now around part.nodes part.tree) (λ stop. Faults stop (λ f. UnaryFault (spelled w name.now at ∷ rest.now) around f)) }
+    ensures { (w : WordIs) → IsLeafRole role.entry w rest.now
+        → MatchResult result (λ part. UnaryRead (spelled w name.now at ∷ rest.now) part.rest.now
+        around part.nodes part.tree) (λ stop. Faults stop
+        (λ f. UnaryFault (spelled w name.now at ∷ rest.now) around f)) }
 {
     let behind = around.counted(at)?;
     let (atom, rest) = atom(alloc, role, name, at, rest, around.end)?;
@@ -97,7 +104,10 @@ fn leaf<'a>(
 // From behind the `E` or `A` at `at`: what stands around behind the `[`, and the tokens there.
 fn path(at: u32, rest: &[Token], around: Around) -> Result<(Around, &[Token]), Stop>
     ensures shorter { IfOk result (λ x. length x.1.now < length rest.now) }
-    ensures path { (all : Bool) (name : Bytes) → sign_of rest.now ≡ no_sign → MatchResult result (λ x. PathRead all name at rest.now x.1.now around x.0) (λ stop. Faults stop (λ f. UnaryFault (spelled (path_word all) name at ∷ rest.now) around f)) }
+    ensures path { (all : Bool) (name : Bytes) → sign_of rest.now ≡ no_sign
+        → MatchResult result (λ x. PathRead all name at rest.now x.1.now around x.0)
+        (λ stop. Faults stop (λ f. UnaryFault (spelled (path_word all) name at ∷ rest.now) around
+        f)) }
 {
     let behind = around.counted(at)?;
     let (opened, rest) = wanted(rest, around.end, Symbol::OpenSquare)?;
@@ -106,7 +116,8 @@ fn path(at: u32, rest: &[Token], around: Around) -> Result<(Around, &[Token]), S
 
 #[cycle(parser)]
 fn unary<'a>(alloc: Global, tokens: &'a [Token], around: Around) -> Result<Part<'a>, Stop>
-    ensures { MatchResult result (λ part. UnaryRead tokens.now part.rest.now around part.nodes part.tree) (λ stop. Faults stop (λ f. UnaryFault tokens.now around f)) }
+    ensures { MatchResult result (λ part. UnaryRead tokens.now part.rest.now around part.nodes
+        part.tree) (λ stop. Faults stop (λ f. UnaryFault tokens.now around f)) }
 {
     match opening_of(tokens) {
         Opening::Negation(at, rest) => prefixed(alloc, Prefix::Negation, at, rest, around),
@@ -135,7 +146,9 @@ fn prefixed<'a>(
     rest: &'a [Token],
     around: Around,
 ) -> Result<Part<'a>, Stop>
-    ensures { (first : First) → IsPrefix prefix first at rest.now → MatchResult result (λ part. UnaryRead (first ∷ rest.now) part.rest.now around part.nodes part.tree) (λ stop. Faults stop (λ f. UnaryFault (first ∷ rest.now) around f)) }
+    ensures { (first : First) → IsPrefix prefix first at rest.now
+        → MatchResult result (λ part. UnaryRead (first ∷ rest.now) part.rest.now around part.nodes
+        part.tree) (λ stop. Faults stop (λ f. UnaryFault (first ∷ rest.now) around f)) }
 {
     let inside = around.entered(at)?;
     let Part { tree, nodes, rest } = unary(alloc, rest, inside)?;
@@ -146,7 +159,9 @@ fn prefixed<'a>(
 // From behind the `(` at `at`.
 #[cycle(parser)]
 fn group<'a>(alloc: Global, at: u32, rest: &'a [Token], around: Around) -> Result<Part<'a>, Stop>
-    ensures { MatchResult result (λ part. UnaryRead (tok OpenRound at ∷ rest.now) part.rest.now around part.nodes part.tree) (λ stop. Faults stop (λ f. UnaryFault (tok OpenRound at ∷ rest.now) around f)) }
+    ensures { MatchResult result (λ part. UnaryRead (tok OpenRound at ∷ rest.now) part.rest.now
+        around part.nodes part.tree) (λ stop. Faults stop
+        (λ f. UnaryFault (tok OpenRound at ∷ rest.now) around f)) }
 {
     let inside = around.opened(at)?;
     enclosed(alloc, rest, inside, Symbol::CloseRound)
@@ -161,7 +176,11 @@ fn until<'a>(
     rest: &'a [Token],
     around: Around,
 ) -> Result<Part<'a>, Stop>
-    ensures { (name : Bytes) → sign_of rest.now ≡ no_sign → MatchResult result (λ part. UnaryRead (spelled (path_word all) name at ∷ rest.now) part.rest.now around part.nodes part.tree) (λ stop. Faults stop (λ f. UnaryFault (spelled (path_word all) name at ∷ rest.now) around f)) }
+    ensures { (name : Bytes) → sign_of rest.now ≡ no_sign
+        → MatchResult result (λ part. UnaryRead (spelled (path_word all) name at ∷ rest.now)
+        part.rest.now around part.nodes part.tree)
+        (λ stop. Faults stop (λ f. UnaryFault (spelled (path_word all) name at ∷ rest.now) around
+        f)) }
 {
     let (inside, rest) = path(at, rest, around)?;
     let Part { tree, nodes, rest } = enclosed(alloc, rest, inside, Symbol::Until)?;
@@ -186,7 +205,8 @@ fn enclosed<'a>(
     inside: Around,
     symbol: Symbol,
 ) -> Result<Part<'a>, Stop>
-    ensures { MatchResult result (λ part. EnclosedRead symbol tokens.now part.rest.now inside part.nodes part.tree) (λ stop. Faults stop (λ f. EnclosedFault symbol tokens.now inside f)) }
+    ensures { MatchResult result (λ part. EnclosedRead symbol tokens.now part.rest.now inside
+        part.nodes part.tree) (λ stop. Faults stop (λ f. EnclosedFault symbol tokens.now inside f)) }
 {
     let Part { tree, nodes, rest } = formula(alloc, tokens, inside)?;
     let (_, rest) = wanted(rest, inside.end, symbol)?;
@@ -195,7 +215,8 @@ fn enclosed<'a>(
 
 #[cycle(parser)]
 fn conjunction<'a>(alloc: Global, tokens: &'a [Token], around: Around) -> Result<Part<'a>, Stop>
-    ensures { MatchResult result (λ part. ConjunctionRead tokens.now part.rest.now around part.nodes part.tree) (λ stop. Faults stop (λ f. ConjunctionFault tokens.now around f)) }
+    ensures { MatchResult result (λ part. ConjunctionRead tokens.now part.rest.now around part.nodes
+        part.tree) (λ stop. Faults stop (λ f. ConjunctionFault tokens.now around f)) }
 {
     let first = unary(alloc, tokens, around)?;
     let Some((at, mut more)) = after(first.rest, Symbol::Amp) else {
@@ -225,7 +246,8 @@ fn conjunction<'a>(alloc: Global, tokens: &'a [Token], around: Around) -> Result
 /// The formula at the front of the tokens.
 #[cycle(parser)]
 pub fn formula<'a>(alloc: Global, tokens: &'a [Token], around: Around) -> Result<Part<'a>, Stop>
-    ensures { MatchResult result (λ part. FormulaRead tokens.now part.rest.now around part.nodes part.tree) (λ stop. Faults stop (λ f. FormulaFails tokens.now around f)) }
+    ensures { MatchResult result (λ part. FormulaRead tokens.now part.rest.now around part.nodes
+        part.tree) (λ stop. Faults stop (λ f. FormulaFails tokens.now around f)) }
 {
     let first = conjunction(alloc, tokens, around)?;
     let Some((at, mut more)) = after(first.rest, Symbol::Bar) else {

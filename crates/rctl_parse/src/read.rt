@@ -42,17 +42,21 @@ pub fn parse_long(alloc: Global, text: &[u8]) -> Result<Formula, Refused<Formula
     requires { length text.now ≤ 65536 }
     ensures read { IfOk result (λ formula. IsReadAs text.now formula.tree) }
     ensures fault { IfErr result (λ stop. Faults stop (λ f. long_fault text.now ≡ Some f)) }
-    ensures complete { (t : TreeOf) → IsReadAs text.now t → MatchResult result (λ formula. formula.tree ≡ t) (λ stop. stop ≡ OutOfMemory) }
+    ensures complete { (t : TreeOf) → IsReadAs text.now t
+        → MatchResult result (λ formula. formula.tree ≡ t) (λ stop. stop ≡ OutOfMemory) }
 {
     let lexed = lex(alloc, text)?;
     formula_of(alloc, lexed.tokens.as_slice(), lexed.end)
 }
 
-/// Reads a formula. `Fault` is its first fault: `TooLong` where it has more than 4,096 bytes, and else the one with the least place.
+/// Reads a formula. `Fault` is its first fault: `TooLong` where it has more than 4,096 bytes, and
+/// else the one with the least place.
 pub fn parse(alloc: Global, text: &[u8]) -> Result<Formula, Refused<FormulaFault>>
-    ensures read { IfOk result (λ formula. (length text.now ≤ 4096) × IsReadAs text.now formula.tree) }
+    ensures read { IfOk result (λ formula. (length text.now ≤ 4096)
+        × IsReadAs text.now formula.tree) }
     ensures fault { IfErr result (λ stop. Faults stop (λ f. fault_of_text text.now ≡ Some f)) }
-    ensures complete { (t : TreeOf) → length text.now ≤ 4096 → IsReadAs text.now t → MatchResult result (λ formula. formula.tree ≡ t) (λ stop. stop ≡ OutOfMemory) }
+    ensures complete { (t : TreeOf) → length text.now ≤ 4096 → IsReadAs text.now t
+        → MatchResult result (λ formula. formula.tree ≡ t) (λ stop. stop ≡ OutOfMemory) }
 {
     if text.len() > LONGEST_FORMULA {
         return Err(fault(FormulaCode::TooLong, TOO_LONG_AT));

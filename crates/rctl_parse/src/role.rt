@@ -28,7 +28,8 @@ pub enum Role<'a> {
 
 #[derive(Clone, Copy)]
 pub enum LeafRole<'a> {
-    /// A comparison of a variable of the process that the word names, with the tokens behind the dot.
+    /// A comparison of a variable of the process that the word names, with the tokens behind the
+    /// dot.
     Compared(&'a [Token]),
     /// A watch on that process, with the tokens behind the `@`.
     Watched(&'a [Token]),
@@ -91,7 +92,8 @@ fn role_alone<'a>(word: Word) -> Role<'a>
     }
 }
 
-/// The role of a word before these tokens. Before `.` or `@` it names a process, whichever word it is.
+/// The role of a word before these tokens. Before `.` or `@` it names a process, whichever word it
+/// is.
 pub fn role_of(word: Word, rest: &[Token]) -> Role<'_>
     ensures { IsRole result word rest.now }
 {

@@ -40,7 +40,8 @@ fn is_symbol(kind: &Kind, symbol: Symbol) -> bool
 
 /// The place of the first token and the tokens behind it, where it is this symbol.
 pub fn after(tokens: &[Token], symbol: Symbol) -> Option<(u32, &[Token])>
-    ensures { MatchOption result (found (symbol_in symbol) tokens.now ≡ None) (λ x. found (symbol_in symbol) tokens.now ≡ Some (x.0, x.1.now)) }
+    ensures { MatchOption result (found (symbol_in symbol) tokens.now ≡ None)
+        (λ x. found (symbol_in symbol) tokens.now ≡ Some (x.0, x.1.now)) }
 {
     match tokens {
         [first, rest @ ..] if is_symbol(&first.kind, symbol) => Some((first.at, rest)),
@@ -50,7 +51,9 @@ pub fn after(tokens: &[Token], symbol: Symbol) -> Option<(u32, &[Token])>
 
 /// The same where only this symbol may stand. `Fault` where another token stands, or none.
 pub fn wanted(tokens: &[Token], end: End, symbol: Symbol) -> Result<(u32, &[Token]), Stop>
-    ensures { MatchResult result (λ x. found (symbol_in symbol) tokens.now ≡ Some (x.0, x.1.now)) (λ stop. Faults stop (λ fault. (found (symbol_in symbol) tokens.now ≡ None) × (fault ≡ here tokens.now end))) }
+    ensures { MatchResult result (λ x. found (symbol_in symbol) tokens.now ≡ Some (x.0, x.1.now))
+        (λ stop. Faults stop (λ fault. (found (symbol_in symbol) tokens.now ≡ None)
+        × (fault ≡ here tokens.now end))) }
 {
     match after(tokens, symbol) {
         Some(x) => Ok(x),

@@ -37,9 +37,11 @@ spaced compare = codes " " ++ sign_of compare ++ codes " "
 
 abbrev pub atom_text : PlainAtom → List ℕ
 atom_text (truth value) = truth_word value
-atom_text (comparison process name compare right) = process ++ codes "." ++ name ++ spaced compare ++ side_text right
+atom_text (comparison process name compare right) =
+    process ++ codes "." ++ name ++ spaced compare ++ side_text right
 atom_text (watch process name) = process ++ codes "@" ++ name
-atom_text (transit sender receiver compare k) = codes "intransit" ++ channel_text sender receiver ++ spaced compare ++ decimal k
+atom_text (transit sender receiver compare k) =
+    codes "intransit" ++ channel_text sender receiver ++ spaced compare ++ decimal k
 atom_text (emptiness sender receiver) = codes "empty" ++ channel_text sender receiver
 
 -- ---- operators and joints
@@ -93,15 +95,20 @@ abbrev mutual
   pub canonical : Shape → List ℕ
   canonical (plain a) = atom_text a
   canonical (not s) = codes "!" ++ member_text Amp s (canonical s)
-  canonical (conjunction front last) = joined Amp front ++ joint_text Amp ++ member_text Amp last (canonical last)
-  canonical (disjunction front last) = joined Bar front ++ joint_text Bar ++ member_text Bar last (canonical last)
-  canonical (under operator s) = operator_word operator ++ codes " " ++ member_text Amp s (canonical s)
-  canonical (until_of all left right) = until_word all ++ codes "[" ++ canonical left ++ codes " U " ++ canonical right ++ codes "]"
+  canonical (conjunction front last) =
+      joined Amp front ++ joint_text Amp ++ member_text Amp last (canonical last)
+  canonical (disjunction front last) =
+      joined Bar front ++ joint_text Bar ++ member_text Bar last (canonical last)
+  canonical (under operator s) =
+      operator_word operator ++ codes " " ++ member_text Amp s (canonical s)
+  canonical (until_of all left right) =
+      until_word all ++ codes "[" ++ canonical left ++ codes " U " ++ canonical right ++ codes "]"
 
   -- members with the joint between each two
   pub joined : Joint → Shapes → List ℕ
   joined joint (one s) = member_text joint s (canonical s)
-  joined joint (more front s) = joined joint front ++ joint_text joint ++ member_text joint s (canonical s)
+  joined joint (more front s) =
+      joined joint front ++ joint_text joint ++ member_text joint s (canonical s)
 
 -- a formula as a member, or as an operand
 abbrev pub member : Joint → Shape → List ℕ

@@ -42,7 +42,8 @@ impl Joint {
         }
     }
 
-    /// Whether brackets stand round what the inner joint joins where it is a member of what this one joins.
+    /// Whether brackets stand round what the inner joint joins where it is a member of what this
+    /// one joins.
     fn encloses(self, inner: Joint) -> bool
         ensures { result ≡ encloses self inner }
     {
@@ -68,7 +69,8 @@ impl Joint {
         }
     }
 
-    /// Whether brackets stand round a member that itself has these members. One alone counts as that one.
+    /// Whether brackets stand round a member that itself has these members. One alone counts as
+    /// that one.
     #[cycle(brackets)]
     fn needs_brackets_joined(self, members: &[Tree], inner: Joint) -> bool
         ensures { result ≡ needs_brackets self (joined_of inner (map shape_of members.now)) }

@@ -28,7 +28,8 @@ fn until_word(all: bool) -> &'static [u8]
     if all { b"A" } else { b"E" }
 }
 
-/// Appends the text of a member, or of the operand of `!` or of an operator, which stands in brackets as a member of an And.
+/// Appends the text of a member, or of the operand of `!` or of an operator, which stands in
+/// brackets as a member of an And.
 #[cycle(tree)]
 fn put_member(out: &mut Bytes, tree: &Tree, joint: Joint) -> Result<(), NoMemory>
     ensures { OnOk result (out.new ≡ out.old ++ member joint (shape_of tree.now)) }
@@ -41,10 +42,12 @@ fn put_member(out: &mut Bytes, tree: &Tree, joint: Joint) -> Result<(), NoMemory
     out.extend_from_slice(b")")
 }
 
-/// Appends the text of an And or an Or of these members: two or more with the joint between each two, one as it is.
+/// Appends the text of an And or an Or of these members: two or more with the joint between each
+/// two, one as it is.
 #[cycle(tree)]
 fn put_joined(out: &mut Bytes, members: &[Tree], joint: Joint) -> Result<(), NoMemory>
-    ensures { OnOk result (out.new ≡ out.old ++ canonical (joined_of joint (map shape_of members.now))) }
+    ensures { OnOk result (out.new ≡ out.old
+        ++ canonical (joined_of joint (map shape_of members.now))) }
 {
     let Some((first, rest)) = members.split_first() else {
         return out.extend_from_slice(joint.of_none());

@@ -7,19 +7,25 @@ use Rattle.rctl_print.specs.Canonical.{canonical}
 
 -- the canonical text of a tree that was read is read as a tree that differs in places alone
 abbrev pub PrintedIsRead : Type 0
-PrintedIsRead = (text : List ℕ) (t : Tree) → IsReadAs text t → (again : Tree) × IsReadAs (canonical (shape_of t)) again × (shape_of again ≡ shape_of t)
+PrintedIsRead =
+    (text : List ℕ) (t : Tree) → IsReadAs text t → (again : Tree)
+    × IsReadAs (canonical (shape_of t)) again × (shape_of again ≡ shape_of t)
 
 -- without a fault
 abbrev pub PrintedHasNoFault : Type 0
-PrintedHasNoFault = (text : List ℕ) (t : Tree) → IsReadAs text t → long_fault (canonical (shape_of t)) ≡ None
+PrintedHasNoFault =
+    (text : List ℕ) (t : Tree) → IsReadAs text t → long_fault (canonical (shape_of t)) ≡ None
 
 -- and as nothing else
 abbrev pub PrintedIsItself : Type 0
-PrintedIsItself = (text : List ℕ) (t again : Tree) → IsReadAs text t → IsReadAs (canonical (shape_of t)) again → shape_of again ≡ shape_of t
+PrintedIsItself =
+    (text : List ℕ) (t again : Tree) → IsReadAs text t → IsReadAs (canonical (shape_of t)) again
+    → shape_of again ≡ shape_of t
 
 -- and it is short
 abbrev pub PrintedIsShort : Type 0
-PrintedIsShort = (text : List ℕ) (t : Tree) → IsReadAs text t → length (canonical (shape_of t)) < 65536
+PrintedIsShort =
+    (text : List ℕ) (t : Tree) → IsReadAs text t → length (canonical (shape_of t)) < 65536
 
 -- some text was read as the tree
 abbrev pub WasRead : Tree → Type 0

@@ -25,8 +25,11 @@ pub fn read_back(alloc: Global, formula: &Formula) -> Result<Formula, NoMemory>
 /// The same by `parse`, and `None` exactly where what is printed has more than 4,096 bytes.
 pub fn read_back_short(alloc: Global, formula: &Formula) -> Result<Option<Formula>, NoMemory>
     requires { WasRead formula.now.tree }
-    ensures { let printed = canonical (shape_of formula.now.tree) in IfOk result (λ found. MatchOption found
-        (LONGEST_FORMULA < length printed) (λ again. (length printed ≤ LONGEST_FORMULA) × (shape_of again.tree ≡ shape_of formula.now.tree))) }
+    ensures { let printed = canonical (shape_of formula.now.tree) in IfOk result
+        (λ found. MatchOption found
+        (LONGEST_FORMULA < length printed)
+        (λ again. (length printed ≤ LONGEST_FORMULA)
+        × (shape_of again.tree ≡ shape_of formula.now.tree))) }
 {
     let text = print(alloc, formula)?;
     if text.len() > LONGEST_FORMULA {

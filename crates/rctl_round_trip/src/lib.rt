@@ -1,5 +1,6 @@
-//! What is printed of a formula is read as that formula. The definitions stand in specs/; `read_back` shows the round trip by its
-//! calls, and each other function is a law that stands over the definitions, and does nothing.
+//! What is printed of a formula is read as that formula. The definitions stand in specs/;
+//! `read_back` shows the round trip by its calls, and each other function is a law that stands over
+//! the definitions, and does nothing.
 #![tactic(auto)]
 
 mod again;
@@ -18,7 +19,8 @@ pub fn printed_has_no_fault()
     ensures { PrintedHasNoFault }
 {}
 
-/// Whatever is read of the canonical text of a formula that was read is the same formula but for its places.
+/// Whatever is read of the canonical text of a formula that was read is the same formula but for
+/// its places.
 pub fn printed_is_itself()
     ensures { PrintedIsItself }
 {}

@@ -13,19 +13,19 @@ use Rattle.run_model.proofs.SliceLemmas.{has_within_up, exact_slice, cuts_member
 
 -- ---- what holds of each item of a list of lists
 
-all_left : {X : Type 0} (P : X → Type 0) (xs ys : List X) → All P (xs ++ ys) → All P xs
+pub all_left : {X : Type 0} (P : X → Type 0) (xs ys : List X) → All P (xs ++ ys) → All P xs
 all_left P [] ys h = All-nil P
 all_left P (x ∷ xs) ys h = All-cons P x xs (All-head P x (xs ++ ys) h) (all_left P xs ys (All-tail P x (xs ++ ys) h))
 
-all_right : {X : Type 0} (P : X → Type 0) (xs ys : List X) → All P (xs ++ ys) → All P ys
+pub all_right : {X : Type 0} (P : X → Type 0) (xs ys : List X) → All P (xs ++ ys) → All P ys
 all_right P [] ys h = h
 all_right P (x ∷ xs) ys h = all_right P xs ys (All-tail P x (xs ++ ys) h)
 
-all_flat : {X : Type 0} (P : X → Type 0) (f : ℕ → List X) (a n : ℕ) → ((k : ℕ) → a ≤ k → k < a + n → All P (f k)) → All P (flat_map f (range_with_len a n))
+pub all_flat : {X : Type 0} (P : X → Type 0) (f : ℕ → List X) (a n : ℕ) → ((k : ℕ) → a ≤ k → k < a + n → All P (f k)) → All P (flat_map f (range_with_len a n))
 all_flat P f a zero h = All-nil P
 all_flat P f a (suc n) h = All-append P (f a) (flat_map f (range_with_len (a + 1) n)) (h a (le_refl a) (omega arith)) (all_flat P f (a + 1) n (λ k l m. h k (omega (arith, l)) (omega (arith, m))))
 
-all_flat_at : {X : Type 0} (P : X → Type 0) (f : ℕ → List X) (a n k : ℕ) → a ≤ k → k < a + n → All P (flat_map f (range_with_len a n)) → All P (f k)
+pub all_flat_at : {X : Type 0} (P : X → Type 0) (f : ℕ → List X) (a n k : ℕ) → a ≤ k → k < a + n → All P (flat_map f (range_with_len a n)) → All P (f k)
 all_flat_at P f a zero k l m h = absurd (omega (arith, l, m))
 all_flat_at P f a (suc n) k l m h = elim (cases_lt a k) [
   | inl later ↦ all_flat_at P f (a + 1) n k (omega (arith, later)) (omega (arith, m)) (all_right P (f a) (flat_map f (range_with_len (a + 1) n)) h)

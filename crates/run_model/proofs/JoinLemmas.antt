@@ -108,12 +108,12 @@ pub all_joined : (A : Cut → Type 0) (c : Cut) (cs : List Cut) (d : Cut) (ds : 
 all_joined A c [] d ds h k = (h, k)
 all_joined A c (x ∷ cs) d ds h k = (h.0, all_joined A x cs d ds h.1 k)
 
-min_grouped : (c d e : Cut) → min_cut (min_cut c d) e ≡ min_cut c (min_cut d e)
+pub min_grouped : (c d e : Cut) → min_cut (min_cut c d) e ≡ min_cut c (min_cut d e)
 min_grouped c d e = same_counts (min_cut (min_cut c d) e) (min_cut c (min_cut d e))
     (omega (arith, length-min (min_cut c d) e, length-min c d, length-min c (min_cut d e), length-min d e))
     (λ i. omega (arith, count-min (min_cut c d) e i, count-min c d i, count-min c (min_cut d e) i, count-min d e i))
 
-max_grouped : (c d e : Cut) → max_cut (max_cut c d) e ≡ max_cut c (max_cut d e)
+pub max_grouped : (c d e : Cut) → max_cut (max_cut c d) e ≡ max_cut c (max_cut d e)
 max_grouped c d e = same_counts (max_cut (max_cut c d) e) (max_cut c (max_cut d e))
     (omega (arith, length-max (max_cut c d) e, length-max c d, length-max c (max_cut d e), length-max d e))
     (λ i. omega (arith, count-max (max_cut c d) e i, count-max c d i, count-max c (max_cut d e) i, count-max d e i))

@@ -97,26 +97,29 @@ final_greatest o order = record {
   greatest = λ c h. h.within;
 }
 
-pub happened_before_transitive : (o : Clocks) → IsOrder o → (i a j b k c : ℕ) → IsEvent (lengths o) k c → HappenedBefore o i a j b → HappenedBefore o j b k c → HappenedBefore o i a k c
-happened_before_transitive o order i a j b k c ev p q =
-    let up = order.transitive k c j b ev q.in_past in
+pub happened_before_transitive : (o : Clocks) → IsOrder o → (i a j b k c : ℕ) → HappenedBefore o i a j b → HappenedBefore o j b k c → HappenedBefore o i a k c
+happened_before_transitive o order i a j b k c p q =
+    let up = order.transitive k c j b q.second q.in_past in
     let first = event_up (clock o j b) (clock o k c) i a up p.in_past in
     record {
+      first = p.first;
+      second = q.second;
       in_past = first;
       differs = λ same.
-          let at_i : IsEvent (lengths o) i a = event_up (clock o k c) (lengths o) i a (order.named k c ev) first in
           let back : IsEvent (clock o i a) j b = subst (λ x. IsEvent (clock o x a) j b) (sym same.0) (subst (λ x. IsEvent (clock o k x) j b) (sym same.1) q.in_past) in
-          p.differs (order.loopless i a j b at_i back p.in_past.1);
+          p.differs (order.loopless i a j b p.first back p.in_past.1);
     }
 
-pub happened_before_asymmetric : (o : Clocks) → IsOrder o → (i a j b : ℕ) → IsEvent (lengths o) j b → HappenedBefore o i a j b → HappenedBefore o j b i a → ⊥
-happened_before_asymmetric o order i a j b ev p q =
-    let loop = happened_before_transitive o order j b i a j b ev q p in
+pub happened_before_asymmetric : (o : Clocks) → IsOrder o → (i a j b : ℕ) → HappenedBefore o i a j b → HappenedBefore o j b i a → ⊥
+happened_before_asymmetric o order i a j b p q =
+    let loop = happened_before_transitive o order j b i a j b q p in
     loop.differs (refl, refl)
 
 -- the events of one process are in their order
 pub earlier_happened_before : (o : Clocks) → IsOrder o → (i a b : ℕ) → IsEvent (lengths o) i b → 0 < a → a < b → HappenedBefore o i a i b
 earlier_happened_before o order i a b ev pos h = record {
+  first = (pos, omega (arith, ev.1, h));
+  second = ev;
   in_past = (pos, omega (arith, order.own i b ev));
   differs = λ same. absurd (omega (arith, same.1, h));
 }

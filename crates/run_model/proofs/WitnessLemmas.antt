@@ -5,9 +5,9 @@ use Rattle.run_model.specs.Run.{Run}
 use Rattle.run_model.specs.Consistent.{clock, IsOrder, IsConsistent, IsPath}
 use Rattle.run_model.specs.Sublattice.{AllIn, IsClosed, Having}
 use Rattle.run_model.specs.Slice.{Slice, HasWithin, IsLeastOf, Cuts, StandsFor, Fits}
-use Rattle.run_model.specs.Formula.{Operator, Ef, Ag, Eg, Ex, Af, Ax, Formula, Temporal}
+use Rattle.run_model.specs.Formula.{Formula}
 use Rattle.run_model.specs.Meaning.{Sat, Family}
-use Rattle.run_model.specs.Witness.{Place, PathTo, Witness, StepsIn, IsOfKind, FirstSteps, FirstStepsTo, IsFirst, row_at, Departs, Shares, IsPlace, IsCanonical}
+use Rattle.run_model.specs.Witness.{WitnessOperator, ExistsFinally, AlwaysGlobally, ExistsGlobally, part_of, Place, PathTo, Witness, StepsIn, IsOfKind, FirstSteps, FirstStepsTo, IsFirst, row_at, Departs, Shares, IsPlace, IsCanonical}
 use Rattle.run_model.specs.Witness as W
 use Rattle.run_model.proofs.Counts.{within_both, initial_within, count-initial, total, total_next}
 use Rattle.std.proofs.lemmas.Bool.{cases_order}
@@ -50,7 +50,7 @@ all_there o order s start rows d k = record {
   rows = λ i a ev. subst (λ x. HasWithin x d) (sym (rows (record { process = i; position = a }) (event_of_run o d k i a ev))) (has_past o order d k i a ev);
 }
 
-pub canonical_is_of_kind : (r : Run) → IsOrder r.clocks → (f : Formula) → IsClosed r.clocks (Family r f) → (s : Slice) → StandsFor r.clocks s (Family r f) → (operator : Operator) (w : Witness) → IsCanonical r.clocks s operator w → IsOfKind r (Temporal operator f) w
+pub canonical_is_of_kind : (r : Run) → IsOrder r.clocks → (f : Formula) → IsClosed r.clocks (Family r f) → (s : Slice) → StandsFor r.clocks s (Family r f) → (operator : WitnessOperator) (w : Witness) → IsCanonical r.clocks s operator w → IsOfKind r (part_of operator f) w
 canonical_is_of_kind r order f closed s stands _ _ (W.IsCanonical.reaches {path = p} bottom steps) = W.IsOfKind.reaches
     (first_steps_wider (λ c. IsConsistent r.clocks c × IsWithin c p.goal) (IsConsistent r.clocks) (λ c h. h.0) (initial r.clocks) p.steps p.goal steps)
     (subst (IsLeastOf (Family r f)) bottom stands.bottom)
@@ -91,7 +91,7 @@ first_steps_same A B same c (e ∷ es) d p = ((same c).0 p.0, p.1, p.2, λ j l h
 shares_same : (s t : Slice) (e f : Place) → row_at s e ≡ row_at t e → row_at s f ≡ row_at t f → Shares s e f → Shares t e f
 shares_same s t e f p q h = (h.0, sym q ∙ h.1 ∙ p)
 
-pub canonical_same : (o : Clocks) (A : Cut → Type 0) → IsClosed o A → (s t : Slice) → StandsFor o s A → StandsFor o t A → (operator : Operator) (w : Witness) → IsCanonical o s operator w → IsCanonical o t operator w
+pub canonical_same : (o : Clocks) (A : Cut → Type 0) → IsClosed o A → (s t : Slice) → StandsFor o s A → StandsFor o t A → (operator : WitnessOperator) (w : Witness) → IsCanonical o s operator w → IsCanonical o t operator w
 canonical_same o A closed s t k l operator w canonical = moved operator w canonical
   where
     cuts : (c : Cut) → Cuts o s c ↔ Cuts o t c
@@ -112,7 +112,7 @@ canonical_same o A closed s t k l operator w canonical = moved operator w canoni
     sharing : (e : Place) → IsPlace o e → ((f : Place) × IsPlace o f × Shares s e f) ↔ ((f : Place) × IsPlace o f × Shares t e f)
     sharing e there = (λ h. (h.0, h.1, (shares e there h.0 h.1).0 h.2), λ h. (h.0, h.1, (shares e there h.0 h.1).1 h.2))
 
-    moved : (operator : Operator) (w : Witness) → IsCanonical o s operator w → IsCanonical o t operator w
+    moved : (operator : WitnessOperator) (w : Witness) → IsCanonical o s operator w → IsCanonical o t operator w
     moved _ _ (W.IsCanonical.reaches b steps) = W.IsCanonical.reaches (sym bottom ∙ b) steps
     moved _ _ (W.IsCanonical.never b) = W.IsCanonical.never (sym bottom ∙ b)
     moved _ _ (W.IsCanonical.refuted_at_start n) = W.IsCanonical.refuted_at_start (λ h. n ((cuts (initial o)).1 h))
@@ -198,13 +198,13 @@ pair_stops o s fits path goal steps e f there place shares =
     (rows_both o (Cuts o s) s fits e.process e.position f.process f.position there place (sym shares.1))
     (initial o) (omega (arith, count-initial o e.process, there.0)) (cuts_along (initial o) path.steps, along.0, along.1)
 
-reach_one : (o : Clocks) (s : Slice) (w v : Witness) → IsCanonical o s Ef w → IsCanonical o s Ef v → w ≡ v
+reach_one : (o : Clocks) (s : Slice) (w v : Witness) → IsCanonical o s ExistsFinally w → IsCanonical o s ExistsFinally v → w ≡ v
 reach_one o s _ _ (W.IsCanonical.reaches {path = p} b steps) (W.IsCanonical.reaches {path = q} c other) = ap W.Reach (one_path_to o p q (some_goal s.bottom p.goal q.goal b c) steps other)
 reach_one o s _ _ (W.IsCanonical.reaches {path = p} b steps) (W.IsCanonical.never c) = absurd (none_goal s.bottom p.goal b c)
 reach_one o s _ _ (W.IsCanonical.never c) (W.IsCanonical.reaches {path = p} b steps) = absurd (none_goal s.bottom p.goal b c)
 reach_one o s _ _ (W.IsCanonical.never b) (W.IsCanonical.never c) = refl
 
-against_one : (o : Clocks) (s : Slice) (w v : Witness) → IsCanonical o s Ag w → IsCanonical o s Ag v → w ≡ v
+against_one : (o : Clocks) (s : Slice) (w v : Witness) → IsCanonical o s AlwaysGlobally w → IsCanonical o s AlwaysGlobally v → w ≡ v
 against_one o s _ _ (W.IsCanonical.refuted_at_start n) (W.IsCanonical.refuted_at_start m) = refl
 against_one o s _ _ (W.IsCanonical.refuted_at_start n) (W.IsCanonical.refuted start first goal steps) = absurd (n start)
 against_one o s _ _ (W.IsCanonical.refuted_at_start n) (W.IsCanonical.each_time start rows) = absurd (n start)
@@ -217,7 +217,7 @@ against_one o s _ _ (W.IsCanonical.each_time start rows) (W.IsCanonical.refuted_
 against_one o s _ _ (W.IsCanonical.each_time start rows) (W.IsCanonical.refuted {e = e} begin first goal steps) = absurd (first.has (rows e first.there))
 against_one o s _ _ (W.IsCanonical.each_time start rows) (W.IsCanonical.each_time begin others) = refl
 
-always_one : (o : Clocks) (s : Slice) → Fits o s → (w v : Witness) → IsCanonical o s Eg w → IsCanonical o s Eg v → w ≡ v
+always_one : (o : Clocks) (s : Slice) → Fits o s → (w v : Witness) → IsCanonical o s ExistsGlobally w → IsCanonical o s ExistsGlobally v → w ≡ v
 always_one o s fits _ _ (W.IsCanonical.stays {path = p} goal steps) (W.IsCanonical.stays {path = q} end other) = ap W.Always (one_path (Cuts o s) (initial o) p q (goal ∙ sym end) steps other)
 always_one o s fits _ _ (W.IsCanonical.stays {path = p} goal steps) (W.IsCanonical.false_at_start n) = absurd (n (steps_start (Cuts o s) (initial o) p.steps p.goal steps))
 always_one o s fits _ _ (W.IsCanonical.stays {path = p} goal steps) (W.IsCanonical.false_at_finish start n) = absurd (n (subst (Cuts o s) goal (steps_end (Cuts o s) (initial o) p.steps p.goal steps)))
@@ -239,10 +239,7 @@ always_one o s fits _ _ (W.IsCanonical.come_together {first = e} {other = f} sta
     ap (λ x. W.StuckPair x f) same ∙ ap (W.StuckPair g) both
 
 -- an operator over a slice has one canonical witness at most
-pub canonical_one : (o : Clocks) (s : Slice) → Fits o s → (operator : Operator) (w v : Witness) → IsCanonical o s operator w → IsCanonical o s operator v → w ≡ v
-canonical_one o s fits Ef w v p q = reach_one o s w v p q
-canonical_one o s fits Ag w v p q = against_one o s w v p q
-canonical_one o s fits Eg w v p q = always_one o s fits w v p q
-canonical_one o s fits Ex w v p q = elim p [ ]
-canonical_one o s fits Af w v p q = elim p [ ]
-canonical_one o s fits Ax w v p q = elim p [ ]
+pub canonical_one : (o : Clocks) (s : Slice) → Fits o s → (operator : WitnessOperator) (w v : Witness) → IsCanonical o s operator w → IsCanonical o s operator v → w ≡ v
+canonical_one o s fits ExistsFinally w v p q = reach_one o s w v p q
+canonical_one o s fits AlwaysGlobally w v p q = against_one o s w v p q
+canonical_one o s fits ExistsGlobally w v p q = always_one o s fits w v p q

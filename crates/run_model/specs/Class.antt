@@ -1,5 +1,6 @@
--- The formulas that are analysed: local and regular ones, and the disjunctions of regular ones (regular predicates: Garg and Mittal; their
--- closure under the temporal operators: Sen and Garg). A sign says whether a formula stands under an even number of negations.
+-- The formulas that are analysed: local and regular ones, and the disjunctions of regular ones
+-- (regular predicates: Garg and Mittal; their closure under the temporal operators: Sen and Garg).
+-- A sign says whether a formula stands under an even number of negations.
 use Rattle.std.specs.Prelude.{ℕ, zero, suc, ◌+◌, ◌⊎◌, Bool, true, false, not, ◌&&◌, ◌||◌, if◌then◌else◌, IsTrue, MatchBool, ⊤, List, [], ◌∷◌, ◌++◌, bytes_eq}
 use Rattle.std.specs.List.{list_all}
 use Rattle.run_model.specs.Cut.{Cut}
@@ -115,9 +116,11 @@ unfoldable mutual
 unfoldable mutual
   pub is_conjunctive : Bool → Formula → Bool
   is_conjunctive sign (Truth b) = true
-  is_conjunctive sign (Comparison process variable relation side) = is_local (Comparison process variable relation side)
+  is_conjunctive sign (Comparison process variable relation side) =
+      is_local (Comparison process variable relation side)
   is_conjunctive sign (Watched process watch) = true
-  is_conjunctive sign (InTransit sender receiver relation k) = not (is_unequal (after_sign sign relation))
+  is_conjunctive sign (InTransit sender receiver relation k) =
+      not (is_unequal (after_sign sign relation))
   is_conjunctive sign (Empty sender receiver) = true
   is_conjunctive sign (Not f) = is_local (Not f) || is_conjunctive (not sign) f
   is_conjunctive true (And fs) = is_local (And fs) || all_conjunctive true fs
@@ -136,9 +139,11 @@ unfoldable mutual
 unfoldable mutual
   pub is_disjunctive : Bool → Formula → Bool
   is_disjunctive sign (Truth b) = true
-  is_disjunctive sign (Comparison process variable relation side) = is_local (Comparison process variable relation side)
+  is_disjunctive sign (Comparison process variable relation side) =
+      is_local (Comparison process variable relation side)
   is_disjunctive sign (Watched process watch) = true
-  is_disjunctive sign (InTransit sender receiver relation k) = not (is_unequal (after_sign sign relation))
+  is_disjunctive sign (InTransit sender receiver relation k) =
+      not (is_unequal (after_sign sign relation))
   is_disjunctive sign (Empty sender receiver) = true
   is_disjunctive sign (Not f) = is_conjunctive sign (Not f) || is_disjunctive (not sign) f
   is_disjunctive true (And fs) = is_conjunctive true (And fs)
@@ -156,7 +161,8 @@ unfoldable mutual
 abbrev pub IsRegular : Formula → Type 0
 IsRegular f = IsTrue (is_conjunctive true f)
 
--- what a run has to keep for a formula to be regular in it: nothing more, since sends and receipts never fall in any run
+-- what a run has to keep for a formula to be regular in it: nothing more, since sends and receipts
+-- never fall in any run
 abbrev pub IsKeptFor : Run → Formula → Type 0
 IsKeptFor r f = ⊤
 
@@ -187,13 +193,16 @@ abbrev pub empty_parts : Bool → Name → Name → List Formula
 empty_parts true p q = InTransit p q LessOrEqual 0 ∷ []
 empty_parts false p q = InTransit p q GreaterOrEqual 1 ∷ []
 
--- the parts of the conjunction that the formula with this sign is: a local formula is one part, and what is no conjunction too
+-- the parts of the conjunction that the formula with this sign is: a local formula is one part, and
+-- what is no conjunction too
 unfoldable mutual
   pub parts : Bool → Formula → List Formula
   parts sign (Truth b) = signed sign (Truth b) ∷ []
-  parts sign (Comparison process variable relation side) = signed sign (Comparison process variable relation side) ∷ []
+  parts sign (Comparison process variable relation side) =
+      signed sign (Comparison process variable relation side) ∷ []
   parts sign (Watched process watch) = signed sign (Watched process watch) ∷ []
-  parts sign (InTransit sender receiver relation k) = channel_parts sender receiver (after_sign sign relation) k
+  parts sign (InTransit sender receiver relation k) =
+      channel_parts sender receiver (after_sign sign relation) k
   parts sign (Empty sender receiver) = empty_parts sign sender receiver
   parts sign (Not f) = if is_local (Not f) then signed sign (Not f) ∷ [] else parts (not sign) f
   parts true (And fs) = if is_local (And fs) then And fs ∷ [] else all_parts true fs
@@ -211,14 +220,19 @@ unfoldable mutual
 unfoldable mutual
   pub disjuncts : Bool → Formula → List (List Formula)
   disjuncts sign (Truth b) = parts sign (Truth b) ∷ []
-  disjuncts sign (Comparison process variable relation side) = parts sign (Comparison process variable relation side) ∷ []
+  disjuncts sign (Comparison process variable relation side) =
+      parts sign (Comparison process variable relation side) ∷ []
   disjuncts sign (Watched process watch) = parts sign (Watched process watch) ∷ []
-  disjuncts sign (InTransit sender receiver relation k) = parts sign (InTransit sender receiver relation k) ∷ []
+  disjuncts sign (InTransit sender receiver relation k) =
+      parts sign (InTransit sender receiver relation k) ∷ []
   disjuncts sign (Empty sender receiver) = parts sign (Empty sender receiver) ∷ []
-  disjuncts sign (Not f) = if is_local (Not f) then parts sign (Not f) ∷ [] else disjuncts (not sign) f
+  disjuncts sign (Not f) =
+      if is_local (Not f) then parts sign (Not f) ∷ [] else disjuncts (not sign) f
   disjuncts true (And fs) = parts true (And fs) ∷ []
-  disjuncts false (And fs) = if is_local (And fs) then parts false (And fs) ∷ [] else all_disjuncts false fs
-  disjuncts true (Or fs) = if is_local (Or fs) then parts true (Or fs) ∷ [] else all_disjuncts true fs
+  disjuncts false (And fs) =
+      if is_local (And fs) then parts false (And fs) ∷ [] else all_disjuncts false fs
+  disjuncts true (Or fs) =
+      if is_local (Or fs) then parts true (Or fs) ∷ [] else all_disjuncts true fs
   disjuncts false (Or fs) = parts false (Or fs) ∷ []
   disjuncts sign (Temporal operator f) = parts sign (Temporal operator f) ∷ []
   disjuncts sign (Until all left right) = parts sign (Until all left right) ∷ []
@@ -246,7 +260,8 @@ abbrev pub StandForDisjuncts : Run → List Slice → List (List Formula) → Ty
 StandForDisjuncts r [] [] = ⊤
 StandForDisjuncts r [] (d ∷ ds) = ⊥
 StandForDisjuncts r (s ∷ ss) [] = ⊥
-StandForDisjuncts r (s ∷ ss) (d ∷ ds) = StandsFor r.clocks s (DisjunctFamily r d) × StandForDisjuncts r ss ds
+StandForDisjuncts r (s ∷ ss) (d ∷ ds) =
+    StandsFor r.clocks s (DisjunctFamily r d) × StandForDisjuncts r ss ds
 
 abbrev pub AreRegular : List Formula → Type 0
 AreRegular [] = ⊤
@@ -257,6 +272,7 @@ abbrev pub HaveRegularParts : List (List Formula) → Type 0
 HaveRegularParts [] = ⊤
 HaveRegularParts (d ∷ ds) = AreRegular d × HaveRegularParts ds
 
--- the cuts that a report of the formula shows: its family where it is regular, and else the smallest sublattice round its family
+-- the cuts that a report of the formula shows: its family where it is regular, and else the
+-- smallest sublattice round its family
 abbrev pub Shown : Run → Formula → Cut → Type 0
 Shown r f c = MatchBool (is_conjunctive true f) (Family r f c) (Smallest (Family r f) c)

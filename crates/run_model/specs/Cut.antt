@@ -1,5 +1,6 @@
--- Cuts of a run: one count per process, the number of its first events that the cut has.
--- Vector clocks (Fidge; Mattern) are cuts too: the clock of an event is the cut of the events that are it or before it.
+-- Cuts of a run: one count per process, the number of its first events that the cut has. Vector
+-- clocks (Fidge; Mattern) are cuts too: the clock of an event is the cut of the events that are it
+-- or before it.
 use Rattle.std.specs.Prelude.{◌≡◌, ℕ, ◌+◌, ◌<◌, ◌≤◌, min, max, List, [], ◌∷◌, length, get_or, set, replicate, map}
 
 abbrev pub Cut : Type 0

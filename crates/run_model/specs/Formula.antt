@@ -1,5 +1,6 @@
--- Formulas over the consistent cuts of a run: RCTL's forms (Sen and Garg) over this project's atoms, which name processes, variables
--- and watches. The code's tree is seen as this, without its places in the text.
+-- Formulas over the consistent cuts of a run: RCTL's forms (Sen and Garg) over this project's
+-- atoms, which name processes, variables and watches. The code's tree is seen as this, without its
+-- places in the text.
 use Rattle.std.specs.Prelude.{ℕ, Bool, ℤ}
 use Rattle.run_model.specs.Run.{Name}
 

@@ -1,4 +1,5 @@
--- Truth of a formula at a consistent cut of a run (Sen and Garg, on finite runs: every path can be taken to the final cut).
+-- Truth of a formula at a consistent cut of a run (Sen and Garg, on finite runs: every path can be
+-- taken to the final cut).
 use Rattle.std.specs.Prelude.{◌≡◌, ℕ, ◌-◌, ◌≤◌, ◌⊎◌, Bool, not, ◌==◌, if◌then◌else◌, IsTrue, ℤ, pos, int_lt, int_le, ⊤}
 use Rattle.std.specs.Ordering.{int_eq}
 use Rattle.run_model.specs.Cut.{Cut, count}
@@ -23,7 +24,8 @@ abbrev pub side_at : Run → Side → Cut → ℤ
 side_at r (Number k) c = k
 side_at r (Variable process variable) c = value_at r process variable c
 
--- the messages under way from p to q: sent within the cut and not received within it; none from a process to itself
+-- the messages under way from p to q: sent within the cut and not received within it; none from a
+-- process to itself
 unfoldable pub in_transit : Run → ℕ → ℕ → Cut → ℕ
 in_transit r p q c = if p == q then 0 else (r.sent p q (count c p) - r.received p q (count c q))
 
@@ -33,20 +35,25 @@ pub record IsRun (r : Run) : Type 0 where
   pub sent_rises : (p q a b : ℕ) → a ≤ b → r.sent p q a ≤ r.sent p q b
   pub received_rises : (p q a b : ℕ) → a ≤ b → r.received p q a ≤ r.received p q b
 
--- at a consistent cut no channel has more receipts than sends, as in every log whose messages have no fault
+-- at a consistent cut no channel has more receipts than sends, as in every log whose messages have
+-- no fault
 abbrev pub ReceiptsHaveSends : Run → Type 0
 ReceiptsHaveSends r =
     (p q : ℕ) → (p ≡ q → ⊥) → (c : Cut) → IsConsistent r.clocks c
     → r.received p q (count c q) ≤ r.sent p q (count c p)
 
--- EX, AF, AX and until are outside the fragment that is analysed. They are refused before any truth is asked, so no meaning is given
--- to them and no promise speaks of them
+-- EX, AF, AX and until are outside the fragment that is analysed. They are refused before any truth
+-- is asked, so no meaning is given to them and no promise speaks of them
 abbrev mutual
   pub Sat : Run → Formula → Cut → Type 0
   Sat r (Truth b) c = IsTrue b
-  Sat r (Comparison process variable relation side) c = IsTrue (compares relation (value_at r process variable c) (side_at r side c))
-  Sat r (Watched process watch) c = IsTrue (r.watched (r.process process) watch (count c (r.process process)))
-  Sat r (InTransit sender receiver relation k) c = IsTrue (compares relation (pos (in_transit r (r.process sender) (r.process receiver) c)) (pos k))
+  Sat r (Comparison process variable relation side) c =
+      IsTrue (compares relation (value_at r process variable c) (side_at r side c))
+  Sat r (Watched process watch) c =
+      IsTrue (r.watched (r.process process) watch (count c (r.process process)))
+  Sat r (InTransit sender receiver relation k) c =
+      IsTrue (compares relation (pos (in_transit r (r.process sender) (r.process receiver) c))
+      (pos k))
   Sat r (Empty sender receiver) c = in_transit r (r.process sender) (r.process receiver) c ≡ 0
   Sat r (Not f) c = Sat r f c → ⊥
   Sat r (And fs) c = SatAll r fs c

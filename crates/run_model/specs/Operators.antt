@@ -1,4 +1,5 @@
--- What the temporal operators make of a set of cuts (Sen and Garg, on finite runs), and what they and disjunction make of slices.
+-- What the temporal operators make of a set of cuts (Sen and Garg, on finite runs), and what they
+-- and disjunction make of slices.
 use Rattle.std.specs.Prelude.{◌≡◌, ℕ, ◌≤◌, List, [], ◌∷◌, Option, Some, None, option_map, if◌then◌else◌, nat_le}
 use Rattle.run_model.specs.Cut.{Cut, Clocks, count, min_cut, max_cut, lengths, initial}
 use Rattle.run_model.specs.Consistent.{IsEvent, IsPath, clock}
@@ -17,15 +18,17 @@ EachTime o A c = (es : List Cut) (d : Cut) → IsPath o c es d → AllIn A c es
 abbrev pub Staying : Clocks → (Cut → Type 0) → Cut → Type 0
 Staying o A c = (es : List Cut) × IsPath o c es (lengths o) × AllIn A c es
 
--- AG at c by the rows of the set's slice: each is within the maximum of c and the past of its event, so c has each event of the row
--- that is not in that past
+-- AG at c by the rows of the set's slice: each is within the maximum of c and the past of its
+-- event, so c has each event of the row that is not in that past
 pub record HoldsAlways (o : Clocks) (s : Slice) (c : Cut) : Type 0 where
   pub bottom : HasWithin s.bottom c
   pub rows : (i a : ℕ) → IsEvent (lengths o) i a → HasWithin (s.row i a) (max_cut c (clock o i a))
 
 -- EG at c by the rows: c has each event that shares its row with another
 abbrev pub HasPairs : Clocks → Slice → Cut → Type 0
-HasPairs o s c = (i a j b : ℕ) → IsEvent (lengths o) i a → IsEvent (lengths o) j b → s.row i a ≡ s.row j b → ((i ≡ j) × (a ≡ b) → ⊥) → a ≤ count c i
+HasPairs o s c =
+    (i a j b : ℕ) → IsEvent (lengths o) i a → IsEvent (lengths o) j b → s.row i a ≡ s.row j b
+    → ((i ≡ j) × (a ≡ b) → ⊥) → a ≤ count c i
 
 -- the slice of all consistent cuts
 abbrev pub whole : Clocks → Slice
@@ -37,7 +40,8 @@ nowhere = record { bottom = None; row = λ i a. None }
 
 -- the slice of the cuts within t: the rows of the events that t has
 abbrev pub lowered : Slice → Cut → Slice
-lowered s t = record { bottom = s.bottom; row = λ i a. if nat_le a (count t i) then s.row i a else None }
+lowered s t =
+    record { bottom = s.bottom; row = λ i a. if nat_le a (count t i) then s.row i a else None }
 
 -- the slice of the cuts that hold b
 abbrev pub raised : Slice → Cut → Slice
@@ -51,7 +55,8 @@ min_row (Some j) (Some k) = Some (min_cut j k)
 
 -- the slice of the smallest sublattice round two closed sets (Mittal and Garg)
 abbrev pub joined : Slice → Slice → Slice
-joined s t = record { bottom = min_row s.bottom t.bottom; row = λ i a. min_row (s.row i a) (t.row i a) }
+joined s t =
+    record { bottom = min_row s.bottom t.bottom; row = λ i a. min_row (s.row i a) (t.row i a) }
 
 -- slices joined one after the other
 abbrev pub joined_all : Slice → List Slice → Slice

@@ -1,4 +1,5 @@
--- One run of a distributed program: what was logged of it, the states that its processes passed through, and what formulas see of it.
+-- One run of a distributed program: what was logged of it, the states that its processes passed
+-- through, and what formulas see of it.
 use Rattle.std.specs.Prelude.{ℕ, Bool, false, List, [], ◌∷◌, map, get_or, take, set, ℤ, pos, ◌==◌, count_by}
 use Rattle.std.specs.Str.{bytes_eq}
 use Rattle.std.specs.List.{position_or_len}
@@ -8,12 +9,14 @@ use Rattle.run_model.specs.Cut.{Cut, Clocks}
 abbrev pub Name : Type 0
 Name = List ℕ
 
--- an event gives the variable of this number, counted from 0 in the order of its process's variables, a value
+-- an event gives the variable of this number, counted from 0 in the order of its process's
+-- variables, a value
 pub record Assignment : Type 0 where
   pub variable : ℕ
   pub value : ℤ
 
--- what an event does: it sends to a process, receives from one, or neither (Lamport). A message has an identifying number
+-- what an event does: it sends to a process, receives from one, or neither (Lamport). A message has
+-- an identifying number
 pub data Kind : Type 0 where
   Internal : Kind
   Send : (to : ℕ) → (id : ℕ) → Kind
@@ -81,7 +84,8 @@ value_of p a v = get_or (state_after p a) v (pos 0)
 
 -- the value of the variable of a name after the first a events
 abbrev pub value_after : Process → Name → ℕ → ℤ
-value_after p variable a = value_of p a (number_of variable (map (λ (v : Variable). v.name) p.variables))
+value_after p variable a =
+    value_of p a (number_of variable (map (λ (v : Variable). v.name) p.variables))
 
 abbrev pub is_send_to : ℕ → Kind → Bool
 is_send_to q Internal = false
@@ -95,13 +99,16 @@ is_receipt_from p (Receive sender id) = sender == p
 
 -- the sends from p to q among the first a events of p
 abbrev pub sends : Trace → ℕ → ℕ → ℕ → ℕ
-sends trace p q a = count_by (λ (e : Event). is_send_to q e.kind) (take a (process_at trace p).events)
+sends trace p q a =
+    count_by (λ (e : Event). is_send_to q e.kind) (take a (process_at trace p).events)
 
 -- the receipts at q from p among the first b events of q
 abbrev pub receipts : Trace → ℕ → ℕ → ℕ → ℕ
-receipts trace p q b = count_by (λ (e : Event). is_receipt_from p e.kind) (take b (process_at trace q).events)
+receipts trace p q b =
+    count_by (λ (e : Event). is_receipt_from p e.kind) (take b (process_at trace q).events)
 
--- the truth values that the watch of a name gives for the states of a process in order, one per state (a watch keeps a state of its own)
+-- the truth values that the watch of a name gives for the states of a process in order, one per
+-- state (a watch keeps a state of its own)
 abbrev pub Watches : Type 0
 Watches = Name → List (List ℤ) → List Bool
 

@@ -1,4 +1,5 @@
--- Sets of consistent cuts that are closed under minimum and maximum, and the smallest one round a set.
+-- Sets of consistent cuts that are closed under minimum and maximum, and the smallest one round a
+-- set.
 use Rattle.std.specs.Prelude.{◌≡◌, ℕ, ◌≤◌, ◌⊎◌, List, [], ◌∷◌}
 use Rattle.run_model.specs.Cut.{Cut, Clocks, count, IsWithin, min_cut, max_cut}
 use Rattle.run_model.specs.Consistent.{IsConsistent}
@@ -25,7 +26,8 @@ Having A i a c = A c × (a ≤ count c i)
 abbrev pub Either : (Cut → Type 0) → (Cut → Type 0) → Cut → Type 0
 Either A B c = A c ⊎ B c
 
--- the smallest sublattice that holds a set (Mittal and Garg): what minimum and maximum make of its members
+-- the smallest sublattice that holds a set (Mittal and Garg): what minimum and maximum make of its
+-- members
 pub data Smallest (A : Cut → Type 0) : Cut → Type 0 where
   given : {c : Cut} → A c → Smallest A c
   minimum : {c d : Cut} → Smallest A c → Smallest A d → Smallest A (min_cut c d)

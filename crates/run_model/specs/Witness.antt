@@ -1,11 +1,12 @@
--- Witnesses of a temporal formula at the initial cut: the kinds, when a witness is of its kind, and the canonical one (both ours).
-use Rattle.std.specs.Prelude.{◌≡◌, ℕ, ◌+◌, ◌<◌, ◌≤◌, ◌⊎◌, ◌↔◌, Bool, true, false, IsFalse, List, [], ◌∷◌, length, Option, Some, None}
+-- Witnesses of a temporal formula at the initial cut: the kinds, when a witness is of its kind, and
+-- the canonical one (both ours).
+use Rattle.std.specs.Prelude.{◌≡◌, ℕ, ◌+◌, ◌<◌, ◌≤◌, ◌⊎◌, ◌↔◌, Bool, true, false, IsFalse, List, [], ◌∷◌, length, Option, Some, None, MatchOption}
 use Rattle.run_model.specs.Cut.{Cut, Clocks, count, IsWithin, with_next, lengths, initial}
 use Rattle.run_model.specs.Run.{Run}
 use Rattle.run_model.specs.Consistent.{clock, IsEvent, IsConsistent}
 use Rattle.run_model.specs.Sublattice.{IsLeast}
-use Rattle.run_model.specs.Slice.{Slice, Cuts}
-use Rattle.run_model.specs.Formula.{Operator, Ef, Ag, Eg, Formula, Truth, Comparison, Watched, InTransit, Empty, Not, And, Or, Temporal, Until}
+use Rattle.run_model.specs.Slice.{Slice, Cuts, StandsFor}
+use Rattle.run_model.specs.Formula.{Ef, Ag, Eg, Ex, Af, Ax, Formula, Truth, Comparison, Watched, InTransit, Empty, Not, And, Or, Temporal, Until}
 use Rattle.run_model.specs.Meaning.{Sat, Family}
 
 -- an event by its process, from 0, and its position there, from 1
@@ -30,7 +31,9 @@ pub data Witness : Type 0 where
 -- the steps are a path from c to d within a set
 abbrev pub StepsIn : (Cut → Type 0) → Cut → List Place → Cut → Type 0
 StepsIn A c [] d = A c × (c ≡ d)
-StepsIn A c (e ∷ es) d = A c × (e.process < length c) × (e.position ≡ count c e.process + 1) × StepsIn A (with_next c e.process) es d
+StepsIn A c (e ∷ es) d =
+    A c × (e.process < length c) × (e.position ≡ count c e.process + 1)
+    × StepsIn A (with_next c e.process) es d
 
 abbrev pub is_temporal : Formula → Bool
 is_temporal (Truth b) = false
@@ -57,29 +60,45 @@ IsPlace o e = IsEvent (lengths o) e.process e.position
 -- what a witness of a part says of the part at the initial cut
 pub data IsOfKind (r : Run) : Formula → Witness → Type 0 where
   -- the steps lead to the least cut where f is true
-  reaches : {f : Formula} {path : PathTo} → StepsIn (IsConsistent r.clocks) (initial r.clocks) path.steps path.goal → IsLeast (Family r f) path.goal → IsOfKind r (Temporal Ef f) (Reach path)
+  reaches : {f : Formula} {path : PathTo}
+      → StepsIn (IsConsistent r.clocks) (initial r.clocks) path.steps path.goal
+      → IsLeast (Family r f) path.goal → IsOfKind r (Temporal Ef f) (Reach path)
   -- the steps lead to a cut where f is false
-  refutes : {f : Formula} {path : PathTo} → StepsIn (IsConsistent r.clocks) (initial r.clocks) path.steps path.goal → (Sat r f path.goal → ⊥) → IsOfKind r (Temporal Ag f) (Against path)
+  refutes : {f : Formula} {path : PathTo}
+      → StepsIn (IsConsistent r.clocks) (initial r.clocks) path.steps path.goal
+      → (Sat r f path.goal → ⊥) → IsOfKind r (Temporal Ag f) (Against path)
   -- the steps lead to the final cut, and f is true at each of their cuts
-  stays : {f : Formula} {path : PathTo} → StepsIn (Family r f) (initial r.clocks) path.steps path.goal → path.goal ≡ lengths r.clocks → IsOfKind r (Temporal Eg f) (Always path)
-  false_at_start : {f : Formula} → (Sat r f (initial r.clocks) → ⊥) → IsOfKind r (Temporal Eg f) StuckStart
-  false_at_finish : {f : Formula} → (Sat r f (lengths r.clocks) → ⊥) → IsOfKind r (Temporal Eg f) StuckFinish
+  stays : {f : Formula} {path : PathTo}
+      → StepsIn (Family r f) (initial r.clocks) path.steps path.goal → path.goal ≡ lengths r.clocks
+      → IsOfKind r (Temporal Eg f) (Always path)
+  false_at_start : {f : Formula} → (Sat r f (initial r.clocks) → ⊥)
+      → IsOfKind r (Temporal Eg f) StuckStart
+  false_at_finish : {f : Formula} → (Sat r f (lengths r.clocks) → ⊥)
+      → IsOfKind r (Temporal Eg f) StuckFinish
   -- two events of which each consistent cut where f is true has both or neither
-  come_together : {f : Formula} {first other : Place} → IsPlace r.clocks first → IsPlace r.clocks other → AreTwo first other → ((c : Cut) → Family r f c → HasPlace c first ↔ HasPlace c other) → IsOfKind r (Temporal Eg f) (StuckPair first other)
+  come_together : {f : Formula} {first other : Place} → IsPlace r.clocks first
+      → IsPlace r.clocks other → AreTwo first other
+      → ((c : Cut) → Family r f c → HasPlace c first ↔ HasPlace c other)
+      → IsOfKind r (Temporal Eg f) (StuckPair first other)
   not_temporal : {f : Formula} → IsFalse (is_temporal f) → IsOfKind r f Nothing
-  never : {f : Formula} → (Sat r (Temporal Ef f) (initial r.clocks) → ⊥) → IsOfKind r (Temporal Ef f) Nothing
-  each_time : {f : Formula} → Sat r (Temporal Ag f) (initial r.clocks) → IsOfKind r (Temporal Ag f) Nothing
+  never : {f : Formula} → (Sat r (Temporal Ef f) (initial r.clocks) → ⊥)
+      → IsOfKind r (Temporal Ef f) Nothing
+  each_time : {f : Formula} → Sat r (Temporal Ag f) (initial r.clocks)
+      → IsOfKind r (Temporal Ag f) Nothing
 
--- a path within a set that takes at each cut the next event of the first process whose next event leads to a cut of the set
+-- a path within a set that takes at each cut the next event of the first process whose next event
+-- leads to a cut of the set
 abbrev pub FirstSteps : (Cut → Type 0) → Cut → List Place → Cut → Type 0
 FirstSteps A c [] d = A c × (c ≡ d)
 FirstSteps A c (e ∷ es) d =
-    A c × (e.process < length c) × (e.position ≡ count c e.process + 1) × ((j : ℕ) → j < e.process → A (with_next c j) → ⊥)
+    A c × (e.process < length c) × (e.position ≡ count c e.process + 1)
+    × ((j : ℕ) → j < e.process → A (with_next c j) → ⊥)
     × FirstSteps A (with_next c e.process) es d
 
 -- to a goal, through consistent cuts within it
 abbrev pub FirstStepsTo : Clocks → PathTo → Type 0
-FirstStepsTo o path = FirstSteps (λ c. IsConsistent o c × IsWithin c path.goal) (initial o) path.steps path.goal
+FirstStepsTo o path =
+    FirstSteps (λ c. IsConsistent o c × IsWithin c path.goal) (initial o) path.steps path.goal
 
 -- events in the order of their processes, and of one process in their order
 abbrev pub IsBefore : Place → Place → Type 0
@@ -102,17 +121,65 @@ Departs o s e = row_at s e ≡ Some (clock o e.process e.position) → ⊥
 abbrev pub Shares : Slice → Place → Place → Type 0
 Shares s e f = AreTwo e f × (row_at s f ≡ row_at s e)
 
+-- the operators whose parts get a witness: EF, AG and EG by the words that they stand for
+pub data WitnessOperator : Type 0 where
+  ExistsFinally : WitnessOperator
+  AlwaysGlobally : WitnessOperator
+  ExistsGlobally : WitnessOperator
+
+-- the part that an operator makes of its operand
+abbrev pub part_of : WitnessOperator → Formula → Formula
+part_of ExistsFinally f = Temporal Ef f
+part_of AlwaysGlobally f = Temporal Ag f
+part_of ExistsGlobally f = Temporal Eg f
+
 -- the witness that is given for an operator over an operand with this slice
-pub data IsCanonical (o : Clocks) (s : Slice) : Operator → Witness → Type 0 where
+pub data IsCanonical (o : Clocks) (s : Slice) : WitnessOperator → Witness → Type 0 where
   -- EF: to the least cut, if there is one
-  reaches : {path : PathTo} → s.bottom ≡ Some path.goal → FirstStepsTo o path → IsCanonical o s Ef (Reach path)
-  never : s.bottom ≡ None → IsCanonical o s Ef Nothing
+  reaches : {path : PathTo} → s.bottom ≡ Some path.goal → FirstStepsTo o path
+      → IsCanonical o s ExistsFinally (Reach path)
+  never : s.bottom ≡ None → IsCanonical o s ExistsFinally Nothing
   -- AG: against the initial cut, else against the past of the first event whose row is not its past
-  refuted_at_start : (Cuts o s (initial o) → ⊥) → IsCanonical o s Ag (Against (record { goal = initial o; steps = [] }))
-  refuted : {path : PathTo} {e : Place} → Cuts o s (initial o) → IsFirst o (Departs o s) e → path.goal ≡ clock o e.process e.position → FirstStepsTo o path → IsCanonical o s Ag (Against path)
-  each_time : Cuts o s (initial o) → ((e : Place) → IsPlace o e → row_at s e ≡ Some (clock o e.process e.position)) → IsCanonical o s Ag Nothing
-  -- EG: a path through the slice, else what stands against it: the initial cut, the final cut, or the first two events that share a row
-  stays : {path : PathTo} → path.goal ≡ lengths o → FirstSteps (Cuts o s) (initial o) path.steps path.goal → IsCanonical o s Eg (Always path)
-  false_at_start : (Cuts o s (initial o) → ⊥) → IsCanonical o s Eg StuckStart
-  false_at_finish : Cuts o s (initial o) → (Cuts o s (lengths o) → ⊥) → IsCanonical o s Eg StuckFinish
-  come_together : {first other : Place} → Cuts o s (initial o) → Cuts o s (lengths o) → IsFirst o (λ e. (f : Place) × IsPlace o f × Shares s e f) first → IsFirst o (Shares s first) other → IsCanonical o s Eg (StuckPair first other)
+  refuted_at_start : (Cuts o s (initial o) → ⊥)
+      → IsCanonical o s AlwaysGlobally (Against (record { goal = initial o; steps = [] }))
+  refuted : {path : PathTo} {e : Place} → Cuts o s (initial o) → IsFirst o (Departs o s) e
+      → path.goal ≡ clock o e.process e.position → FirstStepsTo o path
+      → IsCanonical o s AlwaysGlobally (Against path)
+  each_time : Cuts o s (initial o)
+      → ((e : Place) → IsPlace o e → row_at s e ≡ Some (clock o e.process e.position))
+      → IsCanonical o s AlwaysGlobally Nothing
+  -- EG: a path through the slice, else what stands against it: the initial cut, the final cut, or
+  -- the first two events that share a row
+  stays : {path : PathTo} → path.goal ≡ lengths o
+      → FirstSteps (Cuts o s) (initial o) path.steps path.goal
+      → IsCanonical o s ExistsGlobally (Always path)
+  false_at_start : (Cuts o s (initial o) → ⊥) → IsCanonical o s ExistsGlobally StuckStart
+  false_at_finish : Cuts o s (initial o) → (Cuts o s (lengths o) → ⊥)
+      → IsCanonical o s ExistsGlobally StuckFinish
+  come_together : {first other : Place} → Cuts o s (initial o) → Cuts o s (lengths o)
+      → IsFirst o (λ e. (f : Place) × IsPlace o f × Shares s e f) first
+      → IsFirst o (Shares s first) other → IsCanonical o s ExistsGlobally (StuckPair first other)
+
+-- the operator and the operand of a part that gets a witness
+abbrev pub explained : Formula → Option (WitnessOperator × Formula)
+explained (Truth b) = None
+explained (Comparison process variable relation side) = None
+explained (Watched process watch) = None
+explained (InTransit sender receiver relation k) = None
+explained (Empty sender receiver) = None
+explained (Not f) = None
+explained (And fs) = None
+explained (Or fs) = None
+explained (Temporal Ef f) = Some (ExistsFinally, f)
+explained (Temporal Ag f) = Some (AlwaysGlobally, f)
+explained (Temporal Eg f) = Some (ExistsGlobally, f)
+explained (Temporal Ex f) = None
+explained (Temporal Af f) = None
+explained (Temporal Ax f) = None
+explained (Until all left right) = None
+
+-- the witness of a part in a run: the canonical one by the slice of its operand's family, and none
+-- where the part has no such operand
+abbrev pub IsWitnessOf : Run → Formula → Witness → Type 0
+IsWitnessOf r f w = MatchOption (explained f) (w ≡ Nothing)
+    (λ part. (s : Slice) × StandsFor r.clocks s (Family r part.1) × IsCanonical r.clocks s part.0 w)

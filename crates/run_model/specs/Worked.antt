@@ -2,11 +2,11 @@
 use Rattle.std.specs.Prelude.{ℕ, Bool, true, MatchBool, List, [], ◌∷◌, ℤ, pos}
 use Rattle.run_model.specs.Cut.{Cut, initial}
 use Rattle.run_model.specs.Run.{Name, Kind, Internal, Send, Receive, Event, Process, Trace, Run, run_of}
-use Rattle.run_model.specs.Formula.{Equal, Unequal, LessOrEqual, Number, Operator, Formula, Comparison, And, Or, Nil, Cons}
+use Rattle.run_model.specs.Formula.{Equal, Unequal, LessOrEqual, Number, Formula, Comparison, And, Or, Nil, Cons}
 use Rattle.run_model.specs.Meaning.{Sat, Family}
 use Rattle.run_model.specs.Class.{Shown}
 use Rattle.run_model.specs.Slice.{Slice, StandsFor, Edge, IsPrintedAs}
-use Rattle.run_model.specs.Witness.{Place, PathTo, Witness, IsCanonical}
+use Rattle.run_model.specs.Witness.{WitnessOperator, Place, PathTo, Witness, IsCanonical}
 use Rattle.std.specs.Ordering.{int_eq}
 use Rattle.std.specs.Cmp.Lexicographic.{pointwise}
 
@@ -29,18 +29,26 @@ cut a b = a ∷ b ∷ []
 
 -- an event that sets the first variable, and one that sets none
 abbrev pub sets : Cut → Kind → ℕ → Event
-sets clock kind value = record { clock = clock; kind = kind; assigns = record { variable = 0; value = pos value } ∷ [] }
+sets clock kind value =
+    record { clock = clock; kind = kind; assigns = record { variable = 0; value = pos value } ∷ [] }
 
 abbrev pub sets_nothing : Cut → Kind → Event
 sets_nothing clock kind = record { clock = clock; kind = kind; assigns = [] }
 
 abbrev pub starting_at_zero : Name → Name → List Event → Process
-starting_at_zero name variable events = record { name = name; variables = record { name = variable; value = pos 0 } ∷ []; events = events }
+starting_at_zero name variable events =
+    record {
+      name = name;
+      variables = record { name = variable; value = pos 0 }
+          ∷ [];
+      events = events;
+    }
 
 -- P sends to Q, works on, and receives the answer; Q receives and answers
 abbrev pub five_events : Trace
 five_events =
-    starting_at_zero p x (sets (cut 1 0) (Send 1 1) 1 ∷ sets (cut 2 0) Internal 2 ∷ sets_nothing (cut 3 2) (Receive 1 2) ∷ [])
+    starting_at_zero p x (sets (cut 1 0) (Send 1 1) 1 ∷ sets (cut 2 0) Internal 2
+    ∷ sets_nothing (cut 3 2) (Receive 1 2) ∷ [])
     ∷ starting_at_zero q y (sets (cut 1 1) (Receive 0 1) 1 ∷ sets (cut 1 2) (Send 0 2) 2 ∷ [])
     ∷ []
 
@@ -96,11 +104,14 @@ one_of f g = Or (Cons f (Cons g Nil))
 
 -- the verdict is the truth at the initial cut
 abbrev pub HasVerdict : Trace → Formula → Bool → Type 0
-HasVerdict trace f verdict = MatchBool verdict (Sat (run_with_watch trace) f (initial (run_with_watch trace).clocks)) (Sat (run_with_watch trace) f (initial (run_with_watch trace).clocks) → ⊥)
+HasVerdict trace f verdict =
+    MatchBool verdict (Sat (run_with_watch trace) f (initial (run_with_watch trace).clocks))
+    (Sat (run_with_watch trace) f (initial (run_with_watch trace).clocks) → ⊥)
 
 -- the slice of the cuts that are shown of the formula has this text
 abbrev pub HasSlice : Trace → Formula → Cut → Cut → List Edge → Type 0
-HasSlice trace f low high edges = IsPrintedAs (run_with_watch trace).clocks (Shown (run_with_watch trace) f) low high edges
+HasSlice trace f low high edges =
+    IsPrintedAs (run_with_watch trace).clocks (Shown (run_with_watch trace) f) low high edges
 
 -- no cut is shown
 abbrev pub HasNoSlice : Trace → Formula → Type 0
@@ -112,10 +123,13 @@ at process position = record { process = process; position = position }
 abbrev pub path_to : Cut → List Place → PathTo
 path_to goal steps = record { goal = goal; steps = steps }
 
--- the canonical witness for the operator over this operand, by whichever slice of the operand's family
-abbrev pub HasWitness : Trace → Operator → Formula → Witness → Type 0
+-- the canonical witness for the operator over this operand, by whichever slice of the operand's
+-- family
+abbrev pub HasWitness : Trace → WitnessOperator → Formula → Witness → Type 0
 HasWitness trace operator operand witness =
-    (s : Slice) → StandsFor (run_with_watch trace).clocks s (Family (run_with_watch trace) operand) → IsCanonical (run_with_watch trace).clocks s operator witness
+    (s : Slice) → StandsFor (run_with_watch trace).clocks s (Family (run_with_watch trace) operand)
+    → IsCanonical (run_with_watch trace).clocks s operator witness
 
 abbrev pub edge : ℕ → ℕ → ℕ → ℕ → Edge
-edge cause b effect a = record { cause = cause; cause_position = b; effect = effect; effect_position = a }
+edge cause b effect a =
+    record { cause = cause; cause_position = b; effect = effect; effect_position = a }

@@ -16,13 +16,14 @@ pub fn truth_is_decided()
         → Sat r f c ⊎ (Sat r f c → ⊥) }
 {}
 
-/// The family of a regular formula is closed under minimum and maximum (Garg and Mittal; Sen and Garg).
+/// The family of a regular formula is closed under minimum and maximum (Garg and Mittal; Sen and
+/// Garg).
 pub fn regular_families_are_closed()
     ensures { (r : Run) → IsRun r → (f : Formula) → IsRegular f → IsClosed r.clocks (Family r f) }
 {}
 
-/// A formula is true exactly where some disjunct has all its parts true, and a formula of the class has one
-/// disjunct exactly where it is regular.
+/// A formula is true exactly where some disjunct has all its parts true, and a formula of the class
+/// has one disjunct exactly where it is regular.
 pub fn disjuncts_mean_the_formula()
     ensures meaning { (r : Run) → IsOrder r.clocks → (f : Formula) (c : Cut)
         → IsConsistent r.clocks c → SatDisjuncts r (disjuncts true f) c ↔ Sat r f c }
@@ -30,17 +31,16 @@ pub fn disjuncts_mean_the_formula()
         ↔ (length (disjuncts true f) ≡ 1) }
 {}
 
-/// The set that is shown of a formula is closed: the family of a regular formula, and else the smallest
-/// closed set that holds the
-/// family.
+/// The set that is shown of a formula is closed: the family of a regular formula, and else the
+/// smallest closed set that holds the family.
 pub fn shown_sets_are_closed()
     ensures closed { (r : Run) → IsRun r → (f : Formula) → IsClosed r.clocks (Shown r f) }
     ensures smallest { (r : Run) → IsRun r → (f : Formula) (c : Cut) → Shown r f c
         ↔ Smallest (Family r f) c }
 {}
 
-/// A regular formula is of the class, and the disjuncts of a formula of the class are made of regular parts,
-/// so their families are closed.
+/// A regular formula is of the class, and the disjuncts of a formula of the class are made of
+/// regular parts, so their families are closed.
 pub fn disjuncts_have_regular_parts()
     ensures of_the_class { (f : Formula) → IsRegular f → IsOfClass f }
     ensures parts { (f : Formula) → IsOfClass f → HaveRegularParts (disjuncts true f) }

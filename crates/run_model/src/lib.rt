@@ -1,5 +1,5 @@
-// The meaning of formulas over one run of a distributed program. The definitions stand in specs/; each function here is a law
-// that stands over them, and does nothing.
+// The meaning of formulas over one run of a distributed program. The definitions stand in specs/;
+// each function here is a law that stands over them, and does nothing.
 #![tactic(auto)]
 
 pub mod formula_laws;

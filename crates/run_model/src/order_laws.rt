@@ -4,19 +4,20 @@ ghost use Rattle.run_model.specs.Cut.{Cut, Clocks, IsWithin, min_cut, max_cut, l
 ghost use Rattle.run_model.specs.Consistent.{IsOrder, IsEvent, IsConsistent, HappenedBefore, IsPath, clock};
 ghost use Rattle.run_model.specs.Sublattice.{IsClosed, IsLeast, IsGreatest, Having};
 
-/// Happened before is a strict partial order (Lamport), and the events of one process stand in it in their
-/// order.
+/// Happened before is a strict partial order (Lamport), and the events of one process stand in it
+/// in their order.
 pub fn happened_before_is_an_order()
-    ensures transitive { (o : Clocks) → IsOrder o → (i a j b k d : ℕ) → IsEvent (lengths o) k d
+    ensures transitive { (o : Clocks) → IsOrder o → (i a j b k d : ℕ)
         → HappenedBefore o i a j b → HappenedBefore o j b k d → HappenedBefore o i a k d }
     ensures irreflexive { (o : Clocks) (i a : ℕ) → HappenedBefore o i a i a → ⊥ }
-    ensures asymmetric { (o : Clocks) → IsOrder o → (i a j b : ℕ) → IsEvent (lengths o) j b
+    ensures asymmetric { (o : Clocks) → IsOrder o → (i a j b : ℕ)
         → HappenedBefore o i a j b → HappenedBefore o j b i a → ⊥ }
     ensures along_a_process { (o : Clocks) → IsOrder o → (i a b : ℕ) → IsEvent (lengths o) i b
         → 0 < a → a < b → HappenedBefore o i a i b }
 {}
 
-/// The consistent cuts are closed under minimum and maximum (Mattern), from the initial cut to the final one.
+/// The consistent cuts are closed under minimum and maximum (Mattern), from the initial cut to the
+/// final one.
 pub fn consistent_cuts_are_closed()
     ensures minimum { (o : Clocks) → IsOrder o → (c d : Cut) → IsConsistent o c
         → IsConsistent o d → IsConsistent o (min_cut c d) }

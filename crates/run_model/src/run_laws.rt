@@ -10,7 +10,8 @@ pub fn traces_are_runs()
         → IsRun (run_of trace watches) }
 {}
 
-/// A process has one state more than events, and the state at a place is the state after so many events.
+/// A process has one state more than events, and the state at a place is the state after so many
+/// events.
 pub fn states_by_events()
     ensures count { (p : Process) → length (states_of p) ≡ length p.events + 1 }
     ensures place { (p : Process) (a : ℕ) → a ≤ length p.events
@@ -20,6 +21,8 @@ pub fn states_by_events()
 /// Two lists of watches that answer alike over the states of each process make one run.
 pub fn watches_by_their_answers()
     ensures { (trace : Trace) (watches others : Watches)
-        → ((p : ℕ) (watch : Name) (a : ℕ) → get_or (watches watch (states_of (process_at trace p))) a false ≡ get_or (others watch (states_of (process_at trace p))) a false)
+        → ((p : ℕ) (watch : Name) (a : ℕ)
+        → get_or (watches watch (states_of (process_at trace p))) a false
+        ≡ get_or (others watch (states_of (process_at trace p))) a false)
         → run_of trace watches ≡ run_of trace others }
 {}

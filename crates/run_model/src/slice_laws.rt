@@ -8,8 +8,8 @@ ghost use Rattle.run_model.specs.Operators.{joined};
 
 use crate::sublattice_laws::SetOfCuts;
 
-/// A closed set is the set of the cuts of its slice (Birkhoff), and has one slice: its bottom, and its row at
-/// each event.
+/// A closed set is the set of the cuts of its slice (Birkhoff), and has one slice: its bottom, and
+/// its row at each event.
 pub fn slice_of_a_closed_set<A: SetOfCuts>()
     ensures exact { (o : Clocks) → IsClosed o A.has → (s : Slice) → StandsFor o s A.has
         → (c : Cut) → A.has c ↔ Cuts o s c }

@@ -4,7 +4,8 @@ ghost use Rattle.run_model.specs.Cut.{Cut, Clocks};
 ghost use Rattle.run_model.specs.Consistent.{IsOrder, IsConsistent};
 ghost use Rattle.run_model.specs.Sublattice.{IsClosed, Smallest, Either, IsMaxOfMins};
 
-/// A set of cuts. A proof that wants a law for a set of its own cites the law's lemma in `proofs/`, which is for every set.
+/// A set of cuts. A proof that wants a law for a set of its own cites the law's lemma in `proofs/`,
+/// which is for every set.
 pub trait SetOfCuts {
     ghost has: { Cut → Type 0 };
 }

@@ -5,24 +5,27 @@ ghost use Rattle.run_model.specs.Run.{Run};
 ghost use Rattle.run_model.specs.Consistent.{IsOrder};
 ghost use Rattle.run_model.specs.Sublattice.{IsClosed};
 ghost use Rattle.run_model.specs.Slice.{Slice, StandsFor, Fits};
-ghost use Rattle.run_model.specs.Formula.{Operator, Formula, Temporal};
+ghost use Rattle.run_model.specs.Formula.{Formula};
 ghost use Rattle.run_model.specs.Meaning.{Family};
-ghost use Rattle.run_model.specs.Witness.{Witness, IsCanonical, IsOfKind};
+ghost use Rattle.run_model.specs.Witness.{WitnessOperator, part_of, Witness, IsCanonical, IsOfKind};
 
 use crate::sublattice_laws::SetOfCuts;
 
 /// The canonical witness by the slice of the operand's family is of its kind.
 pub fn canonical_witness()
     ensures { (r : Run) → IsOrder r.clocks → (f : Formula) → IsClosed r.clocks (Family r f)
-        → (s : Slice) → StandsFor r.clocks s (Family r f) → (operator : Operator) (w : Witness)
-        → IsCanonical r.clocks s operator w → IsOfKind r (Temporal operator f) w }
+        → (s : Slice) → StandsFor r.clocks s (Family r f)
+        → (operator : WitnessOperator) (w : Witness)
+        → IsCanonical r.clocks s operator w → IsOfKind r (part_of operator f) w }
 {}
 
-/// There is one canonical witness at most, and it goes by the set, not by the slice that is at hand.
+/// There is one canonical witness at most, and it goes by the set, not by the slice that is at
+/// hand.
 pub fn one_canonical_witness<A: SetOfCuts>()
-    ensures one { (o : Clocks) (s : Slice) → Fits o s → (operator : Operator) (w v : Witness)
+    ensures one { (o : Clocks) (s : Slice) → Fits o s → (operator : WitnessOperator) (w v : Witness)
         → IsCanonical o s operator w → IsCanonical o s operator v → w ≡ v }
     ensures by_the_set { (o : Clocks) → IsClosed o A.has → (s t : Slice) → StandsFor o s A.has
-        → StandsFor o t A.has → (operator : Operator) (w : Witness) → IsCanonical o s operator w
+        → StandsFor o t A.has → (operator : WitnessOperator) (w : Witness)
+        → IsCanonical o s operator w
         → IsCanonical o t operator w }
 {}

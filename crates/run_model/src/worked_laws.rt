@@ -1,4 +1,5 @@
-// Worked examples as laws: the verdicts, printed slices and canonical witnesses of formulas on the small logs.
+// Worked examples as laws: the verdicts, printed slices and canonical witnesses of formulas on the
+// small logs.
 ghost use Rattle.std.specs.Prelude.{◌↔◌, true, false, pos, [], ◌∷◌, Contains, IsFalse};
 ghost use Rattle.run_model.specs.Cut.{Cut};
 ghost use Rattle.run_model.specs.Run.{clocks_of};
@@ -7,7 +8,7 @@ ghost use Rattle.run_model.specs.Meaning.{IsRun};
 ghost use Rattle.run_model.specs.Class.{is_conjunctive, is_disjunctive, IsOfClass};
 ghost use Rattle.run_model.specs.Formula.{Equal, LessOrEqual, Truth, Watched, InTransit, Empty, Not, Temporal, Ef, Ag, Eg, Af};
 ghost use Rattle.run_model.specs.Worked.{p, q, cut, five_events, two_events, first_two_events, no_events, x_is, x_is_not, x_at_most, y_is, both, one_of, edge, at, path_to, run_with_watch, HasVerdict, HasSlice, HasNoSlice, HasWitness};
-ghost use Rattle.run_model.specs.Witness.{Reach, Against, Always, StuckFinish, StuckPair, Nothing};
+ghost use Rattle.run_model.specs.Witness.{ExistsFinally, AlwaysGlobally, ExistsGlobally, Reach, Against, Always, StuckFinish, StuckPair, Nothing};
 
 /// The clocks of the examples are those of orders, so there are runs.
 pub fn examples_are_runs()
@@ -28,7 +29,7 @@ pub fn two_and_one_is_reached()
     ensures verdict { HasVerdict five_events (Temporal Ef (both (x_is 2) (y_is 1))) true }
     ensures slice { HasSlice five_events (Temporal Ef (both (x_is 2) (y_is 1)))
         (cut 0 0) (cut 2 1) [] }
-    ensures witness { HasWitness five_events Ef (both (x_is 2) (y_is 1))
+    ensures witness { HasWitness five_events ExistsFinally (both (x_is 2) (y_is 1))
         (Reach (path_to (cut 2 1) (at 0 1 ∷ at 0 2 ∷ at 1 1 ∷ []))) }
 {}
 
@@ -36,7 +37,7 @@ pub fn two_and_one_is_reached()
 pub fn zero_and_one_is_never_reached()
     ensures verdict { HasVerdict five_events (Temporal Ef (both (x_is 0) (y_is 1))) false }
     ensures slice { HasNoSlice five_events (Temporal Ef (both (x_is 0) (y_is 1))) }
-    ensures witness { HasWitness five_events Ef (both (x_is 0) (y_is 1)) Nothing }
+    ensures witness { HasWitness five_events ExistsFinally (both (x_is 0) (y_is 1)) Nothing }
 {}
 
 /// `P.x = 0` on the five events: the initial cut alone.
@@ -50,7 +51,7 @@ pub fn one_message_at_most()
     ensures verdict { HasVerdict five_events (Temporal Ag (InTransit p q LessOrEqual 1)) true }
     ensures slice { HasSlice five_events (Temporal Ag (InTransit p q LessOrEqual 1))
         (cut 0 0) (cut 3 2) [] }
-    ensures witness { HasWitness five_events Ag (InTransit p q LessOrEqual 1) Nothing }
+    ensures witness { HasWitness five_events AlwaysGlobally (InTransit p q LessOrEqual 1) Nothing }
 {}
 
 /// `EF AG P.x = 2` on the five events, and `AG P.x = 2`, which is true from the second event of P
@@ -60,7 +61,7 @@ pub fn two_for_good()
     ensures slice { HasSlice five_events (Temporal Ef (Temporal Ag (x_is 2)))
         (cut 0 0) (cut 3 2) [] }
     ensures operand { HasSlice five_events (Temporal Ag (x_is 2)) (cut 2 0) (cut 3 2) [] }
-    ensures witness { HasWitness five_events Ef (Temporal Ag (x_is 2))
+    ensures witness { HasWitness five_events ExistsFinally (Temporal Ag (x_is 2))
         (Reach (path_to (cut 2 0) (at 0 1 ∷ at 0 2 ∷ []))) }
 {}
 
@@ -70,7 +71,7 @@ pub fn empty_each_time()
     ensures operand { HasSlice five_events (Empty p q) (cut 0 0) (cut 3 2) (edge 1 1 0 1 ∷ []) }
     ensures verdict { HasVerdict five_events (Temporal Ag (Empty p q)) false }
     ensures slice { HasSlice five_events (Temporal Ag (Empty p q)) (cut 1 1) (cut 3 2) [] }
-    ensures witness { HasWitness five_events Ag (Empty p q)
+    ensures witness { HasWitness five_events AlwaysGlobally (Empty p q)
         (Against (path_to (cut 1 0) (at 0 1 ∷ []))) }
 {}
 
@@ -79,14 +80,15 @@ pub fn empty_each_time()
 pub fn empty_all_along()
     ensures verdict { HasVerdict five_events (Temporal Eg (Empty p q)) false }
     ensures slice { HasSlice five_events (Temporal Eg (Empty p q)) (cut 1 1) (cut 3 2) [] }
-    ensures witness { HasWitness five_events Eg (Empty p q) (StuckPair (at 0 1) (at 1 1)) }
+    ensures witness { HasWitness five_events ExistsGlobally (Empty p q)
+        (StuckPair (at 0 1) (at 1 1)) }
 {}
 
 /// `EG P.x <= 2` on the five events.
 pub fn two_at_most_all_along()
     ensures verdict { HasVerdict five_events (Temporal Eg (x_at_most 2)) true }
     ensures slice { HasSlice five_events (Temporal Eg (x_at_most 2)) (cut 0 0) (cut 3 2) [] }
-    ensures witness { HasWitness five_events Eg (x_at_most 2)
+    ensures witness { HasWitness five_events ExistsGlobally (x_at_most 2)
         (Always (path_to (cut 3 2) (at 0 1 ∷ at 0 2 ∷ at 1 1 ∷ at 1 2 ∷ at 0 3 ∷ []))) }
 {}
 
@@ -95,13 +97,14 @@ pub fn two_can_always_be_reached()
     ensures verdict { HasVerdict five_events (Temporal Ag (Temporal Ef (y_is 2))) true }
     ensures slice { HasSlice five_events (Temporal Ag (Temporal Ef (y_is 2)))
         (cut 0 0) (cut 3 2) [] }
-    ensures witness { HasWitness five_events Ag (Temporal Ef (y_is 2)) Nothing }
+    ensures witness { HasWitness five_events AlwaysGlobally (Temporal Ef (y_is 2)) Nothing }
 {}
 
 /// `P.x = 1 & Q.y = 2 | P.x = 2 & Q.y = 1` on the five events: two of the four cuts that are shown
 /// satisfy neither side.
 pub fn one_of_two_pairs()
-    ensures verdict { HasVerdict five_events (one_of (both (x_is 1) (y_is 2)) (both (x_is 2) (y_is 1)))
+    ensures verdict { HasVerdict five_events
+        (one_of (both (x_is 1) (y_is 2)) (both (x_is 2) (y_is 1)))
         false }
     ensures slice { HasSlice five_events (one_of (both (x_is 1) (y_is 2)) (both (x_is 2) (y_is 1)))
         (cut 1 1) (cut 2 2) [] }
@@ -111,7 +114,8 @@ pub fn one_of_two_pairs()
 pub fn true_without_events()
     ensures verdict { HasVerdict no_events (Temporal Eg (Truth true)) true }
     ensures slice { HasSlice no_events (Temporal Eg (Truth true)) (0 ∷ []) (0 ∷ []) [] }
-    ensures witness { HasWitness no_events Eg (Truth true) (Always (path_to (0 ∷ []) [])) }
+    ensures witness { HasWitness no_events ExistsGlobally (Truth true)
+        (Always (path_to (0 ∷ []) [])) }
 {}
 
 /// `EF (P.x = 1 & Q.y = 0)` and `EF (P.x = 2 & Q.y = 1)` on the two events.
@@ -123,7 +127,8 @@ pub fn one_before_the_other()
 /// `P.x = 0 & Q.y = 1 | P.x = 1 & Q.y = 0` on the two events: the initial cut is shown, and the
 /// formula is false there.
 pub fn exactly_one_step()
-    ensures verdict { HasVerdict two_events (one_of (both (x_is 0) (y_is 1)) (both (x_is 1) (y_is 0)))
+    ensures verdict { HasVerdict two_events
+        (one_of (both (x_is 0) (y_is 1)) (both (x_is 1) (y_is 0)))
         false }
     ensures slice { HasSlice two_events (one_of (both (x_is 0) (y_is 1)) (both (x_is 1) (y_is 0)))
         (cut 0 0) (cut 1 1) [] }
@@ -142,7 +147,8 @@ pub fn not_one()
     ensures slice { HasSlice five_events (x_is_not 1)
         (cut 0 0) (cut 3 2) (edge 0 2 0 1 ∷ edge 0 2 1 1 ∷ []) }
     ensures all_along { HasVerdict five_events (Temporal Eg (x_is_not 1)) false }
-    ensures witness { HasWitness five_events Eg (x_is_not 1) (StuckPair (at 0 1) (at 0 2)) }
+    ensures witness { HasWitness five_events ExistsGlobally (x_is_not 1)
+        (StuckPair (at 0 1) (at 0 2)) }
 {}
 
 /// `EF (P@stable & Q.y = 2)` on the five events, where the watch is true after none and after three
@@ -151,7 +157,7 @@ pub fn stable_and_two()
     ensures verdict { HasVerdict five_events (Temporal Ef (both (Watched p p) (y_is 2))) true }
     ensures slice { HasSlice five_events (Temporal Ef (both (Watched p p) (y_is 2)))
         (cut 0 0) (cut 3 2) [] }
-    ensures witness { HasWitness five_events Ef (both (Watched p p) (y_is 2))
+    ensures witness { HasWitness five_events ExistsFinally (both (Watched p p) (y_is 2))
         (Reach (path_to (cut 3 2) (at 0 1 ∷ at 0 2 ∷ at 1 1 ∷ at 1 2 ∷ at 0 3 ∷ []))) }
 {}
 
@@ -159,7 +165,7 @@ pub fn stable_and_two()
 pub fn before_the_receipts()
     ensures not_yet { HasVerdict first_two_events (Temporal Ef (both (x_is 2) (y_is 1))) false }
     ensures verdict { HasVerdict first_two_events (Temporal Eg (Empty p q)) false }
-    ensures witness { HasWitness first_two_events Eg (Empty p q) StuckFinish }
+    ensures witness { HasWitness first_two_events ExistsGlobally (Empty p q) StuckFinish }
 {}
 
 /// Formulas of the class and outside it: a disjunction of regular formulas, a disjunction below an

@@ -3,12 +3,15 @@ use Rattle.std.specs.Prelude.{◌≡◌, ℕ, ◌+◌, ◌^◌, ◌-◌, min, Bo
 use Rattle.std.specs.List.{AllByRecursion}
 use Rattle.event_log.specs.declared.log.Event.{Event}
 use Rattle.event_log.specs.declared.log.Header.{Header}
-use Rattle.event_log.specs.States.{StatesView, MayFollow, opened, with_batch}
+use Rattle.event_log.specs.States.{StatesView, IsHeader, AreWhole, MayFollow, opened, with_batch, trace_of}
+use Rattle.run_model.specs.Run as run
 use Rattle.vector_clock.specs.declared.clocks.Clocks.{Clocks}
-use Rattle.vector_clock.specs.Events.{EventFits}
+use Rattle.vector_clock.specs.Events.{EventFits, clocks_of}
+use Rattle.vector_clock.specs.Faultless.{AreFaultless, IsLoggedRun}
 use Rattle.vector_clock.specs.Admitted.{HasAdmitted}
 
--- the data of the events that were taken, how many batches they came in, and whether memory was wanted
+-- the data of the events that were taken, how many batches they came in, and whether memory was
+-- wanted
 pub record TraceView : Type 0 where
   pub states : StatesView
   pub batches : ℕ
@@ -30,11 +33,27 @@ with_trace_batch trace batch = record {
   spent = trace.spent;
 }
 
--- the batch fits the batches before it: it may follow their events, and each of its events has its place among the processes
+-- the batch fits the batches before it: it may follow their events, and each of its events has its
+-- place among the processes
 pub record FitsTrace (trace : TraceView) (batch : List Event) : Type 0 where
   pub follows : MayFollow trace.states.header trace.states.events batch
   pub each : AllByRecursion (EventFits (length trace.states.events)) batch
 
--- the fields fit each other, unless memory was wanted: the clocks are those of the states' events
-abbrev pub IsTrace : StatesView → Clocks → Bool → Type 0
-IsTrace states clocks spent = spent ≡ false → HasAdmitted clocks states.events
+-- what a trace is at each moment: data of processes whose events came batch after batch without a
+-- fault. So it is a run, whose receipts have their sends, and the vector clocks of its events are
+-- those of the run
+pub record IsTrace (states : StatesView) : Type 0 where
+  pub whole : AreWhole states
+  pub faultless : AreFaultless (length states.header.procs) states.events
+  pub clocks : run.clocks_of (trace_of states) ≡ clocks_of states.events
+  pub run : IsLoggedRun (trace_of states)
+
+-- the fields fit each other: the clocks are those of the states' events, which came without a fault
+pub record HasTaken (states : StatesView) (clocks : Clocks) : Type 0 where
+  pub header : IsHeader states.header
+  pub admitted : HasAdmitted clocks states.events
+  pub faultless : AreFaultless (length states.header.procs) states.events
+
+-- unless memory was wanted
+abbrev pub KeepsTrace : StatesView → Clocks → Bool → Type 0
+KeepsTrace states clocks spent = spent ≡ false → HasTaken states clocks

@@ -23,8 +23,10 @@ fn add(
 ) -> Result<(), NoMemory>
     requires process { process < length clock.now }
     requires peer { KindWithin (length clock.now) kind }
-    ensures fits { OnOk result (AllByRecursion (EventFits (length clock.now)) batch.old → AllByRecursion (EventFits (length clock.now)) batch.new) }
-    ensures known { OnOk result ((h : Header) → length h.procs ≡ length clock.now → AllByRecursion (IsKnown h) batch.old → AllByRecursion (IsKnown h) batch.new) }
+    ensures fits { OnOk result (AllByRecursion (EventFits (length clock.now)) batch.old
+        → AllByRecursion (EventFits (length clock.now)) batch.new) }
+    ensures known { OnOk result ((h : Header) → length h.procs ≡ length clock.now
+        → AllByRecursion (IsKnown h) batch.old → AllByRecursion (IsKnown h) batch.new) }
     ensures len { OnOk result (length batch.new ≡ length batch.old + 1) }
 {
     let clock = List::from_vec(Vec::from_slice(alloc, clock)?);
@@ -40,7 +42,8 @@ fn add(
 // `ev P 1,0 send Q 1`, and `ev Q n,1 recv P 1`.
 fn a_message(alloc: Global, n: u32) -> Result<List<Event>, NoMemory>
     ensures fits { IfOk result (λ batch. AllByRecursion (EventFits 2) batch) }
-    ensures known { IfOk result (λ batch. (h : Header) → length h.procs ≡ 2 → AllByRecursion (IsKnown h) batch) }
+    ensures known { IfOk result (λ batch. (h : Header) → length h.procs ≡ 2
+        → AllByRecursion (IsKnown h) batch) }
     ensures len { IfOk result (λ batch. length batch ≤ 2) }
 {
     let mut batch = List::new(alloc);
@@ -65,7 +68,7 @@ fn a_message(alloc: Global, n: u32) -> Result<List<Event>, NoMemory>
 
 // `procs P Q`
 fn two_processes(alloc: Global) -> Result<Option<Header>, NoMemory>
-    ensures { IfOk result (λ o. IfSome o (λ h. (length h.procs ≡ 2) × (length h.vars ≡ 2))) }
+    ensures { IfOk result (λ o. IfSome o (λ h. IsHeader h × (length h.procs ≡ 2))) }
 {
     let (Some(p), Some(q)) = (Name::new(alloc, b"P")?, Name::new(alloc, b"Q")?) else {
         return Ok(None);

@@ -6,7 +6,7 @@ ghost use Rattle.event_log.specs.States.{IsHeader, trace_of};
 ghost use Rattle.vector_clock.specs.Events.{clocks_of};
 ghost use Rattle.vector_clock.specs.Faults.{batch_fault};
 ghost use Rattle.vector_clock.specs.Admitted.{IfFault, IfWantsMemory};
-ghost use Rattle.trace_growth.specs.Growing.{opened_trace, with_trace_batch, one_more, FitsTrace};
+ghost use Rattle.trace_growth.specs.Growing.{opened_trace, with_trace_batch, one_more, FitsTrace, IsTrace};
 
 use causal_order::Order;
 use event_log::{Event, Header, LogFault, States};
@@ -27,13 +27,13 @@ pub struct Trace {
 }
 
 impl Model for Trace {
-    ghost use Rattle.trace_growth.specs.Growing.{TraceView, IsTrace};
+    ghost use Rattle.trace_growth.specs.Growing.{TraceView, KeepsTrace};
 
     ghost Value = { TraceView };
 
     ghost view = { λ t. record { states = t.states; batches = t.batches; spent = t.spent } };
 
-    ghost invariant = { λ t. IsTrace t.states t.clocks t.spent };
+    ghost invariant = { λ t. KeepsTrace t.states t.clocks t.spent };
 }
 
 impl Trace {
@@ -51,12 +51,15 @@ impl Trace {
         })
     }
 
-    /// Takes a whole batch, or none of it. A fault is the first of its clocks and messages, at the line of its event, and the
-    /// trace is then as before. After want of memory the trace is spent.
+    /// Takes a whole batch, or none of it. A fault is the first of its clocks and messages, at the
+    /// line of its event, and the trace is then as before. After want of memory the trace is spent.
     pub fn extend(&mut self, batch: List<Event>) -> Result<(), Refused<LogFault>>
         requires { FitsTrace self.old batch }
-        ensures ok { OnOk result ((self.old.spent ≡ false) × (batch_fault self.old.states.events batch ≡ None) × (self.new ≡ with_trace_batch self.old batch)) }
-        ensures fault { IfFault result (λ fault. (self.old.spent ≡ false) × (batch_fault self.old.states.events batch ≡ Some fault) × (self.new ≡ self.old)) }
+        ensures ok { OnOk result ((self.old.spent ≡ false)
+            × (batch_fault self.old.states.events batch ≡ None)
+            × (self.new ≡ with_trace_batch self.old batch)) }
+        ensures fault { IfFault result (λ fault. (self.old.spent ≡ false)
+            × (batch_fault self.old.states.events batch ≡ Some fault) × (self.new ≡ self.old)) }
         // so a spent trace answers want of memory, and stays spent
         ensures memory { IfWantsMemory result (self.new.spent ≡ true) }
     {
@@ -105,10 +108,11 @@ impl Trace {
         self.states.header()
     }
 
-    /// The data of the events.
+    /// The data of the events. Whatever watches are handed in, they are a run.
     pub fn states(&self) -> &States
         requires { self.now.spent ≡ false }
-        ensures { result.now ≡ self.now.states }
+        ensures states { result.now ≡ self.now.states }
+        ensures trace { IsTrace self.now.states }
     {
         &self.states
     }
@@ -116,7 +120,8 @@ impl Trace {
     /// The order of the events, by their vector clocks.
     pub fn order(&self) -> &Order
         requires { self.now.spent ≡ false }
-        ensures { result.now ≡ clocks_of self.now.states.events }
+        ensures order { result.now ≡ clocks_of self.now.states.events }
+        ensures trace { IsTrace self.now.states }
     {
         self.clocks.order()
     }
@@ -135,7 +140,8 @@ impl Trace {
         requires process { process < length self.now.states.events }
         requires state { position ≤ length (get_or self.now.states.events process []) }
         requires variable { variable < length (get_or self.now.states.header.vars process []) }
-        ensures { result ≡ get_or (state_after (process_at (trace_of self.now.states) process) position) variable (pos 0) }
+        ensures { result ≡ get_or
+            (state_after (process_at (trace_of self.now.states) process) position) variable (pos 0) }
     {
         self.states.value(process, position, variable)
     }
@@ -144,7 +150,8 @@ impl Trace {
     pub fn event(&self, event: EventId) -> &Event
         requires here { self.now.spent ≡ false }
         requires there { HasEvent (map length self.now.states.events) event }
-        ensures { result.now ≡ slice_index_or (get_or self.now.states.events event.process []) (event.position - 1) result.now }
+        ensures { result.now ≡ slice_index_or (get_or self.now.states.events event.process [])
+            (event.position - 1) result.now }
     {
         self.states.event(event)
     }

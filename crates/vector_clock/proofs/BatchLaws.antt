@@ -1,4 +1,4 @@
--- Batches without a fault: their clocks are those of an order, and their log is that of a run.
+-- Batches without a fault: their clocks are those of an order.
 use Rattle.std.proofs.Common.{◌≡◌, ℕ, ◌+◌, List, [], ◌∷◌, ◌++◌, length, map, get_or, refl, sym, ap, ◌∙◌, subst, arith}
 use Rattle.std.specs.Prelude.{None}
 use Rattle.std.specs.List.{AllByRecursion}
@@ -78,7 +78,8 @@ first_order procs batches fits none =
 
 -- ---- the log's run
 
-trace_clocks : (names : List (List ℕ)) (vars : List (List Binding)) (events : Events) → length names ≡ length events → length vars ≡ length events
+-- the clocks of the run are those of the events
+pub trace_clocks : (names : List (List ℕ)) (vars : List (List Binding)) (events : Events) → length names ≡ length events → length vars ≡ length events
     → run.clocks_of (processes_of names vars events) ≡ clocks_of events
 trace_clocks [] vars [] h k = refl
 trace_clocks [] vars (es ∷ events) h k = absurd (omega arith)
@@ -107,7 +108,7 @@ batch_fits h line (e ∷ batch) fits =
     let e_fits = fits.0.0 in
     (record { clock = record { process = e_fits.process; width = e_fits.width }; peer = peer_within (length h.procs) e.process e.kind e_fits.kind }, batch_fits h (line + 1) batch fits.1)
 
-all_fit : (h : Header) (line : ℕ) (batches : List (List Event)) → BatchesFit h line batches → AllFit (length h.procs) batches
+pub all_fit : (h : Header) (line : ℕ) (batches : List (List Event)) → BatchesFit h line batches → AllFit (length h.procs) batches
 all_fit h line [] fits = tt
 all_fit h line (b ∷ batches) fits = (batch_fits h line b fits.0, all_fit h (line + length b + 1) batches fits.1)
 
@@ -119,14 +120,6 @@ text_can_be_checked log fits = record {
   each = all_fit log.header _ log.batches fits.batches;
   events = fits.few;
 }
-
-pub log_is_a_run : (log : Log) (watches : run.Watches) → LogFits log → log_fault log ≡ None → IsRun (run.run_of (trace_of_log log) watches)
-log_is_a_run log watches fits none =
-    let n = length log.header.procs in
-    let events = with_batches (no_events n) log.batches in
-    let count : length events ≡ n = length-with_batches (no_events n) log.batches ∙ length-replicate n [] in
-    let order = first_order n log.batches (all_fit log.header _ log.batches fits.batches) none in
-    run_of_order (trace_of_log log) watches (subst IsOrder (sym (trace_clocks log.header.procs log.header.vars events (sym count) (fits.header.all ∙ sym count))) order)
 
 -- ---- batches event by event
 

@@ -15,7 +15,7 @@ use Rattle.vector_clock.proofs.Below.{none_below, within_from}
 some_none : {X : Type 0} (x : X) → Some x ≡ None → ⊥
 some_none x h = cc
 
-none_of : {X : Type 0} (b : Bool) (x : X) (rest : Option X) → (if b then Some x else rest) ≡ None → (b ≡ false) × (rest ≡ None)
+pub none_of : {X : Type 0} (b : Bool) (x : X) (rest : Option X) → (if b then Some x else rest) ≡ None → (b ≡ false) × (rest ≡ None)
 none_of true x rest h = absurd (some_none x h)
 none_of false x rest h = (refl, h)
 

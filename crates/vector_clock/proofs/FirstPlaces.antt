@@ -67,7 +67,7 @@ first_with test (x ∷ es) e rest passes = before_step (test x) (first_place tes
 pub own_same : (events : Events) (e : Event) → e.process < length events → own_events (with_event events e) e.process ≡ own_events events e.process ++ e ∷ []
 own_same events e lt = get_or-set_same events e.process _ [] lt
 
-own_other : (events : Events) (e : Event) (p : ℕ) → (p ≡ e.process → ⊥) → own_events (with_event events e) p ≡ own_events events p
+pub own_other : (events : Events) (e : Event) (p : ℕ) → (p ≡ e.process → ⊥) → own_events (with_event events e) p ≡ own_events events p
 own_other events e p ne = get_or-set_other events e.process p _ [] ne
 
 -- an event that doesn't pass changes nothing

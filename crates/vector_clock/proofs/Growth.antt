@@ -66,14 +66,24 @@ grown_with old now (e ∷ batch) grown fits =
     grown_with old (with_row now e.process e.clock) batch (grown_more old now e.process e.clock grown fits.0.process)
     (subst (λ (n : ℕ). AllByRecursion (HasClock n) batch) (sym (length-set now e.process _)) fits.1)
 
+pub clock_suc : (o : Clocks) (p a : ℕ) → clock o p (suc a) ≡ get_or (get_or o p []) a []
+unfolding clock
+clock_suc o p a = refl
+
+clock_behind : (o : Clocks) (p n : ℕ) → clock o p (n + 1) ≡ get_or (get_or o p []) (n + 1 - 1) []
+clock_behind o p n =
+    let next : n + 1 ≡ suc n = omega arith in
+    let place : n ≡ n + 1 - 1 = omega arith in
+    ap (λ (k : ℕ). clock o p k) next ∙ clock_suc o p n ∙ ap (λ (k : ℕ). get_or (get_or o p []) k []) place
+
 -- the row that comes next is the clock at the next place
 pub next_clock : (o all : Clocks) (p : ℕ) (row : Cut) → HasGrown (with_row o p row) all → p < length o → clock all p (length (get_or o p []) + 1) ≡ row
-unfolding clock
 next_clock o all p row grown lt =
     let g = grown.each p in
     let rows = get_or o p [] in
     let at : length rows + 1 - 1 ≡ length rows + 0 = omega arith in
-    ap (λ (rs : List Cut). get_or rs (length rows + 1 - 1) []) (g.1 ∙ ap (λ (rs : List Cut). rs ++ g.0) (get_or-set_same o p _ [] lt) ∙ append_assoc rows (row ∷ []) g.0)
+    clock_behind all p (length rows)
+    ∙ ap (λ (rs : List Cut). get_or rs (length rows + 1 - 1) []) (g.1 ∙ ap (λ (rs : List Cut). rs ++ g.0) (get_or-set_same o p _ [] lt) ∙ append_assoc rows (row ∷ []) g.0)
     ∙ ap (λ (k : ℕ). get_or (rows ++ (row ∷ g.0)) k []) at ∙ get_or-append-add rows (row ∷ g.0) 0 []
 
 pub next_there : (o all : Clocks) (p : ℕ) (row : Cut) → HasGrown (with_row o p row) all → p < length o → length (get_or o p []) + 1 ≤ length (get_or all p [])

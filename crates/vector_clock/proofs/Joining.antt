@@ -48,17 +48,21 @@ joined_batch o added events n count is =
 
 pub first_clock : (o added all : Clocks) (p a : ℕ) → joined_clocks o added ≡ all → length added ≡ length o → 1 ≤ a → a ≤ length (get_or o p []) → clock o p a ≡ clock all p a
 unfolding clock
-first_clock o added all p a is same some le =
-    sym (ap (λ (x : Clocks). get_or (get_or x p []) (a - 1) []) (sym is) ∙ ap (λ (rs : List Cut). get_or rs (a - 1) []) (joined_at o added p same)
-    ∙ get_or_append_left (get_or o p []) (get_or added p []) [] (a - 1) (omega arith))
+first_clock o added all p zero is same some le = absurd (omega (arith, some))
+first_clock o added all p (suc a) is same some le =
+    sym (ap (λ (x : Clocks). get_or (get_or x p []) a []) (sym is) ∙ ap (λ (rs : List Cut). get_or rs a []) (joined_at o added p same)
+    ∙ get_or_append_left (get_or o p []) (get_or added p []) [] a (omega (arith, le)))
 
 pub later_clock : (o added all : Clocks) (p a n : ℕ) → joined_clocks o added ≡ all → length added ≡ length o → n ≡ length (get_or o p []) → n < a
     → clock added p (a - n) ≡ clock all p a
 unfolding clock
-later_clock o added all p a n is same len lt =
-    let place : length (get_or o p []) + (a - n - 1) ≡ a - 1 = omega arith in
-    sym (ap (λ (x : Clocks). get_or (get_or x p []) (a - 1) []) (sym is) ∙ ap (λ (rs : List Cut). get_or rs (a - 1) []) (joined_at o added p same)
-    ∙ ap (λ (k : ℕ). get_or (get_or o p [] ++ get_or added p []) k []) (sym place) ∙ get_or-append-add (get_or o p []) (get_or added p []) (a - n - 1) [])
+later_clock o added all p zero n is same len lt = absurd (omega (arith, lt))
+later_clock o added all p (suc a) n is same len lt =
+    let behind : suc a - n ≡ suc (a - n) = omega (arith, lt) in
+    let place : length (get_or o p []) + (a - n) ≡ a = omega (arith, len, lt) in
+    ap (λ (k : ℕ). clock added p k) behind
+    ∙ sym (ap (λ (x : Clocks). get_or (get_or x p []) a []) (sym is) ∙ ap (λ (rs : List Cut). get_or rs a []) (joined_at o added p same)
+    ∙ ap (λ (k : ℕ). get_or (get_or o p [] ++ get_or added p []) k []) (sym place) ∙ get_or-append-add (get_or o p []) (get_or added p []) (a - n) [])
 
 pub joined_len : (o added all : Clocks) (p : ℕ) → joined_clocks o added ≡ all → length added ≡ length o → length (get_or all p []) ≡ length (get_or o p []) + length (get_or added p [])
 joined_len o added all p is same =

@@ -10,3 +10,6 @@ pub mod MessageLaws
 pub mod Counting
 pub mod Judged
 pub mod Admitting
+pub mod MessageIds
+pub mod Delivered
+pub mod Receipts

@@ -1,5 +1,5 @@
 -- Clocks without a fault are those of an order, and they stay so when events are added.
-use Rattle.std.proofs.Common.{◌≡◌, ℕ, zero, suc, ◌+◌, ◌-◌, ◌<◌, ◌≤◌, List, [], length, get_or, sym, ap, ◌∙◌, subst, arith, inl, inr, le_refl, length-append}
+use Rattle.std.proofs.Common.{◌≡◌, ℕ, zero, suc, ◌+◌, ◌-◌, ◌<◌, ◌≤◌, List, [], length, get_or, refl, sym, ap, ◌∙◌, subst, arith, inl, inr, le_refl, length-append}
 use Rattle.std.proofs.lemmas.Bool.{cases_eq, cases_lt}
 use Rattle.std.proofs.lemmas.List.{get_or_append_left}
 use Rattle.run_model.specs.Cut.{Cut, Clocks, count, IsWithin, lengths}
@@ -80,9 +80,10 @@ order_sound o order i a ev = record {
 
 pub same_clock : (o all : Clocks) (i a : ℕ) → HasGrown o all → IsEvent (lengths o) i a → clock all i a ≡ clock o i a
 unfolding clock
-same_clock o all i a grown ev =
+same_clock o all i zero grown ev = refl
+same_clock o all i (suc a) grown ev =
     let g = grown.each i in
-    ap (λ (rs : List Cut). get_or rs (a - 1) []) g.1 ∙ get_or_append_left (get_or o i []) g.0 [] (a - 1) (omega (arith, ev.0, ev.1, count-lengths o i))
+    ap (λ (rs : List Cut). get_or rs a []) g.1 ∙ get_or_append_left (get_or o i []) g.0 [] a (omega (arith, ev.1, count-lengths o i))
 
 pub lengths_grow : (o all : Clocks) → HasGrown o all → IsWithin (lengths o) (lengths all)
 lengths_grow o all grown p =

@@ -15,7 +15,9 @@ use Rattle.vector_clock.specs.Messages.{first_send, first_receipt}
 
 -- messages by sender, then receiver, then number
 abbrev pub message_cmp : Message → Message → Ordering
-message_cmp m n = ordering_then (nat_cmp m.sender n.sender) (ordering_then (nat_cmp m.receiver n.receiver) (nat_cmp m.id n.id))
+message_cmp m n =
+    ordering_then (nat_cmp m.sender n.sender)
+    (ordering_then (nat_cmp m.receiver n.receiver) (nat_cmp m.id n.id))
 
 -- the place that is kept for each message is the function's
 abbrev pub ArePlaces : Places → (Message → Option ℕ) → Type 0

@@ -39,7 +39,8 @@ some_below (suc n) test = some_below n test || test n
 abbrev pub is_beyond : Cut → Cut → Bool
 is_beyond c v = some_below (length c) (λ j. nat_lt (count v j) (count c j))
 
--- the event has its place in a log of so many processes: its process and its peer are there, and its clock has one count for each
+-- the event has its place in a log of so many processes: its process and its peer are there, and
+-- its clock has one count for each
 pub record EventFits (procs : ℕ) (e : Event) : Type 0 where
   pub clock : HasClock procs e
   pub peer : KindWithin procs e.kind
@@ -51,7 +52,8 @@ pub record BatchFits (procs events : ℕ) (batch : List Event) : Type 0 where
 
 -- batches of which each event has its place
 abbrev pub AllFit : ℕ → List (List Event) → Type 0
-AllFit procs batches = AllByRecursion (λ (batch : List Event). AllByRecursion (EventFits procs) batch) batches
+AllFit procs batches =
+    AllByRecursion (λ (batch : List Event). AllByRecursion (EventFits procs) batch) batches
 
 -- a log of 1 to 32 processes and at most 50,000 events, each of which has its place
 pub record CanBeChecked (log : Log) : Type 0 where

@@ -12,7 +12,8 @@ use Rattle.event_log.specs.States.{with_event, with_batch}
 use Rattle.vector_clock.specs.Events.{Events, no_events, clocks_of, place, some_below, is_beyond}
 use Rattle.vector_clock.specs.Messages.{message_sent, message_received, first_send, first_receipt}
 
--- ---- the faults of a clock. Here o has the clocks of all events up to the end of the batch, and a is the event's place on its process
+-- ---- the faults of a clock. Here o has the clocks of all events up to the end of the batch, and a
+-- is the event's place on its process
 
 -- the clock names an event of process j: it counts events of j, and j isn't the event's own process
 abbrev pub names : Event → ℕ → Bool
@@ -40,7 +41,8 @@ is_open o e = some_below (length e.clock) (λ j. names e j && is_beyond (named_c
 
 -- a named event has the event in its own past
 abbrev pub is_loop : Clocks → ℕ → Event → Bool
-is_loop o a e = some_below (length e.clock) (λ j. names e j && nat_le a (count (named_clock o e j) e.process))
+is_loop o a e =
+    some_below (length e.clock) (λ j. names e j && nat_le a (count (named_clock o e j) e.process))
 
 abbrev pub clock_fault : Clocks → ℕ → Event → Option LogCode
 clock_fault o a e =
@@ -51,7 +53,8 @@ clock_fault o a e =
     else if is_loop o a e then Some code.ClockLoop
     else None
 
--- ---- the faults of a message. Here `before` has the events of the log before the event, and `all` those up to the end of the batch
+-- ---- the faults of a message. Here `before` has the events of the log before the event, and `all`
+-- those up to the end of the batch
 
 -- it sends, or receives, a message that an event before it sends, or receives
 abbrev pub is_twice : Events → Event → Bool
@@ -61,11 +64,14 @@ is_twice before e =
 
 -- it receives a message that no event up to the end of the batch sends
 abbrev pub is_unsent : Events → Event → Bool
-is_unsent all e = choose (message_received e.process e.kind) (λ m. not (is_some (first_send all m))) false
+is_unsent all e =
+    choose (message_received e.process e.kind) (λ m. not (is_some (first_send all m))) false
 
 -- it receives a message, and its clock doesn't count the first send of it
 abbrev pub is_early : Events → Event → Bool
-is_early all e = choose (message_received e.process e.kind) (λ m. choose (first_send all m) (λ a. nat_lt (count e.clock m.sender) a) false) false
+is_early all e =
+    choose (message_received e.process e.kind)
+    (λ m. choose (first_send all m) (λ a. nat_lt (count e.clock m.sender) a) false) false
 
 abbrev pub message_fault : Events → Events → Event → Option LogCode
 message_fault before all e =
@@ -78,7 +84,9 @@ message_fault before all e =
 
 -- its clock is judged before its message
 abbrev pub event_fault : Events → Events → Event → Option LogCode
-event_fault before all e = choose (clock_fault (clocks_of all) (place before e) e) (λ f. Some f) (message_fault before all e)
+event_fault before all e =
+    choose (clock_fault (clocks_of all) (place before e) e) (λ f. Some f)
+    (message_fault before all e)
 
 -- at the line of its event
 abbrev pub at_line : Event → LogCode → LogFault
@@ -87,7 +95,9 @@ at_line e fault = record { code = fault; line = e.line }
 -- each event goes through all faults before the next one
 unfoldable pub fault_from : Events → Events → List Event → Option LogFault
 fault_from before all [] = None
-fault_from before all (e ∷ rest) = choose (event_fault before all e) (λ f. Some (at_line e f)) (fault_from (with_event before e) all rest)
+fault_from before all (e ∷ rest) =
+    choose (event_fault before all e) (λ f. Some (at_line e f))
+    (fault_from (with_event before e) all rest)
 
 -- the first fault of a batch behind these events
 abbrev pub batch_fault : Events → List Event → Option LogFault
@@ -96,7 +106,8 @@ batch_fault before batch = fault_from before (with_batch before batch) batch
 -- the first fault of batches, one behind the other
 unfoldable pub batches_fault : Events → List (List Event) → Option LogFault
 batches_fault before [] = None
-batches_fault before (batch ∷ rest) = choose (batch_fault before batch) (λ f. Some f) (batches_fault (with_batch before batch) rest)
+batches_fault before (batch ∷ rest) =
+    choose (batch_fault before batch) (λ f. Some f) (batches_fault (with_batch before batch) rest)
 
 -- the first fault of the clocks and messages of a log
 abbrev pub log_fault : Log → Option LogFault

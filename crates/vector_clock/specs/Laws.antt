@@ -1,28 +1,45 @@
 -- Laws of the checks of clocks, as statements.
-use Rattle.std.specs.Prelude.{◌≡◌, ℕ, ◌-◌, ◌<◌, false, List, None}
+use Rattle.std.specs.Prelude.{◌≡◌, ℕ, ◌-◌, ◌<◌, false, List, None, length}
 use Rattle.run_model.specs.Cut.{Clocks}
 use Rattle.run_model.specs.Run as run
-use Rattle.run_model.specs.Meaning.{IsRun}
 use Rattle.run_model.specs.Consistent.{IsOrder}
 use Rattle.event_log.specs.declared.log.Event.{Event}
 use Rattle.event_log.specs.declared.log.Log.{Log}
 use Rattle.event_log.specs.LogText.{LogFits}
-use Rattle.event_log.specs.States.{with_batches, trace_of_log}
+use Rattle.event_log.specs.States.{StatesView, with_batches, trace_of, trace_of_log}
 use Rattle.vector_clock.specs.Events.{AllFit, no_events, clocks_of}
 use Rattle.vector_clock.specs.Faults.{has_wrong_own, goes_back, is_open, is_loop, batches_fault, log_fault}
+use Rattle.vector_clock.specs.Faultless.{AreFaultless, IsLoggedRun}
 use Rattle.vector_clock.specs.Sound.{IsSound, is_newly_open, is_newly_loop}
 
 -- the clocks of batches without a fault are those of an order
 abbrev pub NoFaultIsAnOrder : Type 0
 NoFaultIsAnOrder = (procs : ℕ) (batches : List (List Event)) → AllFit procs batches
-    → batches_fault (no_events procs) batches ≡ None → IsOrder (clocks_of (with_batches (no_events procs) batches))
+    → batches_fault (no_events procs) batches ≡ None
+    → IsOrder (clocks_of (with_batches (no_events procs) batches))
 
--- a log without a fault is that of a run, whatever its watches are
+-- a log without a fault is a run, whose receipts have their sends
 abbrev pub NoFaultIsARun : Type 0
-NoFaultIsARun = (log : Log) (watches : run.Watches) → LogFits log → log_fault log ≡ None → IsRun (run.run_of (trace_of_log log) watches)
+NoFaultIsARun = (log : Log) → LogFits log → log_fault log ≡ None → IsLoggedRun (trace_of_log log)
 
--- where the event before on its process has no fault of its clock, and the event's own count and its rise are right, only the events
--- that its clock newly names decide whether it is open or in a loop
+-- and so are events that came batch after batch without a fault, with a list of variables for each
+-- process
+abbrev pub FaultlessIsARun : Type 0
+FaultlessIsARun = (s : StatesView) → length s.header.vars ≡ length s.header.procs
+    → AreFaultless (length s.header.procs) s.events → IsLoggedRun (trace_of s)
+
+-- the clocks of that run are those of the events
+abbrev pub RunHasTheClocks : Type 0
+RunHasTheClocks =
+    (s : StatesView) → length s.header.procs ≡ length s.events
+    → length s.header.vars ≡ length s.events
+    → run.clocks_of (trace_of s) ≡ clocks_of s.events
+
+-- where the event before on its process has no fault of its clock, and the event's own count and
+-- its rise are right, only the events that its clock newly names decide whether it is open or in a
+-- loop
 abbrev pub OnlyNewNamesCount : Type 0
-OnlyNewNamesCount = (o : Clocks) (a : ℕ) (e : Event) → (1 < a → IsSound o e.process (a - 1)) → has_wrong_own a e ≡ false → goes_back o a e ≡ false
+OnlyNewNamesCount =
+    (o : Clocks) (a : ℕ) (e : Event) → (1 < a → IsSound o e.process (a - 1))
+    → has_wrong_own a e ≡ false → goes_back o a e ≡ false
     → (is_open o e ≡ is_newly_open o a e) × (is_loop o a e ≡ is_newly_loop o a e)

@@ -4,4 +4,5 @@ pub mod Faults
 pub mod Worked
 pub mod Sound
 pub mod Admitted
+pub mod Faultless
 pub mod Laws

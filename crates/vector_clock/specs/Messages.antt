@@ -18,7 +18,8 @@ message_sent process (kind.Receive sender id) = None
 abbrev pub message_received : ℕ → Kind → Option Message
 message_received process kind.Internal = None
 message_received process (kind.Send to id) = None
-message_received process (kind.Receive sender id) = Some (record { sender = sender; receiver = process; id = id })
+message_received process (kind.Receive sender id) =
+    Some (record { sender = sender; receiver = process; id = id })
 
 -- a message is known by its sender, its receiver and its number
 abbrev pub is_same : Message → Message → Bool
@@ -35,7 +36,8 @@ unfoldable pub first_place : (Event → Bool) → List Event → Option ℕ
 first_place test [] = None
 first_place test (e ∷ es) = if test e then Some 1 else option_map (λ k. k + 1) (first_place test es)
 
--- the place of the first event that sends the message, among those of its sender: no other process sends it
+-- the place of the first event that sends the message, among those of its sender: no other process
+-- sends it
 abbrev pub first_send : Events → Message → Option ℕ
 first_send events m = first_place (sends m) (own_events events m.sender)
 

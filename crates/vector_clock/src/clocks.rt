@@ -13,7 +13,8 @@ use event_log::{Event, Log, LogFault};
 use pota_base::{NoMemory, Refused};
 use std::alloc::Global;
 
-/// The vector clocks and the messages of a log, of which each batch was checked before it was taken.
+/// The vector clocks and the messages of a log, of which each batch was checked before it was
+/// taken.
 #[derive(Debug, Drop)]
 pub struct Clocks {
     order: Order,
@@ -35,17 +36,22 @@ impl Clocks {
         })
     }
 
-    /// Checks a batch and takes it whole, or none of it. A fault is the first of its events in their order, at the line of its
-    /// event.
+    /// Checks a batch and takes it whole, or none of it. A fault is the first of its events in
+    /// their order, at the line of its event.
     ///
-    /// It goes over each clock of the batch once, and over the clock of the last event of each process that an event newly names:
-    /// one that its clock counts and that of the event before on its process doesn't. So an event costs about one row of counts
-    /// for each event that it newly names. A message costs a look-up in an ordered map.
+    /// It goes over each clock of the batch once, and over the clock of the last event of each
+    /// process that an event newly names: one that its clock counts and that of the event before on
+    /// its process doesn't. So an event costs about one row of counts for each event that it newly
+    /// names. A message costs a look-up in an ordered map.
     pub fn admit(&mut self, batch: &[Event]) -> Result<(), Refused<LogFault>>
         requires { BatchFits (length self.old.order) (sum (lengths self.old.order)) batch.now }
-        ensures ok { OnOk result ((events : Events) → HasAdmitted self.old events → (batch_fault events batch.now ≡ None) × HasAdmitted self.new (with_batch events batch.now)) }
-        ensures fault { IfFault result (λ fault. (events : Events) → HasAdmitted self.old events → batch_fault events batch.now ≡ Some fault) }
-        ensures same { OnErr result ((events : Events) → HasAdmitted self.old events → HasAdmitted self.new events) }
+        ensures ok { OnOk result ((events : Events) → HasAdmitted self.old events
+            → (batch_fault events batch.now ≡ None)
+            × HasAdmitted self.new (with_batch events batch.now)) }
+        ensures fault { IfFault result (λ fault. (events : Events) → HasAdmitted self.old events
+            → batch_fault events batch.now ≡ Some fault) }
+        ensures same { OnErr result ((events : Events) → HasAdmitted self.old events
+            → HasAdmitted self.new events) }
     {
         if batch.is_empty() {
             return Ok(());
@@ -61,11 +67,18 @@ impl Clocks {
         }
     }
 
-    // Takes the clocks of a batch that has no fault, where the messages are those up to the end of the batch.
+    // Takes the clocks of a batch that has no fault, where the messages are those up to the end of
+    // the batch.
     fn judge(&mut self, batch: &[Event]) -> Result<(), Refused<LogFault>>
         requires { BatchFits (length self.old.order) (sum (lengths self.old.order)) batch.now }
-        ensures ok { OnOk result ((events : Events) → self.old.order ≡ clocks_of events → HasMessages self.old.messages (with_batch events batch.now) → (batch_fault events batch.now ≡ None) × (self.new.order ≡ clocks_of (with_batch events batch.now))) }
-        ensures fault { IfFault result (λ fault. (events : Events) → self.old.order ≡ clocks_of events → HasMessages self.old.messages (with_batch events batch.now) → batch_fault events batch.now ≡ Some fault) }
+        ensures ok { OnOk result ((events : Events) → self.old.order ≡ clocks_of events
+            → HasMessages self.old.messages (with_batch events batch.now)
+            → (batch_fault events batch.now ≡ None)
+            × (self.new.order ≡ clocks_of (with_batch events batch.now))) }
+        ensures fault { IfFault result (λ fault. (events : Events)
+            → self.old.order ≡ clocks_of events
+            → HasMessages self.old.messages (with_batch events batch.now)
+            → batch_fault events batch.now ≡ Some fault) }
         ensures messages { self.new.messages ≡ self.old.messages }
         ensures same { OnErr result (self.new.order ≡ self.old.order) }
     {
@@ -96,10 +109,12 @@ impl Clocks {
     }
 }
 
-/// Checks the batches of a log in turn, and gives the order of its events. A fault is the first one.
+/// Checks the batches of a log in turn, and gives the order of its events. A fault is the first
+/// one.
 pub fn check(alloc: Global, log: &Log) -> Result<Order, Refused<LogFault>>
     requires { CanBeChecked log.now }
-    ensures ok { IfOk result (λ order. (log_fault log.now ≡ None) × (order ≡ clocks_of (with_batches (no_events (length log.now.header.procs)) log.now.batches))) }
+    ensures ok { IfOk result (λ order. (log_fault log.now ≡ None) × (order
+        ≡ clocks_of (with_batches (no_events (length log.now.header.procs)) log.now.batches))) }
     ensures fault { IfFault result (λ fault. log_fault log.now ≡ Some fault) }
 {
     let mut clocks = Clocks::new(alloc, log.header.procs.len() as u32)?;

@@ -14,7 +14,8 @@ use pota_base::{EventId, NoMemory};
 use std::alloc::Global;
 use std::marker::Model;
 
-/// The clocks of the events that were admitted, and those of a batch behind them. Contracts see all of them.
+/// The clocks of the events that were admitted, and those of a batch behind them. Contracts see all
+/// of them.
 #[derive(Drop)]
 pub struct Joined<'a> {
     admitted: &'a Order,
@@ -89,7 +90,8 @@ impl<'a> Joined<'a> {
         }
     }
 
-    // Whether the clock names an event of process `other` that the event before on its process doesn't count.
+    // Whether the clock names an event of process `other` that the event before on its process
+    // doesn't count.
     fn newly_names(&self, event: &Event, place: u32, other: u32) -> bool
         requires process { event.now.process < length self.now }
         requires width { length event.now.clock ≡ length self.now }
@@ -163,7 +165,8 @@ impl<'a> Joined<'a> {
         place > 1 && is_beyond(self.clock(event.process, place - 1), event.clock.as_slice())
     }
 
-    /// The first fault of the clock of an event at its place. The event before on its process has none.
+    /// The first fault of the clock of an event at its place. The event before on its process has
+    /// none.
     pub fn clock_fault(&self, event: &Event, place: u32) -> Option<LogCode>
         requires process { event.now.process < length self.now }
         requires width { length event.now.clock ≡ length self.now }

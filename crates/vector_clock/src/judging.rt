@@ -25,10 +25,13 @@ fn event_fault(
     place: u32,
 ) -> Option<LogCode>
     requires fits { EventFits (length joined.now) event.now }
+    requires first { 1 ≤ place }
     requires place { place ≤ length (get_or joined.now event.now.process []) }
     requires before { 1 < place → IsSound joined.now event.now.process (place - 1) }
     ensures clock { result ≡ None → fault_of_clock joined.now place event.now ≡ None }
-    ensures first { (before all : Events) → joined.now ≡ clocks_of all → HasMessages messages.now all → StandsIn before all event.now place → result ≡ fault_of_event before all event.now }
+    ensures first { (before all : Events) → joined.now ≡ clocks_of all
+        → HasMessages messages.now all → StandsIn before all event.now place
+        → result ≡ fault_of_event before all event.now }
 {
     match joined.clock_fault(event, place) {
         Some(code) => Some(code),
@@ -44,8 +47,11 @@ pub fn first_fault(
     batch: &[Event],
 ) -> Result<Option<LogFault>, NoMemory>
     requires { BatchFits (length order.now) (sum (lengths order.now)) batch.now }
-    ensures fault { IfOk result (λ fault. (before : Events) → order.now ≡ clocks_of before → HasMessages messages.now (with_batch before batch.now) → fault ≡ batch_fault before batch.now) }
-    ensures order { IfOk result (λ fault. fault ≡ None → IsOrder (with_clocks order.now batch.now)) }
+    ensures fault { IfOk result (λ fault. (before : Events) → order.now ≡ clocks_of before
+        → HasMessages messages.now (with_batch before batch.now)
+        → fault ≡ batch_fault before batch.now) }
+    ensures order { IfOk result (λ fault. fault ≡ None
+        → IsOrder (with_clocks order.now batch.now)) }
 {
     let joined = Joined::new(alloc, order, batch)?;
     let mut taken = Vec::from_slice(alloc, order.shape().lens())?;

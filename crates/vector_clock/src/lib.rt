@@ -1,4 +1,16 @@
 //! The checks of a log's vector clocks and messages, batch by batch.
+//!
+//! `Clocks::admit` and `check` answer exactly the first fault (`fault`), each event through all
+//! faults before the next, or take the batch whole (`ok`); after a refusal all is as before
+//! (`same`).
+//!
+//! Laws: clocks without a fault are those of an order (`no_fault_is_an_order`). A log without a
+//! fault is a run, of which no channel has more receipts than sends at a consistent cut
+//! (`no_fault_is_a_run`), and so are events that came batch after batch without a fault
+//! (`faultless_is_a_run`). Only the events that a clock newly names need be looked at
+//! (`only_new_names_count`).
+//!
+//! Not said: that messages arrive in their order, or at all; how long a call takes.
 #![tactic(auto)]
 
 mod beyond;
@@ -11,7 +23,10 @@ mod messages;
 mod places;
 
 pub use clocks::{Clocks, check};
-pub use laws::{no_fault_is_a_run, no_fault_is_an_order, only_new_names_count, worked_faults};
+pub use laws::{
+    faultless_is_a_run, no_fault_is_a_run, no_fault_is_an_order, only_new_names_count,
+    worked_faults,
+};
 
 #[cfg(test)]
 mod tests;

@@ -12,16 +12,25 @@ pub struct Message {
     pub id: u64,
 }
 
+impl Message {
+    /// The message of this number from the one process to the other.
+    pub fn new(sender: u32, receiver: u32, id: u64) -> Message
+        ensures { result ≡ record { sender = sender; receiver = receiver; id = id } }
+    {
+        Message {
+            sender,
+            receiver,
+            id,
+        }
+    }
+}
+
 /// The message that an event of this process receives.
 pub fn message_received(process: u32, kind: Kind) -> Option<Message>
     ensures { result ≡ received_by process kind }
 {
     match kind {
-        Kind::Receive { sender, id } => Some(Message {
-            sender,
-            receiver: process,
-            id,
-        }),
+        Kind::Receive { sender, id } => Some(Message::new(sender, process, id)),
         _ => None,
     }
 }

@@ -33,87 +33,67 @@ impl Messages {
         }
     }
 
-    /// Keeps the place of an event for the message that it sends or receives, unless an event before has it. Without memory it is
-    /// as before.
+    /// Keeps the place of an event for the message that it sends or receives, unless an event
+    /// before has it. Without memory it is as before.
     pub fn note(&mut self, event: &Event, place: u32) -> Result<(), NoMemory>
-        ensures ok { OnOk result ((events : Events) → HasMessages self.old events → event.now.process < length events → place ≡ place_of events event.now → HasMessages self.new (with_event events event.now)) }
-        ensures err { OnErr result ((events : Events) → HasMessages self.old events → HasMessages self.new events) }
+        ensures ok { OnOk result ((events : Events) → HasMessages self.old events
+            → event.now.process < length events → place ≡ place_of events event.now
+            → HasMessages self.new (with_event events event.now)) }
+        ensures err { OnErr result ((events : Events) → HasMessages self.old events
+            → HasMessages self.new events) }
     {
         match event.kind {
             Kind::Internal => Ok(()),
-            Kind::Send { to, id } => self.sent.note(
-                Message {
-                    sender: event.process,
-                    receiver: to,
-                    id,
-                },
-                place,
-            ),
-            Kind::Receive { sender, id } => self.received.note(
-                Message {
-                    sender,
-                    receiver: event.process,
-                    id,
-                },
-                place,
-            ),
+            Kind::Send { to, id } => self.sent.note(Message::new(event.process, to, id), place),
+            Kind::Receive { sender, id } => self
+                .received
+                .note(Message::new(sender, event.process, id), place),
         }
     }
 
     /// Keeps nothing of the last event.
     pub fn forget(&mut self, event: &Event, place: u32)
-        ensures { (events : Events) → HasMessages self.old (with_event events event.now) → event.now.process < length events → place ≡ place_of events event.now → HasMessages self.new events }
+        ensures { (events : Events) → HasMessages self.old (with_event events event.now)
+            → event.now.process < length events → place ≡ place_of events event.now
+            → HasMessages self.new events }
     {
         match event.kind {
             Kind::Internal => {}
-            Kind::Send { to, id } => self.sent.forget(
-                &Message {
-                    sender: event.process,
-                    receiver: to,
-                    id,
-                },
-                place,
-            ),
-            Kind::Receive { sender, id } => self.received.forget(
-                &Message {
-                    sender,
-                    receiver: event.process,
-                    id,
-                },
-                place,
-            ),
+            Kind::Send { to, id } => self
+                .sent
+                .forget(&Message::new(event.process, to, id), place),
+            Kind::Receive { sender, id } => self
+                .received
+                .forget(&Message::new(sender, event.process, id), place),
         }
     }
 
     // Whether an event before sends, or receives, the message that this one sends, or receives.
     fn is_twice(&self, event: &Event, place: u32) -> bool
-        ensures { (before all : Events) → HasMessages self.now all → StandsIn before all event.now place → result ≡ is_again before event.now }
+        requires { 1 ≤ place }
+        ensures { (before all : Events) → HasMessages self.now all
+            → StandsIn before all event.now place → result ≡ is_again before event.now }
     {
         match event.kind {
             Kind::Internal => false,
             Kind::Send { to, id } => {
-                let message = Message {
-                    sender: event.process,
-                    receiver: to,
-                    id,
-                };
+                let message = Message::new(event.process, to, id);
                 !self.sent.is_at(&message, place)
             }
             Kind::Receive { sender, id } => {
-                let message = Message {
-                    sender,
-                    receiver: event.process,
-                    id,
-                };
+                let message = Message::new(sender, event.process, id);
                 !self.received.is_at(&message, place)
             }
         }
     }
 
-    /// The first fault of the message that an event at its place sends or receives.
+    /// The first fault of the message that an event at its place, counted from 1, sends or
+    /// receives.
     pub fn message_fault(&self, event: &Event, place: u32) -> Option<LogCode>
-        requires { KindWithin (length event.now.clock) event.now.kind }
-        ensures { (before all : Events) → HasMessages self.now all → StandsIn before all event.now place → result ≡ fault_of_message before all event.now }
+        requires first { 1 ≤ place }
+        requires peer { KindWithin (length event.now.clock) event.now.kind }
+        ensures { (before all : Events) → HasMessages self.now all
+            → StandsIn before all event.now place → result ≡ fault_of_message before all event.now }
     {
         if self.is_twice(event, place) {
             return Some(LogCode::MessageTwice);
@@ -127,14 +107,17 @@ impl Messages {
         }
     }
 
-    /// Keeps the places of the events of a batch, behind so many events of each process, and counts them. Without memory it is as
-    /// before.
+    /// Keeps the places of the events of a batch, behind so many events of each process, and counts
+    /// them. Without memory it is as before.
     pub fn note_all(&mut self, batch: &[Event], taken: &mut Vec<u32>) -> Result<(), NoMemory>
         requires each { AllByRecursion (EventFits (length taken.old.items)) batch.now }
         requires few { sum taken.old.items + length batch.now ≤ 50000 }
-        ensures ok { OnOk result ((events : Events) → HasMessages self.old events → taken.old.items ≡ map length events → HasMessages self.new (with_batch events batch.now)) }
+        ensures ok { OnOk result ((events : Events) → HasMessages self.old events
+            → taken.old.items ≡ map length events
+            → HasMessages self.new (with_batch events batch.now)) }
         ensures counts { OnOk result (taken.new.items ≡ raised taken.old.items batch.now) }
-        ensures err { OnErr result ((events : Events) → HasMessages self.old events → taken.old.items ≡ map length events → HasMessages self.new events) }
+        ensures err { OnErr result ((events : Events) → HasMessages self.old events
+            → taken.old.items ≡ map length events → HasMessages self.new events) }
     {
         for i in 0..batch.len() {
             let event = &batch[i];
@@ -150,10 +133,13 @@ impl Messages {
         Ok(())
     }
 
-    /// Keeps nothing of the last events, which are those of a batch. The counts of the events of each process count them.
+    /// Keeps nothing of the last events, which are those of a batch. The counts of the events of
+    /// each process count them.
     pub fn forget_all(&mut self, batch: &[Event], taken: &mut Vec<u32>)
         requires { AllByRecursion (EventFits (length taken.old.items)) batch.now }
-        ensures { (events : Events) → HasMessages self.old (with_batch events batch.now) → taken.old.items ≡ map length (with_batch events batch.now) → HasMessages self.new events }
+        ensures { (events : Events) → HasMessages self.old (with_batch events batch.now)
+            → taken.old.items ≡ map length (with_batch events batch.now)
+            → HasMessages self.new events }
     {
         for i in (0..batch.len()).rev() {
             let event = &batch[i];
@@ -167,7 +153,8 @@ impl Messages {
 // The fault of a receipt of a message that was sent at this place of its sender.
 fn early_fault(event: &Event, sender: u32, sent: u32) -> Option<LogCode>
     requires { sender < length event.now.clock }
-    ensures { result ≡ (if nat_lt (count event.now.clock sender) sent then Some ReceiveEarly else None) }
+    ensures { result
+        ≡ (if nat_lt (count event.now.clock sender) sent then Some ReceiveEarly else None) }
 {
     if event.clock.as_slice()[sender as usize] < sent {
         Some(LogCode::ReceiveEarly)

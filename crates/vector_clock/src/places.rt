@@ -43,7 +43,9 @@ impl Places {
 
     /// Keeps this place for the message, unless it has one. Without memory it is as before.
     pub fn note(&mut self, message: Message, place: u32) -> Result<(), NoMemory>
-        ensures ok { OnOk result (ArePlaces self.new (λ m. if is_same message m then Some (unwrap_or (get message_cmp self.old.first message) place) else get message_cmp self.old.first m)) }
+        ensures ok { OnOk result (ArePlaces self.new (λ m. if is_same message m
+            then Some (unwrap_or (get message_cmp self.old.first message) place)
+            else get message_cmp self.old.first m)) }
         ensures err { OnErr result (ArePlaces self.new (get message_cmp self.old.first)) }
     {
         if self.first.get(&message).is_none() {
@@ -54,7 +56,9 @@ impl Places {
 
     /// Keeps no place for the message, where that is this one.
     pub fn forget(&mut self, message: &Message, place: u32)
-        ensures { ArePlaces self.new (λ m. if is_same message.now m && is_place place (get message_cmp self.old.first m) then None else get message_cmp self.old.first m) }
+        ensures { ArePlaces self.new (λ m.
+            if is_same message.now m && is_place place (get message_cmp self.old.first m) then None
+            else get message_cmp self.old.first m) }
     {
         if self.is_at(message, place) {
             let _ = self.first.remove(message);

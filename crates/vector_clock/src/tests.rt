@@ -22,7 +22,8 @@ fn add(
 ) -> Result<(), NoMemory>
     requires process { process < length clock.now }
     requires peer { KindWithin (length clock.now) kind }
-    ensures fits { OnOk result (AllByRecursion (EventFits (length clock.now)) batch.old → AllByRecursion (EventFits (length clock.now)) batch.new) }
+    ensures fits { OnOk result (AllByRecursion (EventFits (length clock.now)) batch.old
+        → AllByRecursion (EventFits (length clock.now)) batch.new) }
     ensures len { OnOk result (length batch.new ≡ length batch.old + 1) }
 {
     let clock = List::from_vec(Vec::from_slice(alloc, clock)?);

@@ -9,7 +9,8 @@ use Rattle.run_model.specs.Run.{value_after, process_at, number_of}
 use Rattle.pota_top.specs.RequestReading.{condition_of}
 use Rattle.pota_top.specs.Reaching.{names_in}
 use Rattle.pota_top.specs.Passing.{IsVariableOn}
-use Rattle.pota_top.proofs.Named.{other_process, value_named, names_are, place_is}
+use Rattle.event_log.proofs.NameNumbers.{value_named, names_are, place_is}
+use Rattle.pota_top.proofs.Named.{other_process}
 use Rattle.pota_top.proofs.passing.meets.Goals as goal
 
 pub returns-in_default : goal.returns-in_default
@@ -27,9 +28,9 @@ pub returns : goal.returns
 returns c =
     let one = condition_of c.args.comparison.now in
     let on = subst (λ (h : Header). IsVariableOn h c.args.process one c.in-Some.variable) c.header.ensures.header c.in-Some.ensures.on in
-    let named = value_named c.args.states.now c.args.process c.args.position c.in-Some.variable one c.requires.whole c.requires.process on.variable_there in
+    let named = value_named c.args.states.now c.args.process c.args.position c.in-Some.variable one.variable c.requires.whole.vars c.requires.whole.events c.requires.process on.variable_there in
     let number : number_of one.process (names_in (trace_of c.args.states.now)) ≡ c.args.process =
-    ap (number_of one.process) (names_are c.args.states.now c.requires.whole) ∙ place_is c.args.states.now.header.procs one.process c.args.process on.process_there in
+    ap (number_of one.process) (names_are c.args.states.now c.requires.whole.vars c.requires.whole.events) ∙ place_is c.args.states.now.header.procs one.process c.args.process on.process_there in
     let read : c.value.result ≡ value_after (process_at (trace_of c.args.states.now) c.args.process) one.variable c.args.position = c.value.ensures ∙ sym named in (
       λ t same.
           let e = c.are_equal.ensures.0 t in

@@ -27,4 +27,4 @@ lines-preserved c =
     one_taken c.args.text.now c.lines.rest.now c.in-Some.front.now c.in-Some.after.now c.lines.line c.lines.draft c.in_ok-draft.draft c.lines.invariant c.in-Some.ensures.some.0 c.in-Some.ensures.some.1 c.in_ok-draft.ensures.read
 
 pub returns : goal.returns
-returns c = lines_over c.args.text.now c.lines.rest.now c.lines.line c.lines.draft c.ended.result c.lines.invariant ? c.ended.ensures.read c.ended.ensures.fault
+returns c = lines_over c.args.text.now c.lines.rest.now c.lines.line c.lines.draft c.ended.result c.lines.invariant c.in_default.ensures.none c.ended.ensures.read c.ended.ensures.fault

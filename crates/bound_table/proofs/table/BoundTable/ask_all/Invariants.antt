@@ -1,14 +1,16 @@
-use Rattle.std.proofs.Common.{◌≡◌, ◌+◌, ◌<◌, ◌≤◌, sum}
-use Rattle.pull_system.specs.Climb.{AreMarks, IsSettled, marked}
+use Rattle.std.proofs.Common.{ℕ, ◌≡◌, ◌+◌, ◌<◌, ◌≤◌, length, slice_index}
+use Rattle.pull_system.proofs.Asking.{pulls_from_first}
 use Rattle.bound_table.specs.Kept.{Follows}
+use Rattle.bound_table.specs.Asking.{HoldSeen}
 use Rattle.bound_table.proofs.table.BoundTable.ask_all.Given as goal
 
-abbrev pub invariant-loop-k : goal.invariant-loop-k
-invariant-loop-k g l = record {
+abbrev pub invariant-loop-process : goal.invariant-loop-process
+invariant-loop-process g l = record {
   table : l.seat.table ≡ l.fn.seat.table;
-  follows : Follows l.self.system l.row l.fn.seat.floor l.seat.floor l.into;
-  marks : AreMarks l.self.system.lens l.risen;
-  settled : IsSettled l.self.system l.into l.risen (λ k. k < l.k);
-  pays : marked l.risen + sum l.fn.into ≤ marked l.fn.risen + sum l.into;
-  looks : l.steps ≡ l.fn.steps + l.k;
+  follows : Follows l.self.system l.row l.fn.seat.floor l.seat.floor l.vector;
+  size : length l.seen ≡ length l.self.system.lens;
+  within : (process : ℕ) → process < l.process → slice_index l.seen process ≤ slice_index l.vector process;
+  held : HoldSeen l.self.system l.process l.seen l.vector;
+  reaches : (process : ℕ) → process < l.process → slice_index l.fn.vector process ≤ slice_index l.seen process;
+  looks : l.steps ≡ l.fn.steps + pulls_from_first l.self.system.pulls (length l.self.system.pulls) l.process;
 }

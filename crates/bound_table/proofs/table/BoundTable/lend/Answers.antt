@@ -8,8 +8,8 @@ use Rattle.bound_table.proofs.Floors.{place_there, within_trans}
 use Rattle.bound_table.proofs.Lends.{has_start_more, set_within, reached, LendsAt, lends_within, lends_others, lends_next}
 use Rattle.bound_table.proofs.table.BoundTable.lend.Goals as goal
 
-pub raise_by_lend-requires-clause-allowed : goal.raise_by_lend-requires-clause-allowed
-raise_by_lend-requires-clause-allowed c =
+pub raise_by_lend-raised-requires-clause-step : goal.raise_by_lend-raised-requires-clause-step
+raise_by_lend-raised-requires-clause-step c =
     let system : SystemView = c.args.self.now.system in
     let inv = c.loop-process.invariant in
     let process : ℕ = c.loop-process.process in
@@ -29,8 +29,8 @@ loop-process-preserved c =
     let inv = c.loop-process.invariant in
     let process : ℕ = c.loop-process.process in
     let there : process < length system.lens = search rules in
-    let lent = c.raise_by_lend.ensures.floor in
-    let at : LendsAt system.lens c.loop-process.seat.floor c.load-y.new.seat.floor c.raise_by_lend.new.seat.floor c.args.from_row c.args.to_row process c.load-y.result lent.0 = record {
+    let lent = c.raise_by_lend-raised.ensures.raised in
+    let at : LendsAt system.lens c.loop-process.seat.floor c.load-y.new.seat.floor c.raise_by_lend-raised.new.seat.floor c.args.from_row c.args.to_row process c.load-y.result c.raise_by_lend-raised.result = record {
       from_there = c.requires.from_row;
       to_there = c.requires.to_row;
       there = there;
@@ -38,16 +38,16 @@ loop-process-preserved c =
       size_read = c.load-y.ensures.bounds.size;
       read_is = c.load-y.ensures.floor ∙ ap (λ p. set c.loop-process.seat.floor p c.load-y.result) c.place.ensures.place;
       read_more = omega (arith, c.load-y.ensures.rises, ap (λ p. get_or c.loop-process.seat.floor p 0) c.place.ensures.place);
-      lent_is = lent.1;
-      lent_more = lent.3;
-      reaches = lent.2;
+      lent_is = lent.floor;
+      lent_more = lent.rises;
+      reaches = lent.reaches;
     } in
     let within = lends_within _ _ _ _ _ _ _ _ _ at in
     record {
-      table = c.raise_by_lend.ensures.table ∙ c.load-y.ensures.table ∙ inv.table;
-      event = has_start_more system.lens c.loop-process.seat.floor c.raise_by_lend.new.seat.floor c.args.to_row c.args.from_row within inv.event;
+      table = c.raise_by_lend-raised.ensures.table ∙ c.load-y.ensures.table ∙ inv.table;
+      event = has_start_more system.lens c.loop-process.seat.floor c.raise_by_lend-raised.new.seat.floor c.args.to_row c.args.from_row within inv.event;
       lent = lends_next _ _ _ _ _ _ _ _ _ at inv.lent;
       others = λ row p not_from not_to p_there. lends_others _ _ _ _ _ _ _ _ _ at row p not_from not_to p_there ∙ inv.others row p not_from not_to p_there;
       rises = within_trans _ _ _ inv.rises within;
-      bounds = c.raise_by_lend.ensures.bounds;
+      bounds = lent.bounds;
     }

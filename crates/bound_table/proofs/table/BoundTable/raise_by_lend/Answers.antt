@@ -10,5 +10,5 @@ fetch_max-found-requires c =
       search rules,
       search rules,
       lifts c.self.inside.table.shared.key.system.value _ _ c.seat.inside.token.me _ _ (search rules) (search rules) (search rules)
-          (bound_along system _ _ _ _ _ (search rules) (search rules) (search rules) (lend_step_bound system c.args.seat.now.floor bounds c.args.to_row c.args.from_row c.args.process c.args.y c.requires.allowed)),
+          (bound_along system _ _ _ _ _ (search rules) (search rules) (search rules) (lend_step_bound system c.args.seat.now.floor bounds c.args.to_row c.args.from_row c.args.process c.args.y c.requires.step)),
     )

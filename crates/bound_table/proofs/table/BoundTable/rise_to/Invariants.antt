@@ -1,0 +1,11 @@
+use Rattle.std.proofs.Common.{ℕ, ◌≡◌, ◌<◌, ◌≤◌, slice_index}
+use Rattle.bound_table.specs.Kept.{Follows}
+use Rattle.bound_table.proofs.table.BoundTable.rise_to.Given as goal
+
+abbrev pub invariant-loop-target : goal.invariant-loop-target
+invariant-loop-target l = record {
+  table : l.seat.table ≡ l.fn.seat.table;
+  follows : Follows l.self.system l.row l.fn.seat.floor l.seat.floor l.vector;
+  reached : l.x ≤ slice_index l.vector l.process;
+  reaches : (process : ℕ) → process < l.target → slice_index l.asks process ≤ slice_index l.vector process;
+}

@@ -1,0 +1,439 @@
+//! Settling a row: its words rise until each pull holds.
+//!
+//! A vector of 16 bits has the seat's floor of the row, and a second one for each process the value at which the pulls from it
+//! were looked up last. Where they are equal each pull holds. So only the pulls from what rose are looked up again.
+ghost use Rattle.std.specs.Prelude.{◌≡◌, ◌⊎◌, ℕ, ◌+◌, ◌*◌, ◌^◌, ◌<◌, ◌≤◌, true, length, sum, slice_index};
+ghost use Rattle.pull_system.specs.Vector.{IsWithin, IsVector};
+ghost use Rattle.pull_system.specs.System.{IsSystem, IsClosed, source_of, target_of, ask, numbers_from};
+ghost use Rattle.pull_system.specs.Rows.{row_at, IsLeast};
+ghost use Rattle.pull_system.specs.Asks.{IsAskedBy, AreAsks};
+ghost use Rattle.raise_machine.specs.Bounds.{word_at, has_start};
+ghost use Rattle.bound_table.specs.Asking.{IsAsking, IsRaised};
+ghost use Rattle.bound_table.specs.Kept.{Follows};
+
+use crate::seat::Seat;
+use crate::table::BoundTable;
+use pota_base::Steps;
+use std::sync::ledger::Ledger;
+
+impl BoundTable {
+    /// Raises the row until the seat's floors for it are closed. They and `into` are then the least closed vector of the row.
+    ///
+    /// After a look at the words each pull is looked up once, and then again each time that its source has risen. So with P
+    /// pulls it takes at most `P * (1 + rise)` look-ups, the rise being that of the seat's floors, and at most P where these
+    /// were the least closed vector. It waits for nobody, and takes no memory.
+    pub fn settle<L: Ledger>(
+        &self,
+        seat: &mut Seat,
+        row: u32,
+        into: &mut [u64],
+        steps: &mut Steps<L>,
+    )
+        requires fits { seat.old.table ≡ self.now }
+        requires row { row ≤ sum self.now.system.lens }
+        requires into { length into.old ≡ length self.now.system.lens }
+        ensures table { seat.new.table ≡ seat.old.table }
+        ensures follows { Follows self.now.system row seat.old.floor seat.new.floor into.new }
+        ensures least { IsLeast self.now.system row into.new }
+        ensures looks { let pulls = length self.now.system.pulls in
+            let before = sum (row_at self.now.system.lens seat.old.floor row) in
+            steps.new + pulls * before ≤ steps.old + pulls * (1 + sum into.new) }
+    {
+        let procs = self.system().shape().procs() as usize;
+        let mut vector = [0; 32];
+        let mut seen = [0; 32];
+        self.settle_row(
+            seat,
+            row,
+            into,
+            &mut vector[..procs],
+            &mut seen[..procs],
+            steps,
+        );
+    }
+
+    /// Settles the row as `settle` does, from a closed vector in `into` that the row `before` has reached. It is lent to the
+    /// row, and of it only the pulls are looked up whose source rises above it.
+    ///
+    /// The seat's floor for the row has the event of `before`, or `before` is the bottom's. In ordinary use `into` is what
+    /// `settle` or `settle_after` gave for the row `before`, the one before on its process.
+    pub fn settle_after<L: Ledger>(
+        &self,
+        seat: &mut Seat,
+        before: u32,
+        row: u32,
+        into: &mut [u64],
+        steps: &mut Steps<L>,
+    )
+        requires fits { seat.old.table ≡ self.now }
+        requires row { row ≤ sum self.now.system.lens }
+        requires before { before ≤ sum self.now.system.lens }
+        requires vector { IsVector self.now.system.lens into.old }
+        requires closed { IsClosed self.now.system into.old }
+        requires lent { (process : ℕ) → process < length self.now.system.lens
+            → slice_index into.old process
+            ≤ word_at self.now.system.lens seat.old.floor before process }
+        requires event { has_start self.now.system.lens seat.old.floor row before ≡ true }
+        ensures table { seat.new.table ≡ seat.old.table }
+        ensures follows { Follows self.now.system row seat.old.floor seat.new.floor into.new }
+        ensures least { IsLeast self.now.system row into.new }
+        ensures looks { let pulls = length self.now.system.pulls in
+            let before = sum (row_at self.now.system.lens seat.old.floor row) in
+            steps.new + pulls * before ≤ steps.old + pulls * (1 + sum into.new) }
+        ensures pays { let pulls = length self.now.system.pulls in
+            steps.new + pulls * sum into.old ≤ steps.old + pulls * sum into.new }
+    {
+        let procs = self.system().shape().procs() as usize;
+        let mut vector = [0; 32];
+        let mut seen = [0; 32];
+        let (vector, seen) = (&mut vector[..procs], &mut seen[..procs]);
+        self.settle_row_after(seat, before, row, into, vector, seen, steps);
+    }
+
+    /// Settles the row from its own words alone.
+    fn settle_row<L: Ledger>(
+        &self,
+        seat: &mut Seat,
+        row: u32,
+        into: &mut [u64],
+        vector: &mut [u16],
+        seen: &mut [u16],
+        steps: &mut Steps<L>,
+    )
+        requires system { IsSystem self.now.system }
+        requires fits { seat.old.table ≡ self.now }
+        requires row { row ≤ sum self.now.system.lens }
+        requires into { length into.old ≡ length self.now.system.lens }
+        requires vector { length vector.old ≡ length self.now.system.lens }
+        requires seen { length seen.old ≡ length self.now.system.lens }
+        ensures table { seat.new.table ≡ seat.old.table }
+        ensures follows { Follows self.now.system row seat.old.floor seat.new.floor into.new }
+        ensures least { IsLeast self.now.system row into.new }
+        ensures looks { let pulls = length self.now.system.pulls in
+            let before = sum (row_at self.now.system.lens seat.old.floor row) in
+            steps.new + pulls * before ≤ steps.old + pulls * (1 + sum into.new) }
+    {
+        seat.bounds();
+        self.look(seat, row, into);
+        narrow(into, vector);
+        self.ask_all(seat, row, vector, seen, steps);
+        self.close_row(seat, row, vector, seen, steps);
+        widen(vector, into);
+    }
+
+    /// Settles the row from the closed vector in `into`.
+    fn settle_row_after<L: Ledger>(
+        &self,
+        seat: &mut Seat,
+        before: u32,
+        row: u32,
+        into: &mut [u64],
+        vector: &mut [u16],
+        seen: &mut [u16],
+        steps: &mut Steps<L>,
+    )
+        requires system { IsSystem self.now.system }
+        requires fits { seat.old.table ≡ self.now }
+        requires row { row ≤ sum self.now.system.lens }
+        requires before { before ≤ sum self.now.system.lens }
+        requires into { IsVector self.now.system.lens into.old }
+        requires closed { IsClosed self.now.system into.old }
+        requires lent { (process : ℕ) → process < length self.now.system.lens
+            → slice_index into.old process
+            ≤ word_at self.now.system.lens seat.old.floor before process }
+        requires event { has_start self.now.system.lens seat.old.floor row before ≡ true }
+        requires vector { length vector.old ≡ length self.now.system.lens }
+        requires seen { length seen.old ≡ length self.now.system.lens }
+        ensures table { seat.new.table ≡ seat.old.table }
+        ensures follows { Follows self.now.system row seat.old.floor seat.new.floor into.new }
+        ensures least { IsLeast self.now.system row into.new }
+        ensures looks { let pulls = length self.now.system.pulls in
+            let before = sum (row_at self.now.system.lens seat.old.floor row) in
+            steps.new + pulls * before ≤ steps.old + pulls * (1 + sum into.new) }
+        ensures pays { let pulls = length self.now.system.pulls in
+            steps.new + pulls * sum into.old ≤ steps.old + pulls * sum into.new }
+    {
+        seat.bounds();
+        narrow(into, seen);
+        self.lend_row(seat, before, row, seen, vector);
+        self.close_row(seat, row, vector, seen, steps);
+        widen(vector, into);
+    }
+
+    /// Raises each word of the row to at least what is lent, and reads it.
+    fn lend_row(&self, seat: &mut Seat, before: u32, row: u32, lent: &[u16], vector: &mut [u16])
+        requires system { IsSystem self.now.system }
+        requires fits { seat.old.table ≡ self.now }
+        requires row { row ≤ sum self.now.system.lens }
+        requires before { before ≤ sum self.now.system.lens }
+        requires size { length lent.now ≡ length self.now.system.lens }
+        requires vector { length vector.old ≡ length self.now.system.lens }
+        requires lent { (process : ℕ) → process < length self.now.system.lens
+            → slice_index lent.now process
+            ≤ word_at self.now.system.lens seat.old.floor before process }
+        requires event { has_start self.now.system.lens seat.old.floor row before ≡ true }
+        ensures table { seat.new.table ≡ seat.old.table }
+        ensures follows { Follows self.now.system row seat.old.floor seat.new.floor vector.new }
+        ensures reaches { IsWithin lent.now vector.new }
+    {
+        seat.bounds();
+        for process in 0..self.system().shape().procs() {
+            let i = process as usize;
+            vector[i] = self.lend_word(seat, before, row, process, lent[i]);
+        }
+    }
+
+    /// Reads one word of the row, and raises it where it is below what is lent.
+    fn lend_word(&self, seat: &mut Seat, before: u32, row: u32, process: u32, lent: u16) -> u16
+        requires system { IsSystem self.now.system }
+        requires fits { seat.old.table ≡ self.now }
+        requires row { row ≤ sum self.now.system.lens }
+        requires before { before ≤ sum self.now.system.lens }
+        requires process { process < length self.now.system.lens }
+        requires lent { lent ≤ word_at self.now.system.lens seat.old.floor before process }
+        requires event { has_start self.now.system.lens seat.old.floor row before ≡ true }
+        ensures table { seat.new.table ≡ seat.old.table }
+        ensures raised { IsRaised self.now.system seat.old.floor seat.new.floor row process lent result }
+    {
+        let word = self.load(seat, self.place(row, process));
+        if lent as u64 <= word {
+            return word as u16;
+        }
+        self.raise_by_lend(seat, before, row, process, lent as u64) as u16
+    }
+
+    /// Looks up the pulls from each process once.
+    fn ask_all<L: Ledger>(
+        &self,
+        seat: &mut Seat,
+        row: u32,
+        vector: &mut [u16],
+        seen: &mut [u16],
+        steps: &mut Steps<L>,
+    )
+        requires system { IsSystem self.now.system }
+        requires fits { seat.old.table ≡ self.now }
+        requires row { row ≤ sum self.now.system.lens }
+        requires follows { Follows self.now.system row seat.old.floor seat.old.floor vector.old }
+        requires seen { length seen.old ≡ length self.now.system.lens }
+        ensures table { seat.new.table ≡ seat.old.table }
+        ensures asking { IsAsking self.now.system row seat.old.floor seat.new.floor vector.new seen.new }
+        ensures reaches { IsWithin vector.old seen.new }
+        ensures looks { steps.new ≤ steps.old + length self.now.system.pulls }
+    {
+        for process in 0..self.system().shape().procs() {
+            let x = vector[process as usize];
+            seen[process as usize] = x;
+            self.ask_from(seat, row, process, x, vector, steps);
+        }
+    }
+
+    /// Looks up the pulls from what has risen, until nothing rises.
+    fn close_row<L: Ledger>(
+        &self,
+        seat: &mut Seat,
+        row: u32,
+        vector: &mut [u16],
+        seen: &mut [u16],
+        steps: &mut Steps<L>,
+    )
+        requires system { IsSystem self.now.system }
+        requires fits { seat.old.table ≡ self.now }
+        requires row { row ≤ sum self.now.system.lens }
+        requires asking { IsAsking self.now.system row seat.old.floor seat.old.floor vector.old seen.old }
+        ensures table { seat.new.table ≡ seat.old.table }
+        ensures follows { Follows self.now.system row seat.old.floor seat.new.floor vector.new }
+        ensures least { IsLeast self.now.system row vector.new }
+        ensures looks { let pulls = length self.now.system.pulls in
+            steps.new + pulls * sum vector.old ≤ steps.old + pulls * (1 + sum vector.new) }
+        ensures pays { let pulls = length self.now.system.pulls in
+            steps.new + pulls * sum seen.old ≤ steps.old + pulls * sum vector.new }
+    {
+        let mut asked = self.ask_risen(seat, row, vector, seen, steps);
+        while asked > 0 {
+            asked = self.ask_risen(seat, row, vector, seen, steps);
+        }
+    }
+
+    /// Looks up the pulls from each process that has risen, and gives the number of these processes.
+    fn ask_risen<L: Ledger>(
+        &self,
+        seat: &mut Seat,
+        row: u32,
+        vector: &mut [u16],
+        seen: &mut [u16],
+        steps: &mut Steps<L>,
+    ) -> u32
+        requires system { IsSystem self.now.system }
+        requires fits { seat.old.table ≡ self.now }
+        requires row { row ≤ sum self.now.system.lens }
+        requires asking { IsAsking self.now.system row seat.old.floor seat.old.floor vector.old seen.old }
+        ensures table { seat.new.table ≡ seat.old.table }
+        ensures asking { IsAsking self.now.system row seat.old.floor seat.new.floor vector.new seen.new }
+        ensures done { result ≡ 0 → IsWithin vector.new seen.new }
+        ensures reaches { IsWithin vector.old seen.new }
+        ensures rises { sum seen.old + result ≤ sum seen.new }
+        ensures looks { steps.new ≤ steps.old + length self.now.system.pulls }
+        ensures pays { let pulls = length self.now.system.pulls in
+            steps.new + pulls * sum seen.old ≤ steps.old + pulls * sum seen.new }
+    {
+        let mut asked = 0;
+        for process in 0..self.system().shape().procs() {
+            asked += self.ask_again(seat, row, process, vector, seen, steps);
+        }
+        asked
+    }
+
+    /// Looks up the pulls from the process where it has risen, and gives 1 where it has.
+    fn ask_again<L: Ledger>(
+        &self,
+        seat: &mut Seat,
+        row: u32,
+        process: u32,
+        vector: &mut [u16],
+        seen: &mut [u16],
+        steps: &mut Steps<L>,
+    ) -> u32
+        requires system { IsSystem self.now.system }
+        requires fits { seat.old.table ≡ self.now }
+        requires row { row ≤ sum self.now.system.lens }
+        requires process { process < length self.now.system.lens }
+        requires asking { IsAsking self.now.system row seat.old.floor seat.old.floor vector.old seen.old }
+        ensures few { result ≤ 1 }
+        ensures table { seat.new.table ≡ seat.old.table }
+        ensures asking { IsAsking self.now.system row seat.old.floor seat.new.floor vector.new seen.new }
+        ensures idle { result ≡ 0 → vector.new ≡ vector.old }
+        ensures kept { IsWithin seen.old seen.new }
+        ensures reaches { slice_index vector.old process ≤ slice_index seen.new process }
+        ensures rises { sum seen.old + result ≤ sum seen.new }
+        ensures looks { let pulls = self.now.system.pulls in
+            steps.new ≤ steps.old + length (numbers_from pulls process (length pulls)) }
+        ensures pays { let pulls = length self.now.system.pulls in
+            steps.new + pulls * sum seen.old ≤ steps.old + pulls * sum seen.new }
+    {
+        let x = vector[process as usize];
+        if x <= seen[process as usize] {
+            return 0;
+        }
+        seen[process as usize] = x;
+        self.ask_from(seat, row, process, x, vector, steps);
+        1
+    }
+
+    /// Looks up the pulls from the process at `x`, and raises their targets to what they ask for.
+    fn ask_from<L: Ledger>(
+        &self,
+        seat: &mut Seat,
+        row: u32,
+        process: u32,
+        x: u16,
+        vector: &mut [u16],
+        steps: &mut Steps<L>,
+    )
+        requires system { IsSystem self.now.system }
+        requires fits { seat.old.table ≡ self.now }
+        requires row { row ≤ sum self.now.system.lens }
+        requires process { process < length self.now.system.lens }
+        requires follows { Follows self.now.system row seat.old.floor seat.old.floor vector.old }
+        requires reached { x ≤ slice_index vector.old process }
+        ensures table { seat.new.table ≡ seat.old.table }
+        ensures follows { Follows self.now.system row seat.old.floor seat.new.floor vector.new }
+        ensures holds { (k : ℕ) → k < length self.now.system.pulls → source_of self.now.system k ≡ process
+            → ask self.now.system k x ≤ slice_index vector.new (target_of self.now.system k) }
+        ensures looks { let pulls = self.now.system.pulls in
+            steps.new ≡ steps.old + length (numbers_from pulls process (length pulls)) }
+    {
+        let asks = self.system().asks(process, x as u64, steps);
+        self.rise_to(seat, row, process, x, asks, vector);
+    }
+
+    /// Raises the words of the row to at least what the pulls from the process ask at `x`.
+    fn rise_to(
+        &self,
+        seat: &mut Seat,
+        row: u32,
+        process: u32,
+        x: u16,
+        asks: &[u16],
+        vector: &mut [u16],
+    )
+        requires system { IsSystem self.now.system }
+        requires fits { seat.old.table ≡ self.now }
+        requires row { row ≤ sum self.now.system.lens }
+        requires process { process < length self.now.system.lens }
+        requires follows { Follows self.now.system row seat.old.floor seat.old.floor vector.old }
+        requires reached { x ≤ slice_index vector.old process }
+        requires asks { AreAsks self.now.system process x asks.now }
+        ensures table { seat.new.table ≡ seat.old.table }
+        ensures follows { Follows self.now.system row seat.old.floor seat.new.floor vector.new }
+        ensures reaches { IsWithin asks.now vector.new }
+    {
+        if excess(asks, vector) == 0 {
+            return;
+        }
+        for target in 0..self.system().shape().procs() {
+            self.rise_at(seat, row, process, x, target, asks[target as usize], vector);
+        }
+    }
+
+    /// Raises one word of the row to at least what a pull from the process asks of it at `x`.
+    fn rise_at(
+        &self,
+        seat: &mut Seat,
+        row: u32,
+        process: u32,
+        x: u16,
+        target: u32,
+        asked: u16,
+        vector: &mut [u16],
+    )
+        requires system { IsSystem self.now.system }
+        requires fits { seat.old.table ≡ self.now }
+        requires row { row ≤ sum self.now.system.lens }
+        requires process { process < length self.now.system.lens }
+        requires target { target < length self.now.system.lens }
+        requires follows { Follows self.now.system row seat.old.floor seat.old.floor vector.old }
+        requires reached { x ≤ slice_index vector.old process }
+        requires asked { (asked ≡ 0) ⊎ IsAskedBy self.now.system process x target asked }
+        ensures table { seat.new.table ≡ seat.old.table }
+        ensures follows { Follows self.now.system row seat.old.floor seat.new.floor vector.new }
+        ensures reaches { asked ≤ slice_index vector.new target }
+    {
+        if vector[target as usize] < asked {
+            vector[target as usize] = self.raise_by_pull(seat, row, target, asked as u64) as u16;
+        }
+    }
+}
+
+/// The most by which an entry of the first is above that of the second.
+fn excess(asks: &[u16], vector: &[u16]) -> u16
+    requires { length asks.now ≡ length vector.now }
+    ensures { result ≡ 0 → IsWithin asks.now vector.now }
+{
+    let mut excess = 0;
+    for i in 0..asks.len() {
+        excess = excess.max(asks[i].saturating_sub(vector[i]));
+    }
+    excess
+}
+
+/// The same numbers in 16 bits each.
+fn narrow(from: &[u64], into: &mut [u16])
+    requires size { length into.old ≡ length from.now }
+    requires fit { (i : ℕ) → slice_index from.now i < 2 ^ 16 }
+    ensures { into.new ≡ from.now }
+{
+    for i in 0..from.len() {
+        into[i] = from[i] as u16;
+    }
+}
+
+/// The same numbers in 64 bits each.
+fn widen(from: &[u16], into: &mut [u64])
+    requires { length into.old ≡ length from.now }
+    ensures { into.new ≡ from.now }
+{
+    for i in 0..from.len() {
+        into[i] = from[i] as u64;
+    }
+}

@@ -1,0 +1,5 @@
+pub mod Counting
+pub mod Reaching
+pub mod Tables
+pub mod Growing
+pub mod Meaning

@@ -1,0 +1,5 @@
+pub mod Rule
+pub mod Request
+pub mod Numbers
+pub mod ByClap
+pub mod Seen

@@ -1,0 +1,48 @@
+//! What a word is by its spelling.
+ghost use Rattle.std.specs.Prelude.{◌≡◌};
+ghost use Rattle.command_words.specs.Rule.{begins_dash, kind_of};
+ghost use Rattle.command_words.specs.Seen.{kind_seen};
+
+/// What a word is where no option waits for its value.
+#[derive(Clone, Copy, Debug)]
+pub enum WordKind {
+    /// An option, which takes the next word as its value.
+    TakesValue(&'static str),
+    Flag(&'static str),
+    /// It begins with a hyphen and is none of these.
+    Unknown,
+    Positional,
+}
+
+pub fn begins_dash(word: &str) -> bool
+    ensures { result ≡ begins_dash word.now }
+{
+    match word.as_bytes() {
+        [first, ..] => *first == b'-',
+        [] => false,
+    }
+}
+
+pub fn kind_of(word: &str) -> WordKind
+    ensures { kind_seen result ≡ kind_of word.now }
+{
+    if word == "--workers" {
+        WordKind::TakesValue("workers")
+    } else if word == "--seed" {
+        WordKind::TakesValue("seed")
+    } else if word == "--procs" {
+        WordKind::TakesValue("procs")
+    } else if word == "--events" {
+        WordKind::TakesValue("events")
+    } else if word == "--slice" {
+        WordKind::Flag("slice")
+    } else if word == "--witness" {
+        WordKind::Flag("witness")
+    } else if word == "--each-batch" {
+        WordKind::Flag("each-batch")
+    } else if begins_dash(word) {
+        WordKind::Unknown
+    } else {
+        WordKind::Positional
+    }
+}

@@ -1,0 +1,129 @@
+//! What the words ask for.
+ghost use Rattle.std.specs.Prelude.{◌≡◌, IfOk, IfErr, Some, List, option_map, map};
+ghost use Rattle.std.specs.String.{string_bytes};
+ghost use Rattle.clap.specs.Words.{found_of, kind_of, rows_of};
+ghost use Rattle.command_words.specs.ByClap.{values_in};
+ghost use Rattle.command_words.specs.Request.{values_of, check_of, bench_of, task_of, wanted, request_of};
+ghost use Rattle.command_words.specs.Rule.{Given, given};
+ghost use Rattle.command_words.specs.Seen.{values_seen, request_seen};
+
+use crate::command::command;
+use crate::numbers::{sizes, workers};
+use crate::reading::are_in_form;
+use crate::values::{TextValues, values_in};
+use clap::error::ErrorKind;
+use clap::{ArgMatches, Error};
+use pota_base::NoMemory;
+use std::alloc::Global;
+
+/// What `check` shows beside the verdict.
+#[derive(Clone, Copy, Debug, PartialEq, Eq)]
+pub struct Shown {
+    /// The slice of the formula.
+    pub slice: bool,
+    /// The witnesses of the verdict.
+    pub witness: bool,
+    /// A report for each batch, and not for the last one alone.
+    pub each_batch: bool,
+}
+
+/// The log that `bench` makes.
+#[derive(Clone, Copy, Debug, PartialEq, Eq)]
+pub struct Sizes {
+    pub seed: u64,
+    /// 1 to 32 processes.
+    pub procs: u32,
+    /// At most 50,000 events.
+    pub events: u32,
+}
+
+/// A command with what belongs to it.
+#[derive(Clone, Copy, Debug, PartialEq, Eq)]
+pub enum Task {
+    /// Judge the log that is read.
+    Check(Shown),
+    /// Judge a log that is made from a number.
+    Bench(Sizes),
+}
+
+/// What the words ask for.
+#[derive(Clone, Copy, Debug)]
+pub struct Request<'a> {
+    /// The formula as it was given.
+    pub formula: &'a str,
+    /// 1 to 16 workers.
+    pub workers: u32,
+    pub task: Task,
+}
+
+fn check_task(values: &TextValues<'_>) -> Option<Task>
+    ensures { result ≡ check_of (values_seen values.now) }
+{
+    if values.seed.is_some() || values.procs.is_some() || values.events.is_some() {
+        return None;
+    }
+    Some(Task::Check(Shown {
+        slice: values.slice,
+        witness: values.witness,
+        each_batch: values.each_batch,
+    }))
+}
+
+fn bench_task(values: &TextValues<'_>) -> Option<Task>
+    ensures { result ≡ bench_of (values_seen values.now) }
+{
+    if values.slice || values.witness || values.each_batch {
+        return None;
+    }
+    let sizes = sizes(values.seed, values.procs, values.events)?;
+    Some(Task::Bench(sizes))
+}
+
+fn task_named(command: &str, values: &TextValues<'_>) -> Option<Task>
+    ensures { result ≡ task_of command.now (values_seen values.now) }
+{
+    if command == "check" {
+        check_task(values)
+    } else if command == "bench" {
+        bench_task(values)
+    } else {
+        None
+    }
+}
+
+fn wanted<'a>(values: &TextValues<'a>) -> Option<Request<'a>>
+    ensures { option_map request_seen result ≡ wanted (values_seen values.now) }
+{
+    let command = values.command?;
+    let formula = values.formula?;
+    let task = task_named(command, values)?;
+    let workers = workers(values.workers)?;
+    Some(Request {
+        formula,
+        workers,
+        task,
+    })
+}
+
+// What `clap` finds in the words. On words of the rule it fails only for want of memory.
+fn matches<'a>(alloc: Global, words: &'a [String]) -> Result<ArgMatches<'a>, Error>
+    ensures values { IfOk result (λ m. (g : Given) → given (map string_bytes words.entry.now) ≡ Some g
+        → values_in (rows_of (found_of m)) ≡ values_of g) }
+    ensures memory { IfErr result (λ e. (g : Given) → given (map string_bytes words.entry.now) ≡ Some g
+        → kind_of e ≡ ErrorKind.OutOfMemory) }
+{
+    command(alloc)?.try_get_matches_from(words)
+}
+
+/// What the words ask for, and `None` exactly where they are refused.
+pub fn read_request<'a>(alloc: Global, words: &'a [String]) -> Result<Option<Request<'a>>, NoMemory>
+    ensures { IfOk result (λ found. option_map request_seen found ≡ request_of (map string_bytes words.entry.now)) }
+{
+    if !are_in_form(alloc, words)? {
+        return Ok(None);
+    }
+    match matches(alloc, words) {
+        Ok(matches) => Ok(wanted(&values_in(&matches))),
+        Err(_) => Err(NoMemory),
+    }
+}

@@ -1,0 +1,4 @@
+pub mod Truths
+pub mod Members
+pub mod RowSteps
+pub mod Expressions

@@ -1,0 +1,10 @@
+pub mod Folds
+pub mod Rules
+pub mod Members
+pub mod Locals
+pub mod Class
+pub mod Alike
+pub mod Names
+pub mod Sizes
+pub mod Derived
+pub mod Meaning

@@ -1,0 +1,7 @@
+pub mod Nodes
+pub mod Uses
+pub mod NamedParts
+pub mod Faults
+pub mod Seen
+pub mod Walk
+pub mod Classed

@@ -1,0 +1,163 @@
+-- The parts and the disjuncts of a formula of the class, by names and with their places.
+use Rattle.std.specs.Prelude.{ℕ, zero, suc, ◌+◌, ◌-◌, ◌^◌, min, Bool, true, false, not, ◌&&◌, List, [], ◌∷◌, ◌++◌, Option, None, Some, if◌then◌else◌, bytes_eq}
+use Rattle.run_model.specs.Run.{Name}
+use Rattle.run_model.specs.Class.{is_local, after_sign}
+use Rattle.run_model.specs.Formula as model
+use Rattle.rctl_grammar.specs.declared.tree.Place.{Place}
+use Rattle.rctl_grammar.specs.declared.tree.Side.{Side}
+use Rattle.rctl_grammar.specs.declared.tree.Side.TheVariants as side
+use Rattle.rctl_grammar.specs.declared.tree.Atom.{Atom}
+use Rattle.rctl_grammar.specs.declared.tree.Atom.TheVariants as atom
+use Rattle.rctl_grammar.specs.Shape.{relation_of}
+use Rattle.rctl_class.specs.declared.named.NamedSide.{NamedSide}
+use Rattle.rctl_class.specs.declared.named.NamedSide.TheVariants as named_side
+use Rattle.rctl_class.specs.Nodes.{Node, Nodes, leaf, negation, conjunction, disjunction, under, until_of, none, more, formula_of}
+use Rattle.rctl_class.specs.Uses as used
+use Rattle.rctl_class.specs.Uses.{Use, uses_of}
+use Rattle.rctl_class.specs.NamedParts as named
+use Rattle.rctl_class.specs.NamedParts.{Expr, Exprs, Piece}
+
+-- ---- local formulas
+
+-- the place of the first name of a process
+abbrev pub first_place : List Use → Option Place
+first_place [] = None
+first_place (used.process p ∷ us) = Some p
+first_place (used.variable p v ∷ us) = first_place us
+first_place (used.watch p w ∷ us) = first_place us
+
+-- the name is that of the process
+abbrev pub is_on : Option Name → Name → Bool
+is_on None name = false
+is_on (Some p) name = bytes_eq p name
+
+abbrev pub side_is_over : Option Name → Side → Bool
+side_is_over p (side.Number value) = true
+side_is_over p (side.Variable q v) = is_on p q.name
+
+abbrev pub atom_is_over : Option Name → Atom → Bool
+atom_is_over p (atom.Truth value) = true
+atom_is_over p (atom.Local q variable compare right) = is_on p q.name && side_is_over p right
+atom_is_over p (atom.Watch q watch) = is_on p q.name
+atom_is_over p (atom.InTransit sender receiver compare k) = false
+atom_is_over p (atom.Empty sender receiver) = false
+
+abbrev mutual
+  -- only constants, comparisons, watches, not, and, or, and no other process than this one
+  pub is_over : Option Name → Node → Bool
+  is_over p (leaf a at) = atom_is_over p a
+  is_over p (negation n at) = is_over p n
+  is_over p (conjunction ns at) = all_over p ns
+  is_over p (disjunction ns at) = all_over p ns
+  is_over p (under operator n at) = false
+  is_over p (until_of all left right at) = false
+
+  pub all_over : Option Name → Nodes → Bool
+  all_over p none = true
+  all_over p (more n ns) = is_over p n && all_over p ns
+
+abbrev pub side_from : Side → NamedSide
+side_from (side.Number value) = named_side.Number value
+side_from (side.Variable q v) = named_side.Variable v
+
+-- the expression of a leaf. What is no local formula has none, and false stands for it
+abbrev pub atom_expr : Atom → Expr
+atom_expr (atom.Truth value) = named.truth value
+atom_expr (atom.Local q v compare right) = named.comparison v compare (side_from right)
+atom_expr (atom.Watch q w) = named.watched w
+atom_expr (atom.InTransit sender receiver compare k) = named.truth false
+atom_expr (atom.Empty sender receiver) = named.truth false
+
+abbrev mutual
+  -- the expression of a local formula
+  pub expr_from : Node → Expr
+  expr_from (leaf a at) = atom_expr a
+  expr_from (negation n at) = named.negation (expr_from n)
+  expr_from (conjunction ns at) = named.conjunction (exprs_from ns)
+  expr_from (disjunction ns at) = named.disjunction (exprs_from ns)
+  expr_from (under operator n at) = named.truth false
+  expr_from (until_of all left right at) = named.truth false
+
+  pub exprs_from : Nodes → Exprs
+  exprs_from none = named.no_expr
+  exprs_from (more n ns) = named.and_expr (expr_from n) (exprs_from ns)
+
+abbrev pub signed : Bool → Expr → Expr
+signed sign e = if sign then e else named.negation e
+
+-- the part that a local formula with this sign is
+abbrev pub local_part : Bool → Node → Piece
+local_part sign n = named.local (first_place (uses_of n)) (signed sign (expr_from n))
+
+-- ---- channels
+
+-- 1 more, within 64 bits. A number that was read is below 2^63
+abbrev pub next_count : ℕ → ℕ
+next_count k = min (k + 1) (2 ^ 64 - 1)
+
+-- fewer than k
+abbrev pub fewer_than : Place → Place → ℕ → List Piece
+fewer_than p q zero = named.never p q ∷ []
+fewer_than p q (suc k) = named.at_most p q k ∷ []
+
+-- the bounds that a comparison of the messages under way says, and none for "unequal"
+abbrev pub bounds : Place → Place → model.Relation → ℕ → List Piece
+bounds p q model.Equal k = named.at_most p q k ∷ named.at_least p q k ∷ []
+bounds p q model.Unequal k = []
+bounds p q model.Less k = fewer_than p q k
+bounds p q model.LessOrEqual k = named.at_most p q k ∷ []
+bounds p q model.Greater k = named.at_least p q (next_count k) ∷ []
+bounds p q model.GreaterOrEqual k = named.at_least p q k ∷ []
+
+abbrev pub empty_bound : Bool → Place → Place → Piece
+empty_bound sign p q = if sign then named.at_most p q 0 else named.at_least p q 1
+
+-- the parts of a leaf with this sign that isn't local
+abbrev pub channel_parts : Bool → Atom → List Piece
+channel_parts sign (atom.Truth value) = []
+channel_parts sign (atom.Local q v compare right) = []
+channel_parts sign (atom.Watch q w) = []
+channel_parts sign (atom.InTransit p q compare k) = bounds p q (after_sign sign (relation_of compare)) k
+channel_parts sign (atom.Empty p q) = empty_bound sign p q ∷ []
+
+-- ---- parts and disjuncts
+
+-- a local formula is one part
+abbrev pub or_local : Bool → Node → List Piece → List Piece
+or_local sign n others = if is_local (formula_of n) then local_part sign n ∷ [] else others
+
+abbrev mutual
+  -- the parts of the formula with this sign, where it is a conjunction of regular parts
+  pub parts_from : Bool → Node → List Piece
+  parts_from sign (leaf a at) = or_local sign (leaf a at) (channel_parts sign a)
+  parts_from sign (negation n at) = or_local sign (negation n at) (parts_from (not sign) n)
+  parts_from true (conjunction ns at) = or_local true (conjunction ns at) (all_parts true ns)
+  parts_from false (conjunction ns at) = or_local false (conjunction ns at) []
+  parts_from true (disjunction ns at) = or_local true (disjunction ns at) []
+  parts_from false (disjunction ns at) = or_local false (disjunction ns at) (all_parts false ns)
+  parts_from sign (under operator n at) = named.temporal operator (named.pieces (parts_from true n)) ∷ []
+  parts_from sign (until_of all left right at) = []
+
+  pub all_parts : Bool → Nodes → List Piece
+  all_parts sign none = []
+  all_parts sign (more n ns) = parts_from sign n ++ all_parts sign ns
+
+-- a local formula is one disjunct of one part
+abbrev pub or_one_local : Bool → Node → List (List Piece) → List (List Piece)
+or_one_local sign n others = if is_local (formula_of n) then (local_part sign n ∷ []) ∷ [] else others
+
+abbrev mutual
+  -- the disjuncts of the formula with this sign, where it is a disjunction of such conjunctions
+  pub disjuncts_from : Bool → Node → List (List Piece)
+  disjuncts_from sign (leaf a at) = parts_from sign (leaf a at) ∷ []
+  disjuncts_from sign (negation n at) = or_one_local sign (negation n at) (disjuncts_from (not sign) n)
+  disjuncts_from true (conjunction ns at) = parts_from true (conjunction ns at) ∷ []
+  disjuncts_from false (conjunction ns at) = or_one_local false (conjunction ns at) (all_disjuncts false ns)
+  disjuncts_from true (disjunction ns at) = or_one_local true (disjunction ns at) (all_disjuncts true ns)
+  disjuncts_from false (disjunction ns at) = parts_from false (disjunction ns at) ∷ []
+  disjuncts_from sign (under operator n at) = parts_from sign (under operator n at) ∷ []
+  disjuncts_from sign (until_of all left right at) = []
+
+  pub all_disjuncts : Bool → Nodes → List (List Piece)
+  all_disjuncts sign none = []
+  all_disjuncts sign (more n ns) = disjuncts_from sign n ++ all_disjuncts sign ns

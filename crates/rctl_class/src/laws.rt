@@ -1,0 +1,37 @@
+// Laws of the class, of the disjuncts, and of the formulas that were read.
+ghost use Rattle.rctl_class.specs.Classed.{IsClassed, disjunct_formulas};
+ghost use Rattle.rctl_class.specs.Faults.{first_fault};
+ghost use Rattle.rctl_class.specs.NamedParts.{Piece};
+ghost use Rattle.rctl_class.specs.Nodes.{IsWithinLimits, Node, formula_of, node_of};
+ghost use Rattle.rctl_grammar.specs.Shape.{meaning};
+ghost use Rattle.rctl_grammar.specs.declared.tree.Tree.{Tree};
+ghost use Rattle.rctl_parse.specs.Parsing.{IsReadAs};
+ghost use Rattle.run_model.specs.Class.{IsOfClass, IsRegular, SatDisjuncts};
+ghost use Rattle.run_model.specs.Consistent.{IsConsistent, IsOrder};
+ghost use Rattle.run_model.specs.Cut.{Cut};
+ghost use Rattle.run_model.specs.Meaning.{Sat};
+ghost use Rattle.run_model.specs.Run.{Run};
+ghost use Rattle.std.specs.Prelude.{◌≡◌, ◌↔◌, ℕ, List, None, false, length, true};
+
+/// A formula has no fault exactly where it is of the class.
+pub fn faultless_formulas_are_of_the_class()
+    ensures { (n : Node) → (first_fault false true n ≡ None) ↔ IsOfClass (formula_of n) }
+{}
+
+/// A formula of the class is true at a consistent cut exactly where some disjunct has all its
+/// parts true, and it has one disjunct exactly where it is regular.
+pub fn disjuncts_mean_the_formula()
+    ensures meaning { (n : Node) (ds : List (List Piece)) → IsClassed n ds
+        → (r : Run) → IsOrder r.clocks → (c : Cut) → IsConsistent r.clocks c
+        → SatDisjuncts r (disjunct_formulas ds) c ↔ Sat r (formula_of n) c }
+    ensures one { (n : Node) (ds : List (List Piece)) → IsWithinLimits n → IsClassed n ds
+        → IsRegular (formula_of n) ↔ (length ds ≡ 1) }
+{}
+
+/// A formula that was read has at most 64 nodes, each number that messages are compared with is
+/// below 2^63, and each `and` and `or` has two members or more; its nodes spell what it means.
+pub fn read_formulas_are_within_limits()
+    ensures limits { (text : List ℕ) (t : Tree) → IsReadAs text t → IsWithinLimits (node_of t) }
+    ensures meaning { (text : List ℕ) (t : Tree) → IsReadAs text t
+        → formula_of (node_of t) ≡ meaning t }
+{}

@@ -1,0 +1,4 @@
+pub mod Exprs
+pub mod Pieces
+pub mod Spelled
+pub mod MadeFor

@@ -1,0 +1,79 @@
+-- The formula that parts spell once names stand for the numbers of processes, variables and watches.
+use Rattle.std.specs.Prelude.{ℕ, List, [], ◌∷◌, map, get_or, Option, None, Some, false}
+use Rattle.run_model.specs.Run.{Name}
+use Rattle.run_model.specs.Formula as model
+use Rattle.rctl_grammar.specs.Shape.{relation_of, model_operator}
+use Rattle.rctl_parts.specs.declared.expr.LocalSide.{LocalSide}
+use Rattle.rctl_parts.specs.declared.expr.LocalSide.TheVariants as side
+use Rattle.rctl_parts.specs.Exprs as expr
+use Rattle.rctl_parts.specs.Exprs.{Expr, Exprs}
+use Rattle.rctl_parts.specs.Pieces as piece
+use Rattle.rctl_parts.specs.Pieces.{Atom, Piece, Pieces}
+
+-- the names that the numbers stand for: of the processes, of the variables of each, and of the watches
+pub record Names : Type 0 where
+  pub processes : List Name
+  pub variables : List (List Name)
+  pub watches : List Name
+
+abbrev pub name_at : List Name → ℕ → Name
+name_at names i = get_or names i []
+
+abbrev pub side_in : List Name → Name → LocalSide → model.Side
+side_in variables process (side.Number value) = model.Number value
+side_in variables process (side.Variable v) = model.Variable process (name_at variables v)
+
+abbrev mutual
+  -- a local expression over the variables of a process, and the watches
+  pub formula_in : List Name → List Name → Name → Expr → model.Formula
+  formula_in variables watches process (expr.truth value) = model.Truth value
+  formula_in variables watches process (expr.comparison left compare right) =
+      model.Comparison process (name_at variables left) (relation_of compare) (side_in variables process right)
+  formula_in variables watches process (expr.watch number) = model.Watched process (name_at watches number)
+  formula_in variables watches process (expr.negation e) = model.Not (formula_in variables watches process e)
+  formula_in variables watches process (expr.conjunction es) = model.And (formulas_in variables watches process es)
+  formula_in variables watches process (expr.disjunction es) = model.Or (formulas_in variables watches process es)
+
+  -- its members
+  pub formulas_in : List Name → List Name → Name → Exprs → model.Formulas
+  formulas_in variables watches process expr.none = model.Nil
+  formulas_in variables watches process (expr.more e es) = model.Cons (formula_in variables watches process e) (formulas_in variables watches process es)
+
+-- an expression over a process, or over none
+abbrev pub local_formula : Names → Option ℕ → Expr → model.Formula
+local_formula names None e = formula_in [] [] [] e
+local_formula names (Some p) e = formula_in (get_or names.variables p []) names.watches (name_at names.processes p) e
+
+abbrev pub atom_formula : Names → Atom → model.Formula
+atom_formula names (piece.local process e) = local_formula names process e
+atom_formula names (piece.at_most p q k) = model.InTransit (name_at names.processes p) (name_at names.processes q) model.LessOrEqual k
+atom_formula names (piece.at_least p q k) = model.InTransit (name_at names.processes p) (name_at names.processes q) model.GreaterOrEqual k
+atom_formula names piece.never = model.Truth false
+
+abbrev mutual
+  -- the formula of a part
+  pub formula_of : Names → Piece → model.Formula
+  formula_of names (piece.atom a) = atom_formula names a
+  formula_of names (piece.temporal operator ps) = model.Temporal (model_operator operator) (model.And (formulas_of names ps))
+
+  -- those of the parts of an operand
+  pub formulas_of : Names → Pieces → model.Formulas
+  formulas_of names piece.none = model.Nil
+  formulas_of names (piece.more p ps) = model.Cons (formula_of names p) (formulas_of names ps)
+
+-- the conjunction of some parts
+abbrev pub conjunction_of : Names → List Piece → model.Formula
+conjunction_of names ps = model.And (formulas_of names (piece.pieces ps))
+
+-- the conjunctions of some disjuncts
+abbrev pub conjunctions_of : Names → List (List Piece) → model.Formulas
+conjunctions_of names [] = model.Nil
+conjunctions_of names (d ∷ ds) = model.Cons (conjunction_of names d) (conjunctions_of names ds)
+
+-- the disjunction of the conjunctions
+abbrev pub disjunction_of : Names → List (List Piece) → model.Formula
+disjunction_of names ds = model.Or (conjunctions_of names ds)
+
+-- the formulas of the parts of some disjuncts
+abbrev pub part_formulas : Names → List (List Piece) → List (List model.Formula)
+part_formulas names ds = map (map (formula_of names)) ds

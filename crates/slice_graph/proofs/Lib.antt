@@ -1,0 +1,10 @@
+pub mod Words
+pub mod Events
+pub mod Building
+pub mod Lasts
+pub mod Tops
+pub mod Kept
+pub mod Pairs
+pub mod OrderPulls
+pub mod SlicePulls
+pub mod EdgeSteps

@@ -1,0 +1,137 @@
+-- The maximum of the rows of a slice is its greatest cut.
+use Rattle.std.proofs.Common.{◌≡◌, ℕ, zero, suc, ◌+◌, ◌<◌, ◌≤◌, List, [], ◌∷◌, length, get_or, drop, take, replicate, sum, Option, Some, None, option_map, refl, sym, ap, ◌∙◌, subst, arith, inl, inr, le_trans}
+use Rattle.std.specs.Prelude.{MatchOption}
+use Rattle.std.proofs.lemmas.Option.{none-some, same_Some}
+use Rattle.std.proofs.lemmas.Bool.{cases_lt}
+use Rattle.std.proofs.lemmas.List.{at_drop_more, at_drop_all, length-replicate, get_or_past}
+use Rattle.pota_base.specs.Shape.{HasEvent, row_of}
+use Rattle.pota_base.specs.declared.shape.EventId.{EventId}
+use Rattle.run_model.specs.Cut.{Cut, Clocks, count, IsWithin, max_cut, lengths}
+use Rattle.run_model.specs.Consistent.{IsOrder, IsConsistent, IsEvent}
+use Rattle.run_model.specs.Sublattice.{IsClosed, IsLeast, IsGreatest, Having}
+use Rattle.run_model.specs.Slice.{Slice, HasWithin, IsLeastOf, Cuts, StandsFor, Fits}
+use Rattle.run_model.proofs.Counts.{within_refl, within_trans, max_left, max_right, max_absorbs, length-max, length-lengths, count_past, same_counts, count-max}
+use Rattle.run_model.proofs.SliceLemmas.{cuts_closed, greatest_from_rows}
+use Rattle.slice_graph.specs.Views.{SliceView, slice_of, joined_onto, joined_rows, no_row}
+use Rattle.slice_graph.specs.Fitting.{FitsOrder}
+use Rattle.slice_graph.proofs.Events.{event_of_row, row_there}
+
+-- ---- one row after the other
+
+pub joined_next : (t u : Cut) (rows : List (Option Cut)) (row : ℕ) (all : Cut) → row < length rows → joined_onto t (drop row rows) ≡ all
+    → u ≡ joined_onto t (get_or rows row no_row ∷ []) → joined_onto u (drop (row + 1) rows) ≡ all
+joined_next t u rows row all lt is new = step (get_or rows row no_row) (at_drop_more (joined_onto t) rows row no_row lt) new
+  where
+    step : (k : Option Cut) → joined_onto t (drop row rows) ≡ joined_onto t (k ∷ drop (row + 1) rows) → u ≡ joined_onto t (k ∷ []) → joined_onto u (drop (row + 1) rows) ≡ all
+    step None e n = ap (λ (x : Cut). joined_onto x (drop (row + 1) rows)) n ∙ sym e ∙ is
+    step (Some c) e n = ap (λ (x : Cut). joined_onto x (drop (row + 1) rows)) n ∙ sym e ∙ is
+
+pub joined_all : (t : Cut) (rows : List (Option Cut)) (row : ℕ) (all : Cut) → length rows ≤ row → joined_onto t (drop row rows) ≡ all → t ≡ all
+joined_all t rows row all le is = sym (at_drop_all (joined_onto t) rows row le) ∙ is
+
+-- ---- what the maximum has
+
+from_first : (t : Cut) (rows : List (Option Cut)) → IsWithin t (joined_onto t rows)
+from_first t [] = within_refl t
+from_first t (None ∷ rows) = from_first t rows
+from_first t (Some c ∷ rows) = within_trans t (max_cut c t) (joined_onto (max_cut c t) rows) (max_right c t) (from_first (max_cut c t) rows)
+
+row_joined : (t : Cut) (rows : List (Option Cut)) (r : ℕ) (c : Cut) → get_or rows r no_row ≡ Some c → IsWithin c (joined_onto t rows)
+row_joined t [] r c is = absurd (none-some c is)
+row_joined t (None ∷ rows) (suc r) c is = row_joined t rows r c is
+row_joined t (Some d ∷ rows) (suc r) c is = row_joined (max_cut d t) rows r c is
+row_joined t (None ∷ rows) zero c is = absurd (none-some c is)
+row_joined t (Some d ∷ rows) zero c is = subst (λ (x : Cut). IsWithin x (joined_onto (max_cut d t) rows)) (same_Some d c is)
+    (within_trans d (max_cut d t) (joined_onto (max_cut d t) rows) (max_left d t) (from_first (max_cut d t) rows))
+
+-- the maximum of members is a member
+member_joined : (A : Cut → Type 0) → ((c d : Cut) → A c → A d → A (max_cut c d)) → (t : Cut) (rows : List (Option Cut)) → A t
+    → ((r : ℕ) (c : Cut) → get_or rows r no_row ≡ Some c → A c) → A (joined_onto t rows)
+member_joined A closed t [] h each = h
+member_joined A closed t (None ∷ rows) h each = member_joined A closed t rows h (λ r. each (suc r))
+member_joined A closed t (Some d ∷ rows) h each = member_joined A closed (max_cut d t) rows (closed d t (each 0 d refl) h) (λ r. each (suc r))
+
+-- ---- the greatest cut
+
+-- the cut of a row is a cut of the slice
+row_member : (o : Clocks) (v : SliceView) → FitsOrder o v → (r : ℕ) (c : Cut) → get_or v.rows r no_row ≡ Some c → Cuts o (slice_of v) c
+row_member o v fits zero c is = member (get_or v.rows 0 no_row) fits.stands.bottom is
+  where
+    member : (k : Option Cut) → IsLeastOf (Cuts o (slice_of v)) k → k ≡ Some c → Cuts o (slice_of v) c
+    member None l e = absurd (none-some c e)
+    member (Some d) l e = subst (Cuts o (slice_of v)) (same_Some d c e) l.member
+row_member o v fits (suc r) c is =
+    let there : suc r ≤ sum v.lens = elim (cases_lt (sum v.lens) (suc r)) [
+      | inr le ↦ le
+      | inl past ↦ absurd (none-some c (sym (get_or_past v.rows (suc r) no_row (omega (arith, fits.count))) ∙ is))
+    ] in
+    let e = event_of_row v.lens (suc r) (omega arith) there in
+    let at : get_or v.rows (row_of v.lens e.0) no_row ≡ Some c = ap (λ (n : ℕ). get_or v.rows n no_row) e.2 ∙ is in
+    let ev : IsEvent (lengths o) (e.0).process (e.0).position = (omega (arith, (e.1).first), subst (λ (lens : List ℕ). (e.0).position ≤ count lens (e.0).process) fits.shape (e.1).last) in
+    member (get_or v.rows (row_of v.lens e.0) no_row) (e.0).process (e.0).position (fits.stands.rows (e.0).process (e.0).position ev) at
+  where
+    member : (k : Option Cut) (i a : ℕ) → IsLeastOf (Having (Cuts o (slice_of v)) i a) k → k ≡ Some c → Cuts o (slice_of v) c
+    member None i a l e = absurd (none-some c e)
+    member (Some d) i a l e = subst (Cuts o (slice_of v)) (same_Some d c e) l.member.0
+
+zeros : (n i : ℕ) → count (replicate n 0) i ≡ 0
+zeros zero i = refl
+zeros (suc n) zero = refl
+zeros (suc n) (suc i) = zeros n i
+
+with_zeros : (n : ℕ) (c : Cut) → length c ≡ n → max_cut c (replicate n 0) ≡ c
+with_zeros n c size = max_absorbs c (replicate n 0) (omega (arith, length-replicate {A = ℕ} n 0)) (λ i. omega (arith, zeros n i))
+
+top_member : (o : Clocks) → IsOrder o → (v : SliceView) → FitsOrder o v → (low : Cut) → (slice_of v).bottom ≡ Some low → Cuts o (slice_of v) (joined_rows v)
+top_member o order v fits low is = from v.rows is (row_member o v fits)
+  where
+    from : (rows : List (Option Cut)) → get_or rows 0 no_row ≡ Some low → ((r : ℕ) (c : Cut) → get_or rows r no_row ≡ Some c → Cuts o (slice_of v) c)
+        → Cuts o (slice_of v) (joined_onto (replicate (length v.lens) 0) rows)
+    from [] e each = absurd (none-some low e)
+    from (None ∷ rows) e each = absurd (none-some low e)
+    from (Some d ∷ rows) e each =
+        let member = each 0 d refl in
+        let size : length d ≡ length v.lens = member.consistent.shaped ∙ sym (length-lengths o) ∙ sym (ap length fits.shape) in
+        subst (λ (t : Cut). Cuts o (slice_of v) (joined_onto t rows)) (sym (with_zeros (length v.lens) d size))
+        (member_joined (Cuts o (slice_of v)) (cuts_closed o order (slice_of v)).has_max d rows member (λ r. each (suc r)))
+
+pub top_greatest : (o : Clocks) → IsOrder o → (v : SliceView) → FitsOrder o v → (low : Cut) → (slice_of v).bottom ≡ Some low → IsGreatest (Cuts o (slice_of v)) (joined_rows v)
+top_greatest o order v fits low is = greatest_from_rows o (Cuts o (slice_of v)) (cuts_closed o order (slice_of v)) (slice_of v) fits.stands (joined_rows v)
+    (top_member o order v fits low is)
+    (λ i a j ev at. row_joined (replicate (length v.lens) 0) v.rows (sum (take i v.lens) + a) j at)
+
+-- what is said of the greatest cut, whether there is one or not
+pub top_says : (o : Clocks) → IsOrder o → (v : SliceView) → FitsOrder o v → (r : Option Cut) → r ≡ option_map (λ _. joined_rows v) (slice_of v).bottom
+    → MatchOption r ((c : Cut) → Cuts o (slice_of v) c → ⊥) (IsGreatest (Cuts o (slice_of v)))
+top_says o order v fits r is = says (slice_of v).bottom refl
+  where
+    says : (k : Option Cut) → (slice_of v).bottom ≡ k → MatchOption r ((c : Cut) → Cuts o (slice_of v) c → ⊥) (IsGreatest (Cuts o (slice_of v)))
+    says None e = subst (λ (x : Option Cut). MatchOption x ((c : Cut) → Cuts o (slice_of v) c → ⊥) (IsGreatest (Cuts o (slice_of v))))
+        (sym (is ∙ ap (option_map (λ _. joined_rows v)) e))
+        (λ c cut. subst (λ (x : Option Cut). HasWithin x c) e cut.from_bottom)
+    says (Some low) e = subst (λ (x : Option Cut). MatchOption x ((c : Cut) → Cuts o (slice_of v) c → ⊥) (IsGreatest (Cuts o (slice_of v))))
+        (sym (is ∙ ap (option_map (λ _. joined_rows v)) e))
+        (top_greatest o order v fits low e)
+
+-- the slice has no cut exactly where it has no bottom
+pub no_cuts : (o : Clocks) (v : SliceView) → FitsOrder o v → (slice_of v).bottom ≡ None → (c : Cut) → Cuts o (slice_of v) c → ⊥
+no_cuts o v fits is c cut = subst (λ (k : Option Cut). HasWithin k c) is cut.from_bottom
+
+pub no_bottom : (o : Clocks) (v : SliceView) → FitsOrder o v → ((c : Cut) → Cuts o (slice_of v) c → ⊥) → (slice_of v).bottom ≡ None
+no_bottom o v fits none = cases (slice_of v).bottom refl
+  where
+    cases : (k : Option Cut) → (slice_of v).bottom ≡ k → (slice_of v).bottom ≡ None
+    cases None e = e
+    cases (Some d) e = absurd (none d (row_member o v fits 0 d e))
+
+-- what the greatest cut is where the slice has a bottom
+pub top_there : (o : Clocks) → IsOrder o → (v : SliceView) → FitsOrder o v → (t : Cut) → t ≡ joined_rows v → ((slice_of v).bottom ≡ None → ⊥) → IsGreatest (Cuts o (slice_of v)) t
+top_there o order v fits t is some = cases (slice_of v).bottom refl
+  where
+    cases : (k : Option Cut) → (slice_of v).bottom ≡ k → IsGreatest (Cuts o (slice_of v)) t
+    cases None e = absurd (some e)
+    cases (Some low) e = subst (IsGreatest (Cuts o (slice_of v))) (sym is) (top_greatest o order v fits low e)
+
+pub some_top : (k : Option Cut) (t x : Cut) → (k ≡ None → ⊥) → t ≡ x → Some t ≡ option_map (λ _. x) k
+some_top None t x some is = absurd (some refl)
+some_top (Some low) t x some is = ap Some is

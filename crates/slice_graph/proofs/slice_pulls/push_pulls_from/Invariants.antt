@@ -1,0 +1,7 @@
+use Rattle.std.proofs.Common.{◌≡◌, ◌++◌, flat_map}
+use Rattle.std.specs.List.{range_with_len}
+use Rattle.slice_graph.specs.PullLists.{slice_pull}
+use Rattle.slice_graph.proofs.slice_pulls.push_pulls_from.Given as goal
+
+abbrev pub invariant-loop-target : goal.invariant-loop-target
+invariant-loop-target l = l.pulls ≡ l.fn.pulls ++ flat_map (slice_pull l.slice l.source) (range_with_len 0 l.target)

@@ -1,0 +1,5 @@
+pub mod Views
+pub mod Words
+pub mod Fitting
+pub mod PullLists
+pub mod Edges

@@ -1,0 +1,27 @@
+//! Slices of a run (Mittal and Garg): a set of consistent cuts that is closed under minimum and maximum, by its
+//! least cut and, for each event, the least cut that has the event (Birkhoff).
+//!
+//! `Slice::from_rows` stands for the cuts that a system of pulls is closed under (clauses `stands`, `fits` and
+//! `cuts`), whichever system it is that has the order's pulls. What a slice has by `has`, `bottom`, `top` and
+//! `least_with` are its cuts, their least, their greatest and the least with an event (clauses `cuts`, `least`,
+//! `greatest`). The pulls of an order are closed exactly at its consistent cuts, and those of a slice exactly at
+//! its cuts (clauses `closed`), and bottom, top and edges denote the cuts (clauses `denoted` and `printed`).
+//! Nothing is said of the time or the memory that a call takes.
+#![tactic(auto)]
+
+mod cuts;
+mod edges;
+mod from_rows;
+mod order_pulls_of;
+mod slice;
+mod slice_pulls;
+mod table;
+
+pub use cuts::{event_at, is_within, join_into, set_words};
+pub use edges::Edge;
+pub use order_pulls_of::order_pulls;
+pub use slice::Slice;
+pub use table::CutTable;
+
+#[cfg(test)]
+mod tests;

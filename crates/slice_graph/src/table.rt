@@ -1,0 +1,142 @@
+//! The rows of a slice in one block of words.
+ghost use Rattle.std.specs.Prelude.{◌≡◌, ◌+◌, ◌<◌, [], ◌∷◌, ◌++◌, Some, None, length, get_or, IfOk, OnOk, OnErr};
+ghost use Rattle.std.specs.Option.{option_copied};
+ghost use Rattle.pota_base.specs.Shape.{IsShape};
+ghost use Rattle.slice_graph.specs.Words.{past_ends, filled};
+ghost use Rattle.slice_graph.specs.Views.{no_row};
+
+use pota_base::{NoMemory, Shape};
+use std::alloc::Global;
+use std::marker::Model;
+
+/// The rows of a slice, or the first of them, which are pushed in row order. All of them stand in one piece of memory.
+#[derive(Debug, Drop)]
+pub struct CutTable {
+    shape: Shape,
+    /// The words of a row without a cut: each is one more than the process's length, so that no cut holds them.
+    absent: Vec<u32>,
+    /// How many rows there are.
+    len: usize,
+    words: Vec<u32>,
+}
+
+impl Model for CutTable {
+    ghost use Rattle.slice_graph.specs.Views.{SliceView};
+    ghost use Rattle.slice_graph.specs.Words.{AreFilled, cuts_in};
+
+    ghost Value = { SliceView };
+
+    ghost view = { λ t. record { lens = t.shape; rows = cuts_in t.shape t.len t.words.items } };
+
+    ghost invariant = { λ t. AreFilled t.shape t.absent.items t.len t.words.items };
+}
+
+impl CutTable {
+    ghost use Rattle.slice_graph.specs.Views.{IsCut, AreCuts};
+
+    /// A table without rows, with the memory for all rows of the shape.
+    pub fn new(alloc: Global, shape: &Shape) -> Result<CutTable, NoMemory>
+        ensures { IfOk result (λ table. table ≡ record { lens = shape.now; rows = [] }) }
+    {
+        let shape = shape.copy(alloc)?;
+        let absent = past_ends(alloc, shape.lens())?;
+        let rows = shape.events() as usize + 1;
+        let words = Vec::with_capacity(alloc, rows * absent.len())?;
+        Ok(CutTable {
+            shape,
+            absent,
+            len: 0,
+            words,
+        })
+    }
+
+    /// The same rows, in memory of their own.
+    pub fn copy(&self, alloc: Global) -> Result<CutTable, NoMemory>
+        ensures { IfOk result (λ table. table ≡ self.now) }
+    {
+        let shape = self.shape.copy(alloc)?;
+        let absent = Vec::from_slice(alloc, self.absent.as_slice())?;
+        let words = Vec::from_slice(alloc, self.words.as_slice())?;
+        let len = self.len;
+        Ok(CutTable {
+            shape,
+            absent,
+            len,
+            words,
+        })
+    }
+
+    /// How many rows there are.
+    pub fn len(&self) -> usize
+        ensures { result ≡ length self.now.rows }
+    {
+        self.len
+    }
+
+    pub fn shape(&self) -> &Shape
+        ensures lens { result.now ≡ self.now.lens }
+        ensures cuts { AreCuts self.now }
+    {
+        &self.shape
+    }
+
+    /// The words of a row. One without a cut has one more than each length.
+    pub fn words(&self, row: usize) -> &[u32]
+        requires { row < length self.now.rows }
+        ensures words { result.now ≡ filled self.now.lens (get_or self.now.rows row no_row) }
+        ensures width { length result.now ≡ length self.now.lens }
+        ensures shape { IsShape self.now.lens }
+    {
+        let width = self.absent.len();
+        let start = row * width;
+        &self.words[start..start + width]
+    }
+
+    /// The cut of a row.
+    pub fn cut(&self, row: usize) -> Option<&[u32]>
+        requires { row < length self.now.rows }
+        ensures cut { option_copied result ≡ get_or self.now.rows row no_row }
+        ensures cuts { AreCuts self.now }
+    {
+        let words = self.words(row);
+        let shape = self.shape();
+        if words[0] <= shape.len_of(0) {
+            Some(words)
+        } else {
+            None
+        }
+    }
+
+    /// Puts a row with a cut behind the others. Without memory for it the table is as before.
+    pub fn push_cut(&mut self, cut: &[u32]) -> Result<(), NoMemory>
+        requires { IsCut self.old.lens cut.now }
+        ensures ok { OnOk result (self.new ≡ record self.old { rows = self.old.rows ++ Some cut.now ∷ [] }) }
+        ensures err { OnErr result (self.new ≡ self.old) }
+    {
+        self.words.extend_from_slice(cut)?;
+        self.len += 1;
+        Ok(())
+    }
+
+    /// Puts a row without a cut behind the others. Without memory for it the table is as before.
+    pub fn push_none(&mut self) -> Result<(), NoMemory>
+        ensures ok { OnOk result (self.new ≡ record self.old { rows = self.old.rows ++ no_row ∷ [] }) }
+        ensures err { OnErr result (self.new ≡ self.old) }
+    {
+        self.words.extend_from_slice(self.absent.as_slice())?;
+        self.len += 1;
+        Ok(())
+    }
+}
+
+/// One more than each length.
+fn past_ends(alloc: Global, lens: &[u32]) -> Result<Vec<u32>, NoMemory>
+    requires { IsShape lens.now }
+    ensures { IfOk result (λ words. words.items ≡ past_ends lens.now) }
+{
+    let mut words = Vec::with_capacity(alloc, lens.len())?;
+    for len in lens {
+        words.push(*len + 1)?;
+    }
+    Ok(words)
+}

@@ -1,0 +1,5 @@
+pub mod Results
+pub mod Rows
+pub mod Asked
+pub mod Shared
+pub mod Sets

@@ -1,0 +1,81 @@
+//! The cuts of a slice that hold a cut.
+ghost use Rattle.std.specs.Prelude.{◌≡◌, [], ◌∷◌, ◌++◌, length, option_map, IfOk, OnOk};
+ghost use Rattle.std.specs.Option.{option_copied};
+ghost use Rattle.pota_base.specs.Shape.{HasEvent};
+ghost use Rattle.run_model.specs.Cut.{max_cut, lengths};
+ghost use Rattle.run_model.specs.Consistent.{IsConsistent};
+ghost use Rattle.run_model.specs.Operators.{raised};
+ghost use Rattle.slice_graph.specs.Views.{IsCut, IsRow};
+ghost use Rattle.slice_graph.specs.Fitting.{Agrees};
+ghost use Rattle.temporal_slice.specs.Operands.{operand, FitsOperand};
+
+use causal_order::Order;
+use cut_lattice::Cut;
+use pota_base::{EventId, NoMemory};
+use slice_graph::{CutTable, Slice, event_at, set_words};
+use std::alloc::Global;
+
+/// The slice of the cuts that hold the bottom, among those of the child, or among all consistent cuts where there is no child.
+pub fn cuts_from(
+    alloc: Global,
+    order: &Order,
+    child: Option<&Slice>,
+    bottom: &Cut,
+) -> Result<Slice, NoMemory>
+    requires child { FitsOperand order.now (option_copied child) }
+    requires bottom { IsConsistent order.now bottom.now }
+    ensures { IfOk result (Agrees order.now
+        (raised (operand order.now (option_copied child.entry)) bottom.now)) }
+{
+    let shape = order.shape();
+    let mut table = CutTable::new(alloc, shape)?;
+    let mut cut = Cut::new(alloc, shape.procs())?;
+    table.push_cut(bottom.as_slice())?;
+    for row in 1..shape.events() + 1 {
+        let words = row_with(order, child, event_at(shape, row));
+        push_joined(&mut table, words, bottom, &mut cut)?;
+    }
+    Slice::of(alloc, table)
+}
+
+/// The least cut with the event: of the child, or of all consistent cuts where there is no child.
+fn row_with<'a>(order: &'a Order, child: Option<&'a Slice>, event: EventId) -> Option<&'a [u32]>
+    requires child { FitsOperand order.now (option_copied child) }
+    requires event { HasEvent (lengths order.now) event }
+    ensures row { option_copied result
+        ≡ (operand order.now (option_copied child.entry)).row event.process event.position }
+    ensures within { IsRow (lengths order.now) (option_copied result) }
+{
+    let _shape = order.shape();
+    match child {
+        Some(slice) => slice.least_with(event),
+        None => Some(order.clock(event)),
+    }
+}
+
+/// Puts the maximum of the bottom and the row behind the other rows, and a row without a cut where there is none.
+fn push_joined(
+    table: &mut CutTable,
+    row: Option<&[u32]>,
+    bottom: &Cut,
+    cut: &mut Cut,
+) -> Result<(), NoMemory>
+    requires row { IsRow table.old.lens (option_copied row) }
+    requires bottom { IsCut table.old.lens bottom.now }
+    requires width { length cut.old ≡ length table.old.lens }
+    ensures width { length cut.new ≡ length cut.old }
+    ensures pushed { OnOk result (table.new ≡ record table.old {
+      rows = table.old.rows
+          ++ option_map (max_cut bottom.now) (option_copied row.entry) ∷ [];
+    }) }
+{
+    let _shape = table.shape();
+    match row {
+        Some(words) => {
+            set_words(words, cut);
+            bottom.join_into(cut);
+            table.push_cut(cut.as_slice())
+        }
+        None => table.push_none(),
+    }
+}

@@ -1,0 +1,3 @@
+mod CalmLaws
+mod OwingLaws
+mod StableLaws
