@@ -1,5 +1,5 @@
 -- The names of a header by their numbers, as the run model has them.
-use Rattle.std.proofs.Common.{◌≡◌, ℕ, zero, suc, ◌+◌, ◌<◌, Bool, true, false, List, [], ◌∷◌, length, map, get_or, refl, sym, ap, ◌∙◌, arith, inl, inr}
+use Rattle.std.proofs.Common.{◌≡◌, ℕ, ◌+◌, ◌<◌, Bool, true, false, List, [], ◌∷◌, length, map, get_or, refl, sym, ap, ◌∙◌, arith, inl, inr}
 use Rattle.std.specs.Prelude.{pos, Some}
 use Rattle.std.specs.List.{AllByRecursion, position_or_len}
 use Rattle.std.specs.Str.{bytes_eq}
@@ -12,7 +12,7 @@ use Rattle.event_log.specs.declared.log.Header.{Header}
 use Rattle.event_log.specs.declared.log.Event.{Event}
 use Rattle.event_log.specs.LogText.{BindingsFit, HeaderFits, name_at}
 use Rattle.event_log.specs.Numbers.{binding_names, variables_at}
-use Rattle.event_log.specs.States.{StatesView, IsHeader, AreWhole, AreNamedApart, trace_of, processes_of, variable_of}
+use Rattle.event_log.specs.States.{StatesView, IsHeader, AreNamedApart, trace_of, processes_of, variable_of}
 use Rattle.event_log.proofs.Keeping.{process_is}
 use Rattle.event_log.proofs.NameLaws.{place_again}
 use Rattle.run_model.specs.Run as run

@@ -7,21 +7,19 @@ use Rattle.event_log.specs.declared.log.Event.{Event}
 use Rattle.event_log.specs.declared.log.Log.{Log}
 use Rattle.event_log.specs.declared.log.Binding.{Binding}
 use Rattle.event_log.specs.declared.item.LogCode.{LogCode}
-use Rattle.event_log.specs.States.{with_event, with_batch, with_batches, event_of, processes_of, trace_of_log}
+use Rattle.event_log.specs.States.{with_event, with_batch, with_batches, event_of, processes_of}
 use Rattle.event_log.specs.LogText.{LogFits, EventsFit, BatchesFit, KindWithin, KindFits}
 use Rattle.event_log.specs.declared.log.Header.{Header}
 use Rattle.event_log.specs.declared.log.Kind.{Kind}
 use Rattle.event_log.specs.declared.log.Kind.TheVariants as kind
 use Rattle.run_model.specs.Cut.{Cut, Clocks}
 use Rattle.run_model.specs.Run as run
-use Rattle.run_model.specs.Meaning.{IsRun}
 use Rattle.run_model.specs.Consistent.{IsOrder}
-use Rattle.run_model.proofs.TraceLemmas.{run_of_order}
 use Rattle.causal_order.specs.Growth.{HasClock, HasGrown, with_row, with_clocks}
 use Rattle.causal_order.proofs.Growing.{grown_none}
 use Rattle.causal_order.proofs.Orders.{no_events_order}
 use Rattle.vector_clock.specs.Events.{Events, EventFits, AllFit, CanBeChecked, clocks_of, place, no_events}
-use Rattle.vector_clock.specs.Faults.{clock_fault, message_fault, event_fault, at_line, fault_from, batch_fault, batches_fault, log_fault}
+use Rattle.vector_clock.specs.Faults.{clock_fault, message_fault, event_fault, at_line, fault_from, batch_fault, batches_fault}
 use Rattle.vector_clock.proofs.SoundOrders.{AllSound, sound_order, order_sound, sound_along}
 use Rattle.vector_clock.proofs.Growth.{length-clocks_of, own_count, clocks_one, clocks_more, clocks_none, length-with_batch, fits_have_clocks, grown_with, next_clock, sound_more}
 use Rattle.vector_clock.proofs.Faultless.{no_fault_right, right_sound, chosen_none}

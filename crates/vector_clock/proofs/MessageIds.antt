@@ -1,5 +1,5 @@
 -- The numbers of the messages that the events of a process send to, or receive from, one other process.
-use Rattle.std.proofs.Common.{◌≡◌, ℕ, zero, suc, ◌+◌, ◌≤◌, Bool, true, false, ◌||◌, List, [], ◌∷◌, ◌++◌, length, map, take, count_by, refl, sym, ap, ◌∙◌, arith, inl, inr, append_assoc, length-append}
+use Rattle.std.proofs.Common.{◌≡◌, ℕ, zero, suc, ◌≤◌, Bool, true, false, ◌||◌, List, [], ◌∷◌, ◌++◌, length, map, take, count_by, refl, sym, ap, ◌∙◌, arith, inl, inr, append_assoc, length-append}
 use Rattle.std.specs.Prelude.{◌==◌, nat_eq, if◌then◌else◌}
 use Rattle.std.specs.Set.{is_member}
 use Rattle.std.proofs.lemmas.Bool.{cases_Bool}

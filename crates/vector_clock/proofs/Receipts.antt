@@ -16,8 +16,8 @@ use Rattle.event_log.specs.LogText.{LogFits}
 use Rattle.event_log.specs.States.{StatesView, event_of, with_batch, with_batches, processes_of, trace_of, trace_of_log, states_of}
 use Rattle.run_model.specs.Run as run
 use Rattle.run_model.proofs.TraceLemmas.{run_of_order}
-use Rattle.run_model.specs.Cut.{Cut, Clocks, count, IsWithin, lengths}
-use Rattle.run_model.specs.Consistent.{IsOrder, IsConsistent, IsEvent, clock}
+use Rattle.run_model.specs.Cut.{Cut, Clocks, count, IsWithin}
+use Rattle.run_model.specs.Consistent.{IsOrder, IsConsistent, clock}
 use Rattle.run_model.proofs.Orders.{has_past}
 use Rattle.causal_order.proofs.Orders.{no_events_order}
 use Rattle.vector_clock.specs.Events.{Events, EventFits, AllFit, no_events, own_events, clocks_of}

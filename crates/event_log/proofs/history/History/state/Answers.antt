@@ -1,7 +1,7 @@
-use Rattle.std.proofs.Common.{◌≡◌, ◌+◌, ◌-◌, ◌*◌, ◌≤◌, arith, ap, ◌∙◌, length, take, drop, get_or, []}
+use Rattle.std.proofs.Common.{◌≡◌, ◌+◌, ◌-◌, ◌*◌, arith, ap, ◌∙◌, length, take, drop, get_or, []}
 use Rattle.std.specs.Prelude.{List, ℤ, ℕ}
 use Rattle.event_log.specs.States.{HistoryView, states_in}
-use Rattle.event_log.proofs.Histories.{StateThere, history_state}
+use Rattle.event_log.proofs.Histories.{history_state}
 use Rattle.event_log.proofs.history.History.state.Goals as goal
 
 pub overflow_mul-start : goal.overflow_mul-start

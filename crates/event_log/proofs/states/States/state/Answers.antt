@@ -1,5 +1,5 @@
 use Rattle.std.proofs.Common.{◌∙◌, ap, arith, length}
-use Rattle.std.specs.Prelude.{List, ℤ, map}
+use Rattle.std.specs.Prelude.{ℤ, map}
 use Rattle.std.proofs.lemmas.List.{length-map}
 use Rattle.event_log.specs.States.{event_of}
 use Rattle.event_log.proofs.Histories.{length-state}
