@@ -15,7 +15,8 @@ use pota_base::{Bytes, List, NoMemory, put_i64, put_u64};
 use pota_names::Name;
 use std::alloc::Global;
 
-fn put_spaced(out: &mut Bytes, word: &[u8]) -> Result<(), NoMemory>
+/// Appends a space and the word.
+pub fn put_spaced(out: &mut Bytes, word: &[u8]) -> Result<(), NoMemory>
     ensures { OnOk result (out.new ≡ out.old ++ 32 ∷ word.now) }
 {
     out.push(b' ')?;

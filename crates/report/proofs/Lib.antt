@@ -4,3 +4,4 @@ pub mod Taken
 pub mod TextLines
 pub mod FaultLaws
 pub mod ReadSteps
+pub mod WriteSteps

@@ -2,10 +2,8 @@
 
 ghost use Rattle.std.specs.Prelude.{◌≡◌, ◌++◌, ◌<◌, [], length, map, IfOk, OnOk};
 ghost use Rattle.std.specs.List.{AllByRecursion};
-ghost use Rattle.pota_base.specs.declared.shape.EventId.{EventId as EventIdOf};
 ghost use Rattle.event_log.specs.LogText.{text_of};
-ghost use Rattle.report_lines.specs.declared.kinds.Edge.{Edge as EdgeOf};
-ghost use Rattle.report_lines.specs.Spelling.{edge_line, step_line, IsNamed};
+ghost use Rattle.report_lines.specs.Spelling.{truth_text, edge_line, step_line};
 ghost use Rattle.report_lines.specs.Reading.{steps_of};
 ghost use Rattle.report.specs.Spelling.{IsWellFormed, head_lines, slice_lines, lines_of_slice, witness_lines, lines_of_witnesses, report_text};
 ghost use Rattle.report.specs.Writing.{IsOf, Joins, IsTold};
@@ -16,7 +14,16 @@ use pota_base::{Bytes, EventId, NoMemory, put_u64};
 use pota_names::Name;
 use report_lines::{Edge, WitnessText, put_edge, put_slice, put_step, put_witness};
 use std::alloc::Global;
-use witness_kinds::{Path, Witness};
+use witness_kinds::Witness;
+
+fn put_truth(out: &mut Bytes, truth: bool) -> Result<(), NoMemory>
+    ensures { OnOk result (out.new ≡ out.old ++ truth_text truth) }
+{
+    if truth {
+        return out.extend_from_slice(b"true");
+    }
+    out.extend_from_slice(b"false")
+}
 
 // The lines before slice and witnesses.
 fn put_head(out: &mut Bytes, report: &Report) -> Result<(), NoMemory>
@@ -30,11 +37,9 @@ fn put_head(out: &mut Bytes, report: &Report) -> Result<(), NoMemory>
     put_clock(out, report.lengths.as_slice())?;
     out.extend_from_slice(b"\nformula ")?;
     out.extend_from_slice(report.formula.as_slice())?;
-    out.extend_from_slice(if report.verdict {
-        b"\nverdict true\n"
-    } else {
-        b"\nverdict false\n"
-    })
+    out.extend_from_slice(b"\nverdict ")?;
+    put_truth(out, report.verdict)?;
+    out.push(b'\n')
 }
 
 fn put_edges(out: &mut Bytes, procs: &[Name], edges: &[Edge]) -> Result<(), NoMemory>
