@@ -59,6 +59,10 @@ module _ (procs : List Name) (lengths : Cut) (run : RunFits procs lengths) where
   kind_named witness.StuckFinish fits = (tt, tt)
   kind_named (witness.StuckPair first other) fits = ((process_there procs lengths run first fits.0, process_there procs lengths run other fits.1), tt)
 
+  pub slice_named : (o : Option SliceText) → IfSome o (SliceFits lengths) → IfSome o (λ s. AllByRecursion (Joins procs) s.edges)
+  slice_named None fits = tt
+  slice_named (Some s) fits = edges_named s.edges fits.edges
+
   pub witnesses_named : (ws : List WitnessText) → AllByRecursion (WitnessTextFits lengths) ws → AllByRecursion (IsTold procs) ws
   witnesses_named [] fits = tt
   witnesses_named (w ∷ ws) fits = (kind_named w.witness fits.0.witness, witnesses_named ws fits.1)

@@ -1,6 +1,6 @@
 //! The text of a report.
 
-ghost use Rattle.std.specs.Prelude.{◌≡◌, ◌++◌, ◌<◌, [], length, map, IfOk, OnOk};
+ghost use Rattle.std.specs.Prelude.{◌≡◌, ◌++◌, ◌<◌, [], length, map, IfOk, IfSome, OnOk};
 ghost use Rattle.std.specs.List.{AllByRecursion};
 ghost use Rattle.event_log.specs.LogText.{text_of};
 ghost use Rattle.report_lines.specs.Spelling.{truth_text, edge_line, step_line};
@@ -26,20 +26,22 @@ fn put_truth(out: &mut Bytes, truth: bool) -> Result<(), NoMemory>
 }
 
 // The lines before slice and witnesses.
-fn put_head(out: &mut Bytes, report: &Report) -> Result<(), NoMemory>
-    ensures { OnOk result (out.new ≡ out.old ++ text_of (head_lines report.now)) }
+fn head_text(alloc: Global, report: &Report) -> Result<Bytes, NoMemory>
+    ensures { IfOk result (λ text. text ≡ text_of (head_lines report.now)) }
 {
+    let mut out = Bytes::new(alloc);
     out.extend_from_slice(b"pota-report 1\nbatch ")?;
-    put_u64(out, u64::from(report.batch))?;
+    put_u64(&mut out, u64::from(report.batch))?;
     out.extend_from_slice(b"\nprocs")?;
-    put_names(out, report.procs.as_slice())?;
+    put_names(&mut out, report.procs.as_slice())?;
     out.extend_from_slice(b"\nlengths ")?;
-    put_clock(out, report.lengths.as_slice())?;
+    put_clock(&mut out, report.lengths.as_slice())?;
     out.extend_from_slice(b"\nformula ")?;
     out.extend_from_slice(report.formula.as_slice())?;
     out.extend_from_slice(b"\nverdict ")?;
-    put_truth(out, report.verdict)?;
-    out.push(b'\n')
+    put_truth(&mut out, report.verdict)?;
+    out.push(b'\n')?;
+    Ok(out)
 }
 
 fn put_edges(out: &mut Bytes, procs: &[Name], edges: &[Edge]) -> Result<(), NoMemory>
@@ -69,6 +71,21 @@ fn put_slice_lines(out: &mut Bytes, procs: &[Name], slice: &SliceText) -> Result
     put_slice(out, &slice.bounds)?;
     put_edges(out, procs, slice.edges.as_slice())?;
     Ok(())
+}
+
+// The slice, where one was asked for.
+fn put_slice_part(
+    out: &mut Bytes,
+    procs: &[Name],
+    slice: &Option<SliceText>,
+) -> Result<(), NoMemory>
+    requires { IfSome slice.now (λ s. AllByRecursion (Joins procs.now) s.edges) }
+    ensures { OnOk result (out.new ≡ out.old ++ text_of (lines_of_slice procs.now slice.now)) }
+{
+    match slice {
+        None => Ok(()),
+        Some(slice) => put_slice_lines(out, procs, slice),
+    }
 }
 
 // The steps of the path of a witness, if it has one.
@@ -118,12 +135,9 @@ pub fn write_report(alloc: Global, report: &Report) -> Result<Bytes, NoMemory>
     requires { IsWellFormed report.now }
     ensures { IfOk result (λ text. text ≡ report_text report.now) }
 {
-    let mut out = Bytes::new(alloc);
     let procs = report.procs.as_slice();
-    put_head(&mut out, report)?;
-    if let Some(slice) = &report.slice {
-        put_slice_lines(&mut out, procs, slice)?;
-    }
+    let mut out = head_text(alloc, report)?;
+    put_slice_part(&mut out, procs, &report.slice)?;
     put_witnesses(&mut out, procs, report.witnesses.as_slice())?;
     out.extend_from_slice(b"end\n")?;
     Ok(out)
