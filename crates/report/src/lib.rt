@@ -1,13 +1,13 @@
-// A library with one function.
+//! The text of reports, written and read.
 #![tactic(auto)]
 
-ghost use Rattle.std.specs.Prelude.{◌≡◌};
-ghost use Rattle.report.specs.Echo.{echo_of};
+mod draft;
+mod reading;
+mod report;
+mod writing;
 
-// The `ensures` clause is the contract: what `echo` returns is `echo_of` of its argument, a definition
-// in `specs/Echo.antt`, which a caller's clause can cite too.
-pub fn echo(x: usize) -> usize
-    ensures { result ≡ echo_of x }
-{
-    x
-}
+pub use draft::Draft;
+pub use reading::read_report;
+pub use report::{Report, ReportFault, SliceText};
+pub use report_lines::{Edge, WitnessText};
+pub use writing::write_report;

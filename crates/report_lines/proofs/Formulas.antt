@@ -1,6 +1,6 @@
 -- The test of canonical texts.
 use Rattle.std.proofs.Common.{◌≡◌, ℕ, ◌<◌, ◌≤◌, Bool, true, false, List, length, Option, Some, None, refl, sym, ap, subst, ◌∙◌, arith, inl, inr}
-use Rattle.std.specs.Prelude.{is_none}
+use Rattle.std.specs.Prelude.{is_none, codes}
 use Rattle.std.specs.Str.{bytes_eq}
 use Rattle.std.proofs.lemmas.Bool.{cases_Bool, and_parts, true≢false}
 use Rattle.std.proofs.lemmas.Slice.Eq.{bytes_eq-Decides}
@@ -11,7 +11,9 @@ use Rattle.rctl_grammar.specs.Grammar.{tree_disjunction}
 use Rattle.rctl_grammar.specs.Machine.{read}
 use Rattle.rctl_grammar.specs.Shape.{shape_of, shape_disjunction}
 use Rattle.rctl_grammar.proofs.Shapes.{tree-disjunction}
-use Rattle.rctl_lexer.specs.Lexing.{lex}
+use Rattle.rctl_lexer.specs.Lexing.{lex, lex_from}
+use Rattle.rctl_lexer.specs.Front.{front, word_front, number_front, sign_of, with_equals, sign_front}
+use Rattle.rctl_lexer.specs.Words.{word_of}
 use Rattle.rctl_laws.proofs.Free.{no_fault}
 use Rattle.rctl_laws.proofs.Reading.{one_reading}
 use Rattle.rctl_laws.proofs.Within.{within_is_read}
@@ -62,3 +64,8 @@ long_is_not text long = elim (cases_Bool (is_canonical text)) [
   | inl h ↦ absurd (omega (arith, canonical_short text (canonical_is text h)))
   | inr h ↦ h
 ]
+
+-- there is a canonical text
+pub some_canonical : IsCanonical (codes "true")
+unfolding is_canonical lex_from front word_front word_of number_front sign_front sign_of with_equals
+some_canonical = canonical_is (codes "true") refl
