@@ -1,5 +1,8 @@
--- The messages of a channel, counted along its two processes, and the pulls that bounds on their number ask for.
-use Rattle.std.specs.Prelude.{◌≡◌, ℕ, ◌+◌, ◌-◌, ◌≤◌, ◌<◌, ◌==◌, min, nat_le, Bool, false, List, [], ◌∷◌, length, map, take, get_or, count_by, slice_index, if◌then◌else◌}
+-- The messages of a channel, counted along its two processes, and the pulls that bounds on their
+-- number ask for.
+use Rattle.std.specs.Prelude.{◌≡◌, ℕ, ◌+◌, ◌-◌, ◌≤◌, ◌<◌, ◌==◌, min, nat_le, Bool, false}
+use Rattle.std.specs.Prelude.{List, [], length, map, take, get_or, count_by, slice_index}
+use Rattle.std.specs.Prelude.{if◌then◌else◌}
 use Rattle.std.specs.List.{range_with_len}
 use Rattle.run_model.specs.Run.{is_send_to, is_receipt_from}
 use Rattle.event_log.specs.declared.log.Event.{Event}
@@ -31,11 +34,13 @@ abbrev pub sends_to : ℕ → ℕ → Counted
 sends_to sender receiver = if sender == receiver then counted.Nothing else counted.SendsTo receiver
 
 abbrev pub receipts_from : ℕ → ℕ → Counted
-receipts_from sender receiver = if sender == receiver then counted.Nothing else counted.ReceiptsFrom sender
+receipts_from sender receiver =
+    if sender == receiver then counted.Nothing else counted.ReceiptsFrom sender
 
 -- ---- a channel
 
--- its two processes, the sends after each number of events of the sender, and the receipts after each of the receiver
+-- its two processes, the sends after each number of events of the sender, and the receipts after
+-- each of the receiver
 pub record ChannelView : Type 0 where
   pub sender : ℕ
   pub receiver : ℕ
@@ -88,7 +93,8 @@ received_at channel v = slice_index channel.received (slice_index v channel.rece
 
 -- ---- the pulls
 
--- the first position whose count, with `extra`, has reached the bound, or the number of counts where there is none
+-- the first position whose count, with `extra`, has reached the bound, or the number of counts
+-- where there is none
 abbrev pub first_reaching : List ℕ → ℕ → ℕ → ℕ
 first_reaching follows extra bound =
     first_below (λ y. nat_le bound (slice_index follows y + extra)) (length follows)
@@ -97,11 +103,13 @@ first_reaching follows extra bound =
 abbrev pub lead_at : List ℕ → ℕ → ℕ
 lead_at leads x = slice_index leads (min x (length leads - 1))
 
--- for each position of the leading process the first one of the following process whose count, with `extra`, has reached the
--- leading count, with `more`; one entry past the last position is that of the last position again
+-- for each position of the leading process the first one of the following process whose count, with
+-- `extra`, has reached the leading count, with `more`; the entry past the last position is the last
+-- position's again
 abbrev pub first_positions : List ℕ → ℕ → List ℕ → ℕ → List ℕ
 first_positions leads more follows extra =
-    map (λ x. first_reaching follows extra (lead_at leads x + more)) (range_with_len 0 (length leads + 1))
+    map (λ x. first_reaching follows extra (lead_at leads x + more))
+    (range_with_len 0 (length leads + 1))
 
 -- at most k messages are under way: the receipts, with k, have reached the sends
 abbrev pub at_most_pull : ChannelView → ℕ → Pull

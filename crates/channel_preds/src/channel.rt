@@ -29,12 +29,22 @@ impl Model for Channel {
 
     ghost Value = { ChannelView };
 
-    ghost view = { λ c. record { sender = c.sender; receiver = c.receiver; sent = c.sent; received = c.received } };
+    ghost view = {
+        λ c. record {
+        sender = c.sender; receiver = c.receiver; sent = c.sent; received = c.received
+        }
+    };
 
-    ghost invariant = { λ c. IsChannel record { sender = c.sender; receiver = c.receiver; sent = c.sent; received = c.received } };
+    ghost invariant = {
+        λ c. IsChannel record {
+        sender = c.sender; receiver = c.receiver; sent = c.sent; received = c.received
+        }
+    };
 }
 
-/// The channel from one process to another in the run so far. From a process to itself nothing is sent.
+/// The channel from one process to another in the run so far. A process sends nothing to itself.
+///
+/// It is one pass over the events of each of the two.
 pub fn counts(
     alloc: Global,
     states: &States,
@@ -58,8 +68,11 @@ pub fn counts(
     })
 }
 
-/// That at most `k` messages are under way, as one pull from the sender to the receiver. Its entry at a position of the sender is
-/// the first one of the receiver at which the receipts, with `k`, are no fewer than the sends.
+/// That at most `k` messages are under way, as one pull from the sender to the receiver.
+///
+/// Its entry at a position of the sender is the first one of the receiver at which the receipts,
+/// with `k`, are no fewer than the sends, or one past the last where there is none. It is one pass
+/// over both processes. (Bounds on channels are regular predicates: Garg and Mittal.)
 pub fn at_most(alloc: Global, channel: &Channel, k: u64) -> Result<List<Pull>, NoMemory>
     requires { k ≤ 2 ^ 63 }
     ensures pulls { IfOk result (λ pulls. pulls ≡ at_most_pull channel.now k ∷ []) }
@@ -78,17 +91,18 @@ pub fn at_most(alloc: Global, channel: &Channel, k: u64) -> Result<List<Pull>, N
         channel.received.as_slice(),
         k,
     )?;
-    let mut pulls = List::new(alloc);
-    pulls.push(Pull {
+    let pull = Pull {
         src: channel.sender,
         dst: channel.receiver,
         table,
-    })?;
-    Ok(pulls)
+    };
+    only(alloc, pull)
 }
 
-/// That at least `k` messages are under way, as one pull from the receiver to the sender. Its entry at a position of the receiver
-/// is the first one of the sender at which the sends are no fewer than the receipts, with `k`.
+/// That at least `k` messages are under way, as one pull from the receiver to the sender.
+///
+/// Its entry at a position of the receiver is the first one of the sender at which the sends are no
+/// fewer than the receipts, with `k`, or one past the last where there is none.
 pub fn at_least(alloc: Global, channel: &Channel, k: u64) -> Result<List<Pull>, NoMemory>
     requires { k ≤ 2 ^ 63 }
     ensures pulls { IfOk result (λ pulls. pulls ≡ at_least_pull channel.now k ∷ []) }
@@ -107,11 +121,19 @@ pub fn at_least(alloc: Global, channel: &Channel, k: u64) -> Result<List<Pull>, 
         channel.sent.as_slice(),
         0,
     )?;
-    let mut pulls = List::new(alloc);
-    pulls.push(Pull {
+    let pull = Pull {
         src: channel.receiver,
         dst: channel.sender,
         table,
-    })?;
+    };
+    only(alloc, pull)
+}
+
+/// The list of this pull alone.
+fn only(alloc: Global, pull: Pull) -> Result<List<Pull>, NoMemory>
+    ensures { IfOk result (λ pulls. pulls ≡ pull ∷ []) }
+{
+    let mut pulls = List::new(alloc);
+    pulls.push(pull)?;
     Ok(pulls)
 }

@@ -12,8 +12,9 @@ ghost use Rattle.channel_preds.specs.Channels.{channel_of, at_most_pull, at_leas
 ghost use Rattle.channel_preds.specs.Truth.{run_in, name_of, at_most_pulls, at_least_pulls};
 ghost use Rattle.channel_preds.specs.Truth.{HasMoreEvents, lens_of};
 
-/// At a consistent cut the pulls of a bound hold exactly where the bound is true. The lower bound needs that no message is received
-/// that was not sent: the clocks alone don't say so.
+/// At a consistent cut the pulls of a bound hold exactly where the bound is true.
+///
+/// The lower bound needs that no message is received that was not sent: clocks alone don't say so.
 pub fn bounds_hold_where_they_are_true()
     ensures at_most {
         (states : StatesView) (watches : Watches) (p q k : ℕ) → AreWhole states
@@ -34,7 +35,8 @@ pub fn bounds_hold_where_they_are_true()
     }
 {}
 
-/// When more events come, a pull of a channel asks for no less at each position, past the last one too.
+/// When more events come, a pull of a channel asks for no less at each position, past the last one
+/// too.
 pub fn channel_pulls_grow()
     ensures at_most { (before after : StatesView) (p q k : ℕ) → HasMoreEvents before after
         → PullGrows (lens_of before) (lens_of after)

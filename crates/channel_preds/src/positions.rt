@@ -6,10 +6,12 @@ ghost use Rattle.channel_preds.specs.Channels.{first_positions as first_position
 use pota_base::{List, NoMemory};
 use std::alloc::Global;
 
-/// For each position of the leading process, the first one of the following process whose count, with `extra`, has reached the
-/// leading count, with `more`, and one entry more, which is the last one again.
+/// For each position of the leading process, the first one of the following process whose count,
+/// with `extra`, has reached the leading count, with `more`, and one entry more, which is the last
+/// one again.
 ///
-/// Since the leading counts never fall, each search goes on where the last one ended: all of them pass the counts once.
+/// Since the leading counts never fall, each search goes on where the last one ended: all of them
+/// together pass the counts once.
 pub fn first_positions(
     alloc: Global,
     leads: &[u32],
@@ -34,8 +36,8 @@ pub fn first_positions(
     Ok(List::from_vec(table))
 }
 
-/// The first position whose count, with `extra`, has reached the bound, or the number of counts where there is none. The search
-/// begins at `start`, before which there is none.
+/// The first position whose count, with `extra`, has reached the bound, or the number of counts
+/// where there is none. The search begins at `start`, before which there is none.
 fn first_from(follows: &[u32], extra: u64, bound: u64, start: usize) -> usize
     requires extra { extra ≤ 2 ^ 63 }
     requires start { start ≤ length follows.now }

@@ -175,10 +175,10 @@ constant_closes lens false v within = (
   λ yes_. absurd (false≢true yes_),
 )
 
--- ---- a list of one pull, pushed to an empty one
+-- ---- a list of one pull, with its table told
 
-pub pushed : (pulls before : List Pull) (p : ℕ) (table told : List ℕ) → before ≡ [] → pulls ≡ before ++ record { src = p; dst = p; table = table } ∷ [] → table ≡ told
-    → pulls ≡ record { src = p; dst = p; table = told } ∷ []
-pushed pulls before p table told none is same =
-    is ∙ ap (λ (ps : List Pull). ps ++ record { src = p; dst = p; table = table } ∷ []) none
-    ∙ ap (λ (t : List ℕ). let pull : Pull = record { src = p; dst = p; table = t } in pull ∷ []) same
+abbrev pub staying : ℕ → List ℕ → List Pull
+staying p table = record { src = p; dst = p; table = table } ∷ []
+
+pub told_pulls : (pulls : List Pull) (p : ℕ) (table told : List ℕ) → table ≡ told → pulls ≡ staying p table → pulls ≡ staying p told
+told_pulls pulls p table told same is = is ∙ ap (staying p) same

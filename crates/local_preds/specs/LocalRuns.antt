@@ -1,5 +1,6 @@
 -- Local expressions in a run that was logged, and in one that has grown.
-use Rattle.std.specs.Prelude.{◌≡◌, ℕ, ◌+◌, ◌<◌, pos, Bool, false, List, [], ◌∷◌, ◌++◌, length, map, get_or, Option, Some, None}
+use Rattle.std.specs.Prelude.{◌≡◌, ℕ, ◌+◌, ◌<◌, pos, Bool, false, List, [], ◌∷◌, ◌++◌, length, map}
+use Rattle.std.specs.Prelude.{get_or, Option, Some, None}
 use Rattle.run_model.specs.Run.{Name, Watches, process_at, states_of}
 use Rattle.event_log.specs.declared.log.Event.{Event}
 use Rattle.event_log.specs.Numbers.{binding_names}
@@ -20,18 +21,23 @@ names_of states watch_names = record {
 }
 
 -- the rows of the watches on process p are what the watches of these names answer to its states
-abbrev pub AreAnswers : StatesView → Watches → List Name → List (Option ℕ) → List (List Bool) → ℕ → Type 0
-AreAnswers states watches watch_names watch_process watch_rows p = (w : ℕ) → get_or watch_process w None ≡ Some p
-    → get_or watch_rows w [] ≡ watches (name_at watch_names w) (states_of (process_at (trace_of states) p))
+abbrev pub AreAnswers : StatesView → Watches → List Name → List (Option ℕ) → List (List Bool) → ℕ
+    → Type 0
+AreAnswers states watches watch_names watch_process watch_rows p =
+    (w : ℕ) → get_or watch_process w None ≡ Some p
+    → get_or watch_rows w []
+    ≡ watches (name_at watch_names w) (states_of (process_at (trace_of states) p))
 
 -- each watch on process p has a row, of one truth per state
 abbrev pub AreFull : StatesView → List (Option ℕ) → List (List Bool) → ℕ → Type 0
-AreFull states watch_process watch_rows p = (w : ℕ) → get_or watch_process w None ≡ Some p
+AreFull states watch_process watch_rows p =
+    (w : ℕ) → get_or watch_process w None ≡ Some p
     → (w < length watch_rows) × (length (get_or watch_rows w []) ≡ len_at states p + 1)
 
 -- the expression is made for process p and the watches on it
 abbrev pub FitsProcess : StatesView → List (Option ℕ) → ℕ → Expr → Type 0
-FitsProcess states watch_process p e = ExprFits (length (get_or states.header.vars p [])) watch_process p e
+FitsProcess states watch_process p e =
+    ExprFits (length (get_or states.header.vars p [])) watch_process p e
 
 -- the pulls of an expression over process p
 abbrev pub local_pulls : StatesView → ℕ → List (List Bool) → Expr → List Pull
@@ -41,9 +47,10 @@ local_pulls states p watch_rows e = local_pull p (truths_of states p watch_rows 
 abbrev pub constant_truth : Expr → Bool
 constant_truth e = is_true (λ v. pos 0) (λ w. false) e
 
--- The header is as before, process p has its old events with more behind them, and so has each row of a watch on it, which had a truth
--- for each old state.
-pub record HasGrownAt (before after : StatesView) (watch_process : List (Option ℕ)) (old_rows new_rows : List (List Bool)) (p : ℕ) : Type 0 where
+-- The header is as before, process p has its old events with more behind them, and so has each row
+-- of a watch on it, which had a truth for each old state.
+pub record HasGrownAt (before after : StatesView) (watch_process : List (Option ℕ))
+    (old_rows new_rows : List (List Bool)) (p : ℕ) : Type 0 where
   pub old : AreWhole before
   pub new : AreWhole after
   pub there : p < length before.events

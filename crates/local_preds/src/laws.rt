@@ -1,6 +1,6 @@
 //! Laws on local expressions and their pulls. The functions do nothing.
-ghost use Rattle.std.specs.Prelude.{◌≡◌, ◌↔◌, ℕ, ℤ, ◌<◌, ◌≤◌, Bool, true, List, length, map, slice_index};
-ghost use Rattle.std.specs.Prelude.{Option, Some, None};
+ghost use Rattle.std.specs.Prelude.{◌≡◌, ◌↔◌, ℕ, ℤ, ◌<◌, ◌≤◌, Bool, true, List, length, map};
+ghost use Rattle.std.specs.Prelude.{slice_index, Option, Some, None};
 ghost use Rattle.run_model.specs.Cut.{Cut, count};
 ghost use Rattle.run_model.specs.Run.{Name, Run, Watches, clocks_of, run_of};
 ghost use Rattle.run_model.specs.Consistent.{IsConsistent};
@@ -16,8 +16,10 @@ ghost use Rattle.local_preds.specs.LocalPulls.{local_pull, never_pull, constant_
 ghost use Rattle.local_preds.specs.LocalRuns.{names_of, AreAnswers, AreFull, FitsProcess};
 ghost use Rattle.local_preds.specs.LocalRuns.{local_pulls, constant_truth, HasGrownAt};
 
-/// At a consistent cut the pull of an expression holds exactly where its formula is true, and the pulls of a constant exactly where the
-/// constant is. The names are those of the header, and for watches any whose answers stand in the rows.
+/// At a consistent cut the pull of an expression holds exactly where its formula is true, and the
+/// pulls of a constant exactly where the constant is.
+///
+/// The names are those of the header, and for watches any whose answers stand in the rows.
 pub fn local_parts_hold_where_they_are_true()
     ensures local {
         (states : StatesView) (watches : Watches) (watch_names : List Name)
@@ -37,8 +39,8 @@ pub fn local_parts_hold_where_they_are_true()
     }
 {}
 
-/// An expression that is made for a process and its watches can be read there. A constant can be read anywhere, and is the same
-/// everywhere.
+/// An expression that is made for a process and its watches can be read there. A constant can be
+/// read anywhere, and is the same everywhere.
 pub fn made_expressions_can_be_read()
     ensures local {
         (states : StatesView) (watch_process : List (Option ℕ)) (watch_rows : List (List Bool))
@@ -55,8 +57,8 @@ pub fn made_expressions_can_be_read()
     }
 {}
 
-/// When more events come, the pull of an expression asks for no less at each position, past the last one too, and so does the pull that
-/// no cut keeps.
+/// When more events come, the pull of an expression asks for no less at each position, past the
+/// last one too, and so does the pull that no cut keeps.
 pub fn local_pulls_grow()
     ensures local {
         (before after : StatesView) (watch_process : List (Option ℕ))

@@ -8,8 +8,8 @@ use pota_base::{List, NoMemory};
 use rctl_parts::LocalExpr;
 use std::alloc::Global;
 
-/// The truth of the expression in each state of the process, the opening state first. A watch is given by its row, which has one truth
-/// per state.
+/// The truth of the expression in each state of the process, the opening state first. A watch is
+/// given by its row, which has one truth per state.
 pub fn truth_row(
     alloc: Global,
     expr: &LocalExpr,
