@@ -15,8 +15,8 @@ use pota_base::NoMemory;
 use slice_graph::{CutTable, Slice};
 use std::alloc::Global;
 
-/// The slice of the smallest sublattice round the cuts of both: its bottom and its rows are the minima
-/// of theirs, where a missing cut counts as above all. The slices have one shape.
+/// The slice of the smallest sublattice round the cuts of both: its bottom and its rows are the
+/// minima of theirs, where a missing cut counts as above all. The slices have one shape.
 pub fn join_slices(alloc: Global, left: &Slice, right: &Slice) -> Result<Slice, NoMemory>
     requires { left.now.lens ≡ right.now.lens }
     ensures rows { IfOk result (λ slice. slice ≡ joined_views left.now right.now) }

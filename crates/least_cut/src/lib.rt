@@ -12,12 +12,14 @@ use std::sync::ledger::Ledger;
 
 /// Raises the vector to the least closed vector at or above it. It takes no memory.
 ///
-/// Each pull is looked at once, and then again each time that its source has risen. So with P pulls, and `out(i)` of them from
-/// process i, it takes at most P look-ups and `out(i)` more for each rise of component i, which is never above `P * (1 + rise)`.
+/// Each pull is looked at once, and then again each time that its source has risen. So with P
+/// pulls, and `out(i)` of them from process i, it takes at most P look-ups and `out(i)` more for
+/// each rise of component i, which is never above `P * (1 + rise)`.
 pub fn least<L: Ledger>(system: &System, vector: &mut [u64], steps: &mut Steps<L>)
     requires { IsVector system.now.lens vector.old }
     ensures least { IsLeastFrom system.now vector.old vector.new }
-    ensures looks { steps.new + length system.now.pulls * sum vector.old ≤ steps.old + length system.now.pulls * (1 + sum vector.new) }
+    ensures looks { steps.new + length system.now.pulls * sum vector.old
+        ≤ steps.old + length system.now.pulls * (1 + sum vector.new) }
 {
     let mut risen = Risen::new();
     look_at_all(system, vector, &mut risen, steps);
@@ -36,7 +38,8 @@ fn look_at_all<L: Ledger>(
     requires vector { IsVector system.now.lens vector.old }
     requires marks { AreMarks system.now.lens risen.old }
     ensures settled { IsSettled system.now vector.new risen.new (λ k. Unit {0}) }
-    ensures below { (start : List ℕ) → IsBelowLeast system.now start vector.old → IsBelowLeast system.now start vector.new }
+    ensures below { (start : List ℕ) → IsBelowLeast system.now start vector.old
+        → IsBelowLeast system.now start vector.new }
     ensures marks { AreMarks system.now.lens risen.new }
     ensures pays { marked risen.new + sum vector.old ≤ marked risen.old + sum vector.new }
     ensures looks { steps.new ≡ steps.old + length system.now.pulls }
@@ -57,9 +60,11 @@ fn look_from<L: Ledger>(
     requires process { process < length system.now.lens }
     requires vector { IsVector system.now.lens vector.old }
     requires marks { AreMarks system.now.lens risen.old }
-    requires settled { IsSettled system.now vector.old risen.old (λ k. source_of system.now k ≢ process) }
+    requires settled { IsSettled system.now vector.old risen.old
+        (λ k. source_of system.now k ≢ process) }
     ensures settled { IsSettled system.now vector.new risen.new (λ k. Unit {0}) }
-    ensures below { (start : List ℕ) → IsBelowLeast system.now start vector.old → IsBelowLeast system.now start vector.new }
+    ensures below { (start : List ℕ) → IsBelowLeast system.now start vector.old
+        → IsBelowLeast system.now start vector.new }
     ensures marks { AreMarks system.now.lens risen.new }
     ensures pays { marked risen.new + sum vector.old ≤ marked risen.old + sum vector.new }
     ensures looks { steps.new ≤ steps.old + length system.now.pulls }
@@ -81,7 +86,8 @@ fn look_at<L: Ledger>(
     requires vector { IsVector system.now.lens vector.old }
     requires marks { AreMarks system.now.lens risen.old }
     ensures look { IsLook system.now k vector.old vector.new risen.old risen.new }
-    ensures below { (start : List ℕ) → IsBelowLeast system.now start vector.old → IsBelowLeast system.now start vector.new }
+    ensures below { (start : List ℕ) → IsBelowLeast system.now start vector.old
+        → IsBelowLeast system.now start vector.new }
     ensures vector { IsVector system.now.lens vector.new }
     ensures system { IsSystem system.now }
     ensures marks { AreMarks system.now.lens risen.new }

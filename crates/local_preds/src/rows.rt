@@ -19,9 +19,7 @@ pub fn truth_row(
 ) -> Result<List<bool>, NoMemory>
     requires process { process < length states.now.events }
     requires readable { IsReadableAt states.now process watch_rows.now (expr_of expr.now) }
-    ensures {
-        IfOk result (λ row. row ≡ truths_of states.now process watch_rows.now (expr_of expr.now))
-    }
+    ensures { IfOk result (λ row. row ≡ truths_of states.now process watch_rows.now (expr_of expr.now)) }
 {
     let len = states.shape().len_of(process);
     let mut row = Vec::with_capacity(alloc, len as usize + 1)?;

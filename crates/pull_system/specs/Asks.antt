@@ -10,11 +10,14 @@ pub record IsAskedBy (system : SystemView) (process x target number : ℕ) : Typ
   pub to : target_of system k ≡ target
   pub asks : ask system k x ≡ number
 
--- What the pulls from the process ask of each process where its component is x: no pull asks for more, and what stands there is asked by one of them, or is 0.
+-- What the pulls from the process ask of each process where its component is x: no pull asks for
+-- more, and what stands there is asked by one of them, or is 0.
 pub record AreAsks (system : SystemView) (process x : ℕ) (asks : List ℕ) : Type 0 where
   pub size : length asks ≡ length system.lens
-  pub covers : (k : ℕ) → k < length system.pulls → source_of system k ≡ process → ask system k x ≤ slice_index asks (target_of system k)
-  pub asked : (target : ℕ) → target < length system.lens → (slice_index asks target ≡ 0) ⊎ IsAskedBy system process x target (slice_index asks target)
+  pub covers : (k : ℕ) → k < length system.pulls → source_of system k ≡ process
+      → ask system k x ≤ slice_index asks (target_of system k)
+  pub asked : (target : ℕ) → target < length system.lens → (slice_index asks target ≡ 0)
+      ⊎ IsAskedBy system process x target (slice_index asks target)
 
 -- the rows of asks of the first values of the process, one after the other
 pub record AreAskRows (system : SystemView) (process count : ℕ) (rows : List ℕ) : Type 0 where
@@ -22,15 +25,22 @@ pub record AreAskRows (system : SystemView) (process count : ℕ) (rows : List �
   pub covers : (x k : ℕ) → x < count → k < length system.pulls → source_of system k ≡ process
       → ask system k x ≤ slice_index rows (x * length system.lens + target_of system k)
   pub asked : (x target : ℕ) → x < count → target < length system.lens
-      → (slice_index rows (x * length system.lens + target) ≡ 0) ⊎ IsAskedBy system process x target (slice_index rows (x * length system.lens + target))
+      → (slice_index rows (x * length system.lens + target) ≡ 0)
+      ⊎ IsAskedBy system process x target (slice_index rows (x * length system.lens + target))
 
 -- for each process its rows of asks, one for each value that its component may have
 pub record AreAllAsks (system : SystemView) (asks : List (List ℕ)) : Type 0 where
   pub count : length asks ≡ length system.lens
-  pub each : (process : ℕ) → process < length system.lens → AreAskRows system process (slice_index system.lens process + 2) (slice_index_or asks process [])
+  pub each : (process : ℕ) → process < length system.lens
+      → AreAskRows system process (slice_index system.lens process + 2)
+      (slice_index_or asks process [])
 
 -- what the first of these numbers of pulls ask, with room for every process that there may be
-pub record AreAsksSoFar (system : SystemView) (process x : ℕ) (numbers : List ℕ) (count : ℕ) (asks : List ℕ) : Type 0 where
+pub record AreAsksSoFar (system : SystemView) (process x : ℕ) (numbers : List ℕ) (count : ℕ)
+    (asks : List ℕ) : Type 0 where
   pub size : length asks ≡ 32
-  pub covers : (i : ℕ) → i < count → ask system (slice_index numbers i) x ≤ slice_index asks (target_of system (slice_index numbers i))
-  pub asked : (target : ℕ) → (slice_index asks target ≡ 0) ⊎ IsAskedBy system process x target (slice_index asks target)
+  pub covers : (i : ℕ) → i < count
+      → ask system (slice_index numbers i) x
+      ≤ slice_index asks (target_of system (slice_index numbers i))
+  pub asked : (target : ℕ) → (slice_index asks target ≡ 0)
+      ⊎ IsAskedBy system process x target (slice_index asks target)

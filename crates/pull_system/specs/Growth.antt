@@ -1,4 +1,5 @@
--- What a system has become when its processes have more events: the later pulls ask for no less, and the earlier rows are kept.
+-- What a system has become when its processes have more events: the later pulls ask for no less,
+-- and the earlier rows are kept.
 use Rattle.std.specs.Prelude.{◌≡◌, ℕ, zero, suc, ◌+◌, ◌-◌, ◌<◌, ◌≤◌, min, List, [], ◌∷◌, Option, Some, None, length, sum, slice_index, nat_le, if◌then◌else◌}
 use Rattle.pull_system.specs.declared.pull.Pull.{Pull}
 use Rattle.pull_system.specs.System.{SystemView, pull_at}
@@ -9,7 +10,8 @@ pub record DidNotFall (before after : List ℕ) : Type 0 where
   pub count : length before ≡ length after
   pub each : (process : ℕ) → slice_index before process ≤ slice_index after process
 
--- Between the same processes the later pull asks at least what the earlier one does, which past its last entry goes on asking what that says.
+-- Between the same processes the later pull asks at least what the earlier one does, which past its
+-- last entry goes on asking what that says.
 pub record PullGrows (old lens : List ℕ) (before after : Pull) : Type 0 where
   pub source : before.src ≡ after.src
   pub target : before.dst ≡ after.dst
@@ -20,14 +22,17 @@ pub record PullGrows (old lens : List ℕ) (before after : Pull) : Type 0 where
 pub record Grows (before after : SystemView) : Type 0 where
   pub fell : DidNotFall before.lens after.lens
   pub count : length before.pulls ≡ length after.pulls
-  pub each : (k : ℕ) → k < length after.pulls → PullGrows before.lens after.lens (pull_at before k) (pull_at after k)
+  pub each : (k : ℕ) → k < length after.pulls
+      → PullGrows before.lens after.lens (pull_at before k) (pull_at after k)
 
--- The row that an event had before, where `before` counts the old events of the processes to the left. The bottom's row is kept, and a new event had none.
+-- The row that an event had before, where `before` counts the old events of the processes to the
+-- left. The bottom's row is kept, and a new event had none.
 abbrev pub old_row_from : ℕ → List ℕ → List ℕ → ℕ → Option ℕ
 old_row_from before [] lens row = None
 old_row_from before (old ∷ olds) [] row = None
 old_row_from before (old ∷ olds) (len ∷ lens) row =
-    if nat_le row len then (if nat_le row old then Some (before + row) else None) else old_row_from (before + old) olds lens (row - len)
+    if nat_le row len then (if nat_le row old then Some (before + row) else None)
+    else old_row_from (before + old) olds lens (row - len)
 
 -- the row that an event had before, and nothing for a new event
 abbrev pub old_row : List ℕ → List ℕ → ℕ → Option ℕ

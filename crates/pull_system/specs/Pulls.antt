@@ -1,4 +1,5 @@
--- Lists of pulls, as the parts of a formula and the order of a run give them, and the tables that they are made by.
+-- Lists of pulls, as the parts of a formula and the order of a run give them, and the tables that
+-- they are made by.
 use Rattle.std.specs.Prelude.{ℕ, zero, suc, ◌≤◌, Bool, nat_lt, if◌then◌else◌, List, All, slice_index}
 use Rattle.pull_system.specs.declared.pull.Pull.{Pull}
 

@@ -3,7 +3,8 @@ use Rattle.std.specs.Prelude.{◌≡◌, ℕ, zero, suc, ◌+◌, ◌-◌, ◌*�
 use Rattle.pota_base.specs.Shape.{IsShape}
 use Rattle.pull_system.specs.System.{SystemView, IsLeastFrom}
 
--- the start of a row: 0 everywhere for row 0; for an event's row its position at its process, and 0 elsewhere
+-- the start of a row: 0 everywhere for row 0; for an event's row its position at its process, and 0
+-- elsewhere
 abbrev pub start_of : List ℕ → ℕ → List ℕ
 start_of [] row = []
 start_of (len ∷ lens) row = (if nat_le row len then row else 0) ∷ start_of lens (row - len)

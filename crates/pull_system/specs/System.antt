@@ -9,7 +9,8 @@ pub record RisesWithin (table : List ℕ) (most : ℕ) : Type 0 where
   pub rises : (x y : ℕ) → x ≤ y → y < length table → slice_index table x ≤ slice_index table y
   pub within : (x : ℕ) → slice_index table x ≤ most
 
--- A pull says `v[dst] >= table[v[src]]`. Its table has an entry for each component that the source may have, never falls, and stays within what the target may have.
+-- A pull says `v[dst] >= table[v[src]]`. Its table has an entry for each component that the source
+-- may have, never falls, and stays within what the target may have.
 pub record IsPull (lens : List ℕ) (pull : Pull) : Type 0 where
   pub source : pull.src < length lens
   pub target : pull.dst < length lens
@@ -45,7 +46,8 @@ ask system k x = slice_index (pull_at system k).table x
 
 -- pull k holds at the vector
 abbrev pub HoldsPull : SystemView → List ℕ → ℕ → Type 0
-HoldsPull system v k = ask system k (slice_index v (source_of system k)) ≤ slice_index v (target_of system k)
+HoldsPull system v k =
+    ask system k (slice_index v (source_of system k)) ≤ slice_index v (target_of system k)
 
 -- each pull holds at the vector (the advancing of forbidden processes, Chase and Garg, as tables)
 pub record IsClosed (system : SystemView) (v : List ℕ) : Type 0 where
@@ -66,9 +68,12 @@ pub record IsLeastFrom (system : SystemView) (start v : List ℕ) : Type 0 where
 abbrev pub numbers_from : List Pull → ℕ → ℕ → List ℕ
 numbers_from pulls process zero = []
 numbers_from pulls process (suc count) =
-    if (slice_index_or pulls count no_pull).src == process then numbers_from pulls process count ++ count ∷ [] else numbers_from pulls process count
+    if (slice_index_or pulls count no_pull).src == process then numbers_from pulls process count
+    ++ count ∷ [] else numbers_from pulls process count
 
 -- for each process the numbers of the pulls from it
 pub record AreBySource (system : SystemView) (by_source : List (List ℕ)) : Type 0 where
   pub count : length by_source ≡ length system.lens
-  pub each : (process : ℕ) → process < length system.lens → slice_index_or by_source process [] ≡ numbers_from system.pulls process (length system.pulls)
+  pub each : (process : ℕ) → process < length system.lens
+      → slice_index_or by_source process []
+      ≡ numbers_from system.pulls process (length system.pulls)

@@ -5,7 +5,8 @@ use Rattle.std.specs.Prelude.{◌≡◌, ℕ, ◌+◌, ◌≤◌, min, max, List
 pub record IsWithin (v w : List ℕ) : Type 0 where
   pub each : (i : ℕ) → slice_index v i ≤ slice_index w i
 
--- one component per process, each at most one more than the process's length, which says "no such cut yet"
+-- one component per process, each at most one more than the process's length, which says "no such
+-- cut yet"
 pub record IsVector (lens v : List ℕ) : Type 0 where
   pub size : length v ≡ length lens
   pub within : (i : ℕ) → slice_index v i ≤ slice_index lens i + 1

@@ -10,29 +10,41 @@ ghost use Rattle.pull_system.specs.Rows.{RowsView, AreLeastRows, start_of, start
 ghost use Rattle.pull_system.specs.Growth.{Grows, grown_words};
 ghost use Rattle.pull_system.specs.Climb.{IsBelowLeast};
 
-/// From each start there is exactly one least closed vector, so a row's is a function of the system and the row.
+/// From each start there is exactly one least closed vector, so a row's is a function of the system
+/// and the row.
 pub fn least_vectors()
-    ensures exists { (system : SystemView) (start : List ℕ) → IsSystem system → IsVector system.lens start → (v : List ℕ) × IsLeastFrom system start v }
-    ensures unique { (system : SystemView) (start v w : List ℕ) → IsLeastFrom system start v → IsLeastFrom system start w → v ≡ w }
+    ensures exists { (system : SystemView) (start : List ℕ) → IsSystem system
+        → IsVector system.lens start → (v : List ℕ) × IsLeastFrom system start v }
+    ensures unique { (system : SystemView) (start v w : List ℕ) → IsLeastFrom system start v
+        → IsLeastFrom system start w → v ≡ w }
 {}
 
 /// Closed vectors are closed under componentwise minimum and maximum.
 pub fn closed_vectors()
-    ensures minimum { (system : SystemView) → IsSystem system → (v w m : List ℕ) → IsVector system.lens v → IsVector system.lens w → IsClosed system v → IsClosed system w → IsMinimum v w m → IsClosed system m }
-    ensures maximum { (system : SystemView) (v w m : List ℕ) → IsClosed system v → IsClosed system w → IsMaximum v w m → IsClosed system m }
+    ensures minimum { (system : SystemView) → IsSystem system → (v w m : List ℕ)
+        → IsVector system.lens v → IsVector system.lens w → IsClosed system v → IsClosed system w
+        → IsMinimum v w m → IsClosed system m }
+    ensures maximum { (system : SystemView) (v w m : List ℕ) → IsClosed system v → IsClosed system w
+        → IsMaximum v w m → IsClosed system m }
 {}
 
 /// What the start of a row is, and where it stands among the starts of all rows.
 pub fn row_starts()
     ensures bottom { (lens : List ℕ) (process : ℕ) → slice_index (start_of lens 0) process ≡ 0 }
-    ensures event { (lens : List ℕ) (event : EventId) → HasEvent lens event → start_of lens (row_of lens event) ≡ slice_set (start_of lens 0) event.process event.position }
+    ensures event { (lens : List ℕ) (event : EventId) → HasEvent lens event
+        → start_of lens (row_of lens event)
+        ≡ slice_set (start_of lens 0) event.process event.position }
     ensures vector { (lens : List ℕ) (row : ℕ) → IsVector lens (start_of lens row) }
-    ensures place { (lens : List ℕ) (row process : ℕ) → row ≤ sum lens → process < length lens → slice_index (starts lens) (place_of lens row process) ≡ slice_index (start_of lens row) process }
+    ensures place { (lens : List ℕ) (row process : ℕ) → row ≤ sum lens → process < length lens
+        → slice_index (starts lens) (place_of lens row process)
+        ≡ slice_index (start_of lens row) process }
 {}
 
-/// Closedness under a list of pulls: that of a system is under its pulls, and two lists joined are both.
+/// Closedness under a list of pulls: that of a system is under its pulls, and two lists joined are
+/// both.
 pub fn closed_lists()
-    ensures system { (system : SystemView) (v : List ℕ) → IsClosed system v ↔ ClosedUnder system.pulls v }
+    ensures system { (system : SystemView) (v : List ℕ) → IsClosed system v
+        ↔ ClosedUnder system.pulls v }
     ensures left { (ps qs : List Pull) (v : List ℕ) → ClosedUnder (ps ++ qs) v → ClosedUnder ps v }
     ensures right { (ps qs : List Pull) (v : List ℕ) → ClosedUnder (ps ++ qs) v → ClosedUnder qs v }
     ensures both { (ps qs : List Pull) (v : List ℕ) → ClosedUnder ps v → ClosedUnder qs v
@@ -42,14 +54,16 @@ pub fn closed_lists()
 /// The least number below a bound that passes a test, or the bound.
 pub fn first_numbers()
     ensures within { (test : ℕ → Bool) (n : ℕ) → first_below test n ≤ n }
-    ensures passes { (test : ℕ → Bool) (n : ℕ) → first_below test n < n → test (first_below test n) ≡ true }
+    ensures passes { (test : ℕ → Bool) (n : ℕ) → first_below test n < n
+        → test (first_below test n) ≡ true }
     ensures least { (test : ℕ → Bool) (n k : ℕ) → k < n → test k ≡ true → first_below test n ≤ k }
     ensures grows { (test after : ℕ → Bool) (n m : ℕ) → n ≤ m
         → ((k : ℕ) → k < n → after k ≡ true → test k ≡ true)
         → first_below test n ≤ first_below after m }
 {}
 
-/// What grows from one system to a later one of more events, whose pulls ask at least what the earlier ones do.
+/// What grows from one system to a later one of more events, whose pulls ask at least what the
+/// earlier ones do.
 pub fn growing_systems()
     ensures least { (before after : SystemView) → IsSystem before → Grows before after
         → (start v w : List ℕ) → IsLeastFrom before start v → IsLeastFrom after start w

@@ -5,7 +5,8 @@ use pota_base::{List, Shape};
 
 /// Says of a vector `v` that `v[dst] >= table[v[src]]`.
 ///
-/// The table has two entries more than the source has events, never falls, and stays within one more than the length of the target.
+/// The table has two entries more than the source has events, never falls, and stays within one
+/// more than the length of the target.
 #[derive(Debug, Drop)]
 pub struct Pull {
     pub src: u32,

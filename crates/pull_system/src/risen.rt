@@ -3,7 +3,8 @@ ghost use Rattle.pull_system.specs.Climb.{marked};
 
 use std::marker::Model;
 
-/// A mark for each process: its component has risen since the pulls from it were looked at. It takes no memory.
+/// A mark for each process: its component has risen since the pulls from it were looked at. It
+/// takes no memory.
 #[derive(Debug, Drop)]
 pub struct Risen {
     marks: [bool; 32],

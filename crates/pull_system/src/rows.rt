@@ -54,8 +54,8 @@ impl Rows {
         Ok(Rows { shape, words })
     }
 
-    /// The rows of a run after its shape has grown: row 0 and the rows of the old events as they were, and each new event's row
-    /// at its start.
+    /// The rows of a run after its shape has grown: row 0 and the rows of the old events as they
+    /// were, and each new event's row at its start.
     pub fn grown(alloc: Global, old: &Rows, shape: &Shape) -> Result<Rows, NoMemory>
         requires { DidNotFall old.now.lens shape.now }
         ensures { IfOk result (λ rows.
@@ -105,7 +105,8 @@ impl Rows {
         requires row { row ≤ sum self.old.lens }
         requires process { process < length self.old.lens }
         ensures lens { self.new.lens ≡ self.old.lens }
-        ensures words { let place = place_of self.old.lens row process in self.new.words ≡ slice_set self.old.words place (max (slice_index self.old.words place) value) }
+        ensures words { let place = place_of self.old.lens row process in self.new.words
+            ≡ slice_set self.old.words place (max (slice_index self.old.words place) value) }
     {
         let place = self.place(row, process);
         self.words[place] = self.words[place].max(value);

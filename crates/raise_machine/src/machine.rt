@@ -9,7 +9,8 @@ use std::alloc::Global;
 use std::marker::{Brand, Model};
 use std::sync::ledger::{Blank, Ledger};
 
-/// The words of the rows of a system, between their starts and the least closed vectors. Contracts see the system and the words.
+/// The words of the rows of a system, between their starts and the least closed vectors. Contracts
+/// see the system and the words.
 #[derive(Debug, Drop)]
 pub struct Machine {
     system: System,
@@ -25,17 +26,20 @@ impl Model for Machine {
 
     ghost view = { λ machine. record { system = machine.system; words = machine.rows.words } };
 
-    ghost invariant = { λ machine. (machine.rows.lens ≡ machine.system.lens) × AreBounds machine.system machine.rows.words };
+    ghost invariant = { λ machine. (machine.rows.lens ≡ machine.system.lens)
+        × AreBounds machine.system machine.rows.words };
 }
 
 impl Machine {
     ghost use Rattle.raise_machine.specs.Machine.{is_word, is_allowed, words_after, happens, words_at, allowed_count};
 
-    /// The machine whose words are the floor, which lies between the starts and the least closed vectors.
+    /// The machine whose words are the floor, which lies between the starts and the least closed
+    /// vectors.
     pub fn new(alloc: Global, system: System, floor: &Rows) -> Result<Machine, NoMemory>
         requires lens { floor.now.lens ≡ system.lens }
         requires bounds { AreBounds system floor.now.words }
-        ensures { IfOk result (λ machine. machine ≡ record { system = system; words = floor.now.words }) }
+        ensures { IfOk result (λ machine. machine
+            ≡ record { system = system; words = floor.now.words }) }
     {
         let rows = floor.copy(alloc)?;
         Ok(Machine { system, rows })
@@ -49,7 +53,8 @@ impl Machine {
         self.rows.word(row, process)
     }
 
-    /// Does the step, and says whether it is allowed: its numbers are in range and its condition holds. Else nothing changes.
+    /// Does the step, and says whether it is allowed: its numbers are in range and its condition
+    /// holds. Else nothing changes.
     pub fn step(&mut self, step: Step) -> bool
         ensures allowed { result ≡ is_allowed self.old.system self.old.words step }
         ensures words { self.new.words ≡ happens self.old.system self.old.words step }
@@ -62,10 +67,12 @@ impl Machine {
         allowed
     }
 
-    /// Does the steps in turn, and gives the number of those that were allowed. The others change nothing.
+    /// Does the steps in turn, and gives the number of those that were allowed. The others change
+    /// nothing.
     pub fn run(&mut self, steps: &[Step]) -> usize
         ensures done { result ≡ allowed_count self.old.system self.old.words steps.now }
-        ensures words { self.new.words ≡ words_at self.old.system self.old.words steps.now (length steps.now) }
+        ensures words { self.new.words ≡ words_at self.old.system self.old.words steps.now
+            (length steps.now) }
         ensures system { self.new.system ≡ self.old.system }
     {
         let mut done = 0;
@@ -112,7 +119,8 @@ impl Machine {
 
     /// Whether `from_row` has reached `y` at the process, and `to_row` has the event of `from_row`.
     fn may_lend(&self, to_row: u32, from_row: u32, process: u32, y: u64) -> bool
-        ensures { result ≡ is_allowed self.now.system self.now.words (Step.Lend to_row from_row process y) }
+        ensures { result ≡ is_allowed self.now.system self.now.words
+            (Step.Lend to_row from_row process y) }
     {
         if !self.has_word(to_row, process) || from_row > self.system.shape().events() {
             return false;

@@ -12,7 +12,8 @@ fn pull(alloc: Global, src: u32, dst: u32, table: &[u32]) -> Result<Pull, NoMemo
     Ok(Pull { src, dst, table })
 }
 
-/// The pulls of the order of a run of two processes with three and two events, and of the predicate that the channel is empty.
+/// The pulls of the order of a run of two processes with three and two events, and of the predicate
+/// that the channel is empty.
 #[tactic(auto, using(crate::proofs::Raising::starts_bounds))]
 fn empty_channel(rt: &impl Abort, alloc: Global) -> Result<Machine, NoMemory> {
     let shape = Shape::new(alloc, &[3, 2])?;

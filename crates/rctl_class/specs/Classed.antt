@@ -14,7 +14,8 @@ use Rattle.rctl_class.specs.NamedParts.{Piece, part_formula, disjuncts_uses, Are
 
 -- two formulas are true at the same consistent cuts of every run
 abbrev pub MeanTheSame : Formula → Formula → Type 0
-MeanTheSame f g = (r : Run) → IsOrder r.clocks → (c : Cut) → IsConsistent r.clocks c → Sat r f c ↔ Sat r g c
+MeanTheSame f g =
+    (r : Run) → IsOrder r.clocks → (c : Cut) → IsConsistent r.clocks c → Sat r f c ↔ Sat r g c
 
 -- the operator that stands at the head of a formula, with its operand
 abbrev pub operated : Formula → Option (model.Operator × Formula)
@@ -30,7 +31,8 @@ operated (model.Temporal operator f) = Some (operator, f)
 operated (model.Until all left right) = None
 
 -- the same operator over operands that mean the same, or no operator
-abbrev pub OperateTheSame : Option (model.Operator × Formula) → Option (model.Operator × Formula) → Type 0
+abbrev pub OperateTheSame : Option (model.Operator × Formula) → Option (model.Operator × Formula)
+    → Type 0
 OperateTheSame None None = ⊤
 OperateTheSame None (Some o) = ⊥
 OperateTheSame (Some o) None = ⊥

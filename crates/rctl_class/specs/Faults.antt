@@ -1,4 +1,5 @@
--- The first fault of a formula that lies outside the class: what is wrong with one node, and the order in which nodes are judged.
+-- The first fault of a formula that lies outside the class: what is wrong with one node, and the
+-- order in which nodes are judged.
 use Rattle.std.specs.Prelude.{ℕ, Bool, true, false, not, Option, None, if◌then◌else◌}
 use Rattle.run_model.specs.Class.{is_local, is_unequal, after_sign}
 use Rattle.rctl_grammar.specs.declared.fault.Outside.{Outside}
@@ -49,16 +50,24 @@ abbrev pub unless_local : Node → Option FormulaFault → Option FormulaFault
 unless_local n fault = if is_local (formula_of n) then None else fault
 
 abbrev mutual
-  -- the first fault of the formula with this sign, which stands inside an operand or a conjunction or does not
+  -- the first fault of the formula with this sign, which stands inside an operand or a conjunction
+  -- or does not
   pub first_fault : Bool → Bool → Node → Option FormulaFault
   first_fault inside sign (leaf a at) = unless_local (leaf a at) (atom_fault sign a at)
-  first_fault inside sign (negation n at) = unless_local (negation n at) (first_fault inside (not sign) n)
-  first_fault inside true (conjunction ns at) = unless_local (conjunction ns at) (first_of true true ns)
-  first_fault inside false (conjunction ns at) = unless_local (conjunction ns at) (earlier (inside_fault inside at) (first_of inside false ns))
-  first_fault inside true (disjunction ns at) = unless_local (disjunction ns at) (earlier (inside_fault inside at) (first_of inside true ns))
-  first_fault inside false (disjunction ns at) = unless_local (disjunction ns at) (first_of true false ns)
-  first_fault inside sign (under operator n at) = earlier (operator_fault sign operator at) (first_fault true true n)
-  first_fault inside sign (until_of all left right at) = fault_at (code.OutsideClass (until_code all)) at
+  first_fault inside sign (negation n at) =
+      unless_local (negation n at) (first_fault inside (not sign) n)
+  first_fault inside true (conjunction ns at) =
+      unless_local (conjunction ns at) (first_of true true ns)
+  first_fault inside false (conjunction ns at) =
+      unless_local (conjunction ns at) (earlier (inside_fault inside at) (first_of inside false ns))
+  first_fault inside true (disjunction ns at) =
+      unless_local (disjunction ns at) (earlier (inside_fault inside at) (first_of inside true ns))
+  first_fault inside false (disjunction ns at) =
+      unless_local (disjunction ns at) (first_of true false ns)
+  first_fault inside sign (under operator n at) =
+      earlier (operator_fault sign operator at) (first_fault true true n)
+  first_fault inside sign (until_of all left right at) =
+      fault_at (code.OutsideClass (until_code all)) at
 
   pub first_of : Bool → Bool → Nodes → Option FormulaFault
   first_of inside sign none = None

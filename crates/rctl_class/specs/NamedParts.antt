@@ -101,7 +101,8 @@ abbrev mutual
   -- the formula of an expression over a process
   pub expr_formula : Name → Expr → model.Formula
   expr_formula p (truth value) = model.Truth value
-  expr_formula p (comparison left compare right) = model.Comparison p left.name (relation_of compare) (side_formula p right)
+  expr_formula p (comparison left compare right) =
+      model.Comparison p left.name (relation_of compare) (side_formula p right)
   expr_formula p (watched name) = model.Watched p name.name
   expr_formula p (negation e) = model.Not (expr_formula p e)
   expr_formula p (conjunction es) = model.And (expr_formulas p es)
@@ -123,7 +124,8 @@ abbrev mutual
   part_formula (at_most p q k) = model.InTransit p.name q.name model.LessOrEqual k
   part_formula (at_least p q k) = model.InTransit p.name q.name model.GreaterOrEqual k
   part_formula (never p q) = model.Truth false
-  part_formula (temporal operator ps) = model.Temporal (model_operator operator) (model.And (part_formulas ps))
+  part_formula (temporal operator ps) =
+      model.Temporal (model_operator operator) (model.And (part_formulas ps))
 
   pub part_formulas : Pieces → model.Formulas
   part_formulas no_piece = model.Nil
@@ -197,7 +199,8 @@ has_no_place None = true
 has_no_place (Some p) = false
 
 abbrev mutual
-  -- an expression has a process exactly where it isn't constant, bounds are at most 2^63, operators are analysed
+  -- an expression has a process exactly where it isn't constant, bounds are at most 2^63, operators
+  -- are analysed
   pub PartFits : Piece → Type 0
   PartFits (local on e) = is_constant e ≡ has_no_place on
   PartFits (at_most p q k) = k ≤ 2 ^ 63
@@ -239,7 +242,8 @@ abbrev pub disjuncts_count : List (List Piece) → ℕ
 disjuncts_count [] = 0
 disjuncts_count (d ∷ ds) = parts_count d + disjuncts_count ds
 
--- the disjuncts are such as a formula that was read can have: 1 to 64, of at most 128 parts, inner ones counted
+-- the disjuncts are such as a formula that was read can have: 1 to 64, of at most 128 parts, inner
+-- ones counted
 pub record AreDisjuncts (ds : List (List Piece)) : Type 0 where
   pub fit : AllFit ds
   pub some : 1 ≤ length ds

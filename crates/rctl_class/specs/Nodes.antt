@@ -1,4 +1,5 @@
--- A tree with its places as plain data, on which the rest goes by cases, and the formula that it spells.
+-- A tree with its places as plain data, on which the rest goes by cases, and the formula that it
+-- spells.
 use Rattle.std.specs.Prelude.{◌≡◌, ℕ, ◌+◌, ◌^◌, ◌≤◌, nat_lt, Bool, true, ◌&&◌, List, [], ◌∷◌, IsTrue}
 use Rattle.run_model.specs.Formula as model
 use Rattle.run_model.specs.Class.{is_wide}
@@ -95,7 +96,8 @@ abbrev mutual
   nodes_count none = 0
   nodes_count (more n ns) = node_count n + nodes_count ns
 
--- the root of a formula that was read: its numbers fit, each `and` and `or` has two members, and there are 64 nodes at most
+-- the root of a formula that was read: its numbers fit, each `and` and `or` has two members, and
+-- there are 64 nodes at most
 pub record IsWithinLimits (n : Node) : Type 0 where
   pub counts : counts_fit n ≡ true
   pub wide : IsTrue (is_wide (formula_of n))

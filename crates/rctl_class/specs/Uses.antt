@@ -1,4 +1,5 @@
--- The names that a formula uses, in the order of its text, and the first one that is unknown or stands where it may not.
+-- The names that a formula uses, in the order of its text, and the first one that is unknown or
+-- stands where it may not.
 use Rattle.std.specs.Prelude.{◌≡◌, ℕ, Bool, false, not, ◌&&◌, ◌||◌, List, [], ◌∷◌, ◌++◌, Option, None, Some, if◌then◌else◌, bytes_eq}
 use Rattle.run_model.specs.Run.{Name}
 use Rattle.rctl_grammar.specs.declared.fault.FormulaCode.TheVariants as code
@@ -58,15 +59,18 @@ pub record Watching : Type 0 where
 -- the watch stands on another process too
 abbrev pub is_elsewhere : List Watching → Name → Name → Bool
 is_elsewhere [] p w = false
-is_elsewhere (s ∷ seen) p w = (bytes_eq s.watch w && not (bytes_eq s.process p)) || is_elsewhere seen p w
+is_elsewhere (s ∷ seen) p w =
+    (bytes_eq s.watch w && not (bytes_eq s.process p)) || is_elsewhere seen p w
 
 abbrev pub fault_at : FormulaCode → ℕ → Option FormulaFault
 fault_at code at = Some (record { code = code; place = at })
 
 -- what is wrong with a name, behind the watches that stand before it
 abbrev pub use_fault : Known → List Watching → Use → Option FormulaFault
-use_fault known seen (process p) = if known.is_process p.name then None else fault_at code.UnknownProcess p.at
-use_fault known seen (variable p v) = if known.is_variable p v.name then None else fault_at code.UnknownVariable v.at
+use_fault known seen (process p) =
+    if known.is_process p.name then None else fault_at code.UnknownProcess p.at
+use_fault known seen (variable p v) =
+    if known.is_variable p v.name then None else fault_at code.UnknownVariable v.at
 use_fault known seen (watch p w) =
     if not (known.is_watch w.name) then fault_at code.UnknownWatch w.at
     else if is_elsewhere seen p w.name then fault_at code.WatchTwice w.at
@@ -86,7 +90,8 @@ earlier (Some f) later = Some f
 -- the first fault of names, each judged behind those before it
 unfoldable pub first_unknown : Known → List Watching → List Use → Option FormulaFault
 first_unknown known seen [] = None
-first_unknown known seen (u ∷ us) = earlier (use_fault known seen u) (first_unknown known (seen_with seen u) us)
+first_unknown known seen (u ∷ us) =
+    earlier (use_fault known seen u) (first_unknown known (seen_with seen u) us)
 
 -- the watches that stand before and among these names
 unfoldable pub seen_after : List Watching → List Use → List Watching
@@ -95,5 +100,6 @@ seen_after seen (u ∷ us) = seen_after (seen_with seen u) us
 
 -- two lists of names have one first fault, whatever is known and stands before
 pub record Agree (us vs : List Use) : Type 0 where
-  pub fault : (known : Known) (seen : List Watching) → first_unknown known seen us ≡ first_unknown known seen vs
+  pub fault : (known : Known) (seen : List Watching)
+      → first_unknown known seen us ≡ first_unknown known seen vs
   pub seen : (before : List Watching) → seen_after before us ≡ seen_after before vs

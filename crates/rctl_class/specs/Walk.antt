@@ -117,7 +117,8 @@ abbrev pub channel_parts : Bool → Atom → List Piece
 channel_parts sign (atom.Truth value) = []
 channel_parts sign (atom.Local q v compare right) = []
 channel_parts sign (atom.Watch q w) = []
-channel_parts sign (atom.InTransit p q compare k) = bounds p q (after_sign sign (relation_of compare)) k
+channel_parts sign (atom.InTransit p q compare k) =
+    bounds p q (after_sign sign (relation_of compare)) k
 channel_parts sign (atom.Empty p q) = empty_bound sign p q ∷ []
 
 -- ---- parts and disjuncts
@@ -135,7 +136,8 @@ abbrev mutual
   parts_from false (conjunction ns at) = or_local false (conjunction ns at) []
   parts_from true (disjunction ns at) = or_local true (disjunction ns at) []
   parts_from false (disjunction ns at) = or_local false (disjunction ns at) (all_parts false ns)
-  parts_from sign (under operator n at) = named.temporal operator (named.pieces (parts_from true n)) ∷ []
+  parts_from sign (under operator n at) =
+      named.temporal operator (named.pieces (parts_from true n)) ∷ []
   parts_from sign (until_of all left right at) = []
 
   pub all_parts : Bool → Nodes → List Piece
@@ -144,16 +146,20 @@ abbrev mutual
 
 -- a local formula is one disjunct of one part
 abbrev pub or_one_local : Bool → Node → List (List Piece) → List (List Piece)
-or_one_local sign n others = if is_local (formula_of n) then (local_part sign n ∷ []) ∷ [] else others
+or_one_local sign n others =
+    if is_local (formula_of n) then (local_part sign n ∷ []) ∷ [] else others
 
 abbrev mutual
   -- the disjuncts of the formula with this sign, where it is a disjunction of such conjunctions
   pub disjuncts_from : Bool → Node → List (List Piece)
   disjuncts_from sign (leaf a at) = parts_from sign (leaf a at) ∷ []
-  disjuncts_from sign (negation n at) = or_one_local sign (negation n at) (disjuncts_from (not sign) n)
+  disjuncts_from sign (negation n at) =
+      or_one_local sign (negation n at) (disjuncts_from (not sign) n)
   disjuncts_from true (conjunction ns at) = parts_from true (conjunction ns at) ∷ []
-  disjuncts_from false (conjunction ns at) = or_one_local false (conjunction ns at) (all_disjuncts false ns)
-  disjuncts_from true (disjunction ns at) = or_one_local true (disjunction ns at) (all_disjuncts true ns)
+  disjuncts_from false (conjunction ns at) =
+      or_one_local false (conjunction ns at) (all_disjuncts false ns)
+  disjuncts_from true (disjunction ns at) =
+      or_one_local true (disjunction ns at) (all_disjuncts true ns)
   disjuncts_from false (disjunction ns at) = parts_from false (disjunction ns at) ∷ []
   disjuncts_from sign (under operator n at) = parts_from sign (under operator n at) ∷ []
   disjuncts_from sign (until_of all left right at) = []

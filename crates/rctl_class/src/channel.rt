@@ -61,7 +61,12 @@ fn never(alloc: Global, sender: &Place, receiver: &Place) -> Result<NamedPart, N
 }
 
 /// Fewer than `k` messages are under way.
-fn fewer_than(alloc: Global, sender: &Place, receiver: &Place, k: u64) -> Result<NamedPart, NoMemory>
+fn fewer_than(
+    alloc: Global,
+    sender: &Place,
+    receiver: &Place,
+    k: u64,
+) -> Result<NamedPart, NoMemory>
     ensures { IfOk result (λ part. piece_of part ∷ [] ≡ fewer_than sender.now receiver.now k) }
 {
     if k == 0 {
@@ -103,7 +108,12 @@ pub fn push_bounds(
 }
 
 /// No message is under way, or some is where the sign is negative.
-pub fn emptiness(alloc: Global, sign: bool, sender: &Place, receiver: &Place) -> Result<NamedPart, NoMemory>
+pub fn emptiness(
+    alloc: Global,
+    sign: bool,
+    sender: &Place,
+    receiver: &Place,
+) -> Result<NamedPart, NoMemory>
     ensures { IfOk result (λ part. piece_of part ≡ empty_bound sign sender.now receiver.now) }
 {
     if sign {

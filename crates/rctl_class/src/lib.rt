@@ -27,7 +27,6 @@ pub use laws::{
     read_formulas_are_within_limits,
 };
 pub use named::{Classed, NamedExpr, NamedPart, NamedSide};
-
 use pota_base::{List, Refused};
 use rctl_grammar::{Formula, FormulaFault};
 use std::alloc::Global;

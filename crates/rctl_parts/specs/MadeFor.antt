@@ -1,4 +1,5 @@
--- When parts are made for a header and for watches: each number in them is there, and each watch is on one process.
+-- When parts are made for a header and for watches: each number in them is there, and each watch is
+-- on one process.
 use Rattle.std.specs.Prelude.{◌≡◌, ℕ, ◌+◌, ◌^◌, ◌<◌, ◌≤◌, ◌==◌, Bool, true, false, ◌&&◌, ◌||◌, List, [], ◌∷◌, length, get_or, Option, None, Some, IsTrue, ⊤}
 use Rattle.run_model.specs.Class.{is_analysed}
 use Rattle.rctl_grammar.specs.Shape.{model_operator}
@@ -9,7 +10,8 @@ use Rattle.rctl_parts.specs.Exprs.{Expr, Exprs}
 use Rattle.rctl_parts.specs.Pieces as piece
 use Rattle.rctl_parts.specs.Pieces.{Atom, Piece, Pieces}
 
--- what parts are made for: how many variables each process has, and the process that each watch is on
+-- what parts are made for: how many variables each process has, and the process that each watch is
+-- on
 pub record Scope : Type 0 where
   pub variables : List ℕ
   pub watch_process : List (Option ℕ)
@@ -22,15 +24,18 @@ abbrev mutual
   -- each variable is one of so many, and each watch is on the process
   pub ExprFits : ℕ → List (Option ℕ) → ℕ → Expr → Type 0
   ExprFits variables watch_process p (expr.truth value) = ⊤
-  ExprFits variables watch_process p (expr.comparison left compare right) = (left < variables) × SideFits variables right
-  ExprFits variables watch_process p (expr.watch number) = (number < length watch_process) × (get_or watch_process number None ≡ Some p)
+  ExprFits variables watch_process p (expr.comparison left compare right) =
+      (left < variables) × SideFits variables right
+  ExprFits variables watch_process p (expr.watch number) =
+      (number < length watch_process) × (get_or watch_process number None ≡ Some p)
   ExprFits variables watch_process p (expr.negation e) = ExprFits variables watch_process p e
   ExprFits variables watch_process p (expr.conjunction es) = ExprsFit variables watch_process p es
   ExprFits variables watch_process p (expr.disjunction es) = ExprsFit variables watch_process p es
 
   pub ExprsFit : ℕ → List (Option ℕ) → ℕ → Exprs → Type 0
   ExprsFit variables watch_process p expr.none = ⊤
-  ExprsFit variables watch_process p (expr.more e es) = ExprFits variables watch_process p e × ExprsFit variables watch_process p es
+  ExprsFit variables watch_process p (expr.more e es) =
+      ExprFits variables watch_process p e × ExprsFit variables watch_process p es
 
 abbrev mutual
   -- neither a variable nor a watch is named
@@ -49,7 +54,9 @@ abbrev mutual
 -- a local part names its process exactly where its expression isn't constant
 abbrev pub LocalFits : Scope → Option ℕ → Expr → Type 0
 LocalFits scope None e = is_constant e ≡ true
-LocalFits scope (Some p) e = (is_constant e ≡ false) × (p < length scope.variables) × ExprFits (get_or scope.variables p 0) scope.watch_process p e
+LocalFits scope (Some p) e =
+    (is_constant e ≡ false) × (p < length scope.variables)
+    × ExprFits (get_or scope.variables p 0) scope.watch_process p e
 
 -- both ends of a channel are there, and its bound is of 64 bits, with room for the receipts
 abbrev pub ChannelFits : Scope → ℕ → ℕ → ℕ → Type 0
@@ -65,7 +72,8 @@ abbrev mutual
   -- a part is made for the scope: its numbers are there, and its operators are analysed
   pub PieceFits : Scope → Piece → Type 0
   PieceFits scope (piece.atom a) = AtomFits scope a
-  PieceFits scope (piece.temporal operator ps) = IsTrue (is_analysed (model_operator operator)) × PiecesFit scope ps
+  PieceFits scope (piece.temporal operator ps) =
+      IsTrue (is_analysed (model_operator operator)) × PiecesFit scope ps
 
   pub PiecesFit : Scope → Pieces → Type 0
   PiecesFit scope piece.none = ⊤
@@ -136,7 +144,8 @@ abbrev pub disjuncts_name_watch : ℕ → List (List Piece) → Bool
 disjuncts_name_watch w [] = false
 disjuncts_name_watch w (d ∷ ds) = parts_name_watch w d || disjuncts_name_watch w ds
 
--- the disjuncts are made for a header whose processes have so many variables each, and for watches on these processes
+-- the disjuncts are made for a header whose processes have so many variables each, and for watches
+-- on these processes
 pub record AreMadeFor (scope : Scope) (ds : List (List Piece)) : Type 0 where
   -- each number is there, each watch of a local part is on its process, each operator is analysed
   pub fit : AllFit scope ds
@@ -144,4 +153,5 @@ pub record AreMadeFor (scope : Scope) (ds : List (List Piece)) : Type 0 where
   pub few : length ds ≤ 64
   pub parts : disjuncts_count ds ≤ 128
   -- a watch that no part names is on no process
-  pub unnamed : (w : ℕ) → disjuncts_name_watch w ds ≡ false → get_or scope.watch_process w None ≡ None
+  pub unnamed : (w : ℕ) → disjuncts_name_watch w ds ≡ false
+      → get_or scope.watch_process w None ≡ None

@@ -1,4 +1,5 @@
--- The formula that parts spell once names stand for the numbers of processes, variables and watches.
+-- The formula that parts spell once names stand for the numbers of processes, variables and
+-- watches.
 use Rattle.std.specs.Prelude.{ℕ, List, [], ◌∷◌, map, get_or, Option, None, Some, false}
 use Rattle.run_model.specs.Run.{Name}
 use Rattle.run_model.specs.Formula as model
@@ -10,7 +11,8 @@ use Rattle.rctl_parts.specs.Exprs.{Expr, Exprs}
 use Rattle.rctl_parts.specs.Pieces as piece
 use Rattle.rctl_parts.specs.Pieces.{Atom, Piece, Pieces}
 
--- the names that the numbers stand for: of the processes, of the variables of each, and of the watches
+-- the names that the numbers stand for: of the processes, of the variables of each, and of the
+-- watches
 pub record Names : Type 0 where
   pub processes : List Name
   pub variables : List (List Name)
@@ -28,33 +30,43 @@ abbrev mutual
   pub formula_in : List Name → List Name → Name → Expr → model.Formula
   formula_in variables watches process (expr.truth value) = model.Truth value
   formula_in variables watches process (expr.comparison left compare right) =
-      model.Comparison process (name_at variables left) (relation_of compare) (side_in variables process right)
-  formula_in variables watches process (expr.watch number) = model.Watched process (name_at watches number)
-  formula_in variables watches process (expr.negation e) = model.Not (formula_in variables watches process e)
-  formula_in variables watches process (expr.conjunction es) = model.And (formulas_in variables watches process es)
-  formula_in variables watches process (expr.disjunction es) = model.Or (formulas_in variables watches process es)
+      model.Comparison process (name_at variables left) (relation_of compare)
+      (side_in variables process right)
+  formula_in variables watches process (expr.watch number) =
+      model.Watched process (name_at watches number)
+  formula_in variables watches process (expr.negation e) =
+      model.Not (formula_in variables watches process e)
+  formula_in variables watches process (expr.conjunction es) =
+      model.And (formulas_in variables watches process es)
+  formula_in variables watches process (expr.disjunction es) =
+      model.Or (formulas_in variables watches process es)
 
   -- its members
   pub formulas_in : List Name → List Name → Name → Exprs → model.Formulas
   formulas_in variables watches process expr.none = model.Nil
-  formulas_in variables watches process (expr.more e es) = model.Cons (formula_in variables watches process e) (formulas_in variables watches process es)
+  formulas_in variables watches process (expr.more e es) =
+      model.Cons (formula_in variables watches process e) (formulas_in variables watches process es)
 
 -- an expression over a process, or over none
 abbrev pub local_formula : Names → Option ℕ → Expr → model.Formula
 local_formula names None e = formula_in [] [] [] e
-local_formula names (Some p) e = formula_in (get_or names.variables p []) names.watches (name_at names.processes p) e
+local_formula names (Some p) e =
+    formula_in (get_or names.variables p []) names.watches (name_at names.processes p) e
 
 abbrev pub atom_formula : Names → Atom → model.Formula
 atom_formula names (piece.local process e) = local_formula names process e
-atom_formula names (piece.at_most p q k) = model.InTransit (name_at names.processes p) (name_at names.processes q) model.LessOrEqual k
-atom_formula names (piece.at_least p q k) = model.InTransit (name_at names.processes p) (name_at names.processes q) model.GreaterOrEqual k
+atom_formula names (piece.at_most p q k) =
+    model.InTransit (name_at names.processes p) (name_at names.processes q) model.LessOrEqual k
+atom_formula names (piece.at_least p q k) =
+    model.InTransit (name_at names.processes p) (name_at names.processes q) model.GreaterOrEqual k
 atom_formula names piece.never = model.Truth false
 
 abbrev mutual
   -- the formula of a part
   pub formula_of : Names → Piece → model.Formula
   formula_of names (piece.atom a) = atom_formula names a
-  formula_of names (piece.temporal operator ps) = model.Temporal (model_operator operator) (model.And (formulas_of names ps))
+  formula_of names (piece.temporal operator ps) =
+      model.Temporal (model_operator operator) (model.And (formulas_of names ps))
 
   -- those of the parts of an operand
   pub formulas_of : Names → Pieces → model.Formulas

@@ -7,8 +7,8 @@ ghost use Rattle.run_model.specs.Meaning.{Sat};
 ghost use Rattle.run_model.specs.Run.{Run};
 ghost use Rattle.std.specs.Prelude.{◌↔◌, List, map};
 
-/// The conjunction of parts is true exactly where each of them is, and the formula of disjuncts exactly where some disjunct has all its
-/// parts true.
+/// The conjunction of parts is true exactly where each of them is, and the formula of disjuncts
+/// exactly where some disjunct has all its parts true.
 pub fn parts_spell_formulas()
     ensures conjunction { (r : Run) (names : Names) (ps : List Piece) (c : Cut)
         → SatParts r (map (formula_of names) ps) c ↔ Sat r (conjunction_of names ps) c }

@@ -24,7 +24,16 @@ use Rattle.report.specs.Spelling.{IsWellFormed, SliceFits, slice_lines, witness_
 
 -- a report that has its first lines alone
 abbrev pub begun : ℕ → List Name → Cut → List ℕ → Bool → Report
-begun batch procs lengths formula verdict = record { batch = batch; procs = procs; lengths = lengths; formula = formula; verdict = verdict; slice = None; witnesses = [] }
+begun batch procs lengths formula verdict =
+    record {
+      batch = batch;
+      procs = procs;
+      lengths = lengths;
+      formula = formula;
+      verdict = verdict;
+      slice = None;
+      witnesses = [];
+    }
 
 abbrev pub with_slice : Report → SliceText → Report
 with_slice r s = record r { slice = Some s }
@@ -51,18 +60,29 @@ next_step r w line = if has_path w.witness then step_in r.procs r.lengths line e
 
 -- a witness may come, or the end
 abbrev pub body_step : Report → Line → Option Draft
-body_step r line = choose (witness_in r.procs r.lengths line) (λ w. Some (draft.Walked r w [])) (if bytes_eq line end_line then Some (draft.Over r) else None)
+body_step r line =
+    choose (witness_in r.procs r.lengths line) (λ w. Some (draft.Walked r w []))
+    (if bytes_eq line end_line then Some (draft.Over r) else None)
 
 unfoldable pub step : Draft → Line → Option Draft
 step draft.Start line = if is_title line then Some draft.Titled else None
 step draft.Titled line = batch_in line >>= λ batch. Some (draft.Numbered batch)
 step (draft.Numbered batch) line = procs_in line >>= λ procs. Some (draft.Named batch procs)
-step (draft.Named batch procs) line = lengths_in (length procs) line >>= λ lengths. Some (draft.Measured batch procs lengths)
-step (draft.Measured batch procs lengths) line = formula_in line >>= λ formula. Some (draft.Stated batch procs lengths formula)
-step (draft.Stated batch procs lengths formula) line = verdict_in line >>= λ verdict. Some (draft.Judged (begun batch procs lengths formula verdict))
-step (draft.Judged r) line = choose (slice_in r.lengths line) (λ bounds. Some (draft.Sliced r (record { bounds = bounds; edges = [] }))) (body_step r line)
-step (draft.Sliced r s) line = choose (next_edge r s line) (λ e. Some (draft.Sliced r (with_edge s e))) (body_step (with_slice r s) line)
-step (draft.Walked r w steps) line = choose (next_step r w line) (λ e. Some (draft.Walked r w (steps ++ e ∷ []))) (body_step (with_witness r (walked w steps)) line)
+step (draft.Named batch procs) line =
+    lengths_in (length procs) line >>= λ lengths. Some (draft.Measured batch procs lengths)
+step (draft.Measured batch procs lengths) line =
+    formula_in line >>= λ formula. Some (draft.Stated batch procs lengths formula)
+step (draft.Stated batch procs lengths formula) line =
+    verdict_in line >>= λ verdict. Some (draft.Judged (begun batch procs lengths formula verdict))
+step (draft.Judged r) line =
+    choose (slice_in r.lengths line)
+    (λ bounds. Some (draft.Sliced r (record { bounds = bounds; edges = [] }))) (body_step r line)
+step (draft.Sliced r s) line =
+    choose (next_edge r s line) (λ e. Some (draft.Sliced r (with_edge s e)))
+    (body_step (with_slice r s) line)
+step (draft.Walked r w steps) line =
+    choose (next_step r w line) (λ e. Some (draft.Walked r w (steps ++ e ∷ [])))
+    (body_step (with_witness r (walked w steps)) line)
 step (draft.Over r) line = None
 
 unfoldable pub run : Draft → List Line → Option Draft
@@ -83,7 +103,8 @@ IsGood draft.Titled = Unit {0}
 IsGood (draft.Numbered batch) = IsPositive batch
 IsGood (draft.Named batch procs) = IsPositive batch × ProcsFit procs
 IsGood (draft.Measured batch procs lengths) = IsPositive batch × RunFits procs lengths
-IsGood (draft.Stated batch procs lengths formula) = IsPositive batch × RunFits procs lengths × IsCanonical formula
+IsGood (draft.Stated batch procs lengths formula) =
+    IsPositive batch × RunFits procs lengths × IsCanonical formula
 IsGood (draft.Judged r) = IsBegun r
 IsGood (draft.Sliced r s) = IsBegun r × SliceFits r.lengths s
 IsGood (draft.Walked r w steps) = IsWellFormed r × WitnessTextFits r.lengths (walked w steps)
@@ -96,8 +117,10 @@ lines_of draft.Start = []
 lines_of draft.Titled = title ∷ []
 lines_of (draft.Numbered batch) = title ∷ batch_line batch ∷ []
 lines_of (draft.Named batch procs) = title ∷ batch_line batch ∷ procs_line procs ∷ []
-lines_of (draft.Measured batch procs lengths) = title ∷ batch_line batch ∷ procs_line procs ∷ lengths_line lengths ∷ []
-lines_of (draft.Stated batch procs lengths formula) = title ∷ batch_line batch ∷ procs_line procs ∷ lengths_line lengths ∷ formula_line formula ∷ []
+lines_of (draft.Measured batch procs lengths) =
+    title ∷ batch_line batch ∷ procs_line procs ∷ lengths_line lengths ∷ []
+lines_of (draft.Stated batch procs lengths formula) =
+    title ∷ batch_line batch ∷ procs_line procs ∷ lengths_line lengths ∷ formula_line formula ∷ []
 lines_of (draft.Judged r) = head_lines r
 lines_of (draft.Sliced r s) = head_lines r ++ slice_lines r.procs s
 lines_of (draft.Walked r w steps) = body_lines r ++ witness_lines r.procs (walked w steps)

@@ -37,7 +37,8 @@ cut_at width bytes = clock_at bytes >>= λ c. if length c.0 == width then Some c
 
 -- a cut within the lengths
 unfoldable pub within_at : Cut → List ℕ → Option (Cut × List ℕ)
-within_at lengths bytes = cut_at (length lengths) bytes >>= λ c. if are_within c.0 lengths then Some c else None
+within_at lengths bytes =
+    cut_at (length lengths) bytes >>= λ c. if are_within c.0 lengths then Some c else None
 
 -- ` NAME NAT`, an event that is there
 unfoldable pub event_at : List Name → Cut → List ℕ → Option (EventId × List ℕ)
@@ -46,7 +47,8 @@ event_at procs lengths bytes = do
   process ← place_of procs name.0
   rest ← text_at (32 ∷ []) name.1
   position ← positive_at rest
-  if nat_le position.0 (count lengths process) then Some (record { process = process; position = position.0 }, position.1) else None
+  if nat_le position.0 (count lengths process)
+      then Some (record { process = process; position = position.0 }, position.1) else None
 
 -- ---- lines
 
@@ -58,13 +60,18 @@ batch_in line = text_at (codes "batch ") line >>= positive_at >>= alone
 
 -- of so many processes, at most 50,000 events in all
 unfoldable pub lengths_in : ℕ → List ℕ → Option Cut
-lengths_in procs line = text_at (codes "lengths ") line >>= cut_at procs >>= alone >>= λ lengths. if nat_le (sum lengths) 50000 then Some lengths else None
+lengths_in procs line =
+    text_at (codes "lengths ") line >>= cut_at procs >>= alone >>= λ lengths. if nat_le
+    (sum lengths) 50000 then Some lengths else None
 
 unfoldable pub formula_in : List ℕ → Option (List ℕ)
-formula_in line = text_at (codes "formula ") line >>= λ text. if is_canonical text then Some text else None
+formula_in line =
+    text_at (codes "formula ") line >>= λ text. if is_canonical text then Some text else None
 
 abbrev pub truth_in : List ℕ → Option Bool
-truth_in text = if bytes_eq text (codes "true") then Some true else if bytes_eq text (codes "false") then Some false else None
+truth_in text =
+    if bytes_eq text (codes "true") then Some true else if bytes_eq text (codes "false")
+    then Some false else None
 
 unfoldable pub verdict_in : List ℕ → Option Bool
 verdict_in line = text_at (codes "verdict ") line >>= truth_in
@@ -79,7 +86,9 @@ bounds_in lengths bytes = do
 
 -- the bounds of a slice, or none where it is empty
 unfoldable pub slice_in : Cut → List ℕ → Option (Option (Cut × Cut))
-slice_in lengths line = text_at (codes "slice ") line >>= λ rest. if bytes_eq rest (codes "empty") then Some None else bounds_in lengths rest
+slice_in lengths line =
+    text_at (codes "slice ") line >>= λ rest. if bytes_eq rest (codes "empty") then Some None
+    else bounds_in lengths rest
 
 unfoldable pub edge_in : List Name → Cut → List ℕ → Option Edge
 edge_in procs lengths line = do
@@ -131,7 +140,8 @@ steps_of w = []
 -- the witness with these steps of its path, if it has one
 abbrev pub with_steps : Witness → List EventId → Witness
 with_steps (witness.Reach path) steps = witness.Reach (record { goal = path.goal; steps = steps })
-with_steps (witness.Against path) steps = witness.Against (record { goal = path.goal; steps = steps })
+with_steps (witness.Against path) steps =
+    witness.Against (record { goal = path.goal; steps = steps })
 with_steps (witness.Always path) steps = witness.Always (record { goal = path.goal; steps = steps })
 with_steps w steps = w
 
@@ -140,9 +150,12 @@ with_steps w steps = w
 -- what is told behind the numbers of a witness
 unfoldable pub kind_in : List Name → Cut → List ℕ → Option Witness
 kind_in procs lengths bytes =
-    choose (text_at (codes "reach ") bytes) (λ rest. goal_in lengths rest >>= λ path. Some (witness.Reach path))
-    (choose (text_at (codes "against ") bytes) (λ rest. goal_in lengths rest >>= λ path. Some (witness.Against path))
-    (choose (text_at (codes "always ") bytes) (λ rest. goal_in lengths rest >>= λ path. Some (witness.Always path))
+    choose (text_at (codes "reach ") bytes)
+    (λ rest. goal_in lengths rest >>= λ path. Some (witness.Reach path))
+    (choose (text_at (codes "against ") bytes)
+    (λ rest. goal_in lengths rest >>= λ path. Some (witness.Against path))
+    (choose (text_at (codes "always ") bytes)
+    (λ rest. goal_in lengths rest >>= λ path. Some (witness.Always path))
     (choose (text_at (codes "stuck pair") bytes) (pair_in procs lengths)
     (plain_in bytes))))
 

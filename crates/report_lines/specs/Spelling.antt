@@ -1,4 +1,5 @@
--- The lines of a report, and the one spelling of each, without its line feed; and what has a spelling.
+-- The lines of a report, and the one spelling of each, without its line feed; and what has a
+-- spelling.
 use Rattle.std.specs.Prelude.{◌≡◌, ℕ, ◌^◌, ◌<◌, ◌≤◌, Bool, true, false, List, [], ◌∷◌, ◌++◌, length, sum, Option, None, Some, codes}
 use Rattle.std.specs.List.{AllByRecursion}
 use Rattle.std.specs.Fmt.{decimal}
@@ -37,7 +38,8 @@ kind_text procs (witness.Against path) = codes "against " ++ clock_text path.goa
 kind_text procs (witness.Always path) = codes "always " ++ clock_text path.goal
 kind_text procs witness.StuckStart = codes "stuck start"
 kind_text procs witness.StuckFinish = codes "stuck finish"
-kind_text procs (witness.StuckPair first other) = codes "stuck pair" ++ (event_text procs first ++ event_text procs other)
+kind_text procs (witness.StuckPair first other) =
+    codes "stuck pair" ++ (event_text procs first ++ event_text procs other)
 
 -- ---- lines
 
@@ -63,11 +65,14 @@ slice_line bounds = codes "slice " ++ bounds_text bounds
 
 -- an edge, the cause first
 abbrev pub edge_line : List Name → Edge → List ℕ
-edge_line procs e = codes "edge" ++ (event_text procs e.cause ++ (codes " ->" ++ event_text procs e.effect))
+edge_line procs e =
+    codes "edge" ++ (event_text procs e.cause ++ (codes " ->" ++ event_text procs e.effect))
 
 -- a witness without the steps of its path, which have lines of their own
 abbrev pub witness_line : List Name → WitnessText → List ℕ
-witness_line procs w = codes "witness " ++ (decimal w.disjunct ++ 46 ∷ (decimal w.part ++ 32 ∷ kind_text procs w.witness))
+witness_line procs w =
+    codes "witness " ++ (decimal w.disjunct ++ 46
+    ∷ (decimal w.part ++ 32 ∷ kind_text procs w.witness))
 
 abbrev pub step_line : List Name → EventId → List ℕ
 step_line procs e = codes "step" ++ event_text procs e
@@ -108,7 +113,8 @@ WitnessFits lengths (witness.Against path) = PathFits lengths path
 WitnessFits lengths (witness.Always path) = PathFits lengths path
 WitnessFits lengths witness.StuckStart = Unit {0}
 WitnessFits lengths witness.StuckFinish = Unit {0}
-WitnessFits lengths (witness.StuckPair first other) = HasEvent lengths first × HasEvent lengths other
+WitnessFits lengths (witness.StuckPair first other) =
+    HasEvent lengths first × HasEvent lengths other
 
 -- a witness of a part, with the numbers of its disjunct and of the part
 pub record WitnessTextFits (lengths : Cut) (w : WitnessText) : Type 0 where
@@ -123,5 +129,6 @@ pub record RunFits (names : List Name) (counts : Cut) : Type 0 where
 
 -- the processes of the events of a pair have names
 abbrev pub IsNamed : List Name → Witness → Type 0
-IsNamed procs (witness.StuckPair first other) = (first.process < length procs) × (other.process < length procs)
+IsNamed procs (witness.StuckPair first other) =
+    (first.process < length procs) × (other.process < length procs)
 IsNamed procs w = Unit {0}

@@ -81,7 +81,8 @@ fn canonical_of(alloc: Global, text: &[u8]) -> Result<Option<Bytes>, NoMemory>
     Ok(None)
 }
 
-/// The canonical text of a formula that the line spells. It may be longer than the longest formula that is read elsewhere.
+/// The canonical text of a formula that the line spells. It may be longer than the longest formula
+/// that is read elsewhere.
 #[tactic(auto, unfolding(crate::specs::Reading::formula_in))]
 pub fn read_formula(alloc: Global, line: &[u8]) -> Result<Option<Bytes>, NoMemory>
     ensures { IfOk result (λ text. text ≡ formula_in line.now) }

@@ -16,7 +16,8 @@ use Rattle.report.specs.declared.report.Report.{Report}
 use Rattle.report.specs.declared.report.SliceText.{SliceText}
 use Rattle.run_report.specs.Witnesses.{AreWitnesses}
 
--- what a report is asked for: a formula with its canonical text, and whether slice and witnesses are shown
+-- what a report is asked for: a formula with its canonical text, and whether slice and witnesses
+-- are shown
 pub record Asked : Type 0 where
   pub formula : Formula
   pub text : List ℕ

@@ -1,5 +1,5 @@
--- Which witnesses a report gives: those of all parts of the first true disjunct, or that of the first
--- false part of each disjunct.
+-- Which witnesses a report gives: those of all parts of the first true disjunct, or that of the
+-- first false part of each disjunct.
 use Rattle.std.specs.Prelude.{◌≡◌, ℕ, ◌+◌, ◌⊎◌, ⊤, Bool, true, false, List, [], ◌∷◌}
 use Rattle.run_model.specs.Cut.{initial}
 use Rattle.run_model.specs.Run.{Run}

@@ -4,8 +4,8 @@ use Rattle.pota_base.specs.Shape.{IsShape}
 use Rattle.run_model.specs.Cut.{Cut, count, IsWithin, max_cut}
 use Rattle.run_model.specs.Slice.{Slice, HasWithin}
 
--- the rows stand in row order: the bottom's, then those of the events of process 0 in order, then of
--- process 1, and so on
+-- the rows stand in row order: the bottom's, then those of the events of process 0 in order, then
+-- of process 1, and so on
 pub record SliceView : Type 0 where
   pub lens : List ℕ
   pub rows : List (Option Cut)

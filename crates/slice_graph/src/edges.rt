@@ -23,9 +23,9 @@ pub struct Edge {
 }
 
 impl Slice {
-    /// The edges of the slice: from the last event of each process that an event's row has and neither
-    /// the row before nor the event's own past has, to the event. They stand by their effects in row
-    /// order, and then by their causes.
+    /// The edges of the slice: from the last event of each process that an event's row has and
+    /// neither the row before nor the event's own past has, to the event. They stand by their
+    /// effects in row order, and then by their causes.
     pub fn edges(&self, alloc: Global, order: &Order) -> Result<List<Edge>, NoMemory>
         requires { FitsOrder order.now self.now }
         ensures none { (slice_of self.now).bottom ≡ None → IfOk result (λ edges. edges ≡ []) }

@@ -19,15 +19,17 @@ use pull_system::Rows;
 use std::alloc::Global;
 
 impl Slice {
-    /// The slice of the consistent cuts that are closed under a system, from the least closed vectors
-    /// of its rows. A vector with a component above its length says that there is no such cut.
+    /// The slice of the consistent cuts that are closed under a system, from the least closed
+    /// vectors of its rows. A vector with a component above its length says that there is no such
+    /// cut.
     pub fn from_rows(alloc: Global, order: &Order, rows: &Rows) -> Result<Slice, NoMemory>
         requires { rows.now.lens ≡ lengths order.now }
         ensures lens { IfOk result (λ slice. slice.lens ≡ lengths order.now) }
         ensures kept { IfOk result (λ slice. (row : ℕ) → row ≤ sum rows.now.lens
             → IsKept rows.now.lens (row_at rows.now.lens rows.now.words row)
             (get_or slice.rows row no_row)) }
-        ensures stands { IfOk result (λ slice. (system : SystemView) → system.lens ≡ lengths order.now
+        ensures stands { IfOk result (λ slice. (system : SystemView)
+            → system.lens ≡ lengths order.now
             → HasOrder order.now system → AreLeastRows system rows.now.words
             → StandsFor order.now (slice_of slice) (ClosedCuts order.now system)) }
         ensures fits { IfOk result (λ slice. (system : SystemView) → IsSystem system
@@ -48,8 +50,8 @@ impl Slice {
         Slice::of(alloc, table)
     }
 
-    /// The slice with this bottom and the cuts of the events in row order. It is for callers that have
-    /// each cut by itself.
+    /// The slice with this bottom and the cuts of the events in row order. It is for callers that
+    /// have each cut by itself.
     pub fn from_cuts(
         alloc: Global,
         shape: &Shape,
@@ -83,8 +85,8 @@ fn push_row(table: &mut CutTable, row: &Option<Cut>) -> Result<(), NoMemory>
     }
 }
 
-/// Puts behind the other rows the cut that a row's vector is, and none where a component is above its
-/// length.
+/// Puts behind the other rows the cut that a row's vector is, and none where a component is above
+/// its length.
 fn push_kept(table: &mut CutTable, rows: &Rows, row: u32, cut: &mut Cut) -> Result<(), NoMemory>
     requires row { row ≤ sum rows.now.lens }
     requires lens { table.old.lens ≡ rows.now.lens }

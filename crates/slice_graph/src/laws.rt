@@ -41,6 +41,6 @@ pub fn order_grows()
     ensures each { (before after : Clocks) → IsOrder after → HasGrown before after → (k : ℕ)
         → k < length (pulls_of_order after)
         → PullGrows (lengths before) (lengths after)
-            (slice_index_or (pulls_of_order before) k no_pull)
-            (slice_index_or (pulls_of_order after) k no_pull) }
+        (slice_index_or (pulls_of_order before) k no_pull)
+        (slice_index_or (pulls_of_order after) k no_pull) }
 {}

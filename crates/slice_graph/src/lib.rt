@@ -2,12 +2,13 @@
 //! maximum, by its least cut and, for each event, the least cut that has the event (Birkhoff).
 //!
 //! `Slice::from_rows` stands for the cuts that a system of pulls is closed under (clauses `stands`,
-//! `fits` and `cuts`), whichever system it is that has the order's pulls. What a slice has by `has`,
-//! `has_final`, `bottom`, `top` and `least_with` are its cuts, their least, their greatest and the least
-//! with an event (clauses `cuts`, `least`, `greatest`). The pulls of an order are closed exactly at its
-//! consistent cuts, and those of a slice exactly at its cuts (clauses `closed`). Bottom, top and edges
-//! denote the cuts (clauses `denoted` and `printed`). `systems_of_an_order`, `least_or_none` and
-//! `order_grows` are laws. Nothing is said of the time or the memory that a call takes.
+//! `fits` and `cuts`), whichever system it is that has the order's pulls. What a slice has by
+//! `has`, `has_final`, `bottom`, `top` and `least_with` are its cuts, their least, their greatest
+//! and the least with an event (clauses `cuts`, `least`, `greatest`). The pulls of an order are
+//! closed exactly at its consistent cuts, and those of a slice exactly at its cuts (clauses
+//! `closed`). Bottom, top and edges denote the cuts (clauses `denoted` and `printed`).
+//! `systems_of_an_order`, `least_or_none` and `order_grows` are laws. Nothing is said of the time
+//! or the memory that a call takes.
 #![tactic(auto)]
 
 mod cuts;

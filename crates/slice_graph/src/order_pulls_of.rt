@@ -12,8 +12,8 @@ use pota_base::{EventId, List, NoMemory};
 use pull_system::Pull;
 use std::alloc::Global;
 
-/// The pulls of the order: for each source and each other process as the target, in this order, what
-/// the clocks of the source's events have of the target.
+/// The pulls of the order: for each source and each other process as the target, in this order,
+/// what the clocks of the source's events have of the target.
 pub fn order_pulls(alloc: Global, order: &Order) -> Result<List<Pull>, NoMemory>
     ensures list { IfOk result (λ pulls. pulls ≡ pulls_of_order order.now) }
     ensures count { IfOk result (λ pulls. length pulls

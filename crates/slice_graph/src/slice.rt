@@ -16,8 +16,8 @@ use std::alloc::Global;
 use std::marker::Model;
 
 /// A slice (Mittal and Garg): its least cut, and for each event the least of its cuts that has the
-/// event. Contracts see the lengths of the processes and the rows, and say of its cuts what holds by
-/// each order that the slice fits.
+/// event. Contracts see the lengths of the processes and the rows, and say of its cuts what holds
+/// by each order that the slice fits.
 #[derive(Debug, Drop)]
 pub struct Slice {
     table: CutTable,
@@ -131,8 +131,9 @@ impl Slice {
         self.table.cut(row as usize)
     }
 
-    /// The words of the row of the last of the first events of a process, and those of the bottom where
-    /// there is no event. A row without a cut has one more than each length, so that no cut holds it.
+    /// The words of the row of the last of the first events of a process, and those of the bottom
+    /// where there is no event. A row without a cut has one more than each length, so that no cut
+    /// holds it.
     pub fn words(&self, process: u32, position: u32) -> &[u32]
         requires process { process < length self.now.lens }
         requires position { position ≤ count self.now.lens process }

@@ -15,9 +15,9 @@ use pull_system::Pull;
 use std::alloc::Global;
 
 impl Slice {
-    /// The pulls of the slice: for each source and each target, the same process too, what the rows of
-    /// the source's events have of the target, and one more than the target's length where there is no
-    /// row.
+    /// The pulls of the slice: for each source and each target, the same process too, what the rows
+    /// of the source's events have of the target, and one more than the target's length where there
+    /// is no row.
     pub fn pulls(&self, alloc: Global) -> Result<List<Pull>, NoMemory>
         ensures list { IfOk result (λ pulls. pulls ≡ pulls_of_slice self.now) }
         ensures count { IfOk result (λ pulls. length pulls

@@ -9,8 +9,8 @@ use pota_base::{NoMemory, Shape};
 use std::alloc::Global;
 use std::marker::Model;
 
-/// The rows of a slice, or the first of them, which are pushed in row order. All of them stand in one
-/// piece of memory.
+/// The rows of a slice, or the first of them, which are pushed in row order. All of them stand in
+/// one piece of memory.
 #[derive(Debug, Drop)]
 pub struct CutTable {
     shape: Shape,

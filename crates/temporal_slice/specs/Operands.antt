@@ -22,7 +22,8 @@ pub record IsInRow (v : SliceView) (i a j b : ℕ) : Type 0 where
   pub other : (i ≡ j) × (a ≡ b) → ⊥
   pub has : a ≤ count (row_words v j b) i
 
--- the row of event a of process i has an event, the last of its process there, whose own row has event a of process i: both have one row
+-- the row of event a of process i has an event, the last of its process there, whose own row has
+-- event a of process i: both have one row
 pub record Shares (v : SliceView) (i a : ℕ) : Type 0 where
   pub process : ℕ
   pub there : process < length v.lens

@@ -37,7 +37,8 @@ pub fn ag(alloc: Global, order: &Order, child: &Slice) -> Result<Slice, NoMemory
     cuts_from(alloc, order, None, &bottom)
 }
 
-/// The least cut that holds the child's bottom and, for each event, what the event's row has beyond the event's past.
+/// The least cut that holds the child's bottom and, for each event, what the event's row has beyond
+/// the event's past.
 fn asked_of_all(alloc: Global, order: &Order, child: &Slice) -> Result<Cut, NoMemory>
     requires fits { FitsOrder order.now child.now }
     requires last { Cuts order.now (slice_of child.now) (lengths order.now) }

@@ -7,8 +7,8 @@ ghost use Rattle.run_model.specs.Operators.{SomeTime, EachTime, Staying};
 
 use run_model::sublattice_laws::SetOfCuts;
 
-/// What stands for an operator's set over the cuts of a slice stands for it over each closed set that
-/// the slice stands for.
+/// What stands for an operator's set over the cuts of a slice stands for it over each closed set
+/// that the slice stands for.
 pub fn operators_of_a_set<A: SetOfCuts>()
     ensures some_time { (o : Clocks) → IsClosed o A.has → (child made : Slice)
         → StandsFor o child A.has

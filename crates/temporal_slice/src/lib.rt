@@ -1,11 +1,11 @@
 //! What EF, AG and EG make of a slice (Sen and Garg, on finite runs).
 //!
-//! Of a slice that stands for a closed set of cuts, `ef` stands for the consistent cuts from which some
-//! path ends in the set, `ag` for those from which each cut of every path is in it, and `eg` for those
-//! from which some path to the final cut stays in it (clauses `stands` and `cuts`); each of these sets is
-//! closed under minimum and maximum (`closed`). The clauses speak of the slice's own cuts, and
-//! `operators_of_a_set` takes them to any closed set that the slice stands for. Nothing is said of the
-//! time or the memory that a call takes.
+//! Of a slice that stands for a closed set of cuts, `ef` stands for the consistent cuts from which
+//! some path ends in the set, `ag` for those from which each cut of every path is in it, and `eg`
+//! for those from which some path to the final cut stays in it (clauses `stands` and `cuts`); each
+//! of these sets is closed under minimum and maximum (`closed`). The clauses speak of the slice's
+//! own cuts, and `operators_of_a_set` takes them to any closed set that the slice stands for.
+//! Nothing is said of the time or the memory that a call takes.
 #![tactic(auto)]
 
 mod always;

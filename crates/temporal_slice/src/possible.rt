@@ -50,7 +50,8 @@ fn cuts_within(alloc: Global, order: &Order, top: &[u32]) -> Result<Slice, NoMem
     Slice::of(alloc, table)
 }
 
-/// Puts the past of the event behind the other rows where the cut has the event, and else a row without a cut.
+/// Puts the past of the event behind the other rows where the cut has the event, and else a row
+/// without a cut.
 fn push_past(
     table: &mut CutTable,
     order: &Order,

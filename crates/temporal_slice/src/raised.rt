@@ -15,7 +15,8 @@ use pota_base::{EventId, NoMemory};
 use slice_graph::{CutTable, Slice, event_at, set_words};
 use std::alloc::Global;
 
-/// The slice of the cuts that hold the bottom, among those of the child, or among all consistent cuts where there is no child.
+/// The slice of the cuts that hold the bottom, among those of the child, or among all consistent
+/// cuts where there is no child.
 pub fn cuts_from(
     alloc: Global,
     order: &Order,
@@ -53,7 +54,8 @@ fn row_with<'a>(order: &'a Order, child: Option<&'a Slice>, event: EventId) -> O
     }
 }
 
-/// Puts the maximum of the bottom and the row behind the other rows, and a row without a cut where there is none.
+/// Puts the maximum of the bottom and the row behind the other rows, and a row without a cut where
+/// there is none.
 fn push_joined(
     table: &mut CutTable,
     row: Option<&[u32]>,

@@ -73,7 +73,8 @@ fn join_shared(child: &Slice, event: EventId, into: &mut Cut)
     }
 }
 
-/// Whether another event has the event's row: the last event of a process in the row, whose own row has the event.
+/// Whether another event has the event's row: the last event of a process in the row, whose own row
+/// has the event.
 fn shares_row(child: &Slice, event: EventId, row: &[u32]) -> bool
     requires event { HasEvent child.now.lens event }
     requires row { row.now ≡ row_words child.now event.process event.position }
@@ -93,7 +94,8 @@ fn shares_row(child: &Slice, event: EventId, row: &[u32]) -> bool
 fn is_in_row(child: &Slice, event: EventId, other: EventId) -> bool
     requires event { HasEvent child.now.lens event }
     requires other { HasEvent child.now.lens other }
-    ensures { IsTrue result ↔ IsInRow child.now event.process event.position other.process other.position }
+    ensures { IsTrue result ↔ IsInRow child.now event.process event.position other.process
+        other.position }
 {
     event != other
         && child.words(other.process, other.position)[event.process as usize] >= event.position

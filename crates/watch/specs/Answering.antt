@@ -4,9 +4,10 @@ use Rattle.std.specs.Cmp.Lexicographic.{pointwise}
 use Rattle.std.specs.Ordering.{int_eq}
 
 -- one truth value per state, which is true exactly where the fact holds at the state's place
-pub record AnswerWhere (states : List (List ℤ)) (P : ℕ → Type 0) (answers : List Bool) : Type 0 where
-  pub size : length answers ≡ length states
-  pub each : (k : ℕ) → k < length states → IsTrue (get_or answers k false) ↔ P k
+pub record AnswerWhere (states : List (List ℤ)) (P : ℕ → Type 0) (answers : List Bool) : Type 0
+  where
+    pub size : length answers ≡ length states
+    pub each : (k : ℕ) → k < length states → IsTrue (get_or answers k false) ↔ P k
 
 -- the first variable of a state, and 0 where the process has none
 abbrev pub first_variable : List ℤ → ℤ
@@ -59,11 +60,13 @@ stable_from before (state ∷ rest) = is_unchanged before state ∷ stable_from 
 
 -- whether something is owed behind a state
 abbrev pub owing_after : Bool → List ℤ → Bool
-owing_after owing state = int_lt (first_variable state) (pos 0) || (owing && int_eq (first_variable state) (pos 0))
+owing_after owing state =
+    int_lt (first_variable state) (pos 0) || (owing && int_eq (first_variable state) (pos 0))
 
 abbrev pub owing_from : Bool → List (List ℤ) → List Bool
 owing_from owing [] = []
-owing_from owing (state ∷ rest) = owing_after owing state ∷ owing_from (owing_after owing state) rest
+owing_from owing (state ∷ rest) =
+    owing_after owing state ∷ owing_from (owing_after owing state) rest
 
 -- how many of the last states agree in their first variable behind a state, counted to three
 abbrev pub agreeing_after : ℕ → ℤ → List ℤ → ℕ
@@ -73,4 +76,5 @@ agreeing_after agreeing first state =
 abbrev pub calm_from : ℕ → ℤ → List (List ℤ) → List Bool
 calm_from agreeing first [] = []
 calm_from agreeing first (state ∷ rest) =
-    (agreeing_after agreeing first state == 3) ∷ calm_from (agreeing_after agreeing first state) (first_variable state) rest
+    (agreeing_after agreeing first state == 3)
+    ∷ calm_from (agreeing_after agreeing first state) (first_variable state) rest

@@ -37,7 +37,8 @@ impl Watch for Calm {
 impl Calm {
     /// No state was fed.
     pub fn new() -> Calm
-        ensures { (states : List (List ℤ)) → AnswerWhere states (IsCalmAt states) (⟦<Calm as Watch>⟧.answers result states) }
+        ensures { (states : List (List ℤ))
+            → AnswerWhere states (IsCalmAt states) (⟦<Calm as Watch>⟧.answers result states) }
     {
         Calm {
             first: 0,

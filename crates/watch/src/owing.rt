@@ -27,7 +27,8 @@ impl Watch for Owing {
 impl Owing {
     /// No state was fed.
     pub fn new() -> Owing
-        ensures { (states : List (List ℤ)) → AnswerWhere states (IsOwingAt states) (⟦<Owing as Watch>⟧.answers result states) }
+        ensures { (states : List (List ℤ))
+            → AnswerWhere states (IsOwingAt states) (⟦<Owing as Watch>⟧.answers result states) }
     {
         Owing { owing: false }
     }

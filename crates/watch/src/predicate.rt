@@ -3,17 +3,20 @@ ghost use Rattle.watch.specs.Answering.{first_variable as first_of};
 
 use pota_names::Name;
 
-/// A local predicate of the user's own, with a state of its own. It is fed the states of one process in their order, each
-/// as the values of the process's variables in the order of the header, and answers each.
+/// A local predicate of the user's own, with a state of its own. It is fed the states of one
+/// process in their order, each as the values of the process's variables in the order of the
+/// header, and answers each.
 pub trait Watch: Drop {
     /// One truth value for each of the states, if they are fed in this order.
     ghost answers: { Self → List (List ℤ) → List Bool };
 
     /// Whether the predicate is true of this state, behind those that were fed before.
     fn feed(&mut self, state: &[i64]) -> bool
-        ensures { (rest : List (List ℤ)) → answers self.old (state.now ∷ rest) ≡ result ∷ answers self.new rest };
+        ensures { (rest : List (List ℤ))
+            → answers self.old (state.now ∷ rest) ≡ result ∷ answers self.new rest };
 
-    ghost one_each: { (watch : Self) (states : List (List ℤ)) → length (answers watch states) ≡ length states };
+    ghost one_each: { (watch : Self) (states : List (List ℤ))
+        → length (answers watch states) ≡ length states };
 }
 
 /// A watch under the name that formulas call it by.
@@ -25,7 +28,8 @@ pub struct Handed {
 
 /// Feeds one state to the watch in the box.
 pub fn feed_one(watch: &mut Box<dyn Watch + Send>, state: &[i64]) -> bool
-    ensures { (rest : List (List ℤ)) → answers watch.old (state.now ∷ rest) ≡ result ∷ answers watch.new rest }
+    ensures { (rest : List (List ℤ))
+        → answers watch.old (state.now ∷ rest) ≡ result ∷ answers watch.new rest }
 {
     watch.feed(state)
 }

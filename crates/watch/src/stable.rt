@@ -41,7 +41,8 @@ impl Watch for Stable {
 impl Stable {
     /// No state was fed.
     pub fn new() -> Stable
-        ensures { (states : List (List ℤ)) → All (λ state. length state ≤ 16) states → AnswerWhere states (IsStableAt states) (⟦<Stable as Watch>⟧.answers result states) }
+        ensures { (states : List (List ℤ)) → All (λ state. length state ≤ 16) states
+            → AnswerWhere states (IsStableAt states) (⟦<Stable as Watch>⟧.answers result states) }
     {
         Stable {
             values: [0; 16],
