@@ -32,7 +32,8 @@ pub fn first_positions(
         place = first_from(follows, extra, lead as u64 + more, place);
         table.push(place as u32)?;
     }
-    table.push(place as u32)?;
+    let last = place as u32;
+    table.push(last)?;
     Ok(List::from_vec(table))
 }
 

@@ -20,12 +20,8 @@ use Rattle.local_preds.specs.LocalPulls.{is_true_from, next_true, local_pull, ne
 use Rattle.local_preds.specs.LocalRuns.{FitsProcess, HasGrownAt}
 use Rattle.local_preds.proofs.Expressions.{Agree, same_truth}
 use Rattle.local_preds.proofs.Truths.{next_at, never_at}
-use Rattle.local_preds.proofs.Meaning.{length-truths, truth_at_cut}
-
-lens-get_or : (ess : List (List Event)) (p : ℕ) → get_or (map length ess) p 0 ≡ length (get_or ess p [])
-lens-get_or [] p = refl
-lens-get_or (es ∷ ess) zero = refl
-lens-get_or (es ∷ ess) (suc p) = lens-get_or ess p
+use Rattle.local_preds.proofs.RowSteps.{length-truths, lens-get_or}
+use Rattle.local_preds.proofs.Meaning.{truth_at_cut}
 
 -- ---- pulls of rows
 

@@ -3,7 +3,7 @@ use Rattle.std.proofs.Common.{◌≡◌, ◌↔◌, ℕ, zero, suc, ◌+◌, ◌
 use Rattle.std.specs.Prelude.{pos, Option, Some, None}
 use Rattle.std.specs.List.{range_with_len, AllByRecursion}
 use Rattle.std.proofs.lemmas.List.{length-map, get_or-map}
-use Rattle.std.proofs.lemmas.List.FromFn.{length-map-range_with_len, get_or-map-range_with_len}
+use Rattle.std.proofs.lemmas.List.FromFn.{get_or-map-range_with_len}
 use Rattle.run_model.specs.Cut.{Cut, count, lengths}
 use Rattle.run_model.specs.Run as run
 use Rattle.run_model.specs.Run.{Name, Run, Trace, Watches, process_at, clocks_of, run_of, states_of}
@@ -23,6 +23,7 @@ use Rattle.rctl_parts.specs.Spelled.{Names, name_at, formula_in, local_formula}
 use Rattle.local_preds.specs.Rows.{is_true, value_at, watched_at, truth_at, truths_of, len_at}
 use Rattle.local_preds.specs.LocalPulls.{constant_pulls_of}
 use Rattle.local_preds.specs.LocalRuns.{names_of, AreAnswers, FitsProcess, local_pulls, constant_truth}
+use Rattle.local_preds.proofs.RowSteps.{length-truths}
 use Rattle.local_preds.proofs.Truths.{pulls_close, constant_closes}
 use Rattle.local_preds.proofs.Expressions.{named_value, named_watch, expr_means, Agree, same_truth, same_constant}
 
@@ -76,9 +77,6 @@ values_agree states watches watch_names watch_process watch_rows p whole there a
 pub truth_at_cut : (states : StatesView) (p : ℕ) (watch_rows : List (List Bool)) (e : Expr) (a : ℕ) → a ≤ len_at states p
     → get_or (truths_of states p watch_rows e) a false ≡ truth_at states p watch_rows e a
 truth_at_cut states p watch_rows e a within = get_or-map-range_with_len (truth_at states p watch_rows e) 0 (len_at states p + 1) a a false (omega arith) (omega arith)
-
-pub length-truths : (states : StatesView) (p : ℕ) (watch_rows : List (List Bool)) (e : Expr) → length (truths_of states p watch_rows e) ≡ len_at states p + 1
-length-truths states p watch_rows e = length-map-range_with_len (truth_at states p watch_rows e) 0 (len_at states p + 1)
 
 -- the truth of the formula at a cut is that in the process's state there
 formula_at_cut : (states : StatesView) (watches : Watches) (watch_names : List Name) (watch_process : List (Option ℕ)) (watch_rows : List (List Bool)) (p : ℕ) (e : Expr) → AreWhole states → p < length states.events

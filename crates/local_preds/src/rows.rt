@@ -1,6 +1,6 @@
-ghost use Rattle.std.specs.Prelude.{◌≡◌, ◌<◌, length, IfOk};
+ghost use Rattle.std.specs.Prelude.{◌≡◌, ◌+◌, ◌<◌, length, IfOk};
 ghost use Rattle.rctl_parts.specs.Exprs.{expr_of};
-ghost use Rattle.local_preds.specs.Rows.{IsReadableAt, truths_of};
+ghost use Rattle.local_preds.specs.Rows.{IsReadableAt, truths_of, len_at};
 
 use crate::holding::{StateAt, holds};
 use event_log::States;
@@ -19,7 +19,8 @@ pub fn truth_row(
 ) -> Result<List<bool>, NoMemory>
     requires process { process < length states.now.events }
     requires readable { IsReadableAt states.now process watch_rows.now (expr_of expr.now) }
-    ensures { IfOk result (λ row. row ≡ truths_of states.now process watch_rows.now (expr_of expr.now)) }
+    ensures truths { IfOk result (λ row. row ≡ truths_of states.now process watch_rows.now (expr_of expr.now)) }
+    ensures len { IfOk result (λ row. length row ≡ len_at states.now process + 1) }
 {
     let len = states.shape().len_of(process);
     let mut row = Vec::with_capacity(alloc, len as usize + 1)?;
