@@ -9,10 +9,12 @@
 //! the words are random.
 #![tactic(auto)]
 
+mod laws;
 mod making;
 mod process;
 mod queue;
 mod whole;
 mod words;
 
+pub use laws::first_words_of_a_seed;
 pub use whole::generate;

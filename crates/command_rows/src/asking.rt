@@ -1,0 +1,49 @@
+//! What a command line asks for, in words.
+
+use command_words::{Request, Sizes, Task, read_request};
+use std::alloc::{AllocError, Global};
+
+fn task_text(alloc: Global, task: &Task) -> Result<String, AllocError> {
+    match task {
+        Task::Check(shown) => {
+            let mut text = String::from_str(alloc, "check")?;
+            if shown.slice {
+                text.push_str(" slice")?;
+            }
+            if shown.witness {
+                text.push_str(" witness")?;
+            }
+            if shown.each_batch {
+                text.push_str(" each-batch")?;
+            }
+            Ok(text)
+        }
+        Task::Bench(
+            Sizes {
+                seed,
+                procs,
+                events,
+            },
+        ) => format!(in alloc; "bench seed {} procs {} events {}", seed, procs, events),
+    }
+}
+
+fn request_text(alloc: Global, request: &Request<'_>) -> Result<String, AllocError> {
+    let task = task_text(alloc, &request.task)?;
+    format!(in alloc;
+        "{} workers {} formula {}",
+        task.as_str(),
+        request.workers,
+        request.formula
+    )
+}
+
+/// `refused`, or the command with what belongs to it, `workers` and their number, `formula` and its
+/// text.
+pub fn asked(alloc: Global, words: &[String]) -> Result<String, AllocError> {
+    match read_request(alloc, words) {
+        Err(_) => Err(AllocError),
+        Ok(None) => String::from_str(alloc, "refused"),
+        Ok(Some(request)) => request_text(alloc, &request),
+    }
+}
