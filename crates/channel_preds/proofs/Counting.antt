@@ -57,8 +57,11 @@ get_or-counts_of which events a h = get_or-map-range_with_len (count_of which ev
 pub count_of-rises : (which : Counted) (events : List Event) (a b : ℕ) → a ≤ b → count_of which events a ≤ count_of which events b
 count_of-rises which events a b h =
     let part : take a (take b events) ≡ take a events = take-take a b events h in
-    omega (arith, ap (λ (es : List Event). count_by (λ (e : Event). is_counted which e.kind) es) part,
-        sum_by-take-le (λ (e : Event). if is_counted which e.kind then 1 else 0) (take b events) a)
+    omega (
+      arith,
+      ap (λ (es : List Event). count_by (λ (e : Event). is_counted which e.kind) es) part,
+      sum_by-take-le (λ (e : Event). if is_counted which e.kind then 1 else 0) (take b events) a,
+    )
 
 pub counts_are : (which : Counted) (events : List Event) → AreCounts (counts_of which events)
 counts_are which events = record {

@@ -50,7 +50,7 @@ positions_grow old lens p q leads leads' more follows follows' extra counts coun
       let here : x' ≡ min x (length leads) = omega arith in
       let less : lead_at leads x' ≤ lead_at leads' x = omega (arith, lead_grows leads leads' counts counts' front x, ap (lead_at leads) here) in
       let grows = first_grows (reached follows extra (lead_at leads x' + more)) (reached follows' extra (lead_at leads' x + more)) (length follows) (length follows') back.shorter
-          (λ y lt has. le-leb _ _ (omega (arith, leb-true _ _ has, back.same y lt, less))) in
+      (λ y lt has. le-leb _ _ (omega (arith, leb-true _ _ has, back.same y lt, less))) in
       omega (arith, entry_at leads more follows extra x' (omega arith), entry_at leads' more follows' extra x (omega arith), grows);
 }
 
@@ -63,11 +63,11 @@ at_most_grows before after p q k more =
     let sends = sends_to p q in
     let receipts = receipts_from p q in
     positions_grow (lens_of before) (lens_of after) p q (counts_of sends (events_at before p)) (counts_of sends (events_at after p)) 0
-        (counts_of receipts (events_at before q)) (counts_of receipts (events_at after q)) k
-        (counts_are sends (events_at before p)) (counts_are sends (events_at after p))
-        (counts_front sends (events_at before p) (events_at after p) (more.each p).0 (more.each p).1)
-        (counts_front receipts (events_at before q) (events_at after q) (more.each q).0 (more.each q).1)
-        (counts_size sends before p) (counts_size sends after p)
+    (counts_of receipts (events_at before q)) (counts_of receipts (events_at after q)) k
+    (counts_are sends (events_at before p)) (counts_are sends (events_at after p))
+    (counts_front sends (events_at before p) (events_at after p) (more.each p).0 (more.each p).1)
+    (counts_front receipts (events_at before q) (events_at after q) (more.each q).0 (more.each q).1)
+    (counts_size sends before p) (counts_size sends after p)
 
 pub at_least_grows : (before after : StatesView) (p q k : ℕ) → HasMoreEvents before after
     → PullGrows (lens_of before) (lens_of after) (at_least_pull (channel_of before p q) k) (at_least_pull (channel_of after p q) k)
@@ -75,8 +75,8 @@ at_least_grows before after p q k more =
     let sends = sends_to p q in
     let receipts = receipts_from p q in
     positions_grow (lens_of before) (lens_of after) q p (counts_of receipts (events_at before q)) (counts_of receipts (events_at after q)) k
-        (counts_of sends (events_at before p)) (counts_of sends (events_at after p)) 0
-        (counts_are receipts (events_at before q)) (counts_are receipts (events_at after q))
-        (counts_front receipts (events_at before q) (events_at after q) (more.each q).0 (more.each q).1)
-        (counts_front sends (events_at before p) (events_at after p) (more.each p).0 (more.each p).1)
-        (counts_size receipts before q) (counts_size receipts after q)
+    (counts_of sends (events_at before p)) (counts_of sends (events_at after p)) 0
+    (counts_are receipts (events_at before q)) (counts_are receipts (events_at after q))
+    (counts_front receipts (events_at before q) (events_at after q) (more.each q).0 (more.each q).1)
+    (counts_front sends (events_at before p) (events_at after p) (more.each p).0 (more.each p).1)
+    (counts_size receipts before q) (counts_size receipts after q)

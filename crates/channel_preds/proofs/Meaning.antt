@@ -52,7 +52,7 @@ events_are : (states : StatesView) (watches : Watches) (sender receiver : Name) 
     → (process_at (trace_of states) i).events ≡ map event_of (events_at states i)
 events_are states watches sender receiver p q ends i there =
     ap (λ (x : run.Process). x.events)
-        (process_is states.header.procs states.header.vars states.events i (omega (arith, ends.whole.events)) (omega (arith, ends.whole.events, ends.whole.header.vars)) there)
+    (process_is states.header.procs states.header.vars states.events i (omega (arith, ends.whole.events)) (omega (arith, ends.whole.events, ends.whole.header.vars)) there)
 
 -- a cut has no more events of a process than there are
 lengths_are : (t : Trace) (i : ℕ) → get_or (lengths (clocks_of t)) i 0 ≡ length (process_at t i).events
@@ -157,9 +157,8 @@ at_most_between states watches sender receiver p q k ends c consistent =
     let sends_ = counts_of (sends_to p q) (events_at states p) in
     let receipts_ = counts_of (receipts_from p q) (events_at states q) in
     let close = positions_close p q sends_ 0 receipts_ k (counts_are _ _) (counts_are _ _) c
-        (omega (arith, length-counts_of (sends_to p q) (events_at states p), cut_within states watches sender receiver p q ends c consistent p ends.sender_there))
-        (omega (arith, length-counts_of (receipts_from p q) (events_at states q), cut_within states watches sender receiver p q ends c consistent q ends.receiver_there)) in
-    (
+    (omega (arith, length-counts_of (sends_to p q) (events_at states p), cut_within states watches sender receiver p q ends c consistent p ends.sender_there))
+    (omega (arith, length-counts_of (receipts_from p q) (events_at states q), cut_within states watches sender receiver p q ends c consistent q ends.receiver_there)) in (
       λ closed. from_holds LessOrEqual transit k (omega (arith, is, close.0 closed)),
       λ true_. close.1 (omega (arith, is, holds_of LessOrEqual transit k true_)),
     )
@@ -176,9 +175,8 @@ at_least_between states watches sender receiver p q k ends have c consistent =
     let sends_ = counts_of (sends_to p q) (events_at states p) in
     let receipts_ = counts_of (receipts_from p q) (events_at states q) in
     let close = positions_close q p receipts_ k sends_ 0 (counts_are _ _) (counts_are _ _) c
-        (omega (arith, length-counts_of (receipts_from p q) (events_at states q), cut_within states watches sender receiver p q ends c consistent q ends.receiver_there))
-        (omega (arith, length-counts_of (sends_to p q) (events_at states p), cut_within states watches sender receiver p q ends c consistent p ends.sender_there)) in
-    (
+    (omega (arith, length-counts_of (receipts_from p q) (events_at states q), cut_within states watches sender receiver p q ends c consistent q ends.receiver_there))
+    (omega (arith, length-counts_of (sends_to p q) (events_at states p), cut_within states watches sender receiver p q ends c consistent p ends.sender_there)) in (
       λ closed. from_holds GreaterOrEqual transit k (omega (arith, is, low, close.0 closed)),
       λ true_. close.1 (omega (arith, is, low, holds_of GreaterOrEqual transit k true_)),
     )

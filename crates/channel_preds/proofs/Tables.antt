@@ -41,7 +41,7 @@ entry_rises : (leads : List ℕ) (more : ℕ) (follows : List ℕ) (extra : ℕ)
 entry_rises leads more follows extra counts x y h =
     let less = lead_rises leads counts x y h in
     first_grows (reached follows extra (lead_at leads x + more)) (reached follows extra (lead_at leads y + more)) (length follows) (length follows) (omega arith)
-        (λ k lt has. reached_less follows extra _ _ k (omega (arith, less)) has)
+    (λ k lt has. reached_less follows extra _ _ k (omega (arith, less)) has)
 
 pub positions_rise : (leads : List ℕ) (more : ℕ) (follows : List ℕ) (extra : ℕ) → AreCounts leads → RisesWithin (first_positions leads more follows extra) (length follows)
 positions_rise leads more follows extra counts =
@@ -84,8 +84,7 @@ positions_hold p q leads more follows extra counts rising v here there =
     let read = entry_at leads more follows extra x (omega arith) in
     let bound = lead_at leads x + more in
     let reaches = first_reaches (reached follows extra bound) (length follows) y there
-        (λ a b h lt has. le-leb _ _ (omega (arith, leb-true _ _ has, rising.rises a b h lt))) in
-    (
+    (λ a b h lt has. le-leb _ _ (omega (arith, leb-true _ _ has, rising.rises a b h lt))) in (
       λ holds. omega (arith, lead, leb-true _ _ (reaches.0 (omega (arith, holds, read)))),
       λ enough. omega (arith, read, reaches.1 (le-leb _ _ (omega (arith, lead, enough)))),
     )
@@ -95,8 +94,7 @@ pub positions_close : (p q : ℕ) (leads : List ℕ) (more : ℕ) (follows : Lis
     → ClosedUnder (positions_pull p q leads more follows extra ∷ []) v ↔ (get_or leads (get_or v p 0) 0 + more ≤ get_or follows (get_or v q 0) 0 + extra)
 positions_close p q leads more follows extra counts rising v here there =
     let pull = positions_pull p q leads more follows extra in
-    let hold = positions_hold p q leads more follows extra counts rising v here there in
-    (
+    let hold = positions_hold p q leads more follows extra counts rising v here there in (
       λ closed. hold.0 (All-head (HoldsAt v) pull [] closed),
       λ enough. only (HoldsAt v) pull (hold.1 enough),
     )
@@ -107,24 +105,24 @@ pub at_most_fits : (channel : ChannelView) → IsChannel channel → (k : ℕ) (
     → All (IsPull lens) pulls
 at_most_fits channel are k pulls is lens fits =
     subst (λ (ps : List Pull). All (IsPull lens) ps) (sym is) (only (IsPull lens) (at_most_pull channel k)
-        (positions_fit lens channel.sender channel.receiver channel.sent 0 channel.received k are.sent fits.sender fits.receiver fits.sent fits.received))
+    (positions_fit lens channel.sender channel.receiver channel.sent 0 channel.received k are.sent fits.sender fits.receiver fits.sent fits.received))
 
 pub at_least_fits : (channel : ChannelView) → IsChannel channel → (k : ℕ) (pulls : List Pull) → pulls ≡ at_least_pull channel k ∷ [] → (lens : List ℕ) → FitsShape lens channel
     → All (IsPull lens) pulls
 at_least_fits channel are k pulls is lens fits =
     subst (λ (ps : List Pull). All (IsPull lens) ps) (sym is) (only (IsPull lens) (at_least_pull channel k)
-        (positions_fit lens channel.receiver channel.sender channel.received k channel.sent 0 are.received fits.receiver fits.sender fits.received fits.sent))
+    (positions_fit lens channel.receiver channel.sender channel.received k channel.sent 0 are.received fits.receiver fits.sender fits.received fits.sent))
 
 pub at_most_closes : (channel : ChannelView) → IsChannel channel → (k : ℕ) (pulls : List Pull) → pulls ≡ at_most_pull channel k ∷ [] → (v : List ℕ) → IsWithinChannel channel v
     → ClosedUnder pulls v ↔ (sent_at channel v ≤ received_at channel v + k)
 at_most_closes channel are k pulls is v within =
     let close = positions_close channel.sender channel.receiver channel.sent 0 channel.received k are.sent are.received v within.sender within.receiver in
     subst (λ (ps : List Pull). ClosedUnder ps v ↔ (sent_at channel v ≤ received_at channel v + k)) (sym is)
-        (λ closed. omega (arith, close.0 closed), λ enough. close.1 (omega arith))
+    (λ closed. omega (arith, close.0 closed), λ enough. close.1 (omega arith))
 
 pub at_least_closes : (channel : ChannelView) → IsChannel channel → (k : ℕ) (pulls : List Pull) → pulls ≡ at_least_pull channel k ∷ [] → (v : List ℕ) → IsWithinChannel channel v
     → ClosedUnder pulls v ↔ (received_at channel v + k ≤ sent_at channel v)
 at_least_closes channel are k pulls is v within =
     let close = positions_close channel.receiver channel.sender channel.received k channel.sent 0 are.received are.sent v within.receiver within.sender in
     subst (λ (ps : List Pull). ClosedUnder ps v ↔ (received_at channel v + k ≤ sent_at channel v)) (sym is)
-        (λ closed. omega (arith, close.0 closed), λ enough. close.1 (omega arith))
+    (λ closed. omega (arith, close.0 closed), λ enough. close.1 (omega arith))

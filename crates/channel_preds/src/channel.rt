@@ -29,17 +29,19 @@ impl Model for Channel {
 
     ghost Value = { ChannelView };
 
-    ghost view = {
-        λ c. record {
-        sender = c.sender; receiver = c.receiver; sent = c.sent; received = c.received
-        }
-    };
+    ghost view = { λ c. record {
+      sender = c.sender;
+      receiver = c.receiver;
+      sent = c.sent;
+      received = c.received;
+    } };
 
-    ghost invariant = {
-        λ c. IsChannel record {
-        sender = c.sender; receiver = c.receiver; sent = c.sent; received = c.received
-        }
-    };
+    ghost invariant = { λ c. IsChannel record {
+      sender = c.sender;
+      receiver = c.receiver;
+      sent = c.sent;
+      received = c.received;
+    } };
 }
 
 /// The channel from one process to another in the run so far. A process sends nothing to itself.
@@ -76,13 +78,9 @@ pub fn counts(
 pub fn at_most(alloc: Global, channel: &Channel, k: u64) -> Result<List<Pull>, NoMemory>
     requires { k ≤ 2 ^ 63 }
     ensures pulls { IfOk result (λ pulls. pulls ≡ at_most_pull channel.now k ∷ []) }
-    ensures fit {
-        (lens : ListOf ℕ) → FitsShape lens channel.now → IfOk result (All (IsPull lens))
-    }
-    ensures closed {
-        (v : ListOf ℕ) → IsWithinChannel channel.now v → IfOk result (λ pulls.
-        ClosedUnder pulls v ↔ (sent_at channel.now v ≤ received_at channel.now v + k))
-    }
+    ensures fit { (lens : ListOf ℕ) → FitsShape lens channel.now → IfOk result (All (IsPull lens)) }
+    ensures closed { (v : ListOf ℕ) → IsWithinChannel channel.now v → IfOk result (λ pulls.
+        ClosedUnder pulls v ↔ (sent_at channel.now v ≤ received_at channel.now v + k)) }
 {
     let table = first_positions(
         alloc,
@@ -106,13 +104,9 @@ pub fn at_most(alloc: Global, channel: &Channel, k: u64) -> Result<List<Pull>, N
 pub fn at_least(alloc: Global, channel: &Channel, k: u64) -> Result<List<Pull>, NoMemory>
     requires { k ≤ 2 ^ 63 }
     ensures pulls { IfOk result (λ pulls. pulls ≡ at_least_pull channel.now k ∷ []) }
-    ensures fit {
-        (lens : ListOf ℕ) → FitsShape lens channel.now → IfOk result (All (IsPull lens))
-    }
-    ensures closed {
-        (v : ListOf ℕ) → IsWithinChannel channel.now v → IfOk result (λ pulls.
-        ClosedUnder pulls v ↔ (received_at channel.now v + k ≤ sent_at channel.now v))
-    }
+    ensures fit { (lens : ListOf ℕ) → FitsShape lens channel.now → IfOk result (All (IsPull lens)) }
+    ensures closed { (v : ListOf ℕ) → IsWithinChannel channel.now v → IfOk result (λ pulls.
+        ClosedUnder pulls v ↔ (received_at channel.now v + k ≤ sent_at channel.now v)) }
 {
     let table = first_positions(
         alloc,

@@ -16,23 +16,19 @@ ghost use Rattle.channel_preds.specs.Truth.{HasMoreEvents, lens_of};
 ///
 /// The lower bound needs that no message is received that was not sent: clocks alone don't say so.
 pub fn bounds_hold_where_they_are_true()
-    ensures at_most {
-        (states : StatesView) (watches : Watches) (p q k : ℕ) → AreWhole states
+    ensures at_most { (states : StatesView) (watches : Watches) (p q k : ℕ) → AreWhole states
         → p < length states.events → q < length states.events
         → (c : Cut) → IsConsistent (clocks_of (trace_of states)) c
         → ClosedUnder (at_most_pulls states p q k) c
         ↔ Sat (run_in states watches)
-        (InTransit (name_of states p) (name_of states q) LessOrEqual k) c
-    }
-    ensures at_least {
-        (states : StatesView) (watches : Watches) (p q k : ℕ) → AreWhole states
+        (InTransit (name_of states p) (name_of states q) LessOrEqual k) c }
+    ensures at_least { (states : StatesView) (watches : Watches) (p q k : ℕ) → AreWhole states
         → p < length states.events → q < length states.events
         → ReceiptsHaveSends (run_in states watches)
         → (c : Cut) → IsConsistent (clocks_of (trace_of states)) c
         → ClosedUnder (at_least_pulls states p q k) c
         ↔ Sat (run_in states watches)
-        (InTransit (name_of states p) (name_of states q) GreaterOrEqual k) c
-    }
+        (InTransit (name_of states p) (name_of states q) GreaterOrEqual k) c }
 {}
 
 /// When more events come, a pull of a channel asks for no less at each position, past the last one

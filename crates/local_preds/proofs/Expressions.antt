@@ -40,8 +40,7 @@ mutual
   expr_means r variables watches process c (watch number) = (λ h. h, λ h. h)
   expr_means r variables watches process c (negation e) =
       let b = is_true (named_value r variables process c) (named_watch r watches process c) e in
-      let rest = expr_means r variables watches process c e in
-      (
+      let rest = expr_means r variables watches process c e in (
         λ h. not_from_false b (false_from_ne_true b (λ yes_. h (rest.1 yes_))),
         λ no_ h. both_ways b (not-true b no_) (rest.0 h),
       )
@@ -53,8 +52,7 @@ mutual
   all_mean r variables watches process c none = (λ h. refl, λ h. tt)
   all_mean r variables watches process c (more e es) =
       let one = expr_means r variables watches process c e in
-      let rest = all_mean r variables watches process c es in
-      (
+      let rest = all_mean r variables watches process c es in (
         λ h. and_from _ _ (one.0 h.0) (rest.0 h.1),
         λ h.
             let parts = and_parts (is_true (named_value r variables process c) (named_watch r watches process c) e) (all_true (named_value r variables process c) (named_watch r watches process c) es) h in
@@ -68,8 +66,7 @@ mutual
       let one = expr_means r variables watches process c e in
       let rest = some_means r variables watches process c es in
       let this = is_true (named_value r variables process c) (named_watch r watches process c) e in
-      let those = some_true (named_value r variables process c) (named_watch r watches process c) es in
-      (
+      let those = some_true (named_value r variables process c) (named_watch r watches process c) es in (
         λ h. elim h [ inl here ↦ or_left this those (one.0 here) | inr there ↦ or_right this those (rest.0 there) ],
         λ h. elim (or_cases this those h) [ inl here ↦ inl (one.1 here) | inr there ↦ inr (rest.1 there) ],
       )

@@ -33,9 +33,9 @@ pub record IsFront (row later : List Bool) : Type 0 where
 next_grows : (row later : List Bool) → IsFront row later → (x y : ℕ) → x ≤ y → next_true row x ≤ next_true later y
 next_grows row later front x y h =
     first_grows (is_true_from row x) (is_true_from later y) (length row) (length later) front.shorter
-        (λ k lt has.
-        let parts = and_parts (nat_le y k) (get_or later k false) has in
-        and_from _ _ (le-leb x k (omega (arith, leb-true _ _ parts.0))) (front.same k lt ∙ parts.1))
+    (λ k lt has.
+    let parts = and_parts (nat_le y k) (get_or later k false) has in
+    and_from _ _ (le-leb x k (omega (arith, leb-true _ _ parts.0))) (front.same k lt ∙ parts.1))
 
 row_grows : (old lens : List ℕ) (p : ℕ) (row later : List Bool) → IsFront row later → length row ≡ get_or old p 0 + 1 → length later ≡ get_or lens p 0 + 1
     → PullGrows old lens (local_pull p row) (local_pull p later)
@@ -102,6 +102,6 @@ pub local_grows : (before after : StatesView) (watch_process : List (Option ℕ)
     → PullGrows (map length before.events) (map length after.events) (local_pull p (truths_of before p old_rows e)) (local_pull p (truths_of after p new_rows e))
 local_grows before after watch_process old_rows new_rows p e grown fits =
     row_grows (map length before.events) (map length after.events) p (truths_of before p old_rows e) (truths_of after p new_rows e)
-        (truths_front before after watch_process old_rows new_rows p e grown fits)
-        (length-truths before p old_rows e ∙ ap (λ (n : ℕ). n + 1) (sym (lens-get_or before.events p)))
-        (length-truths after p new_rows e ∙ ap (λ (n : ℕ). n + 1) (sym (lens-get_or after.events p)))
+    (truths_front before after watch_process old_rows new_rows p e grown fits)
+    (length-truths before p old_rows e ∙ ap (λ (n : ℕ). n + 1) (sym (lens-get_or before.events p)))
+    (length-truths after p new_rows e ∙ ap (λ (n : ℕ). n + 1) (sym (lens-get_or after.events p)))

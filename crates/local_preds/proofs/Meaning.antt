@@ -57,8 +57,8 @@ process_number states watches whole p there =
 values_agree : (states : StatesView) (watches : Watches) (watch_names : List Name) (watch_process : List (Option ℕ)) (watch_rows : List (List Bool)) (p : ℕ) → AreWhole states → p < length states.events
     → AreAnswers states watches watch_names watch_process watch_rows p → (c : Cut)
     → Agree (length (get_or states.header.vars p [])) watch_process p
-        (named_value (run_of (trace_of states) watches) (binding_names (get_or states.header.vars p [])) (name_at states.header.procs p) c) (value_at states p (count c p))
-        (named_watch (run_of (trace_of states) watches) watch_names (name_at states.header.procs p) c) (watched_at watch_rows (count c p))
+    (named_value (run_of (trace_of states) watches) (binding_names (get_or states.header.vars p [])) (name_at states.header.procs p) c) (value_at states p (count c p))
+    (named_watch (run_of (trace_of states) watches) watch_names (name_at states.header.procs p) c) (watched_at watch_rows (count c p))
 values_agree states watches watch_names watch_process watch_rows p whole there answers c =
     let r = run_of (trace_of states) watches in
     let names = binding_names (get_or states.header.vars p []) in
@@ -68,7 +68,7 @@ values_agree states watches watch_names watch_process watch_rows p whole there a
           let variables : v < length names = omega (arith, length-map (get_or states.header.vars p []) (λ (b : Binding). b.name)) in
           ap (λ (i : ℕ). r.value i (name_at names v) (count c i)) number
           ∙ value_named states p (count c p) v (name_at names v) whole.header.vars whole.events there
-              (place_again names v (apart_at states.header.vars p whole.header.variables (omega (arith, whole.events, whole.header.vars))) variables);
+          (place_again names v (apart_at states.header.vars p whole.header.variables (omega (arith, whole.events, whole.header.vars))) variables);
       truths = λ w on.
           ap (λ (i : ℕ). r.watched i (name_at watch_names w) (count c i)) number
           ∙ ap (λ (row : List Bool). get_or row (count c p) false) (sym (answers w on));
@@ -90,10 +90,9 @@ formula_at_cut states watches watch_names watch_process watch_rows p e whole the
     get_or-map binding_names states.header.vars p [] [] (omega (arith, whole.events, whole.header.vars)) in
     let means = expr_means r names watch_names process c e in
     let same = same_truth (length (get_or states.header.vars p [])) watch_process p (named_value r names process c) (value_at states p (count c p))
-        (named_watch r watch_names process c) (watched_at watch_rows (count c p)) e fits
-        (values_agree states watches watch_names watch_process watch_rows p whole there answers c) in
-    let F : List Name → Type 0 = λ variables. Sat r (formula_in variables watch_names process e) c in
-    (
+    (named_watch r watch_names process c) (watched_at watch_rows (count c p)) e fits
+    (values_agree states watches watch_names watch_process watch_rows p whole there answers c) in
+    let F : List Name → Type 0 = λ variables. Sat r (formula_in variables watch_names process e) c in (
       λ h. sym same ∙ means.0 (subst F named h),
       λ h. subst F (sym named) (means.1 (same ∙ h)),
     )
@@ -106,8 +105,7 @@ local_means states watches watch_names watch_process watch_rows p e whole there 
     let within = cut_within states whole p there c consistent in
     let close = pulls_close p (truths_of states p watch_rows e) (local_pulls states p watch_rows e) refl c (omega (arith, length-truths states p watch_rows e)) in
     let read = truth_at_cut states p watch_rows e (count c p) within in
-    let formula = formula_at_cut states watches watch_names watch_process watch_rows p e whole there fits answers c in
-    (
+    let formula = formula_at_cut states watches watch_names watch_process watch_rows p e whole there fits answers c in (
       λ closed. formula.1 (sym read ∙ close.0 closed),
       λ sat. close.1 (read ∙ formula.0 sat),
     )
@@ -117,8 +115,7 @@ pub constant_means : (r : Run) (names : Names) (lens : List ℕ) (e : Expr) → 
 constant_means r names lens e constant c within =
     let close = constant_closes lens (constant_truth e) c within in
     let means = expr_means r [] [] [] c e in
-    let same = same_constant (named_value r [] [] c) (λ v. pos 0) (named_watch r [] [] c) (λ w. false) e constant in
-    (
+    let same = same_constant (named_value r [] [] c) (λ v. pos 0) (named_watch r [] [] c) (λ w. false) e constant in (
       λ closed. means.1 (same ∙ close.0 closed),
       λ sat. close.1 (sym same ∙ means.0 sat),
     )

@@ -30,8 +30,11 @@ next_behind row x no_ =
     ] in
     let less : (y : ℕ) → y < length row → is_true_from row (x + 1) y ≡ true → is_true_from row x y ≡ true =
     λ y lt has. let parts = and_parts (nat_le (x + 1) y) (get_or row y false) has in and_from _ _ (le-leb x y (omega (arith, leb-true _ _ parts.0))) parts.1 in
-    omega (arith, first_grows (is_true_from row (x + 1)) (is_true_from row x) (length row) (length row) (omega arith) more,
-        first_grows (is_true_from row x) (is_true_from row (x + 1)) (length row) (length row) (omega arith) less)
+    omega (
+      arith,
+      first_grows (is_true_from row (x + 1)) (is_true_from row x) (length row) (length row) (omega arith) more,
+      first_grows (is_true_from row x) (is_true_from row (x + 1)) (length row) (length row) (omega arith) less,
+    )
 
 -- behind the last position there is none
 pub next_past : (row : List Bool) → length row ≡ next_true row (length row)
@@ -89,7 +92,7 @@ next_at row x there = get_or-map-range_with_len (next_true row) 0 (length row + 
 next_rises : (row : List Bool) (x y : ℕ) → x ≤ y → next_true row x ≤ next_true row y
 next_rises row x y h =
     first_grows (is_true_from row x) (is_true_from row y) (length row) (length row) (omega arith)
-        (λ k lt has. let parts = and_parts (nat_le y k) (get_or row k false) has in and_from _ _ (le-leb x k (omega (arith, leb-true _ _ parts.0))) parts.1)
+    (λ k lt has. let parts = and_parts (nat_le y k) (get_or row k false) has in and_from _ _ (le-leb x k (omega (arith, leb-true _ _ parts.0))) parts.1)
 
 pub only : (P : Pull → Type 0) (pull : Pull) → P pull → All P (pull ∷ [])
 only P pull h = All-cons P pull [] h (All-nil P)
@@ -113,8 +116,7 @@ local_fits lens p row there size =
 pub local_holds : (p : ℕ) (row : List Bool) (v : List ℕ) → get_or v p 0 < length row → HoldsAt v (local_pull p row) ↔ (get_or row (get_or v p 0) false ≡ true)
 local_holds p row v there =
     let x = get_or v p 0 in
-    let read = next_at row x (omega arith) in
-    (
+    let read = next_at row x (omega arith) in (
       λ holds.
           let here : next_true row x ≤ x = omega (arith, read, holds) in
           let passes = first_passes (is_true_from row x) (length row) (omega arith) in
@@ -142,7 +144,7 @@ pub never_filled : (lens : List ℕ) (none : ℕ) (table : List ℕ) → none �
 never_filled lens none table is filled =
     let size : length table ≡ get_or lens 0 0 + 2 = ap (λ (l : List ℕ). length l) filled ∙ length-replicate (none + 1) none ∙ omega arith in
     fill_by_all (λ x. get_or lens 0 0 + 1) table (get_or lens 0 0 + 2) 0 size
-        (λ k lt. ap (λ (l : List ℕ). get_or l k 0) filled ∙ get_or-replicate (none + 1) k none 0 (omega arith) ∙ is)
+    (λ k lt. ap (λ (l : List ℕ). get_or l k 0) filled ∙ get_or-replicate (none + 1) k none 0 (omega arith) ∙ is)
 
 length-never : (lens : List ℕ) → length (never_pull lens).table ≡ get_or lens 0 0 + 2
 length-never lens = length-map-range_with_len (λ x. get_or lens 0 0 + 1) 0 (get_or lens 0 0 + 2)

@@ -24,11 +24,9 @@ pub fn pulls_of(
     requires row { length row.now ≡ slice_index shape.now process + 1 }
     ensures pulls { IfOk result (λ pulls. pulls ≡ local_pull process row.now ∷ []) }
     ensures fit { IfOk result (All (IsPull shape.now)) }
-    ensures closed {
-        (v : ListOf ℕ) → slice_index v process ≤ slice_index shape.now process
+    ensures closed { (v : ListOf ℕ) → slice_index v process ≤ slice_index shape.now process
         → IfOk result (λ pulls.
-        ClosedUnder pulls v ↔ (slice_index_or row.now (slice_index v process) false ≡ true))
-    }
+        ClosedUnder pulls v ↔ (slice_index_or row.now (slice_index v process) false ≡ true)) }
 {
     let none = shape.len_of(process) + 1;
     let mut table = vec![in alloc; none; row.len() + 1]?;
@@ -47,10 +45,8 @@ pub fn pulls_of(
 pub fn constant_pulls(alloc: Global, shape: &Shape, value: bool) -> Result<List<Pull>, NoMemory>
     ensures pulls { IfOk result (λ pulls. pulls ≡ constant_pulls_of shape.now value) }
     ensures fit { IfOk result (All (IsPull shape.now)) }
-    ensures closed {
-        (v : ListOf ℕ) → slice_index v 0 ≤ slice_index shape.now 0
-        → IfOk result (λ pulls. ClosedUnder pulls v ↔ (value ≡ true))
-    }
+    ensures closed { (v : ListOf ℕ) → slice_index v 0 ≤ slice_index shape.now 0
+        → IfOk result (λ pulls. ClosedUnder pulls v ↔ (value ≡ true)) }
 {
     if value {
         return Ok(List::new(alloc));
@@ -62,10 +58,8 @@ pub fn constant_pulls(alloc: Global, shape: &Shape, value: bool) -> Result<List<
 
 /// The list of one pull alone, from a process to itself.
 fn stay(alloc: Global, process: u32, table: Vec<u32>) -> Result<List<Pull>, NoMemory>
-    ensures {
-        IfOk result (λ pulls.
-        pulls ≡ record { src = process; dst = process; table = table.items } ∷ [])
-    }
+    ensures { IfOk result (λ pulls.
+        pulls ≡ record { src = process; dst = process; table = table.items } ∷ []) }
 {
     let mut pulls = List::new(alloc);
     pulls.push(Pull {

@@ -21,56 +21,42 @@ ghost use Rattle.local_preds.specs.LocalRuns.{local_pulls, constant_truth, HasGr
 ///
 /// The names are those of the header, and for watches any whose answers stand in the rows.
 pub fn local_parts_hold_where_they_are_true()
-    ensures local {
-        (states : StatesView) (watches : Watches) (watch_names : List Name)
+    ensures local { (states : StatesView) (watches : Watches) (watch_names : List Name)
         (watch_process : List (Option ℕ)) (watch_rows : List (List Bool)) (p : ℕ) (e : Expr)
         → AreWhole states → p < length states.events → FitsProcess states watch_process p e
         → AreAnswers states watches watch_names watch_process watch_rows p
         → (c : Cut) → IsConsistent (clocks_of (trace_of states)) c
         → ClosedUnder (local_pulls states p watch_rows e) c
         ↔ Sat (run_of (trace_of states) watches)
-        (local_formula (names_of states watch_names) (Some p) e) c
-    }
-    ensures constant {
-        (r : Run) (names : Names) (lens : List ℕ) (e : Expr) → is_constant e ≡ true
+        (local_formula (names_of states watch_names) (Some p) e) c }
+    ensures constant { (r : Run) (names : Names) (lens : List ℕ) (e : Expr) → is_constant e ≡ true
         → (c : Cut) → count c 0 ≤ slice_index lens 0
         → ClosedUnder (constant_pulls_of lens (constant_truth e)) c
-        ↔ Sat r (local_formula names None e) c
-    }
+        ↔ Sat r (local_formula names None e) c }
 {}
 
 /// An expression that is made for a process and its watches can be read there. A constant can be
 /// read anywhere, and is the same everywhere.
 pub fn made_expressions_can_be_read()
-    ensures local {
-        (states : StatesView) (watch_process : List (Option ℕ)) (watch_rows : List (List Bool))
-        (p : ℕ) (e : Expr) → FitsProcess states watch_process p e
-        → AreFull states watch_process watch_rows p → IsReadableAt states p watch_rows e
-    }
-    ensures constant {
-        (variables states : ℕ) (watch_rows : List (List Bool)) (e : Expr) → is_constant e ≡ true
-        → IsReadable variables states watch_rows e
-    }
-    ensures same {
-        (value : ℕ → ℤ) (watched : ℕ → Bool) (e : Expr) → is_constant e ≡ true
-        → is_true value watched e ≡ constant_truth e
-    }
+    ensures local { (states : StatesView) (watch_process : List (Option ℕ))
+        (watch_rows : List (List Bool)) (p : ℕ) (e : Expr) → FitsProcess states watch_process p e
+        → AreFull states watch_process watch_rows p → IsReadableAt states p watch_rows e }
+    ensures constant { (variables states : ℕ) (watch_rows : List (List Bool)) (e : Expr)
+        → is_constant e ≡ true → IsReadable variables states watch_rows e }
+    ensures same { (value : ℕ → ℤ) (watched : ℕ → Bool) (e : Expr) → is_constant e ≡ true
+        → is_true value watched e ≡ constant_truth e }
 {}
 
 /// When more events come, the pull of an expression asks for no less at each position, past the
 /// last one too, and so does the pull that no cut keeps.
 pub fn local_pulls_grow()
-    ensures local {
-        (before after : StatesView) (watch_process : List (Option ℕ))
+    ensures local { (before after : StatesView) (watch_process : List (Option ℕ))
         (old_rows new_rows : List (List Bool)) (p : ℕ) (e : Expr)
         → HasGrownAt before after watch_process old_rows new_rows p
         → FitsProcess before watch_process p e
         → PullGrows (map length before.events) (map length after.events)
         (local_pull p (truths_of before p old_rows e))
-        (local_pull p (truths_of after p new_rows e))
-    }
-    ensures never {
-        (old lens : List ℕ) → slice_index old 0 ≤ slice_index lens 0
-        → PullGrows old lens (never_pull old) (never_pull lens)
-    }
+        (local_pull p (truths_of after p new_rows e)) }
+    ensures never { (old lens : List ℕ) → slice_index old 0 ≤ slice_index lens 0
+        → PullGrows old lens (never_pull old) (never_pull lens) }
 {}

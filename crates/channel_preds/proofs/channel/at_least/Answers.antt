@@ -15,11 +15,11 @@ pub returns-clause-fit : goal.returns-clause-fit
 returns-clause-fit c = λ lens fits.
     let are = subst IsChannel c.channel.view_is c.channel.invariant in
     IfOk-weaker c.only.result (λ (ps : List Pull). ps ≡ at_least_pull c.args.channel.now c.args.k ∷ []) (λ (ps : List Pull). All (IsPull lens) ps)
-        (λ ps is. at_least_fits c.args.channel.now are c.args.k ps is lens fits) (returns-clause-pulls c)
+    (λ ps is. at_least_fits c.args.channel.now are c.args.k ps is lens fits) (returns-clause-pulls c)
 
 pub returns-clause-closed : goal.returns-clause-closed
 returns-clause-closed c = λ v within.
     let are = subst IsChannel c.channel.view_is c.channel.invariant in
     IfOk-weaker c.only.result (λ (ps : List Pull). ps ≡ at_least_pull c.args.channel.now c.args.k ∷ [])
-        (λ (ps : List Pull). ClosedUnder ps v ↔ (received_at c.args.channel.now v + c.args.k ≤ sent_at c.args.channel.now v))
-        (λ ps is. at_least_closes c.args.channel.now are c.args.k ps is v within) (returns-clause-pulls c)
+    (λ (ps : List Pull). ClosedUnder ps v ↔ (received_at c.args.channel.now v + c.args.k ≤ sent_at c.args.channel.now v))
+    (λ ps is. at_least_closes c.args.channel.now are c.args.k ps is v within) (returns-clause-pulls c)

@@ -27,15 +27,15 @@ returns-clause-pulls c =
     let end : c.loop-position.position ≡ 0 = omega arith in
     let all = subst (λ (n : ℕ). ToldFrom c.args.row.now n c.loop-position.next c.loop-position.table.items) end c.loop-position.invariant in
     IfOk-weaker c.stay.result (λ (ps : List Pull). ps ≡ staying c.args.process c.loop-position.table.items) (λ (ps : List Pull). ps ≡ local_pull c.args.process c.args.row.now ∷ [])
-        (λ ps is. told_pulls ps c.args.process _ _ (all_told c.args.row.now c.loop-position.next _ all) is) c.stay.ensures
+    (λ ps is. told_pulls ps c.args.process _ _ (all_told c.args.row.now c.loop-position.next _ all) is) c.stay.ensures
 
 pub returns-clause-fit : goal.returns-clause-fit
 returns-clause-fit c =
     IfOk-weaker c.stay.result (λ (ps : List Pull). ps ≡ local_pull c.args.process c.args.row.now ∷ []) (λ (ps : List Pull). All (IsPull c.args.shape.now) ps)
-        (λ ps is. pulls_fit c.args.shape.now c.args.process c.args.row.now ps is c.requires.process c.requires.row) (returns-clause-pulls c)
+    (λ ps is. pulls_fit c.args.shape.now c.args.process c.args.row.now ps is c.requires.process c.requires.row) (returns-clause-pulls c)
 
 pub returns-clause-closed : goal.returns-clause-closed
 returns-clause-closed c = λ v within.
     IfOk-weaker c.stay.result (λ (ps : List Pull). ps ≡ local_pull c.args.process c.args.row.now ∷ [])
-        (λ (ps : List Pull). ClosedUnder ps v ↔ (get_or c.args.row.now (get_or v c.args.process 0) false ≡ true))
-        (λ ps is. pulls_close c.args.process c.args.row.now ps is v (omega (arith, c.requires.row))) (returns-clause-pulls c)
+    (λ (ps : List Pull). ClosedUnder ps v ↔ (get_or c.args.row.now (get_or v c.args.process 0) false ≡ true))
+    (λ ps is. pulls_close c.args.process c.args.row.now ps is v (omega (arith, c.requires.row))) (returns-clause-pulls c)
