@@ -1,0 +1,128 @@
+//! Whether a case's slice is as it must be.
+ghost use Rattle.std.specs.Prelude.{◌≡◌, IsTrue, length};
+ghost use Rattle.slice_graph.specs.Views.{IsCut};
+ghost use Rattle.slice_graph.specs.Fitting.{FitsOrder};
+
+use crate::case::{Case, Wanted};
+use crate::making::slice_of_parts;
+use crate::running::clocks_of;
+use causal_order::Order;
+use cut_lattice::Cut;
+use pota_base::{NoMemory, Steps};
+use slice_graph::{Slice, is_within, set_words};
+use std::alloc::{AllocError, Global};
+use std::sync::ledger::Ledger;
+
+/// What is told of a case.
+#[derive(Clone, Copy)]
+enum Finding {
+    Good,
+    Unread,
+    NoRun,
+    NoSlice,
+    WrongBounds,
+    WrongEdges,
+    WrongCuts,
+}
+
+impl Finding {
+    fn text(self) -> &'static str {
+        match self {
+            Finding::Good => "ok",
+            Finding::Unread => "a line that cannot be read",
+            Finding::NoRun => "the events are not those of a run",
+            Finding::NoSlice => "a pull is not one of the run",
+            Finding::WrongBounds => "another least or greatest cut",
+            Finding::WrongEdges => "other edges",
+            Finding::WrongCuts => "other cuts",
+        }
+    }
+}
+
+// Whether the bound is the one that is wanted, or none is there and none is wanted.
+fn is_wanted(bound: Option<&[u32]>, wanted: &Option<Vec<u32>>) -> bool {
+    match (bound, wanted) {
+        (Some(cut), Some(numbers)) => cut == numbers.as_slice(),
+        (None, None) => true,
+        (Some(_), None) | (None, Some(_)) => false,
+    }
+}
+
+fn has_bounds(slice: &Slice, wanted: &Wanted) -> bool {
+    slice.is_empty() == wanted.empty
+        && is_wanted(slice.bottom(), &wanted.bottom)
+        && is_wanted(slice.top(), &wanted.top)
+}
+
+// Whether the slice's answer at each of the cuts is this one. Counts that are no cut of the run have none.
+fn answers(
+    alloc: Global,
+    slice: &Slice,
+    cuts: &[Vec<u32>],
+    answer: bool,
+) -> Result<bool, NoMemory> {
+    for counts in cuts {
+        if at_cut(alloc, slice, counts)? != Some(answer) {
+            return Ok(false);
+        }
+    }
+    Ok(true)
+}
+
+// Whether the slice has a cut, where the counts are those of one.
+fn at_cut(alloc: Global, slice: &Slice, counts: &[u32]) -> Result<Option<bool>, NoMemory> {
+    let shape = slice.shape();
+    if counts.len() != shape.procs() as usize || !is_within(counts, shape.lens()) {
+        return Ok(None);
+    }
+    let mut cut = Cut::new(alloc, shape.procs())?;
+    set_words(counts, &mut cut);
+    Ok(Some(slice.has(&cut)))
+}
+
+fn judge_slice(
+    alloc: Global,
+    order: &Order,
+    slice: &Slice,
+    wanted: &Wanted,
+) -> Result<Finding, NoMemory>
+    requires { FitsOrder order.now slice.now }
+{
+    if !has_bounds(slice, wanted) {
+        return Ok(Finding::WrongBounds);
+    }
+    let edges = slice.edges(alloc, order)?;
+    if edges.as_slice() != wanted.edges.as_slice() {
+        return Ok(Finding::WrongEdges);
+    }
+    if !answers(alloc, slice, &wanted.has, true)? || !answers(alloc, slice, &wanted.lacks, false)? {
+        return Ok(Finding::WrongCuts);
+    }
+    Ok(Finding::Good)
+}
+
+fn found<L: Ledger>(alloc: Global, case: &Case, steps: &mut Steps<L>) -> Result<Finding, NoMemory> {
+    if case.unread.is_some() {
+        return Ok(Finding::Unread);
+    }
+    let Some(clocks) = clocks_of(alloc, case.procs, case.events.as_slice())? else {
+        return Ok(Finding::NoRun);
+    };
+    let order = clocks.order();
+    match slice_of_parts(alloc, order, &case.parts, steps)? {
+        Some(slice) => judge_slice(alloc, order, &slice, &case.wanted),
+        None => Ok(Finding::NoSlice),
+    }
+}
+
+/// Whether the case came out as it must, and else what did not.
+pub fn judge<L: Ledger>(
+    alloc: Global,
+    case: &Case,
+    steps: &mut Steps<L>,
+) -> Result<&'static str, AllocError> {
+    match found(alloc, case, steps) {
+        Ok(finding) => Ok(finding.text()),
+        Err(_) => Err(AllocError),
+    }
+}
