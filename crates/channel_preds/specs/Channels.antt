@@ -29,10 +29,11 @@ count_of which events a = count_by (λ (e : Event). is_counted which e.kind) (ta
 abbrev pub counts_of : Counted → List Event → List ℕ
 counts_of which events = map (count_of which events) (range_with_len 0 (length events + 1))
 
--- a process sends nothing to itself
+-- what counts as sent by the one to the other; a process sends nothing to itself
 abbrev pub sends_to : ℕ → ℕ → Counted
 sends_to sender receiver = if sender == receiver then counted.Nothing else counted.SendsTo receiver
 
+-- what counts as received from the sender
 abbrev pub receipts_from : ℕ → ℕ → Counted
 receipts_from sender receiver =
     if sender == receiver then counted.Nothing else counted.ReceiptsFrom sender
@@ -52,7 +53,7 @@ pub record AreCounts (counts : List ℕ) : Type 0 where
   pub some : 1 ≤ length counts
   pub rises : (x y : ℕ) → x ≤ y → y < length counts → slice_index counts x ≤ slice_index counts y
 
--- a run has at most 50,000 events
+-- both of its lists are counts, of a run of at most 50,000 events
 pub record IsChannel (channel : ChannelView) : Type 0 where
   pub sent : AreCounts channel.sent
   pub received : AreCounts channel.received
@@ -84,10 +85,11 @@ pub record IsWithinChannel (channel : ChannelView) (v : List ℕ) : Type 0 where
   pub sender : slice_index v channel.sender < length channel.sent
   pub receiver : slice_index v channel.receiver < length channel.received
 
--- the sends and the receipts within a vector
+-- the sends within a vector
 abbrev pub sent_at : ChannelView → List ℕ → ℕ
 sent_at channel v = slice_index channel.sent (slice_index v channel.sender)
 
+-- the receipts within a vector
 abbrev pub received_at : ChannelView → List ℕ → ℕ
 received_at channel v = slice_index channel.received (slice_index v channel.receiver)
 

@@ -15,10 +15,11 @@ run_in states watches = run_of (trace_of states) watches
 abbrev pub name_of : StatesView → ℕ → Name
 name_of states p = name_at states.header.procs p
 
--- the pulls that say of a run that at most, or at least, k messages are under way from p to q
+-- the pulls that say of a run that at most k messages are under way from p to q
 abbrev pub at_most_pulls : StatesView → ℕ → ℕ → ℕ → List Pull
 at_most_pulls states p q k = at_most_pull (channel_of states p q) k ∷ []
 
+-- the pulls that say that at least k are
 abbrev pub at_least_pulls : StatesView → ℕ → ℕ → ℕ → List Pull
 at_least_pulls states p q k = at_least_pull (channel_of states p q) k ∷ []
 

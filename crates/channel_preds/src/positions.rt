@@ -20,8 +20,8 @@ pub fn first_positions(
     extra: u64,
 ) -> Result<List<u32>, NoMemory>
     requires leads { AreCounts leads.now }
-    requires few { length follows.now ≤ 50001 }
-    requires lead_count { length leads.now ≤ 50001 }
+    requires few_leads { length leads.now ≤ 50001 }
+    requires few_follows { length follows.now ≤ 50001 }
     requires more { more ≤ 2 ^ 63 }
     requires extra { extra ≤ 2 ^ 63 }
     ensures { IfOk result (λ t. t ≡ first_positions_of leads.now more follows.now extra) }

@@ -39,12 +39,10 @@ pub fn local_parts_hold_where_they_are_true()
 /// read anywhere, and is the same everywhere.
 pub fn made_expressions_can_be_read()
     ensures local { (states : StatesView) (watch_process : List (Option ℕ))
-        (watch_rows : List (List Bool))
-        (p : ℕ) (e : Expr) → FitsProcess states watch_process p e
+        (watch_rows : List (List Bool)) (p : ℕ) (e : Expr) → FitsProcess states watch_process p e
         → AreFull states watch_process watch_rows p → IsReadableAt states p watch_rows e }
     ensures constant { (variables states : ℕ) (watch_rows : List (List Bool)) (e : Expr)
-        → is_constant e ≡ true
-        → IsReadable variables states watch_rows e }
+        → is_constant e ≡ true → IsReadable variables states watch_rows e }
     ensures same { (value : ℕ → ℤ) (watched : ℕ → Bool) (e : Expr) → is_constant e ≡ true
         → is_true value watched e ≡ constant_truth e }
 {}

@@ -19,7 +19,8 @@ pub fn truth_row(
 ) -> Result<List<bool>, NoMemory>
     requires process { process < length states.now.events }
     requires readable { IsReadableAt states.now process watch_rows.now (expr_of expr.now) }
-    ensures truths { IfOk result (λ row. row ≡ truths_of states.now process watch_rows.now (expr_of expr.now)) }
+    ensures truths { IfOk result (λ row.
+        row ≡ truths_of states.now process watch_rows.now (expr_of expr.now)) }
     ensures len { IfOk result (λ row. length row ≡ len_at states.now process + 1) }
 {
     let len = states.shape().len_of(process);

@@ -10,9 +10,9 @@ pub truth_row-requires-clause-readable : goal.truth_row-requires-clause-readable
 truth_row-requires-clause-readable c =
     let header = ap (λ (h : Header). length h.vars) c.header-header.ensures.header in
     comparison_readable c.args.states.now _ c.in-Some.process c.in-Some-number_at.left _ _ c.get.result.now
-        (omega (arith, header, c.len.ensures, c.if-process-len.false))
-        (subst (λ (h : Header). c.get.result.now ≡ get_or h.vars c.in-Some.process c.get.result.now) c.header-header.ensures.header c.get.ensures.indexed)
-        (omega (arith, c.len-2.ensures, c.if-left-len.false))
+    (omega (arith, header, c.len.ensures, c.if-process-len.false))
+    (subst (λ (h : Header). c.get.result.now ≡ get_or h.vars c.in-Some.process c.get.result.now) c.header-header.ensures.header c.get.ensures.indexed)
+    (omega (arith, c.len-2.ensures, c.if-left-len.false))
 
 pub pulls_of-requires-clause-row : goal.pulls_of-requires-clause-row
 pulls_of-requires-clause-row c =

@@ -8,5 +8,5 @@ use Rattle.atom_rows.proofs.reading.read.Goals as goal
 pub extend-requires : goal.extend-requires
 extend-requires c =
     may_follow c.in_ok-states.states c.in-Some-header.header c.loop-item.events c.in_ok-states.ensures
-        (subst (λ (es : List Event). AllByRecursion (IsKnown c.in-Some-header.header) es) c.as_slice.ensures (c.are_known.ensures c.if-not-are_known.false))
-        (omega (arith, c.if-len-gt-MOST_EVENTS.false, c.len.ensures))
+    (subst (λ (es : List Event). AllByRecursion (IsKnown c.in-Some-header.header) es) c.as_slice.ensures (c.are_known.ensures c.if-not-are_known.false))
+    (omega (arith, c.if-len-gt-MOST_EVENTS.false, c.len.ensures))
