@@ -1,0 +1,120 @@
+-- What more processes that are settled cost.
+use Rattle.std.proofs.Common.{◌≡◌, ◌≢◌, ℕ, zero, suc, ◌+◌, ◌-◌, ◌*◌, ◌<◌, ◌≤◌, ◌⊎◌, inl, inr, Bool, true, false, List, [], ◌∷◌, length, get_or, set, sum, refl, arith, sym, ap, ◌∙◌, subst}
+use Rattle.std.specs.Prelude.{if◌then◌else◌}
+use Rattle.std.proofs.lemmas.List.Sums.{sum_by-cons, sum_by-set}
+use Rattle.std.proofs.Math.Nat.{mul-le-mul_left}
+use Rattle.pull_system.specs.Vector.{IsWithin}
+use Rattle.pull_system.specs.System.{SystemView, IsSystem}
+use Rattle.pull_system.specs.Rows.{row_at, IsLeast}
+use Rattle.pull_system.specs.Climb.{marked}
+use Rattle.pull_system.proofs.Climbing.{set_case}
+use Rattle.pull_system.proofs.Sums.{sum-is_vector}
+use Rattle.raise_machine.specs.Bounds.{word_at}
+use Rattle.pull_system.specs.Rows.{place_of}
+use Rattle.slice_workers.specs.Reaching.{AreHanded, handed_events, ReachesFirst}
+use Rattle.slice_workers.specs.Settling.{IsBottom, HasSettled, process_looks}
+use Rattle.slice_workers.proofs.Reached.{handed_more, handed_set}
+
+pub bottom_more : (system : SystemView) (floor now bottom : List ℕ) → IsWithin floor now → IsBottom system floor bottom → IsBottom system now bottom
+bottom_more system floor now bottom within is = record { least = is.least; lent = λ i there. omega (arith, is.lent i there, within.each (place_of system.lens 0 i)) }
+
+pub passed_none : (system : SystemView) (bottom floor : List ℕ) (handed : List Bool) (steps : ℕ) → AreHanded system floor handed → HasSettled system bottom floor floor handed handed steps steps
+passed_none system bottom floor handed steps are = record { rises = record { each = λ i. omega arith }; handed = are; stays = λ p is. is; looks = omega arith; paid = omega arith }
+
+pub passed_on : (system : SystemView) (bottom a b c : List ℕ) (x y z : List Bool) (s t u : ℕ) → HasSettled system bottom a b x y s t → HasSettled system bottom b c y z t u → HasSettled system bottom a c x z s u
+passed_on system bottom a b c x y z s t u first second = record {
+  rises = record { each = λ i. omega (arith, first.rises.each i, second.rises.each i) };
+  handed = second.handed;
+  stays = λ p is. second.stays p (first.stays p is);
+  looks = omega (arith, first.looks, second.looks);
+  paid = omega (arith, first.paid, second.paid);
+}
+
+-- one mark more, where there was none
+marked_set : (marks : List Bool) (i : ℕ) → i < length marks → get_or marks i false ≡ false → marked (set marks i true) ≡ marked marks + 1
+marked_set marks i there free =
+    let bit : Bool → ℕ = λ b. if b then 1 else 0 in omega (arith, sum_by-set (λ (b : Bool). if b then 1 else 0) marks i true false there, ap bit free)
+
+events_set : (lens : List ℕ) (handed : List Bool) (i : ℕ) → i < length lens → i < length handed → get_or handed i false ≡ false → handed_events lens (set handed i true) ≡ handed_events lens handed + get_or lens i 0
+events_set [] handed i there handed_there free = absurd (omega arith)
+events_set (len ∷ lens) [] i there handed_there free = absurd (omega arith)
+events_set (len ∷ lens) (true ∷ handed) zero there handed_there free = absurd (cc)
+events_set (len ∷ lens) (false ∷ handed) zero there handed_there free = omega arith
+events_set (len ∷ lens) (true ∷ handed) (suc i) there handed_there free = omega (arith, events_set lens handed i (omega arith) (omega arith) free)
+events_set (len ∷ lens) (false ∷ handed) (suc i) there handed_there free = omega (arith, events_set lens handed i (omega arith) (omega arith) free)
+
+next_mark : (p a b marks now : ℕ) → now ≡ marks + 1 → a ≤ b + p → a + p * marks ≤ b + p * now
+next_mark p a b marks now one less =
+    let e : p * now ≡ p * marks + p = ap (λ n. p * n) one ∙ mul_one_more p marks in omega (arith, less, e)
+  where
+    mul_one_more : (p marks : ℕ) → p * (marks + 1) ≡ p * marks + p
+    mul_one_more p marks = omega arith
+
+next_paid : (pulls a b rows old new before after : ℕ) → after ≡ before + rows → a + pulls * old ≤ b + pulls * (rows + new) → a + pulls * (old + before) ≤ b + pulls * (new + after)
+next_paid pulls a b rows old new before after same paid =
+    let e : pulls * (new + after) ≡ pulls * (new + (before + rows)) = ap (λ n. pulls * (new + n)) same in omega (arith, paid, e)
+
+-- the rows of one process more are settled, and it is marked
+pub passed_mark : (system : SystemView) (bottom old new : List ℕ) (handed : List Bool) (process steps steps_now : ℕ) → process < length system.lens → length system.lens ≤ 32 → AreHanded system old handed → get_or handed process false ≡ false
+    → IsWithin old new → ReachesFirst system process (get_or system.lens process 0) new
+    → steps_now ≤ steps + process_looks system bottom
+    → steps_now + length system.pulls * sum old ≤ steps + length system.pulls * (get_or system.lens process 0 + sum new)
+    → HasSettled system bottom old new handed (set handed process true) steps steps_now
+passed_mark system bottom old new handed process steps steps_now there few are free rises first looks paid = record {
+  rises = rises;
+  handed = handed_set system new handed process there (handed_more system old new handed rises are) first;
+  stays = λ p is. elim (set_case handed process true p false) [ inl e ↦ e ∙ is | inr e ↦ e.1 ];
+  looks = next_mark (process_looks system bottom) steps_now steps (marked handed) (marked (set handed process true)) (marked_set handed process (omega (arith, are.size)) free) looks;
+  paid = next_paid (length system.pulls) steps_now steps (get_or system.lens process 0) (sum old) (sum new) (handed_events system.lens handed) (handed_events system.lens (set handed process true))
+      (events_set system.lens handed process there (omega (arith, are.size)) free) paid;
+}
+
+-- no more are marked than there are processes
+pub marked_few : (marks : List Bool) (n : ℕ) → ((i : ℕ) → get_or marks i false ≡ true → i < n) → marked marks ≤ n
+marked_few [] n there = omega arith
+marked_few (true ∷ marks) zero there = absurd (omega (arith, there 0 refl))
+marked_few (true ∷ marks) (suc n) there = omega (arith, sum_by-cons (λ (b : Bool). if b then 1 else 0) true marks, marked_few marks n (λ i is. omega (arith, there (suc i) is)))
+marked_few (false ∷ marks) n there = omega (arith, sum_by-cons (λ (b : Bool). if b then 1 else 0) false marks, marked_few marks n (λ i is. omega (arith, there (suc i) is)))
+
+pub none_marked : (marks : List Bool) → ((i : ℕ) → get_or marks i false ≡ false) → marked marks ≡ 0
+none_marked [] none = refl
+none_marked (true ∷ marks) none = let e : true ≡ false = none 0 in absurd (cc)
+none_marked (false ∷ marks) none = omega (arith, sum_by-cons (λ (b : Bool). if b then 1 else 0) false marks, none_marked marks (λ i. none (suc i)))
+
+pub none_events : (lens : List ℕ) (marks : List Bool) → ((i : ℕ) → get_or marks i false ≡ false) → handed_events lens marks ≡ 0
+none_events [] marks none = refl
+none_events (len ∷ lens) [] none = refl
+none_events (len ∷ lens) (true ∷ marks) none = let e : true ≡ false = none 0 in absurd (cc)
+none_events (len ∷ lens) (false ∷ marks) none = omega (arith, none_events lens marks (λ i. none (suc i)))
+
+pub events_few : (lens : List ℕ) (marks : List Bool) → handed_events lens marks ≤ sum lens
+events_few [] marks = omega arith
+events_few (len ∷ lens) [] = omega arith
+events_few (len ∷ lens) (true ∷ marks) = omega (arith, sum_by-cons (λ (n : ℕ). n) len lens, events_few lens marks)
+events_few (len ∷ lens) (false ∷ marks) = omega (arith, sum_by-cons (λ (n : ℕ). n) len lens, events_few lens marks)
+
+-- The bottom's row and those of each process: `top` is what the components add up to at most.
+pub total : (pulls procs top bottom marks start last : ℕ) → 1 ≤ procs → procs ≤ top → bottom ≤ top → marks ≤ procs → last ≤ start + pulls * (1 + bottom) + pulls * (top - bottom) * marks
+    → last ≤ start + pulls * ((procs + 1) * top)
+total pulls procs top bottom marks start last one some less few took =
+    let rise : ℕ = top - bottom in
+    let whole : bottom + rise ≡ top = omega arith in
+    let all : rise * marks ≤ rise * procs = mul-le-mul_left rise few in
+    let first : rise * (procs - 1) ≤ top * (procs - 1) = times_le rise top (procs - 1) (omega arith) in
+    let split : rise * procs ≡ rise + rise * (procs - 1) = ap (λ n. rise * n) (let e : procs ≡ 1 + (procs - 1) = omega arith in e) ∙ add_times rise (procs - 1) in
+    let wide : (procs + 1) * top ≡ top + top + top * (procs - 1) = ap (λ n. (n + 1) * top) (let e : procs ≡ 1 + (procs - 1) = omega arith in e) ∙ two_more top (procs - 1) in
+    let bound : 1 + bottom + rise * marks ≤ (procs + 1) * top = omega (arith, whole, all, first, split, wide) in
+    let spread : pulls * (1 + bottom) + pulls * rise * marks ≡ pulls * (1 + bottom + rise * marks) = spread_out pulls (1 + bottom) rise marks in
+    omega (arith, took, spread, mul-le-mul_left pulls bound)
+  where
+    times_le : (a b c : ℕ) → a ≤ b → a * c ≤ b * c
+    times_le a b c h = omega (arith, mul-le-mul_left c h)
+
+    add_times : (a n : ℕ) → a * (1 + n) ≡ a + a * n
+    add_times a n = omega arith
+
+    two_more : (a n : ℕ) → (1 + n + 1) * a ≡ a + a + a * n
+    two_more a n = omega arith
+
+    spread_out : (p a r m : ℕ) → p * a + p * r * m ≡ p * (a + r * m)
+    spread_out p a r m = grind arith

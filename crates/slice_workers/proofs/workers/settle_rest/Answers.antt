@@ -1,0 +1,43 @@
+use Rattle.std.proofs.Common.{rules, arith, ap, ◌≡◌, ◌<◌, ◌≤◌, ◌∙◌, ℕ, length, false, true, get_or}
+use Rattle.pull_system.specs.System.{SystemView}
+use Rattle.bound_table.proofs.Seeing.{upto_next}
+use Rattle.slice_workers.proofs.Passes.{passed_none, passed_on, bottom_more}
+use Rattle.slice_workers.proofs.workers.settle_rest.Goals as goal
+
+pub loop-process-init : goal.loop-process-init
+loop-process-init g c =
+    let system : SystemView = c.args.table.now.system in record {
+      table = search rules;
+      settled = passed_none system c.args.bottom.now _ _ _ c.requires.handed;
+      done = λ p below. absurd (omega arith);
+    }
+
+pub settle_left-requires-clause-few : goal.settle_left-requires-clause-few
+settle_left-requires-clause-few g c =
+    let system : SystemView = c.args.table.now.system in
+    let few : length system.lens ≤ 32 = omega (arith, c.procs-process-end.ensures.shape.few, ap length (c.shape.ensures.shape ∙ ap (λ s. s.lens) c.system.ensures)) in few
+
+pub settle_left-requires-clause-bottom : goal.settle_left-requires-clause-bottom
+settle_left-requires-clause-bottom g c =
+    let system : SystemView = c.args.table.now.system in
+    bottom_more system _ _ _ c.loop-process.invariant.settled.rises c.requires.bottom
+
+pub settle_left-requires-clause-handed : goal.settle_left-requires-clause-handed
+settle_left-requires-clause-handed g c =
+    c.loop-process.invariant.settled.handed
+
+pub loop-process-preserved : goal.loop-process-preserved
+loop-process-preserved g c =
+    let system : SystemView = c.args.table.now.system in
+    let inv = c.loop-process.invariant in
+    let left = c.settle_left.ensures in record {
+      table = left.table ∙ inv.table;
+      settled = passed_on system c.args.bottom.now _ _ _ _ _ _ _ _ _ inv.settled left.settled;
+      done = upto_next (λ p. get_or c.settle_left.new.handed p false ≡ true) c.loop-process.process (λ p below. left.settled.stays p (inv.done p below)) left.marked;
+    }
+
+pub returns-clause-all : goal.returns-clause-all
+returns-clause-all g c =
+    let system : SystemView = c.args.table.now.system in
+    let end : c.procs-process-end.result ≡ length system.lens = c.procs-process-end.ensures.count ∙ ap length (c.shape.ensures.shape ∙ ap (λ s. s.lens) c.system.ensures) in
+    λ p there. c.loop-process.invariant.done p (omega arith)

@@ -1,0 +1,15 @@
+-- What workers are handed, and what they hand back.
+use Rattle.std.specs.Prelude.{◌≡◌}
+use Rattle.bound_table.specs.Views.{TableView}
+use Rattle.slice_workers.specs.declared.job.Job.{Job}
+use Rattle.slice_workers.specs.declared.job.Done.{Done}
+use Rattle.slice_workers.specs.Reaching.{AreHanded}
+
+-- the seat is of the table
+pub record IsJob (table : TableView) (job : Job) : Type 0 where
+  pub fits : job.seat.table ≡ table
+
+-- the seat is of the table, and its floor has reached the rows of the processes that are handed back
+pub record IsDone (table : TableView) (done : Done) : Type 0 where
+  pub fits : done.seat.table ≡ table
+  pub handed : AreHanded table.system done.seat.floor done.handed

@@ -1,0 +1,208 @@
+ghost use Rattle.std.specs.Prelude.{◌≡◌, ℕ, ◌+◌, ◌*◌, ◌≤◌, length, sum, IfOk, OnOk};
+ghost use Rattle.pull_system.specs.Vector.{IsWithin};
+ghost use Rattle.pull_system.specs.System.{IsSystem};
+ghost use Rattle.pull_system.specs.Rows.{AreLeastRows};
+ghost use Rattle.slice_workers.specs.Reaching.{AreHanded, ReachesAll};
+
+use crate::threads::{make_jobs, meet_all, run};
+use crate::workers::{none_handed, settle_claimed, settle_rest};
+use bound_table::{BoundTable, Seat};
+use pota_base::{Gate, NoMemory, Steps};
+use pull_system::Rows;
+use std::alloc::Global;
+use std::marker::Model;
+use std::sync::ledger::Ledger;
+use std::thread::Threads;
+
+/// The least closed vectors of all rows of a table. Only `settle_all` makes it. Contracts see its rows.
+#[derive(Drop)]
+pub struct Settled {
+    rows: Rows,
+}
+
+impl Model for Settled {
+    ghost use Rattle.pull_system.specs.Rows.{RowsView};
+
+    ghost Value = { RowsView };
+
+    ghost view = { λ settled. settled.rows };
+}
+
+impl Settled {
+    pub fn rows(&self) -> &Rows
+        ensures { result.now ≡ self.now }
+    {
+        &self.rows
+    }
+}
+
+/// Settles all rows of the table: the seat's floor is then the least closed vector on every row, and these are the rows given.
+///
+/// Each of the workers, 1 to 16, goes over the processes and settles the rows of those that it claims, between its calls of the
+/// gate. The calling thread settles what no worker has handed back. With one worker no thread is made, each row is settled
+/// once, and `steps` counts every look-up; with more it counts those of the calling thread. It may wait for the threads that it
+/// joins. Where no thread can be made the workers run one after another. After `NoMemory` no floor of the seat has fallen.
+pub fn settle_all<R: Threads + Sync, G: Gate, L: Ledger>(
+    rt: &R,
+    alloc: Global,
+    table: &BoundTable,
+    seat: &mut Seat,
+    workers: u32,
+    gate: &G,
+    steps: &mut Steps<L>,
+) -> Result<Settled, NoMemory>
+    requires fits { seat.old.table ≡ table.now }
+    requires some { 1 ≤ workers }
+    requires few { workers ≤ 16 }
+    ensures table { seat.new.table ≡ seat.old.table }
+    ensures lens { IfOk result (λ settled. settled.lens ≡ table.now.system.lens) }
+    ensures least { IfOk result (λ settled. AreLeastRows table.now.system settled.words) }
+    ensures floor { IfOk result (λ settled. settled.words ≡ seat.new.floor) }
+    ensures rises { IsWithin seat.old.floor seat.new.floor }
+    ensures looks { let procs = length table.now.system.lens in
+        let events = sum table.now.system.lens in
+        workers ≡ 1
+        → steps.new ≤ steps.old
+        + length table.now.system.pulls * ((procs + 1) * (events + procs)) }
+    ensures rises_paid { let pulls = length table.now.system.pulls in
+        let rows = sum table.now.system.lens + 1 in
+        workers ≡ 1
+        → steps.new + pulls * sum seat.old.floor ≤ steps.old + pulls * (rows + sum seat.new.floor) }
+{
+    settle_rows(rt, alloc, table, seat, workers, gate, steps)?;
+    seat.bounds();
+    let rows = table.floors(alloc, seat)?;
+    Ok(Settled { rows })
+}
+
+/// Raises the seat's floor to the least closed vector on every row.
+fn settle_rows<R: Threads + Sync, G: Gate, L: Ledger>(
+    rt: &R,
+    alloc: Global,
+    table: &BoundTable,
+    seat: &mut Seat,
+    workers: u32,
+    gate: &G,
+    steps: &mut Steps<L>,
+) -> Result<(), NoMemory>
+    requires fits { seat.old.table ≡ table.now }
+    ensures table { seat.new.table ≡ seat.old.table }
+    ensures reaches { OnOk result (ReachesAll table.now.system seat.new.floor) }
+    ensures rises { IsWithin seat.old.floor seat.new.floor }
+    ensures looks { let procs = length table.now.system.lens in
+        let events = sum table.now.system.lens in
+        workers ≡ 1
+        → steps.new ≤ steps.old
+        + length table.now.system.pulls * ((procs + 1) * (events + procs)) }
+    ensures rises_paid { let pulls = length table.now.system.pulls in
+        let rows = sum table.now.system.lens + 1 in
+        workers ≡ 1
+        → steps.new + pulls * sum seat.old.floor ≤ steps.old + pulls * (rows + sum seat.new.floor) }
+{
+    if workers == 1 {
+        settle_alone(table, seat, gate, steps);
+        return Ok(());
+    }
+    let jobs = make_jobs(alloc, table, seat, workers)?;
+    let dones = run(rt, table, gate, jobs)?;
+    let mut handed = none_handed();
+    meet_all(table, seat, dones, &mut handed);
+    finish(table, seat, &mut handed, steps);
+    Ok(())
+}
+
+/// The one worker's rows, on the calling thread.
+fn settle_alone<G: Gate, L: Ledger>(
+    table: &BoundTable,
+    seat: &mut Seat,
+    gate: &G,
+    steps: &mut Steps<L>,
+)
+    requires fits { seat.old.table ≡ table.now }
+    ensures table { seat.new.table ≡ seat.old.table }
+    ensures reaches { ReachesAll table.now.system seat.new.floor }
+    ensures rises { IsWithin seat.old.floor seat.new.floor }
+    ensures looks { let procs = length table.now.system.lens in
+        let events = sum table.now.system.lens in
+        steps.new ≤ steps.old + length table.now.system.pulls * ((procs + 1) * (events + procs)) }
+    ensures rises_paid { let pulls = length table.now.system.pulls in
+        let rows = sum table.now.system.lens + 1 in
+        steps.new + pulls * sum seat.old.floor ≤ steps.old + pulls * (rows + sum seat.new.floor) }
+{
+    let procs = table.system().shape().procs() as usize;
+    let mut bottom = [0; 32];
+    let mut into = [0; 32];
+    let (bottom, into) = (&mut bottom[..procs], &mut into[..procs]);
+    settle_here(table, seat, gate, bottom, into, steps);
+}
+
+/// The one worker's rows, with the room that they need.
+fn settle_here<G: Gate, L: Ledger>(
+    table: &BoundTable,
+    seat: &mut Seat,
+    gate: &G,
+    bottom: &mut [u64],
+    into: &mut [u64],
+    steps: &mut Steps<L>,
+)
+    requires system { IsSystem table.now.system }
+    requires fits { seat.old.table ≡ table.now }
+    requires bottom { length bottom.old ≡ length table.now.system.lens }
+    requires into { length into.old ≡ length table.now.system.lens }
+    ensures table { seat.new.table ≡ seat.old.table }
+    ensures reaches { ReachesAll table.now.system seat.new.floor }
+    ensures rises { IsWithin seat.old.floor seat.new.floor }
+    ensures looks { let procs = length table.now.system.lens in
+        let events = sum table.now.system.lens in
+        steps.new ≤ steps.old + length table.now.system.pulls * ((procs + 1) * (events + procs)) }
+    ensures rises_paid { let pulls = length table.now.system.pulls in
+        let rows = sum table.now.system.lens + 1 in
+        steps.new + pulls * sum seat.old.floor ≤ steps.old + pulls * (rows + sum seat.new.floor) }
+{
+    let mut handed = none_handed();
+    gate.enter(1);
+    settle_claimed(table, seat, bottom, into, &mut handed, steps);
+    gate.leave(1);
+    settle_rest(table, seat, bottom, into, &mut handed, steps);
+}
+
+/// Settles what no worker has handed back.
+fn finish<L: Ledger>(
+    table: &BoundTable,
+    seat: &mut Seat,
+    handed: &mut [bool; 32],
+    steps: &mut Steps<L>,
+)
+    requires fits { seat.old.table ≡ table.now }
+    requires handed { AreHanded table.now.system seat.old.floor handed.old }
+    ensures table { seat.new.table ≡ seat.old.table }
+    ensures reaches { ReachesAll table.now.system seat.new.floor }
+    ensures rises { IsWithin seat.old.floor seat.new.floor }
+{
+    let procs = table.system().shape().procs() as usize;
+    let mut bottom = [0; 32];
+    let mut into = [0; 32];
+    let (bottom, into) = (&mut bottom[..procs], &mut into[..procs]);
+    finish_here(table, seat, bottom, into, handed, steps);
+}
+
+/// Settles what no worker has handed back, with the room that it needs. The bottom's row is looked up once more.
+fn finish_here<L: Ledger>(
+    table: &BoundTable,
+    seat: &mut Seat,
+    bottom: &mut [u64],
+    into: &mut [u64],
+    handed: &mut [bool; 32],
+    steps: &mut Steps<L>,
+)
+    requires fits { seat.old.table ≡ table.now }
+    requires bottom { length bottom.old ≡ length table.now.system.lens }
+    requires into { length into.old ≡ length table.now.system.lens }
+    requires handed { AreHanded table.now.system seat.old.floor handed.old }
+    ensures table { seat.new.table ≡ seat.old.table }
+    ensures reaches { ReachesAll table.now.system seat.new.floor }
+    ensures rises { IsWithin seat.old.floor seat.new.floor }
+{
+    table.settle(seat, 0, bottom, steps);
+    settle_rest(table, seat, bottom, into, handed, steps);
+}
