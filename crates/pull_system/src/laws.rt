@@ -10,7 +10,8 @@ ghost use Rattle.pull_system.specs.Rows.{RowsView, AreLeastRows, start_of, start
 ghost use Rattle.pull_system.specs.Growth.{Grows, grown_words};
 ghost use Rattle.pull_system.specs.Climb.{IsBelowLeast};
 
-/// From each start there is exactly one least closed vector, so a row's is a function of the system and the row.
+/// From each start there is exactly one least closed vector, so a row's is a function of the system
+/// and the row.
 pub fn least_vectors()
     ensures exists { (system : SystemView) (start : List ℕ) → IsSystem system → IsVector system.lens start → (v : List ℕ) × IsLeastFrom system start v }
     ensures unique { (system : SystemView) (start v w : List ℕ) → IsLeastFrom system start v → IsLeastFrom system start w → v ≡ w }
@@ -30,7 +31,8 @@ pub fn row_starts()
     ensures place { (lens : List ℕ) (row process : ℕ) → row ≤ sum lens → process < length lens → slice_index (starts lens) (place_of lens row process) ≡ slice_index (start_of lens row) process }
 {}
 
-/// Closedness under a list of pulls: that of a system is under its pulls, and two lists joined are both.
+/// Closedness under a list of pulls: that of a system is under its pulls, and two lists joined are
+/// both.
 pub fn closed_lists()
     ensures system { (system : SystemView) (v : List ℕ) → IsClosed system v ↔ ClosedUnder system.pulls v }
     ensures left { (ps qs : List Pull) (v : List ℕ) → ClosedUnder (ps ++ qs) v → ClosedUnder ps v }
@@ -49,7 +51,8 @@ pub fn first_numbers()
         → first_below test n ≤ first_below after m }
 {}
 
-/// What grows from one system to a later one of more events, whose pulls ask at least what the earlier ones do.
+/// What grows from one system to a later one of more events, whose pulls ask at least what the
+/// earlier ones do.
 pub fn growing_systems()
     ensures least { (before after : SystemView) → IsSystem before → Grows before after
         → (start v w : List ℕ) → IsLeastFrom before start v → IsLeastFrom after start w

@@ -54,8 +54,8 @@ impl Rows {
         Ok(Rows { shape, words })
     }
 
-    /// The rows of a run after its shape has grown: row 0 and the rows of the old events as they were, and each new event's row
-    /// at its start.
+    /// The rows of a run after its shape has grown: row 0 and the rows of the old events as they
+    /// were, and each new event's row at its start.
     pub fn grown(alloc: Global, old: &Rows, shape: &Shape) -> Result<Rows, NoMemory>
         requires { DidNotFall old.now.lens shape.now }
         ensures { IfOk result (λ rows.

@@ -15,7 +15,8 @@ pub struct System {
     pulls: List<Pull>,
     /// The numbers of each process's outgoing pulls.
     by_source: List<List<u32>>,
-    /// For each process one row per value of its component, of one entry per target: the most that a pull asks of it, 0 for none.
+    /// For each process one row per value of its component, of one entry per target: the most that
+    /// a pull asks of it, 0 for none.
     asks: List<List<u16>>,
 }
 
@@ -53,7 +54,8 @@ impl System {
         })
     }
 
-    /// The entry `x` of the table of pull `k`. This is the only reader of a table, and counts one step.
+    /// The entry `x` of the table of pull `k`. This is the only reader of a table, and counts one
+    /// step.
     pub fn pull<L: Ledger>(&self, k: u32, x: u64, steps: &mut Steps<L>) -> u64
         requires pull { k < length self.now.pulls }
         requires entry { x < length (pull_at self.now k).table }
@@ -66,8 +68,9 @@ impl System {
         *pull.table.get(x as usize) as u64
     }
 
-    /// What the pulls from the process ask of each process where its component is `x`: the most that one of them asks for, and
-    /// 0 where there is none. It stands for one look-up of each of them, and counts that many steps.
+    /// What the pulls from the process ask of each process where its component is `x`: the most
+    /// that one of them asks for, and 0 where there is none. It stands for one look-up of each of
+    /// them, and counts that many steps.
     pub fn asks<L: Ledger>(&self, process: u32, x: u64, steps: &mut Steps<L>) -> &[u16]
         requires process { process < length self.now.lens }
         requires entry { x ≤ slice_index self.now.lens process + 1 }
@@ -116,7 +119,8 @@ impl System {
         self.by_source.get(process as usize).as_slice()
     }
 
-    /// Whether the vector has one component per process, each at most one more than the process's length.
+    /// Whether the vector has one component per process, each at most one more than the process's
+    /// length.
     pub fn fits(&self, vector: &[u64]) -> bool
         ensures { IsTrue result ↔ IsVector self.now.lens vector.now }
     {

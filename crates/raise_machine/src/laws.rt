@@ -7,8 +7,9 @@ ghost use Rattle.raise_machine.specs.declared.step.Step.{Step};
 ghost use Rattle.raise_machine.specs.Bounds.{AreBounds, word_at};
 ghost use Rattle.raise_machine.specs.Machine.{words_at, IsSeen};
 
-/// Over every list of steps: no word falls and none passes the least; and a row that is seen closed, each word at a moment of
-/// its own, is the least closed vector, and the words are that from the latest of these moments on. It does nothing.
+/// Over every list of steps: no word falls and none passes the least; and a row that is seen
+/// closed, each word at a moment of its own, is the least closed vector, and the words are that
+/// from the latest of these moments on. It does nothing.
 pub fn runs()
     ensures rises { (system : SystemView) (words : List ℕ) (steps : List Step) (m n : ℕ) → m ≤ n → IsWithin (words_at system words steps m) (words_at system words steps n) }
     ensures bounds { (system : SystemView) (words : List ℕ) (steps : List Step) (n : ℕ) → IsSystem system → AreBounds system words → AreBounds system (words_at system words steps n) }
@@ -16,8 +17,8 @@ pub fn runs()
     ensures stays { (system : SystemView) (words : List ℕ) (steps : List Step) (row : ℕ) (moments : ℕ → ℕ) (v : List ℕ) → row ≤ sum system.lens → IsSystem system → AreBounds system words → IsSeen system words steps row moments v → IsClosed system v → (n : ℕ) → ((process : ℕ) → process < length system.lens → moments process ≤ n) → (process : ℕ) → process < length system.lens → word_at system.lens (words_at system words steps n) row process ≡ slice_index v process }
 {}
 
-/// A table may begin from the rows of an earlier system that has grown into this one: its least rows, grown, lie between the
-/// starts and the least rows of the later system. It does nothing.
+/// A table may begin from the rows of an earlier system that has grown into this one: its least
+/// rows, grown, lie between the starts and the least rows of the later system. It does nothing.
 pub fn grown_rows()
     ensures { (before after : SystemView) → IsSystem before → Grows before after
         → (old : RowsView) → old.lens ≡ before.lens → AreLeastRows before old.words
