@@ -22,11 +22,12 @@ pub(crate) struct Known {
     floor: LinkedList<u64>,
 }
 
-/// A caller's hold on a table. Contracts see its table and, row by row, a floor for each word, which the word has reached; and
-/// the processes that it claims, and those that it saw taken.
+/// A caller's hold on a table. Contracts see its table and, row by row, a floor for each word,
+/// which the word has reached; and the processes that it claims, and those that it saw taken.
 ///
-/// The floors lie between the starts of the rows and their least closed vectors. They take no bytes: a running program learns
-/// the floors of a row by `BoundTable::look` or `BoundTable::settle`.
+/// The floors lie between the starts of the rows and their least closed vectors. They take no
+/// bytes: a running program learns the floors of a row by `BoundTable::look` or
+/// `BoundTable::settle`.
 #[derive(Drop)]
 pub struct Seat {
     pub(crate) token: atomic_table::Seat<(), Known>,
@@ -48,7 +49,8 @@ impl Model for Seat {
 impl Seat {
     ghost use Rattle.raise_machine.specs.Bounds.{AreBounds};
 
-    /// Does nothing. It tells contracts that the floors lie between the starts of the rows and their least closed vectors.
+    /// Does nothing. It tells contracts that the floors lie between the starts of the rows and
+    /// their least closed vectors.
     pub fn bounds(&self)
         ensures { AreBounds self.now.table.system self.now.floor }
     {

@@ -1,7 +1,8 @@
 //! Settling a row: its words rise until each pull holds.
 //!
-//! A vector of 16 bits has the seat's floor of the row, and a second one for each process the value at which the pulls from it
-//! were looked up last. Where they are equal each pull holds. So only the pulls from what rose are looked up again.
+//! A vector of 16 bits has the seat's floor of the row, and a second one for each process the value
+//! at which the pulls from it were looked up last. Where they are equal each pull holds. So only
+//! the pulls from what rose are looked up again.
 ghost use Rattle.std.specs.Prelude.{◌≡◌, ◌⊎◌, ℕ, ◌+◌, ◌*◌, ◌^◌, ◌<◌, ◌≤◌, true, length, sum, slice_index};
 ghost use Rattle.pull_system.specs.Vector.{IsWithin, IsVector};
 ghost use Rattle.pull_system.specs.System.{IsSystem, IsClosed, source_of, target_of, ask, numbers_from};
@@ -18,11 +19,13 @@ use pota_base::Steps;
 use std::sync::ledger::Ledger;
 
 impl BoundTable {
-    /// Raises the row until the seat's floors for it are closed. They and `into` are then the least closed vector of the row.
+    /// Raises the row until the seat's floors for it are closed. They and `into` are then the least
+    /// closed vector of the row.
     ///
-    /// After a look at the words each pull is looked up once, and then again each time that its source has risen. So with P
-    /// pulls it takes at most `P * (1 + rise)` look-ups, the rise being that of the seat's floors, and at most P where these
-    /// were the least closed vector. It waits for nobody, and takes no memory.
+    /// After a look at the words each pull is looked up once, and then again each time that its
+    /// source has risen. So with P pulls it takes at most `P * (1 + rise)` look-ups, the rise being
+    /// that of the seat's floors, and at most P where these were the least closed vector. It waits
+    /// for nobody, and takes no memory.
     pub fn settle<L: Ledger>(
         &self,
         seat: &mut Seat,
@@ -53,11 +56,13 @@ impl BoundTable {
         );
     }
 
-    /// Settles the row as `settle` does, from a closed vector in `into` that the row `before` has reached. It is lent to the
-    /// row, and of it only the pulls are looked up whose source rises above it.
+    /// Settles the row as `settle` does, from a closed vector in `into` that the row `before` has
+    /// reached. It is lent to the row, and of it only the pulls are looked up whose source rises
+    /// above it.
     ///
-    /// The seat's floor for the row has the event of `before`, or `before` is the bottom's. In ordinary use `into` is what
-    /// `settle` or `settle_after` gave for the row `before`, the one before on its process.
+    /// The seat's floor for the row has the event of `before`, or `before` is the bottom's. In
+    /// ordinary use `into` is what `settle` or `settle_after` gave for the row `before`, the one
+    /// before on its process.
     pub fn settle_after<L: Ledger>(
         &self,
         seat: &mut Seat,
@@ -256,7 +261,8 @@ impl BoundTable {
         }
     }
 
-    /// Looks up the pulls from each process that has risen, and gives the number of these processes.
+    /// Looks up the pulls from each process that has risen, and gives the number of these
+    /// processes.
     fn ask_risen<L: Ledger>(
         &self,
         seat: &mut Seat,

@@ -19,10 +19,12 @@ use std::alloc::Global;
 use std::marker::Model;
 use std::snapshot::Snapshot;
 
-/// One word per row and process, shared by callers that hold a seat each. Contracts see its system, and which table it is.
+/// One word per row and process, shared by callers that hold a seat each. Contracts see its system,
+/// and which table it is.
 ///
-/// Between any two steps each word lies between its row's start and the row's least closed vector, and has reached the floor
-/// that each seat has for it. A process that a seat claims is claimed by no other. No call waits for another caller.
+/// Between any two steps each word lies between its row's start and the row's least closed vector,
+/// and has reached the floor that each seat has for it. A process that a seat claims is claimed by
+/// no other. No call waits for another caller.
 #[derive(Drop)]
 pub struct BoundTable {
     table: Table<(), Known, Key, Bounded, Global>,
@@ -44,7 +46,8 @@ impl Model for BoundTable {
 }
 
 impl BoundTable {
-    /// The table whose words are the floor, which lies between the starts and the least closed vectors, and its first seat.
+    /// The table whose words are the floor, which lies between the starts and the least closed
+    /// vectors, and its first seat.
     pub fn new(alloc: Global, system: System, floor: &Rows) -> Result<(BoundTable, Seat), NoMemory>
         requires lens { floor.now.lens ≡ system.lens }
         requires bounds { AreBounds system floor.now.words }
@@ -81,7 +84,8 @@ impl BoundTable {
         }
     }
 
-    /// Makes the seat's floor the maximum of both seats' floors, and gives it what the other claims and saw taken.
+    /// Makes the seat's floor the maximum of both seats' floors, and gives it what the other claims
+    /// and saw taken.
     pub fn meet(&self, seat: &mut Seat, other: Seat)
         requires fits { seat.old.table ≡ self.now }
         requires other_fits { other.table ≡ self.now }
@@ -97,7 +101,8 @@ impl BoundTable {
         self.claims.meet(&mut seat.claimer, claimer);
     }
 
-    /// Claims the process, and is true, where this call finds it not taken. Where it finds it taken it is false.
+    /// Claims the process, and is true, where this call finds it not taken. Where it finds it taken
+    /// it is false.
     pub fn claim(&self, seat: &mut Seat, process: u32) -> bool
         requires fits { seat.old.table ≡ self.now }
         requires process { process < length self.now.system.lens }
@@ -135,7 +140,8 @@ impl BoundTable {
         system
     }
 
-    /// Reads the words of the row, which become the seat's floors for it, and puts them into `into`. It looks up no pull.
+    /// Reads the words of the row, which become the seat's floors for it, and puts them into
+    /// `into`. It looks up no pull.
     pub fn look(&self, seat: &mut Seat, row: u32, into: &mut [u64])
         requires fits { seat.old.table ≡ self.now }
         requires row { row ≤ sum self.now.system.lens }
@@ -149,7 +155,8 @@ impl BoundTable {
         }
     }
 
-    /// Raises each word of `to_row` to at least the seat's floor for `from_row`, after a look at the words of `from_row`.
+    /// Raises each word of `to_row` to at least the seat's floor for `from_row`, after a look at
+    /// the words of `from_row`.
     ///
     /// The seat's floor for `to_row` has the event of `from_row`, or `from_row` is the bottom's.
     pub fn lend(&self, seat: &mut Seat, from_row: u32, to_row: u32)
@@ -213,8 +220,9 @@ impl BoundTable {
         self.table.shared.load::<Looks>(&mut seat.token, word)
     }
 
-    /// The machine's step of a pull in the row: the word of its target becomes at least `asked`, what it asks for at a value that
-    /// the seat's floor for its source has reached. It gives what the word became, which is the seat's floor for it.
+    /// The machine's step of a pull in the row: the word of its target becomes at least `asked`,
+    /// what it asks for at a value that the seat's floor for its source has reached. It gives what
+    /// the word became, which is the seat's floor for it.
     pub(crate) fn raise_by_pull(&self, seat: &mut Seat, row: u32, target: u32, asked: u64) -> u64
         requires fits { seat.old.table ≡ self.now }
         requires target { target < length self.now.system.lens }
@@ -230,8 +238,9 @@ impl BoundTable {
         found.max(asked)
     }
 
-    /// The machine's step of lending: the word of `to_row` becomes at least `y`, which the seat's floor for `from_row` has
-    /// reached. It gives what the word became, which is the seat's floor for it.
+    /// The machine's step of lending: the word of `to_row` becomes at least `y`, which the seat's
+    /// floor for `from_row` has reached. It gives what the word became, which is the seat's floor
+    /// for it.
     pub(crate) fn raise_by_lend(
         &self,
         seat: &mut Seat,

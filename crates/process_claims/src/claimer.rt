@@ -5,14 +5,15 @@ use atomic_table::{Join, Play, Split, TableRule};
 use std::collections::LinkedList;
 use std::marker::Model;
 
-/// What a caller knows: the processes that it claims, and those that it saw taken. No value of it is made.
+/// What a caller knows: the processes that it claims, and those that it saw taken. No value of it
+/// is made.
 pub(crate) struct Known {
     claims: LinkedList<u32>,
     marks: LinkedList<u32>,
 }
 
-/// A caller's hold on claims. Contracts see whose it is, the processes that it claims, and those that it saw taken. It takes no
-/// bytes.
+/// A caller's hold on claims. Contracts see whose it is, the processes that it claims, and those
+/// that it saw taken. It takes no bytes.
 #[derive(Drop)]
 pub struct Claimer {
     pub(crate) token: atomic_table::Seat<(), Known>,

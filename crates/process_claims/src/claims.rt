@@ -6,7 +6,8 @@ use pota_base::NoMemory;
 use std::alloc::Global;
 use std::marker::Model;
 
-/// One word per process, 0 until a caller claims the process. Contracts see which table it is, and its number of words.
+/// One word per process, 0 until a caller claims the process. Contracts see which table it is, and
+/// its number of words.
 #[derive(Drop)]
 pub struct Claims {
     table: Table<(), Known, u32, Ruled, Global>,
@@ -36,7 +37,8 @@ impl Claims {
         Ok((Claims { table }, Claimer { token }))
     }
 
-    /// Claims the process, and is true, where this call finds it not taken. Where it finds it taken it is false.
+    /// Claims the process, and is true, where this call finds it not taken. Where it finds it taken
+    /// it is false.
     pub fn claim(&self, claimer: &mut Claimer, process: u32) -> bool
         requires fits { claimer.old.table ≡ self.now }
         requires process { process < self.now.words }
@@ -53,7 +55,8 @@ impl Claims {
         found == 0
     }
 
-    /// A second caller, which claims nothing, and has seen taken what the first claims or has seen taken.
+    /// A second caller, which claims nothing, and has seen taken what the first claims or has seen
+    /// taken.
     pub fn split(&self, claimer: &mut Claimer) -> Claimer
         requires { claimer.old.table ≡ self.now }
         ensures same { claimer.new ≡ claimer.old }

@@ -10,7 +10,8 @@ use bound_table::{BoundTable, Seat};
 use pota_base::{EventId, Steps};
 use std::sync::ledger::Ledger;
 
-/// Settles the rows of the process in order, from the bottom's least closed vector, each from the row before.
+/// Settles the rows of the process in order, from the bottom's least closed vector, each from the
+/// row before.
 pub(crate) fn settle_process<L: Ledger>(
     table: &BoundTable,
     seat: &mut Seat,
@@ -83,10 +84,12 @@ fn settle_next<L: Ledger>(
     table.settle_after(seat, before, row, into, steps);
 }
 
-/// Lends the row what other processes' rows have of which the closed vector of the row before knows nothing.
+/// Lends the row what other processes' rows have of which the closed vector of the row before knows
+/// nothing.
 ///
-/// Where the row's floor names an event that the closed vector has, that event's least row is within it already. So only an event
-/// past it can bring anything: where the floor was kept from an earlier batch, or another seat raised the row.
+/// Where the row's floor names an event that the closed vector has, that event's least row is
+/// within it already. So only an event past it can bring anything: where the floor was kept from an
+/// earlier batch, or another seat raised the row.
 fn lend_others(table: &BoundTable, seat: &mut Seat, own: u32, row: u32, closed: &[u64])
     requires fits { seat.old.table ≡ table.now }
     requires row { row ≤ sum table.now.system.lens }
@@ -125,7 +128,8 @@ fn lend_counts(
     }
 }
 
-/// Lends the row that of the process's event of this number, or of its last one where there are fewer.
+/// Lends the row that of the process's event of this number, or of its last one where there are
+/// fewer.
 fn lend_event(table: &BoundTable, seat: &mut Seat, row: u32, process: u32, count: u64)
     requires fits { seat.old.table ≡ table.now }
     requires row { row ≤ sum table.now.system.lens }

@@ -14,7 +14,8 @@ use std::marker::Model;
 use std::sync::ledger::Ledger;
 use std::thread::Threads;
 
-/// The least closed vectors of all rows of a table. Only `settle_all` makes it. Contracts see its rows.
+/// The least closed vectors of all rows of a table. Only `settle_all` makes it. Contracts see its
+/// rows.
 #[derive(Drop)]
 pub struct Settled {
     rows: Rows,
@@ -36,12 +37,15 @@ impl Settled {
     }
 }
 
-/// Settles all rows of the table: the seat's floor is then the least closed vector on every row, and these are the rows given.
+/// Settles all rows of the table: the seat's floor is then the least closed vector on every row,
+/// and these are the rows given.
 ///
-/// Each of the workers, 1 to 16, goes over the processes and settles the rows of those that it claims, between its calls of the
-/// gate. The calling thread settles what no worker has handed back. With one worker no thread is made, each row is settled
-/// once, and `steps` counts every look-up; with more it counts those of the calling thread. It may wait for the threads that it
-/// joins. Where no thread can be made the workers run one after another. After `NoMemory` no floor of the seat has fallen.
+/// Each of the workers, 1 to 16, goes over the processes and settles the rows of those that it
+/// claims, between its calls of the gate. The calling thread settles what no worker has handed
+/// back. With one worker no thread is made, each row is settled once, and `steps` counts every
+/// look-up; with more it counts those of the calling thread. It may wait for the threads that it
+/// joins. Where no thread can be made the workers run one after another. After `NoMemory` no floor
+/// of the seat has fallen.
 pub fn settle_all<R: Threads + Sync, G: Gate, L: Ledger>(
     rt: &R,
     alloc: Global,
@@ -186,7 +190,8 @@ fn finish<L: Ledger>(
     finish_here(table, seat, bottom, into, handed, steps);
 }
 
-/// Settles what no worker has handed back, with the room that it needs. The bottom's row is looked up once more.
+/// Settles what no worker has handed back, with the room that it needs. The bottom's row is looked
+/// up once more.
 fn finish_here<L: Ledger>(
     table: &BoundTable,
     seat: &mut Seat,

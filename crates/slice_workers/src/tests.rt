@@ -17,7 +17,8 @@ fn pull(alloc: Global, src: u32, dst: u32, table: &[u32]) -> Result<Pull, NoMemo
     Ok(Pull { src, dst, table })
 }
 
-/// The table of the order of a run of two processes with three and two events, and of one pull more.
+/// The table of the order of a run of two processes with three and two events, and of one pull
+/// more.
 #[tactic(auto, using(raise_machine::proofs::Raising::starts_bounds))]
 fn order_and(rt: &impl Abort, alloc: Global, more: Pull) -> Result<(BoundTable, Seat), NoMemory>
     ensures { IfOk result (λ pair. pair.1.table ≡ pair.0) }
@@ -123,6 +124,7 @@ fn more_workers_than_processes(rt: HostRuntime) -> Result<(), Fail> {
 }
 
 /// A gate at which workers 1 and 2 wait for each other, each a bounded number of turns.
+#[derive(Drop)]
 struct Meeting {
     first: AtomicBool,
     second: AtomicBool,
@@ -164,12 +166,8 @@ fn workers_are_there_at_the_same_time(rt: HostRuntime) -> Result<(), Fail> {
     };
     let table = order_and(&rt, alloc, pull(alloc, 0, 1, &[0, 1, 1, 1, 1])?)?;
     let _rows = settled(&rt, alloc, table, 2, &gate)?;
-    let Meeting {
-        first,
-        second,
-        missed,
-    } = gate;
-    assert!(rt; first.into_inner() && second.into_inner());
-    assert!(rt; !missed.into_inner());
+    let order = Ordering::SeqCst;
+    assert!(rt; gate.first.load(order) && gate.second.load(order));
+    assert!(rt; !gate.missed.load(order));
     Ok(())
 }

@@ -18,7 +18,8 @@ pub(crate) fn none_handed() -> [bool; 32]
     [false; 32]
 }
 
-/// Settles the bottom's row into `bottom`, and then the rows of each process that it claims. It marks these processes.
+/// Settles the bottom's row into `bottom`, and then the rows of each process that it claims. It
+/// marks these processes.
 pub(crate) fn settle_claimed<L: Ledger>(
     table: &BoundTable,
     seat: &mut Seat,
