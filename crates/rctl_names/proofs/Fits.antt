@@ -1,13 +1,11 @@
 -- The parts with numbers are made for the header and the watches.
-use Rattle.std.proofs.Common.{◌≡◌, ℕ, zero, suc, ◌+◌, ◌<◌, ◌≤◌, ◌==◌, Bool, true, false, not, ◌&&◌, ◌||◌, List, [], ◌∷◌, ◌++◌, map, length, get_or, set, replicate, Option, None, Some, sym, ap, refl, ◌∙◌, inl, inr, arith, rules, subst}
-use Rattle.std.proofs.lemmas.Bool.{and_parts, cases_Bool, false≢true}
+use Rattle.std.proofs.Common.{◌≡◌, ℕ, zero, suc, ◌+◌, ◌<◌, ◌==◌, Bool, true, false, not, ◌||◌, List, [], ◌∷◌, map, length, get_or, set, Option, None, Some, sym, ap, refl, ◌∙◌, arith, rules, subst}
+use Rattle.std.proofs.lemmas.Bool.{false≢true}
 use Rattle.std.proofs.lemmas.Bool.Decides.{nat_tests}
 use Rattle.run_model.specs.Run.{Name}
 use Rattle.log_lines.specs.Names.{place_of}
 use Rattle.rctl_grammar.specs.declared.fault.FormulaCode.TheVariants as code
 use Rattle.rctl_grammar.specs.declared.tree.Place.{Place}
-use Rattle.rctl_parts.specs.Exprs as expr
-use Rattle.rctl_parts.specs.Pieces as piece
 use Rattle.rctl_parts.specs.Spelled.{Names}
 use Rattle.rctl_parts.specs.MadeFor as made
 use Rattle.rctl_parts.specs.MadeFor.{Scope, SideFits, ExprFits, ExprsFit, PieceFits, PiecesFit, EachFits, AllFit, names_watch, some_names_watch, part_names_watch, operand_names_watch, parts_name_watch, disjuncts_name_watch}
@@ -15,12 +13,12 @@ use Rattle.rctl_class.specs.declared.named.NamedSide.{NamedSide}
 use Rattle.rctl_class.specs.declared.named.NamedSide.TheVariants as side
 use Rattle.rctl_class.specs.NamedParts as named
 use Rattle.rctl_class.proofs.Alike.{none_both}
-use Rattle.rctl_names.specs.Numbers.{Watched, number, variables_of, variable_fault, process_fault, watch_fault, watch_fault_at, unless_known, put, put_at, is_other, LocalName, a_variable, a_watch, side_names, local_names, all_local_names, local_fault, local_after, part_fault, operand_fault, part_after, operand_after, disjuncts_fault, disjuncts_after}
+use Rattle.rctl_names.specs.Numbers.{Watched, number, variables_of, variable_fault, process_fault, watch_fault, put, put_at, is_other, LocalName, a_variable, a_watch, side_names, local_names, all_local_names, local_fault, local_after, part_fault, operand_fault, part_after, operand_after, disjuncts_fault, disjuncts_after}
 use Rattle.rctl_names.specs.Resolving.{side_in, expr_in, exprs_in, piece_in, pieces_in}
 use Rattle.rctl_names.proofs.Lookups.{found_within, found_number}
-use Rattle.rctl_names.proofs.Joined.{put_names, after_names, part_names, operand_names, fault_joined, after_joined}
-use Rattle.rctl_names.proofs.Spells.{IsAt, known_at, watch_known, variables_there}
-use Rattle.rctl_names.proofs.Tracks.{set_there, set_others, set_length, put_found, watch_free, none_replicated, unset, opened}
+use Rattle.rctl_names.proofs.Joined.{after_names, part_names, operand_names, fault_joined, after_joined}
+use Rattle.rctl_names.proofs.Spells.{known_at, watch_known, variables_there}
+use Rattle.rctl_names.proofs.Tracks.{set_there, set_others, set_length, put_found, watch_free}
 
 -- ---- entries stay
 

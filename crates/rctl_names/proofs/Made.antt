@@ -1,6 +1,5 @@
 -- What the code makes of a local part, and that the names stay the same from part to part.
-use Rattle.std.proofs.Common.{◌≡◌, ℕ, zero, suc, ◌<◌, List, [], ◌∷◌, map, length, get_or, Option, None, Some, sym, ap, refl, ◌∙◌, arith}
-use Rattle.run_model.specs.Run.{Name}
+use Rattle.std.proofs.Common.{◌≡◌, ℕ, zero, suc, ◌<◌, List, [], ◌∷◌, map, length, get_or, None, Some, sym, ap, refl, ◌∙◌, arith}
 use Rattle.log_lines.specs.Names.{place_of}
 use Rattle.event_log.specs.declared.log.Binding.{Binding}
 use Rattle.rctl_grammar.specs.declared.tree.Place.{Place}

@@ -1,5 +1,5 @@
 -- What the parts with numbers mean.
-use Rattle.std.proofs.Common.{◌≡◌, ◌↔◌, List, map, sym, ap, ◌∙◌, subst}
+use Rattle.std.proofs.Common.{◌↔◌, List, sym, subst}
 use Rattle.run_model.specs.Cut.{Cut}
 use Rattle.run_model.specs.Run.{Name, Run}
 use Rattle.run_model.specs.Formula.{Formula}
@@ -8,7 +8,7 @@ use Rattle.run_model.specs.Meaning.{Sat}
 use Rattle.run_model.specs.Class.{SatDisjuncts}
 use Rattle.event_log.specs.declared.log.Header.{Header}
 use Rattle.rctl_parts.specs.Pieces as piece
-use Rattle.rctl_parts.specs.Spelled.{part_formulas, disjunction_of}
+use Rattle.rctl_parts.specs.Spelled.{disjunction_of}
 use Rattle.rctl_parts.specs.declared.part.Resolved.{Resolved}
 use Rattle.rctl_parts.proofs.Spelling.{disjuncts_spelled, spelled_disjuncts}
 use Rattle.rctl_class.specs.Nodes.{Node, formula_of}

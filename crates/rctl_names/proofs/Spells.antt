@@ -1,16 +1,13 @@
 -- The parts with numbers spell the formulas of the parts with names, and their numbers are there.
-use Rattle.std.proofs.Common.{◌≡◌, ℕ, zero, suc, ◌+◌, ◌<◌, ◌≤◌, ◌==◌, Bool, true, false, not, ◌&&◌, ◌||◌, List, [], ◌∷◌, ◌++◌, map, length, get_or, set, Option, None, Some, if◌then◌else◌, sym, ap, refl, ◌∙◌, inl, inr, arith, subst}
-use Rattle.std.proofs.lemmas.Bool.{and_parts, cases_Bool, or_left, or_right, false≢true}
+use Rattle.std.proofs.Common.{◌≡◌, ℕ, true, List, [], ◌∷◌, map, get_or, Option, None, Some, sym, ap, refl, ◌∙◌, subst}
+use Rattle.std.proofs.lemmas.Bool.{and_parts, false≢true}
 use Rattle.run_model.specs.Run.{Name}
 use Rattle.run_model.specs.Formula as model
 use Rattle.log_lines.specs.Names.{place_of}
 use Rattle.rctl_grammar.specs.declared.fault.FormulaCode.{FormulaCode}
 use Rattle.rctl_grammar.specs.declared.fault.FormulaCode.TheVariants as code
-use Rattle.rctl_grammar.specs.declared.fault.FormulaFault.{FormulaFault}
 use Rattle.rctl_grammar.specs.declared.tree.Place.{Place}
 use Rattle.rctl_grammar.specs.Shape.{relation_of, model_operator}
-use Rattle.rctl_parts.specs.Exprs as expr
-use Rattle.rctl_parts.specs.Pieces as piece
 use Rattle.rctl_parts.specs.Spelled as spelled
 use Rattle.rctl_parts.specs.Spelled.{Names, name_at, formula_in, formulas_in, formula_of, formulas_of}
 use Rattle.rctl_class.specs.declared.named.NamedSide.{NamedSide}
@@ -19,10 +16,10 @@ use Rattle.rctl_class.specs.Uses.{earlier}
 use Rattle.rctl_class.specs.NamedParts as named
 use Rattle.rctl_class.specs.NamedParts.{side_formula, expr_formula, expr_formulas, part_formula, part_formulas, name_on}
 use Rattle.rctl_class.proofs.Alike.{none_both}
-use Rattle.rctl_names.specs.Numbers.{Watched, number, variables_of, variables_at, variable_fault, process_fault, watch_fault, watch_fault_at, unless_known, put, put_at, is_other, LocalName, a_variable, a_watch, side_names, local_names, all_local_names, local_fault, local_after, part_fault, operand_fault, part_after, operand_after, disjuncts_fault, disjuncts_after}
-use Rattle.rctl_names.specs.Resolving.{side_in, expr_in, exprs_in, local_in, piece_in, pieces_in}
+use Rattle.rctl_names.specs.Numbers.{Watched, number, variables_of, variables_at, variable_fault, process_fault, watch_fault, watch_fault_at, unless_known, side_names, local_names, all_local_names, local_fault, local_after, part_fault, operand_fault, part_after, operand_after, disjuncts_fault}
+use Rattle.rctl_names.specs.Resolving.{side_in, expr_in, exprs_in, piece_in, pieces_in}
 use Rattle.rctl_names.proofs.Lookups.{found_there, found_number}
-use Rattle.rctl_names.proofs.Joined.{put_names, after_names, part_names, operand_names, fault_joined}
+use Rattle.rctl_names.proofs.Joined.{after_names, part_names, operand_names, fault_joined}
 
 -- a number that was found
 pub record IsAt (names : List Name) (name : Name) : Type 0 where

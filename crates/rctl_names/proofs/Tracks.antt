@@ -1,5 +1,5 @@
 -- The first name without a number is the first unknown name, as long as the processes of watches are kept in step.
-use Rattle.std.proofs.Common.{◌≡◌, ℕ, zero, suc, ◌+◌, ◌<◌, ◌≤◌, ◌==◌, Bool, true, false, not, ◌&&◌, ◌||◌, List, [], ◌∷◌, ◌++◌, map, length, get_or, set, replicate, Option, None, Some, is_some, if◌then◌else◌, sym, ap, refl, ◌∙◌, inl, inr, arith, rules, subst}
+use Rattle.std.proofs.Common.{◌≡◌, ℕ, zero, suc, ◌<◌, ◌==◌, Bool, true, false, not, ◌||◌, List, [], ◌∷◌, ◌++◌, map, length, get_or, set, replicate, Option, None, Some, is_some, if◌then◌else◌, sym, ap, refl, ◌∙◌, inl, inr, arith, rules, subst}
 use Rattle.std.proofs.lemmas.Bool.{and_parts, cases_Bool, false≢true}
 use Rattle.std.proofs.lemmas.Bool.Decides.{nat_tests}
 use Rattle.std.proofs.lemmas.List.{map-append}
@@ -12,7 +12,6 @@ use Rattle.rctl_grammar.specs.declared.fault.FormulaCode.TheVariants as code
 use Rattle.rctl_grammar.specs.declared.fault.FormulaFault.{FormulaFault}
 use Rattle.rctl_grammar.specs.declared.tree.Place.{Place}
 use Rattle.rctl_parts.specs.Spelled.{Names}
-use Rattle.rctl_class.specs.declared.named.NamedSide.{NamedSide}
 use Rattle.rctl_class.specs.declared.named.NamedSide.TheVariants as side
 use Rattle.rctl_class.specs.Uses as used
 use Rattle.rctl_class.specs.Uses.{Use, Known, Watching, is_elsewhere, fault_at, use_fault, seen_with, earlier, first_unknown, seen_after}
@@ -20,9 +19,9 @@ use Rattle.rctl_class.specs.NamedParts as named
 use Rattle.rctl_class.specs.NamedParts.{expr_uses, all_expr_uses, part_uses, operand_uses, parts_uses, disjuncts_uses}
 use Rattle.rctl_class.proofs.Alike.{none_both}
 use Rattle.rctl_class.proofs.Names.{unknown_joined, seen_joined, operand_names}
-use Rattle.rctl_names.specs.Numbers.{Watched, number, variables_of, known_in, variable_fault, process_fault, watch_fault, watch_fault_at, unless_known, put, put_at, is_other, LocalName, a_variable, a_watch, side_names, local_names, all_local_names, local_fault, local_after, part_fault, operand_fault, part_after, operand_after, disjuncts_fault, disjuncts_after}
+use Rattle.rctl_names.specs.Numbers.{Watched, number, variables_of, known_in, variable_fault, process_fault, watch_fault, watch_fault_at, unless_known, put, put_at, is_other, LocalName, a_variable, a_watch, local_names, all_local_names, local_fault, local_after, part_fault, operand_fault, part_after, operand_after, disjuncts_fault, disjuncts_after}
 use Rattle.rctl_names.proofs.Lookups.{found_number, found_once, found_within, same_place}
-use Rattle.rctl_names.proofs.Spells.{IsAt, known_at, watch_known}
+use Rattle.rctl_names.proofs.Spells.{watch_known}
 
 -- ---- the names of an expression, with their process
 

@@ -1,5 +1,5 @@
 -- What resolving gives of a whole formula.
-use Rattle.std.proofs.Common.{◌≡◌, ℕ, zero, suc, ◌+◌, ◌≤◌, List, [], ◌∷◌, map, length, get_or, replicate, Option, None, Some, sym, ap, refl, ◌∙◌, arith, subst}
+use Rattle.std.proofs.Common.{◌≡◌, ℕ, List, [], ◌∷◌, map, length, get_or, replicate, Option, None, Some, sym, ap, refl, ◌∙◌, arith, subst}
 use Rattle.std.proofs.lemmas.List.{length-map}
 use Rattle.run_model.specs.Run.{Name}
 use Rattle.event_log.specs.declared.log.Binding.{Binding}
@@ -17,7 +17,7 @@ use Rattle.rctl_names.specs.Numbers.{Watched, known_in, disjuncts_fault, disjunc
 use Rattle.rctl_names.specs.Seen.{variables_in, names_of}
 use Rattle.rctl_names.specs.Resolving.{piece_in, CanResolve, scope_of, IsResolved}
 use Rattle.rctl_names.proofs.Spells.{disjuncts_spelled}
-use Rattle.rctl_names.proofs.Tracks.{unset, opened, opens, same_faults, none_replicated, length_replicated}
+use Rattle.rctl_names.proofs.Tracks.{unset, opened, same_faults, none_replicated, length_replicated}
 use Rattle.rctl_names.proofs.Fits.{scope_for, IsSized, disjuncts_fit, disjuncts_keep, disjuncts_others, disjuncts_counted, keeps_itself}
 
 -- ---- what the code starts from

@@ -1,4 +1,4 @@
-use Rattle.std.proofs.Common.{◌≡◌, ap, ◌∙◌, rules, refl}
+use Rattle.std.proofs.Common.{ap, rules, refl}
 use Rattle.rctl_parse.proofs.LeafSteps.{passes_on}
 use Rattle.rctl_class.specs.NamedParts.{disjuncts_of}
 use Rattle.rctl_parts.specs.Pieces.{disjuncts_of as parts_of}

@@ -1,4 +1,4 @@
-use Rattle.std.proofs.Common.{◌≡◌, map, take}
+use Rattle.std.proofs.Common.{map, take}
 use Rattle.rctl_class.specs.NamedParts.{expr_of as named_of, exprs as named_list}
 use Rattle.rctl_parts.specs.Exprs.{expr_of, exprs}
 use Rattle.rctl_names.specs.Resolving.{AreExprsIn}

@@ -1,14 +1,11 @@
-use Rattle.std.proofs.Common.{◌≡◌, ◌∷◌, [], List, MatchResult, Some, map, take, drop, sym, ap, ◌∙◌, subst, ◌+◌}
+use Rattle.std.proofs.Common.{◌∷◌, [], List, take, drop, sym, ap, ◌∙◌, subst, ◌+◌}
 use Rattle.std.proofs.lemmas.List.{map-append}
-use Rattle.rctl_parse.specs.Reading.{Faults}
 use Rattle.rctl_parse.proofs.LeafSteps.{passes_on}
 use Rattle.rctl_class.specs.NamedParts as named
 use Rattle.rctl_class.specs.NamedParts.{piece_of as named_of, pieces as named_operand, pieces_of as named_list}
-use Rattle.rctl_class.specs.declared.named.NamedPart.TheVariants as named_part
-use Rattle.rctl_class.proofs.Folds as named_folds
 use Rattle.rctl_parts.specs.Pieces.{piece_of, pieces, pieces_of}
 use Rattle.rctl_names.specs.Numbers.{part_fault, operand_fault, part_after}
-use Rattle.rctl_names.specs.Resolving.{IsPieceIn, ArePiecesIn, piece_in}
+use Rattle.rctl_names.specs.Resolving.{ArePiecesIn}
 use Rattle.rctl_names.specs.Seen.{names_in, watched_in}
 use Rattle.rctl_names.proofs.Joined.{taken_split, taken_more, piece_fails, piece_passes, piece_after, pieces_more}
 use Rattle.rctl_names.proofs.Made.{same_names}

@@ -1,4 +1,4 @@
-use Rattle.std.proofs.Common.{◌≡◌, take}
+use Rattle.std.proofs.Common.{take}
 use Rattle.rctl_class.specs.NamedParts.{pieces as named_operand, pieces_of as named_list}
 use Rattle.rctl_parts.specs.Pieces.{pieces, pieces_of}
 use Rattle.rctl_names.specs.Resolving.{ArePiecesIn}

@@ -1,4 +1,4 @@
-use Rattle.std.proofs.Common.{◌≡◌, take}
+use Rattle.std.proofs.Common.{take}
 use Rattle.rctl_class.specs.NamedParts.{disjuncts_of as named_disjuncts}
 use Rattle.rctl_parts.specs.Pieces.{disjuncts_of}
 use Rattle.rctl_names.specs.Resolving.{AreDisjunctsIn}

@@ -1,4 +1,4 @@
-use Rattle.std.proofs.Common.{◌≡◌, ◌∙◌, arith}
+use Rattle.std.proofs.Common.{◌∙◌, arith}
 use Rattle.rctl_class.specs.NamedParts.{expr_of as named_expr}
 use Rattle.rctl_parts.specs.Exprs.{expr_of}
 use Rattle.rctl_parts.proofs.Folds.{piece-Local}
