@@ -25,14 +25,14 @@ use Rattle.rctl_class.proofs.Alike.{some_name, name_of_first, on_same, local_is_
 
 -- ---- names joined
 
-unknown_joined : (known : Known) (seen : List Watching) (us vs : List Use) → first_unknown known seen (us ++ vs) ≡ earlier (first_unknown known seen us) (first_unknown known (seen_after seen us) vs)
+pub unknown_joined : (known : Known) (seen : List Watching) (us vs : List Use) → first_unknown known seen (us ++ vs) ≡ earlier (first_unknown known seen us) (first_unknown known (seen_after seen us) vs)
 unfolding first_unknown seen_after
 unknown_joined known seen [] vs = refl
 unknown_joined known seen (u ∷ us) vs =
     ap (earlier (use_fault known seen u)) (unknown_joined known (seen_with seen u) us vs)
     ∙ sym (earlier_assoc (use_fault known seen u) (first_unknown known (seen_with seen u) us) (first_unknown known (seen_after (seen_with seen u) us) vs))
 
-seen_joined : (seen : List Watching) (us vs : List Use) → seen_after seen (us ++ vs) ≡ seen_after (seen_after seen us) vs
+pub seen_joined : (seen : List Watching) (us vs : List Use) → seen_after seen (us ++ vs) ≡ seen_after (seen_after seen us) vs
 unfolding seen_after
 seen_joined seen [] vs = refl
 seen_joined seen (u ∷ us) vs = seen_joined (seen_with seen u) us vs
@@ -212,7 +212,7 @@ parts_uses_joined : (ps qs : List Piece) → parts_uses (ps ++ qs) ≡ parts_use
 parts_uses_joined [] qs = refl
 parts_uses_joined (p ∷ ps) qs = rw (parts_uses_joined ps qs) (sym (append_assoc (part_uses p) (parts_uses ps) (parts_uses qs)))
 
-operand_names : (ps : List Piece) → operand_uses (pieces ps) ≡ parts_uses ps
+pub operand_names : (ps : List Piece) → operand_uses (pieces ps) ≡ parts_uses ps
 operand_names [] = refl
 operand_names (p ∷ ps) = ap (λ us. part_uses p ++ us) (operand_names ps)
 

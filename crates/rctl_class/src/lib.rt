@@ -20,6 +20,7 @@ mod channel;
 mod laws;
 mod local;
 mod named;
+mod stop;
 mod walk;
 
 pub use laws::{
@@ -27,6 +28,8 @@ pub use laws::{
     read_formulas_are_within_limits,
 };
 pub use named::{Classed, NamedExpr, NamedPart, NamedSide};
+pub use stop::{Stop, fault};
+
 use pota_base::{List, Refused};
 use rctl_grammar::{Formula, FormulaFault};
 use std::alloc::Global;

@@ -1,5 +1,4 @@
 //! The walk over a formula with a sign: its parts and disjuncts, or its first fault.
-ghost use Rattle.pota_base.specs.declared.fault.Refused.TheVariants.{Fault};
 ghost use Rattle.rctl_class.specs.Faults.{atom_fault, first_fault, first_of};
 ghost use Rattle.rctl_class.specs.Faults.{operator_fault, until_code};
 ghost use Rattle.rctl_class.specs.NamedParts.{disjuncts_of, piece_of, pieces_of};
@@ -12,19 +11,10 @@ ghost use Rattle.std.specs.Prelude.{◌≡◌, ◌++◌, ◌∷◌, [], false, m
 use crate::channel::{after_sign, emptiness, push_bounds};
 use crate::local::local_part;
 use crate::named::NamedPart;
-use pota_base::{List, NoMemory, Refused};
-use rctl_grammar::{Atom, Compare, FormulaCode, FormulaFault, Operator, Outside, Tree};
+use crate::stop::{Stop, fault};
+use pota_base::{List, NoMemory};
+use rctl_grammar::{Atom, Compare, FormulaCode, Operator, Outside, Tree};
 use std::alloc::Global;
-
-/// Why a formula has no disjuncts.
-pub type Stop = Refused<FormulaFault>;
-
-/// The fault of this code at this place.
-fn fault(code: FormulaCode, place: u32) -> Stop
-    ensures { result ≡ Fault (record { code = code; place = place }) }
-{
-    Refused::Fault(FormulaFault { code, place })
-}
 
 /// Appends the parts of a leaf that isn't local. A comparison of one process and a watch are local.
 fn push_leaf(

@@ -1,0 +1,9 @@
+pub mod Rules
+pub mod Joined
+pub mod Made
+pub mod Lookups
+pub mod Spells
+pub mod Tracks
+pub mod Fits
+pub mod Whole
+pub mod Meaning

@@ -1,0 +1,120 @@
+-- The parts of a formula with numbers in the place of names.
+use Rattle.std.specs.Prelude.{◌≡◌, ℕ, ◌≤◌, List, [], map, length, get_or, Option, None, Some}
+use Rattle.run_model.specs.Run.{Name}
+use Rattle.event_log.specs.declared.log.Binding.{Binding}
+use Rattle.event_log.specs.declared.log.Header.{Header}
+use Rattle.event_log.specs.States.{IsHeader}
+use Rattle.rctl_grammar.specs.declared.tree.Place.{Place}
+use Rattle.rctl_parts.specs.declared.expr.LocalSide.{LocalSide}
+use Rattle.rctl_parts.specs.declared.expr.LocalSide.TheVariants as number_side
+use Rattle.rctl_parts.specs.Exprs as expr
+use Rattle.rctl_parts.specs.Pieces as piece
+use Rattle.rctl_parts.specs.Spelled.{Names, part_formulas}
+use Rattle.rctl_parts.specs.MadeFor as made
+use Rattle.rctl_parts.specs.MadeFor.{AreMadeFor}
+use Rattle.rctl_class.specs.declared.named.NamedSide.{NamedSide}
+use Rattle.rctl_class.specs.declared.named.NamedSide.TheVariants as named_side
+use Rattle.rctl_class.specs.NamedParts as named
+use Rattle.rctl_class.specs.Classed.{disjunct_formulas}
+use Rattle.rctl_grammar.specs.declared.fault.FormulaFault.{FormulaFault}
+use Rattle.rctl_class.specs.Uses.{first_unknown}
+use Rattle.rctl_names.specs.declared.process.Process.{Process}
+use Rattle.rctl_names.specs.declared.scope.Scope.{Scope}
+use Rattle.rctl_names.specs.declared.watches.Watches.{Watches}
+use Rattle.rctl_parts.specs.declared.part.Resolved.{Resolved}
+use Rattle.rctl_names.specs.Numbers.{number, variables_of, known_in, LocalName, local_names, all_local_names, local_fault, local_after, part_fault, operand_fault, disjuncts_fault, part_after, operand_after, disjuncts_after}
+use Rattle.rctl_names.specs.Seen.{names_of, names_in, variables_on, watched_in}
+
+-- ---- what each part becomes
+
+abbrev pub side_in : List Name → NamedSide → LocalSide
+side_in variables (named_side.Number value) = number_side.Number value
+side_in variables (named_side.Variable v) = number_side.Variable (number variables v.name)
+
+abbrev mutual
+  -- an expression over a process with these variables
+  pub expr_in : List Name → List Name → named.Expr → expr.Expr
+  expr_in variables watches (named.truth value) = expr.truth value
+  expr_in variables watches (named.comparison left compare right) = expr.comparison (number variables left.name) compare (side_in variables right)
+  expr_in variables watches (named.watched name) = expr.watch (number watches name.name)
+  expr_in variables watches (named.negation e) = expr.negation (expr_in variables watches e)
+  expr_in variables watches (named.conjunction es) = expr.conjunction (exprs_in variables watches es)
+  expr_in variables watches (named.disjunction es) = expr.disjunction (exprs_in variables watches es)
+
+  pub exprs_in : List Name → List Name → named.Exprs → expr.Exprs
+  exprs_in variables watches named.no_expr = expr.none
+  exprs_in variables watches (named.and_expr e es) = expr.more (expr_in variables watches e) (exprs_in variables watches es)
+
+-- a local expression over a process or over none
+abbrev pub local_in : Names → Option Place → named.Expr → piece.Atom
+local_in names None e = piece.local None (expr_in [] names.watches e)
+local_in names (Some p) e = piece.local (Some (number names.processes p.name)) (expr_in (variables_of names p.name) names.watches e)
+
+abbrev mutual
+  -- a part
+  pub piece_in : Names → named.Piece → piece.Piece
+  piece_in names (named.local on e) = piece.atom (local_in names on e)
+  piece_in names (named.at_most p q k) = piece.atom (piece.at_most (number names.processes p.name) (number names.processes q.name) k)
+  piece_in names (named.at_least p q k) = piece.atom (piece.at_least (number names.processes p.name) (number names.processes q.name) k)
+  piece_in names (named.never p q) = piece.atom piece.never
+  piece_in names (named.temporal operator ps) = piece.temporal operator (pieces_in names ps)
+
+  pub pieces_in : Names → named.Pieces → piece.Pieces
+  pieces_in names named.no_piece = piece.none
+  pieces_in names (named.and_piece p ps) = piece.more (piece_in names p) (pieces_in names ps)
+
+-- ---- what one step gives
+
+-- names without a fault, and the watches behind them
+abbrev pub AreFree : Process → Watches → Watches → List LocalName → Type 0
+AreFree on old new us =
+    (local_fault (variables_on on) on.number (watched_in old) us ≡ None) × (watched_in new ≡ local_after on.number (watched_in old) us)
+
+-- the expression, with numbers
+abbrev pub IsExprIn : Process → Watches → Watches → named.Expr → expr.Expr → Type 0
+IsExprIn on old new e made = AreFree on old new (local_names e) × (made ≡ expr_in (variables_on on) old.names.now e)
+
+-- the members, with numbers
+abbrev pub AreExprsIn : Process → Watches → Watches → named.Exprs → expr.Exprs → Type 0
+AreExprsIn on old new es made = AreFree on old new (all_local_names es) × (made ≡ exprs_in (variables_on on) old.names.now es)
+
+-- the first fault of the names of an expression over a process
+abbrev pub fault_on : Process → Watches → List LocalName → Option FormulaFault
+fault_on on watches us = local_fault (variables_on on) on.number (watched_in watches) us
+
+-- a part, with numbers
+abbrev pub IsPieceIn : Scope → Watches → Watches → named.Piece → piece.Piece → Type 0
+IsPieceIn scope old new p made =
+    (part_fault (names_in scope old) (watched_in old) p ≡ None) × (watched_in new ≡ part_after (names_in scope old) (watched_in old) p)
+    × (made ≡ piece_in (names_in scope old) p)
+
+-- the parts of a conjunction, with numbers
+abbrev pub ArePiecesIn : Scope → Watches → Watches → named.Pieces → piece.Pieces → Type 0
+ArePiecesIn scope old new ps made =
+    (operand_fault (names_in scope old) (watched_in old) ps ≡ None) × (watched_in new ≡ operand_after (names_in scope old) (watched_in old) ps)
+    × (made ≡ pieces_in (names_in scope old) ps)
+
+-- disjuncts, with numbers
+abbrev pub AreDisjunctsIn : Scope → Watches → Watches → List (List named.Piece) → List (List piece.Piece) → Type 0
+AreDisjunctsIn scope old new ds made =
+    (disjuncts_fault (names_in scope old) (watched_in old) ds ≡ None) × (watched_in new ≡ disjuncts_after (names_in scope old) (watched_in old) ds)
+    × (made ≡ map (map (piece_in (names_in scope old))) ds)
+
+-- ---- what resolving gives
+
+-- a header with few variables, and few watches
+pub record CanResolve (header : Header) (watches : List Name) : Type 0 where
+  pub fits : IsHeader header
+  pub variables : (p : ℕ) → length (get_or header.vars p []) ≤ 16
+  pub few : length watches ≤ 8
+
+-- how many variables each process of a header has, and the process that each watch is on
+abbrev pub scope_of : Header → List (Option ℕ) → made.Scope
+scope_of header on = record { variables = map (λ (bs : List Binding). length bs) header.vars; watch_process = on }
+
+-- the parts with numbers spell the very formulas of the parts with names, and are made for the header and the watches
+pub record IsResolved (header : Header) (watches : List Name) (ds : List (List named.Piece)) (resolved : Resolved) : Type 0 where
+  pub free : first_unknown (known_in (names_of header watches)) [] (named.disjuncts_uses ds) ≡ None
+  pub spelled : part_formulas (names_of header watches) (piece.disjuncts_of resolved.disjuncts) ≡ disjunct_formulas ds
+  pub made_for : AreMadeFor (scope_of header resolved.watch_process) (piece.disjuncts_of resolved.disjuncts)
+  pub paired : length resolved.watch_process ≡ length watches

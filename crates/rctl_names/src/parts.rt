@@ -1,0 +1,168 @@
+//! Parts with numbers in the place of names.
+ghost use Rattle.rctl_class.specs.NamedParts.{disjuncts_of as named_disjuncts};
+ghost use Rattle.rctl_class.specs.NamedParts.{expr_of as named_expr, local, pieces as named_operand};
+ghost use Rattle.rctl_class.specs.NamedParts.{piece_of as named_of, pieces_of as named_list};
+ghost use Rattle.rctl_names.specs.Numbers.{disjuncts_fault, operand_fault, part_fault};
+ghost use Rattle.rctl_names.specs.Resolving.{AreDisjunctsIn, ArePiecesIn, IsPieceIn};
+ghost use Rattle.rctl_names.specs.Seen.{names_in, watched_in};
+ghost use Rattle.rctl_parse.specs.Reading.{Faults};
+ghost use Rattle.rctl_parts.specs.Pieces.{disjuncts_of, piece_of, pieces, pieces_of};
+ghost use Rattle.std.specs.Prelude.{◌≡◌, MatchResult, None, Some};
+
+use crate::exprs::resolve_expr;
+use crate::numbers::process_number;
+use crate::process::Process;
+use crate::scope::Scope;
+use crate::watches::Watches;
+use pota_base::List;
+use rctl_class::{NamedExpr, NamedPart, Stop};
+use rctl_grammar::Place;
+use rctl_parts::Part;
+use std::alloc::Global;
+
+/// A local expression over the process that is named.
+#[tactic(auto, using(crate::proofs::Rules::pieces))]
+fn resolve_over(
+    alloc: Global,
+    scope: &Scope,
+    watches: &mut Watches,
+    place: &Place,
+    expr: &NamedExpr,
+) -> Result<Part, Stop>
+    ensures { MatchResult result
+        (λ made. IsPieceIn scope.now watches.old watches.new
+            (local (Some place.now) (named_expr expr.now)) (piece_of made))
+        (λ stop. Faults stop
+            (λ f. part_fault (names_in scope.now watches.old) (watched_in watches.old)
+                (local (Some place.now) (named_expr expr.now)) ≡ Some f)) }
+{
+    let number = process_number(scope, place)?;
+    let variables = scope.variables[number as usize].as_slice();
+    let on = Process { number, variables };
+    Ok(Part::Local {
+        process: Some(number),
+        expr: resolve_expr(alloc, &on, watches, expr)?,
+    })
+}
+
+/// A local expression that names no process, so neither a variable nor a watch.
+#[tactic(auto, using(crate::proofs::Rules::pieces))]
+fn resolve_constant(
+    alloc: Global,
+    scope: &Scope,
+    watches: &mut Watches,
+    expr: &NamedExpr,
+) -> Result<Part, Stop>
+    ensures { MatchResult result
+        (λ made. IsPieceIn scope.now watches.old watches.new
+            (local None (named_expr expr.now)) (piece_of made))
+        (λ stop. Faults stop
+            (λ f. part_fault (names_in scope.now watches.old) (watched_in watches.old)
+                (local None (named_expr expr.now)) ≡ Some f)) }
+{
+    let on = Process {
+        number: 0,
+        variables: &[],
+    };
+    Ok(Part::Local {
+        process: None,
+        expr: resolve_expr(alloc, &on, watches, expr)?,
+    })
+}
+
+/// The parts of a conjunction, one after the other.
+#[cycle(part)]
+fn resolve_parts(
+    alloc: Global,
+    scope: &Scope,
+    watches: &mut Watches,
+    parts: &[NamedPart],
+) -> Result<List<Part>, Stop>
+    ensures { MatchResult result
+        (λ made. ArePiecesIn scope.now watches.old watches.new
+            (named_operand (named_list parts.now)) (pieces (pieces_of made)))
+        (λ stop. Faults stop
+            (λ f. operand_fault (names_in scope.now watches.old) (watched_in watches.old)
+                (named_operand (named_list parts.now)) ≡ Some f)) }
+{
+    let mut made = List::new(alloc);
+    'parts: for part in parts {
+        made.push(resolve_part(alloc, scope, watches, part)?)?;
+    }
+    Ok(made)
+}
+
+/// A part. `Fault` is the first of its names that is unknown, or a watch that stands on another
+/// process.
+#[cycle(part)]
+#[tactic(auto, using(crate::proofs::Rules::pieces))]
+fn resolve_part(
+    alloc: Global,
+    scope: &Scope,
+    watches: &mut Watches,
+    part: &NamedPart,
+) -> Result<Part, Stop>
+    ensures { MatchResult result
+        (λ made. IsPieceIn scope.now watches.old watches.new (named_of part.now) (piece_of made))
+        (λ stop. Faults stop
+            (λ f. part_fault (names_in scope.now watches.old) (watched_in watches.old)
+                (named_of part.now) ≡ Some f)) }
+{
+    match part {
+        NamedPart::Local { process, expr } => match process {
+            Some(place) => resolve_over(alloc, scope, watches, place, expr),
+            None => resolve_constant(alloc, scope, watches, expr),
+        },
+        NamedPart::AtMost {
+            sender,
+            receiver,
+            k,
+        } => Ok(Part::AtMost {
+            sender: process_number(scope, sender)?,
+            receiver: process_number(scope, receiver)?,
+            k: *k,
+        }),
+        NamedPart::AtLeast {
+            sender,
+            receiver,
+            k,
+        } => Ok(Part::AtLeast {
+            sender: process_number(scope, sender)?,
+            receiver: process_number(scope, receiver)?,
+            k: *k,
+        }),
+        NamedPart::Never { sender, receiver } => {
+            let _sender = process_number(scope, sender)?;
+            let _receiver = process_number(scope, receiver)?;
+            Ok(Part::Never)
+        }
+        NamedPart::Temporal { operator, parts } => {
+            let parts = resolve_parts(alloc, scope, watches, parts.as_slice())?;
+            Ok(Part::Temporal {
+                operator: *operator,
+                parts,
+            })
+        }
+    }
+}
+
+/// The disjuncts, one after the other.
+pub fn resolve_disjuncts(
+    alloc: Global,
+    scope: &Scope,
+    watches: &mut Watches,
+    disjuncts: &[List<NamedPart>],
+) -> Result<List<List<Part>>, Stop>
+    ensures { MatchResult result
+        (λ made. AreDisjunctsIn scope.now watches.old watches.new
+            (named_disjuncts disjuncts.now) (disjuncts_of made))
+        (λ stop. Faults stop
+            (λ f. disjuncts_fault (names_in scope.now watches.old) (watched_in watches.old)
+                (named_disjuncts disjuncts.now) ≡ Some f)) }
+{
+    let mut made = List::new(alloc);
+    'disjuncts: for disjunct in disjuncts {
+        made.push(resolve_parts(alloc, scope, watches, disjunct.as_slice())?)?;
+    }
+    Ok(made)
+}

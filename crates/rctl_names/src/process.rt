@@ -1,0 +1,11 @@
+ghost use Rattle.std.specs.Prelude.{◌≤◌, length};
+
+use event_log::Binding;
+
+/// A process by its number, and its variables.
+#[derive(Drop)]
+pub struct Process<'a> {
+    pub number: u32,
+    pub variables: &'a [Binding],
+    ghost few: { length variables.now ≤ 16 },
+}

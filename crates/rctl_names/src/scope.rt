@@ -1,0 +1,15 @@
+ghost use Rattle.std.specs.Prelude.{◌≡◌, ◌≤◌, ℕ, [], get_or, length};
+
+use event_log::Binding;
+use pota_base::List;
+use pota_names::Name;
+
+/// The processes of a header and the variables of each, where a formula's names are looked up.
+#[derive(Drop)]
+pub struct Scope<'a> {
+    pub processes: &'a [Name],
+    pub variables: &'a [List<Binding>],
+    ghost few: { length processes.now ≤ 32 },
+    ghost paired: { length variables.now ≡ length processes.now },
+    ghost small: { (p : ℕ) → length (get_or variables.now p []) ≤ 16 },
+}
