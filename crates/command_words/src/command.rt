@@ -8,6 +8,7 @@ ghost use Rattle.command_words.specs.Rule.{options, flags};
 use clap::{Arg, ArgAction, Command};
 use std::alloc::{AllocError, Global};
 
+// A required positional.
 fn place<'a>(alloc: Global, name: &'a str) -> Arg<'a>
     ensures rule { rule_of result ≡ place name.entry.now }
     ensures local { result.global ≡ false }
@@ -15,6 +16,7 @@ fn place<'a>(alloc: Global, name: &'a str) -> Arg<'a>
     Arg::new(alloc, name).required(true)
 }
 
+// An option with one value.
 fn option_named<'a>(alloc: Global, name: &'a str) -> Arg<'a>
     ensures rule { rule_of result ≡ option_named name.entry.now }
     ensures local { result.global ≡ false }
@@ -22,6 +24,7 @@ fn option_named<'a>(alloc: Global, name: &'a str) -> Arg<'a>
     Arg::new(alloc, name).long(name)
 }
 
+// A flag.
 fn flag_named<'a>(alloc: Global, name: &'a str) -> Arg<'a>
     ensures rule { rule_of result ≡ flag_named name.entry.now }
     ensures local { result.global ≡ false }

@@ -8,12 +8,15 @@ ghost use Rattle.command_words.specs.Seen.{kind_seen};
 pub enum WordKind {
     /// An option, which takes the next word as its value.
     TakesValue(&'static str),
+    /// A flag, which stands by itself.
     Flag(&'static str),
     /// It begins with a hyphen and is none of these.
     Unknown,
+    /// The command or the formula.
     Positional,
 }
 
+/// Whether the word begins with a hyphen.
 pub fn begins_dash(word: &str) -> bool
     ensures { result ≡ begins_dash word.now }
 {
@@ -23,6 +26,7 @@ pub fn begins_dash(word: &str) -> bool
     }
 }
 
+/// What the word stands for. An option or a flag more is a line here.
 pub fn kind_of(word: &str) -> WordKind
     ensures { kind_seen result ≡ kind_of word.now }
 {

@@ -7,6 +7,7 @@ ghost use Rattle.command_words.specs.Seen.{text_seen};
 use crate::request::Sizes;
 use pota_base::read_u64;
 
+// The number that the text spells.
 fn whole_number(text: &str) -> Option<u64>
     ensures { result ≡ whole (number_at (2 ^ 64 - 1) text.now) }
 {
@@ -33,6 +34,7 @@ fn small_number(text: &str, low: u32, high: u32) -> Option<u32>
     Some(number as u32)
 }
 
+/// The number of workers, 1 where none is given.
 pub fn workers(text: Option<&str>) -> Option<u32>
     ensures { result ≡ workers_of (text_seen text.entry) }
 {
@@ -42,6 +44,7 @@ pub fn workers(text: Option<&str>) -> Option<u32>
     }
 }
 
+/// The sizes of the log that `bench` makes, where all three are given and in their ranges.
 pub fn sizes(seed: Option<&str>, procs: Option<&str>, events: Option<&str>) -> Option<Sizes>
     ensures { result
         ≡ sizes_of (text_seen seed.entry) (text_seen procs.entry) (text_seen events.entry) }

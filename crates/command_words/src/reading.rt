@@ -52,6 +52,7 @@ impl<'a> Reading<'a> {
         Ok(())
     }
 
+    // The option waits for its value. False where it stood before.
     fn wait(&mut self, name: &'static str) -> bool
         ensures { Took (waiting name.entry.now (given_seen self.old)) result (given_seen self.new) }
     {
@@ -62,6 +63,7 @@ impl<'a> Reading<'a> {
         true
     }
 
+    // False where the flag stood before.
     fn add_flag(&mut self, name: &'static str) -> Result<bool, NoMemory>
         ensures { IfOk result (λ taken.
             Took (with_flag name.entry.now (given_seen self.old)) taken (given_seen self.new)) }
@@ -73,6 +75,7 @@ impl<'a> Reading<'a> {
         Ok(true)
     }
 
+    // The command, then the formula. False for a third.
     fn add_place(&mut self, word: &'a str) -> Result<bool, NoMemory>
         ensures { IfOk result (λ taken. Took
             (with_place self.old.places word.entry.now (given_seen self.old))
@@ -106,6 +109,7 @@ impl<'a> Reading<'a> {
         }
     }
 
+    // Takes the next word. False where the rule refuses it.
     fn take(&mut self, word: &'a str) -> Result<bool, NoMemory>
         ensures { IfOk result (λ taken. Took
             (step (Some (given_seen self.old)) word.entry.now) taken (given_seen self.new)) }

@@ -80,6 +80,7 @@ fn bench_task(values: &TextValues<'_>) -> Option<Task>
     Some(Task::Bench(sizes))
 }
 
+// A command more is a line here.
 fn task_named(command: &str, values: &TextValues<'_>) -> Option<Task>
     ensures { result ≡ task_of command.now (values_seen values.now) }
 {

@@ -21,6 +21,7 @@ pub struct TextValues<'a> {
     pub each_batch: bool,
 }
 
+// The value of an option or a positional.
 fn value<'a>(matches: &ArgMatches<'a>, name: &str) -> Option<&'a str>
     ensures { text_seen result ≡ first_of name.now (rows_of (found_of matches.now)) }
 {
@@ -37,6 +38,7 @@ fn is_from_words(source: Option<ValueSource>) -> bool
     }
 }
 
+// Whether a flag stands among the words: then its value is not the default.
 fn stands(matches: &ArgMatches<'_>, name: &str) -> bool
     ensures { result ≡ stands_in name.now (rows_of (found_of matches.now)) }
 {
