@@ -9,5 +9,6 @@ mod writing;
 pub use draft::Draft;
 pub use reading::read_report;
 pub use report::{Report, ReportFault, SliceText};
-pub use report_lines::{Edge, WitnessText};
+pub use report_lines::WitnessText;
+pub use slice_graph::Edge;
 pub use writing::write_report;
