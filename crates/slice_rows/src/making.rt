@@ -50,7 +50,8 @@ fn settle_row<L: Ledger>(
     ensures least { OnOk result
         (IsLeast system.now row (row_at system.now.lens rows.new.words row)) }
     ensures others { (other : ℕ) → other ≤ sum system.now.lens → (other ≡ row → ⊥)
-        → row_at system.now.lens rows.new.words other ≡ row_at system.now.lens rows.old.words other }
+        → row_at system.now.lens rows.new.words other
+        ≡ row_at system.now.lens rows.old.words other }
 {
     let _shape = rows.shape();
     let mut vector = Vec::from_slice(alloc, rows.row(row))?;
@@ -149,7 +150,8 @@ fn with_part(
     }
 }
 
-/// The slices of the parts, joined. There is none without a part, or where a part's pull isn't one of the run's shape.
+/// The slices of the parts, joined. There is none without a part, or where a part's pull isn't one
+/// of the run's shape.
 pub fn slice_of_parts<L: Ledger>(
     alloc: Global,
     order: &Order,

@@ -35,7 +35,8 @@ fn event_fits(procs: usize, event: &Event) -> bool
     }
 }
 
-/// The clocks of a run of so many processes, and none where the events' clocks are not those of a run.
+/// The clocks of a run of so many processes, and none where the events' clocks are not those of a
+/// run.
 pub fn clocks_of(alloc: Global, procs: u32, events: &[Event]) -> Result<Option<Clocks>, NoMemory> {
     if procs < 1 || procs > 32 {
         return Ok(None);

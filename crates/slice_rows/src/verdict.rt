@@ -54,7 +54,8 @@ fn has_bounds(slice: &Slice, wanted: &Wanted) -> bool {
         && is_wanted(slice.top(), &wanted.top)
 }
 
-// Whether the slice's answer at each of the cuts is this one. Counts that are no cut of the run have none.
+// Whether the slice's answer at each of the cuts is this one. Counts that are no cut of the run
+// have none.
 fn answers(
     alloc: Global,
     slice: &Slice,
