@@ -61,7 +61,12 @@ fn never(alloc: Global, sender: &Place, receiver: &Place) -> Result<NamedPart, N
 }
 
 /// Fewer than `k` messages are under way.
-fn fewer_than(alloc: Global, sender: &Place, receiver: &Place, k: u64) -> Result<NamedPart, NoMemory>
+fn fewer_than(
+    alloc: Global,
+    sender: &Place,
+    receiver: &Place,
+    k: u64,
+) -> Result<NamedPart, NoMemory>
     ensures { IfOk result (λ part. piece_of part ∷ [] ≡ fewer_than sender.now receiver.now k) }
 {
     if k == 0 {
@@ -72,7 +77,8 @@ fn fewer_than(alloc: Global, sender: &Place, receiver: &Place, k: u64) -> Result
 
 /// More than `k` messages are under way; `k` is below 2^63 in each formula that was read.
 fn more_than(alloc: Global, sender: &Place, receiver: &Place, k: u64) -> Result<NamedPart, NoMemory>
-    ensures { IfOk result (λ part. piece_of part ≡ at_least sender.now receiver.now (next_count k)) }
+    ensures { IfOk result
+        (λ part. piece_of part ≡ at_least sender.now receiver.now (next_count k)) }
 {
     at_least(alloc, sender, receiver, k.saturating_add(1))
 }
@@ -103,7 +109,12 @@ pub fn push_bounds(
 }
 
 /// No message is under way, or some is where the sign is negative.
-pub fn emptiness(alloc: Global, sign: bool, sender: &Place, receiver: &Place) -> Result<NamedPart, NoMemory>
+pub fn emptiness(
+    alloc: Global,
+    sign: bool,
+    sender: &Place,
+    receiver: &Place,
+) -> Result<NamedPart, NoMemory>
     ensures { IfOk result (λ part. piece_of part ≡ empty_bound sign sender.now receiver.now) }
 {
     if sign {

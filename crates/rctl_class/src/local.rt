@@ -81,9 +81,13 @@ fn is_on(process: Option<&Place>, name: &Place) -> bool
 }
 
 /// The right side of a comparison, where it has no other process.
-fn side_at(alloc: Global, side: &Side, process: Option<&Place>) -> Result<Option<NamedSide>, NoMemory>
-    ensures { IfOk result (λ found. found ≡ some_if (side_is_over (name_seen process.entry) side.now)
-        (side_from side.now)) }
+fn side_at(
+    alloc: Global,
+    side: &Side,
+    process: Option<&Place>,
+) -> Result<Option<NamedSide>, NoMemory>
+    ensures { IfOk result (λ found. found
+        ≡ some_if (side_is_over (name_seen process.entry) side.now) (side_from side.now)) }
 {
     match side {
         Side::Number(value) => Ok(Some(NamedSide::Number(*value))),
@@ -101,7 +105,11 @@ fn side_at(alloc: Global, side: &Side, process: Option<&Place>) -> Result<Option
 
 /// The expression of a leaf, where it is local and names no other process.
 #[tactic(auto, using(crate::proofs::Rules::named))]
-fn atom_at(alloc: Global, atom: &Atom, process: Option<&Place>) -> Result<Option<NamedExpr>, NoMemory>
+fn atom_at(
+    alloc: Global,
+    atom: &Atom,
+    process: Option<&Place>,
+) -> Result<Option<NamedExpr>, NoMemory>
     ensures { IfOk result (λ found. expr_seen found ≡ some_if
         (atom_is_over (name_seen process.entry) atom.now) (atom_expr atom.now)) }
 {
@@ -143,7 +151,11 @@ fn atom_at(alloc: Global, atom: &Atom, process: Option<&Place>) -> Result<Option
 
 /// The expressions of the members, where all are local and name no other process.
 #[cycle(expr)]
-fn exprs_at(alloc: Global, members: &[Tree], process: Option<&Place>) -> Result<Option<List<NamedExpr>>, NoMemory>
+fn exprs_at(
+    alloc: Global,
+    members: &[Tree],
+    process: Option<&Place>,
+) -> Result<Option<List<NamedExpr>>, NoMemory>
     ensures { IfOk result (λ found. exprs_seen found ≡ some_if
         (all_over (name_seen process.entry) (nodes_of (map node_of members.now)))
         (exprs_from (nodes_of (map node_of members.now)))) }
@@ -161,7 +173,11 @@ fn exprs_at(alloc: Global, members: &[Tree], process: Option<&Place>) -> Result<
 /// The expression of a tree, where it is local and names no other process.
 #[cycle(expr)]
 #[tactic(auto, using(crate::proofs::Rules::named))]
-fn expr_at(alloc: Global, tree: &Tree, process: Option<&Place>) -> Result<Option<NamedExpr>, NoMemory>
+fn expr_at(
+    alloc: Global,
+    tree: &Tree,
+    process: Option<&Place>,
+) -> Result<Option<NamedExpr>, NoMemory>
     ensures { IfOk result (λ found. expr_seen found ≡ some_if
         (is_over (name_seen process.entry) (node_of tree.now)) (expr_from (node_of tree.now))) }
 {

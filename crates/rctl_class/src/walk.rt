@@ -6,7 +6,8 @@ ghost use Rattle.rctl_class.specs.Nodes.{node_of, nodes_of};
 ghost use Rattle.rctl_class.specs.Walk.{all_disjuncts, all_parts, channel_parts, disjuncts_from};
 ghost use Rattle.rctl_class.specs.Walk.{parts_from};
 ghost use Rattle.rctl_parse.specs.Reading.{Faults};
-ghost use Rattle.std.specs.Prelude.{◌≡◌, ◌++◌, ◌∷◌, [], false, map, MatchResult, None, OnOk, Some, true};
+ghost use Rattle.std.specs.Prelude.{◌≡◌, ◌++◌, ◌∷◌, [], false, map, MatchResult, None, OnOk};
+ghost use Rattle.std.specs.Prelude.{Some, true};
 
 use crate::channel::{after_sign, emptiness, push_bounds};
 use crate::local::local_part;
@@ -80,7 +81,8 @@ fn conjunctions(
         (λ _. (first_of true sign (nodes_of (map node_of members.now)) ≡ None)
             × (pieces_of parts.new
                 ≡ pieces_of parts.old ++ all_parts sign (nodes_of (map node_of members.now))))
-        (λ stop. Faults stop (λ f. first_of true sign (nodes_of (map node_of members.now)) ≡ Some f)) }
+        (λ stop. Faults stop
+            (λ f. first_of true sign (nodes_of (map node_of members.now)) ≡ Some f)) }
 {
     'members: for member in members {
         conjunction(alloc, sign, member, parts)?;
@@ -175,7 +177,8 @@ fn disjunctions(
         (λ _. (first_of false sign (nodes_of (map node_of members.now)) ≡ None)
             × (disjuncts_of disjuncts.new ≡ disjuncts_of disjuncts.old
                 ++ all_disjuncts sign (nodes_of (map node_of members.now))))
-        (λ stop. Faults stop (λ f. first_of false sign (nodes_of (map node_of members.now)) ≡ Some f)) }
+        (λ stop. Faults stop
+            (λ f. first_of false sign (nodes_of (map node_of members.now)) ≡ Some f)) }
 {
     'members: for member in members {
         disjunction(alloc, sign, member, disjuncts)?;

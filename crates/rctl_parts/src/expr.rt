@@ -8,8 +8,8 @@ pub enum LocalSide {
     Variable(u32),
 }
 
-/// What is true or false of the states of one process. Variables are numbered from 0 in the order of the process, watches in the
-/// order in which they were handed in.
+/// What is true or false of the states of one process. Variables are numbered from 0 in the order
+/// of the process, watches in the order in which they were handed in.
 #[derive(Debug, Drop)]
 pub enum LocalExpr {
     Truth(bool),

@@ -2,7 +2,8 @@ use crate::expr::LocalExpr;
 use pota_base::List;
 use rctl_grammar::Operator;
 
-/// A regular part of a conjunction (regular predicates: Garg and Mittal). Processes are numbered from 0 in the order of the header.
+/// A regular part of a conjunction (regular predicates: Garg and Mittal). Processes are numbered
+/// from 0 in the order of the header.
 #[derive(Debug, Drop)]
 pub enum Part {
     /// An expression over the states of one process, `None` where it is a constant.
@@ -31,7 +32,8 @@ pub enum Part {
     },
 }
 
-/// A formula as a disjunction of conjunctions, and the process that each watch is on: `None` for a watch that the formula doesn't name.
+/// A formula as a disjunction of conjunctions, and the process that each watch is on: `None` for a
+/// watch that the formula doesn't name.
 #[derive(Debug, Drop)]
 pub struct Resolved {
     pub disjuncts: List<List<Part>>,
