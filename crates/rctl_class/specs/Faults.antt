@@ -69,6 +69,7 @@ abbrev mutual
   first_fault inside sign (until_of all left right at) =
       fault_at (code.OutsideClass (until_code all)) at
 
+  -- the first fault of members, from left to right
   pub first_of : Bool → Bool → Nodes → Option FormulaFault
   first_of inside sign none = None
   first_of inside sign (more n ns) = earlier (first_fault inside sign n) (first_of inside sign ns)

@@ -93,6 +93,7 @@ disjuncts_of disjuncts = map pieces_of disjuncts
 
 -- ---- formulas
 
+-- the right side of a comparison over a process
 abbrev pub side_formula : Name → NamedSide → model.Side
 side_formula p (side.Number value) = model.Number value
 side_formula p (side.Variable v) = model.Variable p v.name
@@ -108,6 +109,7 @@ abbrev mutual
   expr_formula p (conjunction es) = model.And (expr_formulas p es)
   expr_formula p (disjunction es) = model.Or (expr_formulas p es)
 
+  -- those of its members
   pub expr_formulas : Name → Exprs → model.Formulas
   expr_formulas p no_expr = model.Nil
   expr_formulas p (and_expr e es) = model.Cons (expr_formula p e) (expr_formulas p es)
@@ -127,12 +129,14 @@ abbrev mutual
   part_formula (temporal operator ps) =
       model.Temporal (model_operator operator) (model.And (part_formulas ps))
 
+  -- those of the parts of an operand
   pub part_formulas : Pieces → model.Formulas
   part_formulas no_piece = model.Nil
   part_formulas (and_piece p ps) = model.Cons (part_formula p) (part_formulas ps)
 
 -- ---- names
 
+-- the variable on the right of a comparison
 abbrev pub side_uses : Name → NamedSide → List Use
 side_uses p (side.Number value) = []
 side_uses p (side.Variable v) = variable p v ∷ []
@@ -147,10 +151,12 @@ abbrev mutual
   expr_uses p (conjunction es) = all_expr_uses p es
   expr_uses p (disjunction es) = all_expr_uses p es
 
+  -- those of its members
   pub all_expr_uses : Name → Exprs → List Use
   all_expr_uses p no_expr = []
   all_expr_uses p (and_expr e es) = expr_uses p e ++ all_expr_uses p es
 
+-- the name of a process, where there is one
 abbrev pub process_use : Option Place → List Use
 process_use None = []
 process_use (Some p) = process p ∷ []
@@ -164,6 +170,7 @@ abbrev mutual
   part_uses (never p q) = process p ∷ process q ∷ []
   part_uses (temporal operator ps) = operand_uses ps
 
+  -- those of the parts of an operand
   pub operand_uses : Pieces → List Use
   operand_uses no_piece = []
   operand_uses (and_piece p ps) = part_uses p ++ operand_uses ps
@@ -173,6 +180,7 @@ abbrev pub parts_uses : List Piece → List Use
 parts_uses [] = []
 parts_uses (p ∷ ps) = part_uses p ++ parts_uses ps
 
+-- the names of disjuncts
 abbrev pub disjuncts_uses : List (List Piece) → List Use
 disjuncts_uses [] = []
 disjuncts_uses (d ∷ ds) = parts_uses d ++ disjuncts_uses ds
@@ -189,6 +197,7 @@ abbrev mutual
   is_constant (conjunction es) = are_constant es
   is_constant (disjunction es) = are_constant es
 
+  -- so of each member
   pub are_constant : Exprs → Bool
   are_constant no_expr = true
   are_constant (and_expr e es) = is_constant e && are_constant es
@@ -208,6 +217,7 @@ abbrev mutual
   PartFits (never p q) = ⊤
   PartFits (temporal operator ps) = IsTrue (is_analysed (model_operator operator)) × OperandFits ps
 
+  -- so of each part of an operand
   pub OperandFits : Pieces → Type 0
   OperandFits no_piece = ⊤
   OperandFits (and_piece p ps) = PartFits p × OperandFits ps
@@ -217,6 +227,7 @@ abbrev pub EachFits : List Piece → Type 0
 EachFits [] = ⊤
 EachFits (p ∷ ps) = PartFits p × EachFits ps
 
+-- so of each disjunct
 abbrev pub AllFit : List (List Piece) → Type 0
 AllFit [] = ⊤
 AllFit (d ∷ ds) = EachFits d × AllFit ds
@@ -230,14 +241,17 @@ abbrev mutual
   part_count (never p q) = 1
   part_count (temporal operator ps) = 1 + operand_count ps
 
+  -- those of an operand
   pub operand_count : Pieces → ℕ
   operand_count no_piece = 0
   operand_count (and_piece p ps) = part_count p + operand_count ps
 
+-- the parts of a conjunction, inner ones counted
 abbrev pub parts_count : List Piece → ℕ
 parts_count [] = 0
 parts_count (p ∷ ps) = part_count p + parts_count ps
 
+-- those of all disjuncts
 abbrev pub disjuncts_count : List (List Piece) → ℕ
 disjuncts_count [] = 0
 disjuncts_count (d ∷ ds) = parts_count d + disjuncts_count ds

@@ -54,6 +54,7 @@ abbrev mutual
   formula_of (under operator n at) = model.Temporal (model_operator operator) (formula_of n)
   formula_of (until_of all left right at) = model.Until all (formula_of left) (formula_of right)
 
+  -- those of members
   pub formulas_of : Nodes → model.Formulas
   formulas_of none = model.Nil
   formulas_of (more n ns) = model.Cons (formula_of n) (formulas_of ns)
@@ -78,6 +79,7 @@ abbrev mutual
   counts_fit (under operator n at) = counts_fit n
   counts_fit (until_of all left right at) = counts_fit left && counts_fit right
 
+  -- so of each member
   pub all_counts_fit : Nodes → Bool
   all_counts_fit none = true
   all_counts_fit (more n ns) = counts_fit n && all_counts_fit ns
@@ -92,6 +94,7 @@ abbrev mutual
   node_count (under operator n at) = 1 + node_count n
   node_count (until_of all left right at) = 1 + node_count left + node_count right
 
+  -- those of members
   pub nodes_count : Nodes → ℕ
   nodes_count none = 0
   nodes_count (more n ns) = node_count n + nodes_count ns

@@ -17,14 +17,17 @@ abbrev pub name_seen : Option (Bor Place) → Option Name
 name_seen None = None
 name_seen (Some p) = Some p.now.name
 
+-- the expression, where there is one
 abbrev pub expr_seen : Option NamedExpr → Option Expr
 expr_seen None = None
 expr_seen (Some e) = Some (expr_of e)
 
+-- the members, where there are such
 abbrev pub exprs_seen : Option (List NamedExpr) → Option Exprs
 exprs_seen None = None
 exprs_seen (Some es) = Some (exprs (map expr_of es))
 
+-- the part, where there is one
 abbrev pub part_seen : Option NamedPart → Option Piece
 part_seen None = None
 part_seen (Some p) = Some (piece_of p)

@@ -18,10 +18,12 @@ pub data Use : Type 0 where
   variable : (of : Name) (place : Place) → Use
   watch : (on : Name) (place : Place) → Use
 
+-- the names on the right of a comparison
 abbrev pub side_uses : Side → List Use
 side_uses (side.Number value) = []
 side_uses (side.Variable p v) = process p ∷ variable p.name v ∷ []
 
+-- the names of a leaf
 abbrev pub atom_uses : Atom → List Use
 atom_uses (atom.Truth value) = []
 atom_uses (atom.Local p v compare right) = process p ∷ variable p.name v ∷ side_uses right
@@ -39,6 +41,7 @@ abbrev mutual
   uses_of (under operator n at) = uses_of n
   uses_of (until_of all left right at) = uses_of left ++ uses_of right
 
+  -- those of members
   pub all_uses : Nodes → List Use
   all_uses none = []
   all_uses (more n ns) = uses_of n ++ all_uses ns
@@ -62,6 +65,7 @@ is_elsewhere [] p w = false
 is_elsewhere (s ∷ seen) p w =
     (bytes_eq s.watch w && not (bytes_eq s.process p)) || is_elsewhere seen p w
 
+-- the fault of this code at this place
 abbrev pub fault_at : FormulaCode → ℕ → Option FormulaFault
 fault_at code at = Some (record { code = code; place = at })
 

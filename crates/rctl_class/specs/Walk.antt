@@ -31,10 +31,12 @@ abbrev pub is_on : Option Name → Name → Bool
 is_on None name = false
 is_on (Some p) name = bytes_eq p name
 
+-- the right side of a comparison names no other process
 abbrev pub side_is_over : Option Name → Side → Bool
 side_is_over p (side.Number value) = true
 side_is_over p (side.Variable q v) = is_on p q.name
 
+-- a leaf is local and names no other process
 abbrev pub atom_is_over : Option Name → Atom → Bool
 atom_is_over p (atom.Truth value) = true
 atom_is_over p (atom.Local q variable compare right) = is_on p q.name && side_is_over p right
@@ -52,10 +54,12 @@ abbrev mutual
   is_over p (under operator n at) = false
   is_over p (until_of all left right at) = false
 
+  -- so of each member
   pub all_over : Option Name → Nodes → Bool
   all_over p none = true
   all_over p (more n ns) = is_over p n && all_over p ns
 
+-- the right side without its process
 abbrev pub side_from : Side → NamedSide
 side_from (side.Number value) = named_side.Number value
 side_from (side.Variable q v) = named_side.Variable v
@@ -78,10 +82,12 @@ abbrev mutual
   expr_from (under operator n at) = named.truth false
   expr_from (until_of all left right at) = named.truth false
 
+  -- those of members
   pub exprs_from : Nodes → Exprs
   exprs_from none = named.no_expr
   exprs_from (more n ns) = named.and_expr (expr_from n) (exprs_from ns)
 
+-- the expression, negated where the sign is
 abbrev pub signed : Bool → Expr → Expr
 signed sign e = if sign then e else named.negation e
 
@@ -109,6 +115,7 @@ bounds p q model.LessOrEqual k = named.at_most p q k ∷ []
 bounds p q model.Greater k = named.at_least p q (next_count k) ∷ []
 bounds p q model.GreaterOrEqual k = named.at_least p q k ∷ []
 
+-- no message is under way, or some is
 abbrev pub empty_bound : Bool → Place → Place → Piece
 empty_bound sign p q = if sign then named.at_most p q 0 else named.at_least p q 1
 
@@ -140,6 +147,7 @@ abbrev mutual
       named.temporal operator (named.pieces (parts_from true n)) ∷ []
   parts_from sign (until_of all left right at) = []
 
+  -- those of members, one after the other
   pub all_parts : Bool → Nodes → List Piece
   all_parts sign none = []
   all_parts sign (more n ns) = parts_from sign n ++ all_parts sign ns
@@ -164,6 +172,7 @@ abbrev mutual
   disjuncts_from sign (under operator n at) = parts_from sign (under operator n at) ∷ []
   disjuncts_from sign (until_of all left right at) = []
 
+  -- those of members, one after the other
   pub all_disjuncts : Bool → Nodes → List (List Piece)
   all_disjuncts sign none = []
   all_disjuncts sign (more n ns) = disjuncts_from sign n ++ all_disjuncts sign ns

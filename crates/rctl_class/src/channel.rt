@@ -77,7 +77,8 @@ fn fewer_than(
 
 /// More than `k` messages are under way; `k` is below 2^63 in each formula that was read.
 fn more_than(alloc: Global, sender: &Place, receiver: &Place, k: u64) -> Result<NamedPart, NoMemory>
-    ensures { IfOk result (λ part. piece_of part ≡ at_least sender.now receiver.now (next_count k)) }
+    ensures { IfOk result
+        (λ part. piece_of part ≡ at_least sender.now receiver.now (next_count k)) }
 {
     at_least(alloc, sender, receiver, k.saturating_add(1))
 }

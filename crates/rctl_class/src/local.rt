@@ -87,8 +87,7 @@ fn side_at(
     process: Option<&Place>,
 ) -> Result<Option<NamedSide>, NoMemory>
     ensures { IfOk result (λ found. found
-        ≡ some_if (side_is_over (name_seen process.entry) side.now)
-        (side_from side.now)) }
+        ≡ some_if (side_is_over (name_seen process.entry) side.now) (side_from side.now)) }
 {
     match side {
         Side::Number(value) => Ok(Some(NamedSide::Number(*value))),

@@ -6,7 +6,8 @@ ghost use Rattle.rctl_class.specs.Nodes.{node_of, nodes_of};
 ghost use Rattle.rctl_class.specs.Walk.{all_disjuncts, all_parts, channel_parts, disjuncts_from};
 ghost use Rattle.rctl_class.specs.Walk.{parts_from};
 ghost use Rattle.rctl_parse.specs.Reading.{Faults};
-ghost use Rattle.std.specs.Prelude.{◌≡◌, ◌++◌, ◌∷◌, [], false, map, MatchResult, None, OnOk, Some, true};
+ghost use Rattle.std.specs.Prelude.{◌≡◌, ◌++◌, ◌∷◌, [], false, map, MatchResult, None, OnOk};
+ghost use Rattle.std.specs.Prelude.{Some, true};
 
 use crate::channel::{after_sign, emptiness, push_bounds};
 use crate::local::local_part;
@@ -26,7 +27,7 @@ fn push_leaf(
 ) -> Result<(), Stop>
     ensures { MatchResult result
         (λ _. (atom_fault sign atom.now at ≡ None)
-        × (pieces_of parts.new ≡ pieces_of parts.old ++ channel_parts sign atom.now))
+            × (pieces_of parts.new ≡ pieces_of parts.old ++ channel_parts sign atom.now))
         (λ stop. Faults stop (λ f. atom_fault sign atom.now at ≡ Some f)) }
 {
     match atom {
@@ -78,10 +79,10 @@ fn conjunctions(
 ) -> Result<(), Stop>
     ensures { MatchResult result
         (λ _. (first_of true sign (nodes_of (map node_of members.now)) ≡ None)
-        × (pieces_of parts.new
-        ≡ pieces_of parts.old ++ all_parts sign (nodes_of (map node_of members.now))))
-        (λ stop. Faults stop (λ f. first_of true sign (nodes_of (map node_of members.now))
-        ≡ Some f)) }
+            × (pieces_of parts.new
+                ≡ pieces_of parts.old ++ all_parts sign (nodes_of (map node_of members.now))))
+        (λ stop. Faults stop
+            (λ f. first_of true sign (nodes_of (map node_of members.now)) ≡ Some f)) }
 {
     'members: for member in members {
         conjunction(alloc, sign, member, parts)?;
@@ -100,7 +101,7 @@ fn conjunction(
 ) -> Result<(), Stop>
     ensures { MatchResult result
         (λ _. (first_fault true sign (node_of tree.now) ≡ None)
-        × (pieces_of parts.new ≡ pieces_of parts.old ++ parts_from sign (node_of tree.now)))
+            × (pieces_of parts.new ≡ pieces_of parts.old ++ parts_from sign (node_of tree.now)))
         (λ stop. Faults stop (λ f. first_fault true sign (node_of tree.now) ≡ Some f)) }
 {
     if let Some(part) = local_part(alloc, sign, tree)? {
@@ -141,8 +142,8 @@ fn single(
 ) -> Result<(), Stop>
     ensures { MatchResult result
         (λ _. (first_fault true sign (node_of tree.now) ≡ None)
-        × (disjuncts_of disjuncts.new
-        ≡ disjuncts_of disjuncts.old ++ parts_from sign (node_of tree.now) ∷ []))
+            × (disjuncts_of disjuncts.new
+                ≡ disjuncts_of disjuncts.old ++ parts_from sign (node_of tree.now) ∷ []))
         (λ stop. Faults stop (λ f. first_fault true sign (node_of tree.now) ≡ Some f)) }
 {
     let mut parts = List::new(alloc);
@@ -174,10 +175,10 @@ fn disjunctions(
 ) -> Result<(), Stop>
     ensures { MatchResult result
         (λ _. (first_of false sign (nodes_of (map node_of members.now)) ≡ None)
-        × (disjuncts_of disjuncts.new ≡ disjuncts_of disjuncts.old
-        ++ all_disjuncts sign (nodes_of (map node_of members.now))))
-        (λ stop. Faults stop (λ f. first_of false sign (nodes_of (map node_of members.now))
-        ≡ Some f)) }
+            × (disjuncts_of disjuncts.new ≡ disjuncts_of disjuncts.old
+                ++ all_disjuncts sign (nodes_of (map node_of members.now))))
+        (λ stop. Faults stop
+            (λ f. first_of false sign (nodes_of (map node_of members.now)) ≡ Some f)) }
 {
     'members: for member in members {
         disjunction(alloc, sign, member, disjuncts)?;
@@ -196,8 +197,8 @@ pub fn disjunction(
 ) -> Result<(), Stop>
     ensures { MatchResult result
         (λ _. (first_fault false sign (node_of tree.now) ≡ None)
-        × (disjuncts_of disjuncts.new
-        ≡ disjuncts_of disjuncts.old ++ disjuncts_from sign (node_of tree.now)))
+            × (disjuncts_of disjuncts.new
+                ≡ disjuncts_of disjuncts.old ++ disjuncts_from sign (node_of tree.now)))
         (λ stop. Faults stop (λ f. first_fault false sign (node_of tree.now) ≡ Some f)) }
 {
     if let Some(part) = local_part(alloc, sign, tree)? {

@@ -24,6 +24,7 @@ or_zero (Some n) = n
 abbrev pub number : List Name → Name → ℕ
 number names name = or_zero (place_of names name)
 
+-- the variables of the process of a number that was found
 abbrev pub variables_at : List (List Name) → Option ℕ → List Name
 variables_at variables None = []
 variables_at variables (Some p) = get_or variables p []
@@ -47,9 +48,11 @@ abbrev pub unless_known : FormulaCode → Place → Option ℕ → Option Formul
 unless_known c place None = fault_at c place.at
 unless_known c place (Some n) = None
 
+-- what is wrong with the name of a process
 abbrev pub process_fault : List Name → Place → Option FormulaFault
 process_fault processes place = unless_known code.UnknownProcess place (place_of processes place.name)
 
+-- what is wrong with the name of a variable
 abbrev pub variable_fault : List Name → Place → Option FormulaFault
 variable_fault variables place = unless_known code.UnknownVariable place (place_of variables place.name)
 
@@ -63,6 +66,7 @@ abbrev pub is_other : Option ℕ → ℕ → Bool
 is_other None p = false
 is_other (Some q) p = not (q == p)
 
+-- what is wrong with a watch on a process, where the watch has this number
 abbrev pub watch_fault_at : Watched → ℕ → Place → Option ℕ → Option FormulaFault
 watch_fault_at s p place None = fault_at code.UnknownWatch place.at
 watch_fault_at s p place (Some w) = if is_other (get_or s.on w None) p then fault_at code.WatchTwice place.at else None
@@ -71,6 +75,7 @@ watch_fault_at s p place (Some w) = if is_other (get_or s.on w None) p then faul
 abbrev pub watch_fault : Watched → ℕ → Place → Option FormulaFault
 watch_fault s p place = watch_fault_at s p place (place_of s.names place.name)
 
+-- the watch of this number is on the process from now on
 abbrev pub put_at : Watched → ℕ → Option ℕ → Watched
 put_at s p None = s
 put_at s p (Some w) = record { names = s.names; on = set s.on w (Some p) }
@@ -81,10 +86,12 @@ put s p place = put_at s p (place_of s.names place.name)
 
 -- ---- the names of an expression, whose process is known
 
+-- a variable or a watch of an expression
 pub data LocalName : Type 0 where
   a_variable : (place : Place) → LocalName
   a_watch : (place : Place) → LocalName
 
+-- the variable on the right of a comparison
 abbrev pub side_names : NamedSide → List LocalName
 side_names (side.Number value) = []
 side_names (side.Variable v) = a_variable v ∷ []
@@ -104,6 +111,7 @@ abbrev mutual
   local_names (named.conjunction es) = all_local_names es
   local_names (named.disjunction es) = all_local_names es
 
+  -- those of its members
   pub all_local_names : Exprs → List LocalName
   all_local_names named.no_expr = []
   all_local_names (named.and_expr e es) = local_names e ++ all_local_names es
@@ -133,6 +141,7 @@ abbrev mutual
   part_fault names s (named.never p q) = earlier (process_fault names.processes p) (process_fault names.processes q)
   part_fault names s (named.temporal operator ps) = operand_fault names s ps
 
+  -- that of the parts of an operand
   pub operand_fault : Names → Watched → Pieces → Option FormulaFault
   operand_fault names s named.no_piece = None
   operand_fault names s (named.and_piece p ps) = earlier (part_fault names s p) (operand_fault names (part_after names s p) ps)
@@ -146,6 +155,7 @@ abbrev mutual
   part_after names s (named.never p q) = s
   part_after names s (named.temporal operator ps) = operand_after names s ps
 
+  -- those behind an operand
   pub operand_after : Names → Watched → Pieces → Watched
   operand_after names s named.no_piece = s
   operand_after names s (named.and_piece p ps) = operand_after names (part_after names s p) ps

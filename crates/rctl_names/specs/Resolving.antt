@@ -27,6 +27,7 @@ use Rattle.rctl_names.specs.Seen.{names_of, names_in, variables_on, watched_in}
 
 -- ---- what each part becomes
 
+-- the right side of a comparison
 abbrev pub side_in : List Name → NamedSide → LocalSide
 side_in variables (named_side.Number value) = number_side.Number value
 side_in variables (named_side.Variable v) = number_side.Variable (number variables v.name)
@@ -41,6 +42,7 @@ abbrev mutual
   expr_in variables watches (named.conjunction es) = expr.conjunction (exprs_in variables watches es)
   expr_in variables watches (named.disjunction es) = expr.disjunction (exprs_in variables watches es)
 
+  -- its members
   pub exprs_in : List Name → List Name → named.Exprs → expr.Exprs
   exprs_in variables watches named.no_expr = expr.none
   exprs_in variables watches (named.and_expr e es) = expr.more (expr_in variables watches e) (exprs_in variables watches es)
@@ -59,6 +61,7 @@ abbrev mutual
   piece_in names (named.never p q) = piece.atom piece.never
   piece_in names (named.temporal operator ps) = piece.temporal operator (pieces_in names ps)
 
+  -- the parts of an operand
   pub pieces_in : Names → named.Pieces → piece.Pieces
   pieces_in names named.no_piece = piece.none
   pieces_in names (named.and_piece p ps) = piece.more (piece_in names p) (pieces_in names ps)

@@ -17,9 +17,11 @@ variables_in bindings = map (λ (b : Binding). b.name) bindings
 abbrev pub names_of : Header → List Name → Names
 names_of header watches = record { processes = header.procs; variables = map variables_in header.vars; watches = watches }
 
+-- the names of the processes
 abbrev pub processes_in : Scope → List Name
 processes_in scope = scope.processes.now
 
+-- the watches, and the process that each is on
 abbrev pub watched_in : Watches → Watched
 watched_in watches = record { names = watches.names.now; on = watches.on }
 

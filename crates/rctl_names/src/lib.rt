@@ -1,4 +1,13 @@
-//! The parts of a formula with numbers in the place of names.
+//! The parts of a formula with numbers in the place of names: the places of processes and of their
+//! variables in a header, and of watches among those that were handed in.
+//!
+//! `resolve` gives parts that spell the very formulas of the parts by names and that are made for
+//! the header and the watches (`IsResolved`), or exactly the first name, from left to right, that is
+//! unknown or is a watch on a second process. Laws: the formula that the parts spell is true where
+//! the formula that was read is (`resolved_parts_mean_the_formula`), and the names of the parts have
+//! the first fault of the names of the text (`faults_are_in_the_order_of_the_text`). *Not said*:
+//! that memory suffices. Processes, variables and watches are few by the condition, so that numbers
+//! fit in 32 bits.
 #![tactic(auto)]
 
 ghost use Rattle.rctl_class.specs.NamedParts.{AreDisjuncts, disjuncts_of, disjuncts_uses};
@@ -43,7 +52,8 @@ pub fn resolve(
     requires disjuncts { AreDisjuncts (disjuncts_of classed.now.disjuncts) }
     requires header { CanResolve header.now watches.now }
     ensures { MatchResult result
-        (λ resolved. IsResolved header.now watches.now (disjuncts_of classed.now.disjuncts) resolved)
+        (λ resolved. IsResolved header.now watches.now (disjuncts_of classed.now.disjuncts)
+            resolved)
         (λ stop. Faults stop (λ f. first_unknown (known_in (names_of header.now watches.now)) []
             (disjuncts_uses (disjuncts_of classed.now.disjuncts)) ≡ Some f)) }
 {

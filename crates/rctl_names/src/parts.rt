@@ -1,6 +1,7 @@
 //! Parts with numbers in the place of names.
 ghost use Rattle.rctl_class.specs.NamedParts.{disjuncts_of as named_disjuncts};
-ghost use Rattle.rctl_class.specs.NamedParts.{expr_of as named_expr, local, pieces as named_operand};
+ghost use Rattle.rctl_class.specs.NamedParts.{expr_of as named_expr, local};
+ghost use Rattle.rctl_class.specs.NamedParts.{pieces as named_operand};
 ghost use Rattle.rctl_class.specs.NamedParts.{piece_of as named_of, pieces_of as named_list};
 ghost use Rattle.rctl_names.specs.Numbers.{disjuncts_fault, operand_fault, part_fault};
 ghost use Rattle.rctl_names.specs.Resolving.{AreDisjunctsIn, ArePiecesIn, IsPieceIn};

@@ -16,6 +16,7 @@ pub record Scope : Type 0 where
   pub variables : List ℕ
   pub watch_process : List (Option ℕ)
 
+-- a variable on the right is one of so many
 abbrev pub SideFits : ℕ → LocalSide → Type 0
 SideFits variables (side.Number value) = ⊤
 SideFits variables (side.Variable v) = v < variables
@@ -32,6 +33,7 @@ abbrev mutual
   ExprFits variables watch_process p (expr.conjunction es) = ExprsFit variables watch_process p es
   ExprFits variables watch_process p (expr.disjunction es) = ExprsFit variables watch_process p es
 
+  -- so of each member
   pub ExprsFit : ℕ → List (Option ℕ) → ℕ → Exprs → Type 0
   ExprsFit variables watch_process p expr.none = ⊤
   ExprsFit variables watch_process p (expr.more e es) =
@@ -47,6 +49,7 @@ abbrev mutual
   is_constant (expr.conjunction es) = are_constant es
   is_constant (expr.disjunction es) = are_constant es
 
+  -- so of each member
   pub are_constant : Exprs → Bool
   are_constant expr.none = true
   are_constant (expr.more e es) = is_constant e && are_constant es
@@ -62,6 +65,7 @@ LocalFits scope (Some p) e =
 abbrev pub ChannelFits : Scope → ℕ → ℕ → ℕ → Type 0
 ChannelFits scope p q k = (p < length scope.variables) × (q < length scope.variables) × (k ≤ 2 ^ 63)
 
+-- an atom is made for the scope
 abbrev pub AtomFits : Scope → Atom → Type 0
 AtomFits scope (piece.local process e) = LocalFits scope process e
 AtomFits scope (piece.at_most p q k) = ChannelFits scope p q k
@@ -75,6 +79,7 @@ abbrev mutual
   PieceFits scope (piece.temporal operator ps) =
       IsTrue (is_analysed (model_operator operator)) × PiecesFit scope ps
 
+  -- so of each part of an operand
   pub PiecesFit : Scope → Pieces → Type 0
   PiecesFit scope piece.none = ⊤
   PiecesFit scope (piece.more p ps) = PieceFits scope p × PiecesFit scope ps
@@ -84,6 +89,7 @@ abbrev pub EachFits : Scope → List Piece → Type 0
 EachFits scope [] = ⊤
 EachFits scope (p ∷ ps) = PieceFits scope p × EachFits scope ps
 
+-- so of each disjunct
 abbrev pub AllFit : Scope → List (List Piece) → Type 0
 AllFit scope [] = ⊤
 AllFit scope (d ∷ ds) = EachFits scope d × AllFit scope ds
@@ -94,14 +100,17 @@ abbrev mutual
   part_count (piece.atom a) = 1
   part_count (piece.temporal operator ps) = 1 + operand_count ps
 
+  -- those of an operand
   pub operand_count : Pieces → ℕ
   operand_count piece.none = 0
   operand_count (piece.more p ps) = part_count p + operand_count ps
 
+-- how many parts a list of them is, and disjuncts are
 abbrev pub parts_count : List Piece → ℕ
 parts_count [] = 0
 parts_count (p ∷ ps) = part_count p + parts_count ps
 
+-- the same of all disjuncts
 abbrev pub disjuncts_count : List (List Piece) → ℕ
 disjuncts_count [] = 0
 disjuncts_count (d ∷ ds) = parts_count d + disjuncts_count ds
@@ -116,10 +125,12 @@ abbrev mutual
   names_watch w (expr.conjunction es) = some_names_watch w es
   names_watch w (expr.disjunction es) = some_names_watch w es
 
+  -- some member does
   pub some_names_watch : ℕ → Exprs → Bool
   some_names_watch w expr.none = false
   some_names_watch w (expr.more e es) = names_watch w e || some_names_watch w es
 
+-- the atom names the watch
 abbrev pub atom_names_watch : ℕ → Atom → Bool
 atom_names_watch w (piece.local process e) = names_watch w e
 atom_names_watch w (piece.at_most p q k) = false
@@ -132,14 +143,17 @@ abbrev mutual
   part_names_watch w (piece.atom a) = atom_names_watch w a
   part_names_watch w (piece.temporal operator ps) = operand_names_watch w ps
 
+  -- some part of the operand does
   pub operand_names_watch : ℕ → Pieces → Bool
   operand_names_watch w piece.none = false
   operand_names_watch w (piece.more p ps) = part_names_watch w p || operand_names_watch w ps
 
+-- some part of the list does
 abbrev pub parts_name_watch : ℕ → List Piece → Bool
 parts_name_watch w [] = false
 parts_name_watch w (p ∷ ps) = part_names_watch w p || parts_name_watch w ps
 
+-- some part of some disjunct does
 abbrev pub disjuncts_name_watch : ℕ → List (List Piece) → Bool
 disjuncts_name_watch w [] = false
 disjuncts_name_watch w (d ∷ ds) = parts_name_watch w d || disjuncts_name_watch w ds

@@ -18,9 +18,11 @@ pub record Names : Type 0 where
   pub variables : List (List Name)
   pub watches : List Name
 
+-- the name of a number
 abbrev pub name_at : List Name → ℕ → Name
 name_at names i = get_or names i []
 
+-- the right side of a comparison, over the variables of a process
 abbrev pub side_in : List Name → Name → LocalSide → model.Side
 side_in variables process (side.Number value) = model.Number value
 side_in variables process (side.Variable v) = model.Variable process (name_at variables v)
@@ -53,6 +55,7 @@ local_formula names None e = formula_in [] [] [] e
 local_formula names (Some p) e =
     formula_in (get_or names.variables p []) names.watches (name_at names.processes p) e
 
+-- the formula of an atom
 abbrev pub atom_formula : Names → Atom → model.Formula
 atom_formula names (piece.local process e) = local_formula names process e
 atom_formula names (piece.at_most p q k) =

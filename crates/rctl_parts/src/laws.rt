@@ -1,6 +1,7 @@
 // Laws of the formulas that parts spell.
 ghost use Rattle.rctl_parts.specs.Pieces.{Piece};
-ghost use Rattle.rctl_parts.specs.Spelled.{Names, conjunction_of, disjunction_of, formula_of, part_formulas};
+ghost use Rattle.rctl_parts.specs.Spelled.{Names, conjunction_of, disjunction_of, formula_of};
+ghost use Rattle.rctl_parts.specs.Spelled.{part_formulas};
 ghost use Rattle.run_model.specs.Class.{SatDisjuncts, SatParts};
 ghost use Rattle.run_model.specs.Cut.{Cut};
 ghost use Rattle.run_model.specs.Meaning.{Sat};
