@@ -6,12 +6,15 @@ use Rattle.raise_machine.specs.Bounds.{AreBounds, word_at}
 
 -- the words of the other rows are as they were
 pub record KeepsOthers (lens : List ℕ) (row : ℕ) (old new : List ℕ) : Type 0 where
-  pub each : (other process : ℕ) → other ≢ row → process < length lens → word_at lens new other process ≡ word_at lens old other process
+  pub each : (other process : ℕ) → other ≢ row → process < length lens
+      → word_at lens new other process ≡ word_at lens old other process
 
--- The vector is the row's floor as far as the first processes go, and what changed from the old floor is that this row rose.
+-- The vector is the row's floor as far as the first processes go, and what changed from the old
+-- floor is that this row rose.
 pub record FollowsFirst (system : SystemView) (row count : ℕ) (old new v : List ℕ) : Type 0 where
   pub size : length v ≡ length system.lens
-  pub each : (process : ℕ) → process < count → slice_index v process ≡ word_at system.lens new row process
+  pub each : (process : ℕ) → process < count
+      → slice_index v process ≡ word_at system.lens new row process
   pub others : KeepsOthers system.lens row old new
   pub rises : IsWithin old new
   pub bounds : AreBounds system new

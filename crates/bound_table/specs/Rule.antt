@@ -1,4 +1,5 @@
--- The rule of the shared table: what holds of its words and of what the seats know, between any two steps.
+-- The rule of the shared table: what holds of its words and of what the seats know, between any two
+-- steps.
 use Rattle.std.specs.Prelude.{◌≡◌, ℕ, ◌+◌, ◌*◌, ◌≤◌, List, [], true, false, length, sum, take, max, slice_index, slice_set}
 use mathlib.Core.Option.{some}
 use lib.ListN.{get_elem?}
@@ -14,14 +15,16 @@ use Rattle.bound_table.specs.Kept.{larger}
 abbrev pub word_count : List ℕ → ℕ
 word_count lens = (sum lens + 1) * length lens
 
--- what a seat knows is true of the table: its system is the table's, and each floor is between the row's start and the word
+-- what a seat knows is true of the table: its system is the table's, and each floor is between the
+-- row's start and the word
 pub record Fits (system : SystemView) (words : List ℕ) (v : Known) : Type 0 where
   pub one_system : v.system ≡ system
   pub size : length v.floor ≡ length words
   pub above : IsWithin (starts system.lens) v.floor
   pub below : IsWithin v.floor words
 
--- each word is between its row's start and the least closed vector, and each view that isn't spent fits
+-- each word is between its row's start and the least closed vector, and each view that isn't spent
+-- fits
 pub record IsKept (system : SystemView) (words : List ℕ) (views : List Known) : Type 0 where
   pub bounds : AreBounds system words
   pub fits : (j : ℕ) (v : Known) → get_elem? views j ≡ some v → v.live ≡ true → Fits system words v
@@ -50,14 +53,16 @@ abbrev pub together : Known → Known → Known
 together v w = with_floor v (larger v.floor w.floor)
 
 -- a word was read, and its floor is that
-pub record Looked (st : Step (Unit {0})) (me : Me (Unit {0}) Known) (found : ℕ) (now : Me (Unit {0}) Known) : Type 0 where
+pub record Looked (st : Step (Unit {0})) (me : Me (Unit {0}) Known) (found : ℕ)
+    (now : Me (Unit {0}) Known) : Type 0 where
   pub view : now.0 ≡ with_floor me.0 (slice_set me.0.floor st.word found)
   pub slots : now.1 ≡ me.1
   pub rises : slice_index me.0.floor st.word ≤ found
   pub sound : IsSound now.0
 
 -- a word became its maximum with the number, and its floor is that
-pub record Lifted (st : Step (Unit {0})) (me : Me (Unit {0}) Known) (found : ℕ) (now : Me (Unit {0}) Known) : Type 0 where
+pub record Lifted (st : Step (Unit {0})) (me : Me (Unit {0}) Known) (found : ℕ)
+    (now : Me (Unit {0}) Known) : Type 0 where
   pub view : now.0 ≡ with_floor me.0 (slice_set me.0.floor st.word (max found st.first))
   pub slots : now.1 ≡ me.1
   pub rises : slice_index me.0.floor st.word ≤ max found st.first

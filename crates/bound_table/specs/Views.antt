@@ -9,7 +9,8 @@ pub record TableView : Type 0 where
   pub claims : TableId
   pub system : SystemView
 
--- A seat is of a table where its `table` is that table. It has a floor for each word, the processes that it claims, and those that it saw taken.
+-- A seat is of a table where its `table` is that table. It has a floor for each word, the processes
+-- that it claims, and those that it saw taken.
 pub record SeatView : Type 0 where
   pub table : TableView
   pub floor : List ℕ

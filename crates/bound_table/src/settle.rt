@@ -199,7 +199,8 @@ impl BoundTable {
         requires lent { lent ≤ word_at self.now.system.lens seat.old.floor before process }
         requires event { has_start self.now.system.lens seat.old.floor row before ≡ true }
         ensures keeps { KeepsClaims seat.old seat.new }
-        ensures raised { IsRaised self.now.system seat.old.floor seat.new.floor row process lent result }
+        ensures raised { IsRaised self.now.system seat.old.floor seat.new.floor row process lent
+            result }
     {
         let word = self.load(seat, self.place(row, process));
         if lent as u64 <= word {
@@ -223,7 +224,8 @@ impl BoundTable {
         requires follows { Follows self.now.system row seat.old.floor seat.old.floor vector.old }
         requires seen { length seen.old ≡ length self.now.system.lens }
         ensures keeps { KeepsClaims seat.old seat.new }
-        ensures asking { IsAsking self.now.system row seat.old.floor seat.new.floor vector.new seen.new }
+        ensures asking { IsAsking self.now.system row seat.old.floor seat.new.floor vector.new
+            seen.new }
         ensures reaches { IsWithin vector.old seen.new }
         ensures looks { steps.new ≤ steps.old + length self.now.system.pulls }
     {
@@ -246,7 +248,8 @@ impl BoundTable {
         requires system { IsSystem self.now.system }
         requires fits { seat.old.table ≡ self.now }
         requires row { row ≤ sum self.now.system.lens }
-        requires asking { IsAsking self.now.system row seat.old.floor seat.old.floor vector.old seen.old }
+        requires asking { IsAsking self.now.system row seat.old.floor seat.old.floor vector.old
+            seen.old }
         ensures keeps { KeepsClaims seat.old seat.new }
         ensures follows { Follows self.now.system row seat.old.floor seat.new.floor vector.new }
         ensures least { IsLeast self.now.system row vector.new }
@@ -274,9 +277,11 @@ impl BoundTable {
         requires system { IsSystem self.now.system }
         requires fits { seat.old.table ≡ self.now }
         requires row { row ≤ sum self.now.system.lens }
-        requires asking { IsAsking self.now.system row seat.old.floor seat.old.floor vector.old seen.old }
+        requires asking { IsAsking self.now.system row seat.old.floor seat.old.floor vector.old
+            seen.old }
         ensures keeps { KeepsClaims seat.old seat.new }
-        ensures asking { IsAsking self.now.system row seat.old.floor seat.new.floor vector.new seen.new }
+        ensures asking { IsAsking self.now.system row seat.old.floor seat.new.floor vector.new
+            seen.new }
         ensures done { result ≡ 0 → IsWithin vector.new seen.new }
         ensures reaches { IsWithin vector.old seen.new }
         ensures rises { sum seen.old + result ≤ sum seen.new }
@@ -305,10 +310,12 @@ impl BoundTable {
         requires fits { seat.old.table ≡ self.now }
         requires row { row ≤ sum self.now.system.lens }
         requires process { process < length self.now.system.lens }
-        requires asking { IsAsking self.now.system row seat.old.floor seat.old.floor vector.old seen.old }
+        requires asking { IsAsking self.now.system row seat.old.floor seat.old.floor vector.old
+            seen.old }
         ensures few { result ≤ 1 }
         ensures keeps { KeepsClaims seat.old seat.new }
-        ensures asking { IsAsking self.now.system row seat.old.floor seat.new.floor vector.new seen.new }
+        ensures asking { IsAsking self.now.system row seat.old.floor seat.new.floor vector.new
+            seen.new }
         ensures idle { result ≡ 0 → vector.new ≡ vector.old }
         ensures kept { IsWithin seen.old seen.new }
         ensures reaches { slice_index vector.old process ≤ slice_index seen.new process }
@@ -345,7 +352,8 @@ impl BoundTable {
         requires reached { x ≤ slice_index vector.old process }
         ensures keeps { KeepsClaims seat.old seat.new }
         ensures follows { Follows self.now.system row seat.old.floor seat.new.floor vector.new }
-        ensures holds { (k : ℕ) → k < length self.now.system.pulls → source_of self.now.system k ≡ process
+        ensures holds { (k : ℕ) → k < length self.now.system.pulls
+            → source_of self.now.system k ≡ process
             → ask self.now.system k x ≤ slice_index vector.new (target_of self.now.system k) }
         ensures looks { let pulls = self.now.system.pulls in
             steps.new ≡ steps.old + length (numbers_from pulls process (length pulls)) }

@@ -40,9 +40,15 @@ impl Model for BoundTable {
 
     ghost Value = { TableView };
 
-    ghost view = { λ table. record { id = table.table.shared.table_id; claims = table.claims; system = table.system } };
+    ghost view = { λ table. record {
+      id = table.table.shared.table_id;
+      claims = table.claims;
+      system = table.system;
+    } };
 
-    ghost invariant = { λ table. (table.table.shared.key.system.value ≡ table.system) × (table.table.shared.table_id.words ≡ word_count table.system.lens) × IsShape table.system.lens × (table.claims.words ≡ length table.system.lens) };
+    ghost invariant = { λ table. (table.table.shared.key.system.value ≡ table.system)
+        × (table.table.shared.table_id.words ≡ word_count table.system.lens)
+        × IsShape table.system.lens × (table.claims.words ≡ length table.system.lens) };
 }
 
 impl BoundTable {
@@ -52,7 +58,8 @@ impl BoundTable {
         requires lens { floor.now.lens ≡ system.lens }
         requires bounds { AreBounds system floor.now.words }
         ensures system { IfOk result (λ pair. pair.0.system ≡ system) }
-        ensures seat { IfOk result (λ pair. pair.1 ≡ record { table = pair.0; floor = floor.now.words; claims = []; marks = [] }) }
+        ensures seat { IfOk result (λ pair. pair.1
+            ≡ record { table = pair.0; floor = floor.now.words; claims = []; marks = [] }) }
     {
         let key = Key {
             system: Snapshot::of(&system),
@@ -165,8 +172,13 @@ impl BoundTable {
         requires to_row { to_row ≤ sum self.now.system.lens }
         requires event { has_start self.now.system.lens seat.old.floor to_row from_row ≡ true }
         ensures keeps { KeepsClaims seat.old seat.new }
-        ensures lent { (process : ℕ) → process < length self.now.system.lens → word_at self.now.system.lens seat.new.floor from_row process ≤ word_at self.now.system.lens seat.new.floor to_row process }
-        ensures others { (row process : ℕ) → row ≢ from_row → row ≢ to_row → process < length self.now.system.lens → word_at self.now.system.lens seat.new.floor row process ≡ word_at self.now.system.lens seat.old.floor row process }
+        ensures lent { (process : ℕ) → process < length self.now.system.lens
+            → word_at self.now.system.lens seat.new.floor from_row process
+            ≤ word_at self.now.system.lens seat.new.floor to_row process }
+        ensures others { (row process : ℕ) → row ≢ from_row → row ≢ to_row
+            → process < length self.now.system.lens
+            → word_at self.now.system.lens seat.new.floor row process
+            ≡ word_at self.now.system.lens seat.old.floor row process }
         ensures rises { IsWithin seat.old.floor seat.new.floor }
         ensures bounds { AreBounds self.now.system seat.new.floor }
     {
@@ -228,7 +240,8 @@ impl BoundTable {
         requires target { target < length self.now.system.lens }
         requires step { IsPullStep self.now.system seat.old.floor row target asked }
         ensures keeps { KeepsClaims seat.old seat.new }
-        ensures raised { IsRaised self.now.system seat.old.floor seat.new.floor row target asked result }
+        ensures raised { IsRaised self.now.system seat.old.floor seat.new.floor row target asked
+            result }
     {
         let word = self.place(row, target);
         let found = self
@@ -250,9 +263,11 @@ impl BoundTable {
         y: u64,
     ) -> u64
         requires fits { seat.old.table ≡ self.now }
-        requires step { is_allowed self.now.system seat.old.floor (Lend to_row from_row process y) ≡ true }
+        requires step { is_allowed self.now.system seat.old.floor (Lend to_row from_row process y)
+            ≡ true }
         ensures keeps { KeepsClaims seat.old seat.new }
-        ensures raised { IsRaised self.now.system seat.old.floor seat.new.floor to_row process y result }
+        ensures raised { IsRaised self.now.system seat.old.floor seat.new.floor to_row process y
+            result }
     {
         let word = self.place(to_row, process);
         let found = self

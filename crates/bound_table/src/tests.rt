@@ -15,7 +15,8 @@ fn pull(alloc: Global, src: u32, dst: u32, table: &[u32]) -> Result<Pull, NoMemo
     Ok(Pull { src, dst, table })
 }
 
-/// The table of the order of a run of two processes with three and two events, and of one pull more.
+/// The table of the order of a run of two processes with three and two events, and of one pull
+/// more.
 #[tactic(auto, using(raise_machine::proofs::Raising::starts_bounds))]
 fn order_and(rt: &impl Abort, alloc: Global, more: Pull) -> Result<(BoundTable, Seat), NoMemory>
     ensures seat { IfOk result (λ pair. pair.1.table ≡ pair.0) }

@@ -18,19 +18,22 @@ pub record IsOwned (views : List Known) (process : ℕ) : Type 0 where
   pub at : get_elem? views number ≡ some view
   pub has : Contains view.claims process
 
--- Each word is 0 or 1. It is 1 exactly where some view claims the process, and then exactly one does. What a view saw taken has the word 1.
+-- Each word is 0 or 1. It is 1 exactly where some view claims the process, and then exactly one
+-- does. What a view saw taken has the word 1.
 pub record IsKept (count : ℕ) (words : List ℕ) (views : List Known) : Type 0 where
   pub size : length words ≡ count
   pub bit : (process : ℕ) → slice_index words process ≤ 1
   pub owner : (process : ℕ) → slice_index words process ≡ 1 → IsOwned views process
   pub known : (j : ℕ) (v : Known) → get_elem? views j ≡ some v → IsTrueOf words v
-  pub alone : (process j k : ℕ) (v w : Known) → get_elem? views j ≡ some v → get_elem? views k ≡ some w → Contains v.claims process → Contains w.claims process → j ≡ k
+  pub alone : (process j k : ℕ) (v w : Known) → get_elem? views j ≡ some v
+      → get_elem? views k ≡ some w → Contains v.claims process → Contains w.claims process → j ≡ k
 
 -- the rule over a table of so many words
 abbrev pub Kept : ℕ → State (Unit {0}) Known → Type 0
 Kept count s = IsKept count s.words s.views
 
--- a view that claims nothing and saw nothing taken: that of the first caller, and of one that was met
+-- a view that claims nothing and saw nothing taken: that of the first caller, and of one that was
+-- met
 abbrev pub opened : Known
 opened = record { claims = []; marks = [] }
 
@@ -48,6 +51,7 @@ after_swap zero process v = record { claims = v.claims ++ process ∷ []; marks 
 after_swap (suc n) process v = record { claims = v.claims; marks = v.marks ++ process ∷ [] }
 
 -- a word was swapped, and the caller claims the process or saw it taken
-pub record Swapped (st : Step (Unit {0})) (me : Me (Unit {0}) Known) (found : ℕ) (now : Me (Unit {0}) Known) : Type 0 where
+pub record Swapped (st : Step (Unit {0})) (me : Me (Unit {0}) Known) (found : ℕ)
+    (now : Me (Unit {0}) Known) : Type 0 where
   pub view : now.0 ≡ after_swap found st.word me.0
   pub slots : now.1 ≡ me.1

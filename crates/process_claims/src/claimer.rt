@@ -25,7 +25,12 @@ impl Model for Claimer {
 
     ghost Value = { ClaimerView };
 
-    ghost view = { λ claimer. record { table = claimer.token.table_id; claims = claimer.token.me.0.claims; marks = claimer.token.me.0.marks } };
+    ghost view = { λ claimer. record {
+      table = claimer.token.table_id;
+      claims = claimer.token.me.0.claims;
+      marks =
+          claimer.token.me.0.marks;
+    } };
 
     ghost invariant = { λ claimer. claimer.token.me.1 ≡ [] };
 }

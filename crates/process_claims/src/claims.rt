@@ -21,7 +21,8 @@ impl Model for Claims {
 
     ghost view = { λ claims. claims.table.shared.table_id };
 
-    ghost invariant = { λ claims. (claims.table.shared.key ≡ claims.table.shared.table_id.words) × (0 < claims.table.shared.table_id.words) };
+    ghost invariant = { λ claims. (claims.table.shared.key ≡ claims.table.shared.table_id.words)
+        × (0 < claims.table.shared.table_id.words) };
 }
 
 impl Claims {
@@ -30,7 +31,8 @@ impl Claims {
         requires some { 1 ≤ processes }
         requires few { processes ≤ 32 }
         ensures words { IfOk result (λ pair. pair.0.words ≡ processes) }
-        ensures claimer { IfOk result (λ pair. pair.1 ≡ record { table = pair.0; claims = []; marks = [] }) }
+        ensures claimer { IfOk result (λ pair. pair.1
+            ≡ record { table = pair.0; claims = []; marks = [] }) }
     {
         let free = [0; 32];
         let (table, token) = Table::of_words(alloc, &free[..processes as usize], &processes)?;

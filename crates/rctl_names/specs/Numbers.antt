@@ -50,11 +50,13 @@ unless_known c place (Some n) = None
 
 -- what is wrong with the name of a process
 abbrev pub process_fault : List Name → Place → Option FormulaFault
-process_fault processes place = unless_known code.UnknownProcess place (place_of processes place.name)
+process_fault processes place =
+    unless_known code.UnknownProcess place (place_of processes place.name)
 
 -- what is wrong with the name of a variable
 abbrev pub variable_fault : List Name → Place → Option FormulaFault
-variable_fault variables place = unless_known code.UnknownVariable place (place_of variables place.name)
+variable_fault variables place =
+    unless_known code.UnknownVariable place (place_of variables place.name)
 
 -- the watches, and the process that each is on so far
 pub record Watched : Type 0 where
@@ -69,7 +71,8 @@ is_other (Some q) p = not (q == p)
 -- what is wrong with a watch on a process, where the watch has this number
 abbrev pub watch_fault_at : Watched → ℕ → Place → Option ℕ → Option FormulaFault
 watch_fault_at s p place None = fault_at code.UnknownWatch place.at
-watch_fault_at s p place (Some w) = if is_other (get_or s.on w None) p then fault_at code.WatchTwice place.at else None
+watch_fault_at s p place (Some w) =
+    if is_other (get_or s.on w None) p then fault_at code.WatchTwice place.at else None
 
 -- what is wrong with a watch on a process
 abbrev pub watch_fault : Watched → ℕ → Place → Option FormulaFault
@@ -119,8 +122,10 @@ abbrev mutual
 -- the first fault of such names, where the process has these variables and this number
 abbrev pub local_fault : List Name → ℕ → Watched → List LocalName → Option FormulaFault
 local_fault variables p s [] = None
-local_fault variables p s (a_variable v ∷ rest) = earlier (variable_fault variables v) (local_fault variables p s rest)
-local_fault variables p s (a_watch w ∷ rest) = earlier (watch_fault s p w) (local_fault variables p (put s p w) rest)
+local_fault variables p s (a_variable v ∷ rest) =
+    earlier (variable_fault variables v) (local_fault variables p s rest)
+local_fault variables p s (a_watch w ∷ rest) =
+    earlier (watch_fault s p w) (local_fault variables p (put s p w) rest)
 
 -- the watches behind such names
 abbrev pub local_after : ℕ → Watched → List LocalName → Watched
@@ -135,21 +140,28 @@ abbrev mutual
   pub part_fault : Names → Watched → Piece → Option FormulaFault
   part_fault names s (named.local None e) = local_fault [] 0 s (local_names e)
   part_fault names s (named.local (Some p) e) =
-      earlier (process_fault names.processes p) (local_fault (variables_of names p.name) (number names.processes p.name) s (local_names e))
-  part_fault names s (named.at_most p q k) = earlier (process_fault names.processes p) (process_fault names.processes q)
-  part_fault names s (named.at_least p q k) = earlier (process_fault names.processes p) (process_fault names.processes q)
-  part_fault names s (named.never p q) = earlier (process_fault names.processes p) (process_fault names.processes q)
+      earlier (process_fault names.processes p)
+      (local_fault (variables_of names p.name) (number names.processes p.name) s
+      (local_names e))
+  part_fault names s (named.at_most p q k) =
+      earlier (process_fault names.processes p) (process_fault names.processes q)
+  part_fault names s (named.at_least p q k) =
+      earlier (process_fault names.processes p) (process_fault names.processes q)
+  part_fault names s (named.never p q) =
+      earlier (process_fault names.processes p) (process_fault names.processes q)
   part_fault names s (named.temporal operator ps) = operand_fault names s ps
 
   -- that of the parts of an operand
   pub operand_fault : Names → Watched → Pieces → Option FormulaFault
   operand_fault names s named.no_piece = None
-  operand_fault names s (named.and_piece p ps) = earlier (part_fault names s p) (operand_fault names (part_after names s p) ps)
+  operand_fault names s (named.and_piece p ps) =
+      earlier (part_fault names s p) (operand_fault names (part_after names s p) ps)
 
   -- the watches behind a part
   pub part_after : Names → Watched → Piece → Watched
   part_after names s (named.local None e) = local_after 0 s (local_names e)
-  part_after names s (named.local (Some p) e) = local_after (number names.processes p.name) s (local_names e)
+  part_after names s (named.local (Some p) e) =
+      local_after (number names.processes p.name) s (local_names e)
   part_after names s (named.at_most p q k) = s
   part_after names s (named.at_least p q k) = s
   part_after names s (named.never p q) = s
@@ -163,7 +175,9 @@ abbrev mutual
 -- the first fault of the names of disjuncts
 abbrev pub disjuncts_fault : Names → Watched → List (List Piece) → Option FormulaFault
 disjuncts_fault names s [] = None
-disjuncts_fault names s (d ∷ ds) = earlier (operand_fault names s (named.pieces d)) (disjuncts_fault names (operand_after names s (named.pieces d)) ds)
+disjuncts_fault names s (d ∷ ds) =
+    earlier (operand_fault names s (named.pieces d))
+    (disjuncts_fault names (operand_after names s (named.pieces d)) ds)
 
 -- the watches behind disjuncts
 abbrev pub disjuncts_after : Names → Watched → List (List Piece) → Watched

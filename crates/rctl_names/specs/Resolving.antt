@@ -36,28 +36,36 @@ abbrev mutual
   -- an expression over a process with these variables
   pub expr_in : List Name → List Name → named.Expr → expr.Expr
   expr_in variables watches (named.truth value) = expr.truth value
-  expr_in variables watches (named.comparison left compare right) = expr.comparison (number variables left.name) compare (side_in variables right)
+  expr_in variables watches (named.comparison left compare right) =
+      expr.comparison (number variables left.name) compare (side_in variables right)
   expr_in variables watches (named.watched name) = expr.watch (number watches name.name)
   expr_in variables watches (named.negation e) = expr.negation (expr_in variables watches e)
-  expr_in variables watches (named.conjunction es) = expr.conjunction (exprs_in variables watches es)
-  expr_in variables watches (named.disjunction es) = expr.disjunction (exprs_in variables watches es)
+  expr_in variables watches (named.conjunction es) =
+      expr.conjunction (exprs_in variables watches es)
+  expr_in variables watches (named.disjunction es) =
+      expr.disjunction (exprs_in variables watches es)
 
   -- its members
   pub exprs_in : List Name → List Name → named.Exprs → expr.Exprs
   exprs_in variables watches named.no_expr = expr.none
-  exprs_in variables watches (named.and_expr e es) = expr.more (expr_in variables watches e) (exprs_in variables watches es)
+  exprs_in variables watches (named.and_expr e es) =
+      expr.more (expr_in variables watches e) (exprs_in variables watches es)
 
 -- a local expression over a process or over none
 abbrev pub local_in : Names → Option Place → named.Expr → piece.Atom
 local_in names None e = piece.local None (expr_in [] names.watches e)
-local_in names (Some p) e = piece.local (Some (number names.processes p.name)) (expr_in (variables_of names p.name) names.watches e)
+local_in names (Some p) e =
+    piece.local (Some (number names.processes p.name))
+    (expr_in (variables_of names p.name) names.watches e)
 
 abbrev mutual
   -- a part
   pub piece_in : Names → named.Piece → piece.Piece
   piece_in names (named.local on e) = piece.atom (local_in names on e)
-  piece_in names (named.at_most p q k) = piece.atom (piece.at_most (number names.processes p.name) (number names.processes q.name) k)
-  piece_in names (named.at_least p q k) = piece.atom (piece.at_least (number names.processes p.name) (number names.processes q.name) k)
+  piece_in names (named.at_most p q k) =
+      piece.atom (piece.at_most (number names.processes p.name) (number names.processes q.name) k)
+  piece_in names (named.at_least p q k) =
+      piece.atom (piece.at_least (number names.processes p.name) (number names.processes q.name) k)
   piece_in names (named.never p q) = piece.atom piece.never
   piece_in names (named.temporal operator ps) = piece.temporal operator (pieces_in names ps)
 
@@ -71,15 +79,18 @@ abbrev mutual
 -- names without a fault, and the watches behind them
 abbrev pub AreFree : Process → Watches → Watches → List LocalName → Type 0
 AreFree on old new us =
-    (local_fault (variables_on on) on.number (watched_in old) us ≡ None) × (watched_in new ≡ local_after on.number (watched_in old) us)
+    (local_fault (variables_on on) on.number (watched_in old) us ≡ None)
+    × (watched_in new ≡ local_after on.number (watched_in old) us)
 
 -- the expression, with numbers
 abbrev pub IsExprIn : Process → Watches → Watches → named.Expr → expr.Expr → Type 0
-IsExprIn on old new e made = AreFree on old new (local_names e) × (made ≡ expr_in (variables_on on) old.names.now e)
+IsExprIn on old new e made =
+    AreFree on old new (local_names e) × (made ≡ expr_in (variables_on on) old.names.now e)
 
 -- the members, with numbers
 abbrev pub AreExprsIn : Process → Watches → Watches → named.Exprs → expr.Exprs → Type 0
-AreExprsIn on old new es made = AreFree on old new (all_local_names es) × (made ≡ exprs_in (variables_on on) old.names.now es)
+AreExprsIn on old new es made =
+    AreFree on old new (all_local_names es) × (made ≡ exprs_in (variables_on on) old.names.now es)
 
 -- the first fault of the names of an expression over a process
 abbrev pub fault_on : Process → Watches → List LocalName → Option FormulaFault
@@ -88,19 +99,23 @@ fault_on on watches us = local_fault (variables_on on) on.number (watched_in wat
 -- a part, with numbers
 abbrev pub IsPieceIn : Scope → Watches → Watches → named.Piece → piece.Piece → Type 0
 IsPieceIn scope old new p made =
-    (part_fault (names_in scope old) (watched_in old) p ≡ None) × (watched_in new ≡ part_after (names_in scope old) (watched_in old) p)
+    (part_fault (names_in scope old) (watched_in old) p ≡ None)
+    × (watched_in new ≡ part_after (names_in scope old) (watched_in old) p)
     × (made ≡ piece_in (names_in scope old) p)
 
 -- the parts of a conjunction, with numbers
 abbrev pub ArePiecesIn : Scope → Watches → Watches → named.Pieces → piece.Pieces → Type 0
 ArePiecesIn scope old new ps made =
-    (operand_fault (names_in scope old) (watched_in old) ps ≡ None) × (watched_in new ≡ operand_after (names_in scope old) (watched_in old) ps)
+    (operand_fault (names_in scope old) (watched_in old) ps ≡ None)
+    × (watched_in new ≡ operand_after (names_in scope old) (watched_in old) ps)
     × (made ≡ pieces_in (names_in scope old) ps)
 
 -- disjuncts, with numbers
-abbrev pub AreDisjunctsIn : Scope → Watches → Watches → List (List named.Piece) → List (List piece.Piece) → Type 0
+abbrev pub AreDisjunctsIn : Scope → Watches → Watches → List (List named.Piece)
+    → List (List piece.Piece) → Type 0
 AreDisjunctsIn scope old new ds made =
-    (disjuncts_fault (names_in scope old) (watched_in old) ds ≡ None) × (watched_in new ≡ disjuncts_after (names_in scope old) (watched_in old) ds)
+    (disjuncts_fault (names_in scope old) (watched_in old) ds ≡ None)
+    × (watched_in new ≡ disjuncts_after (names_in scope old) (watched_in old) ds)
     × (made ≡ map (map (piece_in (names_in scope old))) ds)
 
 -- ---- what resolving gives
@@ -113,11 +128,16 @@ pub record CanResolve (header : Header) (watches : List Name) : Type 0 where
 
 -- how many variables each process of a header has, and the process that each watch is on
 abbrev pub scope_of : Header → List (Option ℕ) → made.Scope
-scope_of header on = record { variables = map (λ (bs : List Binding). length bs) header.vars; watch_process = on }
+scope_of header on =
+    record { variables = map (λ (bs : List Binding). length bs) header.vars; watch_process = on }
 
--- the parts with numbers spell the very formulas of the parts with names, and are made for the header and the watches
-pub record IsResolved (header : Header) (watches : List Name) (ds : List (List named.Piece)) (resolved : Resolved) : Type 0 where
+-- the parts with numbers spell the very formulas of the parts with names, and are made for the
+-- header and the watches
+pub record IsResolved (header : Header) (watches : List Name) (ds : List (List named.Piece))
+    (resolved : Resolved) : Type 0 where
   pub free : first_unknown (known_in (names_of header watches)) [] (named.disjuncts_uses ds) ≡ None
-  pub spelled : part_formulas (names_of header watches) (piece.disjuncts_of resolved.disjuncts) ≡ disjunct_formulas ds
-  pub made_for : AreMadeFor (scope_of header resolved.watch_process) (piece.disjuncts_of resolved.disjuncts)
+  pub spelled : part_formulas (names_of header watches) (piece.disjuncts_of resolved.disjuncts)
+      ≡ disjunct_formulas ds
+  pub made_for : AreMadeFor (scope_of header resolved.watch_process)
+      (piece.disjuncts_of resolved.disjuncts)
   pub paired : length resolved.watch_process ≡ length watches

@@ -15,7 +15,8 @@ variables_in bindings = map (λ (b : Binding). b.name) bindings
 
 -- the names of a header and of watches
 abbrev pub names_of : Header → List Name → Names
-names_of header watches = record { processes = header.procs; variables = map variables_in header.vars; watches = watches }
+names_of header watches =
+    record { processes = header.procs; variables = map variables_in header.vars; watches = watches }
 
 -- the names of the processes
 abbrev pub processes_in : Scope → List Name
@@ -31,4 +32,9 @@ variables_on on = variables_in on.variables.now
 
 -- the names of a scope and of the watches beside it
 abbrev pub names_in : Scope → Watches → Names
-names_in scope watches = record { processes = scope.processes.now; variables = map variables_in scope.variables.now; watches = watches.names.now }
+names_in scope watches =
+    record {
+      processes = scope.processes.now;
+      variables = map variables_in scope.variables.now;
+      watches = watches.names.now;
+    }

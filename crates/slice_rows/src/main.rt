@@ -1,5 +1,5 @@
-//! Builds slices from the systems of pulls in `data/slices.cases`, and prints a line a case: whether
-//! each slice came out as it must.
+//! Builds slices from the systems of pulls in `data/slices.cases`, and prints a line a case:
+//! whether each slice came out as it must.
 //!
 //! A case file is text. A line that is empty or begins with `#` says nothing; each other line is a
 //! keyword, and behind one space what it speaks of. Numbers are parted by commas, and processes are

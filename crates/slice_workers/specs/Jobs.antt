@@ -9,7 +9,8 @@ use Rattle.slice_workers.specs.Reaching.{AreHanded}
 pub record IsJob (table : TableView) (job : Job) : Type 0 where
   pub fits : job.seat.table ≡ table
 
--- the seat is of the table, and its floor has reached the rows of the processes that are handed back
+-- the seat is of the table, and its floor has reached the rows of the processes that are handed
+-- back
 pub record IsDone (table : TableView) (done : Done) : Type 0 where
   pub fits : done.seat.table ≡ table
   pub handed : AreHanded table.system done.seat.floor done.handed

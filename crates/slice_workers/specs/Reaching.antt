@@ -8,7 +8,8 @@ use Rattle.raise_machine.specs.Bounds.{word_at}
 pub record Reaches (system : SystemView) (row : ℕ) (floor : List ℕ) : Type 0 where
   pub vector : List ℕ
   pub is : IsLeast system row vector
-  pub below : (process : ℕ) → process < length system.lens → slice_index vector process ≤ word_at system.lens floor row process
+  pub below : (process : ℕ) → process < length system.lens
+      → slice_index vector process ≤ word_at system.lens floor row process
 
 -- the floor has reached the least closed vector of each row
 pub record ReachesAll (system : SystemView) (floor : List ℕ) : Type 0 where
@@ -16,16 +17,21 @@ pub record ReachesAll (system : SystemView) (floor : List ℕ) : Type 0 where
 
 -- the floor has reached the least closed vectors of the first rows of the process
 pub record ReachesFirst (system : SystemView) (process count : ℕ) (floor : List ℕ) : Type 0 where
-  pub each : (position : ℕ) → 1 ≤ position → position ≤ count → Reaches system (sum (take process system.lens) + position) floor
+  pub each : (position : ℕ) → 1 ≤ position → position ≤ count
+      → Reaches system (sum (take process system.lens) + position) floor
 
--- the floor has reached those of all rows of the processes that are marked, and only processes that are there are
+-- the floor has reached those of all rows of the processes that are marked, and only processes that
+-- are there are
 pub record AreHanded (system : SystemView) (floor : List ℕ) (handed : List Bool) : Type 0 where
   pub size : length handed ≡ 32
-  pub there : (process : ℕ) → slice_index_or handed process false ≡ true → process < length system.lens
-  pub each : (process : ℕ) → slice_index_or handed process false ≡ true → ReachesFirst system process (slice_index system.lens process) floor
+  pub there : (process : ℕ) → slice_index_or handed process false ≡ true
+      → process < length system.lens
+  pub each : (process : ℕ) → slice_index_or handed process false ≡ true
+      → ReachesFirst system process (slice_index system.lens process) floor
 
 -- how many events the marked processes have
 abbrev pub handed_events : List ℕ → List Bool → ℕ
 handed_events [] handed = 0
 handed_events (len ∷ lens) [] = 0
-handed_events (len ∷ lens) (is_handed ∷ handed) = (if is_handed then len else 0) + handed_events lens handed
+handed_events (len ∷ lens) (is_handed ∷ handed) =
+    (if is_handed then len else 0) + handed_events lens handed

@@ -65,7 +65,8 @@ pub(crate) fn settle_rest<L: Ledger>(
     requires into { length into.old ≡ length table.now.system.lens }
     requires handed { AreHanded table.now.system seat.old.floor handed.old }
     ensures table { seat.new.table ≡ seat.old.table }
-    ensures settled { HasSettled table.now.system bottom.now seat.old.floor seat.new.floor handed.old handed.new
+    ensures settled { HasSettled table.now.system bottom.now seat.old.floor seat.new.floor
+        handed.old handed.new
         steps.old steps.new }
     ensures all { (process : ℕ) → process < length table.now.system.lens
         → slice_index_or handed.new process false ≡ true }
@@ -93,7 +94,8 @@ fn claim_one<L: Ledger>(
     requires handed { AreHanded table.now.system seat.old.floor handed.old }
     requires free { slice_index_or handed.old process false ≡ false }
     ensures table { seat.new.table ≡ seat.old.table }
-    ensures settled { HasSettled table.now.system bottom.now seat.old.floor seat.new.floor handed.old handed.new
+    ensures settled { HasSettled table.now.system bottom.now seat.old.floor seat.new.floor
+        handed.old handed.new
         steps.old steps.new }
     ensures others { (other : ℕ) → other ≢ process
         → slice_index_or handed.new other false ≡ slice_index_or handed.old other false }
@@ -120,7 +122,8 @@ fn settle_left<L: Ledger>(
     requires into { length into.old ≡ length table.now.system.lens }
     requires handed { AreHanded table.now.system seat.old.floor handed.old }
     ensures table { seat.new.table ≡ seat.old.table }
-    ensures settled { HasSettled table.now.system bottom.now seat.old.floor seat.new.floor handed.old handed.new
+    ensures settled { HasSettled table.now.system bottom.now seat.old.floor seat.new.floor
+        handed.old handed.new
         steps.old steps.new }
     ensures marked { slice_index_or handed.new process false ≡ true }
 {
@@ -147,7 +150,8 @@ fn settle_marked<L: Ledger>(
     requires handed { AreHanded table.now.system seat.old.floor handed.old }
     requires free { slice_index_or handed.old process false ≡ false }
     ensures table { seat.new.table ≡ seat.old.table }
-    ensures settled { HasSettled table.now.system bottom.now seat.old.floor seat.new.floor handed.old handed.new
+    ensures settled { HasSettled table.now.system bottom.now seat.old.floor seat.new.floor
+        handed.old handed.new
         steps.old steps.new }
     ensures marked { handed.new ≡ slice_set handed.old process true }
 {
