@@ -28,8 +28,8 @@ pub record IsLongestFront (text front : List ℕ) : Type 0 where
   pub is : IsFront text front
   pub longest : (other : List ℕ) → IsFront text other → length other ≤ length front
 
--- The text is that of no report, and the line is 1 plus the number of line feeds of its longest prefix that is a prefix of some
--- report's text.
+-- The text is that of no report, and the line is 1 plus the number of line feeds of its longest
+-- prefix that is a prefix of some report's text.
 pub record IsFaultIn (text : List ℕ) (line : ℕ) : Type 0 where
   pub none : (r : Report) → IsWellFormed r → text ≡ report_text r → ⊥
   pub front : List ℕ

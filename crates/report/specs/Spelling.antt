@@ -21,9 +21,10 @@ pub record SliceFits (lengths : Cut) (s : SliceText) : Type 0 where
   pub edges : AllByRecursion (EdgeFits lengths) s.edges
   pub empty : s.bounds ≡ None → s.edges ≡ []
 
--- The batch is at least 1; the names of the processes are distinct, and there are 1 to 32; each cut has one component a process; the
--- lengths' sum is at most 50,000, and each other cut is within them; each event is one of a process that is named, at a position
--- from 1 to its length; the numbers of a witness are at least 1; the formula's text is canonical.
+-- The batch is at least 1; the names of the processes are distinct, and there are 1 to 32; each
+-- cut has one component a process; the lengths' sum is at most 50,000, and each other cut is
+-- within them; each event is one of a process that is named, at a position from 1 to its length;
+-- the numbers of a witness are at least 1; the formula's text is canonical.
 pub record IsWellFormed (r : Report) : Type 0 where
   pub batch : IsPositive r.batch
   pub run : RunFits r.procs r.lengths

@@ -20,7 +20,8 @@ use report_lines::{
 use std::alloc::Global;
 use witness_kinds::{Path, Witness};
 
-/// What the lines so far say, by the place behind them. A list that still grows is kept apart from what it belongs to.
+/// What the lines so far say, by the place behind them. A list that still grows is kept apart from
+/// what it belongs to.
 #[derive(Debug, Drop)]
 pub enum Draft {
     Start,

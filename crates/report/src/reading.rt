@@ -23,7 +23,8 @@ fn behind(
 ) -> Result<Draft, Refused<ReportFault>>
     requires { IsGood draft }
     ensures read { IfOk result (λ next. step draft text.now ≡ Some next) }
-    ensures fault { IfErr result (λ e. Faults e (λ f. (f.line ≡ line) × (step draft text.now ≡ None))) }
+    ensures fault { IfErr result (λ e.
+        Faults e (λ f. (f.line ≡ line) × (step draft text.now ≡ None))) }
 {
     match draft.step(alloc, text)? {
         Some(next) => Ok(next),
@@ -34,7 +35,8 @@ fn behind(
 // The report, where the draft has its last line and nothing is left.
 fn ended(draft: Draft, rest: &[u8], line: u64) -> Result<Report, Refused<ReportFault>>
     ensures read { IfOk result (λ report. (draft ≡ OverAs report) × (rest.now ≡ [])) }
-    ensures fault { IfErr result (λ e. Faults e (λ f. (f.line ≡ line) × IsUnfinished draft rest.now)) }
+    ensures fault { IfErr result (λ e.
+        Faults e (λ f. (f.line ≡ line) × IsUnfinished draft rest.now)) }
 {
     let fault = Refused::Fault(ReportFault { line });
     if !rest.is_empty() {
@@ -47,7 +49,8 @@ fn ended(draft: Draft, rest: &[u8], line: u64) -> Result<Report, Refused<ReportF
 }
 
 fn read_lines(alloc: Global, text: &[u8]) -> Result<Report, Refused<ReportFault>>
-    ensures { MatchResult result (IsTextOf text.now) (λ e. Faults e (λ f. IsFaultIn text.now f.line)) }
+    ensures { MatchResult result (IsTextOf text.now)
+        (λ e. Faults e (λ f. IsFaultIn text.now f.line)) }
 {
     let _len = text.len();
     let mut draft = Draft::Start;
@@ -61,8 +64,9 @@ fn read_lines(alloc: Global, text: &[u8]) -> Result<Report, Refused<ReportFault>
     ended(draft, rest, line)
 }
 
-/// The report whose text this is. `Fault` comes exactly where the text is that of no report, and its line is 1 plus the number of
-/// line feeds of the text's longest prefix that is a prefix of some report's text.
+/// The report whose text this is. `Fault` comes exactly where the text is that of no report, and
+/// its line is 1 plus the number of line feeds of the text's longest prefix that is a prefix of
+/// some report's text.
 pub fn read_report(alloc: Global, text: &[u8]) -> Result<Report, Refused<ReportFault>>
     ensures read { IfOk result (λ r. IsWellFormed r × (text.now ≡ report_text r)) }
     // The text of a report is read as that report, unless memory runs out.

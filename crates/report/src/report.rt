@@ -5,7 +5,8 @@ use pota_base::{Bytes, List};
 use pota_names::Name;
 use report_lines::{Edge, WitnessText};
 
-/// A slice (Mittal and Garg) as it is printed: between bottom and top it has the consistent cuts that keep each edge.
+/// A slice (Mittal and Garg) as it is printed: between bottom and top it has the consistent cuts
+/// that keep each edge.
 #[derive(Debug, Drop)]
 pub struct SliceText {
     /// Bottom and top, absent where the slice is empty.

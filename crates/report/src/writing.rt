@@ -122,7 +122,8 @@ fn put_witnesses(
     witnesses: &[WitnessText],
 ) -> Result<(), NoMemory>
     requires { AllByRecursion (IsTold procs.now) witnesses.now }
-    ensures { OnOk result (out.new ≡ out.old ++ text_of (lines_of_witnesses procs.now witnesses.now)) }
+    ensures { OnOk result (out.new
+        ≡ out.old ++ text_of (lines_of_witnesses procs.now witnesses.now)) }
 {
     for witness in witnesses {
         put_witness_lines(out, procs, witness)?;

@@ -1,4 +1,5 @@
--- The lines of a report, and the one spelling of each, without its line feed; and what has a spelling.
+-- The lines of a report, and the one spelling of each, without its line feed; and what has a
+-- spelling.
 use Rattle.std.specs.Prelude.{◌≡◌, ℕ, ◌^◌, ◌<◌, ◌≤◌, Bool, true, false, List, [], ◌∷◌, ◌++◌, length, sum, Option, None, Some, codes}
 use Rattle.std.specs.List.{AllByRecursion}
 use Rattle.std.specs.Fmt.{decimal}

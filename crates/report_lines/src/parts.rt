@@ -71,7 +71,8 @@ pub fn within_at<'a>(
     Ok(Some((cut, rest)))
 }
 
-/// The event behind a space at the front, as the name of its process and its position, and the bytes behind it.
+/// The event behind a space at the front, as the name of its process and its position, and the
+/// bytes behind it.
 #[tactic(auto, unfolding(crate::specs::Reading::event_at))]
 pub fn event_at<'a>(procs: &[Name], lengths: &Cut, bytes: &'a [u8]) -> Option<(EventId, &'a [u8])>
     requires few { length procs.now ≤ 32 }

@@ -33,7 +33,8 @@ fn bounds_in(
     }
 }
 
-/// The bottom and the top of a slice that the line spells, or `Some(None)` where it says that the slice is empty.
+/// The bottom and the top of a slice that the line spells, or `Some(None)` where it says that the
+/// slice is empty.
 #[tactic(auto, unfolding(crate::specs::Reading::slice_in))]
 pub fn read_slice(
     alloc: Global,

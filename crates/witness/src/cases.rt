@@ -155,7 +155,8 @@ fn always(alloc: Global, order: &Order, operand: &Slice, start: Cut) -> Result<W
     }
 }
 
-/// Why the part that the operator makes of an operand is true or false at the initial cut, by the slice of the operand.
+/// Why the part that the operator makes of an operand is true or false at the initial cut, by the
+/// slice of the operand.
 pub fn explain(
     alloc: Global,
     order: &Order,

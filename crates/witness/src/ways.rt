@@ -71,7 +71,8 @@ impl Way for InSlice<'_> {
     ghost holds = { λ w c. Cuts w.order.now (slice_of w.slice.now) c };
     ghost ready = { λ w. IsOperand w.order.now w.slice.now };
 
-    // The row of the next event is the only one to look at: the maximum of the cut and the row is the cut with that event.
+    // The row of the next event is the only one to look at: the maximum of the cut and the row is
+    // the cut with that event.
     fn goes_on(&self, at: &Cut, process: u32) -> bool {
         let position = at.get(process);
         if position >= self.slice.shape().len_of(process) {

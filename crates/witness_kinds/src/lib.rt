@@ -1,5 +1,5 @@
-//! The witnesses of a temporal formula at the initial cut, as values. When a witness is of its kind, and which one is given, is said
-//! in `run_model`; here stand the values alone.
+//! The witnesses of a temporal formula at the initial cut, as values. When a witness is of its
+//! kind, and which one is given, is said in `run_model`; here stand the values alone.
 #![tactic(auto)]
 
 use cut_lattice::Cut;
@@ -27,6 +27,7 @@ pub enum Witness {
     StuckStart,
     /// The final cut lacks the operand.
     StuckFinish,
-    /// Two events of which each cut with the operand has both or neither, so that no path takes one alone.
+    /// Two events of which each cut with the operand has both or neither, so that no path takes
+    /// one alone.
     StuckPair(EventId, EventId),
 }
