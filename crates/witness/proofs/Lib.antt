@@ -1,4 +1,0 @@
-pub mod Leads
-pub mod Twinned
-pub mod TwinSteps
-pub mod CaseSteps

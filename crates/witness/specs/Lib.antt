@@ -1,4 +1,0 @@
-pub mod Walks
-pub mod Views
-pub mod Twins
-pub mod Searches
