@@ -21,10 +21,10 @@ pub record SliceFits (lengths : Cut) (s : SliceText) : Type 0 where
   pub edges : AllByRecursion (EdgeFits lengths) s.edges
   pub empty : s.bounds ≡ None → s.edges ≡ []
 
--- The batch is at least 1; the names of the processes are distinct, and there are 1 to 32; each cut
--- has one component a process; the lengths' sum is at most 50,000, and each other cut is within
--- them; each event is one of a process that is named, at a position from 1 to its length; the
--- numbers of a witness are at least 1; the formula's text is canonical.
+-- The batch is at least 1; the names of the processes are distinct, and there are 1 to 32; each
+-- cut has one component a process; the lengths' sum is at most 50,000, and each other cut is
+-- within them; each event is one of a process that is named, at a position from 1 to its length;
+-- the numbers of a witness are at least 1; the formula's text is canonical.
 pub record IsWellFormed (r : Report) : Type 0 where
   pub batch : IsPositive r.batch
   pub run : RunFits r.procs r.lengths
@@ -52,14 +52,11 @@ lines_of_witnesses procs (w ∷ ws) = witness_lines procs w ++ lines_of_witnesse
 
 -- the lines before slice and witnesses
 abbrev pub head_lines : Report → List Line
-head_lines r =
-    title ∷ batch_line r.batch ∷ procs_line r.procs ∷ lengths_line r.lengths
-    ∷ formula_line r.formula ∷ verdict_line r.verdict ∷ []
+head_lines r = title ∷ batch_line r.batch ∷ procs_line r.procs ∷ lengths_line r.lengths ∷ formula_line r.formula ∷ verdict_line r.verdict ∷ []
 
 -- all lines but the last one
 abbrev pub body_lines : Report → List Line
-body_lines r =
-    head_lines r ++ (lines_of_slice r.procs r.slice ++ lines_of_witnesses r.procs r.witnesses)
+body_lines r = head_lines r ++ (lines_of_slice r.procs r.slice ++ lines_of_witnesses r.procs r.witnesses)
 
 abbrev pub report_lines : Report → List Line
 report_lines r = body_lines r ++ end_line ∷ []

@@ -1,4 +1,10 @@
 //! The text of reports, written and read.
+//!
+//! `write_report` gives the one text of a well-formed report. `read_report` gives the report whose
+//! text it is (`read`), and reads every report's text unless memory runs out (`only`). Its fault
+//! comes exactly where the text is that of no report, and tells the first line at which no report
+//! goes on (`fault`). `Draft::step` is one line of the reading. Not said: how much memory there
+//! is, and how long a call takes.
 #![tactic(auto)]
 
 mod draft;

@@ -23,8 +23,8 @@ fn behind(
 ) -> Result<Draft, Refused<ReportFault>>
     requires { IsGood draft }
     ensures read { IfOk result (λ next. step draft text.now ≡ Some next) }
-    ensures fault { IfErr result (λ e. Faults e
-        (λ f. (f.line ≡ line) × (step draft text.now ≡ None))) }
+    ensures fault { IfErr result (λ e.
+        Faults e (λ f. (f.line ≡ line) × (step draft text.now ≡ None))) }
 {
     match draft.step(alloc, text)? {
         Some(next) => Ok(next),
@@ -35,8 +35,8 @@ fn behind(
 // The report, where the draft has its last line and nothing is left.
 fn ended(draft: Draft, rest: &[u8], line: u64) -> Result<Report, Refused<ReportFault>>
     ensures read { IfOk result (λ report. (draft ≡ OverAs report) × (rest.now ≡ [])) }
-    ensures fault { IfErr result (λ e. Faults e
-        (λ f. (f.line ≡ line) × IsUnfinished draft rest.now)) }
+    ensures fault { IfErr result (λ e.
+        Faults e (λ f. (f.line ≡ line) × IsUnfinished draft rest.now)) }
 {
     let fault = Refused::Fault(ReportFault { line });
     if !rest.is_empty() {

@@ -12,8 +12,7 @@ use crate::report::{Report, SliceText};
 use event_log::{put_clock, put_names};
 use pota_base::{Bytes, EventId, NoMemory, put_u64};
 use pota_names::Name;
-use report_lines::{WitnessText, put_edge, put_slice, put_step, put_witness};
-use slice_graph::Edge;
+use report_lines::{Edge, WitnessText, put_edge, put_slice, put_step, put_witness};
 use std::alloc::Global;
 use witness_kinds::Witness;
 
@@ -97,12 +96,18 @@ fn steps_of(witness: &Witness) -> &[EventId]
         Witness::Reach(path) | Witness::Against(path) | Witness::Always(path) => {
             path.steps.as_slice()
         }
-        Witness::Nothing | Witness::StuckStart | Witness::StuckFinish | Witness::StuckPair(_, _) =>
-            &[],
+        Witness::Nothing
+        | Witness::StuckStart
+        | Witness::StuckFinish
+        | Witness::StuckPair(_, _) => &[],
     }
 }
 
-fn put_witness_lines(out: &mut Bytes, procs: &[Name], witness: &WitnessText) -> Result<(), NoMemory>
+fn put_witness_lines(
+    out: &mut Bytes,
+    procs: &[Name],
+    witness: &WitnessText,
+) -> Result<(), NoMemory>
     requires { IsTold procs.now witness.now }
     ensures { OnOk result (out.new ≡ out.old ++ text_of (witness_lines procs.now witness.now)) }
 {
@@ -111,10 +116,14 @@ fn put_witness_lines(out: &mut Bytes, procs: &[Name], witness: &WitnessText) -> 
     Ok(())
 }
 
-fn put_witnesses(out: &mut Bytes, procs: &[Name], witnesses: &[WitnessText]) -> Result<(), NoMemory>
+fn put_witnesses(
+    out: &mut Bytes,
+    procs: &[Name],
+    witnesses: &[WitnessText],
+) -> Result<(), NoMemory>
     requires { AllByRecursion (IsTold procs.now) witnesses.now }
-    ensures { OnOk result (out.new ≡ out.old
-        ++ text_of (lines_of_witnesses procs.now witnesses.now)) }
+    ensures { OnOk result (out.new
+        ≡ out.old ++ text_of (lines_of_witnesses procs.now witnesses.now)) }
 {
     for witness in witnesses {
         put_witness_lines(out, procs, witness)?;

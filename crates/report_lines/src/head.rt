@@ -67,7 +67,8 @@ pub fn read_lengths(alloc: Global, procs: usize, line: &[u8]) -> Result<Option<C
 // The text, where it is canonical.
 fn canonical_of(alloc: Global, text: &[u8]) -> Result<Option<Bytes>, NoMemory>
     requires { length text.now ≤ 65535 }
-    ensures { IfOk result (λ found. found ≡ (if is_canonical text.now then Some text.now else None)) }
+    ensures { IfOk result (λ found.
+        found ≡ (if is_canonical text.now then Some text.now else None)) }
 {
     let formula = match parse_long(alloc, text) {
         Ok(formula) => formula,

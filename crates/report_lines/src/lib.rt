@@ -1,4 +1,10 @@
 //! The lines of a report: what each one says, and its one spelling.
+//!
+//! Each call that reads a line gives what the definition of its kind gives, and nothing where no
+//! line of the kind is spelled so (the one clause of each `read_` call). Each call that writes one
+//! appends its spelling. That a line which is read is spelled so, and that what is spelled so is
+//! read, is proved of the definitions for the crate above. Not said: how much memory there is, and
+//! how long a call takes.
 #![tactic(auto)]
 
 mod head;

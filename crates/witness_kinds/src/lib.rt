@@ -27,7 +27,7 @@ pub enum Witness {
     StuckStart,
     /// The final cut lacks the operand.
     StuckFinish,
-    /// Two events of which each cut with the operand has both or neither, so that no path takes one
-    /// alone.
+    /// Two events of which each cut with the operand has both or neither, so that no path takes
+    /// one alone.
     StuckPair(EventId, EventId),
 }
