@@ -52,11 +52,14 @@ lines_of_witnesses procs (w ∷ ws) = witness_lines procs w ++ lines_of_witnesse
 
 -- the lines before slice and witnesses
 abbrev pub head_lines : Report → List Line
-head_lines r = title ∷ batch_line r.batch ∷ procs_line r.procs ∷ lengths_line r.lengths ∷ formula_line r.formula ∷ verdict_line r.verdict ∷ []
+head_lines r =
+    title ∷ batch_line r.batch ∷ procs_line r.procs ∷ lengths_line r.lengths
+    ∷ formula_line r.formula ∷ verdict_line r.verdict ∷ []
 
 -- all lines but the last one
 abbrev pub body_lines : Report → List Line
-body_lines r = head_lines r ++ (lines_of_slice r.procs r.slice ++ lines_of_witnesses r.procs r.witnesses)
+body_lines r =
+    head_lines r ++ (lines_of_slice r.procs r.slice ++ lines_of_witnesses r.procs r.witnesses)
 
 abbrev pub report_lines : Report → List Line
 report_lines r = body_lines r ++ end_line ∷ []
