@@ -232,34 +232,34 @@ mutual
   pub parts_alike : (sign : Bool) (n : Node) → counts_fit n ≡ true → first_fault true sign n ≡ None → PartsAlike (map part_formula (parts_from sign n)) (parts sign (formula_of n))
   parts_alike sign (leaf (atom.Truth value) at) fits free = local_alike sign (leaf (atom.Truth value) at) refl
   parts_alike sign (leaf (atom.Local p v compare right) at) fits free = elim (cases_Bool (is_local (formula_of (leaf (atom.Local p v compare right) at)))) [
-      inl h ↦ local_alike sign (leaf (atom.Local p v compare right) at) h
+    | inl h ↦ local_alike sign (leaf (atom.Local p v compare right) at) h
     | inr h ↦ absurd (let bad = rw h at free in cc)
-    ]
+  ]
   parts_alike sign (leaf (atom.Watch p w) at) fits free = local_alike sign (leaf (atom.Watch p w) at) refl
   parts_alike sign (leaf (atom.InTransit p q compare k) at) fits free =
       parts_equal _ _ (bounds_alike p q (after_sign sign (relation_of compare)) k (count_below k fits) (if_none (class.is_unequal (after_sign sign (relation_of compare))) _ free))
   parts_alike true (leaf (atom.Empty p q) at) fits free = parts_alike_themselves (model.InTransit p.name q.name model.LessOrEqual 0 ∷ [])
   parts_alike false (leaf (atom.Empty p q) at) fits free = parts_alike_themselves (model.InTransit p.name q.name model.GreaterOrEqual 1 ∷ [])
   parts_alike sign (negation n at) fits free = elim (cases_Bool (is_local (formula_of (negation n at)))) [
-      inl h ↦ local_alike sign (negation n at) h
+    | inl h ↦ local_alike sign (negation n at) h
     | inr h ↦ rw h (parts_alike (not sign) n fits (rw h at free))
-    ]
+  ]
   parts_alike true (conjunction ns at) fits free = elim (cases_Bool (is_local (formula_of (conjunction ns at)))) [
-      inl h ↦ local_alike true (conjunction ns at) h
+    | inl h ↦ local_alike true (conjunction ns at) h
     | inr h ↦ rw h (all_parts_alike true ns fits (rw h at free))
-    ]
+  ]
   parts_alike false (conjunction ns at) fits free = elim (cases_Bool (is_local (formula_of (conjunction ns at)))) [
-      inl h ↦ local_alike false (conjunction ns at) h
+    | inl h ↦ local_alike false (conjunction ns at) h
     | inr h ↦ absurd (let bad = rw h at free in cc)
-    ]
+  ]
   parts_alike true (disjunction ns at) fits free = elim (cases_Bool (is_local (formula_of (disjunction ns at)))) [
-      inl h ↦ local_alike true (disjunction ns at) h
+    | inl h ↦ local_alike true (disjunction ns at) h
     | inr h ↦ absurd (let bad = rw h at free in cc)
-    ]
+  ]
   parts_alike false (disjunction ns at) fits free = elim (cases_Bool (is_local (formula_of (disjunction ns at)))) [
-      inl h ↦ local_alike false (disjunction ns at) h
+    | inl h ↦ local_alike false (disjunction ns at) h
     | inr h ↦ rw h (all_parts_alike false ns fits (rw h at free))
-    ]
+  ]
   parts_alike true (under o n at) fits free =
       let both = none_both (operator_fault true o at) (first_fault true true n) free in
       let same = operand_means (parts_from true n) (formula_of n) (parts_alike true n fits both.1) in
@@ -310,18 +310,18 @@ mutual
   disjuncts_alike sign (leaf (atom.InTransit p q compare k) at) fits free = one_alike sign (leaf (atom.InTransit p q compare k) at) fits free
   disjuncts_alike sign (leaf (atom.Empty p q) at) fits free = one_alike sign (leaf (atom.Empty p q) at) fits free
   disjuncts_alike sign (negation n at) fits free = elim (cases_Bool (is_local (formula_of (negation n at)))) [
-      inl h ↦ local_disjuncts_alike sign (negation n at) h
+    | inl h ↦ local_disjuncts_alike sign (negation n at) h
     | inr h ↦ rw h (disjuncts_alike (not sign) n fits (rw h at free))
-    ]
+  ]
   disjuncts_alike true (conjunction ns at) fits free = one_alike true (conjunction ns at) fits free
   disjuncts_alike false (conjunction ns at) fits free = elim (cases_Bool (is_local (formula_of (conjunction ns at)))) [
-      inl h ↦ local_disjuncts_alike false (conjunction ns at) h
+    | inl h ↦ local_disjuncts_alike false (conjunction ns at) h
     | inr h ↦ rw h (all_disjuncts_alike false ns fits (rw h at free))
-    ]
+  ]
   disjuncts_alike true (disjunction ns at) fits free = elim (cases_Bool (is_local (formula_of (disjunction ns at)))) [
-      inl h ↦ local_disjuncts_alike true (disjunction ns at) h
+    | inl h ↦ local_disjuncts_alike true (disjunction ns at) h
     | inr h ↦ rw h (all_disjuncts_alike true ns fits (rw h at free))
-    ]
+  ]
   disjuncts_alike false (disjunction ns at) fits free = one_alike false (disjunction ns at) fits free
   disjuncts_alike sign (under o n at) fits free = one_alike sign (under o n at) fits free
   disjuncts_alike sign (until_of all left right at) fits free = absurd (cc)

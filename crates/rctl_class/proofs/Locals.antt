@@ -188,7 +188,7 @@ under_made sign operator at m n old start operand is judged free nothing walked 
     let operands : pieces_of operand ≡ parts_from true n = walked ∙ rw nothing refl in (
       rw (is, judged, free) refl,
       ap pieces_of pushed ∙ map-append piece_of old (part.Temporal operator operand ∷ [])
-      ∙ ap (λ p. pieces_of old ++ p ∷ []) (piece-Temporal operator operand)
-      ∙ ap (λ ps. pieces_of old ++ named.temporal operator (named.pieces ps) ∷ []) operands
-      ∙ ap (λ k. pieces_of old ++ parts_from sign k) (sym is),
+          ∙ ap (λ p. pieces_of old ++ p ∷ []) (piece-Temporal operator operand)
+          ∙ ap (λ ps. pieces_of old ++ named.temporal operator (named.pieces ps) ∷ []) operands
+          ∙ ap (λ k. pieces_of old ++ parts_from sign k) (sym is),
     )

@@ -147,7 +147,7 @@ pub parts_more : (sign : Bool) (ts : List Tree) (i : ℕ) (t : Tree) (start : Li
     old ≡ start ++ all_parts sign (before ts i) → new ≡ old ++ parts_from sign (node_of t) → new ≡ start ++ all_parts sign (before ts (i + 1))
 parts_more sign ts i t start lt is so_far here =
     let all = ap (all_parts sign) (members_more ts i t lt is) ∙ all_parts-joined sign (before ts i) (more (node_of t) none)
-        ∙ ap (λ ps. all_parts sign (before ts i) ++ ps) (append-nil (parts_from sign (node_of t))) in
+    ∙ ap (λ ps. all_parts sign (before ts i) ++ ps) (append-nil (parts_from sign (node_of t))) in
     here ∙ rw (so_far, all) (append_assoc start (all_parts sign (before ts i)) (parts_from sign (node_of t)))
 
 pub all_disjuncts-joined : (sign : Bool) (ns ms : Nodes) → all_disjuncts sign (joined ns ms) ≡ all_disjuncts sign ns ++ all_disjuncts sign ms
@@ -159,5 +159,5 @@ pub disjuncts_more : (sign : Bool) (ts : List Tree) (i : ℕ) (t : Tree) (start 
     old ≡ start ++ all_disjuncts sign (before ts i) → new ≡ old ++ disjuncts_from sign (node_of t) → new ≡ start ++ all_disjuncts sign (before ts (i + 1))
 disjuncts_more sign ts i t start lt is so_far here =
     let all = ap (all_disjuncts sign) (members_more ts i t lt is) ∙ all_disjuncts-joined sign (before ts i) (more (node_of t) none)
-        ∙ ap (λ ds. all_disjuncts sign (before ts i) ++ ds) (append-nil (disjuncts_from sign (node_of t))) in
+    ∙ ap (λ ds. all_disjuncts sign (before ts i) ++ ds) (append-nil (disjuncts_from sign (node_of t))) in
     here ∙ rw (so_far, all) (append_assoc start (all_disjuncts sign (before ts i)) (disjuncts_from sign (node_of t)))

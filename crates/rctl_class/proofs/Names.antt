@@ -128,7 +128,7 @@ named_once : (p : Place) (us : List Use) → list_all (is_on (Some p.name)) (pro
 unfolding first_unknown seen_after
 named_once p us alone = record {
   fault = λ known seen. elim (cases_Bool (known.is_process p.name)) [
-      inl is ↦ rw is (known_process known seen p.name us is alone)
+    | inl is ↦ rw is (known_process known seen p.name us is alone)
     | inr is ↦ rw is refl
   ];
   seen = λ before. seen_without before us;
@@ -177,11 +177,11 @@ local_names sign n h =
     let on = first_place (uses_of n) in
     let over = local_is_over n h in
     let alone : list_all (is_on (option_name on)) (process_names (uses_of n)) ≡ true =
-        ap (list_all (is_on (option_name on))) (sym (processes_named n))
-        ∙ (and_parts (is_plain (formula_of n)) (list_all (is_on (option_name on)) (processes (formula_of n))) (sym (over_plain (option_name on) n) ∙ over)).1 in
+    ap (list_all (is_on (option_name on))) (sym (processes_named n))
+    ∙ (and_parts (is_plain (formula_of n)) (list_all (is_on (option_name on)) (processes (formula_of n))) (sym (over_plain (option_name on) n) ∙ over)).1 in
     let plain : parts_uses (local_part sign n ∷ []) ≡ process_use on ++ without_processes (uses_of n) =
-        append-nil (process_use on ++ expr_uses (name_on on) (signed sign (expr_from n)))
-        ∙ ap (λ us. process_use on ++ us) (signed_names sign (name_on on) (expr_from n) ∙ ap (λ name. expr_uses name (expr_from n)) (sym (name_of_first on)) ∙ expr_names (option_name on) n over) in
+    append-nil (process_use on ++ expr_uses (name_on on) (signed sign (expr_from n)))
+    ∙ ap (λ us. process_use on ++ us) (signed_names sign (name_on on) (expr_from n) ∙ ap (λ name. expr_uses name (expr_from n)) (sym (name_of_first on)) ∙ expr_names (option_name on) n over) in
     agree_then (parts_uses (local_part sign n ∷ [])) (process_use on ++ without_processes (uses_of n)) (uses_of n) (agree_equal _ _ plain) (once_named (uses_of n) (uses_lead n) alone)
 
 -- ---- channels
@@ -191,7 +191,7 @@ channel_twice : (p q : Place) → Agree (used.process p ∷ used.process q ∷ u
 unfolding first_unknown seen_after
 channel_twice p q = record {
   fault = λ known seen. elim (cases_Bool (known.is_process p.name)) [
-      inl a ↦ elim (cases_Bool (known.is_process q.name)) [ inl b ↦ rw (a, b) refl | inr b ↦ rw (a, b) refl ]
+    | inl a ↦ elim (cases_Bool (known.is_process q.name)) [ inl b ↦ rw (a, b) refl | inr b ↦ rw (a, b) refl ]
     | inr a ↦ rw a refl
   ];
   seen = λ before. refl;
@@ -225,34 +225,34 @@ mutual
   pub parts_names : (sign : Bool) (n : Node) → first_fault true sign n ≡ None → Agree (parts_uses (parts_from sign n)) (uses_of n)
   parts_names sign (leaf (atom.Truth value) at) free = local_parts_names sign (leaf (atom.Truth value) at) refl
   parts_names sign (leaf (atom.Local p v compare right) at) free = elim (cases_Bool (is_local (formula_of (leaf (atom.Local p v compare right) at)))) [
-      inl h ↦ local_parts_names sign (leaf (atom.Local p v compare right) at) h
+    | inl h ↦ local_parts_names sign (leaf (atom.Local p v compare right) at) h
     | inr h ↦ absurd (let bad = rw h at free in cc)
-    ]
+  ]
   parts_names sign (leaf (atom.Watch p w) at) free = local_parts_names sign (leaf (atom.Watch p w) at) refl
   parts_names sign (leaf (atom.InTransit p q compare k) at) free =
       bounds_names p q (after_sign sign (relation_of compare)) k (if_none (class.is_unequal (after_sign sign (relation_of compare))) _ free)
   parts_names true (leaf (atom.Empty p q) at) free = agree_itself (used.process p ∷ used.process q ∷ [])
   parts_names false (leaf (atom.Empty p q) at) free = agree_itself (used.process p ∷ used.process q ∷ [])
   parts_names sign (negation n at) free = elim (cases_Bool (is_local (formula_of (negation n at)))) [
-      inl h ↦ local_parts_names sign (negation n at) h
+    | inl h ↦ local_parts_names sign (negation n at) h
     | inr h ↦ rw h (parts_names (not sign) n (rw h at free))
-    ]
+  ]
   parts_names true (conjunction ns at) free = elim (cases_Bool (is_local (formula_of (conjunction ns at)))) [
-      inl h ↦ local_parts_names true (conjunction ns at) h
+    | inl h ↦ local_parts_names true (conjunction ns at) h
     | inr h ↦ rw h (all_parts_names true ns (rw h at free))
-    ]
+  ]
   parts_names false (conjunction ns at) free = elim (cases_Bool (is_local (formula_of (conjunction ns at)))) [
-      inl h ↦ local_parts_names false (conjunction ns at) h
+    | inl h ↦ local_parts_names false (conjunction ns at) h
     | inr h ↦ absurd (let bad = rw h at free in cc)
-    ]
+  ]
   parts_names true (disjunction ns at) free = elim (cases_Bool (is_local (formula_of (disjunction ns at)))) [
-      inl h ↦ local_parts_names true (disjunction ns at) h
+    | inl h ↦ local_parts_names true (disjunction ns at) h
     | inr h ↦ absurd (let bad = rw h at free in cc)
-    ]
+  ]
   parts_names false (disjunction ns at) free = elim (cases_Bool (is_local (formula_of (disjunction ns at)))) [
-      inl h ↦ local_parts_names false (disjunction ns at) h
+    | inl h ↦ local_parts_names false (disjunction ns at) h
     | inr h ↦ rw h (all_parts_names false ns (rw h at free))
-    ]
+  ]
   parts_names true (under o n at) free =
       rw (append-nil (operand_uses (pieces (parts_from true n))), operand_names (parts_from true n))
       (parts_names true n (none_both (operator_fault true o at) (first_fault true true n) free).1)
@@ -284,18 +284,18 @@ mutual
   pub disjuncts_names : (sign : Bool) (n : Node) → first_fault false sign n ≡ None → Agree (disjuncts_uses (disjuncts_from sign n)) (uses_of n)
   disjuncts_names sign (leaf a at) free = one_names sign (leaf a at) free
   disjuncts_names sign (negation n at) free = elim (cases_Bool (is_local (formula_of (negation n at)))) [
-      inl h ↦ local_disjuncts_names sign (negation n at) h
+    | inl h ↦ local_disjuncts_names sign (negation n at) h
     | inr h ↦ rw h (disjuncts_names (not sign) n (rw h at free))
-    ]
+  ]
   disjuncts_names true (conjunction ns at) free = one_names true (conjunction ns at) free
   disjuncts_names false (conjunction ns at) free = elim (cases_Bool (is_local (formula_of (conjunction ns at)))) [
-      inl h ↦ local_disjuncts_names false (conjunction ns at) h
+    | inl h ↦ local_disjuncts_names false (conjunction ns at) h
     | inr h ↦ rw h (all_disjuncts_names false ns (rw h at free))
-    ]
+  ]
   disjuncts_names true (disjunction ns at) free = elim (cases_Bool (is_local (formula_of (disjunction ns at)))) [
-      inl h ↦ local_disjuncts_names true (disjunction ns at) h
+    | inl h ↦ local_disjuncts_names true (disjunction ns at) h
     | inr h ↦ rw h (all_disjuncts_names true ns (rw h at free))
-    ]
+  ]
   disjuncts_names false (disjunction ns at) free = one_names false (disjunction ns at) free
   disjuncts_names sign (under o n at) free = one_names sign (under o n at) free
   disjuncts_names sign (until_of all left right at) free = absurd (cc)

@@ -92,33 +92,33 @@ mutual
   parts_fit : (sign : Bool) (n : Node) → counts_fit n ≡ true → first_fault true sign n ≡ None → EachFits (parts_from sign n)
   parts_fit sign (leaf (atom.Truth value) at) fits free = local_fits sign (leaf (atom.Truth value) at) refl
   parts_fit sign (leaf (atom.Local p v compare right) at) fits free = elim (cases_Bool (is_local (formula_of (leaf (atom.Local p v compare right) at)))) [
-      inl h ↦ local_fits sign (leaf (atom.Local p v compare right) at) h
+    | inl h ↦ local_fits sign (leaf (atom.Local p v compare right) at) h
     | inr h ↦ absurd (let bad = rw h at free in cc)
-    ]
+  ]
   parts_fit sign (leaf (atom.Watch p w) at) fits free = local_fits sign (leaf (atom.Watch p w) at) refl
   parts_fit sign (leaf (atom.InTransit p q compare k) at) fits free = bounds_fit p q (after_sign sign (relation_of compare)) k (count_below k fits)
   parts_fit true (leaf (atom.Empty p q) at) fits free = (omega arith, tt)
   parts_fit false (leaf (atom.Empty p q) at) fits free = (omega arith, tt)
   parts_fit sign (negation n at) fits free = elim (cases_Bool (is_local (formula_of (negation n at)))) [
-      inl h ↦ local_fits sign (negation n at) h
+    | inl h ↦ local_fits sign (negation n at) h
     | inr h ↦ rw h (parts_fit (not sign) n fits (rw h at free))
-    ]
+  ]
   parts_fit true (conjunction ns at) fits free = elim (cases_Bool (is_local (formula_of (conjunction ns at)))) [
-      inl h ↦ local_fits true (conjunction ns at) h
+    | inl h ↦ local_fits true (conjunction ns at) h
     | inr h ↦ rw h (all_parts_fit true ns fits (rw h at free))
-    ]
+  ]
   parts_fit false (conjunction ns at) fits free = elim (cases_Bool (is_local (formula_of (conjunction ns at)))) [
-      inl h ↦ local_fits false (conjunction ns at) h
+    | inl h ↦ local_fits false (conjunction ns at) h
     | inr h ↦ absurd (let bad = rw h at free in cc)
-    ]
+  ]
   parts_fit true (disjunction ns at) fits free = elim (cases_Bool (is_local (formula_of (disjunction ns at)))) [
-      inl h ↦ local_fits true (disjunction ns at) h
+    | inl h ↦ local_fits true (disjunction ns at) h
     | inr h ↦ absurd (let bad = rw h at free in cc)
-    ]
+  ]
   parts_fit false (disjunction ns at) fits free = elim (cases_Bool (is_local (formula_of (disjunction ns at)))) [
-      inl h ↦ local_fits false (disjunction ns at) h
+    | inl h ↦ local_fits false (disjunction ns at) h
     | inr h ↦ rw h (all_parts_fit false ns fits (rw h at free))
-    ]
+  ]
   parts_fit true (under o n at) fits free =
       let both = none_both (operator_fault true o at) (first_fault true true n) free in
       ((analysed o at both.0, operand_fits (parts_from true n) (parts_fit true n fits both.1)), tt)
@@ -141,18 +141,18 @@ mutual
   disjuncts_fit : (sign : Bool) (n : Node) → counts_fit n ≡ true → first_fault false sign n ≡ None → AllFit (disjuncts_from sign n)
   disjuncts_fit sign (leaf a at) fits free = (parts_fit sign (leaf a at) fits free, tt)
   disjuncts_fit sign (negation n at) fits free = elim (cases_Bool (is_local (formula_of (negation n at)))) [
-      inl h ↦ local_disjuncts_fit sign (negation n at) h
+    | inl h ↦ local_disjuncts_fit sign (negation n at) h
     | inr h ↦ rw h (disjuncts_fit (not sign) n fits (rw h at free))
-    ]
+  ]
   disjuncts_fit true (conjunction ns at) fits free = (parts_fit true (conjunction ns at) fits free, tt)
   disjuncts_fit false (conjunction ns at) fits free = elim (cases_Bool (is_local (formula_of (conjunction ns at)))) [
-      inl h ↦ local_disjuncts_fit false (conjunction ns at) h
+    | inl h ↦ local_disjuncts_fit false (conjunction ns at) h
     | inr h ↦ rw h (all_disjuncts_fit false ns fits (rw h at free))
-    ]
+  ]
   disjuncts_fit true (disjunction ns at) fits free = elim (cases_Bool (is_local (formula_of (disjunction ns at)))) [
-      inl h ↦ local_disjuncts_fit true (disjunction ns at) h
+    | inl h ↦ local_disjuncts_fit true (disjunction ns at) h
     | inr h ↦ rw h (all_disjuncts_fit true ns fits (rw h at free))
-    ]
+  ]
   disjuncts_fit false (disjunction ns at) fits free = (parts_fit false (disjunction ns at) fits free, tt)
   disjuncts_fit sign (under o n at) fits free = (parts_fit sign (under o n at) fits free, tt)
   disjuncts_fit sign (until_of all left right at) fits free = absurd (cc)
@@ -247,9 +247,10 @@ mutual
   all_disjuncts_few sign none = (omega arith, omega arith)
   all_disjuncts_few sign (more n ns) =
       let here = disjuncts_few sign n in
-      let rest = all_disjuncts_few sign ns in
-      (omega (arith, length-append (disjuncts_from sign n) (walk.all_disjuncts sign ns), here.0, rest.0),
-      omega (arith, disjuncts_count_joined (disjuncts_from sign n) (walk.all_disjuncts sign ns), here.1, rest.1))
+      let rest = all_disjuncts_few sign ns in (
+        omega (arith, length-append (disjuncts_from sign n) (walk.all_disjuncts sign ns), here.0, rest.0),
+        omega (arith, disjuncts_count_joined (disjuncts_from sign n) (walk.all_disjuncts sign ns), here.1, rest.1),
+      )
 
 -- ---- there is a disjunct
 
@@ -259,18 +260,18 @@ mutual
   some_disjunct : (sign : Bool) (n : Node) → is_wide (formula_of n) ≡ true → first_fault false sign n ≡ None → 1 ≤ length (disjuncts_from sign n)
   some_disjunct sign (leaf a at) wide free = omega arith
   some_disjunct sign (negation n at) wide free = elim (cases_Bool (is_local (formula_of (negation n at)))) [
-      inl h ↦ omega (arith, ap length (local_disjuncts sign (negation n at) h))
+    | inl h ↦ omega (arith, ap length (local_disjuncts sign (negation n at) h))
     | inr h ↦ rw h (some_disjunct (not sign) n wide (rw h at free))
-    ]
+  ]
   some_disjunct true (conjunction ns at) wide free = omega arith
   some_disjunct false (conjunction ns at) wide free = elim (cases_Bool (is_local (formula_of (conjunction ns at)))) [
-      inl h ↦ omega (arith, ap length (local_disjuncts false (conjunction ns at) h))
+    | inl h ↦ omega (arith, ap length (local_disjuncts false (conjunction ns at) h))
     | inr h ↦ let both = and_parts (has_two (formulas_of ns)) (all_wide (formulas_of ns)) wide in rw h (some_of false ns both.0 both.1 (rw h at free))
-    ]
+  ]
   some_disjunct true (disjunction ns at) wide free = elim (cases_Bool (is_local (formula_of (disjunction ns at)))) [
-      inl h ↦ omega (arith, ap length (local_disjuncts true (disjunction ns at) h))
+    | inl h ↦ omega (arith, ap length (local_disjuncts true (disjunction ns at) h))
     | inr h ↦ let both = and_parts (has_two (formulas_of ns)) (all_wide (formulas_of ns)) wide in rw h (some_of true ns both.0 both.1 (rw h at free))
-    ]
+  ]
   some_disjunct false (disjunction ns at) wide free = omega arith
   some_disjunct sign (under o n at) wide free = omega arith
   some_disjunct sign (until_of all left right at) wide free = absurd (cc)
@@ -278,8 +279,11 @@ mutual
   some_of : (sign : Bool) (ns : Nodes) → has_two (formulas_of ns) ≡ true → all_wide (formulas_of ns) ≡ true → first_of false sign ns ≡ None → 1 ≤ length (walk.all_disjuncts sign ns)
   some_of sign none two wide free = absurd (false≢true two)
   some_of sign (more n ns) two wide free =
-      omega (arith, length-append (disjuncts_from sign n) (walk.all_disjuncts sign ns),
-      some_disjunct sign n (and_parts (is_wide (formula_of n)) (all_wide (formulas_of ns)) wide).0 (none_both (first_fault false sign n) (first_of false sign ns) free).0)
+      omega (
+        arith,
+        length-append (disjuncts_from sign n) (walk.all_disjuncts sign ns),
+        some_disjunct sign n (and_parts (is_wide (formula_of n)) (all_wide (formulas_of ns)) wide).0 (none_both (first_fault false sign n) (first_of false sign ns) free).0,
+      )
 
 -- ---- the whole
 

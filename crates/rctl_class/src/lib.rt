@@ -28,11 +28,10 @@ pub use laws::{
     read_formulas_are_within_limits,
 };
 pub use named::{Classed, NamedExpr, NamedPart, NamedSide};
-pub use stop::{Stop, fault};
-
 use pota_base::{List, Refused};
 use rctl_grammar::{Formula, FormulaFault};
 use std::alloc::Global;
+pub use stop::{Stop, fault};
 
 /// The disjuncts of the formula, each by its parts. `Fault` is its first fault, at the node:
 /// `NotRegular` is a comparison of two processes, messages under way compared as unequal, or an

@@ -27,7 +27,7 @@ fn push_leaf(
 ) -> Result<(), Stop>
     ensures { MatchResult result
         (λ _. (atom_fault sign atom.now at ≡ None)
-            × (pieces_of parts.new ≡ pieces_of parts.old ++ channel_parts sign atom.now))
+        × (pieces_of parts.new ≡ pieces_of parts.old ++ channel_parts sign atom.now))
         (λ stop. Faults stop (λ f. atom_fault sign atom.now at ≡ Some f)) }
 {
     match atom {
@@ -79,10 +79,10 @@ fn conjunctions(
 ) -> Result<(), Stop>
     ensures { MatchResult result
         (λ _. (first_of true sign (nodes_of (map node_of members.now)) ≡ None)
-            × (pieces_of parts.new
-                ≡ pieces_of parts.old ++ all_parts sign (nodes_of (map node_of members.now))))
+        × (pieces_of parts.new
+        ≡ pieces_of parts.old ++ all_parts sign (nodes_of (map node_of members.now))))
         (λ stop. Faults stop
-            (λ f. first_of true sign (nodes_of (map node_of members.now)) ≡ Some f)) }
+        (λ f. first_of true sign (nodes_of (map node_of members.now)) ≡ Some f)) }
 {
     'members: for member in members {
         conjunction(alloc, sign, member, parts)?;
@@ -101,7 +101,7 @@ fn conjunction(
 ) -> Result<(), Stop>
     ensures { MatchResult result
         (λ _. (first_fault true sign (node_of tree.now) ≡ None)
-            × (pieces_of parts.new ≡ pieces_of parts.old ++ parts_from sign (node_of tree.now)))
+        × (pieces_of parts.new ≡ pieces_of parts.old ++ parts_from sign (node_of tree.now)))
         (λ stop. Faults stop (λ f. first_fault true sign (node_of tree.now) ≡ Some f)) }
 {
     if let Some(part) = local_part(alloc, sign, tree)? {
@@ -142,8 +142,8 @@ fn single(
 ) -> Result<(), Stop>
     ensures { MatchResult result
         (λ _. (first_fault true sign (node_of tree.now) ≡ None)
-            × (disjuncts_of disjuncts.new
-                ≡ disjuncts_of disjuncts.old ++ parts_from sign (node_of tree.now) ∷ []))
+        × (disjuncts_of disjuncts.new
+        ≡ disjuncts_of disjuncts.old ++ parts_from sign (node_of tree.now) ∷ []))
         (λ stop. Faults stop (λ f. first_fault true sign (node_of tree.now) ≡ Some f)) }
 {
     let mut parts = List::new(alloc);
@@ -175,10 +175,10 @@ fn disjunctions(
 ) -> Result<(), Stop>
     ensures { MatchResult result
         (λ _. (first_of false sign (nodes_of (map node_of members.now)) ≡ None)
-            × (disjuncts_of disjuncts.new ≡ disjuncts_of disjuncts.old
-                ++ all_disjuncts sign (nodes_of (map node_of members.now))))
+        × (disjuncts_of disjuncts.new ≡ disjuncts_of disjuncts.old
+        ++ all_disjuncts sign (nodes_of (map node_of members.now))))
         (λ stop. Faults stop
-            (λ f. first_of false sign (nodes_of (map node_of members.now)) ≡ Some f)) }
+        (λ f. first_of false sign (nodes_of (map node_of members.now)) ≡ Some f)) }
 {
     'members: for member in members {
         disjunction(alloc, sign, member, disjuncts)?;
@@ -197,8 +197,8 @@ pub fn disjunction(
 ) -> Result<(), Stop>
     ensures { MatchResult result
         (λ _. (first_fault false sign (node_of tree.now) ≡ None)
-            × (disjuncts_of disjuncts.new
-                ≡ disjuncts_of disjuncts.old ++ disjuncts_from sign (node_of tree.now)))
+        × (disjuncts_of disjuncts.new
+        ≡ disjuncts_of disjuncts.old ++ disjuncts_from sign (node_of tree.now)))
         (λ stop. Faults stop (λ f. first_fault false sign (node_of tree.now) ≡ Some f)) }
 {
     if let Some(part) = local_part(alloc, sign, tree)? {

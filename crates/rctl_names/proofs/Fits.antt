@@ -126,9 +126,10 @@ mutual
       let both = none_both (local_fault variables i s (local_names e)) (local_fault variables i u (all_local_names es)) (sym (fault_joined variables i s (local_names e) (all_local_names es)) ∙ free) in
       let P : Watched → Type 0 = λ v. Keeps v t in
       let rest = subst P (after_joined i s (local_names e) (all_local_names es)) keeps in
-      let here = local_keeps variables i s (local_names e) both.0 in
-      (expr_fits variables watches i s t e same sized both.0 (keeps_then u (local_after i u (all_local_names es)) t (local_keeps variables i u (all_local_names es) both.1) rest),
-      exprs_fit variables watches i u t es (after_names i s (local_names e) ∙ same) (here.sized ∙ sized) both.1 rest)
+      let here = local_keeps variables i s (local_names e) both.0 in (
+        expr_fits variables watches i s t e same sized both.0 (keeps_then u (local_after i u (all_local_names es)) t (local_keeps variables i u (all_local_names es) both.1) rest),
+        exprs_fit variables watches i u t es (after_names i s (local_names e) ∙ same) (here.sized ∙ sized) both.1 rest,
+      )
 
 mutual
   constant_in : (variables watches : List Name) (e : named.Expr) → made.is_constant (expr_in variables watches e) ≡ named.is_constant e
@@ -202,18 +203,20 @@ mutual
   operand_fits names s t named.no_piece is fits free keeps = tt
   operand_fits names s t (named.and_piece p ps) is fits free keeps =
       let u = part_after names s p in
-      let both = none_both (part_fault names s p) (operand_fault names u ps) free in
-      (piece_fits names s t p is fits.0 both.0 (keeps_then u (operand_after names u ps) t (operand_keeps names u ps both.1) keeps),
-      operand_fits names u t ps (part_sized names s p is both.0) fits.1 both.1 keeps)
+      let both = none_both (part_fault names s p) (operand_fault names u ps) free in (
+        piece_fits names s t p is fits.0 both.0 (keeps_then u (operand_after names u ps) t (operand_keeps names u ps both.1) keeps),
+        operand_fits names u t ps (part_sized names s p is both.0) fits.1 both.1 keeps,
+      )
 
 parts_fit : (names : Names) (s t : Watched) (ps : List named.Piece) → IsSized names s → named.EachFits ps → operand_fault names s (named.pieces ps) ≡ None → Keeps (operand_after names s (named.pieces ps)) t →
     EachFits (scope_for names t) (map (piece_in names) ps)
 parts_fit names s t [] is fits free keeps = tt
 parts_fit names s t (p ∷ ps) is fits free keeps =
     let u = part_after names s p in
-    let both = none_both (part_fault names s p) (operand_fault names u (named.pieces ps)) free in
-    (piece_fits names s t p is fits.0 both.0 (keeps_then u (operand_after names u (named.pieces ps)) t (operand_keeps names u (named.pieces ps) both.1) keeps),
-    parts_fit names u t ps (part_sized names s p is both.0) fits.1 both.1 keeps)
+    let both = none_both (part_fault names s p) (operand_fault names u (named.pieces ps)) free in (
+      piece_fits names s t p is fits.0 both.0 (keeps_then u (operand_after names u (named.pieces ps)) t (operand_keeps names u (named.pieces ps) both.1) keeps),
+      parts_fit names u t ps (part_sized names s p is both.0) fits.1 both.1 keeps,
+    )
 
 pub disjuncts_fit : (names : Names) (s t : Watched) (ds : List (List named.Piece)) → IsSized names s → named.AllFit ds → disjuncts_fault names s ds ≡ None → Keeps (disjuncts_after names s ds) t →
     AllFit (scope_for names t) (map (map (piece_in names)) ds)
@@ -221,9 +224,10 @@ disjuncts_fit names s t [] is fits free keeps = tt
 disjuncts_fit names s t (d ∷ ds) is fits free keeps =
     let u = operand_after names s (named.pieces d) in
     let both = none_both (operand_fault names s (named.pieces d)) (disjuncts_fault names u ds) free in
-    let here : IsSized names u = record { paired = is.paired; same = operand_names names s (named.pieces d) ∙ is.same; sized = (operand_keeps names s (named.pieces d) both.0).sized ∙ is.sized } in
-    (parts_fit names s t d is fits.0 both.0 (keeps_then u (disjuncts_after names u ds) t (disjuncts_keep names u ds both.1) keeps),
-    disjuncts_fit names u t ds here fits.1 both.1 keeps)
+    let here : IsSized names u = record { paired = is.paired; same = operand_names names s (named.pieces d) ∙ is.same; sized = (operand_keeps names s (named.pieces d) both.0).sized ∙ is.sized } in (
+      parts_fit names s t d is fits.0 both.0 (keeps_then u (disjuncts_after names u ds) t (disjuncts_keep names u ds both.1) keeps),
+      disjuncts_fit names u t ds here fits.1 both.1 keeps,
+    )
 
 -- ---- watches that no part names
 

@@ -17,11 +17,11 @@ record IsFound (start : ℕ) (names : List Name) (name : Name) (i : ℕ) : Type 
 found_from : (start : ℕ) (names : List Name) (name : Name) (i : ℕ) → place_from start names name ≡ Some i → IsFound start names name i
 found_from start [] name i h = absurd (cc)
 found_from start (n ∷ ns) name i h = elim (cases_Bool (bytes_eq n name)) [
-    inl is ↦ let e : Some start ≡ Some i = (let k = rw is at h in k) in
+  | inl is ↦ let e : Some start ≡ Some i = (let k = rw is at h in k) in
       record { place = 0; behind = (let same : start ≡ i = cc in omega (arith, same)); within = omega arith; there = (bytes_eq-Decides n name).0 is }
   | inr other ↦ let rest = found_from (start + 1) ns name i (rw other at h) in
       record { place = suc rest.place; behind = omega (arith, rest.behind); within = omega (arith, rest.within); there = rest.there }
-  ]
+]
 
 -- the name stands at the place where it was found
 pub found_there : (names : List Name) (name : Name) (i : ℕ) → place_of names name ≡ Some i → get_or names i [] ≡ name

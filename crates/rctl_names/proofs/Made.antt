@@ -39,7 +39,7 @@ over_made scope before after place n vs e made found variables is free put spell
       rw (found) (ap (λ v. local_fault v n (watched_in before) (local_names e)) (sym (ap variables_in variables ∙ sym (get_mapped scope.variables.now n))) ∙ free),
       put ∙ ap (λ k. local_after k (watched_in before) (local_names e)) numbered,
       is ∙ ap (λ k. piece.atom (piece.local (Some k) made)) numbered
-      ∙ ap (λ m. piece.atom (piece.local (Some (number (processes_in scope) place.name)) m)) (spelled ∙ ap (λ v. expr_in v before.names.now e) here),
+          ∙ ap (λ m. piece.atom (piece.local (Some (number (processes_in scope) place.name)) m)) (spelled ∙ ap (λ v. expr_in v before.names.now e) here),
     )
 
 names_with : (scope : Scope) (before after : Watches) → after.names.now ≡ before.names.now → names_in scope after ≡ names_in scope before

@@ -70,7 +70,7 @@ mutual
   exprs_spelled variables watches p k s named.no_expr same free = refl
   exprs_spelled variables watches p k s (named.and_expr e es) same free =
       let both = none_both (local_fault variables k s (local_names e)) (local_fault variables k (local_after k s (local_names e)) (all_local_names es))
-          (sym (fault_joined variables k s (local_names e) (all_local_names es)) ∙ free) in
+      (sym (fault_joined variables k s (local_names e) (all_local_names es)) ∙ free) in
       ap (λ f. model.Cons f (formulas_in variables watches p (exprs_in variables watches es))) (expr_spelled variables watches p k s e same both.0)
       ∙ ap (model.Cons (expr_formula p e)) (exprs_spelled variables watches p k (local_after k s (local_names e)) es (after_names k s (local_names e) ∙ same) both.1)
 

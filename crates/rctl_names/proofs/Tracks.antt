@@ -100,9 +100,9 @@ watch_fault_is : (names : Names) (seen : List Watching) (s : Watched) (p : Name)
     use_fault (known_in names) seen (used.watch p w) ≡ watch_fault s i w
 watch_fault_is names seen s p i w tracks found =
     by_place (place_of names.watches w.name) refl ∙ ap (λ ws. watch_fault_at s i w (place_of ws w.name)) (sym tracks.same) where
-  by_place : (o : Option ℕ) → place_of names.watches w.name ≡ o → use_fault (known_in names) seen (used.watch p w) ≡ watch_fault_at s i w (place_of names.watches w.name)
-  by_place None e = rw e refl
-  by_place (Some k) e = rw (e, tracks.tells p w.name i k found e) refl
+      by_place : (o : Option ℕ) → place_of names.watches w.name ≡ o → use_fault (known_in names) seen (used.watch p w) ≡ watch_fault_at s i w (place_of names.watches w.name)
+      by_place None e = rw e refl
+      by_place (Some k) e = rw (e, tracks.tells p w.name i k found e) refl
 
 same_test : (i j : ℕ) → i ≡ j → not (i == j) ≡ false
 same_test i j e = search (rules, nat_tests)
@@ -141,23 +141,23 @@ watch_tracks names seen s p i w tracks found free =
       same = tracks.same;
       sized = set_length s.on k (Some i) ∙ tracks.sized;
       tells = λ q v j m at_q at_v. elim (cases_Bool (bytes_eq w.name v)) [
-          inl same ↦
+        | inl same ↦
             let e : w.name ≡ v = (bytes_eq-Decides w.name v).0 same in
             let one : k ≡ m = same_place names.watches v k m (ap (place_of names.watches) (sym e) ∙ there) at_v in
             let entry : get_or (set s.on k (Some i)) m None ≡ Some i = ap (λ n. get_or (set s.on k (Some i)) n None) (sym one) ∙ set_there s.on k (Some i) within in
             elim (cases_Bool (bytes_eq p q)) [
-              inl alike ↦
-                let f : p ≡ q = (bytes_eq-Decides p q).0 alike in
-                let g : i ≡ j = same_place names.processes q i j (ap (place_of names.processes) (sym f) ∙ found) at_q in
-                let before : is_elsewhere seen q v ≡ false = tracks.tells q v j m at_q at_v ∙ ap (λ n. is_other (get_or s.on n None) j) (sym one) ∙ ap (is_other (get_or s.on k None)) (sym g) ∙ quiet in
-                rw (same, alike, before, entry) (sym (same_test i j g))
-            | inr unlike ↦ rw (same, unlike, entry)
-                (sym (other_test i j (λ g. false≢true (sym unlike ∙ (bytes_eq-Decides p q).1 (found_once names.processes p q j (found ∙ ap Some g) at_q)))))
+              | inl alike ↦
+                  let f : p ≡ q = (bytes_eq-Decides p q).0 alike in
+                  let g : i ≡ j = same_place names.processes q i j (ap (place_of names.processes) (sym f) ∙ found) at_q in
+                  let before : is_elsewhere seen q v ≡ false = tracks.tells q v j m at_q at_v ∙ ap (λ n. is_other (get_or s.on n None) j) (sym one) ∙ ap (is_other (get_or s.on k None)) (sym g) ∙ quiet in
+                  rw (same, alike, before, entry) (sym (same_test i j g))
+              | inr unlike ↦ rw (same, unlike, entry)
+                  (sym (other_test i j (λ g. false≢true (sym unlike ∙ (bytes_eq-Decides p q).1 (found_once names.processes p q j (found ∙ ap Some g) at_q)))))
             ]
         | inr differ ↦ rw differ (tracks.tells q v j m at_q at_v
             ∙ ap (λ o. is_other o j) (sym (set_others s.on k m (Some i)
-              (λ e. false≢true (sym differ ∙ (bytes_eq-Decides w.name v).1 (found_once names.watches w.name v m (there ∙ ap Some e) at_v))))))
-        ];
+            (λ e. false≢true (sym differ ∙ (bytes_eq-Decides w.name v).1 (found_once names.watches w.name v m (there ∙ ap Some e) at_v))))))
+      ];
     })
 
 -- ---- the names of one process
@@ -172,10 +172,10 @@ local_faults names seen s p i (a_variable v ∷ us) tracks found =
 local_faults names seen s p i (a_watch w ∷ us) tracks found =
     by_fault (watch_fault s i w) refl
     (λ free. local_faults names (seen_with seen (used.watch p w)) (put s i w) p i us (watch_tracks names seen s p i w tracks found free) found) where
-  by_fault : (o : Option FormulaFault) → watch_fault s i w ≡ o → (watch_fault s i w ≡ None → local_fault (variables_of names p) i (put s i w) us ≡ first_unknown (known_in names) (seen_with seen (used.watch p w)) (map (on p) us)) →
-      earlier (watch_fault s i w) (local_fault (variables_of names p) i (put s i w) us) ≡ earlier (use_fault (known_in names) seen (used.watch p w)) (first_unknown (known_in names) (seen_with seen (used.watch p w)) (map (on p) us))
-  by_fault None e next = rw (watch_fault_is names seen s p i w tracks found, e) (next e)
-  by_fault (Some f) e next = rw (watch_fault_is names seen s p i w tracks found, e) refl
+      by_fault : (o : Option FormulaFault) → watch_fault s i w ≡ o → (watch_fault s i w ≡ None → local_fault (variables_of names p) i (put s i w) us ≡ first_unknown (known_in names) (seen_with seen (used.watch p w)) (map (on p) us)) →
+          earlier (watch_fault s i w) (local_fault (variables_of names p) i (put s i w) us) ≡ earlier (use_fault (known_in names) seen (used.watch p w)) (first_unknown (known_in names) (seen_with seen (used.watch p w)) (map (on p) us))
+      by_fault None e next = rw (watch_fault_is names seen s p i w tracks found, e) (next e)
+      by_fault (Some f) e next = rw (watch_fault_is names seen s p i w tracks found, e) refl
 
 local_tracks : (names : Names) (seen : List Watching) (s : Watched) (p : Name) (i : ℕ) (us : List LocalName) → Tracks names seen s → place_of names.processes p ≡ Some i →
     local_fault (variables_of names p) i s us ≡ None → Tracks names (seen_after seen (map (on p) us)) (local_after i s us)
@@ -219,13 +219,14 @@ over_follows names seen s p e tracks = by_place (place_of names.processes p.name
   by_place None found = (rw found refl, λ free. absurd (let bad = rw found at free in cc))
   by_place (Some i) found =
       let numbered : place_of names.processes p.name ≡ Some (number names.processes p.name) = found ∙ ap Some (sym (found_number names.processes p.name i found)) in
-      let faults = local_faults names seen s p.name (number names.processes p.name) (local_names e) tracks numbered in
-      (ap (λ f. earlier f (local_fault (variables_of names p.name) (number names.processes p.name) s (local_names e))) (sym (unless_is code.UnknownProcess p (place_of names.processes p.name)))
-      ∙ ap (earlier (use_fault (known_in names) seen (used.process p))) (faults ∙ ap (first_unknown (known_in names) seen) (sym (uses_on p.name e))),
-      λ free.
-        let both = none_both (process_fault names.processes p) (local_fault (variables_of names p.name) (number names.processes p.name) s (local_names e)) free in
-        let P : List Use → Type 0 = λ us. Tracks names (seen_after seen us) (local_after (number names.processes p.name) s (local_names e)) in
-        subst P (sym (uses_on p.name e)) (local_tracks names seen s p.name (number names.processes p.name) (local_names e) tracks numbered both.1))
+      let faults = local_faults names seen s p.name (number names.processes p.name) (local_names e) tracks numbered in (
+        ap (λ f. earlier f (local_fault (variables_of names p.name) (number names.processes p.name) s (local_names e))) (sym (unless_is code.UnknownProcess p (place_of names.processes p.name)))
+            ∙ ap (earlier (use_fault (known_in names) seen (used.process p))) (faults ∙ ap (first_unknown (known_in names) seen) (sym (uses_on p.name e))),
+        λ free.
+            let both = none_both (process_fault names.processes p) (local_fault (variables_of names p.name) (number names.processes p.name) s (local_names e)) free in
+            let P : List Use → Type 0 = λ us. Tracks names (seen_after seen us) (local_after (number names.processes p.name) s (local_names e)) in
+            subst P (sym (uses_on p.name e)) (local_tracks names seen s p.name (number names.processes p.name) (local_names e) tracks numbered both.1),
+      )
 
 earlier_none : (o : Option FormulaFault) → earlier o None ≡ o
 earlier_none None = refl
@@ -234,17 +235,19 @@ earlier_none (Some f) = refl
 channel_follows : (names : Names) (seen : List Watching) (s : Watched) (p q : Place) → Tracks names seen s →
     Follows names seen s (earlier (process_fault names.processes p) (process_fault names.processes q)) s (used.process p ∷ used.process q ∷ [])
 unfolding first_unknown seen_after
-channel_follows names seen s p q tracks =
-    (ap (λ f. earlier f (process_fault names.processes q)) (sym (unless_is code.UnknownProcess p (place_of names.processes p.name)))
-    ∙ ap (earlier (use_fault (known_in names) seen (used.process p))) (sym (earlier_none (use_fault (known_in names) seen (used.process q)) ∙ unless_is code.UnknownProcess q (place_of names.processes q.name))),
-    λ free. tracks)
+channel_follows names seen s p q tracks = (
+  ap (λ f. earlier f (process_fault names.processes q)) (sym (unless_is code.UnknownProcess p (place_of names.processes p.name)))
+      ∙ ap (earlier (use_fault (known_in names) seen (used.process p))) (sym (earlier_none (use_fault (known_in names) seen (used.process q)) ∙ unless_is code.UnknownProcess q (place_of names.processes q.name))),
+  λ free. tracks,
+)
 
 then_follows : (names : Names) (seen : List Watching) (s t u : Watched) (fault rest : Option FormulaFault) (us vs : List Use) → Follows names seen s fault t us →
     ((fault ≡ None) → Follows names (seen_after seen us) t rest u vs) → Follows names seen s (earlier fault rest) u (us ++ vs)
 then_follows names seen s t u None rest us vs first next =
-    let more = next refl in
-    (more.0 ∙ sym (unknown_joined (known_in names) seen us vs ∙ rw (← first.0) refl),
-    λ free. let P : List Watching → Type 0 = λ w. Tracks names w u in subst P (sym (seen_joined seen us vs)) (more.1 free))
+    let more = next refl in (
+      more.0 ∙ sym (unknown_joined (known_in names) seen us vs ∙ rw (← first.0) refl),
+      λ free. let P : List Watching → Type 0 = λ w. Tracks names w u in subst P (sym (seen_joined seen us vs)) (more.1 free),
+    )
 then_follows names seen s t u (Some f) rest us vs first next =
     (sym (unknown_joined (known_in names) seen us vs ∙ rw (← first.0) refl), λ free. absurd (cc))
 

@@ -71,7 +71,7 @@ whole_resolved header watches ds resolved t can are on h =
     let sized : IsSized names start = record { paired = length-map header.vars variables_in ∙ can.fits.vars; same = refl; sized = length_replicated (length watches) } in
     let keeps = disjuncts_keep names start ds h.0 in
     let scope : scope_for names final ≡ scope_of header resolved.watch_process =
-        ap (λ v. record { variables = v; watch_process = final.on }) (lengths_in header.vars) ∙ ap (λ o. record { variables = map (λ (bs : List Binding). length bs) header.vars; watch_process = o }) (sym end) in
+    ap (λ v. record { variables = v; watch_process = final.on }) (lengths_in header.vars) ∙ ap (λ o. record { variables = map (λ (bs : List Binding). length bs) header.vars; watch_process = o }) (sym end) in
     let P : made.Scope → Type 0 = λ s. AllFit s (map (map (piece_in names)) ds) in
     let here : AreMadeFor (scope_of header resolved.watch_process) (map (map (piece_in names)) ds) = record {
       fit = subst P scope (disjuncts_fit names start final ds sized are.fit h.0 (keeps_itself final));

@@ -19,7 +19,7 @@ use std::alloc::Global;
 fn resolve_side(on: &Process, side: &NamedSide) -> Result<LocalSide, Stop>
     ensures { MatchResult result
         (λ made. (side_fault (variables_on on.now) side.now ≡ None)
-            × (made ≡ side_in (variables_on on.now) side.now))
+        × (made ≡ side_in (variables_on on.now) side.now))
         (λ stop. Faults stop (λ f. side_fault (variables_on on.now) side.now ≡ Some f)) }
 {
     match side {
@@ -40,9 +40,9 @@ fn resolve_exprs(
 ) -> Result<List<LocalExpr>, Stop>
     ensures { MatchResult result
         (λ made. AreExprsIn on.now watches.old watches.new
-            (named_list (map named_of members.now)) (exprs (map expr_of made)))
+        (named_list (map named_of members.now)) (exprs (map expr_of made)))
         (λ stop. Faults stop (λ f. fault_on on.now watches.old
-            (all_local_names (named_list (map named_of members.now))) ≡ Some f)) }
+        (all_local_names (named_list (map named_of members.now))) ≡ Some f)) }
 {
     let mut made = List::new(alloc);
     'members: for member in members {
@@ -64,7 +64,7 @@ pub fn resolve_expr(
     ensures { MatchResult result
         (λ made. IsExprIn on.now watches.old watches.new (named_of expr.now) (expr_of made))
         (λ stop. Faults stop
-            (λ f. fault_on on.now watches.old (local_names (named_of expr.now)) ≡ Some f)) }
+        (λ f. fault_on on.now watches.old (local_names (named_of expr.now)) ≡ Some f)) }
 {
     match expr {
         NamedExpr::Truth(value) => Ok(LocalExpr::Truth(*value)),

@@ -23,7 +23,7 @@ pub fn resolved_parts_mean_the_formula()
         → IsResolved header watches ds resolved
         → (r : Run) → IsOrder r.clocks → (c : Cut) → IsConsistent r.clocks c
         → Sat r (disjunction_of (names_of header watches) (disjuncts_of resolved.disjuncts)) c
-            ↔ Sat r (formula_of n) c }
+        ↔ Sat r (formula_of n) c }
 {}
 
 /// The names of the disjuncts of a formula have the first fault that the names of its text have,

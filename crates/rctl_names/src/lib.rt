@@ -2,12 +2,12 @@
 //! variables in a header, and of watches among those that were handed in.
 //!
 //! `resolve` gives parts that spell the very formulas of the parts by names and that are made for
-//! the header and the watches (`IsResolved`), or exactly the first name, from left to right, that is
-//! unknown or is a watch on a second process. Laws: the formula that the parts spell is true where
-//! the formula that was read is (`resolved_parts_mean_the_formula`), and the names of the parts have
-//! the first fault of the names of the text (`faults_are_in_the_order_of_the_text`). *Not said*:
-//! that memory suffices. Processes, variables and watches are few by the condition, so that numbers
-//! fit in 32 bits.
+//! the header and the watches (`IsResolved`), or exactly the first name, from left to right, that
+//! is unknown or is a watch on a second process. Laws: the formula that the parts spell is true
+//! where the formula that was read is (`resolved_parts_mean_the_formula`), and the names of the
+//! parts have the first fault of the names of the text (`faults_are_in_the_order_of_the_text`).
+//! *Not said*: that memory suffices. Processes, variables and watches are few by the condition, so
+//! that numbers fit in 32 bits.
 #![tactic(auto)]
 
 ghost use Rattle.rctl_class.specs.NamedParts.{AreDisjuncts, disjuncts_of, disjuncts_uses};
@@ -26,9 +26,8 @@ mod process;
 mod scope;
 mod watches;
 
-pub use laws::{faults_are_in_the_order_of_the_text, resolved_parts_mean_the_formula};
-
 use event_log::Header;
+pub use laws::{faults_are_in_the_order_of_the_text, resolved_parts_mean_the_formula};
 use parts::resolve_disjuncts;
 use pota_base::{List, Refused};
 use pota_names::Name;
@@ -53,9 +52,9 @@ pub fn resolve(
     requires header { CanResolve header.now watches.now }
     ensures { MatchResult result
         (λ resolved. IsResolved header.now watches.now (disjuncts_of classed.now.disjuncts)
-            resolved)
+        resolved)
         (λ stop. Faults stop (λ f. first_unknown (known_in (names_of header.now watches.now)) []
-            (disjuncts_uses (disjuncts_of classed.now.disjuncts)) ≡ Some f)) }
+        (disjuncts_uses (disjuncts_of classed.now.disjuncts)) ≡ Some f)) }
 {
     let scope = Scope {
         processes: header.procs.as_slice(),

@@ -18,10 +18,10 @@ fn number_of<T: Named>(items: &[T], place: &Place, code: FormulaCode) -> Result<
     requires { length items.now ≤ 32 }
     ensures { MatchResult result
         (λ n. (place_of (map T.name items.now) place.now.name ≡ Some n)
-            × (n < length items.now))
+        × (n < length items.now))
         (λ stop. Faults stop
-            (λ f. unless_known code place.now (place_of (map T.name items.now) place.now.name)
-                ≡ Some f)) }
+        (λ f. unless_known code place.now (place_of (map T.name items.now) place.now.name)
+        ≡ Some f)) }
 {
     match place_of(items, place.name.as_bytes()) {
         Some(number) => Ok(number as u32),
@@ -33,7 +33,7 @@ fn number_of<T: Named>(items: &[T], place: &Place, code: FormulaCode) -> Result<
 pub fn process_number(scope: &Scope, place: &Place) -> Result<u32, Stop>
     ensures { MatchResult result
         (λ n. (place_of (processes_in scope.now) place.now.name ≡ Some n)
-            × (n < length scope.now.processes.now))
+        × (n < length scope.now.processes.now))
         (λ stop. Faults stop (λ f. process_fault (processes_in scope.now) place.now ≡ Some f)) }
 {
     number_of(scope.processes, place, FormulaCode::UnknownProcess)
@@ -45,7 +45,7 @@ pub fn variable_number(variables: &[Binding], place: &Place) -> Result<u32, Stop
     ensures { MatchResult result
         (λ n. place_of (variables_in variables.now) place.now.name ≡ Some n)
         (λ stop. Faults stop (λ f. variable_fault (variables_in variables.now) place.now
-            ≡ Some f)) }
+        ≡ Some f)) }
 {
     let number = number_of(variables, place, FormulaCode::UnknownVariable)?;
     Ok(number)
@@ -56,10 +56,10 @@ pub fn variable_number(variables: &[Binding], place: &Place) -> Result<u32, Stop
 pub fn watch_number(watches: &mut Watches, place: &Place, process: u32) -> Result<u32, Stop>
     ensures { MatchResult result
         (λ n. (place_of watches.old.names.now place.now.name ≡ Some n)
-            × (watch_fault (watched_in watches.old) process place.now ≡ None)
-            × (watched_in watches.new ≡ put (watched_in watches.old) process place.now))
+        × (watch_fault (watched_in watches.old) process place.now ≡ None)
+        × (watched_in watches.new ≡ put (watched_in watches.old) process place.now))
         (λ stop. Faults stop
-            (λ f. watch_fault (watched_in watches.old) process place.now ≡ Some f)) }
+        (λ f. watch_fault (watched_in watches.old) process place.now ≡ Some f)) }
 {
     let number = number_of(watches.names, place, FormulaCode::UnknownWatch)?;
     match watches.on.get(number as usize) {

@@ -32,10 +32,10 @@ fn resolve_over(
 ) -> Result<Part, Stop>
     ensures { MatchResult result
         (λ made. IsPieceIn scope.now watches.old watches.new
-            (local (Some place.now) (named_expr expr.now)) (piece_of made))
+        (local (Some place.now) (named_expr expr.now)) (piece_of made))
         (λ stop. Faults stop
-            (λ f. part_fault (names_in scope.now watches.old) (watched_in watches.old)
-                (local (Some place.now) (named_expr expr.now)) ≡ Some f)) }
+        (λ f. part_fault (names_in scope.now watches.old) (watched_in watches.old)
+        (local (Some place.now) (named_expr expr.now)) ≡ Some f)) }
 {
     let number = process_number(scope, place)?;
     let variables = scope.variables[number as usize].as_slice();
@@ -56,10 +56,10 @@ fn resolve_constant(
 ) -> Result<Part, Stop>
     ensures { MatchResult result
         (λ made. IsPieceIn scope.now watches.old watches.new
-            (local None (named_expr expr.now)) (piece_of made))
+        (local None (named_expr expr.now)) (piece_of made))
         (λ stop. Faults stop
-            (λ f. part_fault (names_in scope.now watches.old) (watched_in watches.old)
-                (local None (named_expr expr.now)) ≡ Some f)) }
+        (λ f. part_fault (names_in scope.now watches.old) (watched_in watches.old)
+        (local None (named_expr expr.now)) ≡ Some f)) }
 {
     let on = Process {
         number: 0,
@@ -81,10 +81,10 @@ fn resolve_parts(
 ) -> Result<List<Part>, Stop>
     ensures { MatchResult result
         (λ made. ArePiecesIn scope.now watches.old watches.new
-            (named_operand (named_list parts.now)) (pieces (pieces_of made)))
+        (named_operand (named_list parts.now)) (pieces (pieces_of made)))
         (λ stop. Faults stop
-            (λ f. operand_fault (names_in scope.now watches.old) (watched_in watches.old)
-                (named_operand (named_list parts.now)) ≡ Some f)) }
+        (λ f. operand_fault (names_in scope.now watches.old) (watched_in watches.old)
+        (named_operand (named_list parts.now)) ≡ Some f)) }
 {
     let mut made = List::new(alloc);
     'parts: for part in parts {
@@ -106,8 +106,8 @@ fn resolve_part(
     ensures { MatchResult result
         (λ made. IsPieceIn scope.now watches.old watches.new (named_of part.now) (piece_of made))
         (λ stop. Faults stop
-            (λ f. part_fault (names_in scope.now watches.old) (watched_in watches.old)
-                (named_of part.now) ≡ Some f)) }
+        (λ f. part_fault (names_in scope.now watches.old) (watched_in watches.old)
+        (named_of part.now) ≡ Some f)) }
 {
     match part {
         NamedPart::Local { process, expr } => match process {
@@ -156,10 +156,10 @@ pub fn resolve_disjuncts(
 ) -> Result<List<List<Part>>, Stop>
     ensures { MatchResult result
         (λ made. AreDisjunctsIn scope.now watches.old watches.new
-            (named_disjuncts disjuncts.now) (disjuncts_of made))
+        (named_disjuncts disjuncts.now) (disjuncts_of made))
         (λ stop. Faults stop
-            (λ f. disjuncts_fault (names_in scope.now watches.old) (watched_in watches.old)
-                (named_disjuncts disjuncts.now) ≡ Some f)) }
+        (λ f. disjuncts_fault (names_in scope.now watches.old) (watched_in watches.old)
+        (named_disjuncts disjuncts.now) ≡ Some f)) }
 {
     let mut made = List::new(alloc);
     'disjuncts: for disjunct in disjuncts {

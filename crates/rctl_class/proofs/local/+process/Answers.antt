@@ -21,11 +21,11 @@ pub first_process-returns-in-Some : goal.first_process-returns-in-Some
 first_process-returns-in-Some t c = sym (
     ap (λ t. first_place (uses_of (node_of t))) c.in-Until.is ∙ ap (λ n. first_place (uses_of n)) (node-Until _ _ _ _)
     ∙ first_found (uses_of (node_of c.in-Until.left)) (uses_of (node_of c.in-Until.right))
-      (ap (λ t. first_place (uses_of (node_of t))) (sym (c.get-in-Until).ensures) ∙ sym (c.first_process-in-Until).ensures ∙ ap place_seen c.in-Some.is))
+    (ap (λ t. first_place (uses_of (node_of t))) (sym (c.get-in-Until).ensures) ∙ sym (c.first_process-in-Until).ensures ∙ ap place_seen c.in-Some.is))
 
 pub first_process-returns-in-None : goal.first_process-returns-in-None
 first_process-returns-in-None t c =
     (c.first_process-in-None).ensures ∙ ap (λ t. first_place (uses_of (node_of t))) (c.get-in-None).ensures ∙ sym (
     ap (λ t. first_place (uses_of (node_of t))) c.in-Until.is ∙ ap (λ n. first_place (uses_of n)) (node-Until _ _ _ _)
     ∙ first_later (uses_of (node_of c.in-Until.left)) (uses_of (node_of c.in-Until.right))
-      (ap (λ t. first_place (uses_of (node_of t))) (sym (c.get-in-Until).ensures) ∙ sym (c.first_process-in-Until).ensures ∙ ap place_seen c.in-None.is))
+    (ap (λ t. first_place (uses_of (node_of t))) (sym (c.get-in-Until).ensures) ∙ sym (c.first_process-in-Until).ensures ∙ ap place_seen c.in-None.is))

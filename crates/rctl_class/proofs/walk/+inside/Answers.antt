@@ -14,10 +14,11 @@ use Rattle.rctl_class.proofs.walk.+inside.Goals as goal
 pub conjunction-returns-in-Some : goal.conjunction-returns-in-Some
 conjunction-returns-in-Some t c =
     let n = node_of c.args.tree.now in
-    let here = present (is_local (formula_of n)) (local_part c.args.sign n) (piece_of c.in-Some.part) (sym (ap part_seen c.in-Some.is) ∙ c.in_ok-part.ensures) in
-    (local_free true c.args.sign n here.0,
-    ap pieces_of c.in_ok-push.ensures.ok ∙ map-append piece_of c.args.parts.now (c.in-Some.part ∷ [])
-    ∙ ap (λ p. pieces_of c.args.parts.now ++ p ∷ []) here.1 ∙ ap (λ ps. pieces_of c.args.parts.now ++ ps) (sym (local_parts c.args.sign n here.0)))
+    let here = present (is_local (formula_of n)) (local_part c.args.sign n) (piece_of c.in-Some.part) (sym (ap part_seen c.in-Some.is) ∙ c.in_ok-part.ensures) in (
+      local_free true c.args.sign n here.0,
+      ap pieces_of c.in_ok-push.ensures.ok ∙ map-append piece_of c.args.parts.now (c.in-Some.part ∷ [])
+          ∙ ap (λ p. pieces_of c.args.parts.now ++ p ∷ []) here.1 ∙ ap (λ ps. pieces_of c.args.parts.now ++ ps) (sym (local_parts c.args.sign n here.0)),
+    )
 
 pub conjunction-returns-in_ok-push-in-Temporal : goal.conjunction-returns-in_ok-push-in-Temporal
 conjunction-returns-in_ok-push-in-Temporal t c =
@@ -31,6 +32,7 @@ conjunctions-returns-in_err-conjunction t c = passes_on _ _ _ c.in_err-conjuncti
     (λ f bad. fault_found true c.args.sign c.args.members.now c.members.member-index c.member-item.result f c.members-test.true c.member-item.is c.members.invariant.0 bad)
 
 pub conjunctions-members-preserved : goal.conjunctions-members-preserved
-conjunctions-members-preserved t c =
-    (free_more true c.args.sign c.args.members.now c.members.member-index c.member-item.result c.members-test.true c.member-item.is c.members.invariant.0 c.in_ok-conjunction.ensures.0,
-    parts_more c.args.sign c.args.members.now c.members.member-index c.member-item.result _ c.members-test.true c.member-item.is c.members.invariant.1 c.in_ok-conjunction.ensures.1)
+conjunctions-members-preserved t c = (
+  free_more true c.args.sign c.args.members.now c.members.member-index c.member-item.result c.members-test.true c.member-item.is c.members.invariant.0 c.in_ok-conjunction.ensures.0,
+  parts_more c.args.sign c.args.members.now c.members.member-index c.member-item.result _ c.members-test.true c.member-item.is c.members.invariant.1 c.in_ok-conjunction.ensures.1,
+)

@@ -17,7 +17,7 @@ resolve_exprs-returns-in_err-resolve_expr t c =
     passes_on _ _ _ c.in_err-resolve_expr.field-0.0 _ _ c.from_residual.ensures.1 (λ y same. same) c.in_err-resolve_expr.ensures
     (λ f bad. ap (λ es. fault_on c.args.on.now c.args.watches.now (all_local_names (named_list es))) (taken_split named_of all i c.member-item.result c.members-test.true c.member-item.is)
     ∙ expr_fails (variables_on c.args.on.now) c.args.on.now.number (watched_in c.args.watches.now) (watched_in c.members.watches) (map named_of (take i all)) (map named_of (drop (i + 1) all))
-      (named_of c.member-item.result) f c.members.invariant.0.0 c.members.invariant.0.1 bad)
+    (named_of c.member-item.result) f c.members.invariant.0.0 c.members.invariant.0.1 bad)
 
 pub resolve_exprs-members-preserved : goal.resolve_exprs-members-preserved
 resolve_exprs-members-preserved t c =
@@ -31,11 +31,12 @@ resolve_exprs-members-preserved t c =
     let so_far = c.members.invariant in
     let here = c.in_ok-resolve_expr.ensures in
     let P : List named.Expr → Type 0 = λ es. AreExprsIn on before c.resolve_expr.new.watches (named_list es) (exprs (map expr_of c.push.new.self)) in
-    subst P (sym (taken_more named_of all i m c.members-test.true c.member-item.is)) ((
-      expr_passes (variables_on on) on.number (watched_in before) (watched_in now) xs (named_of m) so_far.0.0 so_far.0.1 here.0.0,
-      expr_after on.number (watched_in before) (watched_in now) (watched_in c.resolve_expr.new.watches) xs (named_of m) so_far.0.1 here.0.1,
-    ),
+    subst P (sym (taken_more named_of all i m c.members-test.true c.member-item.is)) (
+      (
+        expr_passes (variables_on on) on.number (watched_in before) (watched_in now) xs (named_of m) so_far.0.0 so_far.0.1 here.0.0,
+        expr_after on.number (watched_in before) (watched_in now) (watched_in c.resolve_expr.new.watches) xs (named_of m) so_far.0.1 here.0.1,
+      ),
       ap (λ es. exprs (map expr_of es)) c.in_ok-push.ensures.ok ∙ ap exprs (map-append expr_of c.members.made (c.in_ok-resolve_expr.field-0 ∷ []))
-      ∙ exprs_more (variables_on on) before.names.now now.names.now xs (named_of m) (map expr_of c.members.made) (expr_of c.in_ok-resolve_expr.field-0)
-        (ap (λ (w : Watched). w.names) so_far.0.1 ∙ after_names on.number (watched_in before) (all_local_names (named_list xs))) so_far.1 here.1,
+          ∙ exprs_more (variables_on on) before.names.now now.names.now xs (named_of m) (map expr_of c.members.made) (expr_of c.in_ok-resolve_expr.field-0)
+          (ap (λ (w : Watched). w.names) so_far.0.1 ∙ after_names on.number (watched_in before) (all_local_names (named_list xs))) so_far.1 here.1,
     )

@@ -21,7 +21,7 @@ resolve_parts-returns-in_err-resolve_part t c =
     passes_on _ _ _ c.in_err-resolve_part.field-0.0 _ _ c.from_residual.ensures.1 (λ y same. same) c.in_err-resolve_part.ensures
     (λ f bad. ap (λ ps. operand_fault names (watched_in c.args.watches.now) (named_operand ps)) (taken_split named_of all i c.part-item.result c.parts-test.true c.part-item.is)
     ∙ piece_fails names (watched_in c.args.watches.now) (watched_in c.parts.watches) (named_list (take i all)) (named_list (drop (i + 1) all)) (named_of c.part-item.result) f so_far.0 so_far.1
-      (ap (λ n. part_fault n (watched_in c.parts.watches) (named_of c.part-item.result)) (sym same) ∙ bad))
+    (ap (λ n. part_fault n (watched_in c.parts.watches) (named_of c.part-item.result)) (sym same) ∙ bad))
 
 pub resolve_parts-parts-preserved : goal.resolve_parts-parts-preserved
 resolve_parts-parts-preserved t c =
@@ -41,5 +41,5 @@ resolve_parts-parts-preserved t c =
       piece_passes names (watched_in before) (watched_in now) xs (named_of m) so_far.0 so_far.1 (ap (λ n. part_fault n (watched_in now) (named_of m)) (sym same) ∙ here.0),
       piece_after names (watched_in before) (watched_in now) (watched_in c.resolve_part.new.watches) xs (named_of m) so_far.1 (here.1 ∙ ap (λ n. part_after n (watched_in now) (named_of m)) same),
       ap (λ ps. pieces (pieces_of ps)) c.in_ok-push.ensures.ok ∙ ap pieces (map-append piece_of c.parts.made (c.in_ok-resolve_part.field-0 ∷ []))
-      ∙ pieces_more names (names_in scope now) xs (named_of m) (pieces_of c.parts.made) (piece_of c.in_ok-resolve_part.field-0) same so_far.2 here.2,
+          ∙ pieces_more names (names_in scope now) xs (named_of m) (pieces_of c.parts.made) (piece_of c.in_ok-resolve_part.field-0) same so_far.2 here.2,
     )

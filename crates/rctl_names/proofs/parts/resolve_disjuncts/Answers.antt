@@ -22,8 +22,8 @@ returns-in_err-resolve_parts c =
     passes_on _ _ _ c.in_err-resolve_parts.field-0.0 _ _ c.from_residual.ensures.1 (λ y same. same) c.in_err-resolve_parts.ensures
     (λ f bad. ap (disjuncts_fault names (watched_in c.args.watches.now)) (taken_split named_list all i d c.disjuncts-test.true c.disjunct-item.is)
     ∙ disjunct_fails names (watched_in c.args.watches.now) (watched_in c.disjuncts.watches) (named_disjuncts (take i all)) (named_disjuncts (drop (i + 1) all)) (named_list d) f so_far.0 so_far.1
-      (ap (λ n. operand_fault n (watched_in c.disjuncts.watches) (named_operand (named_list d))) (sym same)
-      ∙ ap (λ l. operand_fault (names_in c.args.scope.now c.disjuncts.watches) (watched_in c.disjuncts.watches) (named_operand (named_list l))) (sym c.as_slice.ensures) ∙ bad))
+    (ap (λ n. operand_fault n (watched_in c.disjuncts.watches) (named_operand (named_list d))) (sym same)
+    ∙ ap (λ l. operand_fault (names_in c.args.scope.now c.disjuncts.watches) (watched_in c.disjuncts.watches) (named_operand (named_list l))) (sym c.as_slice.ensures) ∙ bad))
 
 pub disjuncts-preserved : goal.disjuncts-preserved
 disjuncts-preserved c =
@@ -42,11 +42,11 @@ disjuncts-preserved c =
     let lent = ap (λ l. named_operand (named_list l)) c.as_slice.ensures in
     subst P (sym (taken_more named_list all i d c.disjuncts-test.true c.disjunct-item.is)) (
       disjunct_passes names (watched_in before) (watched_in now) xs (named_list d) so_far.0 so_far.1
-      (ap (λ n. operand_fault n (watched_in now) (named_operand (named_list d))) (sym same) ∙ ap (operand_fault (names_in scope now) (watched_in now)) (sym lent) ∙ here.0),
+          (ap (λ n. operand_fault n (watched_in now) (named_operand (named_list d))) (sym same) ∙ ap (operand_fault (names_in scope now) (watched_in now)) (sym lent) ∙ here.0),
       disjunct_after names (watched_in before) (watched_in now) (watched_in c.resolve_parts.new.watches) xs (named_list d) so_far.1
-      (here.1 ∙ ap (λ n. operand_after n (watched_in now) (named_operand (named_list c.as_slice.result.now))) same ∙ ap (operand_after names (watched_in now)) lent),
+          (here.1 ∙ ap (λ n. operand_after n (watched_in now) (named_operand (named_list c.as_slice.result.now))) same ∙ ap (operand_after names (watched_in now)) lent),
       ap disjuncts_of c.in_ok-push.ensures.ok ∙ map-append pieces_of c.disjuncts.made (c.in_ok-resolve_parts.field-0 ∷ [])
-      ∙ ap (λ ds. ds ++ pieces_of c.in_ok-resolve_parts.field-0 ∷ []) so_far.2
-      ∙ ap (λ p. map (map (piece_in names)) xs ++ p ∷ []) (listed_in (names_in scope now) names (named_list d) _ same (here.2 ∙ ap (pieces_in (names_in scope now)) lent))
-      ∙ sym (map-append (map (piece_in names)) xs (named_list d ∷ [])),
+          ∙ ap (λ ds. ds ++ pieces_of c.in_ok-resolve_parts.field-0 ∷ []) so_far.2
+          ∙ ap (λ p. map (map (piece_in names)) xs ++ p ∷ []) (listed_in (names_in scope now) names (named_list d) _ same (here.2 ∙ ap (pieces_in (names_in scope now)) lent))
+          ∙ sym (map-append (map (piece_in names)) xs (named_list d ∷ [])),
     )
