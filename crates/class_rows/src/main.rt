@@ -1,8 +1,9 @@
-//! Classifies the formulas of `data/class.rows`, and prints how many of them came out as they must, and each one that did not.
+//! Classifies the formulas of `data/class.rows`, and prints how many of them came out as they must,
+//! and each one that did not.
 //!
-//! A line that begins with `#` or is empty says nothing. Each other line is an answer, ` | ` and the text of a formula. The answer
-//! is `fault CODE PLACE`, with the place counted from 0, or `disjuncts N ..` with the number of parts of each disjunct, inner ones
-//! not counted.
+//! A line that begins with `#` or is empty says nothing. Each other line is an answer, ` | ` and
+//! the text of a formula. The answer is `fault CODE PLACE`, with the place counted from 0, or
+//! `disjuncts N ..` with the number of parts of each disjunct, inner ones not counted.
 #![tactic(auto)]
 
 mod classing;
