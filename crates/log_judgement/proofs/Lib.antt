@@ -1,0 +1,6 @@
+pub mod Items
+pub mod Dues
+pub mod Readings
+pub mod Logs
+pub mod Orders
+pub mod Texts

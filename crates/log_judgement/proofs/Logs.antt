@@ -1,0 +1,268 @@
+-- What is due of the text of a log.
+use Rattle.std.proofs.Common.{◌≡◌, ℕ, ◌<◌, ◌≤◌, true, Option, Some, None, List, [], ◌∷◌, ◌++◌, length, refl, sym, ap, subst, ◌∙◌, arith, append_assoc, append-nil, length-append}
+use Rattle.std.specs.List.{AllByRecursion}
+use Rattle.std.proofs.lemmas.Option.{none-some}
+use Rattle.log_lines.specs.Reading.{choose}
+use Rattle.rctl_grammar.specs.declared.fault.FormulaFault.{FormulaFault}
+use Rattle.event_log.specs.declared.item.LogFault.{LogFault}
+use Rattle.event_log.specs.declared.item.Item.{Item}
+use Rattle.event_log.specs.declared.log.Header.{Header}
+use Rattle.event_log.specs.declared.log.Event.{Event}
+use Rattle.event_log.specs.declared.log.Log.{Log}
+use Rattle.event_log.specs.Laws.{IsLog, IsWellFormed}
+use Rattle.event_log.specs.LogText.{onto, lines_of, log_text, header_lines, batch_lines, closing_line, event_lines, text_of, event_items, closing_item, batch_items, log_items}
+use Rattle.event_log.specs.Faults.{end_fault, items_in}
+use Rattle.event_log.specs.States.{with_batch, with_batches}
+use Rattle.event_log.proofs.Appends.{text_of-append}
+use Rattle.event_log.proofs.Lists.{all_onto}
+use Rattle.event_log.proofs.Texts.{lines-text}
+use Rattle.event_log.proofs.Plain.{log_plain}
+use Rattle.event_log.proofs.Narrow.{IsNarrow, log_narrow}
+use Rattle.event_log.proofs.WellFormed.{fault_free_log, log_fault_free}
+use Rattle.vector_clock.specs.Events.{no_events}
+use Rattle.vector_clock.specs.Faults.{batch_fault, batches_fault, log_fault}
+use Rattle.log_judgement.specs.declared.refusal.Refusal.{Refusal}
+use Rattle.log_judgement.specs.declared.refusal.Refusal.TheVariants as refusal
+use Rattle.log_judgement.specs.Judgement.{Prefix, followed_by, Rules, with_names, Judgement, waiting, growing, finished, refused, opened, closing, judged}
+use Rattle.log_judgement.specs.Due.{log_reading, after_each, prefixes, counted, fault_in, Due, told, due}
+use Rattle.log_judgement.specs.WholeLogs.{IsLogFor, IsDueOfLog}
+use Rattle.log_judgement.proofs.Items.{prefix_at, refused-stays, after_each-push}
+use Rattle.log_judgement.proofs.Dues.{text_free}
+
+-- ---- the items of batches
+
+judged-events : (rules : Rules) (log : Prefix) (since es : List Event) (rest : List Item)
+    → judged rules (growing log since) (event_items es ++ rest)
+    ≡ judged rules (growing log (since ++ es)) rest
+unfolding judged
+judged-events rules log since [] rest =
+    ap (λ (xs : List Event). judged rules (growing log xs) rest) (sym (append-nil since))
+judged-events rules log since (e ∷ es) rest =
+    judged-events rules log (since ++ e ∷ []) es rest
+    ∙ ap (λ (xs : List Event). judged rules (growing log xs) rest) (append_assoc since (e ∷ []) es)
+
+-- what the end of a batch leads to, where it has no fault
+abbrev next_of : Prefix → List Event → List (List Event) → Judgement
+next_of log b [] = finished log b
+next_of log b (c ∷ bs) = growing (followed_by log b) []
+
+closes : (rules : Rules) (log : Prefix) (b : List Event) (bs : List (List Event)) (rest : List Item)
+    → judged rules (growing log b) (closing_item bs ∷ rest)
+    ≡ judged rules (closing rules log b (next_of log b bs)) rest
+unfolding judged
+closes rules log b [] rest = refl
+closes rules log b (c ∷ bs) rest = refl
+
+judged-batch : (rules : Rules) (log : Prefix) (b : List Event) (bs : List (List Event))
+    → judged rules (growing log []) (batch_items (b ∷ bs))
+    ≡ judged rules (closing rules log b (next_of log b bs)) (batch_items bs)
+judged-batch rules log b bs =
+    judged-events rules log [] b (closing_item bs ∷ batch_items bs)
+    ∙ closes rules log b bs (batch_items bs)
+
+judged-none : (rules : Rules) (j : Judgement) → judged rules j [] ≡ j
+unfolding judged
+judged-none rules j = refl
+
+with_batches-push : (ess batches : List (List Event)) (b : List Event)
+    → with_batches ess (batches ++ b ∷ []) ≡ with_batch (with_batches ess batches) b
+with_batches-push ess [] b = refl
+with_batches-push ess (x ∷ batches) b = with_batches-push (with_batch ess x) batches b
+
+chosen_none : (o other : Option LogFault) → choose o (λ f. Some f) other ≡ None
+    → (o ≡ None) × (other ≡ None)
+chosen_none None other h = (refl, h)
+chosen_none (Some f) other h = absurd (none-some f (sym h))
+
+-- ---- batches without a fault are all closed
+
+-- the last batch was closed behind the others
+record Closed (h : Header) (batches : List (List Event)) (j : Judgement) : Type 0 where
+  before : List (List Event)
+  last : List Event
+  is : j ≡ finished (prefix_at h before) last
+  all : before ++ last ∷ [] ≡ batches
+
+module _ (names : Header → Option FormulaFault) (h : Header) where
+
+  one_closed : (done : List (List Event)) (b : List Event) (bs : List (List Event)) (next : Judgement)
+      → batch_fault (with_batches (no_events (length h.procs)) done) b ≡ None
+      → closing (with_names names) (prefix_at h done) b next ≡ next
+  one_closed done b bs next free = rw free refl
+
+  all_closed : (done : List (List Event)) (b : List Event) (bs : List (List Event))
+      → batches_fault (with_batches (no_events (length h.procs)) done) (b ∷ bs) ≡ None
+      → Closed h (done ++ b ∷ bs) (judged (with_names names) (growing (prefix_at h done) []) (batch_items (b ∷ bs)))
+  unfolding batches_fault
+  all_closed done b [] free =
+      let parts = chosen_none (batch_fault (with_batches (no_events (length h.procs)) done) b) None free in
+      record {
+        before = done;
+        last = b;
+        is = judged-batch (with_names names) (prefix_at h done) b []
+            ∙ judged-none (with_names names) (closing (with_names names) (prefix_at h done) b (finished (prefix_at h done) b))
+            ∙ one_closed done b [] (finished (prefix_at h done) b) parts.0;
+        all = refl;
+      }
+  all_closed done b (c ∷ bs) free =
+      let ess = with_batches (no_events (length h.procs)) done in
+      let parts = chosen_none (batch_fault ess b) (batches_fault (with_batch ess b) (c ∷ bs)) free in
+      let rest : batches_fault (with_batches (no_events (length h.procs)) (done ++ b ∷ [])) (c ∷ bs) ≡ None =
+      ap (λ (xs : List (List Event)). batches_fault xs (c ∷ bs)) (with_batches-push (no_events (length h.procs)) done b) ∙ parts.1 in
+      let others = all_closed (done ++ b ∷ []) c bs rest in
+      let next : Judgement = growing (prefix_at h (done ++ b ∷ [])) [] in
+      record {
+        before = others.before;
+        last = others.last;
+        is = judged-batch (with_names names) (prefix_at h done) b (c ∷ bs)
+            ∙ ap (λ (j : Judgement). judged (with_names names) j (batch_items (c ∷ bs))) (one_closed done b (c ∷ bs) next parts.0)
+            ∙ others.is;
+        all = others.all ∙ append_assoc done (b ∷ []) (c ∷ bs);
+      }
+
+  -- ---- batches that are not refused have no fault
+
+  abbrev IsTaken : Judgement → Type 0
+  IsTaken j = (log : Option Prefix) (why : Refusal) → j ≡ refused log why → ⊥
+
+  none_refused : (done bs : List (List Event))
+      → IsTaken (judged (with_names names) (growing (prefix_at h done) []) (batch_items bs))
+      → batches_fault (with_batches (no_events (length h.procs)) done) bs ≡ None
+  unfolding batches_fault
+  none_refused done [] taken = refl
+  none_refused done (b ∷ bs) taken = go (batch_fault (with_batches (no_events (length h.procs)) done) b) refl bs taken (none_refused (done ++ b ∷ []) bs)
+    where
+      go : (o : Option LogFault) → batch_fault (with_batches (no_events (length h.procs)) done) b ≡ o → (cs : List (List Event))
+          → IsTaken (judged (with_names names) (growing (prefix_at h done) []) (batch_items (b ∷ cs)))
+          → (IsTaken (judged (with_names names) (growing (prefix_at h (done ++ b ∷ [])) []) (batch_items cs)) → batches_fault (with_batches (no_events (length h.procs)) (done ++ b ∷ [])) cs ≡ None)
+          → choose (batch_fault (with_batches (no_events (length h.procs)) done) b) (λ f. Some f) (batches_fault (with_batch (with_batches (no_events (length h.procs)) done) b) cs) ≡ None
+      go (Some f) is cs taken rest =
+          let stop : closing (with_names names) (prefix_at h done) b (next_of (prefix_at h done) b cs) ≡ refused (Some (prefix_at h done)) (refusal.Log f) = rw is refl in
+          absurd (taken (Some (prefix_at h done)) (refusal.Log f) (judged-batch (with_names names) (prefix_at h done) b cs
+          ∙ ap (λ (j : Judgement). judged (with_names names) j (batch_items cs)) stop
+          ∙ refused-stays (with_names names) (Some (prefix_at h done)) (refusal.Log f) (batch_items cs)))
+      go None is [] taken rest = rw is refl
+      go None is (c ∷ cs) taken rest =
+          let next : Judgement = growing (prefix_at h (done ++ b ∷ [])) [] in
+          let same : judged (with_names names) (growing (prefix_at h done) []) (batch_items (b ∷ c ∷ cs)) ≡ judged (with_names names) next (batch_items (c ∷ cs)) =
+          judged-batch (with_names names) (prefix_at h done) b (c ∷ cs)
+          ∙ ap (λ (j : Judgement). judged (with_names names) j (batch_items (c ∷ cs))) (one_closed done b (c ∷ cs) next is) in
+          rw is (ap (λ (xs : List (List Event)). batches_fault xs (c ∷ cs)) (sym (with_batches-push (no_events (length h.procs)) done b))
+          ∙ rest (λ log why e. taken log why (same ∙ e)))
+
+-- ---- whole logs
+
+module _ (names : Header → Option FormulaFault) (log : Log) where
+  judged-log : judged (with_names names) waiting (log_items log)
+      ≡ judged (with_names names) (opened (with_names names) log.header) (batch_items log.batches)
+  unfolding judged
+  judged-log = refl
+
+  opened_log : names log.header ≡ None → opened (with_names names) log.header ≡ growing (prefix_at log.header []) []
+  opened_log known = rw known refl
+
+  log_closed : names log.header ≡ None → log_fault log ≡ None → 0 < length log.batches
+      → Closed log.header log.batches (judged (with_names names) waiting (log_items log))
+  log_closed known free some =
+      let begun = judged-log ∙ ap (λ (j : Judgement). judged (with_names names) j (batch_items log.batches)) (opened_log known) in
+      subst (Closed log.header log.batches) (sym begun) (go log.batches free some)
+    where
+      go : (bs : List (List Event)) → batches_fault (no_events (length log.header.procs)) bs ≡ None → 0 < length bs
+          → Closed log.header bs (judged (with_names names) (growing (prefix_at log.header []) []) (batch_items bs))
+      go [] free some = absurd (omega (arith, some))
+      go (b ∷ bs) free some = all_closed names log.header [] b bs free
+
+  record Taken : Type 0 where
+    known : names log.header ≡ None
+    free : log_fault log ≡ None
+
+  taken_log : IsTaken names log.header (judged (with_names names) waiting (log_items log)) → Taken
+  taken_log taken = go (names log.header) refl
+    where
+      go : (o : Option FormulaFault) → names log.header ≡ o → Taken
+      go None known = record {
+        known = known;
+        free = none_refused names log.header [] log.batches
+            (λ past why e. taken past why (judged-log ∙ ap (λ (j : Judgement). judged (with_names names) j (batch_items log.batches)) (opened_log known) ∙ e));
+      }
+      go (Some f) is =
+          let stop : opened (with_names names) log.header ≡ refused None (refusal.Formula f) = rw is refl in
+          absurd (taken None (refusal.Formula f) (judged-log
+          ∙ ap (λ (j : Judgement). judged (with_names names) j (batch_items log.batches)) stop
+          ∙ refused-stays (with_names names) None (refusal.Formula f) (batch_items log.batches)))
+
+-- ---- the number of batches
+
+lines_long : (h : Header) (bs : List (List Event))
+    → length bs ≤ length (text_of (batch_lines h bs))
+lines_long h [] = omega arith
+lines_long h (b ∷ bs) =
+    let rest = text_of (closing_line bs ∷ batch_lines h bs) in
+    omega (
+      arith,
+      lines_long h bs,
+      ap length (text_of-append (event_lines h b) (closing_line bs ∷ batch_lines h bs)),
+      length-append (text_of (event_lines h b)) rest,
+      length-append (closing_line bs) (10 ∷ text_of (batch_lines h bs)),
+    )
+
+counted_all : (log : Log) → IsLog log → counted log.batches ≡ length log.batches
+counted_all log is =
+    omega (
+      arith,
+      is.small,
+      lines_long log.header log.batches,
+      ap length (text_of-append (header_lines log.header) (batch_lines log.header log.batches)),
+      length-append (text_of (header_lines log.header)) (text_of (batch_lines log.header log.batches)),
+    )
+
+-- ---- the text
+
+reads_back : (log : Log) → IsLog log → IsWellFormed (log_text log) × (items_in (log_text log) ≡ log_items log)
+reads_back log is =
+    log_fault_free log is (subst (λ (ls : List (List ℕ)). AllByRecursion IsNarrow ls) (sym (lines-text log (log_plain log is.fits))) (all_onto IsNarrow (lines_of log) [] (log_narrow log is.fits) tt))
+
+-- what is told of a log whose last batch was closed
+told_closed : (log : Log) → IsLog log → (j : Judgement) → Closed log.header log.batches j → IsDueOfLog log (told true j None)
+told_closed log is j closed =
+    let last : Due → Type 0 = IsDueOfLog log in
+    let p = prefix_at log.header closed.before in
+    let due_is : IsDueOfLog log (told true (finished p closed.last) None) = record {
+      whole = ap (λ (bs : List (List Event)). Some (prefix_at log.header bs)) closed.all;
+      each = ap (λ (bs : List (List Event)). prefixes p ++ prefix_at log.header bs ∷ []) (sym closed.all)
+          ∙ sym (after_each-push log.header [] closed.before closed.last)
+          ∙ ap (after_each log.header []) closed.all;
+      batches = ap counted closed.all ∙ counted_all log is;
+      fault = refl;
+    } in
+    subst (λ (k : Judgement). IsDueOfLog log (told true k None)) (sym closed.is) due_is
+
+pub log_due : (names : Header → Option FormulaFault) (bytes : List ℕ) (log : Log) → IsLogFor names bytes log
+    → IsDueOfLog log (due log_reading (with_names names) true bytes)
+log_due names bytes log l =
+    let back = reads_back log l.is in
+    let items : items_in bytes ≡ log_items log = ap items_in l.spelled ∙ back.1 in
+    let free : end_fault (onto bytes []) ≡ None = ap (λ (x : List ℕ). end_fault (onto x [])) l.spelled ∙ back.0 in
+    let closed = log_closed names log l.named l.ordered l.is.fits.some in
+    let same : due log_reading (with_names names) true bytes ≡ told true (judged (with_names names) waiting (log_items log)) None =
+    ap (told true (judged (with_names names) waiting (items_in bytes))) free
+    ∙ ap (λ (xs : List Item). told true (judged (with_names names) waiting xs) None) items in
+    subst (IsDueOfLog log) (sym same) (told_closed log l.is (judged (with_names names) waiting (log_items log)) closed)
+
+not_refused : (j : Judgement) (text : Option LogFault) → fault_in j text ≡ None
+    → (log : Option Prefix) (why : Refusal) → j ≡ refused log why → ⊥
+not_refused j text none log why e =
+    none-some why (sym (subst (λ (k : Judgement). fault_in k text ≡ None) e none))
+
+pub due_log : (names : Header → Option FormulaFault) (bytes : List ℕ)
+    → (due log_reading (with_names names) true bytes).fault ≡ None → (log : Log) × IsLogFor names bytes log
+due_log names bytes h =
+    let j : Judgement = judged (with_names names) waiting (items_in bytes) in
+    let ended = text_free j (end_fault (onto bytes [])) h in
+    let found = fault_free_log bytes ended in
+    let log = found.0 in
+    let taken = not_refused j (end_fault (onto bytes [])) h in
+    let known = taken_log names log (λ past why e. taken past why (ap (judged (with_names names) waiting) found.1.items_are ∙ e)) in (
+      log,
+      record { is = found.1.log_is; spelled = found.1.text_is; ordered = known.free; named = known.known },
+    )

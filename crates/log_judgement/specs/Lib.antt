@@ -1,0 +1,4 @@
+pub mod Judgement
+pub mod Due
+pub mod Texts
+pub mod WholeLogs

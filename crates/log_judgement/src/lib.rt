@@ -1,0 +1,17 @@
+// What is due of the bytes of a log, as one definition: `due` of `specs/Due.antt` gives the log
+// after each batch that was closed, the whole log where it was read to its end, the number of
+// batches and the first fault; `IsDueText` of `specs/Texts.antt` says which text of reports goes
+// with it. How bytes are read, what a header refuses and what a closed batch refuses are arguments.
+// The laws say what more bytes change, that logs without a fault are those of which none is due,
+// and that there is one due text at most.
+//
+// Not said here: how the text is made and written.
+#![tactic(auto)]
+
+mod refusal;
+
+pub mod due_laws;
+pub mod log_laws;
+pub mod text_laws;
+
+pub use refusal::Refusal;
