@@ -95,7 +95,7 @@ unfolding run
 one_taken text rest front after line d e t plain split next = record {
   lines = t.lines ++ front ∷ [];
   text_is = t.text_is ∙ ap (λ (r : List ℕ). text_of t.lines ++ r) split ∙ sym (ap (λ (x : List ℕ). x ++ after) (text_of-append t.lines (front ∷ [])) ∙ append_assoc (text_of t.lines) (front ++ 10 ∷ []) after
-    ∙ ap (λ (x : List ℕ). text_of t.lines ++ x) (append_assoc front (10 ∷ []) after));
+      ∙ ap (λ (x : List ℕ). text_of t.lines ++ x) (append_assoc front (10 ∷ []) after));
   taken = run_then draft.Start t.lines (front ∷ []) d t.taken ∙ rw next refl;
   line_is = omega (arith, t.line_is, length-append t.lines (front ∷ []));
   plain = all_push HasNoFeed t.lines front t.plain plain;
@@ -151,15 +151,15 @@ module _ (text rest : List ℕ) (line : ℕ) (d : Draft) (t : AreTaken text rest
   refused_line front after plain split refused =
       let all = t.lines ++ front ∷ [] in
       let text_is : text ≡ text_of all ++ after = t.text_is ∙ ap (λ (r : List ℕ). text_of t.lines ++ r) split ∙ sym (ap (λ (x : List ℕ). x ++ after) (text_of-append t.lines (front ∷ [])) ∙ append_assoc (text_of t.lines) (front ++ 10 ∷ []) after
-        ∙ ap (λ (x : List ℕ). text_of t.lines ++ x) (append_assoc front (10 ∷ []) after)) in
+      ∙ ap (λ (x : List ℕ). text_of t.lines ++ x) (append_assoc front (10 ∷ []) after)) in
       let all_plain : ArePlain all = all_push HasNoFeed t.lines front t.plain plain in
       let count : length all ≡ length t.lines + 1 = length-append t.lines (front ∷ []) in
       let stops : (r : Report) → IsWellFormed r → (p x y : List ℕ) → p ++ x ≡ text → p ++ y ≡ report_text r → length all ≤ feeds p → ⊥ = λ r fits p x y e f enough.
-        let on = continues all (report_lines r) after p x y all_plain (report_plain r fits) (e ∙ text_is) f enough in
-        let lines : report_lines r ≡ t.lines ++ front ∷ on.more = on.lines_are ∙ append_assoc t.lines (front ∷ []) on.more in
-        let ran : run draft.Start (t.lines ++ front ∷ on.more) ≡ Some (draft.Over r) = ap (run draft.Start) (sym lines) ∙ report_run r fits in
-        let next : run d (front ∷ on.more) ≡ Some (draft.Over r) = sym (run_then draft.Start t.lines (front ∷ on.more) d t.taken) ∙ ran in
-        stuck r on.more next in
+      let on = continues all (report_lines r) after p x y all_plain (report_plain r fits) (e ∙ text_is) f enough in
+      let lines : report_lines r ≡ t.lines ++ front ∷ on.more = on.lines_are ∙ append_assoc t.lines (front ∷ []) on.more in
+      let ran : run draft.Start (t.lines ++ front ∷ on.more) ≡ Some (draft.Over r) = ap (run draft.Start) (sym lines) ∙ report_run r fits in
+      let next : run d (front ∷ on.more) ≡ Some (draft.Over r) = sym (run_then draft.Start t.lines (front ∷ on.more) d t.taken) ∙ ran in
+      stuck r on.more next in
       fault_at text rest line d t
       (λ r fits same. stops r fits text [] [] (append-nil text) (append-nil text ∙ same) (omega (arith, count, ap feeds text_is, feeds-append (text_of all) after, feeds-text all all_plain)))
       (λ other f. elim (cases_lt (length t.lines) (feeds other)) [
@@ -178,12 +178,12 @@ module _ (text rest : List ℕ) (line : ℕ) (d : Draft) (t : AreTaken text rest
       let feeds_are : feeds text ≡ length t.lines = ap feeds t.text_is ∙ feeds-append (text_of t.lines) rest ∙ rw (feeds-plain rest plain, feeds-text t.lines t.plain) (omega arith) in
       fault_at text rest line d t
       (λ r fits same.
-        let on = continues t.lines (report_lines r) rest text [] [] t.plain (report_plain r fits) (append-nil text ∙ t.text_is) (append-nil text ∙ same) (omega (arith, feeds_are)) in
-        let left : rest ≡ text_of on.more = append_cancel_left (text_of t.lines) rest (text_of on.more) (sym t.text_is ∙ same ∙ ap text_of on.lines_are ∙ text_of-append t.lines on.more) in
-        let none : on.more ≡ [] = no_lines on.more (subst HasNoFeed left plain) in
-        let lines : report_lines r ≡ t.lines = on.lines_are ∙ ap (λ (ls : List Line). t.lines ++ ls) none ∙ append-nil t.lines in
-        let over : d ≡ draft.Over r = same_Some _ _ (sym t.taken ∙ ap (run draft.Start) (sym lines) ∙ report_run r fits) in
-        unfinished r over (left ∙ ap text_of none))
+      let on = continues t.lines (report_lines r) rest text [] [] t.plain (report_plain r fits) (append-nil text ∙ t.text_is) (append-nil text ∙ same) (omega (arith, feeds_are)) in
+      let left : rest ≡ text_of on.more = append_cancel_left (text_of t.lines) rest (text_of on.more) (sym t.text_is ∙ same ∙ ap text_of on.lines_are ∙ text_of-append t.lines on.more) in
+      let none : on.more ≡ [] = no_lines on.more (subst HasNoFeed left plain) in
+      let lines : report_lines r ≡ t.lines = on.lines_are ∙ ap (λ (ls : List Line). t.lines ++ ls) none ∙ append-nil t.lines in
+      let over : d ≡ draft.Over r = same_Some _ _ (sym t.taken ∙ ap (run draft.Start) (sym lines) ∙ report_run r fits) in
+      unfinished r over (left ∙ ap text_of none))
       (λ other f. omega (arith, feeds_are, ap feeds f.text_is, feeds-append other f.rest))
 
 -- ---- a whole report

@@ -76,5 +76,5 @@ report_put r t1 t2 t3 t4 a b c d =
     let slices = lines_of_slice r.procs r.slice in
     let witnesses = lines_of_witnesses r.procs r.witnesses in
     let parts : text_of head ++ text_of slices ++ text_of witnesses ≡ text_of (head ++ (slices ++ witnesses)) =
-      append_assoc (text_of head) (text_of slices) (text_of witnesses) ∙ ap (λ (t : List ℕ). text_of head ++ t) (sym (text_of-append slices witnesses)) ∙ sym (text_of-append head (slices ++ witnesses)) in
+    append_assoc (text_of head) (text_of slices) (text_of witnesses) ∙ ap (λ (t : List ℕ). text_of head ++ t) (sym (text_of-append slices witnesses)) ∙ sym (text_of-append head (slices ++ witnesses)) in
     d ∙ ap (λ (t : List ℕ). t ++ text_of (end_line ∷ [])) (c ∙ ap (λ (t : List ℕ). t ++ text_of witnesses) (b ∙ ap (λ (t : List ℕ). t ++ text_of slices) a) ∙ parts) ∙ sym (text_of-append (head ++ (slices ++ witnesses)) (end_line ∷ []))

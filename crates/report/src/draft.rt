@@ -176,10 +176,8 @@ fn has_path(witness: &Witness) -> bool
 {
     match witness {
         Witness::Reach(_) | Witness::Against(_) | Witness::Always(_) => true,
-        Witness::Nothing
-        | Witness::StuckStart
-        | Witness::StuckFinish
-        | Witness::StuckPair(_, _) => false,
+        Witness::Nothing | Witness::StuckStart | Witness::StuckFinish | Witness::StuckPair(_, _) =>
+            false,
     }
 }
 

@@ -96,18 +96,12 @@ fn steps_of(witness: &Witness) -> &[EventId]
         Witness::Reach(path) | Witness::Against(path) | Witness::Always(path) => {
             path.steps.as_slice()
         }
-        Witness::Nothing
-        | Witness::StuckStart
-        | Witness::StuckFinish
-        | Witness::StuckPair(_, _) => &[],
+        Witness::Nothing | Witness::StuckStart | Witness::StuckFinish | Witness::StuckPair(_, _) =>
+            &[],
     }
 }
 
-fn put_witness_lines(
-    out: &mut Bytes,
-    procs: &[Name],
-    witness: &WitnessText,
-) -> Result<(), NoMemory>
+fn put_witness_lines(out: &mut Bytes, procs: &[Name], witness: &WitnessText) -> Result<(), NoMemory>
     requires { IsTold procs.now witness.now }
     ensures { OnOk result (out.new ≡ out.old ++ text_of (witness_lines procs.now witness.now)) }
 {
@@ -116,11 +110,7 @@ fn put_witness_lines(
     Ok(())
 }
 
-fn put_witnesses(
-    out: &mut Bytes,
-    procs: &[Name],
-    witnesses: &[WitnessText],
-) -> Result<(), NoMemory>
+fn put_witnesses(out: &mut Bytes, procs: &[Name], witnesses: &[WitnessText]) -> Result<(), NoMemory>
     requires { AllByRecursion (IsTold procs.now) witnesses.now }
     ensures { OnOk result (out.new
         ≡ out.old ++ text_of (lines_of_witnesses procs.now witnesses.now)) }

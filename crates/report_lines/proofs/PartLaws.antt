@@ -145,7 +145,7 @@ event_is : (procs : List Name) (lengths : Cut) (xs r1 r2 : List ℕ) (name : Nam
     → EventTaken procs lengths xs e rest
 event_is procs lengths xs r1 r2 name e rest width a place b position last = record {
   text = a ∙ ap (λ (t : List ℕ). 32 ∷ (name ++ t)) (b ∙ ap (λ (t : List ℕ). 32 ∷ t) position.text) ∙ ap (λ (n : List ℕ). 32 ∷ (n ++ 32 ∷ (decimal e.position ++ rest))) (sym place.1)
-    ∙ ap (λ (t : List ℕ). 32 ∷ t) (sym (append_assoc (name_at procs e.process) (32 ∷ decimal e.position) rest));
+      ∙ ap (λ (t : List ℕ). 32 ∷ t) (sym (append_assoc (name_at procs e.process) (32 ∷ decimal e.position) rest));
   there = record { process = omega (arith, place.0); first = position.fits.some; last = last };
 }
 
@@ -160,7 +160,7 @@ event_takes procs lengths xs e rest width h =
     let g = cond_some (nat_le n.0.0 (count lengths b.0)) (made, n.0.1) (e, rest) n.2 in
     let name = spaced_name_takes xs a.0.0 a.0.1 a.1 in
     let taken : EventTaken procs lengths xs made n.0.1 = event_is procs lengths xs a.0.1 s.0 a.0.0 made n.0.1 width name.text (place_some procs a.0.0 b.0 b.1) (text_takes (32 ∷ []) a.0.1 s.0 s.1)
-        (positive_takes s.0 n.0.0 n.0.1 n.1) (leb-true n.0.0 (count lengths b.0) g.0) in
+    (positive_takes s.0 n.0.0 n.0.1 n.1) (leb-true n.0.0 (count lengths b.0) g.0) in
     subst (λ (p : EventId × List ℕ). EventTaken procs lengths xs p.0 p.1) g.1 taken
 
 names_each : (names : List Name) (i : ℕ) → AllByRecursion (λ n. is_name n ≡ true) names → i < length names → is_name (name_at names i) ≡ true

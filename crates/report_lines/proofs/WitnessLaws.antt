@@ -123,7 +123,7 @@ witness_takes procs lengths line w width h =
     let behind : s.0 ≡ kind_text procs k.0 = ap (λ (x : ℕ × ℕ × List ℕ). x.2) numbers ∙ told.text in
     let made : WitnessText = record { disjunct = d.0.0; part = p.0.0; witness = k.0 } in
     let text : line ≡ witness_line procs made = text_takes (codes "witness ") line a.0 a.1 ∙ ap (λ (t : List ℕ). codes "witness " ++ t) (disjunct.text ∙ ap (λ (t : List ℕ). decimal d.0.0 ++ t) (text_takes (46 ∷ []) d.0.1 dot.0 dot.1
-        ∙ ap (λ (t : List ℕ). 46 ∷ t) (part.text ∙ ap (λ (t : List ℕ). decimal p.0.0 ++ t) (text_takes (32 ∷ []) p.0.1 s.0 s.1 ∙ ap (λ (t : List ℕ). 32 ∷ t) behind)))) in
+    ∙ ap (λ (t : List ℕ). 46 ∷ t) (part.text ∙ ap (λ (t : List ℕ). decimal p.0.0 ++ t) (text_takes (32 ∷ []) p.0.1 s.0 s.1 ∙ ap (λ (t : List ℕ). 32 ∷ t) behind)))) in
     let taken : (line ≡ witness_line procs made) × WitnessTextFits lengths made = (text, record { disjunct = disjunct.fits; part = part.fits; witness = told.fits }) in
     let same : made ≡ w = ap (λ (x : ℕ × ℕ × List ℕ). record { disjunct = x.0; part = x.1; witness = k.0 }) numbers ∙ same_Some _ _ k.2 in
     subst (λ (x : WitnessText). (line ≡ witness_line procs x) × WitnessTextFits lengths x) same taken

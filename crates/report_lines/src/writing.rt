@@ -76,12 +76,7 @@ fn put_goal(out: &mut Bytes, word: &[u8], goal: &Cut) -> Result<(), NoMemory>
     put_clock(out, goal.as_slice())
 }
 
-fn put_pair(
-    out: &mut Bytes,
-    procs: &[Name],
-    first: EventId,
-    other: EventId,
-) -> Result<(), NoMemory>
+fn put_pair(out: &mut Bytes, procs: &[Name], first: EventId, other: EventId) -> Result<(), NoMemory>
     requires first { first.process < length procs.now }
     requires other { other.process < length procs.now }
     ensures { OnOk result (out.new ≡ out.old ++ kind_text procs.now (StuckPair first other)) }

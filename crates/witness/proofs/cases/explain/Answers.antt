@@ -14,10 +14,10 @@ pub always-requires-clause-start : goal.always-requires-clause-start
 always-requires-clause-start c = initial_is c.args.order.now c.procs.result c.in_ok-start.start (c.procs.ensures.count ∙ ap length c.shape.ensures.lens) c.in_ok-start.ensures
 
 pub returns-in-ExistsFinally-clause-kind : goal.returns-in-ExistsFinally-clause-kind
-returns-in-ExistsFinally-clause-kind c = kind_of c.args.order.now (slice_of c.args.operand.now) ExistsFinally c.reach.result c.shape.ensures.order c.reach.ensures
+returns-in-ExistsFinally-clause-kind c = rw c.in-ExistsFinally.is (kind_of c.args.order.now (slice_of c.args.operand.now) ExistsFinally c.reach.result c.shape.ensures.order c.reach.ensures)
 
 pub returns-in-AlwaysGlobally-clause-kind : goal.returns-in-AlwaysGlobally-clause-kind
-returns-in-AlwaysGlobally-clause-kind c = kind_of c.args.order.now (slice_of c.args.operand.now) AlwaysGlobally c.against.result c.shape.ensures.order c.against.ensures
+returns-in-AlwaysGlobally-clause-kind c = rw c.in-AlwaysGlobally.is (kind_of c.args.order.now (slice_of c.args.operand.now) AlwaysGlobally c.against.result c.shape.ensures.order c.against.ensures)
 
 pub returns-in-ExistsGlobally-clause-kind : goal.returns-in-ExistsGlobally-clause-kind
-returns-in-ExistsGlobally-clause-kind c = kind_of c.args.order.now (slice_of c.args.operand.now) ExistsGlobally c.always.result c.shape.ensures.order c.always.ensures
+returns-in-ExistsGlobally-clause-kind c = rw c.in-ExistsGlobally.is (kind_of c.args.order.now (slice_of c.args.operand.now) ExistsGlobally c.always.result c.shape.ensures.order c.always.ensures)
