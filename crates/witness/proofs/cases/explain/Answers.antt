@@ -1,0 +1,23 @@
+use Rattle.std.proofs.Common.{length, ap, ◌∙◌}
+use Rattle.run_model.specs.Witness.{ExistsFinally, AlwaysGlobally, ExistsGlobally}
+use Rattle.slice_graph.specs.Views.{slice_of}
+use Rattle.witness.proofs.CaseSteps.{initial_is, kind_of}
+use Rattle.witness.proofs.cases.explain.Goals as goal
+
+pub reach-requires-clause-start : goal.reach-requires-clause-start
+reach-requires-clause-start c = initial_is c.args.order.now c.procs.result c.in_ok-start.start (c.procs.ensures.count ∙ ap length c.shape.ensures.lens) c.in_ok-start.ensures
+
+pub against-requires-clause-start : goal.against-requires-clause-start
+against-requires-clause-start c = initial_is c.args.order.now c.procs.result c.in_ok-start.start (c.procs.ensures.count ∙ ap length c.shape.ensures.lens) c.in_ok-start.ensures
+
+pub always-requires-clause-start : goal.always-requires-clause-start
+always-requires-clause-start c = initial_is c.args.order.now c.procs.result c.in_ok-start.start (c.procs.ensures.count ∙ ap length c.shape.ensures.lens) c.in_ok-start.ensures
+
+pub returns-in-ExistsFinally-clause-kind : goal.returns-in-ExistsFinally-clause-kind
+returns-in-ExistsFinally-clause-kind c = rw c.in-ExistsFinally.is (kind_of c.args.order.now (slice_of c.args.operand.now) ExistsFinally c.reach.result c.shape.ensures.order c.reach.ensures)
+
+pub returns-in-AlwaysGlobally-clause-kind : goal.returns-in-AlwaysGlobally-clause-kind
+returns-in-AlwaysGlobally-clause-kind c = rw c.in-AlwaysGlobally.is (kind_of c.args.order.now (slice_of c.args.operand.now) AlwaysGlobally c.against.result c.shape.ensures.order c.against.ensures)
+
+pub returns-in-ExistsGlobally-clause-kind : goal.returns-in-ExistsGlobally-clause-kind
+returns-in-ExistsGlobally-clause-kind c = rw c.in-ExistsGlobally.is (kind_of c.args.order.now (slice_of c.args.operand.now) ExistsGlobally c.always.result c.shape.ensures.order c.always.ensures)
