@@ -1,0 +1,4 @@
+pub mod Leads
+pub mod Twinned
+pub mod TwinSteps
+pub mod CaseSteps

@@ -1,0 +1,4 @@
+pub mod Walks
+pub mod Views
+pub mod Twins
+pub mod Searches
