@@ -13,11 +13,17 @@ use Rattle.run_model.specs.Cut.{lengths, initial}
 use Rattle.run_model.specs.Run.{Watches, run_of, clocks_of}
 use Rattle.run_model.specs.Meaning.{Sat}
 use Rattle.vector_clock.specs.Faults.{log_fault}
+use Rattle.rctl_grammar.specs.declared.fault.FormulaFault.{FormulaFault}
+use Rattle.rctl_grammar.specs.declared.tree.Tree.{Tree}
+use Rattle.command_words.specs.declared.request.Task.{Task}
+use Rattle.run_request.specs.declared.question.QuestionFault.{QuestionFault}
+use Rattle.run_request.specs.declared.question.QuestionFault.TheVariants as question
+use Rattle.run_request.specs.Questions.{IsQuestionFault, AsksFor}
 use Rattle.pota_top.specs.declared.outcome.Fault.{Fault}
 use Rattle.pota_top.specs.declared.outcome.Fault.TheVariants as fault
 use Rattle.pota_top.specs.declared.outcome.Outcome.{Outcome}
 use Rattle.pota_top.specs.Due.{due, events_of, first_foreign}
-use Rattle.pota_top.specs.Outcome.{status_of}
+use Rattle.pota_top.specs.Outcome.{status_of, fault_of_question}
 use Rattle.pota_top.specs.Request.{Condition, formula_of, Asks}
 use Rattle.pota_top.specs.Passing.{AreNamed}
 use Rattle.pota_top.specs.Report.{Report, report_text}
@@ -53,9 +59,13 @@ pub record Answers (words : List (List ℕ)) (bytes report : List ℕ) (verdict 
   pub truth : (verdict ≡ true) ↔ IsTrueAtStart log conditions
   pub text : report ≡ report_text (report_of log asks.text verdict)
 
--- the words ask for no formula of the first form
+-- the words ask something of a formula of the class
+abbrev pub IsAsked : List (List ℕ) → Type 0
+IsAsked words = (task : Task) × (t : Tree) × AsksFor words task t
+
+-- and it isn't of the form that is answered
 abbrev pub IsOtherRequest : List (List ℕ) → Type 0
-IsOtherRequest words = (cs : List Condition) → Asks words cs → ⊥
+IsOtherRequest words = IsAsked words × ((cs : List Condition) → Asks words cs → ⊥)
 
 -- a verdict, with its report written whole
 pub record HasVerdict (left : Option (List ℕ)) (words : List (List ℕ)) (read written : List ℕ) (o : Outcome) (verdict : Bool) : Type 0 where
@@ -98,6 +108,11 @@ pub record HasPart (left : Option (List ℕ)) (words : List (List ℕ)) (read wr
   pub batches : o.batches ≡ length answers.log.batches
   pub fault : o.fault ≡ Some fault.Write
 
+-- the words or their formula have this fault, and nothing was read or written
+abbrev pub IsMisasked : List (List ℕ) → List ℕ → List ℕ → Outcome → QuestionFault → Type 0
+IsMisasked words read written o f =
+    IsQuestionFault words f × HasNothing written o (fault_of_question f) × (read ≡ [])
+
 -- What a status says, by what the source has left, the counts of faults before and after, the words, and the bytes read and written.
 -- Memory may be wanted at any time before the report is written.
 abbrev pub Answer : Status → Option (List ℕ) → ℕ → ℕ → ℕ → ℕ → List (List ℕ) → List ℕ → List ℕ → Outcome → Type 0
@@ -109,8 +124,10 @@ Answer status.NotBuilt left lf lf' of of' words read written o = (HasNothing wri
 Answer status.ReadFault left lf lf' of of' words read written o = IsCutShort words read written o × Rose lf lf'
 Answer status.WriteFault left lf lf' of of' words read written o = HasPart left words read written o × Rose of of'
 Answer status.OutOfMemory left lf lf' of of' words read written o = HasNothing written o fault.Memory
-Answer status.Usage left lf lf' of of' words read written o = ⊥
-Answer status.Formula left lf lf' of of' words read written o = ⊥
+Answer status.Usage left lf lf' of of' words read written o =
+    IsMisasked words read written o question.Usage
+Answer status.Formula left lf lf' of of' words read written o =
+    (f : FormulaFault) × IsMisasked words read written o (question.Formula f)
 
 -- a whole run: what was read and written in it, that no count fell, and what its status says
 pub record Ran (left left' held held' : Option (List ℕ)) (lf lf' of of' : ℕ) (words : List (List ℕ)) (o : Outcome) : Type 0 where
@@ -151,6 +168,11 @@ abbrev pub IsRefusedAsDue : Option (List ℕ) → List (List ℕ) → Option (Li
 IsRefusedAsDue left words held held' o = (bytes : List ℕ) (cs : List Condition) (batches : ℕ) (f : Fault) → left ≡ Some bytes → Asks words cs
     → due true cs bytes ≡ record { batches = batches; fault = Some f } → Refuses batches f held held' o
 
--- other words are not answered, and nothing is written
+-- a fault of the words or their formula is the answer, and nothing is written
+abbrev pub IsRefusedAsAsked : List (List ℕ) → Option (List ℕ) → Option (List ℕ) → Outcome → Type 0
+IsRefusedAsAsked words held held' o =
+    (f : QuestionFault) → IsQuestionFault words f → Refuses 0 (fault_of_question f) held held' o
+
+-- what else is asked is not answered, and nothing is written
 abbrev pub IsLeftOpen : List (List ℕ) → Option (List ℕ) → Option (List ℕ) → Outcome → Type 0
 IsLeftOpen words held held' o = IsOtherRequest words → Refuses 0 (fault.NotBuilt 0) held held' o

@@ -112,6 +112,8 @@ abbrev pub StopsAt : Fault → ℕ → Option (List ℕ) → ℕ → ℕ → Lis
 StopsAt fault.Read batches left lf lf' cs bytes = (due false cs bytes ≡ record { batches = batches; fault = None }) × Rose lf lf'
 StopsAt (fault.Log f) batches left lf lf' cs bytes = (ended : Bool) × (ended ≡ true → IsAtEnd left) × (due ended cs bytes ≡ record { batches = batches; fault = Some (fault.Log f) })
 StopsAt (fault.NotBuilt line) batches left lf lf' cs bytes = (ended : Bool) × (ended ≡ true → IsAtEnd left) × (due ended cs bytes ≡ record { batches = batches; fault = Some (fault.NotBuilt line) })
+StopsAt fault.Usage batches left lf lf' cs bytes = ⊥
+StopsAt (fault.Formula f) batches left lf lf' cs bytes = ⊥
 StopsAt fault.Write batches left lf lf' cs bytes = ⊥
 StopsAt fault.Memory batches left lf lf' cs bytes = ⊥
 

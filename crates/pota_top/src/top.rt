@@ -2,9 +2,10 @@
 ghost use Rattle.std.specs.Prelude.{◌≡◌, ℕ, List, Some, map, string_bytes, IfOk};
 ghost use Rattle.pota_base.specs.Outside.{Rose};
 ghost use Rattle.pota_base.specs.declared.status.Status.TheVariants.{ReadFault, WriteFault};
+ghost use Rattle.run_request.specs.Questions.{IsQuestion};
 ghost use Rattle.pota_top.specs.Outcome.{Told, line_of};
 ghost use Rattle.pota_top.specs.RequestReading.{IsUnderstood, conditions_of};
-ghost use Rattle.pota_top.specs.Run.{IsCalm, IsDecided, IsRefusedAsDue, IsLeftOpen, Ran};
+ghost use Rattle.pota_top.specs.Run.{IsCalm, IsDecided, IsRefusedAsDue, IsRefusedAsAsked, IsLeftOpen, Ran};
 ghost use Rattle.pota_top.specs.Session.{IsTraceFor};
 ghost use Rattle.pota_top.specs.Judging.{IsVerdictOn, HasWritten, Answered};
 
@@ -15,6 +16,7 @@ use crate::reading::read_log;
 use crate::report::report_text;
 use crate::request::{Request, read_request};
 use pota_base::{Bytes, Gate, NoMemory, Refused, Sink, Source, Status, write_all};
+use run_request::{Question, read_question};
 use std::alloc::Global;
 use std::thread::Threads;
 use trace_growth::Trace;
@@ -90,6 +92,22 @@ fn answer_request<S: Source, O: Sink>(
     }
 }
 
+// Answers a question on the log that the source has.
+fn answer_question<S: Source, O: Sink>(
+    alloc: Global,
+    question: &Question,
+    log: &mut S,
+    out: &mut O,
+) -> Outcome
+    ensures { (words : List (List ℕ)) → IsQuestion words question.now → Ran (S.left log.old) (S.left log.new) (O.held out.old) (O.held out.new) (S.faults log.old) (S.faults log.new) (O.faults out.old) (O.faults out.new) words result }
+{
+    match read_request(alloc, question) {
+        Ok(Some(request)) => answer_request(alloc, &request, log, out),
+        Ok(None) => Outcome::without_verdict(0, Fault::NotBuilt { line: 0 }),
+        Err(_) => Outcome::without_verdict(0, Fault::Memory),
+    }
+}
+
 // Answers the words on the log that the source has.
 fn answer_words<S: Source, O: Sink>(
     alloc: Global,
@@ -99,10 +117,10 @@ fn answer_words<S: Source, O: Sink>(
 ) -> Outcome
     ensures { Ran (S.left log.old) (S.left log.new) (O.held out.old) (O.held out.new) (S.faults log.old) (S.faults log.new) (O.faults out.old) (O.faults out.new) (map string_bytes words.now) result }
 {
-    match read_request(alloc, words) {
-        Ok(Some(request)) => answer_request(alloc, &request, log, out),
-        Ok(None) => Outcome::without_verdict(0, Fault::NotBuilt { line: 0 }),
-        Err(_) => Outcome::without_verdict(0, Fault::Memory),
+    match read_question(alloc, words) {
+        Ok(question) => answer_question(alloc, &question, log, out),
+        Err(Refused::Fault(fault)) => Outcome::without_verdict(0, Fault::of_question(fault)),
+        Err(Refused::NoMemory) => Outcome::without_verdict(0, Fault::Memory),
     }
 }
 
@@ -126,6 +144,7 @@ pub fn pota<R: Threads + Sync, S: Source, O: Sink, D: Sink, G: Gate>(
     // Where no count rose and there was memory.
     ensures decided { IsCalm (S.faults log.old) (S.faults log.new) (O.faults out.old) (O.faults out.new) result → IsDecided (S.left log.old) (map string_bytes words.now) (O.held out.old) (O.held out.new) result }
     ensures refused { IsCalm (S.faults log.old) (S.faults log.new) (O.faults out.old) (O.faults out.new) result → IsRefusedAsDue (S.left log.old) (map string_bytes words.now) (O.held out.old) (O.held out.new) result }
+    ensures misasked { IsCalm (S.faults log.old) (S.faults log.new) (O.faults out.old) (O.faults out.new) result → IsRefusedAsAsked (map string_bytes words.now) (O.held out.old) (O.held out.new) result }
     ensures left_open { IsCalm (S.faults log.old) (S.faults log.new) (O.faults out.old) (O.faults out.new) result → IsLeftOpen (map string_bytes words.now) (O.held out.old) (O.held out.new) result }
 {
     let outcome = answer_words(alloc, words, log, out);
