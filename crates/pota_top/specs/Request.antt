@@ -21,7 +21,8 @@ pub record Condition : Type 0 where
 
 -- the condition's text, and what follows it
 abbrev pub condition_text : Condition → List ℕ → List ℕ
-condition_text c rest = c.process ++ 46 ∷ (c.variable ++ 32 ∷ 61 ∷ 32 ∷ (signed_decimal c.value ++ rest))
+condition_text c rest =
+    c.process ++ 46 ∷ (c.variable ++ 32 ∷ 61 ∷ 32 ∷ (signed_decimal c.value ++ rest))
 
 -- ` & ` before each further condition
 abbrev pub further_text : List Condition → List ℕ

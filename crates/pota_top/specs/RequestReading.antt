@@ -26,7 +26,9 @@ conditions_in bytes = do
 
 -- what stands before a closing bracket at the end
 unfoldable pub before_bracket : List ℕ → Option (List ℕ)
-before_bracket bytes = if nat_lt 0 (length bytes) && slice_index bytes (length bytes - 1) == 41 then Some (take (length bytes - 1) bytes) else None
+before_bracket bytes =
+    if nat_lt 0 (length bytes) && slice_index bytes (length bytes - 1) == 41
+    then Some (take (length bytes - 1) bytes) else None
 
 unfoldable pub formula_in : List ℕ → Option (List Condition)
 formula_in text = do

@@ -59,7 +59,8 @@ fn further_from<'a>(
     first: Comparison<'a>,
     bytes: &'a [u8],
 ) -> Result<Vec<Comparison<'a>>, LineError>
-    ensures { Gives (λ cs. conditions_of cs.items) result (items_from further_at 61 (condition_of first.entry ∷ []) bytes.entry.now) }
+    ensures { Gives (λ cs. conditions_of cs.items) result
+        (items_from further_at 61 (condition_of first.entry ∷ []) bytes.entry.now) }
 {
     let mut comparisons = Vec::new(alloc);
     comparisons.push(first)?;

@@ -31,8 +31,11 @@ struct Judged {
 
 // The verdict on the trace of a log.
 fn judge(alloc: Global, request: &Request, trace: &Trace) -> Result<Judged, NoMemory>
-    requires { (bytes : List ℕ) × IsTraceFor (conditions_of request.now.comparisons.items) bytes trace.now }
-    ensures { IfOk result (λ j. (bytes : List ℕ) → IsTraceFor (conditions_of request.now.comparisons.items) bytes trace.now → IsVerdictOn request.now bytes j) }
+    requires { (bytes : List ℕ) × IsTraceFor (conditions_of request.now.comparisons.items) bytes
+        trace.now }
+    ensures { IfOk result (λ j. (bytes : List ℕ)
+        → IsTraceFor (conditions_of request.now.comparisons.items) bytes trace.now
+        → IsVerdictOn request.now bytes j) }
 {
     let states = trace.states();
     let verdict = each_passes(states, &request.comparisons);
@@ -49,7 +52,8 @@ fn judge(alloc: Global, request: &Request, trace: &Trace) -> Result<Judged, NoMe
 
 // Writes a report, and ends the run.
 fn conclude<O: Sink>(out: &mut O, judged: &Judged) -> Outcome
-    ensures { HasWritten (O.held out.old) (O.held out.new) (O.faults out.old) (O.faults out.new) judged.now result }
+    ensures { HasWritten (O.held out.old) (O.held out.new) (O.faults out.old) (O.faults out.new)
+        judged.now result }
 {
     if write_all(out, judged.report.as_slice()).is_err() {
         return Outcome::without_verdict(judged.batches, Fault::Write);
@@ -67,8 +71,11 @@ fn conclude<O: Sink>(out: &mut O, judged: &Judged) -> Outcome
 
 // Answers a request on the trace of a log.
 fn answer_trace<O: Sink>(alloc: Global, request: &Request, trace: &Trace, out: &mut O) -> Outcome
-    requires { (bytes : List ℕ) × IsTraceFor (conditions_of request.now.comparisons.items) bytes trace.now }
-    ensures { (bytes : List ℕ) → IsTraceFor (conditions_of request.now.comparisons.items) bytes trace.now → Answered (O.held out.old) (O.held out.new) (O.faults out.old) (O.faults out.new) request.now bytes result }
+    requires { (bytes : List ℕ) × IsTraceFor (conditions_of request.now.comparisons.items) bytes
+        trace.now }
+    ensures { (bytes : List ℕ) → IsTraceFor (conditions_of request.now.comparisons.items) bytes
+        trace.now → Answered (O.held out.old) (O.held out.new) (O.faults out.old) (O.faults out.new)
+        request.now bytes result }
 {
     match judge(alloc, request, trace) {
         Ok(judged) => conclude(out, &judged),
@@ -83,7 +90,9 @@ fn answer_request<S: Source, O: Sink>(
     log: &mut S,
     out: &mut O,
 ) -> Outcome
-    ensures { (words : List (List ℕ)) → IsUnderstood words (Some request.now) → Ran (S.left log.old) (S.left log.new) (O.held out.old) (O.held out.new) (S.faults log.old) (S.faults log.new) (O.faults out.old) (O.faults out.new) words result }
+    ensures { (words : List (List ℕ)) → IsUnderstood words (Some request.now)
+        → Ran (S.left log.old) (S.left log.new) (O.held out.old) (O.held out.new) (S.faults log.old)
+        (S.faults log.new) (O.faults out.old) (O.faults out.new) words result }
 {
     match read_log(alloc, &request.comparisons, log) {
         Ok(trace) => answer_trace(alloc, request, &trace, out),
@@ -99,7 +108,9 @@ fn answer_question<S: Source, O: Sink>(
     log: &mut S,
     out: &mut O,
 ) -> Outcome
-    ensures { (words : List (List ℕ)) → IsQuestion words question.now → Ran (S.left log.old) (S.left log.new) (O.held out.old) (O.held out.new) (S.faults log.old) (S.faults log.new) (O.faults out.old) (O.faults out.new) words result }
+    ensures { (words : List (List ℕ)) → IsQuestion words question.now
+        → Ran (S.left log.old) (S.left log.new) (O.held out.old) (O.held out.new) (S.faults log.old)
+        (S.faults log.new) (O.faults out.old) (O.faults out.new) words result }
 {
     match read_request(alloc, question) {
         Ok(Some(request)) => answer_request(alloc, &request, log, out),
@@ -115,7 +126,9 @@ fn answer_words<S: Source, O: Sink>(
     log: &mut S,
     out: &mut O,
 ) -> Outcome
-    ensures { Ran (S.left log.old) (S.left log.new) (O.held out.old) (O.held out.new) (S.faults log.old) (S.faults log.new) (O.faults out.old) (O.faults out.new) (map string_bytes words.now) result }
+    ensures { Ran (S.left log.old) (S.left log.new) (O.held out.old) (O.held out.new)
+        (S.faults log.old) (S.faults log.new) (O.faults out.old) (O.faults out.new)
+        (map string_bytes words.now) result }
 {
     match read_question(alloc, words) {
         Ok(question) => answer_question(alloc, &question, log, out),
@@ -126,8 +139,8 @@ fn answer_words<S: Source, O: Sink>(
 
 /// Answers the formula that the words ask for, over all global states of the run that the log has.
 ///
-/// The words are the command line without the program's name. The report goes to `out`, and one line
-/// that tells why there is no verdict to `diag`.
+/// The words are the command line without the program's name. The report goes to `out`, and one
+/// line that tells why there is no verdict to `diag`.
 pub fn pota<R: Threads + Sync, S: Source, O: Sink, D: Sink, G: Gate>(
     _runtime: &R,
     alloc: Global,
@@ -137,15 +150,26 @@ pub fn pota<R: Threads + Sync, S: Source, O: Sink, D: Sink, G: Gate>(
     diag: &mut D,
     _gate: &G,
 ) -> Outcome
-    ensures ran { Ran (S.left log.old) (S.left log.new) (O.held out.old) (O.held out.new) (S.faults log.old) (S.faults log.new) (O.faults out.old) (O.faults out.new) (map string_bytes words.now) result }
-    ensures told { Told (D.held diag.old) (D.held diag.new) (D.faults diag.old) (D.faults diag.new) (line_of result.fault) }
+    ensures ran { Ran (S.left log.old) (S.left log.new) (O.held out.old) (O.held out.new)
+        (S.faults log.old) (S.faults log.new) (O.faults out.old) (O.faults out.new)
+        (map string_bytes words.now) result }
+    ensures told { Told (D.held diag.old) (D.held diag.new) (D.faults diag.old) (D.faults diag.new)
+        (line_of result.fault) }
     ensures read { result.status ≡ ReadFault → Rose (S.faults log.old) (S.faults log.new) }
     ensures write { result.status ≡ WriteFault → Rose (O.faults out.old) (O.faults out.new) }
     // Where no count rose and there was memory.
-    ensures decided { IsCalm (S.faults log.old) (S.faults log.new) (O.faults out.old) (O.faults out.new) result → IsDecided (S.left log.old) (map string_bytes words.now) (O.held out.old) (O.held out.new) result }
-    ensures refused { IsCalm (S.faults log.old) (S.faults log.new) (O.faults out.old) (O.faults out.new) result → IsRefusedAsDue (S.left log.old) (map string_bytes words.now) (O.held out.old) (O.held out.new) result }
-    ensures misasked { IsCalm (S.faults log.old) (S.faults log.new) (O.faults out.old) (O.faults out.new) result → IsRefusedAsAsked (map string_bytes words.now) (O.held out.old) (O.held out.new) result }
-    ensures left_open { IsCalm (S.faults log.old) (S.faults log.new) (O.faults out.old) (O.faults out.new) result → IsLeftOpen (map string_bytes words.now) (O.held out.old) (O.held out.new) result }
+    ensures decided { IsCalm (S.faults log.old) (S.faults log.new) (O.faults out.old)
+        (O.faults out.new) result → IsDecided (S.left log.old) (map string_bytes words.now)
+        (O.held out.old) (O.held out.new) result }
+    ensures refused { IsCalm (S.faults log.old) (S.faults log.new) (O.faults out.old)
+        (O.faults out.new) result → IsRefusedAsDue (S.left log.old) (map string_bytes words.now)
+        (O.held out.old) (O.held out.new) result }
+    ensures misasked { IsCalm (S.faults log.old) (S.faults log.new) (O.faults out.old)
+        (O.faults out.new) result → IsRefusedAsAsked (map string_bytes words.now) (O.held out.old)
+        (O.held out.new) result }
+    ensures left_open { IsCalm (S.faults log.old) (S.faults log.new) (O.faults out.old)
+        (O.faults out.new) result → IsLeftOpen (map string_bytes words.now) (O.held out.old)
+        (O.held out.new) result }
 {
     let outcome = answer_words(alloc, words, log, out);
     tell(diag, &outcome);
