@@ -94,9 +94,11 @@ module _ (most : ℕ) (reading : Reading) (is : IsReading most reading) (rules :
       ap (λ (xs : List Item). closed_of (judged rules waiting xs)) others.1
       ∙ ap closed_of (judged-append rules waiting (reading.items bytes) others.0) ∙ grown.1 in
       let last = listed (due reading rules ended (bytes ++ more)).whole in
-      let before = closed_of (judgement_of reading rules bytes) in
-      (grown.0 ++ last, ap (λ (ps : List Prefix). ps ++ last) closed ∙ append_assoc before grown.0 last
-      ∙ ap (λ (ps : List Prefix). ps ++ (grown.0 ++ last)) (sym (append-nil before)))
+      let before = closed_of (judgement_of reading rules bytes) in (
+        grown.0 ++ last,
+        ap (λ (ps : List Prefix). ps ++ last) closed ∙ append_assoc before grown.0 last
+            ∙ ap (λ (ps : List Prefix). ps ++ (grown.0 ++ last)) (sym (append-nil before)),
+      )
 
   pub due_bounded : (bytes : List ℕ) → (due reading rules false bytes).fault ≡ None
       → length bytes ≤ most

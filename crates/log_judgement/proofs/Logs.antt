@@ -84,7 +84,6 @@ record Closed (h : Header) (batches : List (List Event)) (j : Judgement) : Type 
   all : before ++ last ∷ [] ≡ batches
 
 module _ (names : Header → Option FormulaFault) (h : Header) where
-
   one_closed : (done : List (List Event)) (b : List Event) (bs : List (List Event)) (next : Judgement)
       → batch_fault (with_batches (no_events (length h.procs)) done) b ≡ None
       → closing (with_names names) (prefix_at h done) b next ≡ next

@@ -22,9 +22,11 @@ items_behind : (bytes past : List ℕ)
 items_behind [] past = ([], sym (append-nil (items past)))
 items_behind (b ∷ bytes) past =
     let one = items_byte b past in
-    let others = items_behind bytes (b ∷ past) in
-    (one.0 ++ others.0, others.1 ∙ ap (λ (xs : List Item). xs ++ others.0) one.1
-    ∙ append_assoc (items past) one.0 others.0)
+    let others = items_behind bytes (b ∷ past) in (
+      one.0 ++ others.0,
+      others.1 ∙ ap (λ (xs : List Item). xs ++ others.0) one.1
+          ∙ append_assoc (items past) one.0 others.0,
+    )
 
 module _ (bytes more : List ℕ) where
   past_is : onto (bytes ++ more) [] ≡ onto more (onto bytes [])

@@ -33,8 +33,7 @@ reports_split : (q : Asked) (watches : Watches) (front rest : List Prefix) (text
     → AreReports q watches (front ++ rest) text → Split q watches front rest text
 reports_split q watches [] rest text h = ([], text, refl, h, refl)
 reports_split q watches (log ∷ front) rest text h =
-    let others = reports_split q watches front rest h.2 h.3 in
-    (
+    let others = reports_split q watches front rest h.2 h.3 in (
       report_text h.0 ++ others.0,
       others.1,
       (h.0, h.1, others.0, others.2, refl),

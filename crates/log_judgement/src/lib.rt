@@ -8,10 +8,9 @@
 // Not said here: how the text is made and written.
 #![tactic(auto)]
 
-mod refusal;
-
 pub mod due_laws;
 pub mod log_laws;
+mod refusal;
 pub mod text_laws;
 
 pub use refusal::Refusal;

@@ -167,6 +167,8 @@ module _ (cs : List Condition) (xs ys : List ℕ) (n : ℕ) (f : Fault) where
 abbrev pub IsOfLog : Fault → Type 0
 IsOfLog (fault.Log f) = Unit {0}
 IsOfLog (fault.NotBuilt line) = Unit {0}
+IsOfLog fault.Usage = ⊥
+IsOfLog (fault.Formula f) = ⊥
 IsOfLog fault.Read = ⊥
 IsOfLog fault.Write = ⊥
 IsOfLog fault.Memory = ⊥

@@ -1,6 +1,10 @@
 -- Words ask for one formula, and bytes are a text of one log for it.
 use Rattle.std.proofs.Common.{◌≡◌, ℕ, List, [], ◌∷◌, sym, ap, ◌∙◌}
 use Rattle.std.proofs.lemmas.Option.{same_Some}
+use Rattle.rctl_grammar.specs.declared.tree.Tree.{Tree}
+use Rattle.rctl_grammar.specs.Shape.{shape_of}
+use Rattle.rctl_print.specs.Canonical.{canonical}
+use Rattle.run_request.proofs.OneQuestion.{asks_one}
 use Rattle.event_log.specs.declared.log.Log.{Log}
 use Rattle.pota_top.specs.Request.{Condition, Asks}
 use Rattle.pota_top.specs.RequestReading.{formula_in}
@@ -17,13 +21,10 @@ one_log bytes cs a b is also = ap log_in (sym (log_judged cs bytes a is) ∙ log
     log_in (growing g) = record { header = g.header; batches = g.closed }
     log_in (refused n f) = a
 
-abbrev second : List (List ℕ) → List ℕ
-second [] = []
-second (w ∷ []) = []
-second (w ∷ v ∷ vs) = v
-
 pub one_text : (words : List (List ℕ)) (cs ds : List Condition) (a : Asks words cs) (b : Asks words ds) → a.text ≡ b.text
-one_text words cs ds a b = ap second (sym a.two ∙ b.two)
+one_text words cs ds a b =
+    let same = asks_one words a.task b.task a.tree b.tree a.asks b.asks in
+    a.printed ∙ ap (λ (t : Tree). canonical (shape_of t)) same.1 ∙ sym b.printed
 
 pub one_formula : (words : List (List ℕ)) (cs ds : List Condition) → Asks words cs → Asks words ds → cs ≡ ds
 one_formula words cs ds a b =

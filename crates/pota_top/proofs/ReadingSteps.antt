@@ -107,6 +107,8 @@ stop_of left lf lf' cs bytes stop ended at due_is = go stop.fault stop.batches d
     go (fault.Log x) n d p = (ended, at, d)
     go (fault.NotBuilt line) n d p = (ended, at, d)
     go fault.Read n d p = absurd p
+    go fault.Usage n d p = absurd p
+    go (fault.Formula x) n d p = absurd p
     go fault.Write n d p = absurd p
     go fault.Memory n d p = absurd p
 
@@ -236,6 +238,8 @@ module _ (left now : Option (List ℕ)) (lf lf_now : ℕ) (cs : List Condition) 
       go (fault.Log x) k = k
       go (fault.NotBuilt line) k = k
       go fault.Read k = (k.0, let e = k.1 in omega (arith, e, later))
+      go fault.Usage k = absurd k
+      go (fault.Formula x) k = absurd k
       go fault.Write k = absurd k
       go fault.Memory k = absurd k
 

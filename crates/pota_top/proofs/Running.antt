@@ -11,6 +11,10 @@ use Rattle.pota_base.specs.declared.fault.Refused.TheVariants as refusal
 use Rattle.pota_base.specs.declared.status.Status.{Status}
 use Rattle.pota_base.specs.declared.status.Status.TheVariants as status
 use Rattle.event_log.specs.declared.log.Log.{Log}
+use Rattle.run_request.specs.declared.question.QuestionFault.{QuestionFault}
+use Rattle.run_request.specs.declared.question.QuestionFault.TheVariants as question
+use Rattle.run_request.specs.Questions.{IsQuestionFault}
+use Rattle.run_request.proofs.OneQuestion.{asks_free, faults_one}
 use Rattle.trace_growth.specs.Growing.{TraceView}
 use Rattle.pota_top.specs.declared.outcome.Fault.{Fault}
 use Rattle.pota_top.specs.declared.outcome.Fault.TheVariants as fault
@@ -20,11 +24,11 @@ use Rattle.pota_top.specs.declared.request.Request.{Request}
 use Rattle.pota_top.specs.declared.session.Stop.{Stop}
 use Rattle.pota_top.specs.declared.top.Judged.{Judged}
 use Rattle.pota_top.specs.Due.{Due, due}
-use Rattle.pota_top.specs.Outcome.{status_of}
+use Rattle.pota_top.specs.Outcome.{status_of, fault_of_question}
 use Rattle.pota_top.specs.Request.{Condition, Asks}
 use Rattle.pota_top.specs.RequestReading.{conditions_of, IsUnderstood}
 use Rattle.pota_top.specs.Report.{report_text}
-use Rattle.pota_top.specs.Run.{Answer, Answers, Decides, HasVerdict, IsCalm, IsLogFor, IsOtherRequest, IsRefused, IsTrueAtStart, Ran, Refuses, report_of}
+use Rattle.pota_top.specs.Run.{Answer, Answers, Decides, HasVerdict, IsCalm, IsLogFor, IsMisasked, IsOtherRequest, IsRefused, IsTrueAtStart, Ran, Refuses, report_of}
 use Rattle.pota_top.specs.Session.{IsTraceFor, StopsAt, HasReadLog}
 use Rattle.pota_top.specs.Judging.{Answered, AnswerOn, HasTold, HasWritten, IsVerdictOn}
 use Rattle.pota_top.proofs.Dues.{due_stays}
@@ -66,7 +70,7 @@ concludes held held' before now r bytes j o v w = go w.ended
 -- ---- from the bytes to the words
 
 abbrev asks_of : (words : List (List ℕ)) (r : Request) → IsUnderstood words (Some r) → Asks words (conditions_of r.comparisons.items)
-asks_of words r u = record { text = r.text.now; two = u.0; formula = u.1 }
+asks_of words r u = u.0
 
 abbrev answers_from : (words : List (List ℕ)) (r : Request) (bytes report : List ℕ) (verdict : Bool) (n : ℕ) → IsUnderstood words (Some r) → IsVerdictOn r bytes (record { batches = n; verdict = verdict; report = report })
     → Answers words bytes report verdict
@@ -76,7 +80,7 @@ answers_from words r bytes report verdict n u v = record {
   log = v.log;
   logged = v.logged;
   truth = v.truth;
-  text = v.text;
+  text = v.text ∙ ap (λ (t : List ℕ). report_text (report_of v.log t verdict)) (sym u.1);
 }
 
 answer_from : (st : Status) (left : Option (List ℕ)) (lf lf' before now : ℕ) (words : List (List ℕ)) (r : Request) (bytes written : List ℕ) (o : Outcome)
@@ -129,6 +133,8 @@ stopped (fault.Log x) n left lf lf' of words r read u s =
 stopped (fault.NotBuilt line) n left lf lf' of words r read u s =
     inr (line, record { conditions = conditions_of r.comparisons.items; asks = asks_of words r u; ended = s.0; at_end = s.1; due_is = s.2; fault = refl; nothing = refl })
 stopped fault.Read n left lf lf' of words r read u s = (record { conditions = conditions_of r.comparisons.items; asks = asks_of words r u; due_is = s.0; fault = refl; nothing = refl }, s.1)
+stopped fault.Usage n left lf lf' of words r read u s = absurd s
+stopped (fault.Formula f) n left lf lf' of words r read u s = absurd s
 stopped fault.Write n left lf lf' of words r read u s = absurd s
 stopped fault.Memory n left lf lf' of words r read u s = absurd s
 
@@ -171,6 +177,27 @@ ran_other left held lf of words o other is = subst (Ran left left held held lf l
   out_later = omega arith;
   answer = inl (record { written = refl; batches = refl; fault = refl }, other, refl);
 })
+
+-- what is wrong with the words or their formula
+misasked_answer : (words : List (List ℕ)) (left : Option (List ℕ)) (lf of : ℕ) (f : QuestionFault) → IsQuestionFault words f
+    → Answer (status_of (fault_of_question f)) left lf lf of of words [] [] (record { status = status_of (fault_of_question f); batches = 0; fault = Some (fault_of_question f) })
+misasked_answer words left lf of question.Usage is = (is, record { written = refl; batches = refl; fault = refl }, refl)
+misasked_answer words left lf of (question.Formula f) is = (f, (is, record { written = refl; batches = refl; fault = refl }, refl))
+
+pub ran_misasked : (left held : Option (List ℕ)) (lf of : ℕ) (words : List (List ℕ)) (f : QuestionFault) (g : Fault) (o : Outcome) → IsQuestionFault words f
+    → g ≡ fault_of_question f → o ≡ record { status = status_of g; batches = 0; fault = Some g } → Ran left left held held lf lf of of words o
+ran_misasked left held lf of words f g o is of_question ended =
+    let whole : o ≡ record { status = status_of (fault_of_question f); batches = 0; fault = Some (fault_of_question f) } =
+    subst (λ (x : Fault). o ≡ record { status = status_of x; batches = 0; fault = Some x }) of_question ended in
+    subst (Ran left left held held lf lf of of words) (sym whole) (record {
+      read = [];
+      written = [];
+      consumed = Consumes-nil left;
+      wrote = Appends-nil held;
+      log_later = omega arith;
+      out_later = omega arith;
+      answer = misasked_answer words left lf of f is;
+    })
 
 pub no_bytes : (left : Option (List ℕ)) → (read : List ℕ) × Consumes left left read
 no_bytes left = ([], Consumes-nil left)
@@ -248,13 +275,13 @@ module _ (left left' held held' : Option (List ℕ)) (lf lf' of of' : ℕ) (word
   decided_as status.True is a cs log asks logged = decided_verdict true is a cs log asks logged
   decided_as status.False is a cs log asks logged = decided_verdict false is a cs log asks logged
   decided_as status.Log is a cs log asks logged = absurd (not_both (due true cs bytes) o.batches (length log.batches) (fault.Log a.0) (refused_due (fault.Log a.0) a.1 cs asks) (log_due cs bytes log logged))
-  decided_as status.NotBuilt is (inl other) cs log asks logged = absurd (other.1 cs asks)
+  decided_as status.NotBuilt is (inl other) cs log asks logged = absurd (other.1.1 cs asks)
   decided_as status.NotBuilt is (inr a) cs log asks logged = absurd (not_both (due true cs bytes) o.batches (length log.batches) (fault.NotBuilt a.0) (refused_due (fault.NotBuilt a.0) a.1 cs asks) (log_due cs bytes log logged))
   decided_as status.ReadFault is a cs log asks logged = absurd (calm.0 a.1)
   decided_as status.WriteFault is a cs log asks logged = absurd (calm.1 a.1)
   decided_as status.OutOfMemory is a cs log asks logged = absurd (calm.2 is)
-  decided_as status.Usage is a cs log asks logged = absurd a
-  decided_as status.Formula is a cs log asks logged = absurd a
+  decided_as status.Usage is a cs log asks logged = absurd (asks_free words asks.task asks.tree asks.asks question.Usage a.0)
+  decided_as status.Formula is a cs log asks logged = absurd (asks_free words asks.task asks.tree asks.asks (question.Formula a.0) a.1.0)
 
   pub decided : (cs : List Condition) (log : Log) (asks : Asks words cs) → IsLogFor bytes cs log → Decides log cs asks.text held held' o
   decided cs log asks logged = decided_as o.status refl ran.answer cs log asks logged
@@ -274,13 +301,13 @@ module _ (left left' held held' : Option (List ℕ)) (lf lf' of of' : ℕ) (word
   refused_as status.True is a cs n f asks h = absurd (not_both (due true cs bytes) n (length a.answers.log.batches) f h (verdict_due true a cs asks))
   refused_as status.False is a cs n f asks h = absurd (not_both (due true cs bytes) n (length a.answers.log.batches) f h (verdict_due false a cs asks))
   refused_as status.Log is a cs n f asks h = refused_with n f (fault.Log a.0) is a.1 cs asks h
-  refused_as status.NotBuilt is (inl other) cs n f asks h = absurd (other.1 cs asks)
+  refused_as status.NotBuilt is (inl other) cs n f asks h = absurd (other.1.1 cs asks)
   refused_as status.NotBuilt is (inr a) cs n f asks h = refused_with n f (fault.NotBuilt a.0) is a.1 cs asks h
   refused_as status.ReadFault is a cs n f asks h = absurd (calm.0 a.1)
   refused_as status.WriteFault is a cs n f asks h = absurd (calm.1 a.1)
   refused_as status.OutOfMemory is a cs n f asks h = absurd (calm.2 is)
-  refused_as status.Usage is a cs n f asks h = absurd a
-  refused_as status.Formula is a cs n f asks h = absurd a
+  refused_as status.Usage is a cs n f asks h = absurd (asks_free words asks.task asks.tree asks.asks question.Usage a.0)
+  refused_as status.Formula is a cs n f asks h = absurd (asks_free words asks.task asks.tree asks.asks (question.Formula a.0) a.1.0)
 
   pub refused_clause : (cs : List Condition) (n : ℕ) (f : Fault) → Asks words cs → due true cs bytes ≡ record { batches = n; fault = Some f } → Refuses n f held held' o
   refused_clause cs n f asks h = refused_as o.status refl ran.answer cs n f asks h
@@ -289,16 +316,42 @@ module _ (left left' held held' : Option (List ℕ)) (lf lf' of of' : ℕ) (word
 
 module _ (left left' held held' : Option (List ℕ)) (lf lf' of of' : ℕ) (words : List (List ℕ)) (o : Outcome) (ran : Ran left left' held held' lf lf' of of' words o) (calm : IsCalm lf lf' of of' o) where
   open_as : (st : Status) → o.status ≡ st → Answer st left' lf lf' of of' words ran.read ran.written o → IsOtherRequest words → Refuses 0 (fault.NotBuilt 0) held held' o
-  open_as status.True is a other = absurd (other a.answers.conditions a.answers.asks)
-  open_as status.False is a other = absurd (other a.answers.conditions a.answers.asks)
-  open_as status.Log is a other = absurd (other a.1.conditions a.1.asks)
+  open_as status.True is a other = absurd (other.1 a.answers.conditions a.answers.asks)
+  open_as status.False is a other = absurd (other.1 a.answers.conditions a.answers.asks)
+  open_as status.Log is a other = absurd (other.1 a.1.conditions a.1.asks)
   open_as status.NotBuilt is (inl a) other = record { status = is; batches_are = a.0.batches; fault = a.0.fault; written = subst (Appends held held') a.0.written ran.wrote }
-  open_as status.NotBuilt is (inr a) other = absurd (other a.1.conditions a.1.asks)
+  open_as status.NotBuilt is (inr a) other = absurd (other.1 a.1.conditions a.1.asks)
   open_as status.ReadFault is a other = absurd (calm.0 a.1)
   open_as status.WriteFault is a other = absurd (calm.1 a.1)
   open_as status.OutOfMemory is a other = absurd (calm.2 is)
-  open_as status.Usage is a other = absurd a
-  open_as status.Formula is a other = absurd a
+  open_as status.Usage is a other = absurd (asks_free words other.0.0 other.0.1 other.0.2 question.Usage a.0)
+  open_as status.Formula is a other = absurd (asks_free words other.0.0 other.0.1 other.0.2 (question.Formula a.0) a.1.0)
 
   pub left_open : IsOtherRequest words → Refuses 0 (fault.NotBuilt 0) held held' o
   left_open other = open_as o.status refl ran.answer other
+
+  -- ---- faults of the words and their formula
+
+  asked_free : (cs : List Condition) → Asks words cs → (f : QuestionFault) → IsQuestionFault words f → ⊥
+  asked_free cs asks f h = asks_free words asks.task asks.tree asks.asks f h
+
+  misasked_with : (f g : QuestionFault) → o.status ≡ status_of (fault_of_question g) → IsMisasked words ran.read ran.written o g → IsQuestionFault words f → Refuses 0 (fault_of_question f) held held' o
+  misasked_with f g is a h =
+      let same = faults_one words g f a.0 h in
+      let mine : Refuses 0 (fault_of_question g) held held' o = record { status = is; batches_are = a.1.batches; fault = a.1.fault; written = subst (Appends held held') a.1.written ran.wrote } in
+      subst (λ (x : QuestionFault). Refuses 0 (fault_of_question x) held held' o) same mine
+
+  misasked_as : (st : Status) → o.status ≡ st → Answer st left' lf lf' of of' words ran.read ran.written o → (f : QuestionFault) → IsQuestionFault words f → Refuses 0 (fault_of_question f) held held' o
+  misasked_as status.True is a f h = absurd (asked_free a.answers.conditions a.answers.asks f h)
+  misasked_as status.False is a f h = absurd (asked_free a.answers.conditions a.answers.asks f h)
+  misasked_as status.Log is a f h = absurd (asked_free a.1.conditions a.1.asks f h)
+  misasked_as status.NotBuilt is (inl a) f h = absurd (asks_free words a.1.0.0 a.1.0.1 a.1.0.2 f h)
+  misasked_as status.NotBuilt is (inr a) f h = absurd (asked_free a.1.conditions a.1.asks f h)
+  misasked_as status.ReadFault is a f h = absurd (calm.0 a.1)
+  misasked_as status.WriteFault is a f h = absurd (calm.1 a.1)
+  misasked_as status.OutOfMemory is a f h = absurd (calm.2 is)
+  misasked_as status.Usage is a f h = misasked_with f question.Usage is a h
+  misasked_as status.Formula is a f h = misasked_with f (question.Formula a.0) is a.1 h
+
+  pub misasked : (f : QuestionFault) → IsQuestionFault words f → Refuses 0 (fault_of_question f) held held' o
+  misasked f h = misasked_as o.status refl ran.answer f h

@@ -21,3 +21,9 @@ told_line r old new before now fault a b c text p q s t ok err cause =
     let line : text ≡ line_of (Some fault) = t ∙ s ∙ ap (λ (x : List ℕ). x ++ 10 ∷ []) (q ∙ ap (λ (x : List ℕ). x ++ cause_of fault) p)
     ∙ append_assoc (codes "pota: ") (cause_of fault) (10 ∷ []) in
     subst (Told old new before now) line (told_text r old new before now text ok err cause)
+
+-- four texts, one behind the other
+pub four_texts : (a b c d e x y z w : List ℕ) → b ≡ a ++ x → c ≡ b ++ y → d ≡ c ++ z → e ≡ d ++ w → e ≡ a ++ (x ++ (y ++ (z ++ w)))
+four_texts a b c d e x y z w p q r s =
+    s ∙ ap (λ (t : List ℕ). t ++ w) (r ∙ ap (λ (t : List ℕ). t ++ z) (q ∙ ap (λ (t : List ℕ). t ++ y) p))
+    ∙ append_assoc ((a ++ x) ++ y) z w ∙ append_assoc (a ++ x) y (z ++ w) ∙ append_assoc a x (y ++ (z ++ w))

@@ -1,4 +1,5 @@
--- What is due of a log for the conditions of a formula: the batches closed without fault, and the first fault.
+-- What is due of a log for the conditions of a formula: the batches closed without fault, and the
+-- first fault.
 use Rattle.std.specs.Prelude.{ℕ, ◌+◌, Bool, true, false, not, ◌&&◌, ◌||◌, ◌==◌, nat_lt, min, List, [], ◌∷◌, ◌++◌, length, Option, None, Some, is_some, if◌then◌else◌}
 use Rattle.std.specs.Option.{option_map}
 use Rattle.log_lines.specs.Names.{place_of}
@@ -23,7 +24,9 @@ use Rattle.pota_top.specs.Request.{Condition}
 
 -- whether the process of the condition is one of the header's, and its variable one of that process
 abbrev pub is_known : Header → Condition → Bool
-is_known h c = choose (place_of h.procs c.process) (λ p. is_some (place_of (binding_names (variables_at h.vars p)) c.variable)) false
+is_known h c =
+    choose (place_of h.procs c.process)
+    (λ p. is_some (place_of (binding_names (variables_at h.vars p)) c.variable)) false
 
 abbrev pub are_known : Header → List Condition → Bool
 are_known h [] = true
@@ -41,10 +44,12 @@ line_behind h = line_count h.vars + 3
 
 -- ---- clocks
 
--- whether some component is positive, but for that of the process; the first one is that of process `start`
+-- whether some component is positive, but for that of the process; the first one is that of process
+-- `start`
 abbrev pub names_other : ℕ → ℕ → List ℕ → Bool
 names_other start process [] = false
-names_other start process (n ∷ ns) = (not (start == process) && nat_lt 0 n) || names_other (start + 1) process ns
+names_other start process (n ∷ ns) =
+    (not (start == process) && nat_lt 0 n) || names_other (start + 1) process ns
 
 -- whether the clock of the event names an event of another process
 abbrev pub is_foreign : Event → Bool
@@ -66,7 +71,8 @@ counted batches = min (length batches) 4294967295
 
 -- ---- item by item
 
--- a log whose header has the names: the batches that were closed without fault, and the events since
+-- a log whose header has the names: the batches that were closed without fault, and the events
+-- since
 pub record Growth : Type 0 where
   pub header : Header
   pub closed : List (List Event)
@@ -84,7 +90,9 @@ pub data Judgement : Type 0 where
 
 -- the names of the conditions are looked up where the header stands
 abbrev pub opened : List Condition → Header → Judgement
-opened cs h = if are_known h cs then growing (record { header = h; closed = []; open_ = [] }) else refused 0 (fault.NotBuilt (line_behind h))
+opened cs h =
+    if are_known h cs then growing (record { header = h; closed = []; open_ = [] })
+    else refused 0 (fault.NotBuilt (line_behind h))
 
 -- a batch is closed, or has this fault
 abbrev pub closing : Growth → Option LogFault → Judgement
@@ -117,16 +125,19 @@ pub record Due : Type 0 where
   pub batches : ℕ
   pub fault : Option Fault
 
--- The judgement of the items comes before the fault of the text, which stands behind the items; where neither refuses, the rest is due.
+-- The judgement of the items comes before the fault of the text, which stands behind the items;
+-- where neither refuses, the rest is due.
 abbrev pub told : Judgement → Option LogFault → Option Fault → Due
 told waiting text rest = record { batches = 0; fault = choose text (λ f. Some (fault.Log f)) rest }
-told (growing g) text rest = record { batches = counted g.closed; fault = choose text (λ f. Some (fault.Log f)) rest }
+told (growing g) text rest =
+    record { batches = counted g.closed; fault = choose text (λ f. Some (fault.Log f)) rest }
 told (refused n f) text rest = record { batches = n; fault = Some f }
 
 -- an event that names one of another process is not built
 abbrev pub not_apart : Judgement → Option Fault
 not_apart waiting = None
-not_apart (growing g) = option_map (λ line. fault.NotBuilt line) (first_foreign (events_of g.closed ++ g.open_))
+not_apart (growing g) =
+    option_map (λ line. fault.NotBuilt line) (first_foreign (events_of g.closed ++ g.open_))
 not_apart (refused n f) = None
 
 -- what the items that the bytes give make of the conditions
@@ -136,4 +147,5 @@ judgement_of cs bytes = judged cs waiting (items_in bytes)
 -- of bytes with more behind them, and of bytes with which the input has ended
 abbrev pub due : Bool → List Condition → List ℕ → Due
 due false cs bytes = told (judgement_of cs bytes) (fault_of bytes) None
-due true cs bytes = told (judgement_of cs bytes) (end_fault (onto bytes [])) (not_apart (judgement_of cs bytes))
+due true cs bytes =
+    told (judgement_of cs bytes) (end_fault (onto bytes [])) (not_apart (judgement_of cs bytes))

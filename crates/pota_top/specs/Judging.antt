@@ -23,20 +23,28 @@ pub record IsVerdictOn (r : Request) (bytes : List ℕ) (j : Judged) : Type 0 wh
 
 -- this verdict and this report
 abbrev pub HasTold : Request → List ℕ → Bool → List ℕ → Outcome → Type 0
-HasTold r bytes verdict report o = IsVerdictOn r bytes (record { batches = o.batches; verdict = verdict; report = report })
+HasTold r bytes verdict report o =
+    IsVerdictOn r bytes (record { batches = o.batches; verdict = verdict; report = report })
 
 -- the report was written whole and the status is the verdict, or the sink failed
-pub record HasWritten (held held' : Option (List ℕ)) (before now : ℕ) (j : Judged) (o : Outcome) : Type 0 where
+pub record HasWritten (held held' : Option (List ℕ)) (before now : ℕ) (j : Judged) (o : Outcome) :
+    Type 0 where
   pub later : before ≤ now
   pub batches : o.batches ≡ j.batches
-  pub ended : ((o.status ≡ (if j.verdict then status.True else status.False)) × (o.fault ≡ None) × Appends held held' j.report)
-      ⊎ ((o.status ≡ status.WriteFault) × (o.fault ≡ Some fault.Write) × AppendsPrefix held held' j.report × Rose before now)
+  pub ended : ((o.status ≡ (if j.verdict then status.True else status.False)) × (o.fault ≡ None)
+      × Appends held held' j.report)
+      ⊎ ((o.status ≡ status.WriteFault) × (o.fault ≡ Some fault.Write)
+      × AppendsPrefix held held' j.report × Rose before now)
 
 -- what a status says of the answer to a request on these bytes
 abbrev pub AnswerOn : Status → ℕ → ℕ → Request → List ℕ → List ℕ → Outcome → Type 0
-AnswerOn status.True before now r bytes written o = HasTold r bytes true written o × (o.fault ≡ None)
-AnswerOn status.False before now r bytes written o = HasTold r bytes false written o × (o.fault ≡ None)
-AnswerOn status.WriteFault before now r bytes written o = (report : List ℕ) × (verdict : Bool) × HasTold r bytes verdict report o × IsPrefix written report
+AnswerOn status.True before now r bytes written o =
+    HasTold r bytes true written o × (o.fault ≡ None)
+AnswerOn status.False before now r bytes written o =
+    HasTold r bytes false written o × (o.fault ≡ None)
+AnswerOn status.WriteFault before now r bytes written o =
+    (report : List ℕ) × (verdict : Bool) × HasTold r bytes verdict report o
+    × IsPrefix written report
     × (o.fault ≡ Some fault.Write) × Rose before now
 AnswerOn status.OutOfMemory before now r bytes written o = HasNothing written o fault.Memory
 AnswerOn status.NotBuilt before now r bytes written o = ⊥
@@ -46,7 +54,8 @@ AnswerOn status.Formula before now r bytes written o = ⊥
 AnswerOn status.Log before now r bytes written o = ⊥
 
 -- what was written in answer to a request on these bytes
-pub record Answered (held held' : Option (List ℕ)) (before now : ℕ) (r : Request) (bytes : List ℕ) (o : Outcome) : Type 0 where
+pub record Answered (held held' : Option (List ℕ)) (before now : ℕ) (r : Request) (bytes : List ℕ)
+    (o : Outcome) : Type 0 where
   pub written : List ℕ
   pub wrote : Appends held held' written
   pub later : before ≤ now

@@ -6,33 +6,56 @@ use Rattle.pota_base.specs.Outside.{Rose, AppendsPrefix}
 use Rattle.pota_base.specs.declared.status.Status.{Status}
 use Rattle.pota_base.specs.declared.status.Status.TheVariants as status
 use Rattle.event_log.specs.declared.item.LogFault.{LogFault}
-use Rattle.pota_top.specs.FaultText.{code_text}
+use Rattle.rctl_grammar.specs.declared.fault.FormulaFault.{FormulaFault}
+use Rattle.run_request.specs.declared.question.QuestionFault.{QuestionFault}
+use Rattle.run_request.specs.declared.question.QuestionFault.TheVariants as question
+use Rattle.pota_top.specs.FaultText.{formula_code_text, log_code_text}
 use Rattle.pota_top.specs.declared.outcome.Fault.{Fault}
-use Rattle.pota_top.specs.declared.outcome.Fault.TheVariants.{Log, Read, Write, Memory, NotBuilt}
+use Rattle.pota_top.specs.declared.outcome.Fault.TheVariants as fault
 
--- the line of a fault of a log, and what it is
-abbrev pub fault_text : LogFault → List ℕ
-fault_text f = codes "log line " ++ (decimal f.line ++ (codes ": " ++ code_text f.code))
+-- which words are taken
+abbrev pub usage_text : List ℕ
+usage_text =
+    codes "usage: pota check FORMULA [--workers N] [--slice] [--witness] [--each-batch]"
+    ++ codes " or pota bench FORMULA --seed N --procs N --events N [--workers N]"
+
+-- the byte of the formula, and what is wrong there
+abbrev pub formula_text : FormulaFault → List ℕ
+formula_text f = codes "formula byte "
+    ++ (decimal f.place ++ (codes ": " ++ formula_code_text f.code))
+
+-- the line of the log, and what is wrong there
+abbrev pub log_text : LogFault → List ℕ
+log_text f = codes "log line " ++ (decimal f.line ++ (codes ": " ++ log_code_text f.code))
 
 abbrev pub cause_of : Fault → List ℕ
-cause_of (Log f) = fault_text f
-cause_of Read = codes "read fault"
-cause_of Write = codes "write fault"
-cause_of Memory = codes "out of memory"
-cause_of (NotBuilt line) = codes "line " ++ (decimal line ++ codes ": not built")
+cause_of fault.Usage = usage_text
+cause_of (fault.Formula f) = formula_text f
+cause_of (fault.Log f) = log_text f
+cause_of fault.Read = codes "read fault"
+cause_of fault.Write = codes "write fault"
+cause_of fault.Memory = codes "out of memory"
+cause_of (fault.NotBuilt line) = codes "line " ++ (decimal line ++ codes ": not built")
 
 -- the status of a run that ended so
 abbrev pub status_of : Fault → Status
-status_of (Log f) = status.Log
-status_of Read = status.ReadFault
-status_of Write = status.WriteFault
-status_of Memory = status.OutOfMemory
-status_of (NotBuilt line) = status.NotBuilt
+status_of fault.Usage = status.Usage
+status_of (fault.Formula f) = status.Formula
+status_of (fault.Log f) = status.Log
+status_of fault.Read = status.ReadFault
+status_of fault.Write = status.WriteFault
+status_of fault.Memory = status.OutOfMemory
+status_of (fault.NotBuilt line) = status.NotBuilt
+
+-- what is wrong with the words or their formula
+abbrev pub fault_of_question : QuestionFault → Fault
+fault_of_question question.Usage = fault.Usage
+fault_of_question (question.Formula f) = fault.Formula f
 
 -- one line for each run without a verdict
 abbrev pub line_of : Option Fault → List ℕ
 line_of None = []
-line_of (Some fault) = codes "pota: " ++ (cause_of fault ++ 10 ∷ [])
+line_of (Some f) = codes "pota: " ++ (cause_of f ++ 10 ∷ [])
 
 -- a sink that didn't fail has got the whole line, and in any case some front of it
 pub record Told (old new : Option (List ℕ)) (before now : ℕ) (line : List ℕ) : Type 0 where

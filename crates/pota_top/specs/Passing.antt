@@ -1,4 +1,5 @@
--- Whether the names of conditions are known, and whether a process passes through a state where those on it hold.
+-- Whether the names of conditions are known, and whether a process passes through a state where
+-- those on it hold.
 use Rattle.std.specs.Prelude.{◌≡◌, ℕ, ◌<◌, ◌≤◌, List, [], length, get_or, Some}
 use Rattle.std.specs.List.{AllByRecursion}
 use Rattle.log_lines.specs.Names.{place_of}
@@ -13,12 +14,14 @@ pub record IsNamed (h : Header) (c : Condition) : Type 0 where
   pub process : ℕ
   pub process_there : place_of h.procs c.process ≡ Some process
   pub variable : ℕ
-  pub variable_there : place_of (binding_names (variables_at h.vars process)) c.variable ≡ Some variable
+  pub variable_there : place_of (binding_names (variables_at h.vars process)) c.variable
+      ≡ Some variable
 
 -- the condition is on this process, and its variable is the one of this number
 pub record IsVariableOn (h : Header) (process : ℕ) (c : Condition) (variable : ℕ) : Type 0 where
   pub process_there : place_of h.procs c.process ≡ Some process
-  pub variable_there : place_of (binding_names (variables_at h.vars process)) c.variable ≡ Some variable
+  pub variable_there : place_of (binding_names (variables_at h.vars process)) c.variable
+      ≡ Some variable
   pub within : variable < length (variables_at h.vars process)
 
 abbrev pub AreNamed : Header → List Condition → Type 0

@@ -17,7 +17,9 @@ names_in trace = map (λ (p : Process). p.name) trace
 
 -- after a events of process i the condition holds, if it is on that process
 abbrev pub MeetsOne : Trace → ℕ → ℕ → Condition → Type 0
-MeetsOne trace i a c = number_of c.process (names_in trace) ≡ i → value_after (process_at trace i) c.variable a ≡ c.value
+MeetsOne trace i a c =
+    number_of c.process (names_in trace) ≡ i
+    → value_after (process_at trace i) c.variable a ≡ c.value
 
 -- after a events of process i all conditions on it hold
 abbrev pub Meets : Trace → ℕ → ℕ → List Condition → Type 0
@@ -25,7 +27,9 @@ Meets trace i a cs = AllByRecursion (MeetsOne trace i a) cs
 
 -- each process passes through a state in which all conditions on it hold
 abbrev pub EachPasses : Trace → List Condition → Type 0
-EachPasses trace cs = (i : ℕ) → i < length trace → (a : ℕ) × (a ≤ count (lengths (clocks_of trace)) i) × Meets trace i a cs
+EachPasses trace cs =
+    (i : ℕ) → i < length trace → (a : ℕ) × (a ≤ count (lengths (clocks_of trace)) i)
+    × Meets trace i a cs
 
 -- the processes of all conditions are there
 abbrev pub AreThere : Trace → List Condition → Type 0

@@ -5,7 +5,8 @@ use Rattle.log_lines.specs.Names.{Name}
 use Rattle.log_lines.specs.Spelling.{names_text, clock_text}
 use Rattle.run_model.specs.Cut.{Cut}
 
--- what is told of a run after a batch: the names and lengths of its processes, the formula as text, and its truth at the initial cut
+-- what is told of a run after a batch: the names and lengths of its processes, the formula as text,
+-- and its truth at the initial cut
 pub record Report : Type 0 where
   pub batch : ℕ
   pub procs : List Name
@@ -22,5 +23,9 @@ abbrev pub line : List ℕ → List ℕ → List ℕ
 line bytes rest = bytes ++ 10 ∷ rest
 
 unfoldable pub report_text : Report → List ℕ
-report_text r = line (codes "pota-report 1") (line (codes "batch " ++ decimal r.batch) (line (codes "procs" ++ names_text r.procs)
-    (line (codes "lengths " ++ clock_text r.lengths) (line (codes "formula " ++ r.formula) (line (codes "verdict " ++ truth_text r.verdict) (line (codes "end") []))))))
+report_text r =
+    line (codes "pota-report 1") (line (codes "batch " ++ decimal r.batch)
+    (line (codes "procs" ++ names_text r.procs)
+    (line (codes "lengths " ++ clock_text r.lengths)
+    (line (codes "formula " ++ r.formula)
+    (line (codes "verdict " ++ truth_text r.verdict) (line (codes "end") []))))))

@@ -1,9 +1,16 @@
--- What the words ask for: `check` and a formula `EF (NAME.NAME = INT & ..)` with 2 to 62 comparisons.
-use Rattle.std.specs.Prelude.{◌≡◌, ℕ, ℤ, ◌≤◌, true, List, [], ◌∷◌, ◌++◌, length, FitsSigned, codes}
+-- What is answered: `check` without flags, of a formula `EF (NAME.NAME = INT & ..)` with 2 to 62
+-- comparisons.
+use Rattle.std.specs.Prelude.{◌≡◌, ℕ, ℤ, ◌≤◌, Bool, true, false, not, ◌&&◌, List, [], ◌∷◌, ◌++◌, length, FitsSigned, codes}
 use Rattle.std.specs.Int.{w64}
 use Rattle.std.specs.List.{AllByRecursion}
 use Rattle.std.specs.Fmt.{signed_decimal}
 use Rattle.log_lines.specs.Names.{Name, is_name}
+use Rattle.command_words.specs.declared.request.Task.{Task}
+use Rattle.command_words.specs.declared.request.Task.TheVariants.{Check, Bench}
+use Rattle.rctl_grammar.specs.declared.tree.Tree.{Tree}
+use Rattle.rctl_grammar.specs.Shape.{shape_of}
+use Rattle.rctl_print.specs.Canonical.{canonical}
+use Rattle.run_request.specs.Questions.{AsksFor}
 use Rattle.run_model.specs.Formula.{Formula, Formulas, Comparison, Temporal, And, Nil, Cons, Equal, Number, Ef}
 
 -- `NAME.NAME = INT`: the variable of the process has the value
@@ -14,7 +21,8 @@ pub record Condition : Type 0 where
 
 -- the condition's text, and what follows it
 abbrev pub condition_text : Condition → List ℕ → List ℕ
-condition_text c rest = c.process ++ 46 ∷ (c.variable ++ 32 ∷ 61 ∷ 32 ∷ (signed_decimal c.value ++ rest))
+condition_text c rest =
+    c.process ++ 46 ∷ (c.variable ++ 32 ∷ 61 ∷ 32 ∷ (signed_decimal c.value ++ rest))
 
 -- ` & ` before each further condition
 abbrev pub further_text : List Condition → List ℕ
@@ -47,8 +55,17 @@ pub record IsFormula (text : List ℕ) (cs : List Condition) : Type 0 where
   pub fits : AllByRecursion ConditionFits cs
   pub short : length text ≤ 4096
 
--- the words are `check` and that text
+-- `check` without flags
+abbrev pub is_plain : Task → Bool
+is_plain (Check shown) = not shown.slice && not shown.witness && not shown.each_batch
+is_plain (Bench sizes) = false
+
+-- the words ask for the verdict of a formula, whose canonical text is that of these conditions
 pub record Asks (words : List (List ℕ)) (cs : List Condition) : Type 0 where
+  pub task : Task
+  pub tree : Tree
+  pub asks : AsksFor words task tree
+  pub plain : is_plain task ≡ true
   pub text : List ℕ
-  pub two : words ≡ codes "check" ∷ text ∷ []
+  pub printed : text ≡ canonical (shape_of tree)
   pub formula : IsFormula text cs

@@ -1,11 +1,10 @@
 -- Reading a formula of the first form from left to right.
-use Rattle.std.specs.Prelude.{◌≡◌, ℕ, ◌-◌, ◌&&◌, ◌==◌, nat_le, nat_lt, slice_index, List, [], ◌∷◌, length, take, map, Option, None, Some, codes, if◌then◌else◌}
+use Rattle.std.specs.Prelude.{◌≡◌, ℕ, ◌-◌, ◌&&◌, ◌==◌, nat_le, nat_lt, slice_index, List, [], ◌∷◌, length, take, map, Option, None, Some, if◌then◌else◌}
 use Rattle.std.specs.Borrow.{Bor}
-use Rattle.std.specs.Str.{bytes_eq}
 use Rattle.log_lines.specs.Reading.{◌>>=◌, text_at, name_at, signed_at, items_from}
 use Rattle.pota_top.specs.declared.request.Comparison.{Comparison}
 use Rattle.pota_top.specs.declared.request.Request.{Request}
-use Rattle.pota_top.specs.Request.{Condition, IsFormula, Asks}
+use Rattle.pota_top.specs.Request.{Condition, Asks}
 
 unfoldable pub condition_at : List ℕ → Option (Condition × List ℕ)
 condition_at bytes = do
@@ -27,7 +26,9 @@ conditions_in bytes = do
 
 -- what stands before a closing bracket at the end
 unfoldable pub before_bracket : List ℕ → Option (List ℕ)
-before_bracket bytes = if nat_lt 0 (length bytes) && slice_index bytes (length bytes - 1) == 41 then Some (take (length bytes - 1) bytes) else None
+before_bracket bytes =
+    if nat_lt 0 (length bytes) && slice_index bytes (length bytes - 1) == 41
+    then Some (take (length bytes - 1) bytes) else None
 
 unfoldable pub formula_in : List ℕ → Option (List Condition)
 formula_in text = do
@@ -35,11 +36,6 @@ formula_in text = do
   inside ← before_bracket bracket
   cs ← conditions_in inside
   if nat_le (length text) 4096 && nat_le 2 (length cs) then Some cs else None
-
--- the word behind `check`, where there are these two
-unfoldable pub formula_word : List (List ℕ) → Option (List ℕ)
-formula_word (command ∷ formula ∷ []) = if bytes_eq command (codes "check") then Some formula else None
-formula_word words = None
 
 -- ---- what the code's values say
 
@@ -56,4 +52,5 @@ condition_seen (Some c) = Some (condition_of c.0, c.1.now)
 -- the request that the words make, or that they make none
 abbrev pub IsUnderstood : List (List ℕ) → Option Request → Type 0
 IsUnderstood words None = (cs : List Condition) → Asks words cs → ⊥
-IsUnderstood words (Some r) = (words ≡ codes "check" ∷ r.text.now ∷ []) × IsFormula r.text.now (conditions_of r.comparisons.items)
+IsUnderstood words (Some r) =
+    (a : Asks words (conditions_of r.comparisons.items)) × (a.text ≡ r.text.now)

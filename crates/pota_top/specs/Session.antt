@@ -75,19 +75,23 @@ batches_in (refused n f) = n
 
 -- the trace of a judgement, where no clock names an event of another process
 abbrev pub Hands : Judgement → Result TraceView (Refused Stop) → Type 0
-Hands j (Ok t) = (g : Growth) × (j ≡ growing g) × HasTaken t g.header g.closed × (first_foreign (events_of g.closed ++ g.open_) ≡ None)
+Hands j (Ok t) =
+    (g : Growth) × (j ≡ growing g) × HasTaken t g.header g.closed
+    × (first_foreign (events_of g.closed ++ g.open_) ≡ None)
 Hands j (Err (refusal.Fault stop)) = (not_apart j ≡ Some stop.fault) × (stop.batches ≡ batches_in j)
 Hands j (Err refusal.NoMemory) = Unit {0}
 
 -- these bytes were read and judged without a fault
-pub record HasJudged (cs : List Condition) (r : Reader) (s : Session) (bytes : List ℕ) : Type 0 where
-  pub read : HasRead r (onto bytes [])
-  pub free : fault_of bytes ≡ None
-  pub session : IsSession s (judgement_of cs bytes)
+pub record HasJudged (cs : List Condition) (r : Reader) (s : Session) (bytes : List ℕ) : Type 0
+  where
+    pub read : HasRead r (onto bytes [])
+    pub free : fault_of bytes ≡ None
+    pub session : IsSession s (judgement_of cs bytes)
 
 -- a fault is due of the bytes, and the batches before it
 abbrev pub IsDue : Bool → List Condition → List ℕ → Stop → Type 0
-IsDue ended cs bytes stop = due ended cs bytes ≡ record { batches = stop.batches; fault = Some stop.fault }
+IsDue ended cs bytes stop =
+    due ended cs bytes ≡ record { batches = stop.batches; fault = Some stop.fault }
 
 abbrev pub TakesPiece : List Condition → List ℕ → Reader → Result Turn (Refused Stop) → Type 0
 TakesPiece cs bytes r (Ok (turn.More s)) = HasJudged cs r s bytes
@@ -109,32 +113,47 @@ Finishes cs bytes (Err refusal.NoMemory) = Unit {0}
 
 -- a stop at a read fault, which no fault of the bytes comes before, or at what is due
 abbrev pub StopsAt : Fault → ℕ → Option (List ℕ) → ℕ → ℕ → List Condition → List ℕ → Type 0
-StopsAt fault.Read batches left lf lf' cs bytes = (due false cs bytes ≡ record { batches = batches; fault = None }) × Rose lf lf'
-StopsAt (fault.Log f) batches left lf lf' cs bytes = (ended : Bool) × (ended ≡ true → IsAtEnd left) × (due ended cs bytes ≡ record { batches = batches; fault = Some (fault.Log f) })
-StopsAt (fault.NotBuilt line) batches left lf lf' cs bytes = (ended : Bool) × (ended ≡ true → IsAtEnd left) × (due ended cs bytes ≡ record { batches = batches; fault = Some (fault.NotBuilt line) })
+StopsAt fault.Read batches left lf lf' cs bytes =
+    (due false cs bytes ≡ record { batches = batches; fault = None }) × Rose lf lf'
+StopsAt (fault.Log f) batches left lf lf' cs bytes =
+    (ended : Bool) × (ended ≡ true → IsAtEnd left)
+    × (due ended cs bytes ≡ record { batches = batches; fault = Some (fault.Log f) })
+StopsAt (fault.NotBuilt line) batches left lf lf' cs bytes =
+    (ended : Bool) × (ended ≡ true → IsAtEnd left)
+    × (due ended cs bytes ≡ record { batches = batches; fault = Some (fault.NotBuilt line) })
+StopsAt fault.Usage batches left lf lf' cs bytes = ⊥
+StopsAt (fault.Formula f) batches left lf lf' cs bytes = ⊥
 StopsAt fault.Write batches left lf lf' cs bytes = ⊥
 StopsAt fault.Memory batches left lf lf' cs bytes = ⊥
 
 -- what one turn of reading led to, after these bytes
-abbrev pub TurnsTo : Option (List ℕ) → ℕ → ℕ → List Condition → List ℕ → List ℕ → Reader → Result Turn (Refused Stop) → Type 0
-TurnsTo left lf lf' cs bytes read r (Ok (turn.More s)) = (0 < length read) × HasJudged cs r s (bytes ++ read)
-TurnsTo left lf lf' cs bytes read r (Ok (turn.End t)) = IsAtEnd left × IsTraceFor cs (bytes ++ read) t
-TurnsTo left lf lf' cs bytes read r (Err (refusal.Fault stop)) = StopsAt stop.fault stop.batches left lf lf' cs (bytes ++ read)
+abbrev pub TurnsTo : Option (List ℕ) → ℕ → ℕ → List Condition → List ℕ → List ℕ → Reader
+    → Result Turn (Refused Stop) → Type 0
+TurnsTo left lf lf' cs bytes read r (Ok (turn.More s)) =
+    (0 < length read) × HasJudged cs r s (bytes ++ read)
+TurnsTo left lf lf' cs bytes read r (Ok (turn.End t)) =
+    IsAtEnd left × IsTraceFor cs (bytes ++ read) t
+TurnsTo left lf lf' cs bytes read r (Err (refusal.Fault stop)) =
+    StopsAt stop.fault stop.batches left lf lf' cs (bytes ++ read)
 TurnsTo left lf lf' cs bytes read r (Err refusal.NoMemory) = Unit {0}
 
-pub record Turns (left left' : Option (List ℕ)) (lf lf' : ℕ) (cs : List Condition) (bytes : List ℕ) (r : Reader) (result : Result Turn (Refused Stop)) : Type 0 where
+pub record Turns (left left' : Option (List ℕ)) (lf lf' : ℕ) (cs : List Condition) (bytes : List ℕ)
+    (r : Reader) (result : Result Turn (Refused Stop)) : Type 0 where
   pub read : List ℕ
   pub consumed : Consumes left left' read
   pub later : lf ≤ lf'
   pub to : TurnsTo left' lf lf' cs bytes read r result
 
 -- what reading the whole log led to
-abbrev pub ReadsTo : Option (List ℕ) → ℕ → ℕ → List Condition → List ℕ → Result TraceView (Refused Stop) → Type 0
+abbrev pub ReadsTo : Option (List ℕ) → ℕ → ℕ → List Condition → List ℕ
+    → Result TraceView (Refused Stop) → Type 0
 ReadsTo left lf lf' cs read (Ok t) = IsAtEnd left × IsTraceFor cs read t
-ReadsTo left lf lf' cs read (Err (refusal.Fault stop)) = StopsAt stop.fault stop.batches left lf lf' cs read
+ReadsTo left lf lf' cs read (Err (refusal.Fault stop)) =
+    StopsAt stop.fault stop.batches left lf lf' cs read
 ReadsTo left lf lf' cs read (Err refusal.NoMemory) = Unit {0}
 
-pub record HasReadLog (left left' : Option (List ℕ)) (lf lf' : ℕ) (cs : List Condition) (result : Result TraceView (Refused Stop)) : Type 0 where
+pub record HasReadLog (left left' : Option (List ℕ)) (lf lf' : ℕ) (cs : List Condition)
+    (result : Result TraceView (Refused Stop)) : Type 0 where
   pub read : List ℕ
   pub consumed : Consumes left left' read
   pub later : lf ≤ lf'

@@ -11,17 +11,22 @@ ghost use Rattle.pota_top.specs.Run.{IsLogFor};
 
 /// No fault is due of the text of a log for the conditions, and each of its batches counts.
 pub fn no_fault_is_due_of_a_log()
-    ensures { (cs : List Condition) (bytes : List ℕ) (log : Log) → IsLogFor bytes cs log → due true cs bytes ≡ record { batches = length log.batches; fault = None } }
+    ensures { (cs : List Condition) (bytes : List ℕ) (log : Log) → IsLogFor bytes cs log
+        → due true cs bytes ≡ record { batches = length log.batches; fault = None } }
 {}
 
 /// Bytes of which no fault is due are the text of a log for the conditions.
 pub fn no_fault_due_is_a_log()
-    ensures { (cs : List Condition) (bytes : List ℕ) (batches : ℕ) → due true cs bytes ≡ record { batches = batches; fault = None } → (log : Log) × IsLogFor bytes cs log }
+    ensures { (cs : List Condition) (bytes : List ℕ) (batches : ℕ)
+        → due true cs bytes ≡ record { batches = batches; fault = None } → (log : Log)
+        × IsLogFor bytes cs log }
 {}
 
 /// A fault that is due stays due, whatever bytes follow.
 pub fn a_fault_stays_due()
-    ensures { (cs : List Condition) (bytes more : List ℕ) (batches : ℕ) (fault : Fault) (ended : Bool) → due false cs bytes ≡ record { batches = batches; fault = Some fault } → due ended cs (bytes ++ more) ≡ record { batches = batches; fault = Some fault } }
+    ensures { (cs : List Condition) (bytes more : List ℕ) (batches : ℕ) (fault : Fault)
+        (ended : Bool) → due false cs bytes ≡ record { batches = batches; fault = Some fault }
+        → due ended cs (bytes ++ more) ≡ record { batches = batches; fault = Some fault } }
 {}
 
 /// The line behind a header's lines.

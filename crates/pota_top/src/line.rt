@@ -1,13 +1,13 @@
 //! The one line that tells of a run without a verdict. It takes no memory.
 ghost use Rattle.std.specs.Prelude.{◌≡◌, ◌+◌, ◌≤◌, ◌++◌, [], List, length, take};
-ghost use Rattle.std.specs.Fmt.{decimal};
-ghost use Rattle.pota_top.specs.FaultText.{code_text};
-ghost use Rattle.pota_top.specs.Outcome.{fault_text, line_of, cause_of, Told};
 ghost use Rattle.pota_top.specs.declared.outcome.Fault.TheVariants.{NotBuilt};
+ghost use Rattle.pota_top.specs.Outcome.{usage_text, formula_text, log_text, line_of, cause_of, Told};
 
 use crate::outcome::{Fault, Outcome};
-use event_log::{LogCode, LogFault};
+use crate::texts::{formula_code_text, log_code_text};
+use event_log::LogFault;
 use pota_base::{Sink, write_all};
+use rctl_grammar::FormulaFault;
 use std::marker::Model;
 
 const ROOM: usize = 256;
@@ -55,12 +55,47 @@ impl Line {
     }
 }
 
+fn put_usage(line: &mut Line)
+    requires { length line.old ≤ 16 }
+    ensures text { line.new ≡ line.old ++ usage_text }
+    ensures room { length line.new ≤ 200 }
+{
+    line.push(b"usage: pota check FORMULA [--workers N] [--slice] [--witness] [--each-batch]");
+    line.push(b" or pota bench FORMULA --seed N --procs N --events N [--workers N]");
+}
+
+fn put_formula_fault(line: &mut Line, fault: &FormulaFault)
+    requires { length line.old ≤ 16 }
+    ensures text { line.new ≡ line.old ++ formula_text fault.now }
+    ensures room { length line.new ≤ 200 }
+{
+    let mut digits = itoa::Buffer::new();
+    line.push(b"formula byte ");
+    line.push(digits.format(fault.place).as_bytes());
+    line.push(b": ");
+    line.push(formula_code_text(fault.code));
+}
+
+fn put_log_fault(line: &mut Line, fault: &LogFault)
+    requires { length line.old ≤ 16 }
+    ensures text { line.new ≡ line.old ++ log_text fault.now }
+    ensures room { length line.new ≤ 200 }
+{
+    let mut digits = itoa::Buffer::new();
+    line.push(b"log line ");
+    line.push(digits.format(fault.line).as_bytes());
+    line.push(b": ");
+    line.push(log_code_text(fault.code));
+}
+
 fn put_cause(line: &mut Line, fault: &Fault)
     requires { length line.old ≤ 16 }
     ensures text { line.new ≡ line.old ++ cause_of fault.now }
-    ensures room { length line.new ≤ 128 }
+    ensures room { length line.new ≤ 200 }
 {
     match fault {
+        Fault::Usage => put_usage(line),
+        Fault::Formula(fault) => put_formula_fault(line, fault),
         Fault::Log(fault) => put_log_fault(line, fault),
         Fault::Read => line.push(b"read fault"),
         Fault::Write => line.push(b"write fault"),
@@ -69,51 +104,10 @@ fn put_cause(line: &mut Line, fault: &Fault)
     }
 }
 
-// What is wrong with a log.
-fn code_text(code: LogCode) -> &'static [u8]
-    ensures text { result.now ≡ code_text code }
-    ensures short { length result.now ≤ 64 }
-{
-    match code {
-        LogCode::BadHeader => b"L1 bad header",
-        LogCode::BadProcs => b"L2 bad procs line",
-        LogCode::BadLine => b"L3 bad line",
-        LogCode::UnknownProcess => b"L4 unknown process",
-        LogCode::UnknownVariable => b"L5 unknown variable",
-        LogCode::ClockWidth => b"L6 clock width",
-        LogCode::ClockOwn => b"L7 own clock component is not the position",
-        LogCode::ClockBack => b"L8 clock goes back",
-        LogCode::ClockDangling => b"L9 clock names an event that is not there",
-        LogCode::ClockOpen => b"L10 clock lacks a predecessor's predecessor",
-        LogCode::ClockLoop => b"L11 clock loop",
-        LogCode::MessageTwice => b"L12 message twice",
-        LogCode::ReceiveUnsent => b"L13 receipt of an unsent message",
-        LogCode::ReceiveEarly => b"L14 receipt before its send",
-        LogCode::SelfMessage => b"L15 message to itself",
-        LogCode::Truncated => b"L16 truncated",
-        LogCode::Trailing => b"L17 bytes after the end",
-        LogCode::TooManyEvents => b"L18 too many events",
-        LogCode::LineTooLong => b"L19 line too long",
-        LogCode::LogTooLong => b"L20 log too long",
-    }
-}
-
-fn put_log_fault(line: &mut Line, fault: &LogFault)
-    requires { length line.old ≤ 16 }
-    ensures text { line.new ≡ line.old ++ fault_text fault.now }
-    ensures room { length line.new ≤ 128 }
-{
-    let mut digits = itoa::Buffer::new();
-    line.push(b"log line ");
-    line.push(digits.format(fault.line).as_bytes());
-    line.push(b": ");
-    line.push(code_text(fault.code));
-}
-
 fn put_not_built(line: &mut Line, number: u32)
     requires { length line.old ≤ 16 }
     ensures text { line.new ≡ line.old ++ cause_of (NotBuilt number) }
-    ensures room { length line.new ≤ 128 }
+    ensures room { length line.new ≤ 200 }
 {
     let mut digits = itoa::Buffer::new();
     line.push(b"line ");
@@ -121,10 +115,11 @@ fn put_not_built(line: &mut Line, number: u32)
     line.push(b": not built");
 }
 
-/// Tells `diag` of a run without a verdict, and nothing of another one. Whether that succeeds changes
-/// nothing else.
+/// Tells `diag` of a run without a verdict, and nothing of another one. Whether that succeeds
+/// changes nothing else.
 pub fn tell<D: Sink>(diag: &mut D, outcome: &Outcome)
-    ensures { Told (D.held diag.old) (D.held diag.new) (D.faults diag.old) (D.faults diag.new) (line_of outcome.now.fault) }
+    ensures { Told (D.held diag.old) (D.held diag.new) (D.faults diag.old) (D.faults diag.new)
+        (line_of outcome.now.fault) }
 {
     let Some(fault) = &outcome.fault else {
         return;

@@ -1,5 +1,5 @@
-//! Whether some path reaches a cut where all comparisons hold, in a run whose processes don't know of
-//! each other: each process has to pass through a state where those on it hold.
+//! Whether some path reaches a cut where all comparisons hold, in a run whose processes don't know
+//! of each other: each process has to pass through a state where those on it hold.
 ghost use Rattle.std.specs.Prelude.{◌≡◌, ℕ, ◌<◌, ◌≤◌, ◌↔◌, [], IsTrue, IfSome, IfNone, Some, length, map, get_or};
 ghost use Rattle.log_lines.specs.Names.{place_of};
 ghost use Rattle.event_log.specs.States.{trace_of};
@@ -41,7 +41,8 @@ fn variable_on(header: &Header, process: usize, comparison: &Comparison) -> Opti
     requires vars { length header.now.vars ≡ length header.now.procs }
     requires named { IsNamed header.now (condition_of comparison.now) }
     ensures on { IfSome result (IsVariableOn header.now process (condition_of comparison.now)) }
-    ensures off { IfNone result (place_of header.now.procs comparison.now.process.now ≡ Some process → ⊥) }
+    ensures off { IfNone result (place_of header.now.procs comparison.now.process.now ≡ Some process
+        → ⊥) }
 {
     let found = place_of(header.procs.as_slice(), comparison.process)?;
     if found != process {
@@ -57,7 +58,8 @@ fn meets(states: &States, process: u32, position: u32, comparison: &Comparison) 
     requires process { process < length states.now.events }
     requires position { position ≤ length (get_or states.now.events process []) }
     requires named { IsNamed states.now.header (condition_of comparison.now) }
-    ensures { IsTrue result ↔ MeetsOne (trace_of states.now) process position (condition_of comparison.now) }
+    ensures { IsTrue result ↔ MeetsOne (trace_of states.now) process position
+        (condition_of comparison.now) }
 {
     let Some(variable) = variable_on(states.header(), process as usize, comparison) else {
         return true;
@@ -79,7 +81,8 @@ fn meets_all(states: &States, process: u32, position: u32, comparisons: &[Compar
     requires process { process < length states.now.events }
     requires position { position ≤ length (get_or states.now.events process []) }
     requires named { AreNamed states.now.header (conditions_of comparisons.now) }
-    ensures { IsTrue result ↔ Meets (trace_of states.now) process position (conditions_of comparisons.now) }
+    ensures { IsTrue result ↔ Meets (trace_of states.now) process position
+        (conditions_of comparisons.now) }
 {
     for comparison in comparisons {
         if !meets(states, process, position, comparison) {
@@ -109,7 +112,8 @@ fn passes(states: &States, process: u32, comparisons: &[Comparison]) -> bool
 pub fn each_passes(states: &States, comparisons: &[Comparison]) -> bool
     requires whole { IsWhole states.now }
     requires named { AreNamed states.now.header (conditions_of comparisons.now) }
-    ensures { IsTrue result ↔ ((i : ℕ) → i < length states.now.events → Passes states.now (conditions_of comparisons.now) i) }
+    ensures { IsTrue result ↔ ((i : ℕ) → i < length states.now.events
+        → Passes states.now (conditions_of comparisons.now) i) }
 {
     for process in 0..states.shape().procs() {
         if !passes(states, process, comparisons) {

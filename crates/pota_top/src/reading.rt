@@ -31,7 +31,8 @@ fn take_piece(
     piece: &[u8],
 ) -> Result<Turn, Refused<Stop>>
     requires { (bytes : List ℕ) × HasJudged (conditions_of comparisons.now) reader.old session bytes }
-    ensures { (bytes : List ℕ) → HasJudged (conditions_of comparisons.now) reader.old session bytes → TakesPiece (conditions_of comparisons.now) (bytes ++ piece.now) reader.new result }
+    ensures { (bytes : List ℕ) → HasJudged (conditions_of comparisons.now) reader.old session bytes
+        → TakesPiece (conditions_of comparisons.now) (bytes ++ piece.now) reader.new result }
 {
     let Fed { items, fault } = reader.feed(piece)?;
     let session = match session.take_all(alloc, comparisons, items) {
@@ -47,7 +48,8 @@ fn take_piece(
 // The input has ended.
 fn finish(reader: &mut Reader, session: Session) -> Result<Turn, Refused<Stop>>
     requires { (cs : List Condition) × (bytes : List ℕ) × HasJudged cs reader.old session bytes }
-    ensures { (cs : List Condition) (bytes : List ℕ) → HasJudged cs reader.old session bytes → Finishes cs bytes result }
+    ensures { (cs : List Condition) (bytes : List ℕ) → HasJudged cs reader.old session bytes
+        → Finishes cs bytes result }
 {
     if let Some(fault) = reader.finish() {
         return Err(Refused::Fault(session.stop(Fault::Log(fault))));
@@ -72,8 +74,11 @@ fn take_turn<S: Source>(
     session: Session,
 ) -> Result<Turn, Refused<Stop>>
     requires room { 0 < length room.old }
-    requires judged { (bytes : List ℕ) × HasJudged (conditions_of comparisons.now) reader.old session bytes }
-    ensures { (bytes : List ℕ) → HasJudged (conditions_of comparisons.now) reader.old session bytes → Turns (S.left log.old) (S.left log.new) (S.faults log.old) (S.faults log.new) (conditions_of comparisons.now) bytes reader.new result }
+    requires judged { (bytes : List ℕ)
+        × HasJudged (conditions_of comparisons.now) reader.old session bytes }
+    ensures { (bytes : List ℕ) → HasJudged (conditions_of comparisons.now) reader.old session bytes
+        → Turns (S.left log.old) (S.left log.new) (S.faults log.old) (S.faults log.new)
+        (conditions_of comparisons.now) bytes reader.new result }
 {
     match log.read(room) {
         Ok(0) => finish(reader, session),
@@ -86,13 +91,15 @@ fn take_turn<S: Source>(
 ///
 /// # Errors
 ///
-/// The first fault, with the number of batches closed before it, and `Read` where a read failed and no fault came before.
+/// The first fault, with the number of batches closed before it, and `Read` where a read failed and
+/// no fault came before.
 pub fn read_log<S: Source>(
     alloc: Global,
     comparisons: &[Comparison],
     log: &mut S,
 ) -> Result<Trace, Refused<Stop>>
-    ensures { HasReadLog (S.left log.old) (S.left log.new) (S.faults log.old) (S.faults log.new) (conditions_of comparisons.now) result }
+    ensures { HasReadLog (S.left log.old) (S.left log.new) (S.faults log.old) (S.faults log.new)
+        (conditions_of comparisons.now) result }
 {
     let Ok(mut buffer) = vec![in alloc; 0u8; PIECE] else {
         return Err(Refused::NoMemory);

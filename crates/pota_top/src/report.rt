@@ -26,7 +26,15 @@ pub fn report_text(
     formula: &[u8],
     verdict: bool,
 ) -> Result<Bytes, NoMemory>
-    ensures { IfOk result (λ text. text ≡ report_text (record { batch = batch; procs = procs.now; lengths = lengths.now; formula = formula.now; verdict = verdict })) }
+    ensures { IfOk result (λ text. text
+        ≡ report_text (record {
+          batch = batch;
+          procs = procs.now;
+          lengths = lengths.now;
+          formula =
+              formula.now;
+          verdict = verdict;
+        })) }
 {
     let mut out = Bytes::new(alloc);
     out.extend_from_slice(b"pota-report 1\nbatch ")?;

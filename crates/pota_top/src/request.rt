@@ -1,13 +1,15 @@
-//! What the words ask for.
-ghost use Rattle.std.specs.Prelude.{◌≡◌, ◌+◌, ◌<◌, ◌≤◌, ◌++◌, [], ◌∷◌, length, map, IfOk, IfSome, List};
-ghost use Rattle.std.specs.String.{string_bytes};
+//! What is asked, where it is of the form that is answered.
+ghost use Rattle.std.specs.Prelude.{◌≡◌, ℕ, ◌+◌, ◌<◌, ◌≤◌, ◌++◌, [], ◌∷◌, length, map, IfOk, IfSome, List};
 ghost use Rattle.log_lines.specs.Drafts.{Gives, rest_seen};
 ghost use Rattle.log_lines.specs.Reading.{items_from};
-ghost use Rattle.pota_top.specs.Request.{Asks, IsFormula, Condition};
-ghost use Rattle.pota_top.specs.RequestReading.{condition_at, further_at, conditions_in, formula_in, formula_word, before_bracket, condition_of, conditions_of, condition_seen, IsUnderstood};
+ghost use Rattle.run_request.specs.Questions.{IsQuestion};
+ghost use Rattle.pota_top.specs.Request.{Condition, is_plain};
+ghost use Rattle.pota_top.specs.RequestReading.{condition_at, further_at, conditions_in, formula_in, before_bracket, condition_of, conditions_of, condition_seen, IsUnderstood};
 
+use command_words::Task;
 use log_lines::{LineError, name_at, signed_at, text_at};
 use pota_base::NoMemory;
+use run_request::Question;
 use std::alloc::Global;
 
 /// `NAME.NAME = INT`: the variable of the process has the value.
@@ -57,7 +59,8 @@ fn further_from<'a>(
     first: Comparison<'a>,
     bytes: &'a [u8],
 ) -> Result<Vec<Comparison<'a>>, LineError>
-    ensures { Gives (λ cs. conditions_of cs.items) result (items_from further_at 61 (condition_of first.entry ∷ []) bytes.entry.now) }
+    ensures { Gives (λ cs. conditions_of cs.items) result
+        (items_from further_at 61 (condition_of first.entry ∷ []) bytes.entry.now) }
 {
     let mut comparisons = Vec::new(alloc);
     comparisons.push(first)?;
@@ -110,31 +113,30 @@ fn formula_in(alloc: Global, text: &[u8]) -> Result<Vec<Comparison<'_>>, LineErr
 /// What the words ask for: whether some path reaches a cut where all of these comparisons hold.
 #[derive(Debug, Drop)]
 pub struct Request<'a> {
-    /// The formula as it was given.
+    /// The canonical text of the formula.
     pub text: &'a [u8],
     pub comparisons: Vec<Comparison<'a>>,
 }
 
-// The word behind `check`, where there are these two.
-fn formula_word(words: &[String]) -> Option<&[u8]>
-    ensures { rest_seen result ≡ formula_word (map string_bytes words.now) }
+// `check` without flags.
+fn is_plain(task: &Task) -> bool
+    ensures { result ≡ is_plain task.now }
 {
-    if words.len() != 2 {
-        return None;
+    match task {
+        Task::Check(shown) => !shown.slice && !shown.witness && !shown.each_batch,
+        Task::Bench(_) => false,
     }
-    if words[0].as_bytes() != b"check".as_slice() {
-        return None;
-    }
-    Some(words[1].as_bytes())
 }
 
-/// The request that the words make, and `None` for other words.
-pub fn read_request(alloc: Global, words: &[String]) -> Result<Option<Request<'_>>, NoMemory>
-    ensures { IfOk result (IsUnderstood (map string_bytes words.now)) }
+/// The request that a question makes, and `None` for a question of another form.
+pub fn read_request(alloc: Global, question: &Question) -> Result<Option<Request<'_>>, NoMemory>
+    ensures { IfOk result (λ found. (words : List (List ℕ)) → IsQuestion words question.now
+        → IsUnderstood words found) }
 {
-    let Some(text) = formula_word(words) else {
+    if !is_plain(&question.task) {
         return Ok(None);
-    };
+    }
+    let text = question.stated.text.as_slice();
     match formula_in(alloc, text) {
         Ok(comparisons) => Ok(Some(Request { text, comparisons })),
         Err(LineError::Malformed) => Ok(None),

@@ -76,7 +76,8 @@ fn names_other(clock: &[u32], process: u32) -> bool
 
 // The line of the first event so far whose clock names an event of another process.
 fn first_foreign(found: Option<u32>, event: &Event) -> Option<u32>
-    ensures { result ≡ choose found (λ line. Some line) (if is_foreign event.now then Some event.now.line else None) }
+    ensures { result ≡ choose found (λ line. Some line)
+        (if is_foreign event.now then Some event.now.line else None) }
 {
     if found.is_some() {
         return found;
@@ -94,7 +95,9 @@ impl Growing {
 
     // One event more in the open batch.
     fn add(self, event: Event) -> Result<Session, NoMemory>
-        ensures { IfOk result (λ s. (g : Growth) → IsGrowth self g → EventFits g.header event → events_in g < 50000 → IsSession s (growing (record g { open_ = g.open_ ++ event ∷ [] }))) }
+        ensures { IfOk result (λ s. (g : Growth) → IsGrowth self g → EventFits g.header event
+            → events_in g < 50000 → IsSession s
+            (growing (record g { open_ = g.open_ ++ event ∷ [] }))) }
     {
         let Growing {
             trace,
@@ -191,7 +194,8 @@ impl Session {
         item: Item,
     ) -> Result<Session, Refused<Stop>>
         requires { (j : Judgement) × IsSession self j × MayFollow j (item ∷ []) }
-        ensures { (j : Judgement) → IsSession self j → MayFollow j (item ∷ []) → Takes (judge (conditions_of comparisons.now) j item) result }
+        ensures { (j : Judgement) → IsSession self j → MayFollow j (item ∷ [])
+            → Takes (judge (conditions_of comparisons.now) j item) result }
     {
         match self {
             Session::Waiting => match item {
@@ -215,7 +219,8 @@ impl Session {
         items: List<Item>,
     ) -> Result<Session, Refused<Stop>>
         requires { (j : Judgement) × IsSession self j × MayFollow j items }
-        ensures { (j : Judgement) → IsSession self j → MayFollow j items → Takes (judged (conditions_of comparisons.now) j items) result }
+        ensures { (j : Judgement) → IsSession self j → MayFollow j items
+            → Takes (judged (conditions_of comparisons.now) j items) result }
     {
         let mut session = self;
         let mut rest = items.into_vec().into_iter();
@@ -231,7 +236,8 @@ impl Session {
     /// A stop behind the batches so far.
     pub fn stop(&self, fault: Fault) -> Stop
         requires { (j : Judgement) × IsSession self.now j }
-        ensures { (j : Judgement) → IsSession self.now j → result ≡ record { batches = batches_in j; fault = fault } }
+        ensures { (j : Judgement) → IsSession self.now j
+            → result ≡ record { batches = batches_in j; fault = fault } }
     {
         let batches = match self {
             Session::Waiting => 0,

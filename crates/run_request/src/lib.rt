@@ -2,8 +2,8 @@
 // classified and printed.
 //
 // `read_question` gives the question, or exactly the first fault: the words, then the formula's
-// text, then its class. `stated_formulas_are_of_the_class` says that each formula asked is one that is
-// analysed, and `words_ask_one_thing` that words have one question or one fault.
+// text, then its class. `stated_formulas_are_of_the_class` says that each formula asked is one that
+// is analysed, and `words_ask_one_thing` that words have one question or one fault.
 //
 // Not said here: whether a log has the names of the formula, and that memory suffices.
 #![tactic(auto)]

@@ -118,8 +118,7 @@ slice_step o v c p b operand member lt less same =
     let event : IsEvent (lengths o) p (count c p + 1) = (omega arith, omega (arith, last)) in
     let within : IsWithin (with_next c p) v.lens = with_next_least c v.lens p lt (subst (λ (l : Cut). IsWithin c l) (sym shape) member.consistent.within) here in
     let row : last_row s p (count c p + 1) ≡ s.row p (count c p + 1) = last_is s p (count c p + 1) (omega arith) in
-    let words = filled_within v.lens (last_row s p (count c p + 1)) (with_next c p) (omega (arith, operand.run.shape.some, ap length shape)) within in
-    (
+    let words = filled_within v.lens (last_row s p (count c p + 1)) (with_next c p) (omega (arith, operand.run.shape.some, ap length shape)) within in (
       λ yes. row_leads o operand.run.order s operand.fits.stands c member p lt event (subst (λ (k : Option Cut). HasWithin k (with_next c p)) row (words.0 (same.0 yes))),
       λ next. same.1 (words.1 (subst (λ (k : Option Cut). HasWithin k (with_next c p)) (sym row) (leads_row o s c p lt next))),
     )

@@ -66,14 +66,13 @@ pub departs_by : (o : Clocks) (v : SliceView) (e : EventId) (words past : List �
 departs_by o v e words past b operand there row_is past_is same =
     let place = place_of e in
     let filled_is : words ≡ filled v.lens (row_at (slice_of v) place) = row_is ∙ words_of v place there.first in
-    let within : IsWithin (clock o e.process e.position) v.lens = subst (λ (l : Cut). IsWithin (clock o e.process e.position) l) (sym operand.fits.shape) (operand.run.order.named e.process e.position (place_there o e there)) in
-    (
+    let within : IsWithin (clock o e.process e.position) v.lens = subst (λ (l : Cut). IsWithin (clock o e.process e.position) l) (sym operand.fits.shape) (operand.run.order.named e.process e.position (place_there o e there)) in (
       λ yes departs.
-        let equal : words ≡ past = (bytes_eq-Decides words past).0 (same ∙ yes) in
-        departs (filled_some v.lens (row_at (slice_of v) place) (clock o e.process e.position) (some_process o v operand) within (sym filled_is ∙ equal ∙ past_is)),
+          let equal : words ≡ past = (bytes_eq-Decides words past).0 (same ∙ yes) in
+          departs (filled_some v.lens (row_at (slice_of v) place) (clock o e.process e.position) (some_process o v operand) within (sym filled_is ∙ equal ∙ past_is)),
       λ apart is_past.
-        let equal : words ≡ past = filled_is ∙ ap (filled v.lens) is_past ∙ sym past_is in
-        true≢false (sym ((bytes_eq-Decides words past).1 equal) ∙ same ∙ apart),
+          let equal : words ≡ past = filled_is ∙ ap (filled v.lens) is_past ∙ sym past_is in
+          true≢false (sym ((bytes_eq-Decides words past).1 equal) ∙ same ∙ apart),
     )
 
 -- ---- events that share a row
@@ -95,8 +94,7 @@ shares_by o v e f row words b size operand et ft two row_is words_is same =
     let re_is : row ≡ filled v.lens re = row_is ∙ words_of v (place_of e) et.first in
     let rf_is : words ≡ filled v.lens rf = words_is ∙ words_of v (place_of f) ft.first in
     let er = row_is_row o v e.process e.position re operand.fits.shape size (operand.fits.stands.rows e.process e.position (place_there o e et)) in
-    let fr = row_is_row o v f.process f.position rf operand.fits.shape size (operand.fits.stands.rows f.process f.position (place_there o f ft)) in
-    (
+    let fr = row_is_row o v f.process f.position rf operand.fits.shape size (operand.fits.stands.rows f.process f.position (place_there o f ft)) in (
       λ yes. (two, filled_one v.lens rf re (some_process o v operand) fr er (sym rf_is ∙ (bytes_eq-Decides words row).0 (sym same ∙ yes) ∙ re_is)),
       λ shares. same ∙ (bytes_eq-Decides words row).1 (rf_is ∙ ap (filled v.lens) shares.1 ∙ sym re_is),
     )
@@ -121,8 +119,7 @@ module _ (o : Clocks) (v : SliceView) (e : EventId) (row : List ℕ) (ready : Ha
   pub later_other : (j : ℕ) → e.process < j → LastHas v row j (place_of e) → IsTrue true ↔ HasLaterTwin o (slice_of v) (place_of e)
   later_other j behind has =
       let last : Place = record { process = j; position = count row j } in
-      let q = row_there o (slice_of v) ready.operand.fits.stands ready.final last (has.0, own_row.1.member.0.consistent.within j) in
-      (
+      let q = row_there o (slice_of v) ready.operand.fits.stands ready.final last (has.0, own_row.1.member.0.consistent.within j) in (
         λ yes. other_later o (slice_of v) ready.operand.fits.stands ready.final (place_of e) row j q.0 own_row behind has.0 q.1 (omega (arith, has.1, ap (λ (w : Cut). count w e.process) (last_words j q.0 has.0 q.1))),
         λ twin. refl,
       )

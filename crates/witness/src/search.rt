@@ -27,7 +27,8 @@ fn first_of<T: EventTest>(test: &T, process: u32, len: u32) -> Option<EventId>
     requires { (e : EventIdOf) → e.process ≡ process → 0 < e.position → e.position ≤ len
         → T.ready test.now e }
     ensures { MatchOption result
-        ((a : ℕ) → 0 < a → a ≤ len → T.holds test.now (record { process = process; position = a }) → ⊥)
+        ((a : ℕ) → 0 < a → a ≤ len → T.holds test.now (record { process = process; position = a })
+        → ⊥)
         (IsFirstOf (T.holds test.now) process len) }
 {
     for before in 0..len {

@@ -22,6 +22,7 @@ pub struct Departing<'a> {
 
 impl EventTest for Departing<'_> {
     ghost holds = { λ t e. Departs t.order.now (slice_of t.slice.now) e };
+
     ghost ready = { λ t e. IsOperand t.order.now t.slice.now × HasEvent (lengths t.order.now) e };
 
     fn test(&self, event: EventId) -> bool {
@@ -56,6 +57,7 @@ fn last_has(slice: &Slice, row: &[u32], process: u32, event: EventId) -> bool
 
 impl EventTest for HasLater<'_> {
     ghost holds = { λ t e. HasLaterTwin t.order.now (slice_of t.slice.now) e };
+
     ghost ready = { λ t e. HasFinal t.order.now t.slice.now × HasEvent (lengths t.order.now) e };
 
     // A row has the last event of each process that shares it.
@@ -83,6 +85,7 @@ pub struct Twin<'a> {
 
 impl EventTest for Twin<'_> {
     ghost holds = { λ t e. Shares (slice_of t.slice.now) (place_of t.event) e };
+
     ghost ready = { λ t e. IsOperand t.order.now t.slice.now
         × HasEvent (lengths t.order.now) t.event × HasEvent (lengths t.order.now) e };
 

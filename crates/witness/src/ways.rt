@@ -21,6 +21,7 @@ pub struct ToGoal<'a> {
 
 impl Way for ToGoal<'_> {
     ghost holds = { λ w c. IsConsistent w.order.now c × IsWithin c w.goal.now };
+
     ghost ready = { λ w. length w.goal.now ≡ length w.order.now };
 
     fn goes_on(&self, at: &Cut, process: u32) -> bool {
@@ -69,6 +70,7 @@ fn is_within_next(counts: &[u32], at: &Cut, process: u32) -> bool
 
 impl Way for InSlice<'_> {
     ghost holds = { λ w c. Cuts w.order.now (slice_of w.slice.now) c };
+
     ghost ready = { λ w. IsOperand w.order.now w.slice.now };
 
     // The row of the next event is the only one to look at: the maximum of the cut and the row is

@@ -54,8 +54,8 @@ fn put_clock(to: &mut Vec<u8>, clock: &[u32]) -> Result<(), AllocError> {
     Ok(())
 }
 
-// Appends the event of this number, of a process with this clock. Each third event sends to the next process, whose next event
-// receives.
+// Appends the event of this number, of a process with this clock. Each third event sends to the
+// next process, whose next event receives.
 fn put_event(to: &mut Vec<u8>, number: u32, clock: &[u32]) -> Result<(), AllocError> {
     let process = number % 32;
     to.extend_from_slice(b"ev P")?;
@@ -81,8 +81,8 @@ fn put_event(to: &mut Vec<u8>, number: u32, clock: &[u32]) -> Result<(), AllocEr
     Ok(())
 }
 
-/// A log of 32 processes with one variable each, and 50,000 events of which a third send and a third receive. Its clocks are those
-/// of Fidge and Mattern.
+/// A log of 32 processes with one variable each, and 50,000 events of which a third send and a
+/// third receive. Its clocks are those of Fidge and Mattern.
 pub fn large_log(alloc: Global) -> Result<Vec<u8>, AllocError> {
     let mut log = Vec::new(alloc);
     log.extend_from_slice(b"pota-log 1\n")?;

@@ -1,4 +1,5 @@
-//! Runs the analyser's one call, the reader of logs and the check of clocks on the cases of `data/`, and prints a line a case.
+//! Runs the analyser's one call, the reader of logs and the check of clocks on the cases of
+//! `data/`, and prints a line a case.
 //!
 //! A case file is text. A line that is empty or begins with `#` says nothing; each other line is a
 //! keyword, and behind one space what it speaks of:

@@ -114,7 +114,8 @@ pub fn check_fault(alloc: Global, log: &Log) -> Result<Option<LogFault>, NoMemor
     }
 }
 
-/// The first fault of a text that comes in such pieces, by the reader, or by the check where it has none.
+/// The first fault of a text that comes in such pieces, by the reader, or by the check where it has
+/// none.
 pub fn first_fault(alloc: Global, text: &[u8], piece: usize) -> Result<Option<LogFault>, NoMemory> {
     let Finding { fault, log } = read(alloc, text, piece)?;
     if fault.is_some() {
