@@ -5,6 +5,7 @@ use pota_base::List;
 use pull_system::Pull;
 use slice_graph::Edge;
 use std::alloc::Global;
+use witness::Explained;
 
 /// What is made of a part's slice.
 #[derive(Clone, Copy)]
@@ -30,6 +31,14 @@ impl Part {
     }
 }
 
+/// The witness of an operator over the joined slice.
+#[derive(Drop)]
+pub struct Why {
+    pub operator: Explained,
+    /// What the witness tells.
+    pub told: String,
+}
+
 /// What must come out.
 #[derive(Drop)]
 pub struct Wanted {
@@ -39,6 +48,7 @@ pub struct Wanted {
     pub edges: Vec<Edge>,
     pub has: Vec<Vec<u32>>,
     pub lacks: Vec<Vec<u32>>,
+    pub whys: Vec<Why>,
 }
 
 #[derive(Drop)]
@@ -66,6 +76,7 @@ impl Case {
                 edges: Vec::new(alloc),
                 has: Vec::new(alloc),
                 lacks: Vec::new(alloc),
+                whys: Vec::new(alloc),
             },
             unread: None,
         }

@@ -1,5 +1,5 @@
 //! Builds slices from the systems of pulls in `data/slices.cases`, and prints a line a case:
-//! whether each slice came out as it must.
+//! whether each slice came out as it must, and the witnesses of operators over it.
 //!
 //! A case file is text. A line that is empty or begins with `#` says nothing; each other line is a
 //! keyword, and behind one space what it speaks of. Numbers are parted by commas, and processes are
@@ -21,6 +21,9 @@
 //! edge Q,B,P,A                its next edge, from event B of process Q to event A of process P
 //! has N,N,..                  it has this cut
 //! lacks N,N,..                it does not
+//! why OPERATOR WITNESS        the operator (possible, always, staying) over it has this witness:
+//!                             none, reach CUT by EVENT .., against .., always .., stuck start,
+//!                             stuck finish or stuck pair EVENT EVENT, an event as P,A
 //! end                         the case is whole
 //! ```
 #![tactic(auto)]
@@ -31,6 +34,7 @@ mod case;
 mod making;
 mod reading;
 mod running;
+mod telling;
 mod verdict;
 
 use case::Case;

@@ -1,11 +1,12 @@
 //! Reading the lines of a case.
 
-use crate::case::{Case, Operator, Part, Wanted};
+use crate::case::{Case, Operator, Part, Wanted, Why};
 use event_log::{Event, Kind};
 use pota_base::{EventId, List};
 use pull_system::Pull;
 use slice_graph::Edge;
 use std::alloc::{AllocError, Global};
+use witness::Explained;
 
 // The numbers of a text, up to the first word that is none.
 fn numbers_in(alloc: Global, text: &str) -> Result<Vec<u32>, AllocError> {
@@ -143,6 +144,37 @@ fn add_given(
     Ok(true)
 }
 
+// `OPERATOR WITNESS`; false where the operator is another.
+fn add_why(alloc: Global, wanted: &mut Wanted, text: &str) -> Result<bool, AllocError> {
+    let (word, told) = text.split_once(' ').unwrap_or((text, ""));
+    let operator = match word {
+        "possible" => Explained::ExistsFinally,
+        "always" => Explained::AlwaysGlobally,
+        "staying" => Explained::ExistsGlobally,
+        _ => return Ok(false),
+    };
+    let told = String::from_str(alloc, told)?;
+    wanted.whys.push(Why { operator, told })?;
+    Ok(true)
+}
+
+// Takes a line behind the name; false where it could not be read.
+fn take_line(
+    alloc: Global,
+    case: &mut Case,
+    keyword: &str,
+    rest: &str,
+) -> Result<bool, AllocError> {
+    if keyword == "why" {
+        return add_why(alloc, &mut case.wanted, rest);
+    }
+    let numbers = numbers_in(alloc, rest)?;
+    if add_given(alloc, case, keyword, &numbers)? {
+        return Ok(true);
+    }
+    add_wanted(&mut case.wanted, keyword, numbers)
+}
+
 /// Adds to the case what the line says, or keeps the line as one that could not be read.
 pub fn add_line(alloc: Global, case: &mut Case, line: &str) -> Result<(), AllocError> {
     if line.is_empty() || line.starts_with('#') {
@@ -153,11 +185,7 @@ pub fn add_line(alloc: Global, case: &mut Case, line: &str) -> Result<(), AllocE
         case.name = String::from_str(alloc, rest)?;
         return Ok(());
     }
-    let numbers = numbers_in(alloc, rest)?;
-    if add_given(alloc, case, keyword, &numbers)? {
-        return Ok(());
-    }
-    if !add_wanted(&mut case.wanted, keyword, numbers)? {
+    if !take_line(alloc, case, keyword, rest)? {
         case.unread = Some(String::from_str(alloc, line)?);
     }
     Ok(())

@@ -3,15 +3,17 @@ ghost use Rattle.std.specs.Prelude.{◌≡◌, IsTrue, length};
 ghost use Rattle.slice_graph.specs.Views.{IsCut};
 ghost use Rattle.slice_graph.specs.Fitting.{FitsOrder};
 
-use crate::case::{Case, Wanted};
+use crate::case::{Case, Wanted, Why};
 use crate::making::slice_of_parts;
 use crate::running::clocks_of;
+use crate::telling::told;
 use causal_order::Order;
 use cut_lattice::Cut;
 use pota_base::{NoMemory, Steps};
 use slice_graph::{Slice, is_within, set_words};
 use std::alloc::{AllocError, Global};
 use std::sync::ledger::Ledger;
+use witness::explain;
 
 /// What is told of a case.
 #[derive(Clone, Copy)]
@@ -23,6 +25,7 @@ enum Finding {
     WrongBounds,
     WrongEdges,
     WrongCuts,
+    WrongWitness,
 }
 
 impl Finding {
@@ -35,6 +38,7 @@ impl Finding {
             Finding::WrongBounds => "another least or greatest cut",
             Finding::WrongEdges => "other edges",
             Finding::WrongCuts => "other cuts",
+            Finding::WrongWitness => "another witness",
         }
     }
 }
@@ -81,6 +85,24 @@ fn at_cut(alloc: Global, slice: &Slice, counts: &[u32]) -> Result<Option<bool>, 
     Ok(Some(slice.has(&cut)))
 }
 
+// Whether each operator has the witness that is wanted.
+fn has_witnesses(
+    alloc: Global,
+    order: &Order,
+    slice: &Slice,
+    whys: &[Why],
+) -> Result<bool, NoMemory>
+    requires { FitsOrder order.now slice.now }
+{
+    for why in whys {
+        let witness = explain(alloc, order, why.operator, slice)?;
+        if told(alloc, &witness)?.as_str() != why.told.as_str() {
+            return Ok(false);
+        }
+    }
+    Ok(true)
+}
+
 fn judge_slice(
     alloc: Global,
     order: &Order,
@@ -98,6 +120,9 @@ fn judge_slice(
     }
     if !answers(alloc, slice, &wanted.has, true)? || !answers(alloc, slice, &wanted.lacks, false)? {
         return Ok(Finding::WrongCuts);
+    }
+    if !has_witnesses(alloc, order, slice, &wanted.whys)? {
+        return Ok(Finding::WrongWitness);
     }
     Ok(Finding::Good)
 }
