@@ -34,6 +34,7 @@ reading_of seen = record {
 }
 
 pub reading_answers : (seen : Observed) → AreAnswers seen (reading_of seen)
+unfolding reading_of
 reading_answers seen = record { each = λ p w on. row_at_name p w on }
   where
     numbered : (p w : ℕ) → get_or seen.watch_process w None ≡ Some p → w < length seen.watch_process
@@ -44,10 +45,10 @@ reading_answers seen = record { each = λ p w on. row_at_name p w on }
         by_list (x ∷ list) zero h = omega arith
         by_list (x ∷ list) (suc w) h = omega (arith, by_list list w h)
     row_at_name : (p w : ℕ) → get_or seen.watch_process w None ≡ Some p
-        → get_or seen.watch_rows w [] ≡ get_or seen.watch_rows (length (get_or (map (λ v. replicate v 0) (range_with_len 0 (length seen.watch_process))) w [])) []
+        → get_or seen.watch_rows w [] ≡ get_or seen.watch_rows (length {A = ℕ} (get_or (map (λ v. replicate v 0) (range_with_len 0 (length seen.watch_process))) w [])) []
     row_at_name p w on =
         let name = get_or-map-range_with_len (λ (v : ℕ). replicate v 0) 0 (length seen.watch_process) w w [] (numbered p w on) (omega arith) in
-        ap (λ v. get_or seen.watch_rows v []) (sym (ap length name ∙ length-replicate {A = ℕ} w 0))
+        ap (λ v. get_or seen.watch_rows v []) (sym (ap (length {A = ℕ}) name ∙ length-replicate {A = ℕ} w 0))
 
 -- ---- slices that fit and stand for one set are equal
 
