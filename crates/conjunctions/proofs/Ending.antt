@@ -1,0 +1,131 @@
+-- A conjunction once all of its parts were added.
+use Rattle.std.proofs.Common.{◌≡◌, ℕ, suc, zero, ◌+◌, ◌-◌, ◌*◌, ◌^◌, ◌<◌, ◌≤◌, Bool, true, false, List, [], ◌∷◌, ◌++◌, length, map, take, get_or, flat_map, All, Option, Some, None, refl, sym, ◌∙◌, ap, subst, arith}
+use Rattle.std.specs.Prelude.{◌&&◌}
+use Rattle.std.proofs.lemmas.List.{length-map, take_all}
+use Rattle.std.proofs.lemmas.List.Elements.{All-append}
+use Rattle.std.proofs.Math.Nat.{mul-le-mul}
+use Rattle.run_model.specs.Cut.{Clocks, lengths}
+use Rattle.run_model.specs.Consistent.{IsOrder}
+use Rattle.run_model.proofs.Counts.{length-lengths}
+use Rattle.trace_growth.specs.Growing.{IsTrace}
+use Rattle.pull_system.specs.declared.pull.Pull.{Pull}
+use Rattle.pull_system.specs.System.{SystemView, IsPull}
+use Rattle.pull_system.specs.Rows.{RowsView}
+use Rattle.pull_system.specs.Growth.{DidNotFall, grown_words}
+use Rattle.raise_machine.specs.Bounds.{AreBounds}
+use Rattle.slice_graph.specs.Views.{SliceView}
+use Rattle.slice_graph.specs.Fitting.{HasOrder}
+use Rattle.slice_graph.specs.PullLists.{pulls_of_order}
+use Rattle.slice_graph.proofs.OrderPulls.{order_pulls_fit, order_pulls_count, order_closed, has_order}
+use Rattle.rctl_parts.specs.declared.part.Part.{Part}
+use Rattle.rctl_parts.specs.Pieces.{Piece, atom, temporal, piece_of, pieces_of}
+use Rattle.rctl_parts.specs.MadeFor.{part_count, parts_count}
+use Rattle.event_log.specs.declared.log.Event.{Event}
+use Rattle.channel_preds.specs.Truth.{lens_of}
+use Rattle.conjunctions.specs.declared.observed.Observed.{Observed}
+use Rattle.conjunctions.specs.Observing.{clocks_seen, lens_seen}
+use Rattle.conjunctions.specs.Numbering.{is_atom, all_atoms}
+use Rattle.conjunctions.specs.Counting.{room_of, rooms_of, pulls_bound, first_of}
+use Rattle.conjunctions.specs.Rounds.{RoundView}
+use Rattle.conjunctions.specs.Systems.{AddsPulls, pulls_of_parts}
+use Rattle.conjunctions.specs.Settling.{IsFloorOf, CanBegin, IsFloor, AreFloors, SettlesOne}
+use Rattle.conjunctions.proofs.Settled.{AreOrderPulls, few_pulls}
+use Rattle.conjunctions.proofs.Atoms.{lens_same}
+
+pub is_order : (seen : Observed) → IsTrace seen.trace.states → IsOrder (clocks_seen seen)
+is_order seen trace = (trace.run.run (λ name states. [])).order
+
+pub order_pulls_are : (seen : Observed) → IsTrace seen.trace.states → AreOrderPulls (clocks_seen seen) (pulls_of_order (clocks_seen seen))
+order_pulls_are seen trace = record { count = order_pulls_count (clocks_seen seen); closed = order_closed (clocks_seen seen) (is_order seen trace) }
+
+-- ---- the requirements of a system
+
+pub pulls_fit : (seen : Observed) → IsTrace seen.trace.states → (pulls : List Pull) (ps : List Piece) → AddsPulls seen (pulls_of_order (clocks_seen seen)) pulls ps
+    → (order : Clocks) → order ≡ clocks_seen seen → All (IsPull (lengths order)) pulls
+pulls_fit seen trace pulls ps adds order is =
+    let P : List Pull → Type 0 = λ list. All (IsPull (lens_seen seen)) list in
+    let here : All (IsPull (lens_seen seen)) pulls =
+    subst P (sym adds.is) (All-append (IsPull (lens_seen seen)) (pulls_of_order (clocks_seen seen)) adds.added (order_pulls_fit (clocks_seen seen) (is_order seen trace)) adds.fit) in
+    subst (λ (o : Clocks). All (IsPull (lengths o)) pulls) (sym is) here
+
+pub pulls_have_order : (seen : Observed) → IsTrace seen.trace.states → (pulls : List Pull) (ps : List Piece) → AddsPulls seen (pulls_of_order (clocks_seen seen)) pulls ps
+    → (order : Clocks) → order ≡ clocks_seen seen → HasOrder order (record { lens = lengths order; pulls = pulls })
+pulls_have_order seen trace pulls ps adds order is =
+    subst (λ (o : Clocks). HasOrder o (record { lens = lengths o; pulls = pulls })) (sym is)
+    (has_order (clocks_seen seen) (is_order seen trace) (record { lens = lens_seen seen; pulls = pulls }) adds.added adds.is)
+
+pub length_count : (ps : List Piece) → length ps ≤ parts_count ps
+length_count [] = omega arith
+length_count (atom a ∷ ps) = omega (arith, length_count ps)
+length_count (temporal o qs ∷ ps) = omega (arith, length_count ps)
+
+few_rooms : (n : ℕ) (ps : List Piece) → n ≤ 32 → rooms_of n ps ≤ 1024 * length ps
+few_rooms n [] h = omega arith
+few_rooms n (atom a ∷ ps) h = omega (arith, few_rooms n ps h)
+few_rooms n (temporal o qs ∷ ps) h = let square : n * n ≤ 32 * 32 = mul-le-mul h h in omega (arith, few_rooms n ps h)
+
+few_processes : (seen : Observed) → IsTrace seen.trace.states → length (lens_seen seen) ≤ 32
+few_processes seen trace = let few = trace.whole.header.few in omega (arith, ap length (lens_same seen trace), length-map seen.trace.states.events (λ (es : List Event). length es), trace.whole.events)
+
+pub pulls_count : (seen : Observed) → IsTrace seen.trace.states → (pulls : List Pull) (ps : List Piece) → AddsPulls seen (pulls_of_order (clocks_seen seen)) pulls ps
+    → parts_count ps ≤ 128 → length pulls < 4294967296
+pulls_count seen trace pulls ps adds few =
+    let n = length (lens_seen seen) in
+    let small = few_processes seen trace in
+    let less : n - 1 ≤ 32 = omega arith in
+    let square : n * (n - 1) ≤ 32 * 32 = mul-le-mul {n₁ = n} {m₁ = n - 1} {n₂ = 32} {m₂ = 32} small less in
+    let rooms = few_rooms n ps small in
+    let bound = few_pulls seen pulls ps (order_pulls_are seen trace) adds in
+    omega (arith, length_count ps)
+
+-- the rows of before of the conjunction itself
+pub can_begin : (seen : Observed) (before : List RowsView) (pulls : List Pull) (ps : List Piece) → AddsPulls seen (pulls_of_order (clocks_seen seen)) pulls ps → AreFloors seen before (ps ∷ [])
+    → CanBegin (record { lens = lens_seen seen; pulls = pulls }) (all_atoms ps) (first_of before)
+can_begin seen [] pulls ps adds floors = record { fell = record { fell = λ rows keeps is. absurd (cc) }; floor = λ rows keeps is. absurd (cc) }
+can_begin seen (rows ∷ before) pulls ps adds floors = record {
+  fell = record { fell = λ found keeps is. subst (λ (r : RowsView). DidNotFall r.lens (lens_seen seen)) (same found is) floors.0.fell };
+  floor = λ found keeps is.
+      let own : pulls ≡ pulls_of_order (clocks_seen seen) ++ pulls_of_parts seen ps = adds.is ∙ ap (λ list. pulls_of_order (clocks_seen seen) ++ list) (adds.own keeps) in
+      let P : List Pull → RowsView → Type 0 = λ list r. AreBounds (record { lens = lens_seen seen; pulls = list }) (grown_words (lens_seen seen) r) in
+      subst (λ (r : RowsView). P pulls r) (same found is) (subst (λ (list : List Pull). P list rows) (sym own) (floors.0.floor keeps));
+}
+  where
+    same : (found : RowsView) → first_of (rows ∷ before) ≡ Some found → rows ≡ found
+    same found is = cc
+
+pub can_begin_by : (seen : Observed) (before : List RowsView) (pulls : List Pull) (ps : List Piece) → AddsPulls seen (pulls_of_order (clocks_seen seen)) pulls ps → AreFloors seen before (ps ∷ [])
+    → (order : Clocks) → order ≡ clocks_seen seen → (keeps : Bool) → keeps ≡ all_atoms ps → CanBegin (record { lens = lengths order; pulls = pulls }) keeps (first_of before)
+can_begin_by seen before pulls ps adds floors order is keeps keeps_is =
+    subst (λ (k : Bool). CanBegin (record { lens = lengths order; pulls = pulls }) k (first_of before)) (sym keeps_is)
+    (subst (λ (o : Clocks). CanBegin (record { lens = lengths o; pulls = pulls }) (all_atoms ps) (first_of before)) (sym is) (can_begin seen before pulls ps adds floors))
+
+pub settles_one_by : (seen : Observed) (pulls : List Pull) (ps : List Piece) (workers : ℕ) (old new : RoundView) (s t : ℕ) (slice : SliceView) (order : Clocks) → order ≡ clocks_seen seen
+    → (keeps : Bool) → keeps ≡ all_atoms ps → SettlesOne order pulls keeps workers old new s t slice → SettlesOne (clocks_seen seen) pulls (all_atoms ps) workers old new s t slice
+settles_one_by seen pulls ps workers old new s t slice order is keeps keeps_is one =
+    subst (λ (k : Bool). SettlesOne (clocks_seen seen) pulls k workers old new s t slice) keeps_is
+    (subst (λ (o : Clocks). SettlesOne o pulls keeps workers old new s t slice) is one)
+
+-- all parts were taken
+pub taken_all : (parts : List Part) (i : ℕ) → length parts ≤ i → pieces_of (take i parts) ≡ pieces_of parts
+taken_all parts i h = ap pieces_of (take_all i parts h)
+
+pub few_parts : (parts : List Part) → parts_count (pieces_of parts) ≤ 128 → length parts ≤ 128
+few_parts parts few = omega (arith, length_count (pieces_of parts), length-map parts piece_of)
+
+-- ---- whether all parts are atoms
+
+and_false : (b : Bool) → (b && false) ≡ false
+and_false true = refl
+and_false false = refl
+
+pub some_temporal : (ps : List Piece) (p : Piece) (later : List Piece) → is_atom p ≡ false → all_atoms (ps ++ p ∷ later) ≡ false
+some_temporal [] p later h = ap (λ b. b && all_atoms later) h
+some_temporal (q ∷ ps) p later h = ap (λ b. is_atom q && b) (some_temporal ps p later h) ∙ and_false (is_atom q)
+
+pub all_and_one : (ps : List Piece) (p : Piece) → all_atoms ps ≡ true → is_atom p ≡ true → all_atoms (ps ++ p ∷ []) ≡ true
+all_and_one [] p all one = ap (λ b. b && true) one
+all_and_one (q ∷ ps) p all one = both (is_atom q) (all_atoms ps) (all_atoms (ps ++ p ∷ [])) all (λ h. all_and_one ps p h one)
+  where
+    both : (a b c : Bool) → (a && b) ≡ true → (b ≡ true → c ≡ true) → (a && c) ≡ true
+    both true b c h more = more h
+    both false b c h more = h

@@ -1,0 +1,108 @@
+-- The parts of a conjunction, one after the other.
+use Rattle.std.proofs.Common.{◌≡◌, ℕ, suc, zero, ◌+◌, ◌<◌, ◌≤◌, true, List, [], ◌∷◌, ◌++◌, length, map, take, drop, get_or, flat_map, refl, sym, ◌∙◌, ap, subst, arith, append_assoc, append-nil, add-one}
+use Rattle.std.proofs.lemmas.List.{length-map, length-take-le}
+use Rattle.std.proofs.lemmas.Grind.{flat_map-append}
+use Rattle.std.proofs.lemmas.List.Concat.{flat_map-cons}
+use Rattle.std.proofs.Math.Seq.{take-suc}
+use Rattle.pull_system.specs.declared.pull.Pull.{Pull}
+use Rattle.pull_system.specs.Rows.{RowsView}
+use Rattle.slice_graph.specs.PullLists.{pulls_of_order}
+use Rattle.rctl_parts.specs.declared.part.Part.{Part}
+use Rattle.rctl_parts.specs.Pieces.{Piece, piece_of, pieces_of}
+use Rattle.rctl_parts.specs.MadeFor.{Scope, PieceFits, EachFits, part_count, parts_count}
+use Rattle.conjunctions.specs.declared.observed.Observed.{Observed}
+use Rattle.conjunctions.specs.declared.answer.PartAnswer.{PartAnswer}
+use Rattle.conjunctions.specs.Observing.{clocks_seen, lens_seen}
+use Rattle.conjunctions.specs.Numbering.{within, conjunctions_in}
+use Rattle.conjunctions.specs.Rounds.{RoundView}
+use Rattle.conjunctions.specs.Systems.{AddsPulls}
+use Rattle.conjunctions.specs.Settling.{AreFloors, Settles}
+use Rattle.conjunctions.specs.Answering.{places_from, place, IsPartAnswer, AddsAnswers}
+use Rattle.conjunctions.proofs.InTurn.{settles_none, settles_on, floors_left, floors_right}
+use Rattle.conjunctions.proofs.Adding.{adds_none, adds_more, answers_none, answers_more, places_joined}
+
+-- what stands once these parts were added: their pulls behind those of the order, the rows within them, and their answers
+pub record Gathered (seen : Observed) (workers disjunct : ℕ) (round now : RoundView) (steps steps_now : ℕ) (answers answers_now : List PartAnswer) (pulls : List Pull) (ps : List Piece) : Type 0 where
+  pub adds : AddsPulls seen (pulls_of_order (clocks_seen seen)) pulls ps
+  pub settles : Settles seen workers round now steps steps_now (flat_map within ps)
+  pub told : AddsAnswers seen answers answers_now (places_from disjunct 1 ps)
+
+pub gathered_none : (seen : Observed) (workers disjunct : ℕ) (round : RoundView) (steps : ℕ) (answers : List PartAnswer) (pulls : List Pull) → pulls ≡ pulls_of_order (clocks_seen seen)
+    → Gathered seen workers disjunct round round steps steps answers answers pulls []
+gathered_none seen workers disjunct round steps answers pulls is = record {
+  adds = subst (λ (list : List Pull). AddsPulls seen (pulls_of_order (clocks_seen seen)) list []) (sym is) (adds_none seen (pulls_of_order (clocks_seen seen)));
+  settles = settles_none seen workers round steps;
+  told = answers_none seen answers;
+}
+
+pub gathered_more : (seen : Observed) (workers disjunct : ℕ) (round now next : RoundView) (s t u : ℕ) (a b c : List PartAnswer) (pulls more : List Pull) (ps : List Piece) (p : Piece) (answer : PartAnswer)
+    → Gathered seen workers disjunct round now s t a b pulls ps → AddsPulls seen pulls more (p ∷ []) → Settles seen workers now next t u (within p)
+    → IsPartAnswer seen (place disjunct (length ps + 1) p) answer → c ≡ b ++ answer ∷ [] → Gathered seen workers disjunct round next s u a c more (ps ++ p ∷ [])
+gathered_more seen workers disjunct round now next s t u a b c pulls more ps p answer gathered adds settles is c_is = record {
+  adds = adds_more seen (pulls_of_order (clocks_seen seen)) pulls more ps (p ∷ []) gathered.adds adds;
+  settles = subst (Settles seen workers round next s u) (sym parts) (settles_on seen workers round now next s t u (flat_map within ps) (within p) gathered.settles settles);
+  told = subst (AddsAnswers seen a c) (sym places) (answers_more seen a b c (places_from disjunct 1 ps) (places_from disjunct (1 + length ps) (p ∷ [])) gathered.told one);
+}
+  where
+    parts : flat_map within (ps ++ p ∷ []) ≡ flat_map within ps ++ within p
+    parts = flat_map-append within ps (p ∷ []) ∙ ap (λ cs. flat_map within ps ++ cs) (flat_map-cons within p [] ∙ append-nil (within p))
+
+    places : places_from disjunct 1 (ps ++ p ∷ []) ≡ places_from disjunct 1 ps ++ places_from disjunct (1 + length ps) (p ∷ [])
+    places = places_joined disjunct 1 ps (p ∷ [])
+
+    one : AddsAnswers seen b c (places_from disjunct (1 + length ps) (p ∷ []))
+    one = record { added = answer ∷ []; is = c_is; answers = (subst (λ (k : ℕ). IsPartAnswer seen (place disjunct k p) answer) (omega arith) is, tt) }
+
+-- the part that comes next, among all of them
+pub record Splits (all ps : List Piece) (p : Piece) : Type 0 where
+  pub later : List Piece
+  pub is : all ≡ ps ++ p ∷ later
+
+pub fits_at : (scope : Scope) (ps : List Piece) (p : Piece) (later : List Piece) → EachFits scope (ps ++ p ∷ later) → PieceFits scope p
+fits_at scope [] p later h = h.0
+fits_at scope (q ∷ ps) p later h = fits_at scope ps p later h.1
+
+pub count_at : (ps : List Piece) (p : Piece) (later : List Piece) → part_count p ≤ parts_count (ps ++ p ∷ later)
+count_at [] p later = omega arith
+count_at (q ∷ ps) p later = omega (arith, count_at ps p later)
+
+-- the rows of before that the conjunctions within the next part may begin from
+pub floors_at : (seen : Observed) (workers : ℕ) (round now : RoundView) (s t : ℕ) (ps : List Piece) (p : Piece) (later : List Piece)
+    → AreFloors seen round.before (conjunctions_in (ps ++ p ∷ later)) → Settles seen workers round now s t (flat_map within ps) → AreFloors seen now.before (within p)
+floors_at seen workers round now s t ps p later floors settles =
+    let P : List (List Piece) → Type 0 = λ cs. AreFloors seen round.before cs in
+    let behind : AreFloors seen (drop (length (flat_map within ps)) round.before) (within p ++ (flat_map within later ++ (ps ++ p ∷ later) ∷ [])) =
+    floors_right seen round.before (flat_map within ps) (within p ++ (flat_map within later ++ (ps ++ p ∷ later) ∷ [])) (subst P split floors) in
+    subst (λ (before : List RowsView). AreFloors seen before (within p)) (sym settles.before)
+    (floors_left seen (drop (length (flat_map within ps)) round.before) (within p) (flat_map within later ++ (ps ++ p ∷ later) ∷ []) behind)
+  where
+    split : conjunctions_in (ps ++ p ∷ later) ≡ flat_map within ps ++ (within p ++ (flat_map within later ++ (ps ++ p ∷ later) ∷ []))
+    split = ap (λ cs. cs ++ (ps ++ p ∷ later) ∷ []) (flat_map-append within ps (p ∷ later) ∙ ap (λ cs. flat_map within ps ++ cs) (flat_map-cons within p later))
+        ∙ append_assoc (flat_map within ps) (within p ++ flat_map within later) ((ps ++ p ∷ later) ∷ [])
+        ∙ ap (λ cs. flat_map within ps ++ cs) (append_assoc (within p) (flat_map within later) ((ps ++ p ∷ later) ∷ []))
+
+-- and those of the conjunction itself, once all of its parts were added
+pub floors_last : (seen : Observed) (workers : ℕ) (round now : RoundView) (s t : ℕ) (ps : List Piece)
+    → AreFloors seen round.before (conjunctions_in ps) → Settles seen workers round now s t (flat_map within ps) → AreFloors seen now.before (ps ∷ [])
+floors_last seen workers round now s t ps floors settles =
+    subst (λ (before : List RowsView). AreFloors seen before (ps ∷ [])) (sym settles.before) (floors_right seen round.before (flat_map within ps) (ps ∷ []) floors)
+
+-- what comes before a place, what stands there, and what comes behind it
+pub splits_at : (parts : List Part) (i : ℕ) (part : Part) → i < length parts → part ≡ get_or parts i part → Splits (pieces_of parts) (pieces_of (take i parts)) (piece_of part)
+splits_at [] i part h at = absurd (omega arith)
+splits_at (q ∷ parts) zero part h at = record { later = pieces_of parts; is = ap (λ r. piece_of r ∷ pieces_of parts) (sym at) }
+splits_at (q ∷ parts) (suc i) part h at =
+    let later = splits_at parts i part (omega arith) at in
+    record { later = later.later; is = ap (λ ps. piece_of q ∷ ps) later.is }
+
+-- one part more was taken
+pub taken_more : (parts : List Part) (i : ℕ) (part : Part) → i < length parts → part ≡ get_or parts i part → pieces_of (take (i + 1) parts) ≡ pieces_of (take i parts) ++ piece_of part ∷ []
+taken_more parts i part h at = ap (λ n. pieces_of (take n parts)) (add-one i) ∙ taken parts i part h at
+  where
+    taken : (parts : List Part) (i : ℕ) (part : Part) → i < length parts → part ≡ get_or parts i part → pieces_of (take (suc i) parts) ≡ pieces_of (take i parts) ++ piece_of part ∷ []
+    taken [] i part h at = absurd (omega arith)
+    taken (q ∷ parts) zero part h at = ap (λ r. piece_of r ∷ []) (sym at)
+    taken (q ∷ parts) (suc i) part h at = ap (λ ps. piece_of q ∷ ps) (taken parts i part (omega arith) at)
+
+pub length-taken : (parts : List Part) (i : ℕ) → i ≤ length parts → length (pieces_of (take i parts)) ≡ i
+length-taken parts i h = length-map (take i parts) piece_of ∙ length-take-le i parts h

@@ -1,0 +1,14 @@
+mod InTurn
+mod Adding
+mod LeastCuts
+mod Settled
+mod Later
+mod Operators
+mod Joining
+mod Atoms
+mod Parts
+mod Gathering
+mod SettlingOne
+mod Ending
+mod Answered
+mod OneAnswer

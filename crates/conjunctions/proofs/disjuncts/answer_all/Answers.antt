@@ -1,0 +1,102 @@
+use Rattle.std.proofs.Common.{◌≡◌, ℕ, ◌+◌, ◌<◌, ◌≤◌, false, List, [], take, length, sym, ◌∙◌, ap, subst, arith}
+use Rattle.std.specs.Prelude.{◌↔◌, ◌||◌, IsTrue}
+use Rattle.run_model.specs.Cut.{Cut, Clocks, initial, lengths}
+use Rattle.run_model.specs.Slice.{Cuts}
+use Rattle.slice_graph.specs.Views.{slice_of}
+use Rattle.conjunctions.specs.declared.answer.PartAnswer.{PartAnswer}
+use Rattle.conjunctions.specs.Answering.{IsSliceOf, AddsAnswers, places_from}
+use Rattle.conjunctions.specs.Settling.{AreFloors, Settles}
+use Rattle.rctl_parts.specs.Pieces.{Piece, pieces_of, disjuncts_of}
+use Rattle.std.proofs.lemmas.List.{length-map}
+use Rattle.rctl_parts.specs.declared.part.Part.{Part}
+use Rattle.rctl_parts.specs.MadeFor.{AllFit, EachFits, parts_count, disjuncts_count}
+use Rattle.conjunctions.specs.Observing.{clocks_seen, lens_seen, scope_seen}
+use Rattle.conjunctions.specs.Numbering.{conjunctions_in, all_conjunctions}
+use Rattle.conjunctions.proofs.Ending.{is_order}
+use Rattle.conjunctions.proofs.Parts.{first_is_cut}
+use Rattle.conjunctions.proofs.Answered.{Answered, answered_none, answered_more, answered_all, disjunct_at, disjuncts_taken, length-disjuncts, all_taken, disjunct_fits, disjunct_count, disjunct_floors, initial_is, empty_is}
+use Rattle.conjunctions.proofs.disjuncts.answer_all.Goals as goal
+
+pub disjuncts-init : goal.disjuncts-init
+disjuncts-init g c =
+    let seen = c.args.seen.now in
+    let lens = c.shape-shape.ensures.lens ∙ ap lengths (c.order.ensures.order ∙ sym c.order.ensures.trace.clocks) in
+    subst (λ (parts : List PartAnswer). Answered seen c.args.workers c.args.round.now c.args.round.now c.args.steps.now c.args.steps.now parts false c.in_ok-slice.slice []) (sym c.new-parts.ensures)
+    (answered_none seen c.args.workers c.args.round.now c.args.steps.now c.in_ok-slice.slice (empty_is seen c.in_ok-slice.slice c.shape-shape.result.now lens c.in_ok-slice.ensures))
+
+pub settle_conjunction-requires-clause-fits : goal.settle_conjunction-requires-clause-fits
+settle_conjunction-requires-clause-fits g c = λ κs lives.
+    let splits = disjunct_at c.args.disjuncts.now c.disjuncts.index c.index-disjuncts-index.result c.disjuncts-test.true c.index-disjuncts-index.is in
+    let fits = disjunct_fits (scope_seen c.args.seen.now) (disjuncts_of (take c.disjuncts.index c.args.disjuncts.now)) (pieces_of c.index-disjuncts-index.result) splits.later
+    (subst (AllFit (scope_seen c.args.seen.now)) splits.is c.requires.made.fit) in
+    subst (λ (parts : List Part). EachFits (scope_seen c.args.seen.now) (pieces_of parts)) (sym c.as_slice.ensures) fits
+
+pub settle_conjunction-requires-clause-count : goal.settle_conjunction-requires-clause-count
+settle_conjunction-requires-clause-count g c = λ κs lives.
+    let splits = disjunct_at c.args.disjuncts.now c.disjuncts.index c.index-disjuncts-index.result c.disjuncts-test.true c.index-disjuncts-index.is in
+    omega (
+      arith,
+      ap disjuncts_count splits.is,
+      disjunct_count (disjuncts_of (take c.disjuncts.index c.args.disjuncts.now)) (pieces_of c.index-disjuncts-index.result) splits.later,
+      c.requires.made.parts,
+      ap (λ (parts : List Part). parts_count (pieces_of parts)) c.as_slice.ensures,
+    )
+
+pub settle_conjunction-requires-clause-start : goal.settle_conjunction-requires-clause-start
+settle_conjunction-requires-clause-start g c = λ κs lives.
+    let lens = c.shape-shape.ensures.lens ∙ ap lengths (c.order.ensures.order ∙ sym c.order.ensures.trace.clocks) in
+    c.in_ok-start.ensures ∙ initial_is c.args.seen.now c.procs.result (c.procs.ensures.count ∙ ap (length {A = ℕ}) lens)
+
+pub settle_conjunction-requires-clause-floors : goal.settle_conjunction-requires-clause-floors
+settle_conjunction-requires-clause-floors g c = λ κs lives.
+    let seen = c.args.seen.now in
+    let splits = disjunct_at c.args.disjuncts.now c.disjuncts.index c.index-disjuncts-index.result c.disjuncts-test.true c.index-disjuncts-index.is in
+    let floors = disjunct_floors seen c.args.workers c.args.round.now c.disjuncts.round c.args.steps.now c.disjuncts.steps (disjuncts_of (take c.disjuncts.index c.args.disjuncts.now)) (pieces_of c.index-disjuncts-index.result) splits.later
+    (subst (λ (ds : List (List Piece)). AreFloors seen c.args.round.now.before (all_conjunctions ds)) splits.is c.requires.floors) c.disjuncts.invariant.settles in
+    subst (λ (parts : List Part). AreFloors seen c.disjuncts.round.before (conjunctions_in (pieces_of parts))) (sym c.as_slice.ensures) floors
+
+pub disjuncts-preserved : goal.disjuncts-preserved
+disjuncts-preserved g c =
+    let seen = c.args.seen.now in
+    let o = clocks_seen seen in
+    let all = c.args.disjuncts.now in
+    let ds = disjuncts_of (take c.disjuncts.index all) in
+    let d = pieces_of c.index-disjuncts-index.result in
+    let there = c.disjuncts-test.true in
+    let order = is_order seen c.order.ensures.trace in
+    let lens = c.shape-shape.ensures.lens ∙ ap lengths (c.order.ensures.order ∙ sym c.order.ensures.trace.clocks) in
+    let start : c.in_ok-start.start ≡ initial o = c.in_ok-start.ensures ∙ initial_is seen c.procs.result (c.procs.ensures.count ∙ ap (length {A = ℕ}) lens) in
+    let number : c.disjuncts.index + 1 ≡ 1 + length ds = omega (arith, length-disjuncts all c.disjuncts.index (omega (arith, there))) in
+    let settles = subst (λ (parts : List Part). Settles seen c.args.workers c.disjuncts.round c.settle_conjunction.new.round c.disjuncts.steps c.settle_conjunction.new.steps (conjunctions_in (pieces_of parts)))
+    c.as_slice.ensures c.in_ok-one.ensures.settles in
+    let told = subst (λ (k : ℕ). AddsAnswers seen c.disjuncts.parts c.settle_conjunction.new.answers (places_from k 1 d)) number
+    (subst (λ (parts : List Part). AddsAnswers seen c.disjuncts.parts c.settle_conjunction.new.answers (places_from (c.disjuncts.index + 1) 1 (pieces_of parts))) c.as_slice.ensures c.in_ok-one.ensures.answers) in
+    let is = subst (λ (parts : List Part). IsSliceOf seen c.in_ok-one.one (pieces_of parts)) c.as_slice.ensures c.in_ok-one.ensures.slice in
+    let has = subst (λ (cut : Cut). IsTrue c.has-truth.result ↔ Cuts o (slice_of c.in_ok-one.one) cut) start (c.has-truth.ensures.cuts o is.fits) in
+    subst (Answered seen c.args.workers c.args.round.now c.settle_conjunction.new.round c.args.steps.now c.settle_conjunction.new.steps c.settle_conjunction.new.answers (c.disjuncts.truth || c.has-truth.result) c.in_ok-slice-2.slice)
+    (sym (disjuncts_taken all c.disjuncts.index c.index-disjuncts-index.result there c.index-disjuncts-index.is))
+    (answered_more seen order c.args.workers c.args.round.now c.disjuncts.round c.settle_conjunction.new.round c.args.steps.now c.disjuncts.steps c.settle_conjunction.new.steps c.disjuncts.parts c.settle_conjunction.new.answers
+    c.disjuncts.truth c.has-truth.result c.disjuncts.slice c.in_ok-one.one c.in_ok-slice-2.slice ds d c.disjuncts.invariant settles told is has
+    (c.in_ok-slice-2.ensures.fits o order c.disjuncts.invariant.fits is.fits) (c.in_ok-slice-2.ensures.stands o c.disjuncts.invariant.fits is.fits))
+
+pub join_slices-requires : goal.join_slices-requires
+join_slices-requires g c = c.disjuncts.invariant.fits.shape ∙ sym c.in_ok-one.ensures.slice.fits.shape
+
+pub overflow_cast-index : goal.overflow_cast-index
+overflow_cast-index g c = omega (arith, length-map c.args.disjuncts.now pieces_of, c.requires.made.few, c.disjuncts-test.true)
+
+pub overflow_add-index : goal.overflow_add-index
+overflow_add-index g c = omega (arith, length-map c.args.disjuncts.now pieces_of, c.requires.made.few, c.disjuncts-test.true)
+
+pub returns-clause-answer : goal.returns-clause-answer
+returns-clause-answer g c =
+    let seen = c.args.seen.now in
+    let all = subst (Answered seen c.args.workers c.args.round.now c.disjuncts.round c.args.steps.now c.disjuncts.steps c.disjuncts.parts c.disjuncts.truth c.disjuncts.slice)
+    (all_taken c.args.disjuncts.now c.disjuncts.index c.disjuncts-test.false) c.disjuncts.invariant in
+    answered_all seen c.args.workers c.args.round.now c.disjuncts.round c.args.steps.now c.disjuncts.steps (record { batch = c.batches.result; truth = c.disjuncts.truth; slice = c.disjuncts.slice; parts = c.disjuncts.parts })
+    (disjuncts_of c.args.disjuncts.now) c.batches.ensures all
+
+pub returns-clause-settles : goal.returns-clause-settles
+returns-clause-settles g c =
+    subst (λ (ds : List (List Piece)). Settles c.args.seen.now c.args.workers c.args.round.now c.disjuncts.round c.args.steps.now c.disjuncts.steps (all_conjunctions ds))
+    (all_taken c.args.disjuncts.now c.disjuncts.index c.disjuncts-test.false) c.disjuncts.invariant.settles

@@ -1,0 +1,7 @@
+use Rattle.std.proofs.Common.{take}
+use Rattle.rctl_parts.specs.Pieces.{disjuncts_of}
+use Rattle.conjunctions.proofs.Answered.{Answered}
+use Rattle.conjunctions.proofs.disjuncts.answer_all.Given as goal
+
+abbrev pub invariant-disjuncts : goal.invariant-disjuncts
+invariant-disjuncts g l = Answered l.seen l.workers l.fn.round l.round l.fn.steps l.steps l.parts l.truth l.slice (disjuncts_of (take l.index l.disjuncts))

@@ -1,0 +1,114 @@
+-- The rows of conjunctions: what each of them has to be, and what a call of the recursion leaves of
+-- the lists of rows.
+use Rattle.std.specs.Prelude.{◌≡◌, ℕ, ◌+◌, ◌<◌, ◌≤◌, ◌↔◌, Bool, true, List, [], ◌∷◌, ◌++◌, length, drop, sum, slice_index, get_or, Option, Some, None}
+use Rattle.run_model.specs.Cut.{Cut, Clocks, IsWithin, lengths}
+use Rattle.run_model.specs.Consistent.{IsConsistent}
+use Rattle.run_model.specs.Slice.{Cuts}
+use Rattle.run_model.specs.Sublattice.{IsLeast}
+use Rattle.pull_system.specs.declared.pull.Pull.{Pull}
+use Rattle.pull_system.specs.System.{SystemView, IsSystem, IsClosed}
+use Rattle.slice_graph.specs.Views.{SliceView, slice_of}
+use Rattle.slice_graph.specs.Fitting.{FitsOrder}
+use Rattle.pull_system.specs.Rows.{RowsView, AreLeastRows, start_of, row_at}
+use Rattle.pull_system.specs.Growth.{DidNotFall, grown_words}
+use Rattle.raise_machine.specs.Bounds.{AreBounds}
+use Rattle.rctl_parts.specs.Pieces.{Piece}
+use Rattle.conjunctions.specs.declared.observed.Observed.{Observed}
+use Rattle.causal_order.specs.Growth.{HasGrown}
+use Rattle.trace_growth.specs.Laws.{StatesHaveGrown}
+use Rattle.channel_preds.specs.Truth.{HasMoreEvents}
+use Rattle.conjunctions.specs.Observing.{Reading, AreAnswers, Satisfying, clocks_seen, lens_seen, trace_seen}
+use Rattle.conjunctions.specs.Numbering.{all_atoms}
+use Rattle.conjunctions.specs.Systems.{system_of}
+use Rattle.conjunctions.specs.Rounds.{RoundView}
+use Rattle.conjunctions.specs.Counting.{bounds, first_of, steps_for}
+
+-- the members that hold the start
+abbrev pub Above : (Cut → Type 0) → Cut → Cut → Type 0
+Above A start c = A c × IsWithin start c
+
+-- the vector is the least member that holds the start, or has a component above its length exactly
+-- where there is none
+pub record IsLeastOrNone (lens : List ℕ) (A : Cut → Type 0) (start v : List ℕ) : Type 0 where
+  pub there : IsWithin v lens → IsLeast (Above A start) v
+  pub absent : (i : ℕ) → slice_index lens i < slice_index v i → (c : Cut) → Above A start c → ⊥
+
+-- each row is that of the row's start
+abbrev pub AreLeastCuts : List ℕ → List ℕ → (Cut → Type 0) → Type 0
+AreLeastCuts lens words A =
+    (row : ℕ) → row ≤ sum lens → IsLeastOrNone lens A (start_of lens row) (row_at lens words row)
+
+-- the rows of a conjunction: least cuts at which its parts are true, whatever watches answer what
+-- stands in the rows of the watches; for a conjunction of atoms they are the least closed vectors
+-- of its system
+pub record IsSettled (seen : Observed) (ps : List Piece) (rows : RowsView) : Type 0 where
+  pub lens : rows.lens ≡ lens_seen seen
+  pub cuts : (reading : Reading) → AreAnswers seen reading
+      → AreLeastCuts (lens_seen seen) rows.words (Satisfying seen reading ps)
+  pub least : all_atoms ps ≡ true → AreLeastRows (system_of seen ps) rows.words
+  pub system : all_atoms ps ≡ true → IsSystem (system_of seen ps)
+
+-- one after the other, as many rows as conjunctions
+abbrev pub AreSettled : Observed → List (List Piece) → List RowsView → Type 0
+AreSettled seen [] [] = Unit {0}
+AreSettled seen [] (rows ∷ more) = ⊥
+AreSettled seen (ps ∷ rest) [] = ⊥
+AreSettled seen (ps ∷ rest) (rows ∷ more) = IsSettled seen ps rows × AreSettled seen rest more
+
+-- a conjunction of atoms may begin from these rows, grown
+pub record IsFloor (seen : Observed) (ps : List Piece) (rows : RowsView) : Type 0 where
+  pub fell : DidNotFall rows.lens (lens_seen seen)
+  pub floor : all_atoms ps ≡ true → AreBounds (system_of seen ps)
+      (grown_words (lens_seen seen) rows)
+
+-- where there are rows from before, each conjunction may begin from its own
+abbrev pub AreFloors : Observed → List RowsView → List (List Piece) → Type 0
+AreFloors seen [] cs = Unit {0}
+AreFloors seen (rows ∷ before) [] = Unit {0}
+AreFloors seen (rows ∷ before) (ps ∷ cs) = IsFloor seen ps rows × AreFloors seen before cs
+
+-- these conjunctions were settled: their rows stand behind the others, as many rows of before are
+-- used up, and one worker took no more steps than each may
+pub record Settles (seen : Observed) (workers : ℕ) (old new : RoundView)
+    (steps_before steps_after : ℕ) (cs : List (List Piece)) : Type 0 where
+  pub before : new.before ≡ drop (length cs) old.before
+  pub added : List RowsView
+  pub settled : new.settled ≡ old.settled ++ added
+  pub rows : AreSettled seen cs added
+  pub looks : workers ≡ 1 → steps_after ≤ steps_before + bounds (lens_seen seen) old.before cs added
+
+-- one conjunction with these pulls was settled: its rows are the least ones of the system, they
+-- stand behind the others, and the slice has the consistent cuts that are closed under the pulls
+pub record SettlesOne (o : Clocks) (pulls : List Pull) (keeps : Bool) (workers : ℕ)
+    (old new : RoundView) (steps_before steps_after : ℕ) (slice : SliceView) : Type 0 where
+  pub before : new.before ≡ drop 1 old.before
+  pub rows : RowsView
+  pub settled : new.settled ≡ old.settled ++ rows ∷ []
+  pub lens : rows.lens ≡ lengths o
+  pub system : IsSystem (record { lens = lengths o; pulls = pulls })
+  pub least : AreLeastRows (record { lens = lengths o; pulls = pulls }) rows.words
+  pub looks : workers ≡ 1 → steps_after
+      ≤ steps_before + steps_for (length pulls) keeps (lengths o) (first_of old.before) rows
+  pub fits : FitsOrder o slice
+  pub cuts : (c : Cut) → IsConsistent o c → Cuts o (slice_of slice) c
+      ↔ IsClosed (record { lens = lengths o; pulls = pulls }) c
+
+-- what was observed later: the same processes and watches, and more behind what was there
+pub record IsLater (before after : Observed) : Type 0 where
+  pub header : after.trace.states.header ≡ before.trace.states.header
+  pub events : HasMoreEvents before.trace.states after.trace.states
+  pub clocks : HasGrown (clocks_seen before) (clocks_seen after)
+  pub states : StatesHaveGrown (trace_seen before) (trace_seen after)
+  pub watches : after.watch_process ≡ before.watch_process
+  pub rows : (w p : ℕ) → get_or before.watch_process w None ≡ Some p
+      → (more : List Bool) × (get_or after.watch_rows w [] ≡ get_or before.watch_rows w [] ++ more)
+
+-- rows of before that are kept are of no more events than there are now
+pub record IsFloorOf (lens : List ℕ) (keeps : Bool) (before : Option RowsView) : Type 0 where
+  pub fell : (rows : RowsView) → keeps ≡ true → before ≡ Some rows → DidNotFall rows.lens lens
+
+-- and a table of the system may begin from them, grown
+pub record CanBegin (system : SystemView) (keeps : Bool) (before : Option RowsView) : Type 0 where
+  pub fell : IsFloorOf system.lens keeps before
+  pub floor : (rows : RowsView) → keeps ≡ true → before ≡ Some rows
+      → AreBounds system (grown_words system.lens rows)

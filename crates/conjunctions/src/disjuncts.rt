@@ -1,0 +1,76 @@
+//! The answer of a formula: its disjuncts one after the other.
+ghost use Rattle.std.specs.Prelude.{◌≡◌, ◌≤◌, length, IfOk, OnOk};
+ghost use Rattle.rctl_parts.specs.Pieces.{disjuncts_of};
+ghost use Rattle.rctl_parts.specs.MadeFor.{AreMadeFor};
+ghost use Rattle.conjunctions.specs.Observing.{IsReady, scope_seen};
+ghost use Rattle.conjunctions.specs.Numbering.{all_conjunctions};
+ghost use Rattle.conjunctions.specs.Settling.{AreFloors, Settles};
+ghost use Rattle.conjunctions.specs.Answering.{IsAnswer};
+
+use crate::answer::Answer;
+use crate::conjunction::settle_conjunction;
+use crate::observed::Observed;
+use crate::round::Round;
+use cut_lattice::Cut;
+use graft::join_slices;
+use pota_base::{Gate, List, NoMemory, Steps};
+use rctl_parts::Part;
+use slice_graph::Slice;
+use std::alloc::Global;
+use std::sync::ledger::Ledger;
+use std::thread::Threads;
+
+/// The answer of the formula that these disjuncts are, on what was observed. Each conjunction is
+/// settled once, from its rows of before where none of its parts is temporal, by 1 to 16 workers;
+/// it may wait for the threads that it joins.
+///
+/// The truth is that of the disjuncts, each by its own slice: the joined slice may have the initial
+/// cut where no disjunct does.
+pub fn answer_all<R: Threads + Sync, G: Gate, L: Ledger>(
+    rt: &R,
+    alloc: Global,
+    seen: &Observed,
+    disjuncts: &[List<Part>],
+    round: &mut Round,
+    workers: u32,
+    gate: &G,
+    steps: &mut Steps<L>,
+) -> Result<Answer, NoMemory>
+    requires ready { IsReady seen.now }
+    requires made { AreMadeFor (scope_seen seen.now) (disjuncts_of disjuncts.now) }
+    requires floors { AreFloors seen.now round.old.before (all_conjunctions (disjuncts_of disjuncts.now)) }
+    requires some { 1 ≤ workers }
+    requires few { workers ≤ 16 }
+    ensures answer { IfOk result (IsAnswer seen.now (disjuncts_of disjuncts.now)) }
+    ensures settles { OnOk result (Settles seen.now workers round.old round.new steps.old steps.new
+        (all_conjunctions (disjuncts_of disjuncts.now))) }
+{
+    let shape = seen.trace.order().shape();
+    let start = Cut::new(alloc, shape.procs())?;
+    let mut parts = List::new(alloc);
+    let mut truth = false;
+    let mut slice = Slice::empty(alloc, shape)?;
+    'disjuncts: for (index, disjunct) in disjuncts.iter().enumerate() {
+        let one = settle_conjunction(
+            rt,
+            alloc,
+            seen,
+            disjunct.as_slice(),
+            index as u32 + 1,
+            &start,
+            round,
+            &mut parts,
+            workers,
+            gate,
+            steps,
+        )?;
+        truth |= one.has(&start);
+        slice = join_slices(alloc, &slice, &one)?;
+    }
+    Ok(Answer {
+        batch: seen.trace.batches(),
+        truth,
+        slice,
+        parts,
+    })
+}

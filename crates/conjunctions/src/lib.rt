@@ -1,0 +1,31 @@
+//! The answer of a formula, by its disjuncts and by the conjunctions within their operators,
+//! settled inside out.
+//!
+//! `answer_all` gives the truth of the formula at the initial cut, the slice of the smallest
+//! sublattice that holds the cuts at which it is true, and for each part its truth there and the
+//! slice of its operand (clause `answer`), for every number of workers, each gate, and whatever
+//! rows it begins from. The rows of each conjunction are the least cuts at which its parts are
+//! true; for a conjunction of atoms they are the least closed vectors of its system, begun from its
+//! rows of before; and one worker takes at most the steps of `specs/Counting.antt` (clause
+//! `settles`). What was observed has one answer (`one_answer`), and the rows of before may be begun
+//! from once more was observed (`settled_rows_are_kept`).
+//!
+//! Nothing is said of the time or the memory that a call takes, nor of the steps of several
+//! workers.
+#![tactic(auto)]
+
+mod answer;
+mod atom;
+mod conjunction;
+mod disjuncts;
+mod laws;
+mod observed;
+mod operator;
+mod round;
+mod settling;
+
+pub use answer::{Answer, PartAnswer};
+pub use disjuncts::answer_all;
+pub use laws::{one_answer, settled_rows_are_kept};
+pub use observed::Observed;
+pub use round::Round;
