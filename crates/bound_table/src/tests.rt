@@ -96,53 +96,62 @@ fn rows_without_a_cut_pass_the_length(rt: HostRuntime) -> Result<(), Fail> {
     Ok(())
 }
 
-#[test]
-fn rows_lend_what_they_have(rt: HostRuntime) -> Result<(), Fail> {
-    let (table, mut seat) = empty_channel(&rt, rt.alloc())?;
-    assert_eq!(rt; settled(&rt, &table, &mut seat, 1), [1, 1]);
-    assert!(rt; table.system().shape().events() == 5);
-    seat.bounds();
-    table.lend(&mut seat, 1, 2);
-    assert_eq!(rt; looked_at(&rt, &table, &mut seat, 2), [2, 1]);
-    Ok(())
+/// What a caller reads of rows 0, 1 and 3, which it settles, and of row 2, to which it then lends
+/// row 1.
+#[derive(Drop)]
+struct Caller {
+    seat: Seat,
+    rows: [[u64; 2]; 4],
 }
 
-/// The rows that are there are settled by a seat.
-fn settle_rows<L: Ledger>(blank: Blank, table: &BoundTable, mut seat: Seat, rows: [u32; 3]) -> Seat
+fn settle_and_lend<L: Ledger>(blank: Blank, table: &BoundTable, mut seat: Seat) -> Caller
     requires name { blank.name ≡ L.name }
     requires parts { blank.parts ≡ L.parts }
     requires some { 0 < blank.parts }
     requires fits { seat.table ≡ table.now }
-    ensures { result.table ≡ table.now }
+    requires lens { table.now.system.lens ≡ 3 ∷ 2 ∷ [] }
+    ensures { result.seat.table ≡ table.now }
 {
     let mut steps = Steps::<L>::new(blank);
-    let mut into = [0; 2];
-    for row in rows {
-        if row <= table.system().shape().events() && table.system().shape().procs() == 2 {
-            table.settle(&mut seat, row, &mut into, &mut steps);
-        }
-    }
-    seat
+    let (mut bottom, mut first, mut last, mut lent) = ([0; 2], [0; 2], [0; 2], [0; 2]);
+    table.settle(&mut seat, 0, &mut bottom, &mut steps);
+    table.settle(&mut seat, 1, &mut first, &mut steps);
+    table.settle(&mut seat, 3, &mut last, &mut steps);
+    seat.bounds();
+    table.lend(&mut seat, 1, 2);
+    table.look(&mut seat, 2, &mut lent);
+    let rows = [bottom, first, last, lent];
+    Caller { seat, rows }
 }
 
-fn work(table: &BoundTable, seat: Seat, rows: [u32; 3]) -> Seat
-    requires { seat.table ≡ table.now }
-    ensures { result.table ≡ table.now }
+fn call(table: &BoundTable, seat: Seat) -> Caller
+    requires fits { seat.table ≡ table.now }
+    requires lens { table.now.system.lens ≡ 3 ∷ 2 ∷ [] }
+    ensures { result.seat.table ≡ table.now }
 {
-    settle_rows::<Brand>(Blank::new(1), table, seat, rows)
+    settle_and_lend::<Brand>(Blank::new(1), table, seat)
 }
 
 #[test]
-fn two_callers_meet(rt: HostRuntime) -> Result<(), Fail> {
+fn two_callers_settle_and_lend_the_same_rows(rt: HostRuntime) -> Result<(), Fail> {
     let (table, mut first) = empty_channel(&rt, rt.alloc())?;
     let second = table.split(&mut first);
-    let (mut first, second) = join(
-        &rt,
-        || work(&table, first, [0, 1, 2]),
-        || work(&table, second, [3, 4, 5]),
-    );
-    table.meet(&mut first, second);
-    assert_eq!(rt; looked_at(&rt, &table, &mut first, 1), [1, 1]);
-    assert_eq!(rt; looked_at(&rt, &table, &mut first, 3), [3, 2]);
+    let (first, second) = join(&rt, || call(&table, first), || call(&table, second));
+    assert_eq!(rt; first.rows, [[0, 0], [1, 1], [3, 2], [2, 1]]);
+    assert_eq!(rt; second.rows, first.rows);
+    let Caller { mut seat, rows: _ } = first;
+    table.meet(&mut seat, second.seat);
+    assert_eq!(rt; looked_at(&rt, &table, &mut seat, 2), [2, 1]);
+    Ok(())
+}
+
+#[test]
+fn a_process_is_claimed_by_one_seat(rt: HostRuntime) -> Result<(), Fail> {
+    let (table, mut first) = empty_channel(&rt, rt.alloc())?;
+    let mut second = table.split(&mut first);
+    assert!(rt; table.system().shape().procs() == 2);
+    assert_eq!(rt; table.claim(&mut first, 0), true);
+    assert_eq!(rt; table.claim(&mut second, 0), false);
+    assert_eq!(rt; table.claim(&mut second, 1), true);
     Ok(())
 }

@@ -217,7 +217,7 @@ counted_all log is =
 
 -- ---- the text
 
-reads_back : (log : Log) → IsLog log → IsWellFormed (log_text log) × (items_in (log_text log) ≡ log_items log)
+pub reads_back : (log : Log) → IsLog log → IsWellFormed (log_text log) × (items_in (log_text log) ≡ log_items log)
 reads_back log is =
     log_fault_free log is (subst (λ (ls : List (List ℕ)). AllByRecursion IsNarrow ls) (sym (lines-text log (log_plain log is.fits))) (all_onto IsNarrow (lines_of log) [] (log_narrow log is.fits) tt))
 

@@ -25,11 +25,11 @@ reports_join q watches (log ∷ front) rest t u h k =
     let others = reports_join q watches front rest h.2 u h.3 k in
     (h.0, h.1, h.2 ++ u, others, ap (λ (x : List ℕ). x ++ u) h.4 ∙ append_assoc (report_text h.0) h.2 u)
 
-abbrev Split : Asked → Watches → List Prefix → List Prefix → List ℕ → Type 0
+abbrev pub Split : Asked → Watches → List Prefix → List Prefix → List ℕ → Type 0
 Split q watches front rest text =
     (t : List ℕ) × (u : List ℕ) × AreReports q watches front t × AreReports q watches rest u × (text ≡ t ++ u)
 
-reports_split : (q : Asked) (watches : Watches) (front rest : List Prefix) (text : List ℕ)
+pub reports_split : (q : Asked) (watches : Watches) (front rest : List Prefix) (text : List ℕ)
     → AreReports q watches (front ++ rest) text → Split q watches front rest text
 reports_split q watches [] rest text h = ([], text, refl, h, refl)
 reports_split q watches (log ∷ front) rest text h =
@@ -41,7 +41,7 @@ reports_split q watches (log ∷ front) rest text h =
       h.4 ∙ ap (λ (x : List ℕ). report_text h.0 ++ x) others.4 ∙ sym (append_assoc (report_text h.0) others.0 others.1),
     )
 
-one_text : (q : Asked) (watches : Watches) → IsOfClass q.formula → (logs : List Prefix) → AllByRecursion IsOrdered logs
+pub one_text : (q : Asked) (watches : Watches) → IsOfClass q.formula → (logs : List Prefix) → AllByRecursion IsOrdered logs
     → (t u : List ℕ) → AreReports q watches logs t → AreReports q watches logs u → t ≡ u
 one_text q watches class [] ordered t u h k = h ∙ sym k
 one_text q watches class (log ∷ logs) ordered t u h k =
