@@ -1,0 +1,12 @@
+use Rattle.std.proofs.Common.{◌≡◌, sym, ◌∙◌, ap, set, get_or, [], List, Bool}
+use Rattle.std.proofs.lemmas.List.{set-set, get_or-set_same}
+use Rattle.watch_feeding.proofs.rows.lengthen_row.Goals as goal
+
+pub returns-clause-row : goal.returns-clause-row
+returns-clause-row c =
+    let rows = c.args.rows.now in
+    let w = c.args.w in
+    let row = c.lengthen-lengthened.new.row in
+    let new = c.replace-empty.new.self in
+    let is : new ≡ set rows w row = c.replace-empty.ensures.list ∙ ap (λ (l : List (List Bool)). set l w row) c.replace-row.ensures.list ∙ set-set rows w _ row in
+    is ∙ ap (set rows w) (sym (ap (λ (l : List (List Bool)). get_or l w []) is ∙ get_or-set_same rows w row [] c.requires.there))
