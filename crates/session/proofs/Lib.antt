@@ -1,0 +1,7 @@
+mod Feeding
+mod Taking
+mod Named
+mod Going
+mod Completing
+mod OneTrace
+mod Trial

@@ -1,0 +1,105 @@
+-- A formula over a trace that grows batch by batch.
+use Rattle.std.specs.Prelude.{◌≡◌, ℕ, ◌≤◌, Bool, false, List, [], ◌∷◌, ◌++◌, length, replicate, Option, None, Some}
+use Rattle.event_log.specs.declared.log.Event.{Event}
+use Rattle.event_log.specs.declared.log.Header.{Header}
+use Rattle.trace_growth.specs.Growing.{IsTrace, opened_trace, with_trace_batch}
+use Rattle.pull_system.specs.Rows.{RowsView}
+use Rattle.rctl_parts.specs.declared.part.Part.{Part}
+use Rattle.rctl_parts.specs.Pieces.{Piece, disjuncts_of}
+use Rattle.rctl_parts.specs.MadeFor.{AreMadeFor}
+use Rattle.watch_feeding.specs.Fed.{HaveRows, RowsHaveGrown}
+use Rattle.conjunctions.specs.declared.observed.Observed.{Observed}
+use Rattle.conjunctions.specs.declared.answer.Answer.{Answer}
+use Rattle.conjunctions.specs.Observing.{AreFull, scope_seen}
+use Rattle.conjunctions.specs.Numbering.{all_conjunctions}
+use Rattle.conjunctions.specs.Settling.{AreSettled, AreFloors, IsLater}
+use Rattle.conjunctions.specs.Answering.{IsAnswer}
+
+-- what was observed so far, the formula by its disjuncts, the rows of its conjunctions in the order
+-- of their numbers, the answer, and whether memory was wanted
+pub record GrowingView : Type 0 where
+  pub seen : Observed
+  pub disjuncts : List (List Part)
+  pub settled : List RowsView
+  pub answer : Option Answer
+  pub spent : Bool
+
+-- a header without events, and watches on these processes that were fed nothing
+abbrev pub opened_observed : Header → List (Option ℕ) → Observed
+opened_observed header on = record {
+  trace = opened_trace header;
+  watch_process = on;
+  watch_rows = replicate (length on) [];
+}
+
+-- before the first batch
+abbrev pub opened_growing : Header → List (Option ℕ) → List (List Part) → GrowingView
+opened_growing header on disjuncts = record {
+  seen = opened_observed header on;
+  disjuncts = disjuncts;
+  settled = [];
+  answer = None;
+  spent = false;
+}
+
+-- no batch was taken, and no watch was fed
+pub record IsFresh (seen : Observed) (rows : List RowsView) : Type 0 where
+  pub batches : seen.trace.batches ≡ 0
+  pub unfed : seen.watch_rows ≡ replicate (length seen.watch_process) []
+  pub unsettled : rows ≡ []
+
+-- the answer is that of the formula on what was observed, the rows are those of its conjunctions,
+-- and each named watch has answered each state
+pub record IsAnswered (seen : Observed) (disjuncts : List (List Part)) (rows : List RowsView)
+    (told : Answer) : Type 0 where
+  pub full : AreFull seen
+  pub answer : IsAnswer seen (disjuncts_of disjuncts) told
+  pub settled : AreSettled seen (all_conjunctions (disjuncts_of disjuncts)) rows
+
+-- nothing was answered before the first batch
+abbrev pub Stands : Observed → List (List Part) → List RowsView → Option Answer → Type 0
+Stands seen disjuncts settled None = IsFresh seen settled
+Stands seen disjuncts settled (Some answer) = IsAnswered seen disjuncts settled answer
+
+-- the trace goes on, the formula is made for it and for the watches, and what was answered is of it
+pub record Keeps (seen : Observed) (disjuncts : List (List Part)) (settled : List RowsView)
+    (answer : Option Answer) : Type 0 where
+  pub unspent : seen.trace.spent ≡ false
+  pub trace : IsTrace seen.trace.states
+  pub made : AreMadeFor (scope_seen seen) (disjuncts_of disjuncts)
+  pub rows : HaveRows seen.trace.states seen.watch_process seen.watch_rows
+  pub stands : Stands seen disjuncts settled answer
+
+-- a batch was taken, and memory sufficed so far
+pub record HasAnswer (growing : GrowingView) : Type 0 where
+  pub unspent : growing.spent ≡ false
+  pub taken : 1 ≤ growing.seen.trace.batches
+
+-- the batch was taken: its events stand behind those of the trace, all that was observed before is
+-- there still, each named watch has answered each state, and the formula is as before
+pub record TakesBatch (before after : GrowingView) (batch : List Event) : Type 0 where
+  pub trace : after.seen.trace ≡ with_trace_batch before.seen.trace batch
+  pub watches : after.seen.watch_process ≡ before.seen.watch_process
+  pub disjuncts : after.disjuncts ≡ before.disjuncts
+  pub later : IsLater before.seen after.seen
+  pub full : AreFull after.seen
+
+-- ---- one batch
+
+-- what was observed has all events of the batch; then each watch that is on a process has answered
+-- each state, and the truths that were there stand in front
+pub record Completes (before after : Observed) : Type 0 where
+  pub trace : after.trace ≡ before.trace
+  pub watches : after.watch_process ≡ before.watch_process
+  pub rows : RowsHaveGrown before.watch_process before.watch_rows after.watch_rows
+  pub full : AreFull after
+
+-- whatever the watches will answer, each conjunction may begin from its rows of before
+pub record MayGoOn (seen : Observed) (settled : List RowsView) (cs : List (List Piece))
+    : Type 0 where
+  pub floors : (after : Observed) → Completes seen after → AreFloors after settled cs
+
+-- the events of batches in their order
+abbrev pub all_events : List (List Event) → List Event
+all_events [] = []
+all_events (batch ∷ rest) = batch ++ all_events rest

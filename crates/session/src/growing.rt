@@ -1,0 +1,95 @@
+//! A formula and what was observed of it so far: all that is plain data.
+ghost use Rattle.std.specs.Prelude.{◌≡◌, [], replicate, IfOk, List as ListOf, Bool};
+ghost use Rattle.event_log.specs.States.{IsHeader};
+ghost use Rattle.rctl_parts.specs.Pieces.{disjuncts_of};
+ghost use Rattle.rctl_parts.specs.MadeFor.{AreMadeFor};
+ghost use Rattle.conjunctions.specs.Observing.{scope_seen};
+ghost use Rattle.session.specs.Growing.{opened_observed, opened_growing};
+
+use conjunctions::{Answer, Observed};
+use event_log::Header;
+use pota_base::{List, NoMemory};
+use rctl_parts::{Part, Resolved};
+use slice_workers::Settled;
+use std::alloc::Global;
+use std::marker::Model;
+use trace_growth::Trace;
+
+/// A formula over what was observed of a trace so far, the rows of its conjunctions and its answer.
+///
+/// After want of memory it is spent, and nothing more is known of it.
+#[derive(Drop)]
+pub struct Growing {
+    pub(crate) seen: Observed,
+    pub(crate) disjuncts: List<List<Part>>,
+    pub(crate) settled: List<Settled>,
+    pub(crate) answer: Option<Answer>,
+    pub(crate) spent: bool,
+    pub(crate) alloc: Global,
+}
+
+impl Model for Growing {
+    ghost use Rattle.std.specs.Prelude.{◌≡◌, false};
+    ghost use Rattle.std.specs.Coded.{codes};
+    ghost use Rattle.rctl_parts.specs.contracts.part.Part as e;
+    ghost use Rattle.session.specs.Growing.{GrowingView, Keeps};
+
+    ghost Value = { GrowingView };
+
+    ghost coded = { Prim.hlevel (codes, e.the_row.coded) };
+
+    ghost view = { λ g. record {
+      seen = g.seen;
+      disjuncts = g.disjuncts;
+      settled = g.settled;
+      answer = g.answer;
+      spent = g.spent;
+    } };
+
+    ghost invariant = { λ g. g.spent ≡ false → Keeps g.seen g.disjuncts g.settled g.answer };
+}
+
+// An empty row for each watch.
+fn no_rows(alloc: Global, watches: usize) -> Result<List<List<bool>>, NoMemory>
+    ensures { IfOk result (λ rows. rows ≡ replicate watches []) }
+{
+    let mut rows = List::new(alloc);
+    for _ in 0..watches {
+        rows.push(List::new(alloc))?;
+    }
+    Ok(rows)
+}
+
+impl Growing {
+    /// A formula that is made for the header and the watches, before the first batch.
+    pub(crate) fn new(
+        alloc: Global,
+        header: Header,
+        resolved: Resolved,
+    ) -> Result<Growing, NoMemory>
+        requires header { IsHeader header }
+        requires made { AreMadeFor (scope_seen (opened_observed header resolved.watch_process))
+            (disjuncts_of resolved.disjuncts) }
+        ensures { IfOk result (λ growing. growing
+            ≡ opened_growing header resolved.watch_process resolved.disjuncts) }
+    {
+        let Resolved {
+            disjuncts,
+            watch_process,
+        } = resolved;
+        let watch_rows = no_rows(alloc, watch_process.len())?;
+        let trace = Trace::new(alloc, header)?;
+        Ok(Growing {
+            seen: Observed {
+                trace,
+                watch_process,
+                watch_rows,
+            },
+            disjuncts,
+            settled: List::new(alloc),
+            answer: None,
+            spent: false,
+            alloc,
+        })
+    }
+}

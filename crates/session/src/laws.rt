@@ -1,0 +1,42 @@
+//! Laws on sessions. The functions do nothing.
+ghost use Rattle.std.specs.Prelude.{◌≡◌, List, length};
+ghost use Rattle.event_log.specs.declared.log.Event.{Event};
+ghost use Rattle.event_log.specs.States.{with_batch, with_batches};
+ghost use Rattle.trace_growth.specs.Growing.{IsTrace};
+ghost use Rattle.rctl_parts.specs.Pieces.{Piece};
+ghost use Rattle.conjunctions.specs.declared.observed.Observed.{Observed};
+ghost use Rattle.conjunctions.specs.declared.answer.Answer.{Answer};
+ghost use Rattle.conjunctions.specs.Settling.{IsLater};
+ghost use Rattle.conjunctions.specs.Answering.{IsAnswer};
+ghost use Rattle.session.specs.Growing.{all_events};
+ghost use Rattle.session.specs.Fed.{IsOneTrace};
+
+use conjunctions::one_answer;
+use watch::{Handed, Watch};
+
+/// The answer is that of a fresh start with the same watches on all events so far, but for the
+/// number of batches.
+pub fn a_fresh_start_answers_the_same(watches: &Vec<Handed>)
+    ensures { (here there : _) (one other : Observed)
+        → IsOneTrace (λ h. answers (h.watch.vtable, h.watch.value))
+        watches.now.items here there one other
+        → length watches.now.items ≡ length one.watch_process → IsTrace one.trace.states
+        → (ds : List (List Piece)) (a b : Answer) → IsAnswer one ds a → IsAnswer other ds b
+        → record a { batch = b.batch } ≡ b }
+{
+    let _watches = watches;
+    one_answer();
+}
+
+/// Events come to the same trace whether they come in many batches or in one.
+pub fn batches_may_be_joined()
+    ensures { (events batches : List (List Event))
+        → with_batches events batches ≡ with_batch events (all_events batches) }
+{}
+
+/// What was observed later than something later is later. So rows that were settled may be begun
+/// from after any number of batches.
+pub fn later_is_later_still()
+    ensures { (before then after : Observed) → IsLater before then → IsLater then after
+        → IsLater before after }
+{}

@@ -1,0 +1,205 @@
+//! A session: a formula over a growing trace, and the watches that it names.
+ghost use Rattle.std.specs.Prelude.{◌≡◌, ◌↔◌, ◌<◌, ◌≤◌, ◌-◌, ℤ, List as ListOf, [], Some, None, true, false, length, slice_index_or, Err, ◌+◌, IsTrue, IfOk, OnOk};
+ghost use Rattle.event_log.specs.States.{IsHeader};
+ghost use Rattle.pota_base.specs.declared.fault.Refused.TheVariants as refused;
+ghost use Rattle.vector_clock.specs.Faults.{batch_fault};
+ghost use Rattle.vector_clock.specs.Admitted.{IfFault, IfWantsMemory};
+ghost use Rattle.trace_growth.specs.Growing.{FitsTrace, with_trace_batch};
+ghost use Rattle.rctl_parts.specs.Pieces.{disjuncts_of};
+ghost use Rattle.rctl_parts.specs.MadeFor.{AreMadeFor};
+ghost use Rattle.conjunctions.specs.Observing.{Reading, AreAnswers, lens_seen, scope_seen};
+ghost use Rattle.conjunctions.specs.Numbering.{all_conjunctions};
+ghost use Rattle.conjunctions.specs.Counting.{bounds};
+ghost use Rattle.conjunctions.specs.Settling.{IsSettled};
+ghost use Rattle.conjunctions.specs.Answering.{IsAnswer};
+ghost use Rattle.session.specs.Growing.{opened_observed, opened_growing, HasAnswer, TakesBatch};
+ghost use Rattle.session.specs.Fed.{Feeds, AreFedFrom, AnswersAs};
+
+use crate::batch::take_batch;
+use crate::growing::Growing;
+use conjunctions::{Answer, Observed, settled_rows_are_kept};
+use event_log::{Event, Header, LogFault};
+use pota_base::{Gate, List, NoMemory, Refused, Steps};
+use rctl_parts::Resolved;
+use slice_workers::Settled;
+use std::alloc::Global;
+use std::sync::ledger::Ledger;
+use std::thread::Threads;
+use trace_growth::Trace;
+use watch::{Handed, Watch};
+
+/// A formula over a trace that grows by batches, and the watches that were handed in.
+#[derive(Drop)]
+pub struct Session {
+    growing: Growing,
+    watches: Vec<Handed>,
+    ghost paired: { length watches.items ≡ length growing.seen.watch_process },
+}
+
+impl Session {
+    /// A session without batches, of a formula that is made for the header and the watches.
+    pub fn new(
+        alloc: Global,
+        header: Header,
+        resolved: Resolved,
+        watches: Vec<Handed>,
+    ) -> Result<Session, NoMemory>
+        requires header { IsHeader header }
+        requires made { AreMadeFor (scope_seen (opened_observed header resolved.watch_process))
+            (disjuncts_of resolved.disjuncts) }
+        requires paired { length resolved.watch_process ≡ length watches.items }
+        ensures opened { IfOk result (λ session. session.growing
+            ≡ opened_growing header resolved.watch_process resolved.disjuncts) }
+        ensures watches { IfOk result (λ session. session.watches.items ≡ watches.items) }
+        ensures since_start { IfOk result (λ session.
+            AreFedFrom (λ h. answers (h.watch.vtable, h.watch.value))
+            watches.items session.watches.items session.growing.seen) }
+    {
+        Ok(Session {
+            growing: Growing::new(alloc, header, resolved)?,
+            watches,
+        })
+    }
+
+    /// Takes a whole batch, or none of it, and makes its answer by 1 to 16 workers. It may wait for
+    /// the threads that it joins.
+    ///
+    /// A fault is the first of the batch's clocks and messages, at the line of its event: the
+    /// session is then as before, and no watch was fed. After want of memory the session is spent:
+    /// it answers that from then on, and feeds nothing.
+    pub fn extend<R: Threads + Sync, G: Gate, L: Ledger>(
+        &mut self,
+        rt: &R,
+        batch: List<Event>,
+        workers: u32,
+        gate: &G,
+        steps: &mut Steps<L>,
+    ) -> Result<(), Refused<LogFault>>
+        requires batch { self.old.growing.spent ≡ false
+            → FitsTrace self.old.growing.seen.trace batch }
+        requires some { 1 ≤ workers }
+        requires few { workers ≤ 16 }
+        ensures ok { OnOk result ((self.old.growing.spent ≡ false)
+            × (batch_fault self.old.growing.seen.trace.states.events batch ≡ None)
+            × TakesBatch self.old.growing self.new.growing batch) }
+        ensures answer { OnOk result (HasAnswer self.new.growing) }
+        ensures fed { OnOk result (Feeds
+            (λ h. answers (h.watch.vtable, h.watch.value))
+            self.old.watches.items self.new.watches.items
+            self.old.growing.seen self.new.growing.seen) }
+        ensures since_start { (handed : _) → AreFedFrom
+            (λ h. answers (h.watch.vtable, h.watch.value))
+            handed self.old.watches.items self.old.growing.seen
+            → OnOk result (AreFedFrom
+            (λ h. answers (h.watch.vtable, h.watch.value))
+            handed self.new.watches.items self.new.growing.seen) }
+        ensures answers { (handed : _) (reading : Reading) → AreFedFrom
+            (λ h. answers (h.watch.vtable, h.watch.value))
+            handed self.old.watches.items self.old.growing.seen
+            → AnswersAs
+            (λ h. answers (h.watch.vtable, h.watch.value))
+            handed reading
+            → OnOk result (AreAnswers self.new.growing.seen reading) }
+        ensures looks { OnOk result (workers ≡ 1 → steps.new ≤ steps.old
+            + bounds (lens_seen self.new.growing.seen) self.old.growing.settled
+            (all_conjunctions (disjuncts_of self.old.growing.disjuncts)) self.new.growing.settled) }
+        ensures fault { IfFault result (λ fault. (self.old.growing.spent ≡ false)
+            × (batch_fault self.old.growing.seen.trace.states.events batch ≡ Some fault)
+            × (self.new.growing ≡ self.old.growing) × (self.new.watches ≡ self.old.watches)
+            × (steps.new ≡ steps.old)) }
+        ensures memory { IfWantsMemory result (self.new.growing.spent ≡ true) }
+        ensures spent { self.old.growing.spent ≡ true
+            → (result ≡ Err refused.NoMemory) × (self.new.growing ≡ self.old.growing)
+            × (self.new.watches ≡ self.old.watches) × (steps.new ≡ steps.old) }
+    {
+        if self.growing.spent {
+            return Err(Refused::NoMemory);
+        }
+        match self.growing.seen.trace.extend(batch) {
+            Ok(()) => {}
+            Err(Refused::Fault(fault)) => return Err(Refused::Fault(fault)),
+            Err(Refused::NoMemory) => {
+                self.growing.spent = true;
+                return Err(Refused::NoMemory);
+            }
+        }
+        settled_rows_are_kept();
+        match take_batch(
+            rt,
+            self.growing.alloc,
+            &mut self.growing.seen,
+            &self.growing.disjuncts,
+            &mut self.watches,
+            &mut self.growing.settled,
+            workers,
+            gate,
+            steps,
+        ) {
+            Ok(answer) => {
+                self.growing.answer = Some(answer);
+                Ok(())
+            }
+            Err(NoMemory) => {
+                self.growing.spent = true;
+                Err(Refused::NoMemory)
+            }
+        }
+    }
+
+    /// Whether memory was wanted.
+    pub fn is_spent(&self) -> bool
+        ensures { IsTrue result ↔ (self.now.growing.spent ≡ true) }
+    {
+        self.growing.spent
+    }
+
+    /// The trace so far.
+    pub fn trace(&self) -> &Trace
+        ensures trace { result.now ≡ self.now.growing.seen.trace }
+        ensures unspent { self.now.growing.spent ≡ false
+            → self.now.growing.seen.trace.spent ≡ false }
+    {
+        &self.growing.seen.trace
+    }
+
+    /// What was observed so far: the trace, and what the watches answered to its states.
+    pub fn seen(&self) -> &Observed
+        ensures { result.now ≡ self.now.growing.seen }
+    {
+        &self.growing.seen
+    }
+
+    /// The answer of the last batch that was taken, on what the watches answered to all states so
+    /// far.
+    pub fn answer(&self) -> &Answer
+        requires { HasAnswer self.now.growing }
+        ensures answer { IsAnswer self.now.growing.seen
+            (disjuncts_of self.now.growing.disjuncts) result.now }
+        ensures answers { (handed : _) (reading : Reading) → AreFedFrom
+            (λ h. answers (h.watch.vtable, h.watch.value))
+            handed self.now.watches.items self.now.growing.seen
+            → AnswersAs
+            (λ h. answers (h.watch.vtable, h.watch.value))
+            handed reading
+            → AreAnswers self.now.growing.seen reading }
+    {
+        match &self.growing.answer {
+            Some(answer) => answer,
+            None => unreachable!(),
+        }
+    }
+
+    /// The rows of a conjunction on the trace so far. Conjunctions are numbered from 1: the
+    /// disjuncts in order, before each the operands of its temporal parts in the order of the
+    /// parts, each behind the operands within it.
+    pub fn settled(&self, conjunction: u32) -> &Settled
+        requires answered { HasAnswer self.now.growing }
+        requires some { 1 ≤ conjunction }
+        requires there { conjunction
+            ≤ length (all_conjunctions (disjuncts_of self.now.growing.disjuncts)) }
+        ensures { IsSettled self.now.growing.seen (slice_index_or (all_conjunctions
+            (disjuncts_of self.now.growing.disjuncts)) (conjunction - 1) []) result.now }
+    {
+        self.growing.settled.get(conjunction as usize - 1)
+    }
+}
