@@ -1,0 +1,14 @@
+use Rattle.std.proofs.lemmas.Result.{IfOk-weaker}
+use Rattle.run_model.specs.Witness.{ExistsFinally, AlwaysGlobally, ExistsGlobally}
+use Rattle.slice_graph.specs.Views.{slice_of}
+use Rattle.answer_report.proofs.Spelled.{canonical_fits}
+use Rattle.answer_report.proofs.witnesses.witness_of.Goals as goal
+
+pub returns-in-Ef-clause-fits : goal.returns-in-Ef-clause-fits
+returns-in-Ef-clause-fits c = IfOk-weaker c.explain.result _ _ (canonical_fits c.args.order.now (slice_of c.in-Some-Some.operand) ExistsFinally) c.explain.ensures.canonical
+
+pub returns-in-Ag-clause-fits : goal.returns-in-Ag-clause-fits
+returns-in-Ag-clause-fits c = IfOk-weaker c.explain-in-Ag.result _ _ (canonical_fits c.args.order.now (slice_of c.in-Some-Some.operand) AlwaysGlobally) c.explain-in-Ag.ensures.canonical
+
+pub returns-in-Eg-clause-fits : goal.returns-in-Eg-clause-fits
+returns-in-Eg-clause-fits c = IfOk-weaker c.explain-in-Eg.result _ _ (canonical_fits c.args.order.now (slice_of c.in-Some-Some.operand) ExistsGlobally) c.explain-in-Eg.ensures.canonical
