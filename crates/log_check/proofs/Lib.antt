@@ -1,0 +1,4 @@
+pub mod Following
+pub mod Steps
+pub mod Moves
+pub mod Reports

@@ -1,0 +1,93 @@
+-- The report of a check.
+use Rattle.std.proofs.Common.{◌≡◌, ℕ, ◌<◌, ◌≤◌, true, Some, None, List, length, sym, ap, subst, ◌∙◌, arith}
+use Rattle.std.proofs.lemmas.List.{length_push}
+use Rattle.std.proofs.lemmas.Option.{none-some, same_Some}
+use Rattle.run_model.specs.Class.{disjuncts}
+use Rattle.event_log.specs.States.{trace_of}
+use Rattle.trace_growth.specs.Growing.{TraceView}
+use Rattle.rctl_parts.specs.Pieces as piece
+use Rattle.rctl_parts.specs.Spelled.{part_formulas}
+use Rattle.rctl_class.specs.Classed.{EachAlike}
+use Rattle.rctl_class.specs.Nodes.{formula_of}
+use Rattle.rctl_names.specs.Seen as names
+use Rattle.report.specs.declared.report.Report.{Report}
+use Rattle.conjunctions.specs.declared.answer.Answer.{Answer}
+use Rattle.conjunctions.specs.declared.observed.Observed.{Observed}
+use Rattle.conjunctions.specs.Observing.{Reading, AreAnswers, IsReady, trace_seen}
+use Rattle.conjunctions.specs.Answering.{IsAnswer}
+use Rattle.run_report.specs.Reports.{Asked, IsReportOn}
+use Rattle.answer_report.specs.declared.wanted.Wanted.{Wanted}
+use Rattle.answer_report.specs.Asking.{IsAskedOf}
+use Rattle.log_judgement.specs.Judgement.{Prefix, followed_by, Judgement, waiting, growing, finished, refused}
+use Rattle.session.specs.declared.session.Session.{Session}
+use Rattle.log_check.specs.declared.check.LogCheck.{LogCheck}
+use Rattle.log_check.specs.Aims.{Says, Aim, asked_of, IsReportFor}
+use Rattle.log_check.specs.Keeping.{trace_after, reading_of, IsAnswered, HasTaken, IsOpen}
+use Rattle.log_check.specs.Checking.{HasClosed, IsCheckOf}
+
+module _ {X : Type 0} {P : X → Type 0} (says : Says X P) (aim : Aim) (check : LogCheck X P) where
+  -- a batch was closed, so the header came
+  pub record HasReport (log : Prefix) (session : Session X P) : Type 0 where
+    pub taken : HasTaken aim session.growing log
+    pub answered : IsAnswered aim session.growing
+
+  pub not_waiting : (j : Judgement) (log : Prefix) → IsCheckOf says aim check j → HasClosed j log → check.session ≡ None → ⊥
+  not_waiting waiting log is closed none = closed
+  not_waiting (growing so since) log is closed none = none-some is.keeps.0.session (sym none ∙ is.keeps.0.some)
+  not_waiting (finished so last) log is closed none = none-some is.keeps.0.session (sym none ∙ is.keeps.0.some)
+  not_waiting (refused so why) log is closed none = closed
+
+  open_report : (so log : Prefix) (session : Session X P) → log ≡ so → 0 < length so.batches → IsOpen says aim check so → check.session ≡ Some session → HasReport log session
+  open_report so log session same some is at =
+      let one : is.session ≡ session = same_Some is.session session (sym is.some ∙ at) in
+      subst (λ (l : Prefix). HasReport l session) (sym same) (record {
+        taken = subst (λ (s : Session X P). HasTaken aim s.growing so) one is.taken;
+        answered = subst (λ (s : Session X P). IsAnswered aim s.growing) one (is.taken.answered some);
+      })
+
+  pub has_report : (j : Judgement) (log : Prefix) (session : Session X P) → IsCheckOf says aim check j → HasClosed j log → check.session ≡ Some session → HasReport log session
+  has_report waiting log session is closed at = absurd closed
+  has_report (growing so since) log session is closed at = open_report so log session closed.0 closed.1 is.keeps.0 at
+  has_report (finished so last) log session is closed at =
+      open_report (followed_by so last) log session closed (omega (arith, length_push so.batches last)) is.keeps.0 at
+  has_report (refused so why) log session is closed at = absurd closed
+
+  -- the trace may be reported on
+  pub is_ready : (log : Prefix) (session : Session X P) → HasReport log session → IsReady session.growing.seen
+  is_ready log session h = record { unspent = ap (λ (t : TraceView). t.spent) h.taken.trace; full = h.answered.full }
+
+  module _ (text : List ℕ) (log : Prefix) (session : Session X P) (seen : Observed) (answer : Answer) (report : Report) (wanted : Wanted) (h : HasReport log session) (same : seen ≡ session.growing.seen)
+      (aimed : aim.text ≡ text) (sliced : wanted.slice ≡ aim.slice) (witnessed : wanted.witness ≡ aim.witness) where
+    now_seen : (Q : Observed → Type 0) → Q session.growing.seen → Q seen
+    now_seen Q q = subst Q (sym same) q
+
+    trace_is : seen.trace ≡ trace_after log
+    trace_is = ap (λ (s : Observed). s.trace) same ∙ h.taken.trace
+
+    asked : IsAnswer session.growing.seen (piece.disjuncts_of session.growing.disjuncts) answer → IsAskedOf seen answer wanted text (reading_of aim) (asked_of aim)
+    asked is = record {
+      text_is = aimed;
+      slice = sym sliced;
+      witness = sym witnessed;
+      watches = now_seen (λ s. AreAnswers s (reading_of aim)) h.answered.watches;
+      pieces = piece.disjuncts_of session.growing.disjuncts;
+      answered = now_seen (λ s. IsAnswer s (piece.disjuncts_of session.growing.disjuncts) answer) is;
+      meaning = subst (λ (t : TraceView). EachAlike (part_formulas (names.names_of t.states.header aim.names) (piece.disjuncts_of session.growing.disjuncts)) (disjuncts true (formula_of aim.node))) (sym trace_is) h.taken.meaning;
+    }
+
+    pub reported : IsAnswer session.growing.seen (piece.disjuncts_of session.growing.disjuncts) answer → report.procs ≡ seen.trace.states.header.procs
+        → ((reading : Reading) (q : Asked) → IsAskedOf seen answer wanted text reading q → IsReportOn q seen.trace.batches (trace_seen seen) reading.watches report)
+        → IsReportFor aim log report
+    reported is named says_so =
+        let on = says_so (reading_of aim) (asked_of aim) (asked is) in
+        record {
+          names = named ∙ ap (λ (t : TraceView). t.states.header.procs) trace_is;
+          says = subst (λ (t : TraceView). IsReportOn (asked_of aim) t.batches (trace_of t.states) aim.watches report) trace_is on;
+        }
+
+  -- the report may be written
+  pub batches_there : (log : Prefix) (session : Session X P) (seen : Observed) → HasReport log session → seen ≡ session.growing.seen → 1 ≤ seen.trace.batches
+  batches_there log session seen h same = subst (λ (s : Observed). 1 ≤ s.trace.batches) (sym same) h.answered.answer.taken
+
+  pub ready_there : (log : Prefix) (session : Session X P) (seen : Observed) → HasReport log session → seen ≡ session.growing.seen → IsReady seen
+  ready_there log session seen h same = subst IsReady (sym same) (is_ready log session h)

@@ -1,0 +1,3 @@
+pub mod Aims
+pub mod Keeping
+pub mod Checking
