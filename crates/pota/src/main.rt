@@ -1,12 +1,21 @@
 //! The analyser as a program: the log comes on standard input, the report goes to standard output,
-//! and the line that tells why there is no verdict to standard error.
+//! and the line that tells why there is no verdict to standard error. Formulas may name the watches
+//! `stable`, `owing` and `calm`.
 #![tactic(auto)]
 
-use pota_base::{FreeGate, Sink, Status, write_all};
+ghost use Rattle.std.specs.Prelude.{◌≡◌, ◌∷◌, ◌++◌, [], true, OnOk};
+ghost use Rattle.pota_names.specs.Names.{is_name};
+ghost use Rattle.log_check.specs.Aims.{names_of};
+
+use pota_base::{FreeGate, NoMemory, Sink, Source, Status, write_all};
+use pota_names::Name;
 use pota_top::pota;
+use std::alloc::Global;
 use std::process::ExitCode;
+use std::thread::Threads;
 use std::{env, io};
 use std_streams::{Reading, Writing};
+use watch::{Calm, Handed, Owing, Stable, Watch};
 
 /// The status where the system refuses the words.
 const NO_WORDS: u8 = 9;
@@ -20,14 +29,65 @@ fn words(rt: &HostRuntime) -> io::Result<Vec<String>> {
     Ok(words)
 }
 
+// Adds a watch under its name.
+fn hand_in(
+    alloc: Global,
+    name: &[u8],
+    watch: Box<dyn Watch + Send>,
+    watches: &mut Vec<Handed>,
+) -> Result<(), NoMemory>
+    requires { is_name name.now ≡ true }
+    ensures { OnOk result (names_of watches.new.items ≡ names_of watches.old.items ++ name.now ∷ []) }
+{
+    let Some(name) = Name::new(alloc, name)? else {
+        unreachable!()
+    };
+    watches.push(Handed { name, watch })?;
+    Ok(())
+}
+
+// Answers the words, and gives the status of it.
+fn answer<R: Threads + Sync, S: Source, O: Sink, D: Sink>(
+    rt: &R,
+    alloc: Global,
+    words: &[String],
+    log: &mut S,
+    out: &mut O,
+    diag: &mut D,
+) -> Result<Status, NoMemory> {
+    let mut watches = Vec::new(alloc);
+    hand_in(
+        alloc,
+        b"stable",
+        Box::new(alloc, Stable::new())?,
+        &mut watches,
+    )?;
+    hand_in(
+        alloc,
+        b"owing",
+        Box::new(alloc, Owing::new())?,
+        &mut watches,
+    )?;
+    hand_in(alloc, b"calm", Box::new(alloc, Calm::new())?, &mut watches)?;
+    let outcome = pota(rt, alloc, words, log, out, diag, watches, &FreeGate);
+    Ok(outcome.status)
+}
+
 // Says why there are no words, and gives the status of it.
 fn without_words<D: Sink>(diag: &mut D, error: &io::Error) -> ExitCode {
-    let (line, status): (&[u8], u8) = match error.kind() {
-        io::ErrorKind::OutOfMemory => (b"pota: out of memory\n", Status::OutOfMemory.code()),
-        _ => (b"pota: no words\n", NO_WORDS),
-    };
-    let _ = write_all(diag, line);
-    ExitCode::from(status)
+    match error.kind() {
+        io::ErrorKind::OutOfMemory => without_memory(diag),
+        _ => {
+            let _ = write_all(diag, b"pota: no words\n");
+            ExitCode::from(NO_WORDS)
+        }
+    }
+}
+
+// Says that there was no memory, and gives the status of it.
+fn without_memory<D: Sink>(diag: &mut D) -> ExitCode {
+    let _ = write_all(diag, b"pota: out of memory\n");
+    ExitCode::from(Status::OutOfMemory.code())
 }
 
 fn main(rt: HostRuntime) -> ExitCode {
@@ -36,16 +96,11 @@ fn main(rt: HostRuntime) -> ExitCode {
         Ok(words) => words,
         Err(error) => return without_words(&mut diag, &error),
     };
+    let alloc = rt.alloc();
     let mut log = Reading::new(rt.stdin());
     let mut out = Writing::new(rt.stdout());
-    let outcome = pota(
-        &rt,
-        rt.alloc(),
-        words.as_slice(),
-        &mut log,
-        &mut out,
-        &mut diag,
-        &FreeGate,
-    );
-    ExitCode::from(outcome.status.code())
+    match answer(&rt, alloc, words.as_slice(), &mut log, &mut out, &mut diag) {
+        Ok(status) => ExitCode::from(status.code()),
+        Err(_) => without_memory(&mut diag),
+    }
 }

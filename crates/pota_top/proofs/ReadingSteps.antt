@@ -1,277 +1,491 @@
 -- How reading follows what is due.
-use Rattle.pota_base.specs.Outside.{Rose}
-use Rattle.std.proofs.Common.{◌≡◌, ℕ, ◌-◌, ◌<◌, ◌≤◌, Bool, true, false, Option, Some, None, Result, Ok, Err, List, [], ◌++◌, length, take, length-append, refl, sym, ap, subst, ◌∙◌, arith, append-nil}
-use Rattle.std.specs.Io.KnownBytes.{Consumes, IsAtEnd, Keeps}
-use Rattle.std.proofs.KnownBytes.{Consumes-nil, Consumes-trans}
+use Rattle.std.proofs.Common.{◌≡◌, ℕ, ◌-◌, ◌<◌, ◌≤◌, Bool, true, false, Option, Some, None, Result, Ok, Err, List, [], ◌∷◌, ◌++◌, length, take, length-append, refl, sym, ap, subst, ◌∙◌, arith, append-nil, append_assoc}
+use Rattle.std.specs.Io.KnownBytes.{Appends, Consumes, IsAtEnd, Keeps}
+use Rattle.std.proofs.KnownBytes.{Appends-nil, Appends-trans, Consumes-nil, Consumes-trans}
 use Rattle.std.proofs.lemmas.List.{length-take-le}
-use Rattle.pota_base.specs.declared.fault.Refused.{Refused}
-use Rattle.pota_base.specs.declared.fault.Refused.TheVariants as refusal
+use Rattle.pota_base.specs.Outside.{Rose}
 use Rattle.event_log.specs.declared.item.Fed.{Fed}
+use Rattle.event_log.specs.declared.item.Item.{Item}
 use Rattle.event_log.specs.declared.item.LogFault.{LogFault}
 use Rattle.event_log.specs.declared.reader.Reader.{Reader}
 use Rattle.event_log.specs.Faults.{FedIs, first_fault, items, items_in, fault_of, end_fault}
+use Rattle.event_log.specs.FittingItems.{FitFirst}
 use Rattle.event_log.specs.LogText.{onto}
 use Rattle.event_log.specs.Reader.{HasRead}
+use Rattle.event_log.proofs.FaultLaws.{free_small}
+use Rattle.event_log.proofs.FittingItems.{items_fit}
 use Rattle.event_log.proofs.Lists.{onto-append, length-onto}
-use Rattle.trace_growth.specs.Growing.{TraceView}
+use Rattle.log_judgement.specs.declared.refusal.Refusal.{Refusal}
+use Rattle.log_judgement.specs.declared.refusal.Refusal.TheVariants as refusal
+use Rattle.log_judgement.specs.Judgement.{Prefix, Judgement, waiting, growing, finished, refused, judged}
+use Rattle.log_judgement.specs.Due.{closed_of, whole_of, batches_of, fault_in, text_fault, told}
+use Rattle.log_judgement.specs.Texts.{reported}
+use Rattle.log_judgement.proofs.Items.{judged-append}
+use Rattle.log_judgement.proofs.Readings.{log_is_read}
+use Rattle.log_check.specs.Aims.{Says, Aim, rules_of}
+use Rattle.log_check.specs.Checking.{IsCheckOf, IsFree, MayFollow}
+use Rattle.log_check.specs.declared.check.LogCheck.{LogCheck}
+use Rattle.log_check.proofs.Following.{follows_all}
 use Rattle.pota_top.specs.declared.outcome.Fault.{Fault}
 use Rattle.pota_top.specs.declared.outcome.Fault.TheVariants as fault
-use Rattle.pota_top.specs.declared.session.Growing.{Growing}
-use Rattle.pota_top.specs.declared.session.Session.{Session}
-use Rattle.pota_top.specs.declared.session.Session.TheVariants as session
-use Rattle.pota_top.specs.declared.session.Stop.{Stop}
+use Rattle.pota_top.specs.declared.outcome.Stop.{Stop}
 use Rattle.pota_top.specs.declared.reading.Turn.{Turn}
 use Rattle.pota_top.specs.declared.reading.Turn.TheVariants as turn
-use Rattle.pota_top.specs.Request.{Condition}
-use Rattle.pota_top.specs.Due.{Growth, Judgement, waiting, growing, refused, judged, Due, told, judgement_of, due}
-use Rattle.event_log.specs.FittingItems.{FitFirst}
-use Rattle.pota_top.specs.Session.{IsGrowth, MayFollow, IsSession, batches_in, Takes, Hands, HasJudged, IsDue, IsTraceFor, TakesPiece, Finishes, StopsAt, TurnsTo, Turns, HasReadLog}
-use Rattle.event_log.proofs.FittingItems.{items_fit}
-use Rattle.event_log.proofs.FaultLaws.{free_small}
-use Rattle.pota_top.proofs.Dues.{judged-append, follows_all, IsOfLog, due_of_log}
-use Rattle.pota_top.proofs.Logs.{finished, header_stands}
+use Rattle.pota_top.specs.Checking.{closed_in, AreTexts, HasPartOf, HasFrontOf, Stands, StopsIn, TakesItems}
+use Rattle.pota_top.specs.Reading.{due_in, judgement_in, HasJudged, IsWhole, TellsDue, StopsAt, PieceTo, TakesPiece, Finishes, TurnsTo, Turns, ReadsTo, HasReadLog}
+use Rattle.pota_top.proofs.Items.{closed_more, texts_as, part_of_more, front_of_more}
 
--- ---- one piece
+-- ---- what is told of a judgement
 
-module _ (cs : List Condition) (r new : Reader) (s : Session) (bytes piece : List ℕ) (fed : Fed) (known : HasJudged cs r s bytes)
-    (read : (past : List ℕ) → HasRead r past → FedIs fed past (onto piece past) × HasRead new (onto piece past)) where
-  past_is : onto (bytes ++ piece) [] ≡ onto piece (onto bytes [])
-  past_is = onto-append bytes piece []
+-- while more may come, or behind a fault of the text, the closed batches alone have reports
+pub reported_open : (each : Bool) (j : Judgement) (text : Option LogFault)
+    → reported each (told false j text) ≡ closed_in each j
+reported_open false j text = refl
+reported_open true j text = append-nil (closed_of j)
 
-  pub piece_follows : MayFollow (judgement_of cs bytes) fed.items
-  piece_follows =
-      let f = (read (onto bytes []) known.read).0 in
-      follows_all cs waiting (items_in bytes) fed.items (subst FitFirst f.items_are (items_fit (onto piece (onto bytes []))))
+pub reported_faulty : (each ended : Bool) (j : Judgement) (f : LogFault)
+    → reported each (told ended j (Some f)) ≡ closed_in each j
+reported_faulty false false j f = refl
+reported_faulty false true j f = refl
+reported_faulty true false j f = append-nil (closed_of j)
+reported_faulty true true j f = append-nil (closed_of j)
 
-  judgement_now : judgement_of cs (bytes ++ piece) ≡ judged cs (judgement_of cs bytes) fed.items
-  judgement_now =
-      let f = (read (onto bytes []) known.read).0 in
-      ap (judged cs waiting) (ap items past_is ∙ f.items_are) ∙ judged-append cs waiting (items_in bytes) fed.items
+pub fault_told : (j : Judgement) (f : LogFault) → IsFree j → fault_in j (Some f) ≡ Some (refusal.Log f)
+fault_told waiting f free = refl
+fault_told (growing log since) f free = refl
+fault_told (finished log last) f free = refl
+fault_told (refused log why) f free = absurd free
 
-  fault_now : fault_of (bytes ++ piece) ≡ fed.fault
-  fault_now = ap first_fault past_is ∙ sym (read (onto bytes []) known.read).0.fault_is
+pub none_told : (j : Judgement) → IsFree j → fault_in j None ≡ None
+none_told waiting free = refl
+none_told (growing log since) free = refl
+none_told (finished log last) free = refl
+none_told (refused log why) free = absurd free
 
-  -- a fault of an item
-  pub piece_stops : (x : Refused Stop) → Takes (judged cs (judgement_of cs bytes) fed.items) (Err x) → TakesPiece cs (bytes ++ piece) new (Err x)
-  piece_stops (refusal.Fault stop) is = ap (λ (j : Judgement). told j (fault_of (bytes ++ piece)) None) (judgement_now ∙ is)
-  piece_stops refusal.NoMemory is = tt
+pub refused_told : (j : Judgement) (log : Option Prefix) (why : Refusal) (text : Option LogFault)
+    → j ≡ refused log why → fault_in j text ≡ Some why
+refused_told j log why text is = ap (λ (k : Judgement). fault_in k text) is
 
-  -- a fault behind the items
-  pub piece_faults : (f : LogFault) (now : Session) (stop : Stop) → Takes (judged cs (judgement_of cs bytes) fed.items) (Ok now) → fed.fault ≡ Some f
-      → ((j : Judgement) → IsSession now j → stop ≡ record { batches = batches_in j; fault = fault.Log f }) → IsDue false cs (bytes ++ piece) stop
-  piece_faults f now stop is some stops =
-      let at = judged cs (judgement_of cs bytes) fed.items in
-      let stopped = stops at is in
-      ap (λ (j : Judgement). told j (fault_of (bytes ++ piece)) None) judgement_now ∙ ap (λ (o : Option LogFault). told at o None) (fault_now ∙ some)
-      ∙ told_stop now at f None is ∙ ap (λ (x : Stop). let d : Due = record { batches = x.batches; fault = Some x.fault } in d) (sym stopped)
+module _ {X : Type 0} {P : X → Type 0} (says : Says X P) (aim : Aim) (each : Bool) where
+  -- ---- more bytes
+
+  pub grows : (bytes more : List ℕ) → (rest : List Prefix)
+      × (closed_in each (judgement_in aim (bytes ++ more)) ≡ closed_in each (judgement_in aim bytes) ++ rest)
+  grows bytes more =
+      let others = log_is_read.items_stay bytes more in
+      let j = judgement_in aim bytes in
+      let grown = closed_more each (rules_of aim) j others.0 in (
+        grown.0,
+        ap (λ (xs : List Item). closed_in each (judged (rules_of aim) waiting xs)) others.1
+            ∙ ap (closed_in each) (judged-append (rules_of aim) waiting (items_in bytes) others.0) ∙ grown.1,
+      )
+
+  -- ---- a stop at items, and one behind them
+
+  pub items_stop : (f : Fault) (n of of' : ℕ) (bytes text : List ℕ) (left : Option (List ℕ)) (lf lf' : ℕ)
+      → StopsIn f n of of' aim each (judgement_in aim bytes) text
+      → StopsAt f n left lf lf' of of' aim each bytes text
+  items_stop f n of of' bytes text left lf lf' stop = go f stop
     where
-      told_stop : (n : Session) (j : Judgement) (x : LogFault) (rest : Option Fault) → IsSession n j → told j (Some x) rest ≡ record { batches = batches_in j; fault = Some (fault.Log x) }
-      told_stop n waiting x rest k = refl
-      told_stop n (growing g) x rest k = refl
-      told_stop session.Waiting (refused m g) x rest k = absurd cc
-      told_stop (session.Open o) (refused m g) x rest k = absurd (let e = k.1 in cc)
+      j : Judgement
+      j = judgement_in aim bytes
 
-  -- no fault
-  pub piece_passes : (now : Session) → Takes (judged cs (judgement_of cs bytes) fed.items) (Ok now) → fed.fault ≡ None → HasJudged cs new now (bytes ++ piece)
-  piece_passes now is none = record {
-    read = subst (HasRead new) (sym past_is) (read (onto bytes []) known.read).1;
-    free = fault_now ∙ none;
-    session = subst (IsSession now) (sym judgement_now) is;
-  }
+      open_ : reported each (due_in aim false bytes) ≡ closed_in each (judgement_in aim bytes)
+      open_ = reported_open each (judgement_in aim bytes) (fault_of bytes)
 
--- ---- the end
+      go : (g : Fault) → StopsIn g n of of' aim each (judgement_in aim bytes) text
+          → StopsAt g n left lf lf' of of' aim each bytes text
+      go (fault.Formula x) h = (
+        false,
+        λ e. absurd (cc),
+        record {
+          fault = refused_told (judgement_in aim bytes) h.log (refusal.Formula x) (fault_of bytes) h.is;
+          count = h.count;
+          texts = texts_as aim _ _ text open_ h.texts;
+        },
+      )
+      go (fault.Log x) h = (
+        false,
+        λ e. absurd (cc),
+        record {
+          fault = refused_told (judgement_in aim bytes) h.log (refusal.Log x) (fault_of bytes) h.is;
+          count = h.count;
+          texts = texts_as aim _ _ text open_ h.texts;
+        },
+      )
+      go fault.Write h = (
+        false,
+        λ e. absurd (cc),
+        part_of_more aim (closed_in each (judgement_in aim bytes)) [] _ text n (open_ ∙ sym (append-nil (closed_in each (judgement_in aim bytes)))) h.0,
+        h.1,
+      )
+      go fault.Memory h = front_of_more aim (closed_in each (judgement_in aim bytes)) [] _ text n (open_ ∙ sym (append-nil (closed_in each (judgement_in aim bytes)))) h
+      go fault.Usage h = absurd h
+      go fault.Read h = absurd h
 
-pub ends : (cs : List Condition) (r : Reader) (s : Session) (bytes : List ℕ) (o : Option LogFault) (t : TraceView) → HasJudged cs r s bytes → ((past : List ℕ) → HasRead r past → o ≡ end_fault past) → o ≡ None
-    → ((j : Judgement) → IsSession s j → Hands j (Ok t)) → Finishes cs bytes (Ok (turn.End t))
-ends cs r s bytes o t known finishes none hands =
-    let h = hands (judgement_of cs bytes) known.session in
-    finished cs bytes h.0 t (sym (finishes (onto bytes []) known.read) ∙ none) h.1 h.2 h.3
-
--- what an open session hands is what its judgement says
-pub opened_hands : (s : Session) (k : Growing) (t : TraceView) → s ≡ session.Open k → ((g : Growth) → IsGrowth k g → Hands (growing g) (Ok t)) → (j : Judgement) → IsSession s j → Hands j (Ok t)
-opened_hands s k t opened hands j is =
-    let w = subst (λ (x : Session). IsSession x j) opened is in
-    subst (λ (x : Judgement). Hands x (Ok t)) (sym w.1) (hands w.0 w.2)
-
--- no session waits at the end of a text without a fault
-pub not_waiting : (cs : List Condition) (r : Reader) (s : Session) (bytes : List ℕ) (o : Option LogFault) → HasJudged cs r s bytes → ((past : List ℕ) → HasRead r past → o ≡ end_fault past) → o ≡ None → s ≡ session.Waiting → ⊥
-not_waiting cs r s bytes o known finishes none waits =
-    header_stands cs bytes (sym (finishes (onto bytes []) known.read) ∙ none) (subst (λ (x : Session). IsSession x (judgement_of cs bytes)) waits known.session)
-
--- ---- one turn
-
-pub stop_of : (left : Option (List ℕ)) (lf lf' : ℕ) (cs : List Condition) (bytes : List ℕ) (stop : Stop) (ended : Bool) → (ended ≡ true → IsAtEnd left) → IsDue ended cs bytes stop → StopsAt stop.fault stop.batches left lf lf' cs bytes
-stop_of left lf lf' cs bytes stop ended at due_is = go stop.fault stop.batches due_is (due_of_log ended cs bytes stop.batches stop.fault due_is)
-  where
-    go : (f : Fault) (n : ℕ) → due ended cs bytes ≡ record { batches = n; fault = Some f } → IsOfLog f → StopsAt f n left lf lf' cs bytes
-    go (fault.Log x) n d p = (ended, at, d)
-    go (fault.NotBuilt line) n d p = (ended, at, d)
-    go fault.Read n d p = absurd p
-    go fault.Usage n d p = absurd p
-    go (fault.Formula x) n d p = absurd p
-    go fault.Write n d p = absurd p
-    go fault.Memory n d p = absurd p
-
-module _ (left left' : Option (List ℕ)) (lf lf' : ℕ) (cs : List Condition) (bytes : List ℕ) (r : Reader) where
-  end_to : (read : List ℕ) → read ≡ [] → (result : Result Turn (Refused Stop)) → IsAtEnd left' → Finishes cs bytes result → TurnsTo left' lf lf' cs bytes read r result
-  end_to read none (Ok (turn.More s)) ended f = absurd f
-  end_to read none (Ok (turn.End t)) ended f = (ended, subst (λ (xs : List ℕ). IsTraceFor cs xs t) same f)
-    where
-      same : bytes ≡ bytes ++ read
-      same = sym (append-nil bytes) ∙ ap (λ (xs : List ℕ). bytes ++ xs) (sym none)
-  end_to read none (Err (refusal.Fault stop)) ended f = stop_of left' lf lf' cs (bytes ++ read) stop true (λ _. ended) (subst (λ (xs : List ℕ). IsDue true cs xs stop) same f)
-    where
-      same : bytes ≡ bytes ++ read
-      same = sym (append-nil bytes) ∙ ap (λ (xs : List ℕ). bytes ++ xs) (sym none)
-  end_to read none (Err refusal.NoMemory) ended f = tt
-
-  -- nothing more was there
-  pub turn_ends : (room : List ℕ) (count : ℕ) (result : Result Turn (Refused Stop)) → count ≡ 0 → 0 < length room → Consumes left left' (take count room) × (count ≡ 0 → 0 < length room → IsAtEnd left') → lf ≤ lf'
-      → Finishes cs bytes result → Turns left left' lf lf' cs bytes r result
-  turn_ends room count result none some consumed later f =
-      let nothing : take count room ≡ [] = ap (λ (n : ℕ). take n room) none in
+  -- a fault of the text behind all items
+  pub text_stops : (ended : Bool) (bytes text : List ℕ) (f : LogFault) (check : LogCheck X P) → text_fault ended bytes ≡ Some f
+      → Stands says aim each check (judgement_in aim bytes) text
+      → TellsDue aim each ended bytes text (Some (refusal.Log f)) check.batches
+  text_stops ended bytes text f check some stands =
+      let j = judgement_in aim bytes in
       record {
-        read = take count room;
-        consumed = consumed.0;
-        later = later;
-        to = end_to (take count room) nothing result (consumed.1 none some) f;
+        fault = ap (fault_in j) some ∙ fault_told j f stands.check_is.free;
+        count = stands.check_is.batches;
+        texts = texts_as aim _ _ text (ap (λ (o : Option LogFault). reported each (told ended j o)) some ∙ reported_faulty each ended j f) stands.texts;
       }
 
-  more_to : (read : List ℕ) → 0 < length read → (result : Result Turn (Refused Stop)) → TakesPiece cs (bytes ++ read) r result → TurnsTo left' lf lf' cs bytes read r result
-  more_to read some (Ok (turn.More s)) f = (some, f)
-  more_to read some (Ok (turn.End t)) f = absurd f
-  more_to read some (Err (refusal.Fault stop)) f = stop_of left' lf lf' cs (bytes ++ read) stop false (λ e. absurd (cc)) f
-  more_to read some (Err refusal.NoMemory) f = tt
+  -- no fault so far
+  pub nothing_told : (bytes text : List ℕ) (check : LogCheck X P) → fault_of bytes ≡ None
+      → Stands says aim each check (judgement_in aim bytes) text → TellsDue aim each false bytes text None check.batches
+  nothing_told bytes text check none stands =
+      let j = judgement_in aim bytes in
+      record {
+        fault = ap (fault_in j) none ∙ none_told j stands.check_is.free;
+        count = stands.check_is.batches;
+        texts = texts_as aim _ _ text (reported_open each j (fault_of bytes)) stands.texts;
+      }
 
-  -- some bytes were there
-  pub turn_more : (room : List ℕ) (count : ℕ) (result : Result Turn (Refused Stop)) → (count ≡ 0 → ⊥) → count ≤ length room → Consumes left left' (take count room) → lf ≤ lf'
-      → TakesPiece cs (bytes ++ take count room) r result → Turns left left' lf lf' cs bytes r result
-  turn_more room count result some within consumed later f = record {
-    read = take count room;
-    consumed = consumed;
-    later = later;
-    to = more_to (take count room) (omega (arith, some, length-take-le count room within)) result f;
+  -- ---- one piece
+
+  module _ (r new : Reader) (check : LogCheck X P) (bytes piece text : List ℕ) (fed : Fed)
+      (known : HasJudged says aim each r check bytes text)
+      (read : (past : List ℕ) → HasRead r past → FedIs fed past (onto piece past) × HasRead new (onto piece past)) where
+    past_is : onto (bytes ++ piece) [] ≡ onto piece (onto bytes [])
+    past_is = onto-append bytes piece []
+
+    pub piece_follows : MayFollow (judgement_in aim bytes) fed.items
+    piece_follows =
+        let f = (read (onto bytes []) known.read).0 in
+        follows_all (rules_of aim) waiting (items_in bytes) fed.items (subst FitFirst f.items_are (items_fit (onto piece (onto bytes []))))
+
+    pub judgement_now : judgement_in aim (bytes ++ piece) ≡ judged (rules_of aim) (judgement_in aim bytes) fed.items
+    judgement_now =
+        let f = (read (onto bytes []) known.read).0 in
+        ap (judged (rules_of aim) waiting) (ap items past_is ∙ f.items_are) ∙ judged-append (rules_of aim) waiting (items_in bytes) fed.items
+
+    fault_now : fault_of (bytes ++ piece) ≡ fed.fault
+    fault_now = ap first_fault past_is ∙ sym (read (onto bytes []) known.read).0.fault_is
+
+    module _ (held held' : Option (List ℕ)) (of of' : ℕ) (now : LogCheck X P) where
+      abbrev Took : {T : Type 0} → Result T Stop → Type 0
+      Took {T} result = TakesItems {T = T} held held' of of' says aim each now (judged (rules_of aim) (judgement_in aim bytes) fed.items) text result
+
+      -- a stop at an item
+      pub piece_stops : {T : Type 0} (stop : Stop) → Took {T = T} (Err stop)
+          → TakesPiece held held' of of' says aim each new now (bytes ++ piece) text (Err stop)
+      piece_stops stop took = record {
+        written = took.written;
+        wrote = took.wrote;
+        later = took.later;
+        to = λ left lf lf'. items_stop stop.fault stop.batches of of' (bytes ++ piece) (text ++ took.written) left lf lf'
+            (subst (λ (k : Judgement). StopsIn stop.fault stop.batches of of' aim each k (text ++ took.written)) (sym judgement_now) took.to);
+      }
+
+      stands_now : {T : Type 0} (x : T) → (took : Took (Ok x)) → Stands says aim each now (judgement_in aim (bytes ++ piece)) (text ++ took.written)
+      stands_now x took = subst (λ (k : Judgement). Stands says aim each now k (text ++ took.written)) (sym judgement_now) took.to
+
+      -- a fault behind the items
+      pub piece_faults : {T : Type 0} (x : T) (f : LogFault) (stop : Stop) → Took (Ok x) → fed.fault ≡ Some f
+          → stop ≡ record { batches = now.batches; fault = fault.Log f }
+          → TakesPiece held held' of of' says aim each new now (bytes ++ piece) text (Err stop)
+      piece_faults x f stop took some is = record {
+        written = took.written;
+        wrote = took.wrote;
+        later = took.later;
+        to = λ left lf lf'. subst (λ (s : Stop). StopsAt s.fault s.batches left lf lf' of of' aim each (bytes ++ piece) (text ++ took.written)) (sym is)
+            (false, λ e. absurd (cc), text_stops false (bytes ++ piece) (text ++ took.written) f now (fault_now ∙ some) (stands_now x took));
+      }
+
+      -- no fault
+      pub piece_passes : {T : Type 0} (x : T) → Took (Ok x) → fed.fault ≡ None
+          → TakesPiece held held' of of' says aim each new now (bytes ++ piece) text (Ok turn.More)
+      piece_passes x took none = record {
+        written = took.written;
+        wrote = took.wrote;
+        later = took.later;
+        to = λ left lf lf'. record {
+          read = subst (HasRead new) (sym past_is) (read (onto bytes []) known.read).1;
+          free = fault_now ∙ none;
+          stands = stands_now x took;
+        };
+      }
+
+  -- there was no memory for the items of the piece
+  pub piece_short : (held : Option (List ℕ)) (of : ℕ) (r new : Reader) (check now : LogCheck X P) (bytes piece text : List ℕ) (stop : Stop)
+      → HasJudged says aim each r check bytes text → stop ≡ record { batches = 0; fault = fault.Memory }
+      → TakesPiece held held of of says aim each new now (bytes ++ piece) text (Err stop)
+  piece_short held of r new check now bytes piece text stop known is = record {
+    written = [];
+    wrote = Appends-nil held;
+    later = omega arith;
+    to = λ left lf lf'. subst (λ (s : Stop). StopsAt s.fault s.batches left lf lf' of of aim each (bytes ++ piece) (text ++ [])) (sym is) front;
   }
+    where
+      front : HasFrontOf aim (reported each (due_in aim false (bytes ++ piece))) (text ++ []) 0
+      front =
+          let grown = grows bytes piece in
+          record {
+            front = closed_in each (judgement_in aim bytes);
+            rest = grown.0;
+            are = reported_open each (judgement_in aim (bytes ++ piece)) (fault_of (bytes ++ piece)) ∙ grown.1;
+            texts = subst (AreTexts aim (closed_in each (judgement_in aim bytes))) (sym (append-nil text)) known.stands.texts;
+            count = refl;
+          }
 
-keeps_consumes : (old new : Option (List ℕ)) → Keeps old new → Consumes old new []
-keeps_consumes None new h = tt
-keeps_consumes (Some xs) None h = absurd h
-keeps_consumes (Some xs) (Some ys) h = sym h
+  -- ---- the end
 
-due_so_far : (cs : List Condition) (r : Reader) (s : Session) (bytes : List ℕ) → HasJudged cs r s bytes → due false cs bytes ≡ record { batches = batches_in (judgement_of cs bytes); fault = None }
-due_so_far cs r s bytes known = ap (λ (o : Option LogFault). told (judgement_of cs bytes) o None) known.free ∙ go s (judgement_of cs bytes) known.session
-  where
-    go : (n : Session) (j : Judgement) → IsSession n j → told j None None ≡ record { batches = batches_in j; fault = None }
-    go n waiting k = refl
-    go n (growing g) k = refl
-    go session.Waiting (refused m f) k = absurd cc
-    go (session.Open o) (refused m f) k = absurd (let e = k.1 in cc)
+  pub ends : (r : Reader) (check : LogCheck X P) (bytes text : List ℕ) (of : ℕ) (o : Option LogFault) → HasJudged says aim each r check bytes text
+      → ((past : List ℕ) → HasRead r past → o ≡ end_fault past) → o ≡ None → Finishes of says aim each check bytes text (Ok turn.End)
+  ends r check bytes text of o known finishes none =
+      record { free = sym (finishes (onto bytes []) known.read) ∙ none; stands = known.stands }
 
--- the read failed
-pub turn_fails : (left left' : Option (List ℕ)) (lf lf' : ℕ) (cs : List Condition) (bytes : List ℕ) (r : Reader) (s : Session) (stop : Stop) → HasJudged cs r s bytes → Keeps left left' → lf ≤ lf' → Rose lf lf'
-    → ((j : Judgement) → IsSession s j → stop ≡ record { batches = batches_in j; fault = fault.Read }) → Turns left left' lf lf' cs bytes r (Err (refusal.Fault stop))
-turn_fails left left' lf lf' cs bytes r s stop known keeps later rose stops =
-    let is = stops (judgement_of cs bytes) known.session in
-    let same : bytes ++ [] ≡ bytes = append-nil bytes in
-    record {
-      read = [];
-      consumed = keeps_consumes left left' keeps;
-      later = later;
-      to = subst (λ (x : Stop). StopsAt x.fault x.batches left' lf lf' cs (bytes ++ [])) (sym is) (ap (due false cs) same ∙ due_so_far cs r s bytes known, rose);
+  pub end_faults : (r : Reader) (check : LogCheck X P) (bytes text : List ℕ) (of : ℕ) (o : Option LogFault) (f : LogFault) (stop : Stop) → HasJudged says aim each r check bytes text
+      → ((past : List ℕ) → HasRead r past → o ≡ end_fault past) → o ≡ Some f → stop ≡ record { batches = check.batches; fault = fault.Log f }
+      → Finishes of says aim each check bytes text (Err stop)
+  end_faults r check bytes text of o f stop known finishes some is left lf lf' ended =
+      subst (λ (s : Stop). StopsAt s.fault s.batches left lf lf' of of aim each bytes text) (sym is)
+      (true, λ e. ended, text_stops true bytes text f check (sym (finishes (onto bytes []) known.read) ∙ some) known.stands)
+
+  -- ---- one turn
+
+  module _ (left left' held held' : Option (List ℕ)) (lf lf' of of' : ℕ) (bytes text : List ℕ) (r : Reader) (check : LogCheck X P) where
+    more_to : (read t : List ℕ) → 0 < length read → (result : Result Turn Stop) → PieceTo left' lf lf' of of' says aim each r check (bytes ++ read) t result
+        → TurnsTo left' lf lf' of of' says aim each r check bytes read t result
+    more_to read t some (Ok turn.More) f = (some, f)
+    more_to read t some (Ok turn.End) f = absurd f
+    more_to read t some (Err stop) f = f
+
+    -- some bytes were there
+    pub turn_more : (room : List ℕ) (count : ℕ) (result : Result Turn Stop) → (count ≡ 0 → ⊥) → count ≤ length room → Consumes left left' (take count room) → lf ≤ lf'
+        → TakesPiece held held' of of' says aim each r check (bytes ++ take count room) text result
+        → Turns left left' held held' lf lf' of of' says aim each r check bytes text result
+    turn_more room count result some within consumed later f = record {
+      read = take count room;
+      written = f.written;
+      consumed = consumed;
+      wrote = f.wrote;
+      log_later = later;
+      out_later = f.later;
+      to = more_to (take count room) (text ++ f.written) (omega (arith, some, length-take-le count room within)) result (f.to left' lf lf');
     }
 
--- ---- all turns
+  module _ (left left' held : Option (List ℕ)) (lf lf' of : ℕ) (bytes text : List ℕ) (r : Reader) (check : LogCheck X P) where
+    end_to : (read : List ℕ) → read ≡ [] → (result : Result Turn Stop) → IsAtEnd left' → Finishes of says aim each check bytes text result
+        → TurnsTo left' lf lf' of of says aim each r check bytes read (text ++ []) result
+    end_to read none result ended f =
+        subst (λ (xs : List ℕ). TurnsTo left' lf lf' of of says aim each r check bytes xs (text ++ []) result) (sym none)
+        (subst (λ (t : List ℕ). TurnsTo left' lf lf' of of says aim each r check bytes [] t result) (sym (append-nil text)) (go result f))
+      where
+        same : bytes ≡ bytes ++ []
+        same = sym (append-nil bytes)
 
--- what stands between two turns
-pub record Going (left left' : Option (List ℕ)) (lf lf' : ℕ) (cs : List Condition) (r : Reader) (s : Session) (room : List ℕ) : Type 0 where
-  pub bytes : List ℕ
-  pub consumed : Consumes left left' bytes
-  pub later : lf ≤ lf'
-  pub judged_so : HasJudged cs r s bytes
+        go : (x : Result Turn Stop) → Finishes of says aim each check bytes text x → TurnsTo left' lf lf' of of says aim each r check bytes [] text x
+        go (Ok turn.More) h = absurd h
+        go (Ok turn.End) h = (ended, subst (λ (xs : List ℕ). IsWhole says aim each check xs text) same h)
+        go (Err stop) h = subst (λ (xs : List ℕ). StopsAt stop.fault stop.batches left' lf lf' of of aim each xs text) same (h left' lf lf' ended)
+
+    -- nothing more was there
+    pub turn_ends : (room : List ℕ) (count : ℕ) (result : Result Turn Stop) → count ≡ 0 → 0 < length room → Consumes left left' (take count room) × (count ≡ 0 → 0 < length room → IsAtEnd left') → lf ≤ lf'
+        → Finishes of says aim each check bytes text result → Turns left left' held held lf lf' of of says aim each r check bytes text result
+    turn_ends room count result none some consumed later f =
+        let nothing : take count room ≡ [] = ap (λ (n : ℕ). take n room) none in
+        record {
+          read = take count room;
+          written = [];
+          consumed = consumed.0;
+          wrote = Appends-nil held;
+          log_later = later;
+          out_later = omega arith;
+          to = end_to (take count room) nothing result (consumed.1 none some) f;
+        }
+
+    keeps_consumes : (old new : Option (List ℕ)) → Keeps old new → Consumes old new []
+    keeps_consumes None new h = tt
+    keeps_consumes (Some xs) None h = absurd h
+    keeps_consumes (Some xs) (Some ys) h = sym h
+
+    -- the read failed
+    pub turn_fails : (stop : Stop) → HasJudged says aim each r check bytes text → Keeps left left' → lf ≤ lf' → Rose lf lf'
+        → stop ≡ record { batches = check.batches; fault = fault.Read } → Turns left left' held held lf lf' of of says aim each r check bytes text (Err stop)
+    turn_fails stop known keeps later rose is =
+        let now : TellsDue aim each false (bytes ++ []) (text ++ []) None check.batches =
+        subst (λ (xs : List ℕ). TellsDue aim each false xs (text ++ []) None check.batches) (sym (append-nil bytes))
+        (subst (λ (t : List ℕ). TellsDue aim each false bytes t None check.batches) (sym (append-nil text)) (nothing_told bytes text check known.free known.stands)) in
+        record {
+          read = [];
+          written = [];
+          consumed = keeps_consumes left left' keeps;
+          wrote = Appends-nil held;
+          log_later = later;
+          out_later = omega arith;
+          to = subst (λ (s : Stop). StopsAt s.fault s.batches left' lf lf' of of aim each (bytes ++ []) (text ++ [])) (sym is) (now, rose);
+        }
+
+  -- ---- all turns
+
+  -- what stands between two turns
+  pub record Going (left left' held held' : Option (List ℕ)) (lf lf' of of' : ℕ) (r : Reader) (check : LogCheck X P) : Type 0 where
+    pub bytes : List ℕ
+    pub text : List ℕ
+    pub consumed : Consumes left left' bytes
+    pub wrote : Appends held held' text
+    pub log_later : lf ≤ lf'
+    pub out_later : of ≤ of'
+    pub judged_so : HasJudged says aim each r check bytes text
+
+  total_is : (r : Reader) (check : LogCheck X P) (bytes text : List ℕ) → HasJudged says aim each r check bytes text → r.feeder.total ≡ length bytes
+  total_is r check bytes text known =
+      let fed = known.read.feeds (known.read.fault_is ∙ known.free) in
+      fed.counts.total_is ∙ length-onto bytes [] ∙ omega arith
+
+  nothing_closed : (e : Bool) → AreTexts aim (closed_in e waiting) []
+  nothing_closed false = refl
+  nothing_closed true = refl
+
+  pub starts : (left held : Option (List ℕ)) (lf of : ℕ) (r : Reader) (check : LogCheck X P) → HasRead r [] → IsCheckOf says aim check waiting
+      → Going left left held held lf lf of of r check
+  unfolding first_fault items judged
+  starts left held lf of r check read is = record {
+    bytes = [];
+    text = [];
+    consumed = Consumes-nil left;
+    wrote = Appends-nil held;
+    log_later = omega arith;
+    out_later = omega arith;
+    judged_so = record { read = read; free = refl; stands = record { check_is = is; texts = nothing_closed each } };
+  }
+
+  module _ (left now held held_now : Option (List ℕ)) (lf lf_now of of_now : ℕ) (r : Reader) (check : LogCheck X P) (h : Going left now held held_now lf lf_now of of_now r check)
+      (left' held' : Option (List ℕ)) (lf' of' : ℕ) (r' : Reader) (check' : LogCheck X P) where
+    abbrev Turned : Result Turn Stop → Type 0
+    Turned result = Turns now left' held_now held' lf_now lf' of_now of' says aim each r' check' h.bytes h.text result
+
+    pub goes_on : (x : Turn) → x ≡ turn.More → Turned (Ok x) → Going left left' held held' lf lf' of of' r' check'
+    goes_on x is turned =
+        let t : Turned (Ok turn.More) = subst (λ (y : Turn). Turned (Ok y)) is turned in
+        record {
+          bytes = h.bytes ++ t.read;
+          text = h.text ++ t.written;
+          consumed = Consumes-trans left now left' h.bytes t.read h.consumed t.consumed;
+          wrote = Appends-trans held held_now held' h.text t.written h.wrote t.wrote;
+          log_later = omega (arith, h.log_later, t.log_later);
+          out_later = omega (arith, h.out_later, t.out_later);
+          judged_so = t.to.1;
+        }
+
+    pub nearer : (x : Turn) → x ≡ turn.More → Turned (Ok x) → 67108865 - r'.feeder.total < 67108865 - r.feeder.total
+    nearer x is turned =
+        let t : Turned (Ok turn.More) = subst (λ (y : Turn). Turned (Ok y)) is turned in
+        let before = total_is r check h.bytes h.text h.judged_so in
+        let after = total_is r' check' (h.bytes ++ t.read) (h.text ++ t.written) t.to.1 in
+        let limit = free_small (onto (h.bytes ++ t.read) []) t.to.1.free in
+        omega (arith, before, after, limit, length-onto (h.bytes ++ t.read) [], length-append h.bytes t.read, t.to.0)
+
+    stopped_at : (f : Fault) (n : ℕ) (bytes text : List ℕ) → StopsAt f n left' lf_now lf' of_now of' aim each bytes text → StopsAt f n left' lf lf' of of' aim each bytes text
+    stopped_at (fault.Formula x) n bytes text k = k
+    stopped_at (fault.Log x) n bytes text k = k
+    stopped_at fault.Read n bytes text k = (k.0, let e = k.1 in omega (arith, e, h.log_later))
+    stopped_at fault.Write n bytes text k = (k.0, k.1, k.2, let e = k.3 in omega (arith, e, h.out_later))
+    stopped_at fault.Memory n bytes text k = k
+    stopped_at fault.Usage n bytes text k = absurd k
+
+    pub turns_end : {T : Type 0} (y : T) (x : Turn) → x ≡ turn.End → Turned (Ok x) → HasReadLog left left' held held' lf lf' of of' says aim each check' (Ok y)
+    turns_end y x is turned =
+        let t : Turned (Ok turn.End) = subst (λ (z : Turn). Turned (Ok z)) is turned in
+        record {
+          read = h.bytes ++ t.read;
+          written = h.text ++ t.written;
+          consumed = Consumes-trans left now left' h.bytes t.read h.consumed t.consumed;
+          wrote = Appends-trans held held_now held' h.text t.written h.wrote t.wrote;
+          log_later = omega (arith, h.log_later, t.log_later);
+          out_later = omega (arith, h.out_later, t.out_later);
+          to = t.to;
+        }
+
+    pub turns_stop : {T : Type 0} (stop : Stop) → Turned (Err stop) → HasReadLog {T = T} left left' held held' lf lf' of of' says aim each check' (Err stop)
+    turns_stop stop t = record {
+      read = h.bytes ++ t.read;
+      written = h.text ++ t.written;
+      consumed = Consumes-trans left now left' h.bytes t.read h.consumed t.consumed;
+      wrote = Appends-trans held held_now held' h.text t.written h.wrote t.wrote;
+      log_later = omega (arith, h.log_later, t.log_later);
+      out_later = omega (arith, h.out_later, t.out_later);
+      to = stopped_at stop.fault stop.batches (h.bytes ++ t.read) (h.text ++ t.written) t.to;
+    }
+
+  -- no memory for the room
+  pub no_room : {T : Type 0} (left held : Option (List ℕ)) (lf of : ℕ) (check : LogCheck X P) (stop : Stop) → IsCheckOf says aim check waiting
+      → stop ≡ record { batches = 0; fault = fault.Memory } → HasReadLog {T = T} left left held held lf lf of of says aim each check (Err stop)
+  unfolding items judged
+  no_room left held lf of check stop is memory = record {
+    read = [];
+    written = [];
+    consumed = Consumes-nil left;
+    wrote = Appends-nil held;
+    log_later = omega arith;
+    out_later = omega arith;
+    to = subst (λ (s : Stop). StopsAt s.fault s.batches left lf lf of of aim each [] []) (sym memory) (record {
+      front = [];
+      rest = reported each (due_in aim false []);
+      are = refl;
+      texts = refl;
+      count = refl;
+    });
+  }
+
+-- what stands between two turns, for whatever the check is of
+pub record GoingSoFar {X : Type 0} {P : X → Type 0} (says : Says X P) (left left' held held' : Option (List ℕ)) (lf lf' of of' : ℕ)
+    (each each_now : Bool) (first : LogCheck X P) (r : Reader) (check : LogCheck X P) (room : List ℕ) : Type 0 where
+  pub each_is : each_now ≡ each
   pub some : 0 < length room
+  pub going : (aim : Aim) → IsCheckOf says aim first waiting → Going says aim each left left' held held' lf lf' of of' r check
 
-pub starts : (left : Option (List ℕ)) (lf : ℕ) (cs : List Condition) (r : Reader) (room : List ℕ) → HasRead r [] → 0 < length room → Going left left lf lf cs r session.Waiting room
-unfolding first_fault items judged
-starts left lf cs r room read some = record {
-  bytes = [];
-  consumed = Consumes-nil left;
-  later = omega arith;
-  judged_so = record { read = read; free = refl; session = refl };
-  some = some;
-}
+module _ {X : Type 0} {P : X → Type 0} (says : Says X P) (left held : Option (List ℕ)) (lf of : ℕ) (each : Bool) (first : LogCheck X P) where
+  pub begins : (r : Reader) (room : List ℕ) → HasRead r [] → 0 < length room
+      → GoingSoFar says left left held held lf lf of of each each first r first room
+  begins r room read some =
+      record { each_is = refl; some = some; going = λ aim is. starts says aim each left held lf of r first read is }
 
-total_is : (cs : List Condition) (r : Reader) (s : Session) (bytes : List ℕ) → HasJudged cs r s bytes → r.feeder.total ≡ length bytes
-total_is cs r s bytes known =
-    let fed = known.read.feeds (known.read.fault_is ∙ known.free) in
-    fed.counts.total_is ∙ length-onto bytes [] ∙ omega arith
+  module _ (now held_now : Option (List ℕ)) (lf_now of_now : ℕ) (each_now : Bool) (r : Reader) (check : LogCheck X P) (room : List ℕ)
+      (h : GoingSoFar says left now held held_now lf lf_now of of_now each each_now first r check room) where
+    pub may_turn : (aim : Aim) × IsCheckOf says aim first waiting
+        → (aim : Aim) × (bytes : List ℕ) × (text : List ℕ) × HasJudged says aim each_now r check bytes text
+    may_turn known =
+        let g = h.going known.0 known.1 in
+        (known.0, g.bytes, g.text, subst (λ (e : Bool). HasJudged says known.0 e r check g.bytes g.text) (sym h.each_is) g.judged_so)
 
-module _ (left now : Option (List ℕ)) (lf lf_now : ℕ) (cs : List Condition) (r : Reader) (s : Session) (room : List ℕ) (h : Going left now lf lf_now cs r s room) (left' : Option (List ℕ)) (lf' : ℕ) (r' : Reader) where
-  abbrev Turned : Result Turn (Refused Stop) → Type 0
-  Turned result = (bytes : List ℕ) → HasJudged cs r s bytes → Turns now left' lf_now lf' cs bytes r' result
+    module _ (left' held' : Option (List ℕ)) (lf' of' : ℕ) (each' : Bool) (r' : Reader) (check' : LogCheck X P) (same : each' ≡ each_now) where
+      abbrev TurnsIt : Result Turn Stop → Type 0
+      TurnsIt result = (aim : Aim) (bytes text : List ℕ) → HasJudged says aim each_now r check bytes text
+          → Turns now left' held_now held' lf_now lf' of_now of' says aim each_now r' check' bytes text result
 
-  more_turned : (x : Turn) (s' : Session) → x ≡ turn.More s' → Turned (Ok x) → Turned (Ok (turn.More s'))
-  more_turned x s' is turned = subst (λ (y : Turn). Turned (Ok y)) is turned
+      turned : (result : Result Turn Stop) → TurnsIt result → (aim : Aim) → (is : IsCheckOf says aim first waiting)
+          → Turns now left' held_now held' lf_now lf' of_now of' says aim each r' check' (h.going aim is).bytes (h.going aim is).text result
+      turned result turns aim is =
+          let g = h.going aim is in
+          subst (λ (e : Bool). Turns now left' held_now held' lf_now lf' of_now of' says aim e r' check' g.bytes g.text result) h.each_is
+          (turns aim g.bytes g.text (subst (λ (e : Bool). HasJudged says aim e r check g.bytes g.text) (sym h.each_is) g.judged_so))
 
-  pub goes_on : (x : Turn) (s' : Session) (room' : List ℕ) → length room' ≡ length room → x ≡ turn.More s' → Turned (Ok x) → Going left left' lf lf' cs r' s' room'
-  goes_on x s' room' same is turned =
-      let t = more_turned x s' is turned h.bytes h.judged_so in
-      record {
-        bytes = h.bytes ++ t.read;
-        consumed = Consumes-trans left now left' h.bytes t.read h.consumed t.consumed;
-        later = omega (arith, h.later, t.later);
-        judged_so = t.to.1;
-        some = omega (arith, same, h.some);
+      pub turns_on : (x : Turn) (room' : List ℕ) → length room' ≡ length room → x ≡ turn.More → TurnsIt (Ok x)
+          → GoingSoFar says left left' held held' lf lf' of of' each each' first r' check' room'
+      turns_on x room' long is turns = record {
+        each_is = same ∙ h.each_is;
+        some = omega (arith, long, h.some);
+        going = λ aim known. goes_on says aim each left now held held_now lf lf_now of of_now r check (h.going aim known) left' held' lf' of' r' check' x is (turned (Ok x) turns aim known);
       }
 
-  pub nearer : (x : Turn) (s' : Session) → x ≡ turn.More s' → Turned (Ok x) → 67108865 - r'.feeder.total < 67108865 - r.feeder.total
-  nearer x s' is turned =
-      let t = more_turned x s' is turned h.bytes h.judged_so in
-      let before = total_is cs r s h.bytes h.judged_so in
-      let after = total_is cs r' s' (h.bytes ++ t.read) t.to.1 in
-      let limit = free_small (onto (h.bytes ++ t.read) []) t.to.1.free in
-      omega (arith, before, after, limit, length-onto (h.bytes ++ t.read) [], length-append h.bytes t.read, t.to.0)
+      pub turns_nearer : (x : Turn) → x ≡ turn.More → TurnsIt (Ok x) → (aim : Aim) × IsCheckOf says aim first waiting
+          → 67108865 - r'.feeder.total < 67108865 - r.feeder.total
+      turns_nearer x is turns known =
+          nearer says known.0 each left now held held_now lf lf_now of of_now r check (h.going known.0 known.1) left' held' lf' of' r' check' x is (turned (Ok x) turns known.0 known.1)
 
-  stopped_at : (stop : Stop) (lf_at : ℕ) (bytes : List ℕ) → lf ≤ lf_at → StopsAt stop.fault stop.batches left' lf_at lf' cs bytes → StopsAt stop.fault stop.batches left' lf lf' cs bytes
-  stopped_at stop lf_at bytes later is = go stop.fault is
-    where
-      go : (f : Fault) → StopsAt f stop.batches left' lf_at lf' cs bytes → StopsAt f stop.batches left' lf lf' cs bytes
-      go (fault.Log x) k = k
-      go (fault.NotBuilt line) k = k
-      go fault.Read k = (k.0, let e = k.1 in omega (arith, e, later))
-      go fault.Usage k = absurd k
-      go (fault.Formula x) k = absurd k
-      go fault.Write k = absurd k
-      go fault.Memory k = absurd k
+      pub reads_all : {T : Type 0} (y : T) (x : Turn) → x ≡ turn.End → TurnsIt (Ok x) → (aim : Aim) → IsCheckOf says aim first waiting
+          → HasReadLog left left' held held' lf lf' of of' says aim each check' (Ok y)
+      reads_all y x is turns aim known =
+          turns_end says aim each left now held held_now lf lf_now of of_now r check (h.going aim known) left' held' lf' of' r' check' y x is (turned (Ok x) turns aim known)
 
-  pub turns_end : (y : Turn) (t : TraceView) → y ≡ turn.End t → Turned (Ok y) → HasReadLog left left' lf lf' cs (Ok t)
-  turns_end y t is turned =
-      let ended : Turned (Ok (turn.End t)) = subst (λ (z : Turn). Turned (Ok z)) is turned in
-      let x = ended h.bytes h.judged_so in
-      record {
-        read = h.bytes ++ x.read;
-        consumed = Consumes-trans left now left' h.bytes x.read h.consumed x.consumed;
-        later = omega (arith, h.later, x.later);
-        to = x.to;
-      }
-
-  pub turns_stop : (x : Refused Stop) → Turned (Err x) → HasReadLog left left' lf lf' cs (Err x)
-  turns_stop (refusal.Fault stop) turned =
-      let x = turned h.bytes h.judged_so in
-      record {
-        read = h.bytes ++ x.read;
-        consumed = Consumes-trans left now left' h.bytes x.read h.consumed x.consumed;
-        later = omega (arith, h.later, x.later);
-        to = stopped_at stop lf_now (h.bytes ++ x.read) h.later x.to;
-      }
-  turns_stop refusal.NoMemory turned =
-      let x = turned h.bytes h.judged_so in
-      record {
-        read = h.bytes ++ x.read;
-        consumed = Consumes-trans left now left' h.bytes x.read h.consumed x.consumed;
-        later = omega (arith, h.later, x.later);
-        to = tt;
-      }
-
--- no memory for the room
-pub no_room : (left : Option (List ℕ)) (lf : ℕ) (cs : List Condition) → HasReadLog left left lf lf cs (Err refusal.NoMemory)
-no_room left lf cs = record { read = []; consumed = Consumes-nil left; later = omega arith; to = tt }
+      pub reads_stop : {T : Type 0} (stop : Stop) → TurnsIt (Err stop) → (aim : Aim) → IsCheckOf says aim first waiting
+          → HasReadLog {T = T} left left' held held' lf lf' of of' says aim each check' (Err stop)
+      reads_stop stop turns aim known =
+          turns_stop says aim each left now held held_now lf lf_now of of_now r check (h.going aim known) left' held' lf' of' r' check' stop (turned (Err stop) turns aim known)

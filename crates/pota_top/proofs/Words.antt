@@ -1,47 +1,116 @@
--- What a question asks, and whether it is of the form that is answered.
-use Rattle.std.proofs.Common.{◌≡◌, ℕ, List, Bool, true, false, Option, Some, None, refl, sym, ap, ◌∙◌}
-use Rattle.rctl_grammar.specs.declared.tree.Tree.{Tree}
-use Rattle.rctl_grammar.specs.Shape.{shape_of}
-use Rattle.rctl_print.specs.Canonical.{canonical}
+-- The numbers among the words are in their ranges.
+use Rattle.std.proofs.Common.{◌≡◌, ℕ, ◌≤◌, ◌-◌, ◌^◌, Bool, true, false, Option, Some, None, List, refl, sym, ap, subst, ◌∙◌, arith, inl, inr}
+use Rattle.std.specs.Prelude.{◌&&◌, ◌||◌, nat_le, is_some, option_map, option_and_then, codes, if◌then◌else◌}
+use Rattle.std.specs.Str.{bytes_eq}
+use Rattle.std.proofs.lemmas.Bool.{cases_Bool}
+use Rattle.std.proofs.lemmas.Bool.Decides.{nat_tests}
+use Rattle.std.proofs.lemmas.Option.{none-some, same_Some}
+use Rattle.pota_base.specs.Number.{number_at, whole}
+use Rattle.command_words.specs.declared.request.Sizes.{Sizes}
+use Rattle.command_words.specs.declared.request.Task.{Task}
+use Rattle.command_words.specs.declared.request.Task.TheVariants.{Check, Bench}
+use Rattle.command_words.specs.Numbers.{number, workers_of, needed, sizes_of}
+use Rattle.command_words.specs.Request.{Values, values_of, check_of, bench_of, task_of, Wanted, wanted, request_of}
+use Rattle.command_words.specs.Rule.{Text, Given, given}
 use Rattle.run_request.specs.declared.question.Question.{Question}
 use Rattle.run_request.specs.Questions.{IsQuestion}
-use Rattle.run_request.proofs.OneQuestion.{question_asks, asks_one}
-use Rattle.pota_top.specs.Request.{Condition, is_plain, Asks}
-use Rattle.pota_top.specs.RequestReading.{formula_in}
-use Rattle.pota_top.proofs.RequestLaws.{formula_take, formula_again}
+use Rattle.pota_top.specs.Benching.{CanBeMade}
+
+abbrev Then : {A B : Type 0} → Option A → (A → Option B) → B → Type 0
+Then {A} o f b = (a : A) × (o ≡ Some a) × (f a ≡ Some b)
+
+then_some : {A B : Type 0} (o : Option A) (f : A → Option B) (b : B) → option_and_then f o ≡ Some b → Then o f b
+then_some None f b h = absurd (none-some b h)
+then_some (Some a) f b h = (a, refl, h)
+
+abbrev Within : ℕ → ℕ → ℕ → Type 0
+Within low high n = (low ≤ n) × (n ≤ high)
+
+in_range : (low high m n : ℕ) (a b : Bool) → nat_le low m ≡ a → nat_le m high ≡ b → (if a && b then Some m else None) ≡ Some n → Within low high n
+in_range low high m n true true p q h =
+    let same : m ≡ n = same_Some m n h in
+    subst (Within low high) same (grind (arith, nat_tests, p), grind (arith, nat_tests, q))
+in_range low high m n true false p q h = absurd (none-some n h)
+in_range low high m n false b p q h = absurd (none-some n h)
+
+number_within : (low high n : ℕ) (text : Text) → number low high text ≡ Some n → Within low high n
+number_within low high n text h =
+    let found = then_some (whole (number_at (2 ^ 64 - 1) text)) (λ m. if nat_le low m && nat_le m high then Some m else None) n h in
+    in_range low high found.0 n (nat_le low found.0) (nat_le found.0 high) refl refl found.2
+
+needed_within : (low high n : ℕ) (text : Option Text) → needed low high text ≡ Some n → Within low high n
+needed_within low high n None h = absurd (none-some n h)
+needed_within low high n (Some text) h = number_within low high n text h
+
+workers_within : (text : Option Text) (n : ℕ) → workers_of text ≡ Some n → Within 1 16 n
+workers_within None n h = subst (Within 1 16) (same_Some 1 n h) (omega arith, omega arith)
+workers_within (Some text) n h = number_within 1 16 n text h
+
+sizes_can : (seed procs events : Option Text) (s : Sizes) → sizes_of seed procs events ≡ Some s → CanBeMade s
+sizes_can seed procs events s h =
+    let a = then_some (needed 0 (2 ^ 64 - 1) seed) (λ x. option_and_then (λ p. option_and_then (λ e. let z : Sizes = record { seed = x; procs = p; events = e } in Some z) (needed 0 50000 events)) (needed 1 32 procs)) s h in
+    let b = then_some (needed 1 32 procs) (λ p. option_and_then (λ e. let z : Sizes = record { seed = a.0; procs = p; events = e } in Some z) (needed 0 50000 events)) s a.2 in
+    let c = then_some (needed 0 50000 events) (λ e. let z : Sizes = record { seed = a.0; procs = b.0; events = e } in Some z) s b.2 in
+    let here = needed_within 1 32 b.0 procs b.1 in
+    let there = needed_within 0 50000 c.0 events c.1 in
+    let made : CanBeMade (record { seed = a.0; procs = b.0; events = c.0 }) = record { some = here.0; few = here.1; limit = there.1 } in
+    subst CanBeMade (same_Some _ s c.2) made
+
+-- ---- the task
+
+bench_can : (v : Values) (s : Sizes) → bench_of v ≡ Some (Bench s) → CanBeMade s
+bench_can v s h = elim (cases_Bool (v.slice || v.witness || v.each_batch)) [
+  | inl it ↦ absurd (none-some (Bench s) (sym (rw it refl) ∙ h))
+  | inr no_ ↦ go (sizes_of v.seed v.procs v.events) refl (sym (rw no_ refl) ∙ h)
+]
+  where
+    go : (o : Option Sizes) → sizes_of v.seed v.procs v.events ≡ o → option_map Bench o ≡ Some (Bench s) → CanBeMade s
+    go None e k = absurd (none-some (Bench s) k)
+    go (Some z) e k =
+        let same : Bench z ≡ Bench s = same_Some (Bench z) (Bench s) k in
+        let mine : z ≡ s = cc in
+        subst CanBeMade mine (sizes_can v.seed v.procs v.events z e)
+
+check_not : (v : Values) (s : Sizes) → check_of v ≡ Some (Bench s) → ⊥
+check_not v s h = elim (cases_Bool (is_some v.seed || is_some v.procs || is_some v.events)) [
+  | inl it ↦ none-some (Bench s) (sym (rw it refl) ∙ h)
+  | inr no_ ↦ let e : Some (Check (record { slice = v.slice; witness = v.witness; each_batch = v.each_batch })) ≡ Some (Bench s) = sym (rw no_ refl) ∙ h in absurd cc
+]
+
+task_can : (command : Text) (v : Values) (s : Sizes) → task_of command v ≡ Some (Bench s) → CanBeMade s
+task_can command v s h = elim (cases_Bool (bytes_eq command (codes "check"))) [
+  | inl it ↦ absurd (check_not v s (sym (rw it refl) ∙ h))
+  | inr no_ ↦ elim (cases_Bool (bytes_eq command (codes "bench"))) [
+    | inl bench ↦ bench_can v s (sym (rw (no_, bench) refl) ∙ h)
+    | inr other ↦ absurd (none-some (Bench s) (sym (rw (no_, other) refl) ∙ h))
+  ]
+]
+
+record IsFound (v : Values) (w : Wanted) : Type 0 where
+  command : Text
+  task : task_of command v ≡ Some w.task
+  workers : workers_of v.workers ≡ Some w.workers
+
+wanted_found : (v : Values) (w : Wanted) → wanted v ≡ Some w → IsFound v w
+wanted_found v w h =
+    let a = then_some v.command _ w h in
+    let b = then_some v.formula _ w a.2 in
+    let c = then_some (task_of a.0 v) _ w b.2 in
+    let d = then_some (workers_of v.workers) _ w c.2 in
+    let mine : IsFound v (record { formula = b.0; workers = d.0; task = c.0 }) = record { command = a.0; task = c.1; workers = d.1 } in
+    subst (IsFound v) (same_Some _ w d.2) mine
+
+request_found : (words : List Text) (w : Wanted) → request_of words ≡ Some w → (v : Values) × IsFound v w
+request_found words w h =
+    let g = then_some (given words) (λ g. wanted (values_of g)) w h in
+    (values_of g.0, wanted_found (values_of g.0) w g.2)
 
 module _ (words : List (List ℕ)) (q : Question) (is : IsQuestion words q) where
-  -- with flags, or a bench
-  pub not_plain : is_plain q.task ≡ false → (cs : List Condition) → Asks words cs → ⊥
-  not_plain flagged cs a =
-      let same = asks_one words a.task q.task a.tree q.stated.formula.tree a.asks (question_asks words q is) in
-      let e : true ≡ false = sym a.plain ∙ ap is_plain same.0 ∙ flagged in
-      cc
+  found : (v : Values) × IsFound v is.wanted
+  found = request_found words is.wanted is.asks
 
-  -- the text is that of what is asked
-  text_is : (text : List ℕ) → text ≡ q.stated.text → (cs : List Condition) → (a : Asks words cs) → a.text ≡ text
-  text_is text e cs a =
-      let same = asks_one words a.task q.task a.tree q.stated.formula.tree a.asks (question_asks words q is) in
-      a.printed ∙ ap (λ (t : Tree). canonical (shape_of t)) same.1 ∙ sym is.stated.printed ∙ sym e
+  pub question_workers : Within 1 16 q.workers
+  question_workers = subst (Within 1 16) (sym is.workers) (workers_within found.0.workers is.wanted.workers found.1.workers)
 
-  -- a formula of another form
-  pub other_form : (text : List ℕ) → text ≡ q.stated.text → formula_in text ≡ None → (cs : List Condition) → Asks words cs → ⊥
-  other_form text e none cs a =
-      let read : formula_in text ≡ Some cs = ap formula_in (sym (text_is text e cs a)) ∙ formula_again a.text cs a.formula in
-      let both : None ≡ Some cs = sym none ∙ read in
-      cc
-
-  pub first_form : is_plain q.task ≡ true → (text : List ℕ) → text ≡ q.stated.text → (cs : List Condition) → formula_in text ≡ Some cs
-      → (a : Asks words cs) × (a.text ≡ text)
-  first_form plain text e cs h = (
-    record {
-      task = q.task;
-      tree = q.stated.formula.tree;
-      asks = question_asks words q is;
-      plain = plain;
-      text = text;
-      printed = e ∙ is.stated.printed;
-      formula = formula_take text cs h;
-    },
-    refl,
-  )
+  pub question_sizes : (s : Sizes) → q.task ≡ Bench s → CanBeMade s
+  question_sizes s e = task_can found.1.command found.0 s (found.1.task ∙ ap (λ (t : Task). Some t) (sym is.task ∙ e))

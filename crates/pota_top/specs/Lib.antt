@@ -1,11 +1,7 @@
-pub mod Due
 pub mod FaultText
-pub mod Judging
 pub mod Outcome
-pub mod Passing
-pub mod Reaching
-pub mod Report
-pub mod Request
-pub mod RequestReading
+pub mod Asking
 pub mod Run
-pub mod Session
+pub mod Checking
+pub mod Reading
+pub mod Benching

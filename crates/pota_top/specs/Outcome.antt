@@ -1,5 +1,5 @@
 -- How a run ended, and the line that tells of it.
-use Rattle.std.specs.Prelude.{ℕ, List, [], ◌∷◌, ◌++◌, codes, Option, None, Some}
+use Rattle.std.specs.Prelude.{ℕ, List, [], ◌∷◌, ◌++◌, codes, Option, None, Some, Result, Ok, Err, if◌then◌else◌}
 use Rattle.std.specs.Fmt.{decimal}
 use Rattle.std.specs.Io.KnownBytes.{Appends}
 use Rattle.pota_base.specs.Outside.{Rose, AppendsPrefix}
@@ -9,9 +9,14 @@ use Rattle.event_log.specs.declared.item.LogFault.{LogFault}
 use Rattle.rctl_grammar.specs.declared.fault.FormulaFault.{FormulaFault}
 use Rattle.run_request.specs.declared.question.QuestionFault.{QuestionFault}
 use Rattle.run_request.specs.declared.question.QuestionFault.TheVariants as question
+use Rattle.log_judgement.specs.declared.refusal.Refusal.{Refusal}
+use Rattle.log_judgement.specs.declared.refusal.Refusal.TheVariants as refusal
 use Rattle.pota_top.specs.FaultText.{formula_code_text, log_code_text}
 use Rattle.pota_top.specs.declared.outcome.Fault.{Fault}
 use Rattle.pota_top.specs.declared.outcome.Fault.TheVariants as fault
+use Rattle.pota_top.specs.declared.outcome.Outcome.{Outcome}
+use Rattle.pota_top.specs.declared.outcome.Stop.{Stop}
+use Rattle.pota_top.specs.declared.outcome.Verdict.{Verdict}
 
 -- which words are taken
 abbrev pub usage_text : List ℕ
@@ -35,7 +40,6 @@ cause_of (fault.Log f) = log_text f
 cause_of fault.Read = codes "read fault"
 cause_of fault.Write = codes "write fault"
 cause_of fault.Memory = codes "out of memory"
-cause_of (fault.NotBuilt line) = codes "line " ++ (decimal line ++ codes ": not built")
 
 -- the status of a run that ended so
 abbrev pub status_of : Fault → Status
@@ -45,12 +49,16 @@ status_of (fault.Log f) = status.Log
 status_of fault.Read = status.ReadFault
 status_of fault.Write = status.WriteFault
 status_of fault.Memory = status.OutOfMemory
-status_of (fault.NotBuilt line) = status.NotBuilt
 
 -- what is wrong with the words or their formula
 abbrev pub fault_of_question : QuestionFault → Fault
 fault_of_question question.Usage = fault.Usage
 fault_of_question (question.Formula f) = fault.Formula f
+
+-- why a log is refused
+abbrev pub fault_of_refusal : Refusal → Fault
+fault_of_refusal (refusal.Formula f) = fault.Formula f
+fault_of_refusal (refusal.Log f) = fault.Log f
 
 -- one line for each run without a verdict
 abbrev pub line_of : Option Fault → List ℕ
@@ -61,3 +69,13 @@ line_of (Some f) = codes "pota: " ++ (cause_of f ++ 10 ∷ [])
 pub record Told (old new : Option (List ℕ)) (before now : ℕ) (line : List ℕ) : Type 0 where
   pub whole : (Rose before now → ⊥) → Appends old new line
   pub part : AppendsPrefix old new line
+
+-- how a run ended that led to a verdict or a stop
+abbrev pub outcome_of : Result Verdict Stop → Outcome
+outcome_of (Ok v) = record {
+  status = if v.truth then status.True else status.False;
+  batches = v.batches;
+  fault = None;
+}
+outcome_of (Err stop) =
+    record { status = status_of stop.fault; batches = stop.batches; fault = Some stop.fault }

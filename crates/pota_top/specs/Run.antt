@@ -1,211 +1,291 @@
 -- What a run of the analyser promises: the answer to the words and the bytes of the log.
-use Rattle.std.specs.Prelude.{◌≡◌, ℕ, ◌≤◌, ◌⊎◌, ◌↔◌, Bool, true, false, List, [], length, Option, Some, None, if◌then◌else◌}
+use Rattle.std.specs.Prelude.{◌≡◌, ℕ, ◌≤◌, ◌⊎◌, ◌↔◌, Bool, true, false, List, [], ◌∷◌, ◌++◌, Option, Some, None, if◌then◌else◌}
 use Rattle.std.specs.Io.KnownBytes.{Appends, Consumes, IsAtEnd}
+use Rattle.run_model.specs.Cut.{initial}
+use Rattle.run_model.specs.Run.{Watches, run_of, clocks_of}
+use Rattle.run_model.specs.Meaning.{Sat}
 use Rattle.pota_base.specs.Outside.{Rose, IsPrefix}
 use Rattle.pota_base.specs.declared.status.Status.{Status}
 use Rattle.pota_base.specs.declared.status.Status.TheVariants as status
 use Rattle.event_log.specs.declared.item.LogFault.{LogFault}
 use Rattle.event_log.specs.declared.log.Log.{Log}
-use Rattle.event_log.specs.Laws.{IsLog}
-use Rattle.event_log.specs.LogText.{log_text}
-use Rattle.event_log.specs.States.{trace_of_log}
-use Rattle.run_model.specs.Cut.{lengths, initial}
-use Rattle.run_model.specs.Run.{Watches, run_of, clocks_of}
-use Rattle.run_model.specs.Meaning.{Sat}
-use Rattle.vector_clock.specs.Faults.{log_fault}
 use Rattle.rctl_grammar.specs.declared.fault.FormulaFault.{FormulaFault}
 use Rattle.rctl_grammar.specs.declared.tree.Tree.{Tree}
 use Rattle.command_words.specs.declared.request.Task.{Task}
+use Rattle.command_words.specs.declared.request.Task.TheVariants as task
+use Rattle.command_words.specs.declared.request.Shown.{Shown}
+use Rattle.command_words.specs.declared.request.Sizes.{Sizes}
 use Rattle.run_request.specs.declared.question.QuestionFault.{QuestionFault}
 use Rattle.run_request.specs.declared.question.QuestionFault.TheVariants as question
 use Rattle.run_request.specs.Questions.{IsQuestionFault, AsksFor}
+use Rattle.report.specs.declared.report.Report.{Report}
+use Rattle.report.specs.Spelling.{report_text}
+use Rattle.run_report.specs.Reports.{Asked, trace_so_far, IsReportOf, counted}
+use Rattle.run_report.specs.Benches.{IsSummaryOf}
+use Rattle.run_report.specs.Benches as bench
+use Rattle.log_judgement.specs.declared.refusal.Refusal.{Refusal}
+use Rattle.log_judgement.specs.declared.refusal.Refusal.TheVariants as refusal
+use Rattle.log_judgement.specs.Judgement.{Prefix}
+use Rattle.log_judgement.specs.Due.{Due}
+use Rattle.log_judgement.specs.Texts.{reported, AreReports, IsDueText}
+use Rattle.rctl_class.specs.Nodes.{node_of}
+use Rattle.log_check.specs.Aims.{unknown_name}
+use Rattle.trace_gen.specs.Generated.{generated}
 use Rattle.pota_top.specs.declared.outcome.Fault.{Fault}
 use Rattle.pota_top.specs.declared.outcome.Fault.TheVariants as fault
 use Rattle.pota_top.specs.declared.outcome.Outcome.{Outcome}
-use Rattle.pota_top.specs.Due.{due, events_of, first_foreign}
-use Rattle.pota_top.specs.Outcome.{status_of, fault_of_question}
-use Rattle.pota_top.specs.Request.{Condition, formula_of, Asks}
-use Rattle.pota_top.specs.Passing.{AreNamed}
-use Rattle.pota_top.specs.Report.{Report, report_text}
+use Rattle.pota_top.specs.Outcome.{status_of, fault_of_question, fault_of_refusal}
+use Rattle.pota_top.specs.Asking.{Handing, asked, asked_by, due_of}
 
--- no watches are handed in
-abbrev pub no_watches : Watches
-no_watches name states = []
+-- ---- a log that is checked
 
--- some path from the initial cut of the log's run reaches a cut where all conditions hold
-abbrev pub IsTrueAtStart : Log → List Condition → Type 0
-IsTrueAtStart log cs =
-    Sat (run_of (trace_of_log log) no_watches) (formula_of cs)
-    (initial (clocks_of (trace_of_log log)))
+-- the words ask for a check, these bytes were read, the text that is due of them was written, and
+-- so many batches are due
+pub record IsTold (on : Handing) (words : List (List ℕ)) (ended : Bool) (read written : List ℕ)
+    (batches : ℕ) : Type 0 where
+  pub tree : Tree
+  pub shown : Shown
+  pub asks : AsksFor words (task.Check shown) tree
+  pub text : IsDueText (asked_by tree shown) on.watches shown.each_batch
+      (due_of on.names tree ended read) written
+  pub count : batches ≡ (due_of on.names tree ended read).batches
 
--- what the report says of a log and the text of a formula
-abbrev pub report_of : Log → List ℕ → Bool → Report
-report_of log formula verdict =
-    record {
-      batch = length log.batches;
-      procs = log.header.procs;
-      lengths = lengths
-          (clocks_of (trace_of_log log));
-      formula = formula;
-      verdict = verdict;
-    }
+-- the formula is true at the initial cut of the run of this log
+abbrev pub IsTrueAtStart : Watches → Tree → Prefix → Type 0
+IsTrueAtStart watches t log =
+    Sat (run_of (trace_so_far log.header log.batches) watches) (asked t false false).formula
+    (initial (clocks_of (trace_so_far log.header log.batches)))
 
--- The bytes are the text of this log, whose clocks and messages have no fault. Its header has the
--- names of the conditions, and no clock names an event of another process.
-pub record IsLogFor (bytes : List ℕ) (cs : List Condition) (log : Log) : Type 0 where
-  pub is : IsLog log
-  pub spelled : bytes ≡ log_text log
-  pub ordered : log_fault log ≡ None
-  pub named : AreNamed log.header cs
-  pub apart : first_foreign (events_of log.batches) ≡ None
-
--- the words ask for a formula, the bytes are a log for it, the verdict is its truth there, and the
--- report says so
-pub record Answers (words : List (List ℕ)) (bytes report : List ℕ) (verdict : Bool) : Type 0 where
-  pub conditions : List Condition
-  pub asks : Asks words conditions
-  pub log : Log
-  pub logged : IsLogFor bytes conditions log
-  pub truth : (verdict ≡ true) ↔ IsTrueAtStart log conditions
-  pub text : report ≡ report_text (report_of log asks.text verdict)
-
--- the words ask something of a formula of the class
-abbrev pub IsAsked : List (List ℕ) → Type 0
-IsAsked words = (task : Task) × (t : Tree) × AsksFor words task t
-
--- and it isn't of the form that is answered
-abbrev pub IsOtherRequest : List (List ℕ) → Type 0
-IsOtherRequest words = IsAsked words × ((cs : List Condition) → Asks words cs → ⊥)
-
--- a verdict, with its report written whole
-pub record HasVerdict (left : Option (List ℕ)) (words : List (List ℕ)) (read written : List ℕ)
-    (o : Outcome) (verdict : Bool) : Type 0 where
+-- the log was read to its end and has no fault, and the formula is true there or isn't
+pub record HasVerdict (left : Option (List ℕ)) (on : Handing) (words : List (List ℕ))
+    (read written : List ℕ) (o : Outcome) (verdict : Bool) : Type 0 where
   pub ended : IsAtEnd left
-  pub answers : Answers words read written verdict
-  pub batches : o.batches ≡ length answers.log.batches
+  pub told : IsTold on words true read written o.batches
+  pub free : (due_of on.names told.tree true read).fault ≡ None
+  pub log : Prefix
+  pub whole : (due_of on.names told.tree true read).whole ≡ Some log
+  pub truth : (verdict ≡ true) ↔ IsTrueAtStart on.watches told.tree log
   pub fault : o.fault ≡ None
 
--- nothing was written, and no batch was counted
-pub record HasNothing (bytes : List ℕ) (o : Outcome) (f : Fault) : Type 0 where
-  pub written : bytes ≡ []
-  pub batches : o.batches ≡ 0
-  pub fault : o.fault ≡ Some f
-
--- this fault is due of the bytes read, and so is the number of batches; nothing was written
-pub record IsRefused (left : Option (List ℕ)) (words : List (List ℕ)) (read written : List ℕ)
-    (o : Outcome) (f : Fault) : Type 0 where
-  pub conditions : List Condition
-  pub asks : Asks words conditions
+-- this is the first fault of the bytes that were read
+pub record IsRefused (left : Option (List ℕ)) (on : Handing) (words : List (List ℕ))
+    (read written : List ℕ) (o : Outcome) (r : Refusal) : Type 0 where
   pub ended : Bool
   pub at_end : ended ≡ true → IsAtEnd left
-  pub due_is : due ended conditions read ≡ record { batches = o.batches; fault = Some f }
-  pub fault : o.fault ≡ Some f
-  pub nothing : written ≡ []
+  pub told : IsTold on words ended read written o.batches
+  pub due_is : (due_of on.names told.tree ended read).fault ≡ Some r
+  pub fault : o.fault ≡ Some (fault_of_refusal r)
 
--- no fault is due of the bytes read; nothing was written
-pub record IsCutShort (words : List (List ℕ)) (read written : List ℕ) (o : Outcome) : Type 0 where
-  pub conditions : List Condition
-  pub asks : Asks words conditions
-  pub due_is : due false conditions read ≡ record { batches = o.batches; fault = None }
+-- the bytes that were read have no fault
+pub record IsCutShort (on : Handing) (words : List (List ℕ)) (read written : List ℕ) (o : Outcome)
+    : Type 0 where
+  pub told : IsTold on words false read written o.batches
+  pub free : (due_of on.names told.tree false read).fault ≡ None
   pub fault : o.fault ≡ Some fault.Read
-  pub nothing : written ≡ []
 
--- a part of a report was written
-pub record HasPart (left : Option (List ℕ)) (words : List (List ℕ)) (read written : List ℕ)
+-- the reports that are due before that of this batch were written, and a prefix of that one
+pub record HasPart (left : Option (List ℕ)) (on : Handing) (words : List (List ℕ))
+    (read written : List ℕ) (batches : ℕ) : Type 0 where
+  pub tree : Tree
+  pub shown : Shown
+  pub asks : AsksFor words (task.Check shown) tree
+  pub ended : Bool
+  pub at_end : ended ≡ true → IsAtEnd left
+  pub before : List Prefix
+  pub log : Prefix
+  pub behind : List Prefix
+  pub due_are : reported shown.each_batch (due_of on.names tree ended read)
+      ≡ before ++ log ∷ behind
+  pub text : List ℕ
+  pub texts : AreReports (asked_by tree shown) on.watches before text
+  pub report : Report
+  pub says : IsReportOf (asked_by tree shown) log.header log.batches on.watches report
+  pub part : List ℕ
+  pub part_of : IsPrefix part (report_text report)
+  pub wrote : written ≡ text ++ part
+  pub count : batches ≡ counted log.batches
+
+-- ---- a log that is made
+
+abbrev pub sizes_of : Sizes → bench.Sizes
+sizes_of s = record { seed = s.seed; procs = s.procs; events = s.events }
+
+abbrev pub made_by : Sizes → Log
+made_by s = generated s.seed s.procs s.events
+
+-- the summary of a bench, of the log that is made, whose verdict this is
+pub record IsBenched (on : Handing) (words : List (List ℕ)) (summary : List ℕ) (verdict : Bool)
+    : Type 0 where
+  pub tree : Tree
+  pub sizes : Sizes
+  pub asks : AsksFor words (task.Bench sizes) tree
+  pub named : unknown_name (node_of tree) on.names (made_by sizes).header ≡ None
+  pub says : IsSummaryOf (sizes_of sizes) (asked tree true false) (made_by sizes).header
+      (made_by sizes).batches on.watches summary
+  pub truth : (verdict ≡ true)
+      ↔ IsTrueAtStart on.watches tree
+      (record { header = (made_by sizes).header; batches = (made_by sizes).batches })
+
+-- it was written, and nothing was read
+pub record HasBenched (on : Handing) (words : List (List ℕ)) (read written : List ℕ) (o : Outcome)
+    (verdict : Bool) : Type 0 where
+  pub nothing : read ≡ []
+  pub summary : IsBenched on words written verdict
+  pub batches : o.batches ≡ 1
+  pub fault : o.fault ≡ None
+
+-- the log that is made lacks this name
+pub record LacksName (on : Handing) (words : List (List ℕ)) (read written : List ℕ) (o : Outcome)
+    (f : FormulaFault) : Type 0 where
+  pub tree : Tree
+  pub sizes : Sizes
+  pub asks : AsksFor words (task.Bench sizes) tree
+  pub missing : unknown_name (node_of tree) on.names (made_by sizes).header ≡ Some f
+  pub nothing : (read ≡ []) × (written ≡ [])
+  pub batches : o.batches ≡ 0
+  pub fault : o.fault ≡ Some (fault.Formula f)
+
+-- a prefix of the summary was written
+pub record HasSummaryPart (on : Handing) (words : List (List ℕ)) (read written : List ℕ)
     (o : Outcome) : Type 0 where
-  pub ended : IsAtEnd left
-  pub report : List ℕ
+  pub nothing : read ≡ []
+  pub summary : List ℕ
   pub verdict : Bool
-  pub answers : Answers words read report verdict
-  pub part : IsPrefix written report
-  pub batches : o.batches ≡ length answers.log.batches
-  pub fault : o.fault ≡ Some fault.Write
+  pub is : IsBenched on words summary verdict
+  pub part : IsPrefix written summary
+  pub batches : o.batches ≡ 1
+
+-- ---- what each status says
 
 -- the words or their formula have this fault, and nothing was read or written
-abbrev pub IsMisasked : List (List ℕ) → List ℕ → List ℕ → Outcome → QuestionFault → Type 0
-IsMisasked words read written o f =
-    IsQuestionFault words f × HasNothing written o (fault_of_question f) × (read ≡ [])
+pub record IsMisasked (words : List (List ℕ)) (read written : List ℕ) (o : Outcome)
+    (f : QuestionFault) : Type 0 where
+  pub fault_is : IsQuestionFault words f
+  pub nothing : (read ≡ []) × (written ≡ [])
+  pub batches : o.batches ≡ 0
+  pub fault : o.fault ≡ Some (fault_of_question f)
+
+-- the text and the number of batches that are due of the words and of the whole input, where these
+-- bytes are the front of it
+pub record IsWholeDue (on : Handing) (words : List (List ℕ)) (read text : List ℕ) (batches : ℕ)
+    : Type 0 where
+  pub checked : (t : Tree) (shown : Shown) → AsksFor words (task.Check shown) t
+      → (ended : Bool) × (more : List ℕ)
+      × IsDueText (asked_by t shown) on.watches shown.each_batch
+      (due_of on.names t ended (read ++ more)) text
+      × (batches ≡ (due_of on.names t ended (read ++ more)).batches)
+  pub benched : (t : Tree) (sizes : Sizes) → AsksFor words (task.Bench sizes) t
+      → (verdict : Bool) × IsBenched on words text verdict × (batches ≡ 1)
+
+-- memory ran out; what was written is the front of each text that may be due
+pub record IsOutOfMemory (on : Handing) (words : List (List ℕ)) (read written : List ℕ)
+    (o : Outcome) : Type 0 where
+  pub front : (text : List ℕ) (batches : ℕ) → IsWholeDue on words read text batches
+      → IsPrefix written text × (o.batches ≤ batches)
+  pub fault : o.fault ≡ Some fault.Memory
 
 -- What a status says, by what the source has left, the counts of faults before and after, the
--- words, and the bytes read and written. Memory may be wanted at any time before the report is
--- written.
-abbrev pub Answer : Status → Option (List ℕ) → ℕ → ℕ → ℕ → ℕ → List (List ℕ) → List ℕ → List ℕ
-    → Outcome → Type 0
-Answer status.True left lf lf' of of' words read written o =
-    HasVerdict left words read written o true
-Answer status.False left lf lf' of of' words read written o =
-    HasVerdict left words read written o false
-Answer status.Log left lf lf' of of' words read written o =
-    (f : LogFault) × IsRefused left words read written o (fault.Log f)
-Answer status.NotBuilt left lf lf' of of' words read written o =
-    (HasNothing written o (fault.NotBuilt 0) × IsOtherRequest words × (read ≡ []))
-    ⊎ ((line : ℕ) × IsRefused left words read written o (fault.NotBuilt line))
-Answer status.ReadFault left lf lf' of of' words read written o =
-    IsCutShort words read written o × Rose lf lf'
-Answer status.WriteFault left lf lf' of of' words read written o =
-    HasPart left words read written o × Rose of of'
-Answer status.OutOfMemory left lf lf' of of' words read written o =
-    HasNothing written o fault.Memory
-Answer status.Usage left lf lf' of of' words read written o =
+-- watches, the words, and the bytes read and written.
+abbrev pub Answer : Status → Option (List ℕ) → ℕ → ℕ → ℕ → ℕ → Handing → List (List ℕ) → List ℕ
+    → List ℕ → Outcome → Type 0
+Answer status.True left lf lf' of of' on words read written o =
+    HasVerdict left on words read written o true ⊎ HasBenched on words read written o true
+Answer status.False left lf lf' of of' on words read written o =
+    HasVerdict left on words read written o false ⊎ HasBenched on words read written o false
+Answer status.Usage left lf lf' of of' on words read written o =
     IsMisasked words read written o question.Usage
-Answer status.Formula left lf lf' of of' words read written o =
-    (f : FormulaFault) × IsMisasked words read written o (question.Formula f)
+Answer status.Formula left lf lf' of of' on words read written o =
+    (f : FormulaFault) × (IsMisasked words read written o (question.Formula f)
+    ⊎ (IsRefused left on words read written o (refusal.Formula f)
+    ⊎ LacksName on words read written o f))
+Answer status.Log left lf lf' of of' on words read written o =
+    (f : LogFault) × IsRefused left on words read written o (refusal.Log f)
+Answer status.ReadFault left lf lf' of of' on words read written o =
+    IsCutShort on words read written o × Rose lf lf'
+Answer status.WriteFault left lf lf' of of' on words read written o =
+    (HasPart left on words read written o.batches ⊎ HasSummaryPart on words read written o)
+    × (o.fault ≡ Some fault.Write) × Rose of of'
+Answer status.OutOfMemory left lf lf' of of' on words read written o =
+    IsOutOfMemory on words read written o
+Answer status.NotBuilt left lf lf' of of' on words read written o = ⊥
 
 -- a whole run: what was read and written in it, that no count fell, and what its status says
-pub record Ran (left left' held held' : Option (List ℕ)) (lf lf' of of' : ℕ) (words : List (List ℕ))
-    (o : Outcome) : Type 0 where
+pub record Ran (left left' held held' : Option (List ℕ)) (lf lf' of of' : ℕ) (on : Handing)
+    (words : List (List ℕ)) (o : Outcome) : Type 0 where
   pub read : List ℕ
   pub written : List ℕ
   pub consumed : Consumes left left' read
   pub wrote : Appends held held' written
   pub log_later : lf ≤ lf'
   pub out_later : of ≤ of'
-  pub answer : Answer o.status left' lf lf' of of' words read written o
+  pub answer : Answer o.status left' lf lf' of of' on words read written o
 
 -- ---- for a source that tells its bytes, where neither count rose and memory was there
-
--- the verdict is the truth at the initial cut, and the report is written
-pub record Decides (log : Log) (cs : List Condition) (formula : List ℕ)
-    (held held' : Option (List ℕ)) (o : Outcome) : Type 0 where
-  pub verdict : Bool
-  pub status : o.status ≡ (if verdict then status.True else status.False)
-  pub truth : (verdict ≡ true) ↔ IsTrueAtStart log cs
-  pub written : Appends held held' (report_text (report_of log formula verdict))
-  pub batches : o.batches ≡ length log.batches
 
 abbrev pub IsCalm : ℕ → ℕ → ℕ → ℕ → Outcome → Type 0
 IsCalm lf lf' of of' o = (Rose lf lf' → ⊥) × (Rose of of' → ⊥) × (o.status ≡ status.OutOfMemory → ⊥)
 
--- a log that has the names of the formula asked for, and whose clocks name no event of another
--- process, is decided
-abbrev pub IsDecided : Option (List ℕ) → List (List ℕ) → Option (List ℕ) → Option (List ℕ) → Outcome
-    → Type 0
-IsDecided left words held held' o =
-    (bytes : List ℕ) (cs : List Condition) (log : Log) → left ≡ Some bytes → (asks : Asks words cs)
-    → IsLogFor bytes cs log
-    → Decides log cs asks.text held held' o
+-- the text that is due is written, and so many batches are due
+pub record WritesAsDue (on : Handing) (t : Tree) (shown : Shown) (bytes : List ℕ)
+    (held held' : Option (List ℕ)) (o : Outcome) : Type 0 where
+  pub text : List ℕ
+  pub due_is : IsDueText (asked_by t shown) on.watches shown.each_batch
+      (due_of on.names t true bytes) text
+  pub written : Appends held held' text
+  pub batches : o.batches ≡ (due_of on.names t true bytes).batches
 
--- a fault that is due of the bytes is the answer, and nothing is written
-pub record Refuses (batches : ℕ) (f : Fault) (held held' : Option (List ℕ)) (o : Outcome) : Type 0
-  where
-    pub status : o.status ≡ status_of f
-    pub batches_are : o.batches ≡ batches
-    pub fault : o.fault ≡ Some f
-    pub written : Appends held held' []
+-- the status is the truth of the formula
+pub record TellsTruth (watches : Watches) (t : Tree) (log : Prefix) (o : Outcome) : Type 0 where
+  pub verdict : Bool
+  pub status : o.status ≡ (if verdict then status.True else status.False)
+  pub truth : (verdict ≡ true) ↔ IsTrueAtStart watches t log
+  pub fault : o.fault ≡ None
 
-abbrev pub IsRefusedAsDue : Option (List ℕ) → List (List ℕ) → Option (List ℕ) → Option (List ℕ)
-    → Outcome → Type 0
-IsRefusedAsDue left words held held' o =
-    (bytes : List ℕ) (cs : List Condition) (batches : ℕ) (f : Fault) → left ≡ Some bytes
-    → Asks words cs
-    → due true cs bytes ≡ record { batches = batches; fault = Some f }
-    → Refuses batches f held held' o
+-- the status and the line are those of this fault
+pub record TellsFault (f : Fault) (o : Outcome) : Type 0 where
+  pub status : o.status ≡ status_of f
+  pub fault : o.fault ≡ Some f
+
+-- a log of which no fault is due is decided
+abbrev pub IsDecided : Option (List ℕ) → Handing → List (List ℕ) → Option (List ℕ)
+    → Option (List ℕ) → Outcome → Type 0
+IsDecided left on words held held' o =
+    (bytes : List ℕ) (t : Tree) (shown : Shown) → left ≡ Some bytes
+    → AsksFor words (task.Check shown) t → (due_of on.names t true bytes).fault ≡ None
+    → (log : Prefix) → (due_of on.names t true bytes).whole ≡ Some log
+    → WritesAsDue on t shown bytes held held' o × TellsTruth on.watches t log o
+
+-- a fault that is due of the bytes is the answer
+abbrev pub IsRefusedAsDue : Option (List ℕ) → Handing → List (List ℕ) → Option (List ℕ)
+    → Option (List ℕ) → Outcome → Type 0
+IsRefusedAsDue left on words held held' o =
+    (bytes : List ℕ) (t : Tree) (shown : Shown) (r : Refusal) → left ≡ Some bytes
+    → AsksFor words (task.Check shown) t → (due_of on.names t true bytes).fault ≡ Some r
+    → WritesAsDue on t shown bytes held held' o × TellsFault (fault_of_refusal r) o
 
 -- a fault of the words or their formula is the answer, and nothing is written
 abbrev pub IsRefusedAsAsked : List (List ℕ) → Option (List ℕ) → Option (List ℕ) → Outcome → Type 0
 IsRefusedAsAsked words held held' o =
-    (f : QuestionFault) → IsQuestionFault words f → Refuses 0 (fault_of_question f) held held' o
+    (f : QuestionFault) → IsQuestionFault words f
+    → Appends held held' [] × (o.batches ≡ 0) × TellsFault (fault_of_question f) o
 
--- what else is asked is not answered, and nothing is written
-abbrev pub IsLeftOpen : List (List ℕ) → Option (List ℕ) → Option (List ℕ) → Outcome → Type 0
-IsLeftOpen words held held' o = IsOtherRequest words → Refuses 0 (fault.NotBuilt 0) held held' o
+-- the log that is made has the names: its summary is written
+pub record Benches (on : Handing) (words : List (List ℕ)) (held held' : Option (List ℕ))
+    (o : Outcome) : Type 0 where
+  pub summary : List ℕ
+  pub verdict : Bool
+  pub is : IsBenched on words summary verdict
+  pub written : Appends held held' summary
+  pub batches : o.batches ≡ 1
+  pub status : o.status ≡ (if verdict then status.True else status.False)
+  pub fault : o.fault ≡ None
+
+-- a bench is answered, or the name that the log lacks is
+pub record IsBenchAnswered (on : Handing) (words : List (List ℕ)) (held held' : Option (List ℕ))
+    (o : Outcome) : Type 0 where
+  pub named : (t : Tree) (sizes : Sizes) → AsksFor words (task.Bench sizes) t
+      → unknown_name (node_of t) on.names (made_by sizes).header ≡ None
+      → Benches on words held held' o
+  pub missing : (t : Tree) (sizes : Sizes) (f : FormulaFault) → AsksFor words (task.Bench sizes) t
+      → unknown_name (node_of t) on.names (made_by sizes).header ≡ Some f
+      → Appends held held' [] × (o.batches ≡ 0) × TellsFault (fault.Formula f) o

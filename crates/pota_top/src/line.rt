@@ -1,6 +1,5 @@
 //! The one line that tells of a run without a verdict. It takes no memory.
 ghost use Rattle.std.specs.Prelude.{◌≡◌, ◌+◌, ◌≤◌, ◌++◌, [], List, length, take};
-ghost use Rattle.pota_top.specs.declared.outcome.Fault.TheVariants.{NotBuilt};
 ghost use Rattle.pota_top.specs.Outcome.{usage_text, formula_text, log_text, line_of, cause_of, Told};
 
 use crate::outcome::{Fault, Outcome};
@@ -100,19 +99,7 @@ fn put_cause(line: &mut Line, fault: &Fault)
         Fault::Read => line.push(b"read fault"),
         Fault::Write => line.push(b"write fault"),
         Fault::Memory => line.push(b"out of memory"),
-        Fault::NotBuilt { line: number } => put_not_built(line, *number),
     }
-}
-
-fn put_not_built(line: &mut Line, number: u32)
-    requires { length line.old ≤ 16 }
-    ensures text { line.new ≡ line.old ++ cause_of (NotBuilt number) }
-    ensures room { length line.new ≤ 200 }
-{
-    let mut digits = itoa::Buffer::new();
-    line.push(b"line ");
-    line.push(digits.format(number).as_bytes());
-    line.push(b": not built");
 }
 
 /// Tells `diag` of a run without a verdict, and nothing of another one. Whether that succeeds

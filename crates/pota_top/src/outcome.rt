@@ -1,8 +1,10 @@
 //! How a run ended.
-ghost use Rattle.std.specs.Prelude.{◌≡◌, Some};
-ghost use Rattle.pota_top.specs.Outcome.{status_of, fault_of_question};
+ghost use Rattle.std.specs.Prelude.{◌≡◌};
+ghost use Rattle.pota_top.specs.declared.outcome.Fault.TheVariants.{Memory};
+ghost use Rattle.pota_top.specs.Outcome.{status_of, fault_of_question, fault_of_refusal, outcome_of};
 
 use event_log::LogFault;
+use log_judgement::Refusal;
 use pota_base::Status;
 use rctl_parse::FormulaFault;
 use run_request::QuestionFault;
@@ -22,9 +24,6 @@ pub enum Fault {
     Write,
     /// There was no memory.
     Memory,
-    /// The program doesn't answer this yet. Line 0 speaks of the words and the formula, another one
-    /// of that line of the log.
-    NotBuilt { line: u32 },
 }
 
 impl Fault {
@@ -35,6 +34,16 @@ impl Fault {
         match fault {
             QuestionFault::Usage => Fault::Usage,
             QuestionFault::Formula(fault) => Fault::Formula(fault),
+        }
+    }
+
+    /// Why a log is refused.
+    pub fn of_refusal(refusal: Refusal) -> Fault
+        ensures { result ≡ fault_of_refusal refusal }
+    {
+        match refusal {
+            Refusal::Formula(fault) => Fault::Formula(fault),
+            Refusal::Log(fault) => Fault::Log(fault),
         }
     }
 
@@ -49,7 +58,6 @@ impl Fault {
             Fault::Read => Status::ReadFault,
             Fault::Write => Status::WriteFault,
             Fault::Memory => Status::OutOfMemory,
-            Fault::NotBuilt { .. } => Status::NotBuilt,
         }
     }
 }
@@ -64,16 +72,54 @@ pub struct Outcome {
     pub fault: Option<Fault>,
 }
 
-impl Outcome {
-    /// A run without a verdict.
-    pub fn without_verdict(batches: u32, fault: Fault) -> Outcome
-        ensures { result
-            ≡ record { status = status_of fault; batches = batches; fault = Some fault } }
+/// Why a log has no verdict, and how many of its batches were closed without a fault before.
+#[derive(Clone, Copy, Debug, PartialEq, Eq)]
+pub struct Stop {
+    pub batches: u32,
+    pub fault: Fault,
+}
+
+impl Stop {
+    /// There was no memory.
+    pub fn without_memory() -> Stop
+        ensures { result ≡ record { batches = 0; fault = Memory } }
     {
-        Outcome {
-            status: fault.status(),
-            batches,
-            fault: Some(fault),
+        Stop {
+            batches: 0,
+            fault: Fault::Memory,
+        }
+    }
+}
+
+/// The verdict on a whole log.
+#[derive(Clone, Copy, Debug, PartialEq, Eq)]
+pub struct Verdict {
+    /// How many batches the log has.
+    pub batches: u32,
+    /// Whether the formula is true at the initial cut.
+    pub truth: bool,
+}
+
+impl Outcome {
+    /// How a run ended that led to this.
+    pub fn of(ended: Result<Verdict, Stop>) -> Outcome
+        ensures { result ≡ outcome_of ended }
+    {
+        match ended {
+            Ok(verdict) => Outcome {
+                status: if verdict.truth {
+                    Status::True
+                } else {
+                    Status::False
+                },
+                batches: verdict.batches,
+                fault: None,
+            },
+            Err(stop) => Outcome {
+                status: stop.fault.status(),
+                batches: stop.batches,
+                fault: Some(stop.fault),
+            },
         }
     }
 }

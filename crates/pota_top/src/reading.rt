@@ -1,117 +1,143 @@
-//! Reading a log to its end, and judging it as it comes.
-ghost use Rattle.std.specs.Prelude.{◌≡◌, ◌<◌, ◌++◌, ℕ, List, length};
-ghost use Rattle.pota_top.specs.Request.{Condition};
-ghost use Rattle.pota_top.specs.RequestReading.{conditions_of};
-ghost use Rattle.pota_top.specs.Session.{HasJudged, TakesPiece, Finishes, Turns, HasReadLog};
+//! Reading a log to its end, and checking it as it comes.
+ghost use Rattle.std.specs.Prelude.{◌≡◌, ◌<◌, ◌++◌, [], ℕ, List, length};
+ghost use Rattle.log_judgement.specs.Judgement.{waiting};
+ghost use Rattle.log_check.specs.Aims.{Aim};
+ghost use Rattle.log_check.specs.Checking.{IsCheckOf};
+ghost use Rattle.pota_top.specs.Reading.{Finishes, HasJudged, HasReadLog, TakesPiece, Turns};
 
-use crate::outcome::Fault;
-use crate::request::Comparison;
-use crate::session::{Session, Stop};
+use crate::checking::{Checking, Means};
+use crate::outcome::{Fault, Stop};
 use event_log::{Fed, Reader};
-use pota_base::{Refused, Source};
-use std::alloc::Global;
-use trace_growth::Trace;
+use pota_base::{Gate, Sink, Source};
+use std::sync::ledger::Ledger;
+use std::thread::Threads;
+use watch::{Handed, Watch};
 
 /// The most bytes that one read takes.
 const PIECE: usize = 65_536;
 
 /// What one read led to.
-#[derive(Debug, Drop)]
+#[derive(Clone, Copy, Debug)]
 pub enum Turn {
-    More(Session),
-    End(Trace),
+    More,
+    End,
 }
 
 // These bytes more were read.
-fn take_piece(
-    alloc: Global,
-    comparisons: &[Comparison],
+fn take_piece<R: Threads + Sync, G: Gate, L: Ledger, O: Sink>(
+    means: &Means<'_, R, G>,
     reader: &mut Reader,
-    session: Session,
+    checking: &mut Checking<L>,
     piece: &[u8],
-) -> Result<Turn, Refused<Stop>>
-    requires { (bytes : List ℕ) × HasJudged (conditions_of comparisons.now) reader.old session bytes }
-    ensures { (bytes : List ℕ) → HasJudged (conditions_of comparisons.now) reader.old session bytes
-        → TakesPiece (conditions_of comparisons.now) (bytes ++ piece.now) reader.new result }
+    out: &mut O,
+) -> Result<Turn, Stop>
+    requires { (aim : Aim) × (bytes : List ℕ) × (text : List ℕ)
+        × HasJudged
+        (λ h. answers (h.watch.vtable, h.watch.value)) aim checking.old.each_batch reader.old
+        checking.old.check bytes text }
+    ensures piece { (aim : Aim) (bytes text : List ℕ)
+        → HasJudged
+        (λ h. answers (h.watch.vtable, h.watch.value)) aim checking.old.each_batch reader.old
+        checking.old.check bytes text
+        → TakesPiece (O.held out.old) (O.held out.new) (O.faults out.old) (O.faults out.new)
+        (λ h. answers (h.watch.vtable, h.watch.value))
+        aim checking.old.each_batch reader.new checking.new.check
+        (bytes ++ piece.now) text result }
+    ensures each { checking.new.each_batch ≡ checking.old.each_batch }
 {
-    let Fed { items, fault } = reader.feed(piece)?;
-    let session = match session.take_all(alloc, comparisons, items) {
-        Ok(session) => session,
-        Err(refused) => return Err(refused),
+    let Ok(fed) = reader.feed(piece) else {
+        return Err(Stop::without_memory());
     };
+    let Fed { items, fault } = fed;
+    if let Err(stop) = checking.take_all(means, items, out) {
+        return Err(stop);
+    }
     match fault {
-        Some(fault) => Err(Refused::Fault(session.stop(Fault::Log(fault)))),
-        None => Ok(Turn::More(session)),
+        Some(fault) => Err(checking.stop(Fault::Log(fault))),
+        None => Ok(Turn::More),
     }
 }
 
 // The input has ended.
-fn finish(reader: &mut Reader, session: Session) -> Result<Turn, Refused<Stop>>
-    requires { (cs : List Condition) × (bytes : List ℕ) × HasJudged cs reader.old session bytes }
-    ensures { (cs : List Condition) (bytes : List ℕ) → HasJudged cs reader.old session bytes
-        → Finishes cs bytes result }
+fn finish<L: Ledger>(reader: &mut Reader, checking: &Checking<L>) -> Result<Turn, Stop>
+    requires { (aim : Aim) × (bytes : List ℕ) × (text : List ℕ)
+        × HasJudged
+        (λ h. answers (h.watch.vtable, h.watch.value)) aim checking.now.each_batch reader.old
+        checking.now.check bytes text }
+    ensures { (aim : Aim) (bytes text : List ℕ)
+        → HasJudged
+        (λ h. answers (h.watch.vtable, h.watch.value)) aim checking.now.each_batch reader.old
+        checking.now.check bytes text → (of : ℕ)
+        → Finishes of
+        (λ h. answers (h.watch.vtable, h.watch.value))
+        aim checking.now.each_batch checking.now.check
+        bytes text result }
 {
-    if let Some(fault) = reader.finish() {
-        return Err(Refused::Fault(session.stop(Fault::Log(fault))));
-    }
-    // A text without a fault has a header.
-    let Session::Open(growing) = session else {
-        unreachable!()
-    };
-    match growing.into_trace() {
-        Ok(trace) => Ok(Turn::End(trace)),
-        Err(refused) => Err(refused),
+    match reader.finish() {
+        Some(fault) => Err(checking.stop(Fault::Log(fault))),
+        None => Ok(Turn::End),
     }
 }
 
-// Reads once, and judges what was read.
-fn take_turn<S: Source>(
-    alloc: Global,
-    comparisons: &[Comparison],
-    log: &mut S,
-    room: &mut [u8],
+// Reads once, and checks what was read.
+fn take_turn<R: Threads + Sync, G: Gate, L: Ledger, S: Source, O: Sink>(
+    means: &Means<'_, R, G>,
     reader: &mut Reader,
-    session: Session,
-) -> Result<Turn, Refused<Stop>>
+    checking: &mut Checking<L>,
+    room: &mut [u8],
+    log: &mut S,
+    out: &mut O,
+) -> Result<Turn, Stop>
     requires room { 0 < length room.old }
-    requires judged { (bytes : List ℕ)
-        × HasJudged (conditions_of comparisons.now) reader.old session bytes }
-    ensures { (bytes : List ℕ) → HasJudged (conditions_of comparisons.now) reader.old session bytes
-        → Turns (S.left log.old) (S.left log.new) (S.faults log.old) (S.faults log.new)
-        (conditions_of comparisons.now) bytes reader.new result }
+    requires judged { (aim : Aim) × (bytes : List ℕ) × (text : List ℕ)
+        × HasJudged
+        (λ h. answers (h.watch.vtable, h.watch.value)) aim checking.old.each_batch reader.old
+        checking.old.check bytes text }
+    ensures turn { (aim : Aim) (bytes text : List ℕ)
+        → HasJudged
+        (λ h. answers (h.watch.vtable, h.watch.value)) aim checking.old.each_batch reader.old
+        checking.old.check bytes text
+        → Turns (S.left log.old) (S.left log.new) (O.held out.old) (O.held out.new)
+        (S.faults log.old) (S.faults log.new) (O.faults out.old) (O.faults out.new)
+        (λ h. answers (h.watch.vtable, h.watch.value))
+        aim checking.old.each_batch reader.new checking.new.check bytes
+        text result }
+    ensures each { checking.new.each_batch ≡ checking.old.each_batch }
 {
     match log.read(room) {
-        Ok(0) => finish(reader, session),
-        Ok(count) => take_piece(alloc, comparisons, reader, session, &room[..count]),
-        Err(_) => Err(Refused::Fault(session.stop(Fault::Read))),
+        Ok(0) => finish(reader, checking),
+        Ok(count) => take_piece(means, reader, checking, &room[..count], out),
+        Err(_) => Err(checking.stop(Fault::Read)),
     }
 }
 
-/// Reads the log to its end: the trace of all its batches, if it is one for these comparisons.
-///
-/// # Errors
-///
-/// The first fault, with the number of batches closed before it, and `Read` where a read failed and
-/// no fault came before.
-pub fn read_log<S: Source>(
-    alloc: Global,
-    comparisons: &[Comparison],
+/// Reads the log to its end, and writes all reports but that on the whole of it.
+pub fn read_log<R: Threads + Sync, G: Gate, L: Ledger, S: Source, O: Sink>(
+    means: &Means<'_, R, G>,
+    checking: &mut Checking<L>,
     log: &mut S,
-) -> Result<Trace, Refused<Stop>>
-    ensures { HasReadLog (S.left log.old) (S.left log.new) (S.faults log.old) (S.faults log.new)
-        (conditions_of comparisons.now) result }
+    out: &mut O,
+) -> Result<(), Stop>
+    requires { (aim : Aim)
+        × IsCheckOf (λ h. answers (h.watch.vtable, h.watch.value)) aim checking.old.check waiting }
+    ensures log { (aim : Aim)
+        → IsCheckOf (λ h. answers (h.watch.vtable, h.watch.value)) aim checking.old.check waiting
+        → HasReadLog (S.left log.old) (S.left log.new) (O.held out.old) (O.held out.new)
+        (S.faults log.old) (S.faults log.new) (O.faults out.old) (O.faults out.new)
+        (λ h. answers (h.watch.vtable, h.watch.value))
+        aim checking.old.each_batch checking.new.check result }
+    ensures each { checking.new.each_batch ≡ checking.old.each_batch }
 {
-    let Ok(mut buffer) = vec![in alloc; 0u8; PIECE] else {
-        return Err(Refused::NoMemory);
+    let Ok(mut buffer) = vec![in means.alloc; 0u8; PIECE] else {
+        return Err(Stop::without_memory());
     };
     let room = buffer.as_mut_slice();
-    let mut reader = Reader::new(alloc);
-    let mut session = Session::Waiting;
+    let mut reader = Reader::new(means.alloc);
     'turns: loop {
-        match take_turn(alloc, comparisons, log, room, &mut reader, session) {
-            Ok(Turn::More(next)) => session = next,
-            Ok(Turn::End(trace)) => return Ok(trace),
-            Err(refused) => return Err(refused),
+        match take_turn(means, &mut reader, checking, room, log, out) {
+            Ok(Turn::More) => {}
+            Ok(Turn::End) => return Ok(()),
+            Err(stop) => return Err(stop),
         }
     }
 }

@@ -1,46 +1,53 @@
 use Rattle.std.proofs.Common.{◌≡◌, Some, None}
-use Rattle.pota_top.specs.RequestReading.{conditions_of}
-use Rattle.pota_top.proofs.ReadingSteps.{piece_follows, piece_stops, piece_faults, piece_passes}
-use Rattle.pota_top.specs.Due.{judgement_of}
+use Rattle.pota_top.specs.Reading.{judgement_in}
+use Rattle.pota_top.proofs.ReadingSteps.{piece_short, piece_follows, piece_stops, piece_faults, piece_passes}
 use Rattle.pota_top.proofs.reading.take_piece.Goals as goal
 
-pub take_all-requires : goal.take_all-requires
-take_all-requires c =
-    let bytes = c.requires.0 in
-    let known = c.requires.1 in
-    (judgement_of (conditions_of c.args.comparisons.now) bytes, known.session, piece_follows (conditions_of c.args.comparisons.now) c.args.reader.now c.feed.new.self c.args.session bytes c.args.piece.now c.in_ok-items.field-0 known c.in_ok-items.ensures.read)
+pub returns-in_default-clause-piece : goal.returns-in_default-clause-piece
+returns-in_default-clause-piece g c aim bytes text known =
+    piece_short (λ h. (goal.Watch-dyn g (h.watch.vtable, h.watch.value)).answers h.watch.value) aim c.args.checking.now.each_batch (g.O.Sink.held c.args.out.now) (g.O.Sink.faults c.args.out.now)
+    c.args.reader.now c.feed.new.self c.args.checking.now.check c.args.checking.now.check bytes c.args.piece.now text
+    c.without_memory.result known c.without_memory.ensures
 
-pub returns-in-Err : goal.returns-in-Err
-returns-in-Err c bytes known =
-    let cs = conditions_of c.args.comparisons.now in
-    let follows = piece_follows cs c.args.reader.now c.feed.new.self c.args.session bytes c.args.piece.now c.in_ok-items.field-0 known c.in_ok-items.ensures.read in
-    piece_stops cs c.args.reader.now c.feed.new.self c.args.session bytes c.args.piece.now c.in_ok-items.field-0 known c.in_ok-items.ensures.read c.in-Err.refused
-    (c.in-Err.ensures (judgement_of cs bytes) known.session follows)
+pub take_all-requires-after_bounds : goal.take_all-requires-after_bounds
+take_all-requires-after_bounds g c κs lives =
+    let aim = c.requires.0 in
+    let bytes = c.requires.1 in
+    let text = c.requires.2 in
+    let known = c.requires.3 in (
+      aim,
+      judgement_in aim bytes,
+      text,
+      known.stands,
+      piece_follows (λ h. (goal.Watch-dyn g (h.watch.vtable, h.watch.value)).answers h.watch.value) aim c.args.checking.now.each_batch c.args.reader.now c.feed.new.self c.args.checking.now.check bytes
+          c.args.piece.now text c.in-Ok.fed known c.in-Ok.ensures.read,
+    )
 
-pub returns-in-Some : goal.returns-in-Some
-returns-in-Some c bytes known =
-    let cs = conditions_of c.args.comparisons.now in
-    let follows = piece_follows cs c.args.reader.now c.feed.new.self c.args.session bytes c.args.piece.now c.in_ok-items.field-0 known c.in_ok-items.ensures.read in
-    let is = c.in_ok-items.fault-is in
-    let some = c.in-Some.is in
-    let found : c.in_ok-items.field-0.fault ≡ Some c.in-Some.fault = cc in
-    piece_faults cs c.args.reader.now c.feed.new.self c.args.session bytes c.args.piece.now c.in_ok-items.field-0 known c.in_ok-items.ensures.read c.in-Some.fault c.in-Ok.session c.stop.result
-    (c.in-Ok.ensures (judgement_of cs bytes) known.session follows) found c.stop.ensures
+pub returns-in-Err-clause-piece : goal.returns-in-Err-clause-piece
+returns-in-Err-clause-piece g c aim bytes text known =
+    let each = c.args.checking.now.each_batch in
+    let follows = piece_follows (λ h. (goal.Watch-dyn g (h.watch.vtable, h.watch.value)).answers h.watch.value) aim each c.args.reader.now c.feed.new.self c.args.checking.now.check bytes c.args.piece.now text c.in-Ok.fed known c.in-Ok.ensures.read in
+    piece_stops (λ h. (goal.Watch-dyn g (h.watch.vtable, h.watch.value)).answers h.watch.value) aim each c.args.reader.now c.feed.new.self c.args.checking.now.check bytes c.args.piece.now text
+    c.in-Ok.fed known c.in-Ok.ensures.read (g.O.Sink.held c.args.out.now) (g.O.Sink.held c.take_all.new.out)
+    (g.O.Sink.faults c.args.out.now) (g.O.Sink.faults c.take_all.new.out) c.take_all.new.self.check c.in-Err.stop
+    (c.in-Err.ensures.items aim (judgement_in aim bytes) text known.stands follows)
 
-pub returns-in-None : goal.returns-in-None
-returns-in-None c bytes known =
-    let cs = conditions_of c.args.comparisons.now in
-    let follows = piece_follows cs c.args.reader.now c.feed.new.self c.args.session bytes c.args.piece.now c.in_ok-items.field-0 known c.in_ok-items.ensures.read in
-    let is = c.in_ok-items.fault-is in
-    let none = c.in-None.is in
-    let found : c.in_ok-items.field-0.fault ≡ None = cc in
-    piece_passes cs c.args.reader.now c.feed.new.self c.args.session bytes c.args.piece.now c.in_ok-items.field-0 known c.in_ok-items.ensures.read c.in-Ok.session
-    (c.in-Ok.ensures (judgement_of cs bytes) known.session follows) found
+pub returns-in-Some-clause-piece : goal.returns-in-Some-clause-piece
+returns-in-Some-clause-piece g c aim bytes text known =
+    let each = c.args.checking.now.each_batch in
+    let follows = piece_follows (λ h. (goal.Watch-dyn g (h.watch.vtable, h.watch.value)).answers h.watch.value) aim each c.args.reader.now c.feed.new.self c.args.checking.now.check bytes c.args.piece.now text c.in-Ok.fed known c.in-Ok.ensures.read in
+    piece_faults (λ h. (goal.Watch-dyn g (h.watch.vtable, h.watch.value)).answers h.watch.value) aim each c.args.reader.now c.feed.new.self c.args.checking.now.check bytes c.args.piece.now text
+    c.in-Ok.fed known c.in-Ok.ensures.read (g.O.Sink.held c.args.out.now) (g.O.Sink.held c.take_all.new.out)
+    (g.O.Sink.faults c.args.out.now) (g.O.Sink.faults c.take_all.new.out) c.take_all.new.self.check
+    c.in_default-take_all.field-0 c.in-Some.fault c.stop.result
+    (c.in_default-take_all.ensures.items aim (judgement_in aim bytes) text known.stands follows) c.in-Some.is c.stop.ensures
 
-pub stop-requires : goal.stop-requires
-stop-requires c =
-    let cs = conditions_of c.args.comparisons.now in
-    let bytes = c.requires.0 in
-    let known = c.requires.1 in
-    let follows = piece_follows cs c.args.reader.now c.feed.new.self c.args.session bytes c.args.piece.now c.in_ok-items.field-0 known c.in_ok-items.ensures.read in
-    (_, c.in-Ok.ensures (judgement_of cs bytes) known.session follows)
+pub returns-in-None-clause-piece : goal.returns-in-None-clause-piece
+returns-in-None-clause-piece g c aim bytes text known =
+    let each = c.args.checking.now.each_batch in
+    let follows = piece_follows (λ h. (goal.Watch-dyn g (h.watch.vtable, h.watch.value)).answers h.watch.value) aim each c.args.reader.now c.feed.new.self c.args.checking.now.check bytes c.args.piece.now text c.in-Ok.fed known c.in-Ok.ensures.read in
+    piece_passes (λ h. (goal.Watch-dyn g (h.watch.vtable, h.watch.value)).answers h.watch.value) aim each c.args.reader.now c.feed.new.self c.args.checking.now.check bytes c.args.piece.now text
+    c.in-Ok.fed known c.in-Ok.ensures.read (g.O.Sink.held c.args.out.now) (g.O.Sink.held c.take_all.new.out)
+    (g.O.Sink.faults c.args.out.now) (g.O.Sink.faults c.take_all.new.out) c.take_all.new.self.check
+    c.in_default-take_all.field-0
+    (c.in_default-take_all.ensures.items aim (judgement_in aim bytes) text known.stands follows) c.in-None.is

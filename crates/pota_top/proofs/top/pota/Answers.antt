@@ -1,14 +1,20 @@
-use Rattle.pota_top.proofs.Running.{decided, refused_clause, misasked, left_open}
+use Rattle.pota_top.proofs.Clauses.{clause_read, clause_write, clause_decided, clause_refused, clause_misasked, clause_benched}
 use Rattle.pota_top.proofs.top.pota.Goals as goal
 
+pub returns-clause-read : goal.returns-clause-read
+returns-clause-read g c is = clause_read _ _ _ _ _ _ _ _ _ _ _ c.run-outcome.ensures is
+
+pub returns-clause-write : goal.returns-clause-write
+returns-clause-write g c is = clause_write _ _ _ _ _ _ _ _ _ _ _ c.run-outcome.ensures is
+
 pub returns-clause-decided : goal.returns-clause-decided
-returns-clause-decided g c calm bytes cs log told asks logged = decided _ _ _ _ _ _ _ _ _ _ c.answer_words-outcome.ensures calm bytes told cs log asks logged
+returns-clause-decided g c is = clause_decided _ _ _ _ _ _ _ _ _ _ _ c.run-outcome.ensures is
 
 pub returns-clause-refused : goal.returns-clause-refused
-returns-clause-refused g c calm bytes cs n f told asks h = refused_clause _ _ _ _ _ _ _ _ _ _ c.answer_words-outcome.ensures calm bytes told cs n f asks h
-
-pub returns-clause-left_open : goal.returns-clause-left_open
-returns-clause-left_open g c calm other = left_open _ _ _ _ _ _ _ _ _ _ c.answer_words-outcome.ensures calm other
+returns-clause-refused g c is = clause_refused _ _ _ _ _ _ _ _ _ _ _ c.run-outcome.ensures is
 
 pub returns-clause-misasked : goal.returns-clause-misasked
-returns-clause-misasked g c calm f h = misasked _ _ _ _ _ _ _ _ _ _ c.answer_words-outcome.ensures calm f h
+returns-clause-misasked g c is = clause_misasked _ _ _ _ _ _ _ _ _ _ _ c.run-outcome.ensures is
+
+pub returns-clause-benched : goal.returns-clause-benched
+returns-clause-benched g c is = clause_benched _ _ _ _ _ _ _ _ _ _ _ c.run-outcome.ensures is

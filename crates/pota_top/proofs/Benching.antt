@@ -1,0 +1,263 @@
+-- A bench: the items of the log that is made, and what they lead to.
+use Rattle.std.proofs.Common.{◌≡◌, ℕ, ◌≤◌, Bool, true, false, Option, Some, None, Result, Ok, Err, List, [], ◌∷◌, ◌++◌, length, refl, sym, ap, subst, ◌∙◌, arith, append_assoc, append-nil}
+use Rattle.std.specs.Io.KnownBytes.{Appends}
+use Rattle.std.proofs.KnownBytes.{Appends-nil, Appends-trans}
+use Rattle.std.proofs.lemmas.Option.{none-some, same_Some}
+use Rattle.pota_base.specs.Outside.{Rose}
+use Rattle.rctl_grammar.specs.declared.fault.FormulaFault.{FormulaFault}
+use Rattle.command_words.specs.declared.request.Sizes.{Sizes}
+use Rattle.event_log.specs.declared.item.Item.{Item}
+use Rattle.event_log.specs.declared.item.Item.TheVariants as item
+use Rattle.event_log.specs.declared.log.Event.{Event}
+use Rattle.event_log.specs.declared.item.LogFault.{LogFault}
+use Rattle.event_log.specs.declared.log.Header.{Header}
+use Rattle.event_log.specs.declared.log.Log.{Log}
+use Rattle.event_log.specs.Faults.{items_in, end_fault}
+use Rattle.event_log.specs.FittingItems.{FitFirst}
+use Rattle.event_log.specs.Laws.{IsLog}
+use Rattle.event_log.specs.LogText.{onto, log_text, event_items, batch_items, log_items}
+use Rattle.event_log.proofs.FittingItems.{items_fit}
+use Rattle.log_judgement.specs.declared.refusal.Refusal.{Refusal}
+use Rattle.log_judgement.specs.declared.refusal.Refusal.TheVariants as refusal
+use Rattle.log_judgement.specs.Judgement.{Prefix, Judgement, waiting, growing, finished, refused, with_names, opened, judged}
+use Rattle.log_judgement.specs.Due.{whole_of, batches_of, at_end, log_reading, due}
+use Rattle.log_judgement.specs.WholeLogs.{IsLogFor, all_of}
+use Rattle.log_judgement.proofs.Items.{refused-stays}
+use Rattle.log_judgement.proofs.Logs.{log_due, reads_back}
+use Rattle.log_check.specs.Aims.{Says, Aim, rules_of, unknown_name}
+use Rattle.log_check.specs.Checking.{IsCheckOf, IsFree, HasClosed, MayFollow}
+use Rattle.log_check.specs.declared.check.LogCheck.{LogCheck}
+use Rattle.trace_gen.proofs.Clear.{no_log_fault}
+use Rattle.trace_gen.proofs.Fits.{log_fits}
+use Rattle.trace_gen.proofs.Size.{log_small}
+use Rattle.pota_top.specs.declared.outcome.Fault.{Fault}
+use Rattle.pota_top.specs.declared.outcome.Fault.TheVariants as fault
+use Rattle.pota_top.specs.declared.outcome.Stop.{Stop}
+use Rattle.pota_top.specs.declared.outcome.Verdict.{Verdict}
+use Rattle.pota_top.specs.Run.{made_by, sizes_of}
+use Rattle.pota_top.specs.Checking.{closed_in, AreTexts, HasPartOf, HasFrontOf, Stands, IsRefusedAt, StopsIn, TakesItems, SummaryStops, SumsUpTo, SumsUp}
+use Rattle.pota_top.specs.Benching.{IsSummary, missing_name, IsBenchOf, IsBenchPart, BenchStops, BenchesTo, HasMade, CanBeMade}
+use Rattle.pota_top.proofs.Endings.{whole_closed}
+
+-- ---- the items of a log of one batch
+
+pub one_batch : (log : Log) (b : List Event) → log.batches ≡ b ∷ []
+    → log_items log ≡ item.Header log.header ∷ (event_items b ++ item.End ∷ [])
+one_batch log b is = ap (λ (bs : List (List Event)). item.Header log.header ∷ batch_items bs) is
+
+-- some of the events were put behind these items
+pub record PutSoFar (before items : List Item) (events rest : List Event) : Type 0 where
+  pub done : List Event
+  pub split : events ≡ done ++ rest
+  pub put_so : items ≡ before ++ event_items done
+
+event_items-push : (es : List Event) (e : Event) → event_items (es ++ e ∷ []) ≡ event_items es ++ item.Event e ∷ []
+event_items-push [] e = refl
+event_items-push (x ∷ es) e = ap (λ (is : List Item). item.Event x ∷ is) (event_items-push es e)
+
+pub put_none : (before : List Item) (events : List Event) → PutSoFar before before events events
+put_none before events = record { done = []; split = refl; put_so = sym (append-nil before) }
+
+pub put_one : (before items now : List Item) (events : List Event) (e : Event) (rest : List Event) → PutSoFar before items events (e ∷ rest)
+    → now ≡ items ++ item.Event e ∷ [] → PutSoFar before now events rest
+put_one before items now events e rest p is = record {
+  done = p.done ++ e ∷ [];
+  split = p.split ∙ sym (append_assoc p.done (e ∷ []) rest);
+  put_so = is ∙ ap (λ (xs : List Item). xs ++ item.Event e ∷ []) p.put_so ∙ append_assoc before (event_items p.done) (item.Event e ∷ [])
+      ∙ ap (λ (xs : List Item). before ++ xs) (sym (event_items-push p.done e));
+}
+
+pub put_all : (before items : List Item) (events : List Event) → PutSoFar before items events [] → items ≡ before ++ event_items events
+put_all before items events p =
+    p.put_so ∙ ap (λ (es : List Event). before ++ event_items es) (sym (append-nil p.done) ∙ sym p.split)
+
+-- a check of which no item was taken
+nothing_closed : (aim : Aim) (each : Bool) → AreTexts aim (closed_in each waiting) []
+nothing_closed aim false = refl
+nothing_closed aim true = refl
+
+pub begun : {X : Type 0} {P : X → Type 0} (says : Says X P) (aim : Aim) (each : Bool) (check : LogCheck X P)
+    → IsCheckOf says aim check waiting → Stands says aim each check waiting []
+begun says aim each check is = record { check_is = is; texts = nothing_closed aim each }
+
+-- ---- what the items lead to
+
+refused_not : (log other : Option Prefix) (why : Refusal) (j : Judgement) (p : Prefix) → j ≡ refused log why → whole_of j ≡ Some p → ⊥
+refused_not log other why j p is some = none-some p (sym (ap whole_of is) ∙ some)
+
+module _ {X : Type 0} {P : X → Type 0} (says : Says X P) (aim : Aim) (sizes : Sizes) (can : CanBeMade sizes) where
+  abbrev log : Log
+  log = made_by sizes
+
+  abbrev names : Header → Option FormulaFault
+  names = unknown_name aim.node aim.names
+
+  pub made_log : IsLog (made_by sizes)
+  made_log = record {
+    fits = log_fits sizes.procs can.some can.few sizes.seed sizes.events can.limit;
+    small = log_small sizes.procs can.some can.few sizes.seed sizes.events can.limit;
+  }
+
+  pub made_follows : MayFollow waiting (log_items (made_by sizes))
+  made_follows = subst FitFirst (reads_back (made_by sizes) made_log).1 (items_fit (onto (log_text (made_by sizes)) []))
+
+  abbrev pub made_judgement : Judgement
+  made_judgement = judged (rules_of aim) waiting (log_items (made_by sizes))
+
+  -- where the log has the names it is whole
+  record IsMade : Type 0 where
+    whole : whole_of (judged (rules_of aim) waiting (log_items (made_by sizes))) ≡ Some (all_of (made_by sizes))
+    count : batches_of (judged (rules_of aim) waiting (log_items (made_by sizes))) ≡ 1
+
+  made_whole : names (made_by sizes).header ≡ None → IsMade
+  made_whole known =
+      let back = reads_back (made_by sizes) made_log in
+      let bytes = log_text (made_by sizes) in
+      let logged : IsLogFor names bytes (made_by sizes) = record {
+        is = made_log;
+        spelled = refl;
+        ordered = no_log_fault sizes.seed sizes.procs sizes.events can.some;
+        named = known;
+      } in
+      let due_is = log_due names bytes (made_by sizes) logged in
+      let same : judged (rules_of aim) waiting (items_in bytes) ≡ judged (rules_of aim) waiting (log_items (made_by sizes)) = ap (judged (rules_of aim) waiting) back.1 in
+      record {
+        whole = sym (ap whole_of same) ∙ sym (ap (λ (o : Option LogFault). at_end true o (whole_of (judged (rules_of aim) waiting (items_in bytes)))) back.0) ∙ due_is.whole;
+        count = sym (ap batches_of same) ∙ due_is.batches;
+      }
+
+  -- where it lacks one it is refused at its header
+  made_refused : (f : FormulaFault) → names (made_by sizes).header ≡ Some f
+      → judged (rules_of aim) waiting (log_items (made_by sizes)) ≡ refused None (refusal.Formula f)
+  unfolding judged
+  made_refused f some =
+      let stop : opened (with_names names) (made_by sizes).header ≡ refused None (refusal.Formula f) = rw some refl in
+      ap (λ (j : Judgement). judged (rules_of aim) j (batch_items (made_by sizes).batches)) stop
+      ∙ refused-stays (rules_of aim) None (refusal.Formula f) (batch_items (made_by sizes).batches)
+
+  -- a check that is not refused has the names
+  has_names : (check : LogCheck X P) → IsCheckOf says aim check (judged (rules_of aim) waiting (log_items (made_by sizes))) → names (made_by sizes).header ≡ None
+  has_names check is = go (names (made_by sizes).header) refl
+    where
+      go : (o : Option FormulaFault) → names (made_by sizes).header ≡ o → o ≡ None
+      go None e = refl
+      go (Some f) e = absurd (subst IsFree (made_refused f e) is.free)
+
+  pub made_closed : (check : LogCheck X P) → IsCheckOf says aim check (judged (rules_of aim) waiting (log_items (made_by sizes)))
+      → HasClosed (judged (rules_of aim) waiting (log_items (made_by sizes))) (all_of (made_by sizes))
+  made_closed check is =
+      whole_closed (judged (rules_of aim) waiting (log_items (made_by sizes))) (all_of (made_by sizes)) (made_whole (has_names check is)).whole
+
+  -- ---- all items were to be taken
+
+  pub items_follow : (items : List Item) → items ≡ log_items (made_by sizes) → MayFollow waiting items
+  items_follow items same = subst FitFirst (sym same) made_follows
+
+  pub taken_made : (items : List Item) → items ≡ log_items (made_by sizes) → (held now : Option (List ℕ)) (of of_now : ℕ) (each : Bool) → each ≡ false
+      → (first check : LogCheck X P) {T : Type 0} (result : Result T Stop) → IsCheckOf says aim first waiting
+      → ((j : Judgement) (text : List ℕ) → Stands says aim each first j text → MayFollow j items
+      → TakesItems held now of of_now says aim each check (judged (rules_of aim) j items) text result)
+      → TakesItems held now of of_now says aim false check (judged (rules_of aim) waiting (log_items (made_by sizes))) [] result
+  taken_made items same held now of of_now each last first check {T} result is takes =
+      subst (λ (e : Bool). TakesItems {T = T} held now of of_now says aim e check (judged (rules_of aim) waiting (log_items (made_by sizes))) [] result) last
+      (subst (λ (xs : List Item). TakesItems {T = T} held now of of_now says aim each check (judged (rules_of aim) waiting xs) [] result) same
+      (takes waiting [] (begun says aim each first is) (items_follow items same)))
+
+  -- ---- the summary
+
+  module _ (held now held' : Option (List ℕ)) (of of_now of' : ℕ) (check : LogCheck X P) {T : Type 0} (x : T)
+      (t : TakesItems held now of of_now says aim false check (judged (rules_of aim) waiting (log_items (made_by sizes))) [] (Ok x)) where
+    count_is : check.batches ≡ 1
+    count_is = t.to.check_is.batches ∙ (made_whole (has_names check t.to.check_is)).count
+
+    sum_stops : (f : Fault) (n : ℕ) (text : List ℕ) → SummaryStops f n of_now of' aim check.batches (all_of (made_by sizes)) (sizes_of sizes) text
+        → BenchStops f n of of' aim sizes text
+    sum_stops fault.Write n text h = (
+      record {
+        named = has_names check t.to.check_is;
+        summary = h.0;
+        is = h.1;
+        part = h.2;
+        count = h.3 ∙ count_is;
+      },
+      let rose = h.4 in omega (arith, rose, t.later),
+    )
+    sum_stops fault.Memory n text h = h
+    sum_stops fault.Usage n text h = absurd h
+    sum_stops (fault.Formula f) n text h = absurd h
+    sum_stops (fault.Log f) n text h = absurd h
+    sum_stops fault.Read n text h = absurd h
+
+    sum_to : (result : Result Verdict Stop) (text : List ℕ) → SumsUpTo of_now of' aim check.batches (all_of (made_by sizes)) (sizes_of sizes) text result
+        → BenchesTo of of' aim sizes text result
+    sum_to (Ok v) text h = record {
+      named = has_names check t.to.check_is;
+      summary = h.0;
+      truth = h.1;
+      batches = h.2 ∙ count_is;
+    }
+    sum_to (Err stop) text h = sum_stops stop.fault stop.batches text h
+
+    pub summed : (result : Result Verdict Stop) → SumsUp now held' of_now of' aim check.batches (all_of (made_by sizes)) (sizes_of sizes) result
+        → HasMade held held' of of' aim sizes result
+    summed result s = record {
+      written = t.written ++ s.written;
+      wrote = Appends-trans held now held' t.written s.written t.wrote s.wrote;
+      later = omega (arith, t.later, s.later);
+      to = subst (λ (xs : List ℕ). BenchesTo of of' aim sizes (xs ++ s.written) result) (sym t.to.texts) (sum_to result s.written s.to);
+    }
+
+  -- ---- a stop at an item
+
+  not_refused : (why : Refusal) (at : Option Prefix) → judged (rules_of aim) waiting (log_items (made_by sizes)) ≡ refused at why
+      → (f : FormulaFault) × (names (made_by sizes).header ≡ Some f) × (why ≡ refusal.Formula f)
+  not_refused why at is = go (names (made_by sizes).header) refl
+    where
+      go : (o : Option FormulaFault) → names (made_by sizes).header ≡ o → (f : FormulaFault) × (o ≡ Some f) × (why ≡ refusal.Formula f)
+      go None e = absurd (refused_not at at why _ (all_of (made_by sizes)) is (made_whole e).whole)
+      go (Some f) e =
+          let both : refused at why ≡ refused None (refusal.Formula f) = sym is ∙ made_refused f e in
+          (f, refl, cc)
+
+  stop_of : (f : Fault) (n of of' : ℕ) (text : List ℕ) → StopsIn f n of of' aim false (judged (rules_of aim) waiting (log_items (made_by sizes))) text
+      → BenchStops f n of of' aim sizes text
+  stop_of (fault.Formula x) n of of' text h =
+      let found = not_refused (refusal.Formula x) h.log h.is in
+      let same : refusal.Formula x ≡ refusal.Formula found.0 = found.2 in
+      let mine : found.0 ≡ x = cc in
+      (found.1 ∙ ap (λ (y : FormulaFault). Some y) mine, h.texts, h.count ∙ ap batches_of (made_refused found.0 found.1))
+  stop_of (fault.Log x) n of of' text h =
+      let found = not_refused (refusal.Log x) h.log h.is in
+      let same : refusal.Log x ≡ refusal.Formula found.0 = found.2 in
+      absurd cc
+  stop_of fault.Write n of of' text h = absurd (no_part h.0.before h.0.log h.0.behind h.0.are)
+    where
+      no_part : (before : List Prefix) (l : Prefix) (behind : List Prefix) → [] ≡ before ++ l ∷ behind → ⊥
+      no_part [] l behind e = absurd cc
+      no_part (p ∷ before) l behind e = absurd cc
+  stop_of fault.Memory n of of' text h = (no_text h.front h.rest h.are h.texts, h.count)
+    where
+      no_text : (front rest : List Prefix) → [] ≡ front ++ rest → AreTexts aim front text → text ≡ []
+      no_text [] rest e texts = texts
+      no_text (p ∷ front) rest e texts = absurd cc
+  stop_of fault.Usage n of of' text h = absurd h
+  stop_of fault.Read n of of' text h = absurd h
+
+  pub made_stops : {T : Type 0} (held held' : Option (List ℕ)) (of of' : ℕ) (check : LogCheck X P) (stop : Stop)
+      → TakesItems {T = T} held held' of of' says aim false check (judged (rules_of aim) waiting (log_items (made_by sizes))) [] (Err stop)
+      → HasMade held held' of of' aim sizes (Err stop)
+  made_stops held held' of of' check stop t = record {
+    written = t.written;
+    wrote = t.wrote;
+    later = t.later;
+    to = stop_of stop.fault stop.batches of of' t.written t.to;
+  }
+
+  pub made_short : (held : Option (List ℕ)) (of : ℕ) (stop : Stop) → stop ≡ record { batches = 0; fault = fault.Memory }
+      → HasMade held held of of aim sizes (Err stop)
+  made_short held of stop is = subst (λ (s : Stop). HasMade held held of of aim sizes (Err s)) (sym is) (record {
+    written = [];
+    wrote = Appends-nil held;
+    later = omega arith;
+    to = (refl, refl);
+  })

@@ -1,0 +1,11 @@
+use Rattle.std.proofs.Common.{refl}
+use Rattle.pota_top.proofs.Running.{ran_made}
+use Rattle.pota_top.proofs.answering.answer_bench.Goals as goal
+
+pub bench_log-requires-clause-check : goal.bench_log-requires-clause-check
+bench_log-requires-clause-check g c κs lives = (_, c.in-Ok.ensures)
+
+pub returns : goal.returns
+returns g c words text is asks left lf =
+    ran_made (λ h. (goal.Watch-dyn g (h.watch.vtable, h.watch.value)).answers h.watch.value) c.args.stated c.args.sizes c.args.watches.items words text is asks left _ _ lf _ _ c.bench_log.result
+    (c.bench_log.ensures _ c.in-Ok.ensures (record { slice = refl; witness = refl }))

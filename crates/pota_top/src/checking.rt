@@ -1,0 +1,235 @@
+//! A log that is checked item by item, with the reports that its batches have.
+ghost use Rattle.std.specs.Prelude.{◌≡◌, ◌∷◌, ◌++◌, ◌≤◌, [], ℕ, List as ListOf};
+ghost use Rattle.log_judgement.specs.Judgement.{Prefix, Judgement, judge, judged};
+ghost use Rattle.log_check.specs.Aims.{Aim, rules_of};
+ghost use Rattle.log_check.specs.Checking.{HasClosed, IsCheckOf, MayFollow};
+ghost use Rattle.pota_top.specs.Checking.{AreTexts, IsBenchAim, Judges, Puts, Reports, Stands, SumsUp, TakesItems};
+ghost use Rattle.bench_summary.specs.Views.{sizes_of as summed_sizes};
+ghost use Rattle.pota_top.specs.Run.{sizes_of};
+
+use crate::outcome::{Fault, Stop, Verdict};
+use bench_summary::write_summary;
+use command_words::Sizes;
+use event_log::Item;
+use log_check::LogCheck;
+use pota_base::{Gate, List, Refused, Sink, Steps, write_all};
+use report::{Report, write_report};
+use std::alloc::Global;
+use std::sync::ledger::Ledger;
+use std::thread::Threads;
+use watch::{Handed, Watch};
+
+/// What a run works with.
+#[derive(Drop)]
+pub struct Means<'a, R, G> {
+    pub runtime: &'a R,
+    pub alloc: Global,
+    pub gate: &'a G,
+}
+
+/// A log that is checked, and whether each of its batches has a report.
+#[derive(Drop)]
+pub struct Checking<L: Ledger> {
+    pub check: LogCheck,
+    pub each_batch: bool,
+    pub workers: u32,
+    pub steps: Steps<L>,
+    ghost some: { 1 ≤ workers },
+    ghost few: { workers ≤ 16 },
+}
+
+/// Writes a text of so many batches.
+pub fn put<O: Sink>(out: &mut O, text: &[u8], batches: u32) -> Result<(), Stop>
+    ensures { Puts (O.held out.old) (O.held out.new) (O.faults out.old) (O.faults out.new) text.now
+        batches result }
+{
+    match write_all(out, text) {
+        Ok(()) => Ok(()),
+        Err(_) => Err(Stop {
+            batches,
+            fault: Fault::Write,
+        }),
+    }
+}
+
+impl<L: Ledger> Checking<L> {
+    /// A stop behind the batches so far.
+    pub fn stop(&self, fault: Fault) -> Stop
+        ensures { result ≡ record { batches = self.now.check.batches; fault = fault } }
+    {
+        Stop {
+            batches: self.check.batches,
+            fault,
+        }
+    }
+
+    /// Writes the report on the log as far as the last closed batch, and gives its verdict.
+    pub fn report<O: Sink>(&self, alloc: Global, out: &mut O) -> Result<Verdict, Stop>
+        requires { (aim : Aim) × (j : Judgement) × (log : Prefix)
+            × IsCheckOf
+            (λ h. answers (h.watch.vtable, h.watch.value)) aim self.now.check j × HasClosed j log }
+        ensures { (aim : Aim) (j : Judgement) (log : Prefix)
+            → IsCheckOf
+            (λ h. answers (h.watch.vtable, h.watch.value)) aim self.now.check j → HasClosed j log
+            → (before : ListOf Prefix) (text : ListOf ℕ)
+            → AreTexts aim before text
+            → Reports (O.held out.old) (O.held out.new) (O.faults out.old) (O.faults out.new)
+            aim self.now.check.batches before log text result }
+    {
+        let Ok(report) = self.check.report(alloc) else {
+            return Err(Stop::without_memory());
+        };
+        let Ok(text) = write_report(alloc, &report) else {
+            return Err(Stop::without_memory());
+        };
+        if let Err(stop) = put(out, text.as_slice(), self.check.batches) {
+            return Err(stop);
+        }
+        Ok(self.verdict(&report))
+    }
+
+    // The verdict that a report tells.
+    fn verdict(&self, report: &Report) -> Verdict
+        ensures { result
+            ≡ record { batches = self.now.check.batches; truth = report.now.verdict } }
+    {
+        Verdict {
+            batches: self.check.batches,
+            truth: report.verdict,
+        }
+    }
+
+    // Takes one item more, and tells whether a `batch` line closed a batch.
+    fn judge<R: Threads + Sync, G: Gate>(
+        &mut self,
+        means: &Means<'_, R, G>,
+        item: Item,
+    ) -> Result<bool, Stop>
+        requires { (aim : Aim) × (j : Judgement)
+            × IsCheckOf
+            (λ h. answers (h.watch.vtable, h.watch.value))
+            aim self.old.check j × MayFollow j (item ∷ []) }
+        ensures judged { (aim : Aim) (j : Judgement)
+            → IsCheckOf
+            (λ h. answers (h.watch.vtable, h.watch.value))
+            aim self.old.check j → MayFollow j (item ∷ [])
+            → Judges
+            (λ h. answers (h.watch.vtable, h.watch.value))
+            aim self.new.check j (judge (rules_of aim) j item)
+            result }
+        ensures each { self.new.each_batch ≡ self.old.each_batch }
+    {
+        let alloc = means.alloc;
+        let steps = &mut self.steps;
+        match self.check.take(means.runtime, alloc, item, self.workers, means.gate, steps) {
+            Ok(closed) => Ok(closed),
+            Err(Refused::Fault(refusal)) => Err(self.stop(Fault::of_refusal(refusal))),
+            Err(Refused::NoMemory) => Err(Stop::without_memory()),
+        }
+    }
+
+    // Takes one item more, and writes the report of a batch that it closes, where each has one.
+    fn take<R: Threads + Sync, G: Gate, O: Sink>(
+        &mut self,
+        means: &Means<'_, R, G>,
+        item: Item,
+        out: &mut O,
+    ) -> Result<(), Stop>
+        requires { (aim : Aim) × (j : Judgement) × (text : ListOf ℕ)
+            × Stands
+            (λ h. answers (h.watch.vtable, h.watch.value))
+            aim self.old.each_batch self.old.check j text
+            × MayFollow j (item ∷ []) }
+        ensures items { (aim : Aim) (j : Judgement) (text : ListOf ℕ)
+            → Stands
+            (λ h. answers (h.watch.vtable, h.watch.value))
+            aim self.old.each_batch self.old.check j text
+            → MayFollow j (item ∷ [])
+            → TakesItems (O.held out.old) (O.held out.new) (O.faults out.old) (O.faults out.new)
+            (λ h. answers (h.watch.vtable, h.watch.value)) aim self.old.each_batch self.new.check
+            (judge (rules_of aim) j item) text result }
+        ensures each { self.new.each_batch ≡ self.old.each_batch }
+    {
+        let closed = match self.judge(means, item) {
+            Ok(closed) => closed,
+            Err(stop) => return Err(stop),
+        };
+        if !closed {
+            return Ok(());
+        }
+        if !self.each_batch {
+            return Ok(());
+        }
+        match self.report(means.alloc, out) {
+            Ok(_) => Ok(()),
+            Err(stop) => Err(stop),
+        }
+    }
+
+    /// Takes these items more, in their order, up to the first fault, and writes the report of a
+    /// batch before it takes the next item.
+    pub fn take_all<R: Threads + Sync, G: Gate, O: Sink>(
+        &mut self,
+        means: &Means<'_, R, G>,
+        items: List<Item>,
+        out: &mut O,
+    ) -> Result<(), Stop>
+        requires { (aim : Aim) × (j : Judgement) × (text : ListOf ℕ)
+            × Stands
+            (λ h. answers (h.watch.vtable, h.watch.value))
+            aim self.old.each_batch self.old.check j text
+            × MayFollow j items }
+        ensures items { (aim : Aim) (j : Judgement) (text : ListOf ℕ)
+            → Stands
+            (λ h. answers (h.watch.vtable, h.watch.value))
+            aim self.old.each_batch self.old.check j text
+            → MayFollow j items
+            → TakesItems (O.held out.old) (O.held out.new) (O.faults out.old) (O.faults out.new)
+            (λ h. answers (h.watch.vtable, h.watch.value)) aim self.old.each_batch self.new.check
+            (judged (rules_of aim) j items) text result }
+        ensures each { self.new.each_batch ≡ self.old.each_batch }
+    {
+        let mut rest = items.into_vec().into_iter();
+        while let Some(item) = rest.next() {
+            if let Err(stop) = self.take(means, item, out) {
+                return Err(stop);
+            }
+        }
+        Ok(())
+    }
+
+    /// Writes the summary of a bench whose log is that so far, and gives the verdict on it.
+    pub fn sum_up<O: Sink>(&self, alloc: Global, sizes: Sizes, out: &mut O) -> Result<Verdict, Stop>
+        requires { (aim : Aim) × (j : Judgement) × (log : Prefix)
+            × IsCheckOf
+            (λ h. answers (h.watch.vtable, h.watch.value)) aim self.now.check j × HasClosed j log }
+        ensures { (aim : Aim) (j : Judgement) (log : Prefix)
+            → IsCheckOf
+            (λ h. answers (h.watch.vtable, h.watch.value)) aim self.now.check j → HasClosed j log
+            → IsBenchAim aim
+            → SumsUp (O.held out.old) (O.held out.new) (O.faults out.old) (O.faults out.new)
+            aim self.now.check.batches log (sizes_of sizes) result }
+    {
+        let Ok(report) = self.check.report(alloc) else {
+            return Err(Stop::without_memory());
+        };
+        let Ok(text) = write_summary(alloc, summary_sizes(sizes), &report) else {
+            return Err(Stop::without_memory());
+        };
+        if let Err(stop) = put(out, text.as_slice(), self.check.batches) {
+            return Err(stop);
+        }
+        Ok(self.verdict(&report))
+    }
+}
+
+// The sizes as a summary has them.
+fn summary_sizes(sizes: Sizes) -> bench_summary::Sizes
+    ensures { summed_sizes result ≡ sizes_of sizes }
+{
+    bench_summary::Sizes {
+        seed: sizes.seed,
+        procs: sizes.procs,
+        events: sizes.events,
+    }
+}
