@@ -1,8 +1,9 @@
-//! Reads and prints the texts of the files in `data/`, and prints for each file how many of its rows came out as they must, and each
-//! row that did not.
+//! Reads and prints the texts of the files in `data/`, and prints for each file how many of its
+//! rows came out as they must, and each row that did not.
 //!
-//! A file of rows is text. A line that begins with `#` says nothing, and an empty line ends a row. Each other line of a row is a
-//! keyword, and behind one space what it speaks of. In a TEXT, `\` and two hexadecimal digits stand for one byte.
+//! A file of rows is text. A line that begins with `#` says nothing, and an empty line ends a row.
+//! Each other line of a row is a keyword, and behind one space what it speaks of. In a TEXT, `\`
+//! and two hexadecimal digits stand for one byte.
 //!
 //! ```text
 //! text TEXT                 the text of the row, or how it goes on
@@ -18,7 +19,6 @@
 //! What is printed is also read again, and printed again as itself.
 #![tactic(auto)]
 
-mod piece;
 mod row;
 mod verdict;
 

@@ -1,7 +1,7 @@
 //! One row: a text, and what reading it must give.
 
-use crate::piece::{put_piece, put_times};
 use rctl_parse::{FormulaCode, FormulaFault};
+use row_text::{put_piece, put_times};
 use std::alloc::{AllocError, Global};
 
 /// What reading a text must give.
@@ -54,7 +54,8 @@ fn fault_of(line: &str) -> Option<Wanted> {
     }
 }
 
-// What is wanted after a line that goes on with the printed text: by a piece, or by one that stands there a number of times.
+// What is wanted after a line that goes on with the printed text: by a piece, or by one that stands
+// there a number of times.
 fn more_printed(
     alloc: Global,
     before: Option<Wanted>,

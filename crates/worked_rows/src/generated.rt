@@ -1,58 +1,12 @@
-//! Texts of logs that are too long to be stored.
+//! The text of a log that is too long to be stored.
 
+use row_cases::{put_clock, put_names, put_number};
 use std::alloc::{AllocError, Global};
 
 const PROCESSES: usize = 32;
 
 /// How many events the large log has.
 const EVENTS: u32 = 50_000;
-
-/// Appends the number in decimal digits.
-fn put_number(to: &mut Vec<u8>, number: u32) -> Result<(), AllocError> {
-    let mut digits = itoa::Buffer::new();
-    to.extend_from_slice(digits.format(number).as_bytes())
-}
-
-/// Appends a `procs` line of so many names.
-pub fn put_names(to: &mut Vec<u8>, count: u32) -> Result<(), AllocError> {
-    to.extend_from_slice(b"procs")?;
-    for i in 0..count {
-        to.extend_from_slice(b" P")?;
-        put_number(to, i.saturating_add(1))?;
-    }
-    to.push(b'\n')?;
-    Ok(())
-}
-
-/// Appends so many lines of local events of the only process, `P`.
-pub fn put_events(to: &mut Vec<u8>, count: u32) -> Result<(), AllocError> {
-    for i in 0..count {
-        to.extend_from_slice(b"ev P ")?;
-        put_number(to, i.saturating_add(1))?;
-        to.extend_from_slice(b" int\n")?;
-    }
-    Ok(())
-}
-
-/// Appends a line of so many letters.
-pub fn put_letters(to: &mut Vec<u8>, count: u32) -> Result<(), AllocError> {
-    for _ in 0..count {
-        to.push(b'a')?;
-    }
-    to.push(b'\n')?;
-    Ok(())
-}
-
-// Appends the clock.
-fn put_clock(to: &mut Vec<u8>, clock: &[u32]) -> Result<(), AllocError> {
-    for (i, count) in clock.iter().enumerate() {
-        if i > 0 {
-            to.push(b',')?;
-        }
-        put_number(to, *count)?;
-    }
-    Ok(())
-}
 
 // Appends the event of this number, of a process with this clock. Each third event sends to the
 // next process, whose next event receives.

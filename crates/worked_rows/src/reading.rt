@@ -135,3 +135,64 @@ pub fn judge_large(alloc: Global, text: &[u8]) -> Result<String, AllocError> {
         Err(_) => Err(AllocError),
     }
 }
+
+/// What the longest log begins with; lines `batch` follow.
+const HEAD: &[u8] = b"pota-log 1\nprocs P\n";
+
+/// How many pieces of 4,096 bytes the longest log has.
+const PIECES: u64 = 16_384;
+
+/// The line at which a log of lines `batch` is too long.
+const TOO_LONG_LINE: u32 = 11_184_810;
+
+// The byte of the longest log at this place.
+fn longest_at(at: u64) -> u8 {
+    let at = at as usize;
+    if at < HEAD.len() {
+        HEAD[at]
+    } else {
+        b"batch\n"[(at - HEAD.len()) % 6]
+    }
+}
+
+// The piece of the longest log that begins at this place.
+fn fill(piece: &mut [u8], start: u64) {
+    for (i, byte) in piece.iter_mut().enumerate() {
+        *byte = longest_at(start.saturating_add(i as u64));
+    }
+}
+
+// Feeds the longest log, and gives the first fault of its bytes.
+fn feed_longest(reader: &mut Reader) -> Result<Option<LogFault>, NoMemory> {
+    let mut piece = [0_u8; 4096];
+    for number in 0..PIECES {
+        fill(piece.as_mut_slice(), number * 4096);
+        let fed = reader.feed(piece.as_slice())?;
+        if fed.fault.is_some() {
+            return Ok(fed.fault);
+        }
+    }
+    Ok(None)
+}
+
+// The fault that one byte more than the longest log has makes, and None where one came before.
+fn fault_behind_longest(alloc: Global) -> Result<Option<LogFault>, NoMemory> {
+    let mut reader = Reader::new(alloc);
+    if feed_longest(&mut reader)?.is_some() {
+        return Ok(None);
+    }
+    Ok(reader.feed(b"c")?.fault)
+}
+
+/// Whether a log of as many bytes as a log may have has no fault in its bytes, and one byte more is
+/// too much.
+pub fn judge_longest(alloc: Global) -> Result<String, AllocError> {
+    match fault_behind_longest(alloc) {
+        Ok(Some(fault)) if number_of(fault.code) == 20 && fault.line == TOO_LONG_LINE => {
+            format!(in alloc; "ok")
+        }
+        Ok(Some(fault)) => format!(in alloc; "L{} at line {}", number_of(fault.code), fault.line),
+        Ok(None) => format!(in alloc; "no fault, or one too early"),
+        Err(_) => Err(AllocError),
+    }
+}

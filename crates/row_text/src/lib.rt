@@ -1,4 +1,9 @@
-//! Pieces of text, in which `\` and two hexadecimal digits stand for one byte.
+//! How the data of the programs that run rows spell bytes: pieces of text, in which `\` and two
+//! hexadecimal digits stand for one byte.
+//!
+//! That the functions are safe and end is proved, and no more: what a piece stands for is shown by
+//! the rows.
+#![tactic(auto)]
 
 ghost use Rattle.std.specs.Prelude.{◌<◌, length, IfSome};
 
