@@ -2,6 +2,29 @@
 scratch=$(mktemp -d)
 trap 'rm -rf "$scratch"' EXIT
 
+# crates_below NAME..
+# Prints these crates and all of the repository's that they stand on, lowest first.
+crates_below() {
+    awk -v names="$*" '
+        function add(name, parts, count, i) {
+            if (!(name in below) || name in taken)
+                return
+            taken[name]
+            count = split(below[name], parts, " ")
+            for (i = 1; i <= count; i++)
+                add(parts[i])
+        }
+        /^[a-z]/ { split($0, half, ":"); below[half[1]] = half[2]; order[++all] = half[1] }
+        END {
+            count = split(names, asked, " ")
+            for (i = 1; i <= count; i++)
+                add(asked[i])
+            for (i = 1; i <= all; i++)
+                if (order[i] in taken)
+                    print order[i]
+        }' "$(dirname "${BASH_SOURCE[0]}")/../crates.txt"
+}
+
 # scratch_crates NAME..
 scratch_crates() {
     local top name

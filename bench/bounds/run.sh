@@ -28,4 +28,7 @@ sed -i 's/^        self.book.add(&mut self.share, 1);$/        self.count = self
 printf '\nimpl<L: Ledger> Steps<L> {\n    pub fn count(&self) -> u64 {\n        self.count\n    }\n}\n' >> "$steps"
 sed -i 's/^const RUNS: u32 = .*/const RUNS: u32 = 1;/; s/in \[1, 2, 4\]/in [1]/' src/main.rt
 sed -i 's/^    0$/    steps.count()/' src/main.rt
-rt try --seconds 600 | sed 's/: [0-9]* us,/:/'
+for kind in 0 1 2; do
+    sed -i "s/^    for kind in .*/    for kind in $kind..$((kind + 1)) {/" src/main.rt
+    rt try --seconds 1200 | sed 's/: [0-9]* us,/:/'
+done

@@ -4,9 +4,9 @@
 set -e
 here=$(cd "$(dirname "$0")" && pwd)
 . "$here/../scratch.sh"
-scratch_crates run_model pota_base pota_names cut_lattice log_lines event_log causal_order vector_clock trace_growth pota_top pota worked_rows
+scratch_crates $(crates_below pota worked_rows)
 cd "$scratch/crates/worked_rows"
-rm -r data stdout src/case.rt src/verdict.rt
+rm -r data stdout src/verdict.rt
 cp "$here/main.txt" src/main.rt
 rt run 2>/dev/null
 
