@@ -1,6 +1,6 @@
 use Rattle.std.specs.Prelude.{ℕ}
 use Rattle.pota_base.specs.declared.status.Status.{Status}
-use Rattle.pota_base.specs.declared.status.Status.TheVariants.{True, False, Usage, Formula, Log, ReadFault, WriteFault, OutOfMemory, NotBuilt}
+use Rattle.pota_base.specs.declared.status.Status.TheVariants.{True, False, Usage, Formula, Log, ReadFault, WriteFault, OutOfMemory}
 
 -- the exit status that stands for how a run ended
 abbrev pub code_of : Status → ℕ
@@ -12,4 +12,3 @@ code_of Log = 4
 code_of ReadFault = 5
 code_of WriteFault = 6
 code_of OutOfMemory = 7
-code_of NotBuilt = 8

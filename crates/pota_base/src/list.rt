@@ -1,4 +1,4 @@
-ghost use Rattle.std.specs.Prelude.{◌≡◌, [], ◌∷◌, ◌++◌, ◌<◌, ◌↔◌, length, slice_get, slice_index_or, slice_set, IsTrue, OnOk, OnErr};
+ghost use Rattle.std.specs.Prelude.{◌≡◌, [], ◌∷◌, ◌++◌, ◌<◌, ◌↔◌, length, slice_get, slice_index_or, slice_set, IsTrue, IfOk, OnOk, OnErr};
 
 use crate::fault::NoMemory;
 use std::alloc::Global;
@@ -32,6 +32,14 @@ impl<T> List<T> {
         List {
             items: Vec::new(alloc),
         }
+    }
+
+    /// A list without items, that takes no more memory for its first `count` ones.
+    pub fn with_capacity(alloc: Global, count: usize) -> Result<List<T>, NoMemory>
+        ensures { IfOk result (λ list. list ≡ []) }
+    {
+        let items = Vec::with_capacity(alloc, count)?;
+        Ok(List { items })
     }
 
     /// The list of the items of `items`, in their order. It takes no memory.

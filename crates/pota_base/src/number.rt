@@ -30,14 +30,22 @@ fn digits_end(bytes: &[u8], len: usize, value: u64) -> Option<(u64, &[u8])>
     }
 }
 
+// A number below this has room for one digit more.
+const ROOMY: u64 = 1_000_000_000_000_000_000;
+
 // The number `value` with one digit more, where that is at most `most`.
 fn next_value(most: u64, value: u64, digit: u8) -> Option<u64>
     requires { 48 ≤ digit }
     ensures none { IfNone result (most < value * 10 + (digit - 48)) }
     ensures some { IfSome result (λ sum. (sum ≡ value * 10 + (digit - 48)) × (sum ≤ most)) }
 {
+    let units = u64::from(digit - b'0');
+    if value < ROOMY {
+        let sum = value * 10 + units;
+        return if sum > most { None } else { Some(sum) };
+    }
     let tens = value.checked_mul(10)?;
-    let sum = tens.checked_add(u64::from(digit - b'0'))?;
+    let sum = tens.checked_add(units)?;
     if sum > most {
         return None;
     }

@@ -20,12 +20,10 @@ pub enum Status {
     WriteFault,
     /// There was no memory.
     OutOfMemory,
-    /// A part of the program that does not exist yet was asked for.
-    NotBuilt,
 }
 
 impl Status {
-    /// The exit status, 0 to 8 in the order of the variants.
+    /// The exit status, 0 to 7 in the order of the variants.
     pub fn code(&self) -> u8
         ensures { result ≡ code_of self.now }
     {

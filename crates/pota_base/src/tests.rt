@@ -43,7 +43,7 @@ fn a_tree_holds_itself_through_lists(rt: HostRuntime) -> Result<(), Fail> {
 
 #[test]
 fn lists_keep_their_items(rt: HostRuntime) -> Result<(), Fail> {
-    let mut list = List::new(rt.alloc());
+    let mut list = List::with_capacity(rt.alloc(), 1)?;
     assert!(rt; list.is_empty());
     list.push(5)?;
     list.push(7)?;

@@ -156,7 +156,6 @@ module _ (left left' held held' : Option (List ℕ)) (lf lf' of of' : ℕ) (on :
   decided_as status.ReadFault is h free log whole = absurd (calm.0 h.1)
   decided_as status.WriteFault is h free log whole = absurd (calm.1 h.2)
   decided_as status.OutOfMemory is h free log whole = absurd (calm.2 is)
-  decided_as status.NotBuilt is h free log whole = absurd h
 
   pub decided : all_due.fault ≡ None → (log : Prefix) → all_due.whole ≡ Some log → Decided log
   decided free log whole = decided_as o.status refl ran.answer free log whole
@@ -186,7 +185,6 @@ module _ (left left' held held' : Option (List ℕ)) (lf lf' of of' : ℕ) (on :
   refused_as status.ReadFault is h r some = absurd (calm.0 h.1)
   refused_as status.WriteFault is h r some = absurd (calm.1 h.2)
   refused_as status.OutOfMemory is h r some = absurd (calm.2 is)
-  refused_as status.NotBuilt is h r some = absurd h
 
   pub refused_clause : (r : Refusal) → all_due.fault ≡ Some r → RefusedAs r
   refused_clause r some = refused_as o.status refl ran.answer r some
@@ -218,7 +216,6 @@ module _ (left left' held held' : Option (List ℕ)) (lf lf' of of' : ℕ) (on :
   misasked_as status.ReadFault is a f h = absurd (calm.0 a.1)
   misasked_as status.WriteFault is a f h = absurd (calm.1 a.2)
   misasked_as status.OutOfMemory is a f h = absurd (calm.2 is)
-  misasked_as status.NotBuilt is a f h = absurd a
 
   pub misasked : IsRefusedAsAsked words held held' o
   misasked f h = misasked_as o.status refl ran.answer f h
@@ -264,7 +261,6 @@ module _ (left left' held held' : Option (List ℕ)) (lf lf' of of' : ℕ) (on :
     benched_as status.ReadFault is a named = absurd (calm.0 a.1)
     benched_as status.WriteFault is a named = absurd (calm.1 a.2)
     benched_as status.OutOfMemory is a named = absurd (calm.2 is)
-    benched_as status.NotBuilt is a named = absurd a
 
     abbrev Lacks : FormulaFault → Type 0
     Lacks f = Appends held held' [] × (o.batches ≡ 0) × TellsFault (fault.Formula f) o
@@ -291,7 +287,6 @@ module _ (left left' held held' : Option (List ℕ)) (lf lf' of of' : ℕ) (on :
     lacks_as status.ReadFault is a f some = absurd (calm.0 a.1)
     lacks_as status.WriteFault is a f some = absurd (calm.1 a.2)
     lacks_as status.OutOfMemory is a f some = absurd (calm.2 is)
-    lacks_as status.NotBuilt is a f some = absurd a
 
   pub bench_answered : IsBenchAnswered on words held held' o
   bench_answered = record {

@@ -207,7 +207,6 @@ Answer status.WriteFault left lf lf' of of' on words read written o =
     × (o.fault ≡ Some fault.Write) × Rose of of'
 Answer status.OutOfMemory left lf lf' of of' on words read written o =
     IsOutOfMemory on words read written o
-Answer status.NotBuilt left lf lf' of of' on words read written o = ⊥
 
 -- a whole run: what was read and written in it, that no count fell, and what its status says
 pub record Ran (left left' held held' : Option (List ℕ)) (lf lf' of of' : ℕ) (on : Handing)
