@@ -199,7 +199,7 @@ impl LineReader {
         if is_end(line) {
             return Ok(Item::End);
         }
-        let draft = refused(read_event(alloc, line), LogCode::BadLine)?;
+        let draft = refused(read_event(alloc, self.procs.len(), line), LogCode::BadLine)?;
         let event = event_named(
             alloc,
             self.procs.as_slice(),

@@ -85,7 +85,7 @@ fn assigns_in(
     requires { length variables.now < 2 ^ 32 }
     ensures { Agrees result (assigns_in (binding_names variables.now) [] (values_of settings.now)) }
 {
-    let mut assigns = List::new(alloc);
+    let mut assigns = List::with_capacity(alloc, settings.len())?;
     for setting in settings {
         let assign = assign_in(variables, *setting)?;
         assigns.push(assign)?;

@@ -8,7 +8,7 @@ ghost use Rattle.log_lines.specs.Reading.{message_at, action_at, event_in, vars_
 ghost use Rattle.log_lines.specs.Drafts.{Gives, action_of, event_of, vars_of, texts_of, message_seen, action_seen};
 
 use crate::draft::{ActionDraft, EventDraft, LineError, VarsDraft};
-use crate::values::{clock_at, names_from, values_at};
+use crate::values::{names_from, sized_clock_at, values_at};
 use crate::words::{are_distinct, spaced_name_at, text_at};
 use pota_base::number_at;
 use std::alloc::Global;
@@ -41,13 +41,13 @@ fn action_at(bytes: &[u8]) -> Option<(ActionDraft<'_>, &[u8])>
 }
 
 #[tactic(auto, unfolding(crate::specs::Reading::event_in))]
-fn event_in(alloc: Global, line: &[u8]) -> Result<EventDraft<'_>, LineError>
+fn event_in(alloc: Global, width: usize, line: &[u8]) -> Result<EventDraft<'_>, LineError>
     ensures { Gives event_of result (event_in line.now) }
 {
     let rest = text_at(b"ev", line).ok_or(LineError::Malformed)?;
     let (actor, rest) = spaced_name_at(rest).ok_or(LineError::Malformed)?;
     let rest = text_at(b" ", rest).ok_or(LineError::Malformed)?;
-    let (clock, rest) = clock_at(alloc, rest)?;
+    let (clock, rest) = sized_clock_at(alloc, width, rest)?;
     let rest = text_at(b" ", rest).ok_or(LineError::Malformed)?;
     let (action, rest) = action_at(rest).ok_or(LineError::Malformed)?;
     let settings = values_at(alloc, rest)?;
@@ -87,8 +87,8 @@ fn procs_in(alloc: Global, line: &[u8]) -> Result<Vec<&[u8]>, LineError>
     Ok(names)
 }
 
-/// The event that the line spells.
-pub fn read_event(alloc: Global, line: &[u8]) -> Result<EventDraft<'_>, LineError>
+/// The event that the line spells. The memory for the clock of `width` processes is taken at once.
+pub fn read_event(alloc: Global, width: usize, line: &[u8]) -> Result<EventDraft<'_>, LineError>
     // What is read is spelled so.
     ensures found { IfOk result (λ e. EventLineFits (event_of e)
         × (line.now ≡ event_line (event_of e))) }
@@ -97,7 +97,7 @@ pub fn read_event(alloc: Global, line: &[u8]) -> Result<EventDraft<'_>, LineErro
         → Gives event_of result (Some e) }
     ensures exact { Gives event_of result (event_in line.now) }
 {
-    event_in(alloc, line)
+    event_in(alloc, width, line)
 }
 
 /// The variables of a process, with their opening values, that the line spells.

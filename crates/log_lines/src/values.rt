@@ -71,11 +71,17 @@ pub fn values_at(alloc: Global, bytes: &[u8]) -> Result<Vec<Setting<'_>>, LineEr
     Ok(values)
 }
 
-fn clock_from(alloc: Global, first: u32, bytes: &[u8]) -> Result<(Vec<u32>, &[u8]), LineError>
+// The memory for `width` counts is taken at once.
+fn clock_from(
+    alloc: Global,
+    width: usize,
+    first: u32,
+    bytes: &[u8],
+) -> Result<(Vec<u32>, &[u8]), LineError>
     ensures { Gives (λ x. (x.0.items, x.1.now)) result
         (clock_from (length bytes.now) (first ∷ []) bytes.now) }
 {
-    let mut clock = Vec::new(alloc);
+    let mut clock = Vec::with_capacity(alloc, width)?;
     clock.push(first)?;
     let mut rest = bytes;
     while let Some(behind) = text_at(b",", rest) {
@@ -86,11 +92,23 @@ fn clock_from(alloc: Global, first: u32, bytes: &[u8]) -> Result<(Vec<u32>, &[u8
     Ok((clock, rest))
 }
 
-/// The clock at the front, and the bytes after its last component.
+/// The clock at the front, and the bytes after its last component. The memory for `width`
+/// components is taken at once.
 #[tactic(auto, unfolding(crate::specs::Reading::clock_at))]
-pub fn clock_at(alloc: Global, bytes: &[u8]) -> Result<(Vec<u32>, &[u8]), LineError>
+pub fn sized_clock_at(
+    alloc: Global,
+    width: usize,
+    bytes: &[u8],
+) -> Result<(Vec<u32>, &[u8]), LineError>
     ensures { Gives (λ x. (x.0.items, x.1.now)) result (clock_at bytes.now) }
 {
     let (first, rest) = number_at(u64::from(u32::MAX), bytes).ok_or(LineError::Malformed)?;
-    clock_from(alloc, first as u32, rest)
+    clock_from(alloc, width, first as u32, rest)
+}
+
+/// The clock at the front, and the bytes after its last component.
+pub fn clock_at(alloc: Global, bytes: &[u8]) -> Result<(Vec<u32>, &[u8]), LineError>
+    ensures { Gives (λ x. (x.0.items, x.1.now)) result (clock_at bytes.now) }
+{
+    sized_clock_at(alloc, 0, bytes)
 }

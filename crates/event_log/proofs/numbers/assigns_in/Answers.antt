@@ -8,7 +8,7 @@ use Rattle.event_log.proofs.numbers.assigns_in.Goals as goal
 
 pub returns-in_err-assign : goal.returns-in_err-assign
 returns-in_err-assign c =
-    let p = err_from_is_err_and c.from_residual.result c.from_residual.ensures.1 in
+    let p = err_from_is_err_and c.from_residual-in_err-assign.result c.from_residual-in_err-assign.ensures.1 in
     rw (p.1, p.2) (agrees_err c.in_err-assign.field-0.0 _ _ c.in_err-assign.ensures (λ fault h. c.loop-setting.invariant ∙ assigns-bad (binding_names c.args.variables.now) c.loop-setting.assigns c.args.settings.now c.loop-setting.setting-index _ c.loop-setting-test.true fault h))
 
 pub loop-setting-preserved : goal.loop-setting-preserved
