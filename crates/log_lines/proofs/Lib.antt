@@ -4,3 +4,4 @@ pub mod WordLaws
 pub mod SignedLaws
 pub mod ItemLaws
 pub mod LineLaws
+pub mod FrameLaws

@@ -30,6 +30,14 @@ impl<T: Drop> From<AllocFailed<T>> for LineError {
     }
 }
 
+impl From<pota_base::NoMemory> for LineError {
+    ghost from_gives = { λ _ e. e ≡ NoMemory };
+
+    fn from(_error: pota_base::NoMemory) -> LineError {
+        LineError::NoMemory
+    }
+}
+
 /// `NAME=INT`: a variable and a value for it.
 #[derive(Clone, Copy, Debug)]
 pub struct Setting<'a> {

@@ -2,11 +2,13 @@
 #![tactic(auto)]
 
 mod draft;
+mod frames;
 mod lines;
 mod values;
 mod words;
 
 pub use draft::{ActionDraft, EventDraft, LineError, Setting, VarsDraft};
+pub use frames::Frames;
 pub use lines::{begins_vars, is_batch, is_end, read_event, read_procs, read_vars};
 pub use pota_base::signed_at;
 pub use values::{clock_at, names_from};
