@@ -7,7 +7,9 @@ use crate::item::{Item, LogCode};
 use crate::log::{Binding, Header};
 use crate::numbers::event_named;
 use crate::refusals::refused;
-use log_lines::{begins_vars, is_batch, is_end, place_of, read_event, read_procs, read_vars};
+use log_lines::{
+    Frames, begins_vars, is_batch, is_end, place_of, read_event, read_procs, read_vars,
+};
 use pota_base::{List, NoMemory, Refused};
 use pota_names::Name;
 use std::alloc::Global;
@@ -31,6 +33,8 @@ pub struct LineReader {
     procs: List<Name>,
     /// The variables of the processes up to that of the last `vars` line.
     variables: List<List<Binding>>,
+    /// Of the last clocks of the processes.
+    frames: Frames,
     ghost counted: { events ≤ lines },
     ghost few: { length procs ≤ 32 },
     ghost narrow: { All (λ bindings. length bindings ≤ 16) variables },
@@ -100,6 +104,7 @@ impl LineReader {
             events: 0,
             procs: List::new(alloc),
             variables: List::new(alloc),
+            frames: Frames::new(alloc),
         }
     }
 
@@ -140,6 +145,7 @@ impl LineReader {
     {
         let texts = refused(read_procs(alloc, line), LogCode::BadProcs)?;
         let procs = names_of(alloc, &texts)?;
+        self.frames = Frames::of(alloc, procs.len())?;
         self.procs = procs;
         self.lines += 1;
         Ok(None)
@@ -188,7 +194,12 @@ impl LineReader {
     }
 
     // A line behind the header.
-    fn item_of(&self, alloc: Global, line: &[u8]) -> Result<Item, Refused<LogCode>>
+    fn item_of(
+        &self,
+        alloc: Global,
+        frames: &mut Frames,
+        line: &[u8],
+    ) -> Result<Item, Refused<LogCode>>
         requires { self.now.lines < 2 ^ 32 - 1 }
         ensures { JudgedItem result (body_told self.now.procs self.now.variables
             (self.now.lines + 1) self.now.events line.now) }
@@ -199,10 +210,11 @@ impl LineReader {
         if is_end(line) {
             return Ok(Item::End);
         }
-        let draft = refused(read_event(alloc, self.procs.len(), line), LogCode::BadLine)?;
+        let procs = self.procs.as_slice();
+        let draft = refused(read_event(alloc, procs, frames, line), LogCode::BadLine)?;
         let event = event_named(
             alloc,
-            self.procs.as_slice(),
+            procs,
             self.variables.as_slice(),
             self.lines + 1,
             self.events,
@@ -248,7 +260,9 @@ impl LineReader {
         ensures next { IfOk result (λ i. IsSomeAnd i (Passes self.old self.new)) }
         ensures counts { self.new.lines ≤ self.old.lines + 1 }
     {
-        let item = self.item_of(alloc, line)?;
+        let mut frames = std::mem::replace(&mut self.frames, Frames::new(alloc));
+        let item = self.item_of(alloc, &mut frames, line)?;
+        self.frames = frames;
         self.pass(&item);
         Ok(Some(item))
     }

@@ -1,6 +1,6 @@
 //! The names of an event line as numbers.
 
-ghost use Rattle.std.specs.Prelude.{◌≡◌, ◌<◌, ◌^◌, [], length, All};
+ghost use Rattle.std.specs.Prelude.{◌≡◌, ◌<◌, ◌^◌, [], length, All, IfSome};
 ghost use Rattle.log_lines.specs.Names.{place_of};
 ghost use Rattle.log_lines.specs.Drafts.{action_of, event_of, value_of, values_of};
 ghost use Rattle.event_log.specs.Numbers.{Agrees, known, binding_names, variables_at, kind_in, is_to_itself, assign_in, assigns_in, event_named};
@@ -16,15 +16,23 @@ use std::alloc::Global;
 /// The most events that a log may have.
 const MOST_EVENTS: u32 = 50_000;
 
+// The number of a process by its place among the names.
+fn process_at(place: Option<usize>) -> Result<u32, Refused<LogCode>>
+    requires { IfSome place (λ p. p < 2 ^ 32) }
+    ensures { Agrees result (known UnknownProcessFault place) }
+{
+    match place {
+        Some(place) => Ok(place as u32),
+        None => Err(Refused::Fault(LogCode::UnknownProcess)),
+    }
+}
+
 /// The number of the process of this name.
 pub fn process_of(procs: &[Name], name: &[u8]) -> Result<u32, Refused<LogCode>>
     requires { length procs.now < 2 ^ 32 }
     ensures { Agrees result (known UnknownProcessFault (place_of procs.now name.now)) }
 {
-    match place_of(procs, name) {
-        Some(place) => Ok(place as u32),
-        None => Err(Refused::Fault(LogCode::UnknownProcess)),
-    }
+    process_at(place_of(procs, name))
 }
 
 fn kind_in(procs: &[Name], action: ActionDraft<'_>) -> Result<Kind, Refused<LogCode>>
@@ -106,10 +114,12 @@ pub fn event_named(
 ) -> Result<Event, Refused<LogCode>>
     requires few { length procs.now < 2 ^ 32 }
     requires narrow { All (λ bindings. length bindings < 2 ^ 32) variables.now }
+    requires place { draft.process ≡ place_of procs.now draft.actor.now }
+    requires within { IfSome draft.process (λ p. p < length procs.now) }
     ensures { Agrees result
         (event_named procs.now variables.now line events (event_of draft.entry)) }
 {
-    let process = process_of(procs, draft.actor)?;
+    let process = process_at(draft.process)?;
     let kind = kind_in(procs, draft.action)?;
     if draft.clock.len() != procs.len() {
         return Err(Refused::Fault(LogCode::ClockWidth));

@@ -1,5 +1,5 @@
 -- A clock's text on both sides of one of its counts, and the clock that is read by it.
-use Rattle.std.proofs.Common.{◌≡◌, ℕ, zero, suc, ◌+◌, ◌-◌, ◌^◌, ◌<◌, ◌≤◌, ◌++◌, List, [], ◌∷◌, length, take, drop, get_or, set, Option, Some, None, true, false, refl, sym, ap, subst, ◌∙◌, arith, append_assoc, length-append, ◌/◌, ◌%◌}
+use Rattle.std.proofs.Common.{◌≡◌, ℕ, zero, suc, ◌+◌, ◌-◌, ◌^◌, ◌<◌, ◌≤◌, ◌++◌, List, [], ◌∷◌, length, take, drop, get_or, set, Some, None, false, refl, sym, ap, subst, ◌∙◌, arith, append_assoc, length-append, ◌/◌, ◌%◌}
 use Rattle.std.specs.List.{AllByRecursion}
 use Rattle.std.specs.Fmt.{decimal}
 use Rattle.std.proofs.lemmas.List.{length-set, take_more, take_at, drop_at}
@@ -9,7 +9,7 @@ use Rattle.log_lines.specs.Reading.{number_at, text_at, clock_at}
 use Rattle.log_lines.specs.Frames.{clock_front, FrameFits}
 use Rattle.pota_base.proofs.NumberLaws.{number_takes, starts_digit}
 use Rattle.log_lines.proofs.WordLaws.{text_takes}
-use Rattle.log_lines.proofs.ItemLaws.{clock_takes, clock_again}
+use Rattle.log_lines.proofs.ItemLaws.{clock_again}
 
 abbrev pub Small : List ℕ → Type 0
 Small ns = AllByRecursion (λ n. n < 2 ^ 32) ns

@@ -57,6 +57,8 @@ pub enum ActionDraft<'a> {
 #[derive(Debug, Drop)]
 pub struct EventDraft<'a> {
     pub actor: &'a [u8],
+    /// The place of the actor among the processes, where it is one of them.
+    pub process: Option<usize>,
     pub clock: Vec<u32>,
     pub action: ActionDraft<'a>,
     pub settings: Vec<Setting<'a>>,

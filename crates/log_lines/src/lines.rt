@@ -1,16 +1,18 @@
 //! Whole lines, without their line feeds.
 
-ghost use Rattle.std.specs.Prelude.{◌≡◌, List, IfOk};
+ghost use Rattle.std.specs.Prelude.{◌≡◌, ◌<◌, List, length, IfOk, IfSome};
 ghost use Rattle.std.specs.Str.{bytes_eq};
-ghost use Rattle.log_lines.specs.Names.{Name};
+ghost use Rattle.log_lines.specs.Names.{Name as NameOf, place_of};
 ghost use Rattle.log_lines.specs.Spelling.{EventLine, EventLineFits, event_line, VarsLine, VarsLineFits, vars_line, ProcsFit, procs_line, batch_line, end_line};
-ghost use Rattle.log_lines.specs.Reading.{message_at, action_at, event_in, vars_in, procs_in, begins_vars};
+ghost use Rattle.log_lines.specs.Reading.{clock_at, message_at, action_at, event_in, vars_in, procs_in, begins_vars};
 ghost use Rattle.log_lines.specs.Drafts.{Gives, action_of, event_of, vars_of, texts_of, message_seen, action_seen};
 
 use crate::draft::{ActionDraft, EventDraft, LineError, VarsDraft};
-use crate::values::{names_from, sized_clock_at, values_at};
-use crate::words::{are_distinct, spaced_name_at, text_at};
+use crate::frames::Frames;
+use crate::values::{clock_at, names_from, values_at};
+use crate::words::{are_distinct, place_of, spaced_name_at, text_at};
 use pota_base::number_at;
+use pota_names::Name;
 use std::alloc::Global;
 
 // ` NAME ID`: the peer of a message, and the message's number.
@@ -40,19 +42,43 @@ fn action_at(bytes: &[u8]) -> Option<(ActionDraft<'_>, &[u8])>
     Some((ActionDraft::Receive { sender, id }, rest))
 }
 
+// The clock at the front of an event of this process.
+fn clock_of<'a>(
+    alloc: Global,
+    frames: &mut Frames,
+    process: Option<usize>,
+    bytes: &'a [u8],
+) -> Result<(Vec<u32>, &'a [u8]), LineError>
+    ensures { Gives (λ x. (x.0.items, x.1.now)) result (clock_at bytes.now) }
+{
+    match process {
+        Some(process) => frames.clock_at(alloc, process, bytes),
+        None => clock_at(alloc, bytes),
+    }
+}
+
 #[tactic(auto, unfolding(crate::specs::Reading::event_in))]
-fn event_in(alloc: Global, width: usize, line: &[u8]) -> Result<EventDraft<'_>, LineError>
-    ensures { Gives event_of result (event_in line.now) }
+fn event_in<'a>(
+    alloc: Global,
+    procs: &[Name],
+    frames: &mut Frames,
+    line: &'a [u8],
+) -> Result<EventDraft<'a>, LineError>
+    ensures event { Gives event_of result (event_in line.now) }
+    ensures process { IfOk result (λ e. e.process ≡ place_of procs.now e.actor.now) }
+    ensures within { IfOk result (λ e. IfSome e.process (λ p. p < length procs.now)) }
 {
     let rest = text_at(b"ev", line).ok_or(LineError::Malformed)?;
     let (actor, rest) = spaced_name_at(rest).ok_or(LineError::Malformed)?;
     let rest = text_at(b" ", rest).ok_or(LineError::Malformed)?;
-    let (clock, rest) = sized_clock_at(alloc, width, rest)?;
+    let process = place_of(procs, actor);
+    let (clock, rest) = clock_of(alloc, frames, process, rest)?;
     let rest = text_at(b" ", rest).ok_or(LineError::Malformed)?;
     let (action, rest) = action_at(rest).ok_or(LineError::Malformed)?;
     let settings = values_at(alloc, rest)?;
     Ok(EventDraft {
         actor,
+        process,
         clock,
         action,
         settings,
@@ -87,8 +113,14 @@ fn procs_in(alloc: Global, line: &[u8]) -> Result<Vec<&[u8]>, LineError>
     Ok(names)
 }
 
-/// The event that the line spells. The memory for the clock of `width` processes is taken at once.
-pub fn read_event(alloc: Global, width: usize, line: &[u8]) -> Result<EventDraft<'_>, LineError>
+/// The event of one of these processes that the line spells. The frames are those of the processes,
+/// and make no difference to what is read.
+pub fn read_event<'a>(
+    alloc: Global,
+    procs: &[Name],
+    frames: &mut Frames,
+    line: &'a [u8],
+) -> Result<EventDraft<'a>, LineError>
     // What is read is spelled so.
     ensures found { IfOk result (λ e. EventLineFits (event_of e)
         × (line.now ≡ event_line (event_of e))) }
@@ -96,8 +128,10 @@ pub fn read_event(alloc: Global, width: usize, line: &[u8]) -> Result<EventDraft
     ensures only { (e : EventLine) → EventLineFits e → line.now ≡ event_line e
         → Gives event_of result (Some e) }
     ensures exact { Gives event_of result (event_in line.now) }
+    ensures process { IfOk result (λ e. e.process ≡ place_of procs.now e.actor.now) }
+    ensures within { IfOk result (λ e. IfSome e.process (λ p. p < length procs.now)) }
 {
-    event_in(alloc, width, line)
+    event_in(alloc, procs, frames, line)
 }
 
 /// The variables of a process, with their opening values, that the line spells.
@@ -115,7 +149,7 @@ pub fn read_vars(alloc: Global, line: &[u8]) -> Result<VarsDraft<'_>, LineError>
 pub fn read_procs(alloc: Global, line: &[u8]) -> Result<Vec<&[u8]>, LineError>
     ensures found { IfOk result (λ names. ProcsFit (texts_of names.items)
         × (line.now ≡ procs_line (texts_of names.items))) }
-    ensures only { (names : List Name) → ProcsFit names → line.now ≡ procs_line names
+    ensures only { (names : List NameOf) → ProcsFit names → line.now ≡ procs_line names
         → Gives (λ ns. texts_of ns.items) result (Some names) }
     ensures exact { Gives (λ names. texts_of names.items) result (procs_in line.now) }
 {

@@ -95,7 +95,7 @@ fn clock_from(
 /// The clock at the front, and the bytes after its last component. The memory for `width`
 /// components is taken at once.
 #[tactic(auto, unfolding(crate::specs::Reading::clock_at))]
-pub fn sized_clock_at(
+pub(crate) fn sized_clock_at(
     alloc: Global,
     width: usize,
     bytes: &[u8],

@@ -1,4 +1,4 @@
-use Rattle.std.proofs.Common.{◌≡◌, ◌+◌, ◌<◌, take, drop, get_or, length, arith, refl, ap, subst, sym, ◌∙◌}
+use Rattle.std.proofs.Common.{◌≡◌, ◌<◌, take, drop, get_or, length, arith, refl, ap, subst, ◌∙◌}
 use Rattle.std.specs.Fmt.{decimal}
 use Rattle.log_lines.specs.Frames.{clock_front}
 use Rattle.log_lines.proofs.FrameLaws.{split_at, front_more}
@@ -8,13 +8,13 @@ pub overflow_add-start : goal.overflow_add-start
 overflow_add-start c =
     let there : c.loop-k.k < length c.args.counts.now = omega (arith, c.loop-k-test.true, c.requires.there) in
     let split = split_at c.args.counts.now c.args.text.now c.loop-k.k c.loop-k.start c.width_of.result there c.requires.spelled c.loop-k.invariant c.width_of.ensures in
-    omega (arith, split.whole, c.type_inv.text)
+    omega (arith, split.whole)
 
 pub overflow_add-start-in-loop-k : goal.overflow_add-start-in-loop-k
 overflow_add-start-in-loop-k c =
     let there : c.loop-k.k < length c.args.counts.now = omega (arith, c.loop-k-test.true, c.requires.there) in
     let split = split_at c.args.counts.now c.args.text.now c.loop-k.k c.loop-k.start c.width_of.result there c.requires.spelled c.loop-k.invariant c.width_of.ensures in
-    omega (arith, split.whole, c.type_inv.text)
+    omega (arith, split.whole)
 
 pub loop-k-preserved : goal.loop-k-preserved
 loop-k-preserved c =

@@ -1,4 +1,3 @@
-use Rattle.std.proofs.Common.{◌∙◌, sym}
 use Rattle.log_lines.specs.Spelling.{clock_text}
 use Rattle.log_lines.proofs.ItemLaws.{clock_takes}
 use Rattle.log_lines.proofs.FrameLaws.{stands_before}
