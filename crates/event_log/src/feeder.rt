@@ -27,6 +27,8 @@ pub struct Feeder {
     total: u32,
     reader: LineReader,
     line: Vec<u8>,
+    /// How many items the last piece gave.
+    given: usize,
     ghost counted: { reader.lines ≤ total },
     ghost room: { total ≤ 67108864 },
 }
@@ -79,6 +81,7 @@ impl LineGiven {
     }
 
     // What the line of this number was told to give.
+    #[inline(always)]
     fn of(told: LineTold, line: u32) -> LineGiven
         ensures { result ≡ record {
           header = told.header;
@@ -94,6 +97,7 @@ impl LineGiven {
     }
 }
 
+#[inline(always)]
 fn with_given(
     mut items: List<Item>,
     header: Option<Header>,
@@ -126,6 +130,7 @@ impl Feeder {
             total: 0,
             reader: LineReader::new(alloc),
             line: Vec::new(alloc),
+            given: 0,
         }
     }
 
@@ -250,7 +255,8 @@ impl Feeder {
     pub fn feed(&mut self, piece: &[u8]) -> Result<Fed, NoMemory>
         ensures { IfOk result (λ fed. TakesPiece self.old piece.now fed self.new) }
     {
-        let mut items = List::new(self.alloc);
+        // Pieces are mostly alike.
+        let mut items = List::with_capacity(self.alloc, self.given)?;
         let mut rest = piece;
         'lines: while let Some((line, after)) = split_line(rest) {
             let LineGiven {
@@ -265,6 +271,7 @@ impl Feeder {
             rest = after;
         }
         let fault = self.take_plain(rest)?;
+        self.given = items.len();
         Ok(Fed { items, fault })
     }
 

@@ -64,6 +64,7 @@ impl LineTold {
     }
 
     // What was judged, with the header before it.
+    #[inline(always)]
     fn of(
         header: Option<Header>,
         judged: Result<Option<Item>, Refused<LogCode>>,

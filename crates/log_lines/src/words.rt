@@ -1,6 +1,7 @@
 //! Fixed words and names at the front of some bytes, and names in lists.
 
 ghost use Rattle.std.specs.Prelude.{◌≡◌, ℕ, ◌<◌, ◌≤◌, length, map, IfSome};
+ghost use Rattle.std.specs.Str.{bytes_eq};
 ghost use Rattle.log_lines.specs.Names.{Name as NameOf, is_name_byte, place_of, are_distinct};
 ghost use Rattle.log_lines.specs.Reading.{text_at, front, name_at, spaced_name_at};
 ghost use Rattle.log_lines.specs.Drafts.{rest_seen, name_seen};
@@ -31,13 +32,29 @@ impl Named for Name {
     }
 }
 
+// Whether both are one name. Names of one list often begin alike, so that their ends tell most of
+// them apart.
+fn is_same_name(first: &[u8], second: &[u8]) -> bool
+    ensures { result ≡ bytes_eq first.now second.now }
+{
+    if first.len() != second.len() {
+        return false;
+    }
+    if let [.., last] = first {
+        if *last != second[second.len() - 1] {
+            return false;
+        }
+    }
+    first == second
+}
+
 /// The place of the first of the items that has this name.
 pub fn place_of<T: Named>(items: &[T], name: &[u8]) -> Option<usize>
     ensures place { result ≡ place_of (map T.name items.now) name.now }
     ensures within { IfSome result (λ place. place < length items.now) }
 {
     for (i, item) in items.iter().enumerate() {
-        if item.name() == name {
+        if is_same_name(item.name(), name) {
             return Some(i);
         }
     }
