@@ -1,4 +1,7 @@
 //! The lines of a log text: what each one says, and its one spelling.
+//!
+//! An event's line is read with the last clocks of the processes at hand (`Frames`), which make it
+//! faster and change nothing of what is read: `read_event` says the same whatever they are.
 #![tactic(auto)]
 
 mod draft;
