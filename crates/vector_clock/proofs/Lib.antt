@@ -4,6 +4,7 @@ pub mod SoundOrders
 pub mod NewNames
 pub mod Growth
 pub mod Faultless
+pub mod OwnCounts
 pub mod BatchLaws
 pub mod FirstPlaces
 pub mod MessageLaws

@@ -36,6 +36,13 @@ is_newly_loop o a e =
     some_below (length e.clock) (λ j. newly_names o a e j
     && nat_le a (count (named_clock o e j) e.process))
 
+-- the clock counts what the event before on its process counts, and maybe another number of events
+-- of its own process
+pub record AddsOnlyItself (o : Clocks) (a : ℕ) (e : Event) : Type 0 where
+  pub later : 1 < a
+  pub same : (j : ℕ) → (j ≡ e.process → ⊥)
+      → count e.clock j ≡ count (clock o e.process (a - 1)) j
+
 -- the clocks of each process, with those of the second table behind those of the first
 abbrev pub joined_clocks : Clocks → Clocks → Clocks
 joined_clocks [] added = []

@@ -1,5 +1,6 @@
 //! Clocks compared count by count.
-ghost use Rattle.std.specs.Prelude.{◌≡◌, length};
+ghost use Rattle.std.specs.Prelude.{◌≡◌, ℕ, length, IsTrue};
+ghost use Rattle.run_model.specs.Cut.{count};
 ghost use Rattle.vector_clock.specs.Events.{is_beyond as has_a_greater_count};
 
 /// Whether some count of `first` is greater than that of `second`.
@@ -13,4 +14,20 @@ pub fn is_beyond(first: &[u32], second: &[u32]) -> bool
         }
     }
     false
+}
+
+/// Whether both have the same counts, but maybe at one place.
+pub fn are_same_but(first: &[u32], second: &[u32], place: usize) -> bool
+    requires { length second.now ≡ length first.now }
+    ensures { IsTrue result → (j : ℕ) → (j ≡ place → ⊥)
+        → count second.now j ≡ count first.now j }
+{
+    let mut same = true;
+    // To its end in each case, so that the loop has no exit within.
+    for j in 0..first.len() {
+        if j != place && first[j] != second[j] {
+            same = false;
+        }
+    }
+    same
 }

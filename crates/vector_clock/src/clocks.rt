@@ -39,10 +39,11 @@ impl Clocks {
     /// Checks a batch and takes it whole, or none of it. A fault is the first of its events in
     /// their order, at the line of its event.
     ///
-    /// It goes over each clock of the batch once, and over the clock of the last event of each
-    /// process that an event newly names: one that its clock counts and that of the event before on
-    /// its process doesn't. So an event costs about one row of counts for each event that it newly
-    /// names. A message costs a look-up in an ordered map.
+    /// It compares each clock of the batch with that of the event before on its process, and where
+    /// more than the event's own count differs, with the clock of the last event of each process
+    /// that the event newly names: one that its clock counts and that of the event before doesn't.
+    /// So an event costs about one row of counts for each event that it newly names. A message
+    /// costs a look-up in an ordered map.
     pub fn admit(&mut self, batch: &[Event]) -> Result<(), Refused<LogFault>>
         requires { BatchFits (length self.old.order) (sum (lengths self.old.order)) batch.now }
         ensures ok { OnOk result ((events : Events) → HasAdmitted self.old events

@@ -1,13 +1,13 @@
 //! The clocks of all events up to the end of a batch, and the faults of a clock among them.
-ghost use Rattle.std.specs.Prelude.{◌≡◌, ◌-◌, ◌<◌, ◌≤◌, nat_le, [], length, get_or, IfOk};
+ghost use Rattle.std.specs.Prelude.{◌≡◌, ◌-◌, ◌<◌, ◌≤◌, nat_le, [], length, get_or, IfOk, IsTrue};
 ghost use Rattle.std.specs.List.{AllByRecursion};
 ghost use Rattle.run_model.specs.Cut.{IsWithin, lengths};
 ghost use Rattle.run_model.specs.Consistent.{clock};
 ghost use Rattle.causal_order.specs.Growth.{HasClock, with_clocks};
 ghost use Rattle.vector_clock.specs.Faults.{clock_fault as fault_of_clock, goes_back as falls_back, is_dangling as counts_too_many};
-ghost use Rattle.vector_clock.specs.Sound.{IsSound, counted_before as counted_by, newly_names as names_newly, is_newly_open as is_open, is_newly_loop as is_loop};
+ghost use Rattle.vector_clock.specs.Sound.{IsSound, AddsOnlyItself, counted_before as counted_by, newly_names as names_newly, is_newly_open as is_open, is_newly_loop as is_loop};
 
-use crate::beyond::is_beyond;
+use crate::beyond::{are_same_but, is_beyond};
 use causal_order::{ClockTable, Order};
 use event_log::{Event, LogCode};
 use pota_base::{EventId, NoMemory};
@@ -165,6 +165,22 @@ impl<'a> Joined<'a> {
         place > 1 && is_beyond(self.clock(event.process, place - 1), event.clock.as_slice())
     }
 
+    // Whether the clock counts what the event before on the process counts, and the event itself.
+    fn adds_only_itself(&self, event: &Event, place: u32) -> bool
+        requires process { event.now.process < length self.now }
+        requires width { length event.now.clock ≡ length self.now }
+        requires place { place ≤ length (get_or self.now event.now.process []) }
+        ensures { IsTrue result → AddsOnlyItself self.now place event.now }
+    {
+        let own = event.process;
+        place > 1
+            && are_same_but(
+                self.clock(own, place - 1),
+                event.clock.as_slice(),
+                own as usize,
+            )
+    }
+
     /// The first fault of the clock of an event at its place. The event before on its process has
     /// none.
     pub fn clock_fault(&self, event: &Event, place: u32) -> Option<LogCode>
@@ -176,6 +192,8 @@ impl<'a> Joined<'a> {
     {
         if *event.clock.get(event.process as usize) != place {
             Some(LogCode::ClockOwn)
+        } else if self.adds_only_itself(event, place) {
+            None
         } else if self.goes_back(event, place) {
             Some(LogCode::ClockBack)
         } else if self.is_dangling(event) {

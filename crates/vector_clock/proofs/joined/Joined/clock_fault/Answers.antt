@@ -4,7 +4,13 @@ use Rattle.vector_clock.specs.Faults.{is_open, is_loop}
 use Rattle.vector_clock.proofs.Below.{count_is}
 use Rattle.vector_clock.proofs.NewNames.{same_open, same_loop}
 use Rattle.vector_clock.proofs.Faultless.{dangles_not, passed_to_dangling, right_own}
+use Rattle.vector_clock.proofs.OwnCounts.{own_count_alone}
 use Rattle.vector_clock.proofs.joined.Joined.clock_fault.Goals as goal
+
+pub returns-then-adds_only_itself : goal.returns-then-adds_only_itself
+returns-then-adds_only_itself c =
+    let own = count_is c.args.event.now.clock c.args.event.now.process c.get.result.now (omega (arith, c.requires.process, c.requires.width)) c.get.ensures.indexed ∙ c.if-get-place.false in
+    own_count_alone c.args.self.now c.args.place c.args.event.now c.requires.before c.requires.place own (c.adds_only_itself.ensures c.if-adds_only_itself.true)
 
 pub is_newly_open-requires-clause-named : goal.is_newly_open-requires-clause-named
 is_newly_open-requires-clause-named c = dangles_not c.args.self.now c.args.event.now (sym c.is_dangling.ensures ∙ c.if-is_dangling.false)
