@@ -1,4 +1,5 @@
 pub mod Below
+pub mod Placing
 pub mod Joining
 pub mod SoundOrders
 pub mod NewNames

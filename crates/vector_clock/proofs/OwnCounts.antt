@@ -1,13 +1,13 @@
 -- Clocks that count what the event before on their process counts, and their own event.
-use Rattle.std.proofs.Common.{◌≡◌, ℕ, ◌+◌, ◌-◌, ◌<◌, ◌≤◌, Bool, true, false, not, ◌&&◌, [], length, get_or, IsTrue, sym, ap, ◌∙◌, subst, arith, inl, inr}
-use Rattle.std.specs.Prelude.{◌==◌, nat_lt, nat_le, Option, None}
+use Rattle.std.proofs.Common.{◌≡◌, ℕ, ◌-◌, ◌<◌, ◌≤◌, false, not, ◌&&◌, [], length, get_or, sym, ◌∙◌, subst, arith, inl, inr}
+use Rattle.std.specs.Prelude.{◌==◌, nat_lt, nat_le, None}
 use Rattle.std.proofs.lemmas.Bool.{cases_eq, and_left, and_right, not_from_true, eq-eqb, lt-ltb, le-ltb, cond-true, cond-false}
-use Rattle.run_model.specs.Cut.{Cut, Clocks, count, IsWithin, lengths}
+use Rattle.run_model.specs.Cut.{Clocks, count, IsWithin, lengths}
 use Rattle.run_model.specs.Consistent.{clock}
 use Rattle.causal_order.proofs.Growing.{count-lengths}
 use Rattle.event_log.specs.declared.log.Event.{Event}
 use Rattle.vector_clock.specs.Events.{is_beyond}
-use Rattle.vector_clock.specs.Faults.{named_clock, goes_back, is_dangling, is_open, is_loop, clock_fault}
+use Rattle.vector_clock.specs.Faults.{named_clock, goes_back, is_open, is_loop, clock_fault}
 use Rattle.vector_clock.specs.Sound.{IsSound, AddsOnlyItself, counted_before, newly_names}
 use Rattle.vector_clock.proofs.Below.{none_from, not_beyond}
 use Rattle.vector_clock.proofs.NewNames.{same_open, same_loop}

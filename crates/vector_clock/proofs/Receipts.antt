@@ -1,5 +1,5 @@
 -- Events that came batch by batch without a fault are those of a run, of which no channel has more receipts than sends at a consistent cut.
-use Rattle.std.proofs.Common.{◌≡◌, ℕ, zero, suc, ◌+◌, ◌-◌, ◌<◌, ◌≤◌, Bool, true, false, ◌||◌, List, [], ◌∷◌, ◌++◌, length, map, take, drop, get_or, count_by, refl, sym, ap, ◌∙◌, subst, arith, append-nil}
+use Rattle.std.proofs.Common.{◌≡◌, ℕ, zero, suc, ◌<◌, ◌≤◌, Bool, true, false, ◌||◌, List, [], ◌∷◌, ◌++◌, length, map, take, drop, get_or, count_by, refl, sym, ap, ◌∙◌, subst, arith, append-nil}
 use Rattle.std.specs.Prelude.{◌==◌, nat_eq, None, if◌then◌else◌}
 use Rattle.std.specs.List.{AllByRecursion, IsDistinct}
 use Rattle.std.proofs.lemmas.Bool.{eqb-true}
@@ -17,7 +17,7 @@ use Rattle.event_log.specs.States.{StatesView, event_of, with_batch, with_batche
 use Rattle.run_model.specs.Run as run
 use Rattle.run_model.proofs.TraceLemmas.{run_of_order}
 use Rattle.run_model.specs.Cut.{Cut, Clocks, count, IsWithin}
-use Rattle.run_model.specs.Consistent.{IsOrder, IsConsistent, clock}
+use Rattle.run_model.specs.Consistent.{IsOrder, IsConsistent}
 use Rattle.run_model.proofs.Orders.{has_past}
 use Rattle.causal_order.proofs.Orders.{no_events_order}
 use Rattle.vector_clock.specs.Events.{Events, EventFits, AllFit, no_events, own_events, clocks_of}

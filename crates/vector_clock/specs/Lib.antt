@@ -3,6 +3,7 @@ pub mod Messages
 pub mod Faults
 pub mod Worked
 pub mod Sound
+pub mod BatchPlaces
 pub mod Admitted
 pub mod Faultless
 pub mod Laws

@@ -7,8 +7,9 @@ ghost use Rattle.causal_order.specs.Growth.{HasClock, with_clocks};
 ghost use Rattle.vector_clock.specs.Faults.{clock_fault as fault_of_clock, goes_back as falls_back, is_dangling as counts_too_many};
 ghost use Rattle.vector_clock.specs.Sound.{IsSound, AddsOnlyItself, counted_before as counted_by, newly_names as names_newly, is_newly_open as is_open, is_newly_loop as is_loop};
 
+use crate::batch_clocks::BatchClocks;
 use crate::beyond::{are_same_but, is_beyond};
-use causal_order::{ClockTable, Order};
+use causal_order::Order;
 use event_log::{Event, LogCode};
 use pota_base::{EventId, NoMemory};
 use std::alloc::Global;
@@ -19,7 +20,7 @@ use std::marker::Model;
 #[derive(Drop)]
 pub struct Joined<'a> {
     admitted: &'a Order,
-    added: ClockTable,
+    added: BatchClocks<'a>,
 }
 
 impl<'a> Model for Joined<'a> {
@@ -35,12 +36,16 @@ impl<'a> Model for Joined<'a> {
 
 impl<'a> Joined<'a> {
     /// The clocks of a batch behind those that were admitted.
-    pub fn new(alloc: Global, admitted: &'a Order, batch: &[Event]) -> Result<Joined<'a>, NoMemory>
-        requires { AllByRecursion (HasClock (length admitted.now)) batch.now }
+    pub fn new(
+        alloc: Global,
+        admitted: &'a Order,
+        batch: &'a [Event],
+    ) -> Result<Joined<'a>, NoMemory>
+        requires each { AllByRecursion (HasClock (length admitted.now)) batch.now }
+        requires few { length batch.now ≤ 50000 }
         ensures { IfOk result (λ j. j ≡ with_clocks admitted.now batch.now) }
     {
-        let mut added = ClockTable::new(alloc, admitted.shape().procs())?;
-        added.extend(batch)?;
+        let added = BatchClocks::new(alloc, admitted.shape().procs(), batch)?;
         Ok(Joined { admitted, added })
     }
 

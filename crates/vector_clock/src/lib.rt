@@ -13,6 +13,7 @@
 //! Not said: that messages arrive in their order, or at all; how long a call takes.
 #![tactic(auto)]
 
+mod batch_clocks;
 mod beyond;
 mod clocks;
 mod joined;

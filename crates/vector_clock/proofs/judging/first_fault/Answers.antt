@@ -11,8 +11,8 @@ use Rattle.vector_clock.proofs.Counting.{one_fits, few_taken, length-raised}
 use Rattle.vector_clock.proofs.Judged.{Judged, Says, judged_none, placed, judged_fault, judged_next, judged_fault_none, judged_order}
 use Rattle.vector_clock.proofs.judging.first_fault.Goals as goal
 
-pub new-requires : goal.new-requires
-new-requires c = fits_have_clocks _ c.args.batch.now c.requires.each
+pub new-requires-clause-each : goal.new-requires-clause-each
+new-requires-clause-each c = fits_have_clocks _ c.args.batch.now c.requires.each
 
 pub loop-event-init : goal.loop-event-init
 loop-event-init c = judged_none c.args.order.now (with_clocks c.args.order.now c.args.batch.now) c.args.messages.now c.args.batch.now c.in_ok-taken.taken.items refl
