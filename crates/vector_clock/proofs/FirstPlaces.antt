@@ -1,8 +1,7 @@
 -- The first event of a process that has to do with a message, as events are added.
 use Rattle.std.proofs.Common.{◌≡◌, ℕ, zero, suc, ◌+◌, ◌<◌, ◌≤◌, Bool, true, false, ◌&&◌, List, [], ◌∷◌, ◌++◌, length, refl, sym, ap, ◌∙◌, subst, arith, inl, inr}
 use Rattle.std.specs.Prelude.{◌==◌, Option, None, Some, if◌then◌else◌}
-use Rattle.std.specs.Option.{option_map, unwrap_or}
-use Rattle.std.specs.BTreeMap.{get}
+use Rattle.std.specs.Option.{option_map, option_or, unwrap_or}
 use Rattle.std.proofs.lemmas.Option.{same_Some}
 use Rattle.std.proofs.lemmas.Bool.{cases_Bool, cases_eq, and_parts, and_from, and_left, cond-true, cond-false, eqb-true, eq-eqb, ne_eqb}
 use Rattle.std.proofs.lemmas.List.{get_or-set_same, get_or-set_other}
@@ -10,10 +9,10 @@ use Rattle.log_lines.specs.Reading.{choose}
 use Rattle.event_log.specs.declared.log.Event.{Event}
 use Rattle.event_log.specs.States.{with_event}
 use Rattle.vector_clock.specs.declared.message.Message.{Message}
-use Rattle.vector_clock.specs.declared.places.Places.{Places}
 use Rattle.vector_clock.specs.Events.{Events, no_events, own_events, place}
 use Rattle.vector_clock.specs.Messages.{is_same, first_place}
-use Rattle.vector_clock.specs.Admitted.{message_cmp, ArePlaces, is_place, StandsIn}
+use Rattle.vector_clock.specs.Met.{without, is_place}
+use Rattle.vector_clock.specs.Admitted.{StandsIn}
 
 -- ---- one list of events
 
@@ -119,41 +118,45 @@ key_is key m n e is = ap (λ (o : Option Message). choose o (λ k. is_same k m) 
 pub key_none : (key : Key) (m : Message) (e : Event) → key e ≡ None → has_key key m e ≡ false
 key_none key m e is = ap (λ (o : Option Message). choose o (λ k. is_same k m) false) is
 
+-- the same place for each message
+abbrev pub AreThePlaces : (Message → Option ℕ) → (Message → Option ℕ) → Type 0
+AreThePlaces f g = (m : Message) → f m ≡ g m
+
 -- an event without a key changes nothing
 pub none_noted : (key : Key) (owner : Owner) (events : Events) (e : Event) → e.process < length events → key e ≡ None → (m : Message) → first_of key owner (with_event events e) m ≡ first_of key owner events m
 none_noted key owner events e lt none m = first_kept (has_key key m) events e (owner m) lt (key_none key m e none)
 
-pub noted : (key : Key) (owner : Owner) (events : Events) (e : Event) (n : Message) (a : ℕ) (old new : Places) → e.process < length events → key e ≡ Some n → owner n ≡ e.process → a ≡ place events e
-    → ArePlaces old (first_of key owner events)
-    → ArePlaces new (λ m. if is_same n m then Some (unwrap_or (get message_cmp old.first n) a) else get message_cmp old.first m)
-    → ArePlaces new (first_of key owner (with_event events e))
+pub noted : (key : Key) (owner : Owner) (events : Events) (e : Event) (n : Message) (a : ℕ) (old new : Message → Option ℕ) → e.process < length events → key e ≡ Some n → owner n ≡ e.process → a ≡ place events e
+    → AreThePlaces old (first_of key owner events)
+    → AreThePlaces new (λ m. if is_same n m then Some (unwrap_or (old n) a) else old m)
+    → AreThePlaces new (first_of key owner (with_event events e))
 noted key owner events e n a old new lt is at here before after m = elim (cases_Bool (is_same n m)) [
   | inl same ↦
       after m ∙ cond-true (is_same n m) _ _ same
-      ∙ subst (λ (k : Message). Some (unwrap_or (get message_cmp old.first n) a) ≡ first_of key owner (with_event events e) k) (same_message n m same) added
+      ∙ subst (λ (k : Message). Some (unwrap_or (old n) a) ≡ first_of key owner (with_event events e) k) (same_message n m same) added
   | inr other ↦
       after m ∙ cond-false (is_same n m) _ _ other ∙ before m ∙ sym (first_kept (has_key key m) events e (owner m) lt (key_is key m n e is ∙ other))
 ]
   where
-    added : Some (unwrap_or (get message_cmp old.first n) a) ≡ first_of key owner (with_event events e) n
+    added : Some (unwrap_or (old n) a) ≡ first_of key owner (with_event events e) n
     added =
         ap (λ (o : Option ℕ). Some (unwrap_or o a)) (before n) ∙ ap (λ (k : ℕ). Some (unwrap_or (first_of key owner events n) k)) here
         ∙ ap (λ (p : ℕ). Some (unwrap_or (first_place (has_key key n) (own_events events p)) (place events e))) at
         ∙ sym (ap (λ (p : ℕ). first_place (has_key key n) (own_events (with_event events e) p)) at ∙ first_added (has_key key n) events e lt (key_is key n n e is ∙ same_refl n))
 
-pub forgotten : (key : Key) (owner : Owner) (events : Events) (e : Event) (n : Message) (a : ℕ) (old new : Places) → e.process < length events → key e ≡ Some n → owner n ≡ e.process → a ≡ place events e
-    → ArePlaces old (first_of key owner (with_event events e))
-    → ArePlaces new (λ m. if is_same n m && is_place a (get message_cmp old.first m) then None else get message_cmp old.first m)
-    → ArePlaces new (first_of key owner events)
+pub forgotten : (key : Key) (owner : Owner) (events : Events) (e : Event) (n : Message) (a : ℕ) (old new : Message → Option ℕ) → e.process < length events → key e ≡ Some n → owner n ≡ e.process → a ≡ place events e
+    → AreThePlaces old (first_of key owner (with_event events e))
+    → AreThePlaces new (λ m. if is_same n m && is_place a (old m) then None else old m)
+    → AreThePlaces new (first_of key owner events)
 forgotten key owner events e n a old new lt is at here before after m = elim (cases_Bool (is_same n m)) [
   | inl same ↦
-      after m ∙ subst (λ (k : Message). (if is_same n k && is_place a (get message_cmp old.first k) then None else get message_cmp old.first k) ≡ first_of key owner events k) (same_message n m same) removed
+      after m ∙ subst (λ (k : Message). (if is_same n k && is_place a (old k) then None else old k) ≡ first_of key owner events k) (same_message n m same) removed
   | inr other ↦
-      after m ∙ cond-false (is_same n m && is_place a (get message_cmp old.first m)) _ _ (and_left (is_same n m) _ other) ∙ before m
+      after m ∙ cond-false (is_same n m && is_place a (old m)) _ _ (and_left (is_same n m) _ other) ∙ before m
       ∙ first_kept (has_key key m) events e (owner m) lt (key_is key m n e is ∙ other)
 ]
   where
-    added : get message_cmp old.first n ≡ Some (unwrap_or (first_of key owner events n) a)
+    added : old n ≡ Some (unwrap_or (first_of key owner events n) a)
     added =
         before n ∙ ap (λ (p : ℕ). first_place (has_key key n) (own_events (with_event events e) p)) at ∙ first_added (has_key key n) events e lt (key_is key n n e is ∙ same_refl n)
         ∙ ap (λ (p : ℕ). Some (unwrap_or (first_place (has_key key n) (own_events events p)) (place events e))) (sym at)
@@ -168,10 +171,49 @@ forgotten key owner events e n a old new lt is at here before after m = elim (ca
         let le = first_le (has_key key n) (own_events events (owner n)) k h in
         omega (arith, ap (λ (p : ℕ). length (own_events events p)) at)
 
-    removed : (if is_same n n && is_place a (get message_cmp old.first n) then None else get message_cmp old.first n) ≡ first_of key owner events n
+    removed : (if is_same n n && is_place a (old n) then None else old n) ≡ first_of key owner events n
     removed =
-        ap (λ (b : Bool). if b && is_place a (get message_cmp old.first n) then None else get message_cmp old.first n) (same_refl n)
-        ∙ back (first_of key owner events n) (get message_cmp old.first n) added below
+        ap (λ (b : Bool). if b && is_place a (old n) then None else old n) (same_refl n)
+        ∙ back (first_of key owner events n) (old n) added below
+
+-- ---- what is kept of one message
+
+or_some : (o : Option ℕ) (a : ℕ) → option_or o (Some a) ≡ Some (unwrap_or o a)
+or_some None a = refl
+or_some (Some k) a = refl
+
+or_none : (o : Option ℕ) → option_or o None ≡ o
+or_none None = refl
+or_none (Some k) = refl
+
+kept_one : (old : Message → Option ℕ) (n : Message) (kept : Option ℕ) → kept ≡ old n → (m : Message) → (if is_same n m then kept else old m) ≡ old m
+kept_one old n kept is m = elim (cases_Bool (is_same n m)) [
+  | inl same ↦ cond-true (is_same n m) _ _ same ∙ is ∙ ap old (same_message n m same)
+  | inr other ↦ cond-false (is_same n m) _ _ other
+]
+
+-- the message has its place where it had none
+pub place_added : (old new : Message → Option ℕ) (n : Message) (a : ℕ) (place : Option ℕ) → place ≡ Some a → AreThePlaces new (λ m. if is_same n m then option_or (old n) place else old m)
+    → AreThePlaces new (λ m. if is_same n m then Some (unwrap_or (old n) a) else old m)
+place_added old new n a place is after m =
+    after m ∙ ap (λ (o : Option ℕ). if is_same n m then o else old m) (ap (option_or (old n)) is ∙ or_some (old n) a)
+
+pub none_added : (old new : Message → Option ℕ) (n : Message) (place : Option ℕ) → place ≡ None → AreThePlaces new (λ m. if is_same n m then option_or (old n) place else old m) → AreThePlaces new old
+none_added old new n place is after m = after m ∙ kept_one old n (option_or (old n) place) (ap (option_or (old n)) is ∙ or_none (old n)) m
+
+pub place_removed : (old new : Message → Option ℕ) (n : Message) (a : ℕ) (place : Option ℕ) → place ≡ Some a → AreThePlaces new (λ m. if is_same n m then without (old n) place else old m)
+    → AreThePlaces new (λ m. if is_same n m && is_place a (old m) then None else old m)
+place_removed old new n a place is after m = elim (cases_Bool (is_same n m)) [
+  | inl same ↦
+      after m ∙ cond-true (is_same n m) _ _ same ∙ ap (without (old n)) is
+      ∙ subst (λ (k : Message). (if is_place a (old n) then None else old n) ≡ (if is_same n k && is_place a (old k) then None else old k)) (same_message n m same)
+      (sym (ap (λ (b : Bool). if b && is_place a (old n) then None else old n) (same_refl n)))
+  | inr other ↦
+      after m ∙ cond-false (is_same n m) _ _ other ∙ sym (cond-false (is_same n m && is_place a (old m)) _ _ (and_left (is_same n m) _ other))
+]
+
+pub none_removed : (old new : Message → Option ℕ) (n : Message) (place : Option ℕ) → place ≡ None → AreThePlaces new (λ m. if is_same n m then without (old n) place else old m) → AreThePlaces new old
+none_removed old new n place is after m = after m ∙ kept_one old n (without (old n) place) (ap (without (old n)) is) m
 
 -- ---- an event that stands among others
 

@@ -9,6 +9,7 @@ pub mod OwnCounts
 pub mod BatchLaws
 pub mod FirstPlaces
 pub mod MessageLaws
+pub mod Noting
 pub mod Counting
 pub mod Judged
 pub mod Admitting

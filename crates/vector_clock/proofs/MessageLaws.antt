@@ -1,19 +1,22 @@
 -- The faults of a message by what is kept of the messages of all events.
-use Rattle.std.proofs.Common.{◌≡◌, ℕ, ◌<◌, Bool, true, false, not, ◌||◌, length, refl, sym, ap, ◌∙◌, arith}
+use Rattle.std.proofs.Common.{◌≡◌, ℕ, ◌<◌, Bool, true, false, not, ◌||◌, length, refl, sym, ap, ◌∙◌, arith, inl, inr}
 use Rattle.std.specs.Prelude.{Option, None, Some, is_some, nat_lt, if◌then◌else◌}
 use Rattle.std.specs.Option.{unwrap_or}
-use Rattle.std.proofs.lemmas.Bool.{cond-true, cond-false, eq-eqb, ne_eqb}
+use Rattle.std.proofs.lemmas.Bool.{cases_Bool, cond-true, cond-false, eq-eqb, ne_eqb}
 use Rattle.log_lines.specs.Reading.{choose}
 use Rattle.run_model.specs.Cut.{count}
+use Rattle.event_log.specs.declared.item.LogCode.{LogCode}
 use Rattle.event_log.specs.declared.item.LogCode.TheVariants as code
 use Rattle.event_log.specs.declared.log.Event.{Event}
 use Rattle.event_log.specs.States.{with_event}
 use Rattle.vector_clock.specs.declared.message.Message.{Message}
 use Rattle.vector_clock.specs.declared.messages.Messages.{Messages}
+use Rattle.vector_clock.specs.declared.places.Met.{Met}
 use Rattle.vector_clock.specs.Events.{Events}
 use Rattle.vector_clock.specs.Messages.{message_sent, message_received, first_send, first_receipt}
 use Rattle.vector_clock.specs.Faults.{is_twice, is_unsent, is_early, message_fault}
-use Rattle.vector_clock.specs.Admitted.{HasMessages, StandsIn, is_place}
+use Rattle.vector_clock.specs.Met.{met_at, HasPlaces, is_place}
+use Rattle.vector_clock.specs.Admitted.{HasMessages, StandsIn}
 use Rattle.vector_clock.proofs.FirstPlaces.{Key, none_noted, kept_for, before_is_less}
 
 abbrev pub sent_key : Key
@@ -85,3 +88,37 @@ nothing_forgotten messages events e has lt none other = record {
   sent = λ m. has.sent m ∙ none_noted sent_key (λ n. n.sender) events e lt none m;
   received = λ m. has.received m ∙ none_noted received_key (λ n. n.receiver) events e lt other m;
 }
+
+pub same_messages : (old new : Messages) (events : Events) → HasMessages old events → HasPlaces new.places (met_at old.places) → HasMessages new events
+same_messages old new events has kept = record {
+  sent = λ m. ap (λ (x : Met). x.sent) (kept m) ∙ has.sent m;
+  received = λ m. ap (λ (x : Met). x.received) (kept m) ∙ has.received m;
+}
+
+-- ---- the fault of a message, by its places
+
+pub sent_is : (messages : Messages) (before all : Events) (e : Event) (n : Message) (a : ℕ) (met : Met) → HasMessages messages all → StandsIn before all e a → sent_key e ≡ Some n → received_key e ≡ None → n.sender ≡ e.process
+    → met ≡ met_at messages.places n → (if is_place a met.sent then None else Some code.MessageTwice) ≡ message_fault before all e
+sent_is messages before all e n a met has stands is none own at =
+    let test = sent_again messages before all e n a (is_place a met.sent) met.sent has stands is none own (ap (λ (x : Met). x.sent) at ∙ has.sent n) refl in
+    elim (cases_Bool (is_place a met.sent)) [
+      | inl here ↦ cond-true (is_place a met.sent) _ _ here ∙ nothing_received before all e (sym test ∙ ap not here) none
+      | inr other ↦ cond-false (is_place a met.sent) _ _ other ∙ twice_fault before all e (sym test ∙ ap not other)
+    ]
+
+abbrev sent_or_fault : ℕ → Option ℕ → Option LogCode
+sent_or_fault n sent = choose sent (λ a. if nat_lt n a then Some code.ReceiveEarly else None) (Some code.ReceiveUnsent)
+
+not_twice : (before all : Events) (e : Event) (m : Message) (sent : Option ℕ) → is_twice before e ≡ false → received_key e ≡ Some m → first_send all m ≡ sent → sent_or_fault (count e.clock m.sender) sent ≡ message_fault before all e
+not_twice before all e m None h is first = unsent_fault before all e m h is first
+not_twice before all e m (Some a) h is first = sent_fault before all e m a h is first
+
+pub received_is : (messages : Messages) (before all : Events) (e : Event) (n : Message) (a s : ℕ) (met : Met) → HasMessages messages all → StandsIn before all e a → received_key e ≡ Some n → sent_key e ≡ None → n.receiver ≡ e.process → n.sender ≡ s
+    → met ≡ met_at messages.places n → (if is_place a met.received then sent_or_fault (count e.clock s) met.sent else Some code.MessageTwice) ≡ message_fault before all e
+received_is messages before all e n a s met has stands is none own sender at =
+    let test = received_again messages before all e n a (is_place a met.received) met.received has stands is none own (ap (λ (x : Met). x.received) at ∙ has.received n) refl in
+    elim (cases_Bool (is_place a met.received)) [
+      | inl here ↦ cond-true (is_place a met.received) _ _ here ∙ ap (λ (k : ℕ). sent_or_fault (count e.clock k) met.sent) (sym sender)
+          ∙ not_twice before all e n met.sent (sym test ∙ ap not here) is (sym (ap (λ (x : Met). x.sent) at ∙ has.sent n))
+      | inr other ↦ cond-false (is_place a met.received) _ _ other ∙ twice_fault before all e (sym test ∙ ap not other)
+    ]

@@ -1,37 +1,19 @@
 -- What is known of the clocks of a log whose events were checked so far.
-use Rattle.std.specs.Prelude.{◌≡◌, ℕ, Bool, false, ◌==◌, List, ◌∷◌, ◌++◌, Option, None, Some, Result, Ok, Err}
+use Rattle.std.specs.Prelude.{◌≡◌, ℕ, List, ◌∷◌, ◌++◌, Result, Ok, Err}
 use Rattle.pota_base.specs.declared.fault.Refused.{Refused}
 use Rattle.pota_base.specs.declared.fault.Refused.TheVariants.{Fault, NoMemory}
-use Rattle.std.specs.Ordering.{nat_cmp, ordering_then}
-use Rattle.std.specs.declared.cmp.Ordering.{Ordering}
-use Rattle.std.specs.BTreeMap.{get}
 use Rattle.event_log.specs.declared.log.Event.{Event}
 use Rattle.vector_clock.specs.declared.message.Message.{Message}
-use Rattle.vector_clock.specs.declared.places.Places.{Places}
 use Rattle.vector_clock.specs.declared.messages.Messages.{Messages}
 use Rattle.vector_clock.specs.declared.clocks.Clocks.{Clocks}
 use Rattle.vector_clock.specs.Events.{Events, own_events, clocks_of, place}
 use Rattle.vector_clock.specs.Messages.{first_send, first_receipt}
-
--- messages by sender, then receiver, then number
-abbrev pub message_cmp : Message → Message → Ordering
-message_cmp m n =
-    ordering_then (nat_cmp m.sender n.sender)
-    (ordering_then (nat_cmp m.receiver n.receiver) (nat_cmp m.id n.id))
-
--- the place that is kept for each message is the function's
-abbrev pub ArePlaces : Places → (Message → Option ℕ) → Type 0
-ArePlaces p f = (m : Message) → get message_cmp p.first m ≡ f m
-
--- this is the place
-abbrev pub is_place : ℕ → Option ℕ → Bool
-is_place place None = false
-is_place place (Some a) = a == place
+use Rattle.vector_clock.specs.Met.{met_at}
 
 -- the first events that send and receive messages are kept for these events
 pub record HasMessages (messages : Messages) (events : Events) : Type 0 where
-  pub sent : ArePlaces messages.sent (first_send events)
-  pub received : ArePlaces messages.received (first_receipt events)
+  pub sent : (m : Message) → (met_at messages.places m).sent ≡ first_send events m
+  pub received : (m : Message) → (met_at messages.places m).received ≡ first_receipt events m
 
 -- the event stands at this place among all events, behind those before it
 pub record StandsIn (before all : Events) (e : Event) (a : ℕ) : Type 0 where

@@ -4,6 +4,7 @@ pub mod Faults
 pub mod Worked
 pub mod Sound
 pub mod BatchPlaces
+pub mod Met
 pub mod Admitted
 pub mod Faultless
 pub mod Laws

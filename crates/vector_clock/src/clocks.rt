@@ -43,7 +43,7 @@ impl Clocks {
     /// more than the event's own count differs, with the clock of the last event of each process
     /// that the event newly names: one that its clock counts and that of the event before doesn't.
     /// So an event costs about one row of counts for each event that it newly names. A message
-    /// costs a look-up in an ordered map.
+    /// costs look-ups in an ordered map.
     pub fn admit(&mut self, batch: &[Event]) -> Result<(), Refused<LogFault>>
         requires { BatchFits (length self.old.order) (sum (lengths self.old.order)) batch.now }
         ensures ok { OnOk result ((events : Events) → HasAdmitted self.old events

@@ -3,14 +3,16 @@ ghost use Rattle.std.specs.Prelude.{◌≡◌, ℕ, ◌+◌, ◌<◌, ◌≤◌,
 ghost use Rattle.std.specs.List.{AllByRecursion};
 ghost use Rattle.event_log.specs.States.{with_event, with_batch};
 ghost use Rattle.run_model.specs.Cut.{count};
-ghost use Rattle.event_log.specs.declared.item.LogCode.TheVariants.{ReceiveEarly};
+ghost use Rattle.event_log.specs.declared.item.LogCode.TheVariants.{MessageTwice, ReceiveUnsent, ReceiveEarly};
 ghost use Rattle.event_log.specs.LogText.{KindWithin};
+ghost use Rattle.log_lines.specs.Reading.{choose};
 ghost use Rattle.vector_clock.specs.Events.{Events, EventFits, no_events, place as place_of, raised};
-ghost use Rattle.vector_clock.specs.Faults.{message_fault as fault_of_message, is_twice as is_again};
+ghost use Rattle.vector_clock.specs.Faults.{message_fault as fault_of_message};
+ghost use Rattle.vector_clock.specs.Met.{is_place};
 ghost use Rattle.vector_clock.specs.Admitted.{HasMessages, StandsIn};
 
-use crate::message::{Message, message_received};
-use crate::places::Places;
+use crate::message::Message;
+use crate::places::{Met, Places};
 use event_log::{Event, Kind, LogCode};
 use pota_base::NoMemory;
 use std::alloc::Global;
@@ -18,8 +20,7 @@ use std::alloc::Global;
 /// Where each message was sent and received first.
 #[derive(Debug, Drop)]
 pub struct Messages {
-    sent: Places,
-    received: Places,
+    places: Places,
 }
 
 impl Messages {
@@ -28,8 +29,7 @@ impl Messages {
         ensures { (procs : ℕ) → HasMessages result (no_events procs) }
     {
         Messages {
-            sent: Places::new(alloc),
-            received: Places::new(alloc),
+            places: Places::new(alloc),
         }
     }
 
@@ -44,10 +44,14 @@ impl Messages {
     {
         match event.kind {
             Kind::Internal => Ok(()),
-            Kind::Send { to, id } => self.sent.note(Message::new(event.process, to, id), place),
-            Kind::Receive { sender, id } => self
-                .received
-                .note(Message::new(sender, event.process, id), place),
+            Kind::Send { to, id } => {
+                let message = Message::new(event.process, to, id);
+                self.places.note(message, Met::sent_at(place))
+            }
+            Kind::Receive { sender, id } => {
+                let message = Message::new(sender, event.process, id);
+                self.places.note(message, Met::received_at(place))
+            }
         }
     }
 
@@ -59,30 +63,13 @@ impl Messages {
     {
         match event.kind {
             Kind::Internal => {}
-            Kind::Send { to, id } => self
-                .sent
-                .forget(&Message::new(event.process, to, id), place),
-            Kind::Receive { sender, id } => self
-                .received
-                .forget(&Message::new(sender, event.process, id), place),
-        }
-    }
-
-    // Whether an event before sends, or receives, the message that this one sends, or receives.
-    fn is_twice(&self, event: &Event, place: u32) -> bool
-        requires { 1 ≤ place }
-        ensures { (before all : Events) → HasMessages self.now all
-            → StandsIn before all event.now place → result ≡ is_again before event.now }
-    {
-        match event.kind {
-            Kind::Internal => false,
             Kind::Send { to, id } => {
                 let message = Message::new(event.process, to, id);
-                !self.sent.is_at(&message, place)
+                self.places.forget(&message, Met::sent_at(place));
             }
             Kind::Receive { sender, id } => {
                 let message = Message::new(sender, event.process, id);
-                !self.received.is_at(&message, place)
+                self.places.forget(&message, Met::received_at(place));
             }
         }
     }
@@ -95,15 +82,16 @@ impl Messages {
         ensures { (before all : Events) → HasMessages self.now all
             → StandsIn before all event.now place → result ≡ fault_of_message before all event.now }
     {
-        if self.is_twice(event, place) {
-            return Some(LogCode::MessageTwice);
-        }
-        let Some(message) = message_received(event.process, event.kind) else {
-            return None;
-        };
-        match self.sent.place_of(&message) {
-            None => Some(LogCode::ReceiveUnsent),
-            Some(sent) => early_fault(event, message.sender, sent),
+        match event.kind {
+            Kind::Internal => None,
+            Kind::Send { to, id } => {
+                let message = Message::new(event.process, to, id);
+                send_fault(self.places.met(&message), place)
+            }
+            Kind::Receive { sender, id } => {
+                let message = Message::new(sender, event.process, id);
+                receipt_fault(event, sender, self.places.met(&message), place)
+            }
         }
     }
 
@@ -150,15 +138,31 @@ impl Messages {
     }
 }
 
-// The fault of a receipt of a message that was sent at this place of its sender.
-fn early_fault(event: &Event, sender: u32, sent: u32) -> Option<LogCode>
-    requires { sender < length event.now.clock }
-    ensures { result
-        ≡ (if nat_lt (count event.now.clock sender) sent then Some ReceiveEarly else None) }
+// The fault of the send of a message at this place of its process, where it was met so.
+fn send_fault(met: Met, place: u32) -> Option<LogCode>
+    ensures { result ≡ (if is_place place met.sent then None else Some MessageTwice) }
 {
-    if event.clock.as_slice()[sender as usize] < sent {
-        Some(LogCode::ReceiveEarly)
-    } else {
+    if met.sent == Some(place) {
         None
+    } else {
+        Some(LogCode::MessageTwice)
+    }
+}
+
+// The fault of the receipt of a message of this sender, where it was met so.
+fn receipt_fault(event: &Event, sender: u32, met: Met, place: u32) -> Option<LogCode>
+    requires { sender < length event.now.clock }
+    ensures { result ≡ (if is_place place met.received
+        then choose met.sent (λ sent. if nat_lt (count event.now.clock sender) sent
+        then Some ReceiveEarly else None) (Some ReceiveUnsent)
+        else Some MessageTwice) }
+{
+    if met.received != Some(place) {
+        return Some(LogCode::MessageTwice);
+    }
+    match met.sent {
+        None => Some(LogCode::ReceiveUnsent),
+        Some(sent) if event.clock.as_slice()[sender as usize] < sent => Some(LogCode::ReceiveEarly),
+        Some(_) => None,
     }
 }
