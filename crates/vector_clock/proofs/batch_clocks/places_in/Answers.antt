@@ -17,4 +17,4 @@ loop-i-preserved c =
     (placed_more c.args.procs c.args.batch.now places c.loop-i.i c.index-batch-i.result c.loop-i.invariant c.loop-i-test.true c.index-batch-i.is fits.process)
 
 pub returns : goal.returns
-returns c = all_placed c.args.procs c.args.batch.now c.loop-i.places.items c.loop-i.i c.loop-i.invariant c.requires.each (omega arith) (omega (arith, c.loop-i-test.false))
+returns c = all_placed c.args.procs c.args.batch.now c.loop-i.places.items c.loop-i.i c.loop-i.invariant (omega arith) (omega (arith, c.loop-i-test.false))
