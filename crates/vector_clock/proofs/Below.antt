@@ -1,5 +1,5 @@
 -- Tests of the numbers below a bound, and clocks compared by them.
-use Rattle.std.proofs.Common.{◌≡◌, ℕ, zero, suc, ◌+◌, ◌<◌, ◌≤◌, Bool, true, false, ◌||◌, [], ◌∷◌, length, get_or, refl, sym, subst, arith, inl, inr}
+use Rattle.std.proofs.Common.{◌≡◌, ℕ, zero, suc, ◌+◌, ◌<◌, ◌≤◌, Bool, true, false, ◌||◌, [], ◌∷◌, length, get_or, refl, sym, ap, ◌∙◌, subst, arith, inl, inr}
 use Rattle.std.specs.Prelude.{nat_lt}
 use Rattle.std.proofs.lemmas.Bool.{cases_eq, cases_lt, or_parts, or_from, or_left, or_right, ltb-false, le-ltb}
 use Rattle.run_model.specs.Cut.{Cut, count, IsWithin}
@@ -60,6 +60,22 @@ pub none_step : (test : ℕ → Bool) (n : ℕ) → some_below n test ≡ false 
 none_step test n h k =
     let one : n + 1 ≡ suc n = omega arith in
     subst (λ (m : ℕ). some_below m test ≡ false) (sym one) (none_more test n h k)
+
+pub some_step : (test : ℕ → Bool) (n : ℕ) → test n ≡ true → some_below (n + 1) test ≡ true
+some_step test n h = some_from test (n + 1) n (omega arith) h
+
+some_suc : (test : ℕ → Bool) (n : ℕ) → some_below (suc n) test ≡ (some_below n test || test n)
+unfolding some_below
+some_suc test n = refl
+
+or_none : (a b : Bool) → b ≡ false → (a || b) ≡ a
+or_none true b h = refl
+or_none false b h = h
+
+pub same_step : (test : ℕ → Bool) (n : ℕ) → test n ≡ false → some_below (n + 1) test ≡ some_below n test
+same_step test n h =
+    let one : n + 1 ≡ suc n = omega arith in
+    ap (λ (m : ℕ). some_below m test) one ∙ some_suc test n ∙ or_none (some_below n test) (test n) h
 
 pub none_in_all : (test : ℕ → Bool) (n m : ℕ) → some_below n test ≡ false → m ≤ n → n ≤ m → false ≡ some_below m test
 none_in_all test n m h le ge =

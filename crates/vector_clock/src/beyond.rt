@@ -8,12 +8,14 @@ pub fn is_beyond(first: &[u32], second: &[u32]) -> bool
     requires { length second.now ≡ length first.now }
     ensures { result ≡ has_a_greater_count first.now second.now }
 {
+    let mut beyond = false;
+    // To its end in each case, so that the loop has no exit within.
     for j in 0..first.len() {
         if second[j] < first[j] {
-            return true;
+            beyond = true;
         }
     }
-    false
+    beyond
 }
 
 /// Whether both have the same counts, but maybe at one place.
