@@ -6,7 +6,7 @@ ghost use Rattle.vector_clock.specs.Events.{Events, BatchFits, CanBeChecked, no_
 ghost use Rattle.vector_clock.specs.Faults.{batch_fault, log_fault};
 ghost use Rattle.vector_clock.specs.Admitted.{HasAdmitted, HasMessages, IfFault};
 
-use crate::judging::first_fault;
+use crate::judging::{first_fault, set_counts};
 use crate::messages::Messages;
 use causal_order::Order;
 use event_log::{Event, Log, LogFault};
@@ -19,6 +19,10 @@ use std::alloc::Global;
 pub struct Clocks {
     order: Order,
     messages: Messages,
+    // Counts of events for the batch that is checked, kept for their memory: with all its events,
+    // and with those before the one that is judged.
+    taken: Vec<u32>,
+    judged: Vec<u32>,
     alloc: Global,
 }
 
@@ -32,6 +36,8 @@ impl Clocks {
         Ok(Clocks {
             order: Order::new(alloc, procs)?,
             messages: Messages::new(alloc),
+            taken: Vec::new(alloc),
+            judged: Vec::new(alloc),
             alloc,
         })
     }
@@ -57,12 +63,12 @@ impl Clocks {
         if batch.is_empty() {
             return Ok(());
         }
-        let mut taken = Vec::from_slice(self.alloc, self.order.shape().lens())?;
-        self.messages.note_all(batch, &mut taken)?;
+        set_counts(&mut self.taken, self.order.shape().lens())?;
+        self.messages.note_all(batch, &mut self.taken)?;
         match self.judge(batch) {
             Ok(()) => Ok(()),
             Err(refused) => {
-                self.messages.forget_all(batch, &mut taken);
+                self.messages.forget_all(batch, &mut self.taken);
                 Err(refused)
             }
         }
@@ -81,9 +87,17 @@ impl Clocks {
             → HasMessages self.old.messages (with_batch events batch.now)
             → batch_fault events batch.now ≡ Some fault) }
         ensures messages { self.new.messages ≡ self.old.messages }
+        ensures taken { self.new.taken.items ≡ self.old.taken.items }
         ensures same { OnErr result (self.new.order ≡ self.old.order) }
     {
-        if let Some(fault) = first_fault(self.alloc, &self.order, &self.messages, batch)? {
+        let fault = first_fault(
+            self.alloc,
+            &self.order,
+            &self.messages,
+            batch,
+            &mut self.judged,
+        )?;
+        if let Some(fault) = fault {
             return Err(Refused::Fault(fault));
         }
         self.order.extend(batch)?;
@@ -104,6 +118,8 @@ impl Clocks {
         let Clocks {
             order,
             messages: _,
+            taken: _,
+            judged: _,
             alloc: _,
         } = self;
         order

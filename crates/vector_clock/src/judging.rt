@@ -1,5 +1,5 @@
 //! The first fault of a batch behind the events that were admitted.
-ghost use Rattle.std.specs.Prelude.{◌≡◌, ℕ, ◌+◌, ◌-◌, ◌<◌, ◌≤◌, [], length, get_or, sum, None, IfOk};
+ghost use Rattle.std.specs.Prelude.{◌≡◌, ℕ, ◌+◌, ◌-◌, ◌<◌, ◌≤◌, [], length, get_or, sum, None, IfOk, OnOk};
 ghost use Rattle.std.specs.List.{AllByRecursion};
 ghost use Rattle.run_model.specs.Cut.{lengths};
 ghost use Rattle.run_model.specs.Consistent.{IsOrder};
@@ -39,12 +39,23 @@ fn event_fault(
     }
 }
 
-/// The first fault of a batch. The messages are those up to the end of the batch.
+/// Makes the counts what `lens` has. It takes memory only where they have too little.
+pub fn set_counts(counts: &mut Vec<u32>, lens: &[u32]) -> Result<(), NoMemory>
+    ensures { OnOk result (counts.new.items ≡ lens.now) }
+{
+    counts.clear();
+    counts.extend_from_slice(lens)?;
+    Ok(())
+}
+
+/// The first fault of a batch. The messages are those up to the end of the batch. It counts the
+/// events that it has judged in `judged`.
 pub fn first_fault(
     alloc: Global,
     order: &Order,
     messages: &Messages,
     batch: &[Event],
+    judged: &mut Vec<u32>,
 ) -> Result<Option<LogFault>, NoMemory>
     requires { BatchFits (length order.now) (sum (lengths order.now)) batch.now }
     ensures fault { IfOk result (λ fault. (before : Events) → order.now ≡ clocks_of before
@@ -54,16 +65,16 @@ pub fn first_fault(
         → IsOrder (with_clocks order.now batch.now)) }
 {
     let joined = Joined::new(alloc, order, batch)?;
-    let mut taken = Vec::from_slice(alloc, order.shape().lens())?;
+    set_counts(judged, order.shape().lens())?;
     for event in batch {
-        let place = taken[event.process as usize] + 1;
+        let place = judged[event.process as usize] + 1;
         if let Some(code) = event_fault(&joined, messages, event, place) {
             return Ok(Some(LogFault {
                 code,
                 line: event.line,
             }));
         }
-        taken[event.process as usize] = place;
+        judged[event.process as usize] = place;
     }
     Ok(None)
 }

@@ -15,8 +15,8 @@ pub new-requires-clause-each : goal.new-requires-clause-each
 new-requires-clause-each c = fits_have_clocks _ c.args.batch.now c.requires.each
 
 pub loop-event-init : goal.loop-event-init
-loop-event-init c = judged_none c.args.order.now (with_clocks c.args.order.now c.args.batch.now) c.args.messages.now c.args.batch.now c.in_ok-taken.taken.items refl
-    (fits_have_clocks _ c.args.batch.now c.requires.each) c.shape.ensures.order (c.in_ok-taken.ensures.items ∙ c.lens.ensures.lens ∙ c.shape.ensures.lens)
+loop-event-init c = judged_none c.args.order.now (with_clocks c.args.order.now c.args.batch.now) c.args.messages.now c.args.batch.now c.set_counts.new.counts.items refl
+    (fits_have_clocks _ c.args.batch.now c.requires.each) c.shape.ensures.order (c.in_ok-set_counts.ensures ∙ c.lens.ensures.lens ∙ c.shape.ensures.lens)
 
 pub index-requires : goal.index-requires
 index-requires c =
@@ -26,10 +26,10 @@ index-requires c =
 pub overflow_add-place : goal.overflow_add-place
 overflow_add-place c =
     let fits = one_fits _ c.args.batch.now c.loop-event.event-index c.event-item.result c.requires.each c.loop-event-test.true c.event-item.is in
-    let there : c.event-item.result.process < length c.loop-event.taken.items =
+    let there : c.event-item.result.process < length c.loop-event.judged.items =
     omega (arith, fits.clock.process, ap length c.loop-event.invariant.counts, length-raised (lengths c.args.order.now) (take c.loop-event.event-index c.args.batch.now), length-lengths c.args.order.now) in
-    let few = few_taken (lengths c.args.order.now) c.loop-event.taken.items c.args.batch.now c.loop-event.event-index c.event-item.result.process c.loop-event.invariant.counts c.requires.few in
-    let read = count_is c.loop-event.taken.items c.event-item.result.process c.index.result.now there c.index.ensures in
+    let few = few_taken (lengths c.args.order.now) c.loop-event.judged.items c.args.batch.now c.loop-event.event-index c.event-item.result.process c.loop-event.invariant.counts c.requires.few in
+    let read = count_is c.loop-event.judged.items c.event-item.result.process c.index.result.now there c.index.ensures in
     grind (arith, few, read)
 
 pub event_fault-requires-clause-fits : goal.event_fault-requires-clause-fits
@@ -41,16 +41,16 @@ event_fault-requires-clause-fits c =
 pub event_fault-requires-clause-place : goal.event_fault-requires-clause-place
 event_fault-requires-clause-place c =
     let fits = one_fits _ c.args.batch.now c.loop-event.event-index c.event-item.result c.requires.each c.loop-event-test.true c.event-item.is in
-    let at = placed c.args.order.now c.in_ok-joined.joined c.args.messages.now c.args.batch.now c.loop-event.taken.items c.loop-event.event-index c.event-item.result c.index.result.now
-    (subst (λ (o : Clocks). Judged c.args.order.now o c.args.messages.now c.args.batch.now c.loop-event.taken.items c.loop-event.event-index) (sym c.in_ok-joined.ensures) c.loop-event.invariant) c.in_ok-joined.ensures
+    let at = placed c.args.order.now c.in_ok-joined.joined c.args.messages.now c.args.batch.now c.loop-event.judged.items c.loop-event.event-index c.event-item.result c.index.result.now
+    (subst (λ (o : Clocks). Judged c.args.order.now o c.args.messages.now c.args.batch.now c.loop-event.judged.items c.loop-event.event-index) (sym c.in_ok-joined.ensures) c.loop-event.invariant) c.in_ok-joined.ensures
     (fits_have_clocks _ c.args.batch.now c.requires.each) c.loop-event-test.true c.event-item.is fits.clock c.index.ensures in
     at.within
 
 pub event_fault-requires-clause-before : goal.event_fault-requires-clause-before
 event_fault-requires-clause-before c =
     let fits = one_fits _ c.args.batch.now c.loop-event.event-index c.event-item.result c.requires.each c.loop-event-test.true c.event-item.is in
-    let at = placed c.args.order.now c.in_ok-joined.joined c.args.messages.now c.args.batch.now c.loop-event.taken.items c.loop-event.event-index c.event-item.result c.index.result.now
-    (subst (λ (o : Clocks). Judged c.args.order.now o c.args.messages.now c.args.batch.now c.loop-event.taken.items c.loop-event.event-index) (sym c.in_ok-joined.ensures) c.loop-event.invariant) c.in_ok-joined.ensures
+    let at = placed c.args.order.now c.in_ok-joined.joined c.args.messages.now c.args.batch.now c.loop-event.judged.items c.loop-event.event-index c.event-item.result c.index.result.now
+    (subst (λ (o : Clocks). Judged c.args.order.now o c.args.messages.now c.args.batch.now c.loop-event.judged.items c.loop-event.event-index) (sym c.in_ok-joined.ensures) c.loop-event.invariant) c.in_ok-joined.ensures
     (fits_have_clocks _ c.args.batch.now c.requires.each) c.loop-event-test.true c.event-item.is fits.clock c.index.ensures in
     at.before
 
@@ -64,9 +64,9 @@ loop-event-preserved c =
     let all = with_clocks c.args.order.now c.args.batch.now in
     let fits = one_fits _ c.args.batch.now c.loop-event.event-index c.event-item.result c.requires.each c.loop-event-test.true c.event-item.is in
     let has = fits_have_clocks _ c.args.batch.now c.requires.each in
-    let at = placed c.args.order.now all c.args.messages.now c.args.batch.now c.loop-event.taken.items c.loop-event.event-index c.event-item.result c.index.result.now
+    let at = placed c.args.order.now all c.args.messages.now c.args.batch.now c.loop-event.judged.items c.loop-event.event-index c.event-item.result c.index.result.now
     c.loop-event.invariant refl has c.loop-event-test.true c.event-item.is fits.clock c.index.ensures in
-    judged_next c.args.order.now all c.args.messages.now c.args.batch.now c.loop-event.taken.items c.loop-event.event-index c.event-item.result c.index.result.now c.event_fault.result c.loop-event.invariant refl has
+    judged_next c.args.order.now all c.args.messages.now c.args.batch.now c.loop-event.judged.items c.loop-event.event-index c.event-item.result c.index.result.now c.event_fault.result c.loop-event.invariant refl has
     c.loop-event-test.true c.event-item.is fits.clock c.index.ensures at
     (subst (λ (o : Clocks). Says o c.args.messages.now c.event-item.result (c.index.result.now + 1) c.event_fault.result) c.in_ok-joined.ensures c.event_fault.ensures.first) c.in_default.is
     (subst (λ (o : Clocks). clock_fault o (c.index.result.now + 1) c.event-item.result ≡ None) c.in_ok-joined.ensures (c.event_fault.ensures.clock c.in_default.is))
@@ -76,9 +76,9 @@ returns-in-Some-clause-fault c =
     let all = with_clocks c.args.order.now c.args.batch.now in
     let fits = one_fits _ c.args.batch.now c.loop-event.event-index c.event-item.result c.requires.each c.loop-event-test.true c.event-item.is in
     let has = fits_have_clocks _ c.args.batch.now c.requires.each in
-    let at = placed c.args.order.now all c.args.messages.now c.args.batch.now c.loop-event.taken.items c.loop-event.event-index c.event-item.result c.index.result.now
+    let at = placed c.args.order.now all c.args.messages.now c.args.batch.now c.loop-event.judged.items c.loop-event.event-index c.event-item.result c.index.result.now
     c.loop-event.invariant refl has c.loop-event-test.true c.event-item.is fits.clock c.index.ensures in
-    judged_fault c.args.order.now all c.args.messages.now c.args.batch.now c.loop-event.taken.items c.loop-event.event-index c.event-item.result (c.index.result.now + 1) c.event_fault.result c.in-Some.code c.loop-event.invariant refl
+    judged_fault c.args.order.now all c.args.messages.now c.args.batch.now c.loop-event.judged.items c.loop-event.event-index c.event-item.result (c.index.result.now + 1) c.event_fault.result c.in-Some.code c.loop-event.invariant refl
     c.loop-event-test.true c.event-item.is at
     (subst (λ (o : Clocks). Says o c.args.messages.now c.event-item.result (c.index.result.now + 1) c.event_fault.result) c.in_ok-joined.ensures c.event_fault.ensures.first) c.in-Some.is
 

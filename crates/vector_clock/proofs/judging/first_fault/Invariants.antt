@@ -3,4 +3,4 @@ use Rattle.vector_clock.proofs.Judged.{Judged}
 use Rattle.vector_clock.proofs.judging.first_fault.Given as goal
 
 abbrev pub invariant-loop-event : goal.invariant-loop-event
-invariant-loop-event l = Judged l.order (with_clocks l.order l.batch) l.messages l.batch l.taken.items l.event-index
+invariant-loop-event l = Judged l.order (with_clocks l.order l.batch) l.messages l.batch l.judged.items l.event-index
