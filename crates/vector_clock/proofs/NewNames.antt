@@ -82,3 +82,7 @@ open_test o e j row v b t is at test answer =
 
 pub loop_at : (o : Clocks) (e : Event) (j p : ℕ) (row v : Cut) → row ≡ clock o j (count v j) → v ≡ e.clock → count row p ≡ count (named_clock o e j) p
 loop_at o e j p row v is at = ap (λ (w : Cut). count w p) (row_named o e j row v is at)
+
+-- the clock before is read once
+pub newly_by : (o : Clocks) (a : ℕ) (e : Event) (j n : ℕ) (names : Bool) → names ≡ (not (j == e.process) && nat_lt n (count e.clock j)) → n ≡ counted_before o e.process a j → names ≡ newly_names o a e j
+newly_by o a e j n names is same = is ∙ ap (λ (k : ℕ). not (j == e.process) && nat_lt k (count e.clock j)) same

@@ -1,11 +1,12 @@
 //! The clocks of all events up to the end of a batch, and the faults of a clock among them.
-ghost use Rattle.std.specs.Prelude.{◌≡◌, ◌-◌, ◌<◌, ◌≤◌, nat_le, [], length, get_or, IfOk, IsTrue};
+ghost use Rattle.std.specs.Prelude.{◌≡◌, ℕ, ◌-◌, ◌<◌, ◌≤◌, ◌==◌, ◌&&◌, not, nat_le, nat_lt, [], length, get_or, IfOk, IsTrue};
 ghost use Rattle.std.specs.List.{AllByRecursion};
-ghost use Rattle.run_model.specs.Cut.{IsWithin, lengths};
+ghost use Rattle.log_lines.specs.Reading.{choose};
+ghost use Rattle.run_model.specs.Cut.{count, IsWithin, lengths};
 ghost use Rattle.run_model.specs.Consistent.{clock};
 ghost use Rattle.causal_order.specs.Growth.{HasClock, with_clocks};
 ghost use Rattle.vector_clock.specs.Faults.{clock_fault as fault_of_clock, goes_back as falls_back, is_dangling as counts_too_many};
-ghost use Rattle.vector_clock.specs.Sound.{IsSound, AddsOnlyItself, counted_before as counted_by, newly_names as names_newly, is_newly_open as is_open, is_newly_loop as is_loop};
+ghost use Rattle.vector_clock.specs.Sound.{IsSound, AddsOnlyItself, counted_before as counted_by, is_newly_open as is_open, is_newly_loop as is_loop};
 
 use crate::batch_clocks::BatchClocks;
 use crate::beyond::{are_same_but, is_beyond};
@@ -32,6 +33,26 @@ impl<'a> Model for Joined<'a> {
     ghost view = { λ j. joined_clocks j.admitted.now j.added };
 
     ghost invariant = { λ j. length j.added ≡ length j.admitted.now };
+}
+
+// The count of a process, and 0 where there is no clock.
+fn counted_in(clock: Option<&[u32]>, process: u32) -> u32
+    ensures { result ≡ choose clock.entry (λ row. count row.now process) 0 }
+{
+    match clock {
+        Some(row) => row.get(process as usize).copied().unwrap_or(0),
+        None => 0,
+    }
+}
+
+// Whether the clock names an event of process `other` that the clock before on its process doesn't
+// count.
+fn newly_names(event: &Event, before: Option<&[u32]>, other: u32) -> bool
+    requires { other < length event.now.clock }
+    ensures { result ≡ (not (other == event.now.process)
+        && nat_lt (choose before.entry (λ row. count row.now other) 0) (count event.now.clock other)) }
+{
+    other != event.process && counted_in(before, other) < event.clock.as_slice()[other as usize]
 }
 
 impl<'a> Joined<'a> {
@@ -81,31 +102,18 @@ impl<'a> Joined<'a> {
         }
     }
 
-    // How many events of process `other` the event before a place of the process counts.
-    fn counted_before(&self, process: u32, place: u32, other: u32) -> u32
+    // The clock of the event before a place of the process, if there is one.
+    fn clock_before(&self, process: u32, place: u32) -> Option<&[u32]>
         requires process { process < length self.now }
-        requires other { other < length self.now }
         requires place { place ≤ length (get_or self.now process []) }
-        ensures { result ≡ counted_by self.now process place other }
+        ensures { (j : ℕ) → choose result (λ row. count row.now j) 0
+            ≡ counted_by self.now process place j }
     {
         if place > 1 {
-            self.clock(process, place - 1)[other as usize]
+            Some(self.clock(process, place - 1))
         } else {
-            0
+            None
         }
-    }
-
-    // Whether the clock names an event of process `other` that the event before on its process
-    // doesn't count.
-    fn newly_names(&self, event: &Event, place: u32, other: u32) -> bool
-        requires process { event.now.process < length self.now }
-        requires width { length event.now.clock ≡ length self.now }
-        requires other { other < length self.now }
-        requires place { place ≤ length (get_or self.now event.now.process []) }
-        ensures { result ≡ names_newly self.now place event.now other }
-    {
-        other != event.process
-            && self.counted_before(event.process, place, other) < *event.clock.get(other as usize)
     }
 
     // Whether the clock counts more events of a process than there are.
@@ -131,8 +139,9 @@ impl<'a> Joined<'a> {
         ensures { result ≡ is_open self.now place event.now }
     {
         let clock = event.clock.as_slice();
+        let before = self.clock_before(event.process, place);
         for other in 0..self.procs() {
-            if self.newly_names(event, place, other)
+            if newly_names(event, before, other)
                 && is_beyond(self.clock(other, clock[other as usize]), clock)
             {
                 return true;
@@ -150,8 +159,9 @@ impl<'a> Joined<'a> {
         ensures { result ≡ is_loop self.now place event.now }
     {
         let clock = event.clock.as_slice();
+        let before = self.clock_before(event.process, place);
         for other in 0..self.procs() {
-            if self.newly_names(event, place, other)
+            if newly_names(event, before, other)
                 && self.clock(other, clock[other as usize])[event.process as usize] >= place
             {
                 return true;
