@@ -1,4 +1,4 @@
-ghost use Rattle.std.specs.Prelude.{◌≡◌, ◌+◌, ◌<◌, ◌≤◌, ◌↔◌, length, slice_index, sum, IsNone, IfSome, IfOk};
+ghost use Rattle.std.specs.Prelude.{◌≡◌, ℕ, ◌+◌, ◌<◌, ◌≤◌, ◌↔◌, length, get_or, set, slice_index, sum, IsNone, IfSome, IfOk};
 ghost use Rattle.pota_base.specs.Shape.{IsShape, AreStarts};
 
 use crate::fault::NoMemory;
@@ -83,6 +83,19 @@ impl Shape {
         self.lens[process as usize]
     }
 
+    /// Raises the number of events of a process to `len`. It takes no memory.
+    pub fn raise(&mut self, process: u32, len: u32)
+        requires process { process < length self.old }
+        requires more { slice_index self.old process ≤ len }
+        requires shape { IsShape (set self.old process len) }
+        ensures { self.new ≡ set self.old process len }
+    {
+        let place = process as usize;
+        let more = len - self.lens[place];
+        self.lens[place] = len;
+        raise_from(&mut self.starts, place + 1, more);
+    }
+
     /// The number of events of all processes.
     pub fn events(&self) -> u32
         ensures count { result ≡ sum self.now }
@@ -119,6 +132,21 @@ impl Shape {
             }
         }
         None
+    }
+}
+
+// Adds as much to each number from a place on.
+fn raise_from(starts: &mut Vec<u32>, first: usize, more: u32)
+    requires few { (k : ℕ) → k < length starts.old.items
+        → get_or starts.old.items k 0 + more ≤ 50000 }
+    ensures count { length starts.new.items ≡ length starts.old.items }
+    ensures below { (k : ℕ) → k < first
+        → get_or starts.new.items k 0 ≡ get_or starts.old.items k 0 }
+    ensures above { (k : ℕ) → first ≤ k → k < length starts.old.items
+        → get_or starts.new.items k 0 ≡ get_or starts.old.items k 0 + more }
+{
+    for k in first..starts.len() {
+        starts[k] += more;
     }
 }
 

@@ -78,6 +78,20 @@ fn rows_follow_the_processes(rt: HostRuntime) -> Result<(), Fail> {
 }
 
 #[test]
+fn a_process_gets_more_events(rt: HostRuntime) -> Result<(), Fail> {
+    let mut shape = Shape::new(rt.alloc(), &[3, 0, 2])?;
+    shape.raise(1, 4);
+    assert_eq!(rt; shape.lens(), [3, 4, 2].as_slice());
+    assert_eq!(rt; shape.events(), 9);
+    let first_of_last = EventId {
+        process: 2,
+        position: 1,
+    };
+    assert_eq!(rt; shape.row_of(first_of_last), 8);
+    Ok(())
+}
+
+#[test]
 fn statuses_have_their_codes(rt: HostRuntime) {
     assert_eq!(rt; Status::True.code(), 0);
     assert_eq!(rt; Status::OutOfMemory.code(), 7);
