@@ -15,7 +15,7 @@ use Rattle.cut_lattice.proofs.Steps.{DoneBelow}
 use Rattle.event_log.specs.declared.log.Event.{Event}
 use Rattle.causal_order.specs.Blocks.{AreOrdered}
 use Rattle.causal_order.specs.Growth.{with_clocks}
-use Rattle.causal_order.proofs.Growing.{length-lengths, length-with_clocks, sum_grown}
+use Rattle.causal_order.proofs.Growing.{length-lengths, sum_grown}
 
 pub holds : {P : Type 0} → P → (true ≡ true) ↔ P
 holds p = (λ _. p, λ _. refl)
@@ -162,15 +162,21 @@ no_events_ordered n o shape lens is at same some few = record {
 
 -- ---- more events
 
-pub grown_shape : (o : Clocks) (events : List Event) (now : Clocks) (lens : List ℕ) → now ≡ with_clocks o events → lens ≡ lengths now → 1 ≤ length o → length o ≤ 32
-    → sum (lengths o) + length events ≤ 50000 → IsShape lens
-grown_shape o events now lens is at some few sum_few =
-    let count : length lens ≡ length o = ap length at ∙ length-lengths now ∙ ap length is ∙ length-with_clocks o events in
-    record {
-      some = omega arith;
-      few = omega arith;
-      events = omega (arith, ap sum at, ap (λ (x : Clocks). sum (lengths x)) is, sum_grown o events);
-    }
+-- the lengths of clocks of which there are as many as a shape has
+pub lengths_shape : (o : Clocks) (shape : List ℕ) → IsShape shape → length shape ≡ length o → sum (lengths o) ≤ 50000 → IsShape (lengths o)
+lengths_shape o shape is same few = record {
+  some = omega (arith, length-lengths o, is.some);
+  few = omega (arith, length-lengths o, is.few);
+  events = few;
+}
+
+pub grown_ordered : (o now : Clocks) (shape shape' : List ℕ) → AreOrdered shape o → length now ≡ length o → sum (lengths now) ≤ 50000 → shape' ≡ lengths now → IsOrder now
+    → AreOrdered shape' now
+grown_ordered o now shape shape' h same few is order = record {
+  fits = subst IsShape (sym is) (lengths_shape now shape h.fits (ap length h.lens ∙ length-lengths o ∙ sym same) few);
+  lens = is;
+  order = order;
+}
 
 pub grown_few : (o : Clocks) (events : List Event) (now : Clocks) → now ≡ with_clocks o events → sum (lengths o) + length events ≤ 50000 → sum (lengths now) ≤ 50000
 grown_few o events now is few = omega (arith, ap (λ (x : Clocks). sum (lengths x)) is, sum_grown o events)

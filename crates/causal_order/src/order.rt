@@ -1,11 +1,10 @@
 //! The order of a run's events.
 ghost use Rattle.std.specs.Prelude.{◌≡◌, ℕ, ◌+◌, ◌<◌, ◌≤◌, ◌↔◌, [], length, get_or, replicate, sum, IsTrue, IfOk, OnOk, OnErr};
-ghost use Rattle.std.specs.List.{AllByRecursion};
 ghost use Rattle.run_model.specs.Cut.{Clocks, count, lengths, with_next};
 ghost use Rattle.run_model.specs.Consistent.{IsOrder, IsConsistent, HappenedBefore, clock};
 ghost use Rattle.run_model.specs.Sublattice.{IsLeast, Having};
 ghost use Rattle.pota_base.specs.Shape.{IsShape, HasEvent};
-ghost use Rattle.causal_order.specs.Growth.{HasClock, HasGrown, MayExtend, with_clocks};
+ghost use Rattle.causal_order.specs.Growth.{HasGrown, MayExtend, with_clocks};
 
 use crate::table::ClockTable;
 use cut_lattice::Cut;
@@ -20,7 +19,6 @@ use std::marker::Model;
 pub struct Order {
     shape: Shape,
     table: ClockTable,
-    alloc: Global,
 }
 
 impl Model for Order {
@@ -47,20 +45,19 @@ fn cut_back(table: &mut ClockTable, shape: &Shape)
     }
 }
 
-// Puts the clocks of the events behind those that are there, and gives the new shape. Without
-// memory some may be there.
-fn grow(alloc: Global, table: &mut ClockTable, events: &[Event]) -> Result<Shape, NoMemory>
-    requires each { AllByRecursion (HasClock (length table.old)) events.now }
-    requires some { 1 ≤ length table.old }
-    requires most { length table.old ≤ 32 }
-    requires few { sum (lengths table.old) + length events.now ≤ 50000 }
-    ensures ok { IfOk result (λ shape. (table.new ≡ with_clocks table.old events.now)
-        × (shape ≡ lengths table.new) × IsShape shape) }
-    ensures grown { HasGrown table.old table.new }
+// Makes the shape that of a table that has grown since it had this shape.
+fn measure(shape: &mut Shape, table: &ClockTable)
+    requires count { length shape.old ≡ length table.now }
+    requires fits { (p : ℕ) → get_or shape.old p 0 ≤ length (get_or table.now p []) }
+    requires few { sum (lengths table.now) ≤ 50000 }
+    ensures { shape.new ≡ lengths table.now }
 {
-    table.extend(events)?;
-    let lens = table.lens(alloc)?;
-    Shape::new(alloc, &lens)
+    for process in 0..shape.procs() {
+        let len = table.len_of(process) as u32;
+        if len > shape.len_of(process) {
+            shape.raise(process, len);
+        }
+    }
 }
 
 // Whether each count of the clock, but that of one process, is within the cut.
@@ -87,11 +84,7 @@ impl Order {
         let table = ClockTable::new(alloc, procs)?;
         let lens = table.lens(alloc)?;
         let shape = Shape::new(alloc, &lens)?;
-        Ok(Order {
-            shape,
-            table,
-            alloc,
-        })
+        Ok(Order { shape, table })
     }
 
     /// Puts events behind those that are there. Without memory it is as before.
@@ -100,9 +93,9 @@ impl Order {
         ensures ok { OnOk result (self.new ≡ with_clocks self.old events.now) }
         ensures err { OnErr result (self.new ≡ self.old) }
     {
-        match grow(self.alloc, &mut self.table, events) {
-            Ok(shape) => {
-                self.shape = shape;
+        match self.table.extend(events) {
+            Ok(()) => {
+                measure(&mut self.shape, &self.table);
                 Ok(())
             }
             Err(no_memory) => {

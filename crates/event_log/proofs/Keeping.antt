@@ -56,12 +56,17 @@ added_sum old now batch h few =
     let f = ap (λ (ess : List (List Event)). sum (map length ess)) h.events in
     omega (arith, e, f, sum_batch (events_in old) batch)
 
-pub added_shape : (old now : List HistoryView) (batch : List Event) (lens : List ℕ) → Added old batch now → sum (map length (events_in old)) + length batch ≤ 50000
-    → 1 ≤ length old → length old ≤ 32 → lens ≡ lens_in now → IsShape lens
-added_shape old now batch lens h few some most is = record {
-  some = omega (arith, ap length is, length-map now (λ (x : HistoryView). length x.events), h.grown.count);
-  few = omega (arith, ap length is, length-map now (λ (x : HistoryView). length x.events), h.grown.count);
-  events = omega (arith, ap sum is, added_sum old now batch h few);
+pub count-lens_in : (hs : List HistoryView) (p : ℕ) → get_or (lens_in hs) p 0 ≡ length (get_or hs p nothing).events
+count-lens_in [] p = refl
+count-lens_in (h ∷ hs) zero = refl
+count-lens_in (h ∷ hs) (suc p) = count-lens_in hs p
+
+-- the lengths of histories of which there are as many as a shape has
+pub lens_shape : (hs : List HistoryView) (shape : List ℕ) → IsShape shape → length shape ≡ length hs → sum (lens_in hs) ≤ 50000 → IsShape (lens_in hs)
+lens_shape hs shape is same few = record {
+  some = omega (arith, length-map hs (λ (x : HistoryView). length x.events), is.some);
+  few = omega (arith, length-map hs (λ (x : HistoryView). length x.events), is.few);
+  events = few;
 }
 
 -- ---- without events

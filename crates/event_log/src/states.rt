@@ -4,7 +4,7 @@ ghost use Rattle.std.specs.List.{AllByRecursion};
 ghost use Rattle.run_model.specs.Run.{state_after, states_of, process_at};
 ghost use Rattle.pota_base.specs.Shape.{HasEvent};
 ghost use Rattle.event_log.specs.declared.log.Event.{Event};
-ghost use Rattle.event_log.specs.States.{HistoryView, StatesView, IsHeader, IsKnown, AreWhole, MayFollow, openings_of, histories_of, with_batch, trace_of, events_in, nothing, Grown, HasRoom, Added};
+ghost use Rattle.event_log.specs.States.{HistoryView, StatesView, IsHeader, AreWhole, MayFollow, with_batch, trace_of, nothing, Grown, HasRoom, Added};
 
 use crate::history::History;
 use crate::log::{Event, Header};
@@ -19,7 +19,6 @@ pub struct States {
     header: Header,
     shape: Shape,
     histories: Vec<History>,
-    alloc: Global,
 }
 
 impl Model for States {
@@ -47,6 +46,22 @@ fn lens_of(alloc: Global, histories: &[History]) -> Result<Vec<u32>, NoMemory>
         lens.push(history.len() as u32)?;
     }
     Ok(lens)
+}
+
+// Makes the shape that of histories that have grown since they had this shape.
+fn measure(shape: &mut Shape, histories: &[History])
+    requires count { length shape.old ≡ length histories.now }
+    requires fits { (p : ℕ)
+        → get_or shape.old p 0 ≤ length (get_or histories.now p nothing).events }
+    requires few { sum (map (λ (h : HistoryView). length h.events) histories.now) ≤ 50000 }
+    ensures { shape.new ≡ map (λ (h : HistoryView). length h.events) histories.now }
+{
+    for process in 0..shape.procs() {
+        let len = histories[process as usize].len() as u32;
+        if len > shape.len_of(process) {
+            shape.raise(process, len);
+        }
+    }
 }
 
 // Keeps the first events of each process, as many as the shape has.
@@ -96,7 +111,6 @@ impl States {
             header,
             shape,
             histories,
-            alloc,
         })
     }
 
@@ -154,9 +168,9 @@ impl States {
             ≡ record self.old { events = with_batch self.old.events batch }) }
         ensures err { OnErr result (self.new ≡ self.old) }
     {
-        match grow(self.alloc, &mut self.histories, batch.into_vec()) {
-            Ok(shape) => {
-                self.shape = shape;
+        match add_all(&mut self.histories, batch.into_vec()) {
+            Ok(()) => {
+                measure(&mut self.shape, &self.histories);
                 Ok(())
             }
             Err(no_memory) => {
@@ -165,21 +179,4 @@ impl States {
             }
         }
     }
-}
-
-// Puts the events of a batch behind those that are there, and gives the new shape. Without memory
-// some may be there.
-fn grow(alloc: Global, histories: &mut Vec<History>, batch: Vec<Event>) -> Result<Shape, NoMemory>
-    requires room { AllByRecursion (HasRoom histories.old.items) batch.items }
-    requires some { 1 ≤ length histories.old.items }
-    requires few { length histories.old.items ≤ 32 }
-    requires events { sum (map length (events_in histories.old.items)) + length batch.items
-        ≤ 50000 }
-    ensures ok { IfOk result (λ shape. Added histories.old.items batch.items histories.new.items
-        × (shape ≡ map (λ (h : HistoryView). length h.events) histories.new.items)) }
-    ensures grown { Grown histories.old.items histories.new.items }
-{
-    add_all(histories, batch)?;
-    let lens = lens_of(alloc, histories)?;
-    Shape::new(alloc, &lens)
 }
