@@ -132,3 +132,7 @@ pub event_fits : (procs : ℕ) (events : List Event) (i : ℕ) (e : Event) → A
 event_fits procs [] i e all lt at = absurd (omega arith)
 event_fits procs (x ∷ events) zero e all lt at = subst (HasClock procs) (sym at) all.0
 event_fits procs (x ∷ events) (suc i) e all lt at = event_fits procs events i e all.1 (omega arith) at
+
+pub clocks_within : (procs : ℕ) (events : List Event) → procs ≤ 32 → AllByRecursion (HasClock procs) events → AllByRecursion (λ (e : Event). e.process < 32) events
+clocks_within procs [] few all = tt
+clocks_within procs (e ∷ events) few all = (omega (arith, all.0.process), clocks_within procs events few all.1)

@@ -59,6 +59,14 @@ impl Block {
         &self.counts[start..start + self.width]
     }
 
+    /// Takes room for so many more clocks at once.
+    pub fn reserve(&mut self, more: usize) -> Result<(), NoMemory>
+        ensures { self.new ≡ self.old }
+    {
+        self.counts.reserve(more.saturating_mul(self.width))?;
+        Ok(())
+    }
+
     /// Adds a clock. Without memory for it the block is as before.
     pub fn push(&mut self, clock: &[u32]) -> Result<(), NoMemory>
         requires { length clock.now ≡ self.old.width }

@@ -1,14 +1,15 @@
 //! The order of a run's events.
 ghost use Rattle.std.specs.Prelude.{◌≡◌, ℕ, ◌+◌, ◌<◌, ◌≤◌, ◌↔◌, [], length, get_or, replicate, sum, IsTrue, IfOk, OnOk, OnErr};
+ghost use Rattle.std.specs.List.{AllByRecursion};
 ghost use Rattle.run_model.specs.Cut.{Clocks, count, lengths, with_next};
 ghost use Rattle.run_model.specs.Consistent.{IsOrder, IsConsistent, HappenedBefore, clock};
 ghost use Rattle.run_model.specs.Sublattice.{IsLeast, Having};
 ghost use Rattle.pota_base.specs.Shape.{IsShape, HasEvent};
-ghost use Rattle.causal_order.specs.Growth.{HasGrown, MayExtend, with_clocks};
+ghost use Rattle.causal_order.specs.Growth.{HasClock, HasGrown, MayExtend, with_clocks};
 
 use crate::table::ClockTable;
 use cut_lattice::Cut;
-use event_log::Event;
+use event_log::{Event, MANY_EVENTS, count_events};
 use pota_base::{EventId, NoMemory, Shape};
 use std::alloc::Global;
 use std::marker::Model;
@@ -43,6 +44,36 @@ fn cut_back(table: &mut ClockTable, shape: &Shape)
     for process in 0..shape.procs() {
         table.truncate(process, shape.len_of(process));
     }
+}
+
+// Takes room at once for the clocks of a batch.
+fn make_room(table: &mut ClockTable, procs: u32, events: &[Event]) -> Result<(), NoMemory>
+    requires procs { procs ≡ length table.old }
+    requires most { procs ≤ 32 }
+    requires each { AllByRecursion (HasClock (length table.old)) events.now }
+    requires few { length events.now ≤ 50000 }
+    ensures { table.new ≡ table.old }
+{
+    let counts = count_events(events);
+    for p in 0..procs {
+        table.reserve(p, counts[p as usize] as usize)?;
+    }
+    Ok(())
+}
+
+// Puts the clocks of a batch behind those that are there. Without memory some may be there.
+fn add_batch(table: &mut ClockTable, procs: u32, events: &[Event]) -> Result<(), NoMemory>
+    requires procs { procs ≡ length table.old }
+    requires most { procs ≤ 32 }
+    requires each { AllByRecursion (HasClock (length table.old)) events.now }
+    requires few { length events.now ≤ 50000 }
+    ensures ok { OnOk result (table.new ≡ with_clocks table.old events.now) }
+    ensures grown { HasGrown table.old table.new }
+{
+    if events.len() >= MANY_EVENTS {
+        make_room(table, procs, events)?;
+    }
+    table.extend(events)
 }
 
 // Makes the shape that of a table that has grown since it had this shape.
@@ -93,7 +124,7 @@ impl Order {
         ensures ok { OnOk result (self.new ≡ with_clocks self.old events.now) }
         ensures err { OnErr result (self.new ≡ self.old) }
     {
-        match self.table.extend(events) {
+        match add_batch(&mut self.table, self.shape.procs(), events) {
             Ok(()) => {
                 measure(&mut self.shape, &self.table);
                 Ok(())

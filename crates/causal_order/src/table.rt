@@ -35,7 +35,7 @@ impl ClockTable {
     pub fn new(alloc: Global, procs: u32) -> Result<ClockTable, NoMemory>
         ensures { IfOk result (λ table. table ≡ replicate procs []) }
     {
-        let mut blocks = Vec::new(alloc);
+        let mut blocks = Vec::with_capacity(alloc, procs as usize)?;
         for _process in 0..procs {
             blocks.push(Block::new(alloc, procs as usize))?;
         }
@@ -66,11 +66,19 @@ impl ClockTable {
         requires { sum (lengths self.now) ≤ 50000 }
         ensures { IfOk result (λ lens. lens.items ≡ lengths self.now) }
     {
-        let mut lens = Vec::new(alloc);
+        let mut lens = Vec::with_capacity(alloc, self.blocks.len())?;
         for block in &self.blocks {
             lens.push(block.len() as u32)?;
         }
         Ok(lens)
+    }
+
+    /// Takes room for so many more clocks of a process at once.
+    pub fn reserve(&mut self, process: u32, more: usize) -> Result<(), NoMemory>
+        requires { process < length self.old }
+        ensures { self.new ≡ self.old }
+    {
+        self.blocks[process as usize].reserve(more)
     }
 
     /// Puts a clock behind those of a process. Without memory for it the table is as before.

@@ -28,7 +28,7 @@ added_none old = record { grown = grown_none old; events = refl }
 
 -- ---- one event more
 
-with_batch-push : (events : List (List Event)) (batch : List Event) (e : Event) → with_batch events (batch ++ e ∷ []) ≡ with_event (with_batch events batch) e
+pub with_batch-push : (events : List (List Event)) (batch : List Event) (e : Event) → with_batch events (batch ++ e ∷ []) ≡ with_event (with_batch events batch) e
 unfolding with_batch
 with_batch-push events [] e = refl
 with_batch-push events (f ∷ batch) e = with_batch-push (with_event events f) batch e

@@ -105,6 +105,15 @@ impl History {
         &self.events[position - 1]
     }
 
+    /// Takes room for so many more events at once.
+    pub fn reserve(&mut self, more: usize) -> Result<(), NoMemory>
+        ensures { self.new ≡ self.old }
+    {
+        self.events.reserve(more)?;
+        self.values.reserve(more.saturating_mul(self.width))?;
+        Ok(())
+    }
+
     /// Adds an event. Without memory for it the history is as before, and the event is dropped.
     pub fn push(&mut self, event: Event) -> Result<(), NoMemory>
         requires { AssignsWithin (length self.old.opening) event }

@@ -14,6 +14,7 @@
 #![tactic(auto)]
 
 mod copies;
+mod counting;
 mod feeder;
 mod history;
 mod item;
@@ -28,6 +29,7 @@ mod states;
 mod writing;
 
 pub use copies::names_of;
+pub use counting::{MANY_EVENTS, count_events};
 pub use history::History;
 pub use item::{Fed, Item, LogCode, LogFault};
 pub use laws::{a_log_reads_back, items_fit, no_fault_is_a_log};

@@ -6,6 +6,7 @@ ghost use Rattle.pota_base.specs.Shape.{HasEvent};
 ghost use Rattle.event_log.specs.declared.log.Event.{Event};
 ghost use Rattle.event_log.specs.States.{HistoryView, StatesView, IsHeader, AreWhole, MayFollow, with_batch, trace_of, nothing, Grown, HasRoom, Added};
 
+use crate::counting::{MANY_EVENTS, count_events};
 use crate::history::History;
 use crate::log::{Event, Header};
 use pota_base::{EventId, List, NoMemory, Shape};
@@ -41,7 +42,7 @@ fn lens_of(alloc: Global, histories: &[History]) -> Result<Vec<u32>, NoMemory>
     ensures { IfOk result (λ lens. lens.items
         ≡ map (λ (h : HistoryView). length h.events) histories.now) }
 {
-    let mut lens = Vec::new(alloc);
+    let mut lens = Vec::with_capacity(alloc, histories.len())?;
     for history in histories {
         lens.push(history.len() as u32)?;
     }
@@ -78,6 +79,34 @@ fn cut_back(histories: &mut Vec<History>, shape: &Shape)
         let len = shape.len_of(process);
         histories[process as usize].truncate(len as usize);
     }
+}
+
+// Takes room at once for the events of a batch.
+fn make_room(histories: &mut Vec<History>, batch: &[Event]) -> Result<(), NoMemory>
+    requires procs { length histories.old.items ≤ 32 }
+    requires room { AllByRecursion (HasRoom histories.old.items) batch.now }
+    requires few { length batch.now ≤ 50000 }
+    ensures { histories.new.items ≡ histories.old.items }
+{
+    let counts = count_events(batch);
+    for process in 0..histories.len() {
+        histories[process].reserve(counts[process] as usize)?;
+    }
+    Ok(())
+}
+
+// Puts a batch behind the events that are there. Without memory some of it may be there.
+fn add_batch(histories: &mut Vec<History>, batch: Vec<Event>) -> Result<(), NoMemory>
+    requires procs { length histories.old.items ≤ 32 }
+    requires room { AllByRecursion (HasRoom histories.old.items) batch.items }
+    requires few { length batch.items ≤ 50000 }
+    ensures ok { OnOk result (Added histories.old.items batch.items histories.new.items) }
+    ensures grown { Grown histories.old.items histories.new.items }
+{
+    if batch.len() >= MANY_EVENTS {
+        make_room(histories, &batch)?;
+    }
+    add_all(histories, batch)
 }
 
 // Puts each event of the batch behind those of its process. Without memory some may be there.
@@ -168,7 +197,7 @@ impl States {
             ≡ record self.old { events = with_batch self.old.events batch }) }
         ensures err { OnErr result (self.new ≡ self.old) }
     {
-        match add_all(&mut self.histories, batch.into_vec()) {
+        match add_batch(&mut self.histories, batch.into_vec()) {
             Ok(()) => {
                 measure(&mut self.shape, &self.histories);
                 Ok(())
