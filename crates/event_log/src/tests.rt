@@ -126,3 +126,20 @@ fn written(rt: HostRuntime) -> Result<(), Fail> {
     );
     Ok(())
 }
+
+#[test]
+fn events_are_counted(rt: HostRuntime) -> Result<(), Fail> {
+    let event = Event {
+        process: 1,
+        line: 1,
+        clock: List::new(rt.alloc()),
+        kind: Kind::Internal,
+        assigns: List::new(rt.alloc()),
+    };
+    let mut events = Vec::new(rt.alloc());
+    events.push(event)?;
+    let counts = count_events(&events);
+    assert_eq!(rt; counts[0], 0);
+    assert_eq!(rt; counts[1], 1);
+    Ok(())
+}
