@@ -220,14 +220,11 @@ answered_full v w same keeps has =
 pub kept_trace : (v w : GrowingView) → v ≡ w → (v.spent ≡ false → Keeps v.seen v.disjuncts v.settled v.answer) → HasAnswer w → IsTrace v.seen.trace.states
 kept_trace v w same keeps has = (keeps (subst HasAnswer (sym same) has).unspent).trace
 
-pub settled_there : (v w : GrowingView) → v ≡ w → (v.spent ≡ false → Keeps v.seen v.disjuncts v.settled v.answer) → HasAnswer w → (k : ℕ) → 1 ≤ k
-    → k ≤ length (all_conjunctions (disjuncts_of w.disjuncts)) → k - 1 < length v.settled
-settled_there v w same keeps has k some there =
-    omega (
-      arith,
-      settled_count v.seen (all_conjunctions (disjuncts_of v.disjuncts)) v.settled (answered_rows v w same keeps has),
-      ap (λ (u : GrowingView). length (all_conjunctions (disjuncts_of u.disjuncts))) same,
-    )
+-- there are as many as there are conjunctions
+pub settled_len : (v w : GrowingView) → v ≡ w → (v.spent ≡ false → Keeps v.seen v.disjuncts v.settled v.answer) → HasAnswer w → length v.settled ≡ length (all_conjunctions (disjuncts_of w.disjuncts))
+settled_len v w same keeps has =
+    settled_count v.seen (all_conjunctions (disjuncts_of v.disjuncts)) v.settled (answered_rows v w same keeps has)
+    ∙ ap (λ (u : GrowingView). length (all_conjunctions (disjuncts_of u.disjuncts))) same
 
 pub settled_is : (v w : GrowingView) → v ≡ w → (v.spent ≡ false → Keeps v.seen v.disjuncts v.settled v.answer) → HasAnswer w → (k : ℕ) (r : RowsView) → slice_get v.settled k ≡ Some r
     → IsSettled w.seen (slice_index_or (all_conjunctions (disjuncts_of w.disjuncts)) k []) r

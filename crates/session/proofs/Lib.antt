@@ -4,4 +4,3 @@ mod Named
 mod Going
 mod Completing
 mod OneTrace
-mod Trial

@@ -1,6 +1,6 @@
 //! A batch of which the trace has the events already: the watches are fed, and the formula is
 //! answered anew.
-ghost use Rattle.std.specs.Prelude.{◌≡◌, ◌+◌, ◌≤◌, false, length, IfOk, OnOk};
+ghost use Rattle.std.specs.Prelude.{◌≡◌, ◌+◌, ◌≤◌, [], false, length, IfOk, OnOk};
 ghost use Rattle.rctl_parts.specs.Pieces.{disjuncts_of};
 ghost use Rattle.rctl_parts.specs.MadeFor.{AreMadeFor};
 ghost use Rattle.conjunctions.specs.Observing.{lens_seen, scope_seen};
@@ -22,6 +22,15 @@ use std::sync::ledger::Ledger;
 use std::thread::Threads;
 use watch::{Handed, Watch};
 use watch_feeding::feed_new_states;
+
+// A round in which each conjunction begins from its rows of before. They are taken from the list.
+fn begin_round(alloc: Global, settled: &mut List<Settled>) -> Round
+    ensures before { result.before ≡ settled.old }
+    ensures settled { result.settled ≡ [] }
+{
+    let before = mem::replace(settled, List::new(alloc));
+    Round::new(alloc, before)
+}
 
 /// Feeds the watches, and answers the formula on the trace so far. Each conjunction of atoms begins
 /// from its rows of before, and the new rows stand in their place.
@@ -63,8 +72,7 @@ pub(crate) fn take_batch<R: Threads + Sync, G: Gate, L: Ledger>(
         watches,
         &mut seen.watch_rows,
     )?;
-    let before = mem::replace(settled, List::new(alloc));
-    let mut round = Round::new(alloc, before);
+    let mut round = begin_round(alloc, settled);
     let answer = answer_all(
         rt,
         alloc,

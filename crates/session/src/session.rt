@@ -189,6 +189,15 @@ impl Session {
         }
     }
 
+    /// How many conjunctions `settled` numbers.
+    pub fn conjunctions(&self) -> usize
+        requires { HasAnswer self.now.growing }
+        ensures { result ≡ length (all_conjunctions
+            (disjuncts_of self.now.growing.disjuncts)) }
+    {
+        self.growing.settled.len()
+    }
+
     /// The rows of a conjunction on the trace so far. Conjunctions are numbered from 1: the
     /// disjuncts in order, before each the operands of its temporal parts in the order of the
     /// parts, each behind the operands within it.

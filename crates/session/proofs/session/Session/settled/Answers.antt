@@ -1,10 +1,11 @@
+use Rattle.std.proofs.Common.{arith}
 use Rattle.session.proofs.Feeding.{along}
-use Rattle.session.proofs.Going.{settled_there, settled_is}
+use Rattle.session.proofs.Going.{settled_len, settled_is}
 use Rattle.session.proofs.session.Session.settled.Goals as goal
 
 pub get-requires : goal.get-requires
 get-requires g c =
-    settled_there _ c.args.self.now.growing (along c.self.view_is (λ s. s.growing)) c.self.invariant c.requires.answered c.args.conjunction c.requires.some c.requires.there
+    omega (arith, settled_len _ c.args.self.now.growing (along c.self.view_is (λ s. s.growing)) c.self.invariant c.requires.answered, c.requires.some, c.requires.there)
 
 pub returns : goal.returns
 returns g c =
