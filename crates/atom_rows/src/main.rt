@@ -13,7 +13,6 @@
 #![tactic(auto)]
 
 mod atom;
-mod fitting;
 mod reading;
 
 use atom::pulls_of_line;

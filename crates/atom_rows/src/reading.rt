@@ -1,7 +1,7 @@
 //! The states of a log.
 
-use crate::fitting::{are_known, is_header};
 use event_log::{Item, Reader, States};
+use log_fitting::{are_known, is_header};
 use pota_base::{List, NoMemory};
 use std::alloc::{AllocError, Global};
 

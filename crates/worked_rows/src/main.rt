@@ -5,7 +5,6 @@
 //! program makes.
 #![tactic(auto)]
 
-mod fitting;
 mod generated;
 mod reading;
 mod verdict;

@@ -1,7 +1,7 @@
 //! Reading a log in pieces, and checking it.
 
-use crate::fitting::can_be_checked;
 use event_log::{Event, Fed, Header, Item, Log, LogCode, LogFault, Reader};
+use log_fitting::can_be_checked;
 use pota_base::{List, NoMemory, Refused};
 use std::alloc::{AllocError, Global};
 use vector_clock::check;

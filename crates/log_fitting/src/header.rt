@@ -1,5 +1,5 @@
-//! Whether states may be made of what a log gave.
-ghost use Rattle.std.specs.Prelude.{IsTrue};
+//! Whether a header and events may be handed to the calls on states.
+ghost use Rattle.std.specs.Prelude.{IsTrue, ℕ, ◌≤◌, [], length, get_or};
 ghost use Rattle.std.specs.List.{AllByRecursion};
 ghost use Rattle.event_log.specs.States.{IsHeader, IsKnown, AreNamedApart, AssignsWithin};
 
@@ -9,6 +9,9 @@ use pota_base::List;
 
 /// The most processes of a log.
 const MOST_PROCESSES: usize = 32;
+
+/// The most variables of a process.
+const MOST_VARIABLES: usize = 16;
 
 // Whether no two variables of a process have one name.
 fn all_apart(vars: &[List<Binding>]) -> bool
@@ -32,6 +35,18 @@ pub fn is_header(header: &Header) -> bool
         return false;
     }
     are_distinct(procs) && all_apart(vars)
+}
+
+/// Whether no process has more variables than one may have.
+pub fn has_few_variables(header: &Header) -> bool
+    ensures { IsTrue result → (p : ℕ) → length (get_or header.now.vars p []) ≤ 16 }
+{
+    for bindings in header.vars.as_slice() {
+        if bindings.len() > MOST_VARIABLES {
+            return false;
+        }
+    }
+    true
 }
 
 // Whether each of the assigned variables is one of so many.

@@ -1,6 +1,6 @@
 use Rattle.std.proofs.Common.{◌≤◌, length, arith}
-use Rattle.worked_rows.proofs.Counting.{counted_more}
-use Rattle.worked_rows.proofs.fitting.are_few.Goals as goal
+use Rattle.log_fitting.proofs.Counting.{counted_more}
+use Rattle.log_fitting.proofs.events.are_few.Goals as goal
 
 pub loop-batch-preserved : goal.loop-batch-preserved
 loop-batch-preserved c =

@@ -1,4 +1,4 @@
-//! Whether a log may be checked.
+//! Whether events and whole logs may be checked.
 ghost use Rattle.std.specs.Prelude.{◌≤◌, IsTrue};
 ghost use Rattle.std.specs.List.{AllByRecursion};
 ghost use Rattle.event_log.specs.LogText.{KindWithin, event_count};
@@ -34,7 +34,8 @@ fn event_fits(procs: usize, event: &Event) -> bool
     is_within(procs, event.kind)
 }
 
-fn events_fit(procs: usize, events: &[Event]) -> bool
+/// Whether each event has its place among so many processes.
+pub fn events_fit(procs: usize, events: &[Event]) -> bool
     ensures { IsTrue result → AllByRecursion (EventFits procs) events.now }
 {
     for event in events {
