@@ -60,7 +60,6 @@ mod handed;
 mod line;
 mod meeting;
 mod run;
-mod turning;
 mod verdict;
 
 pub use case::Case;

@@ -2,13 +2,12 @@
 use crate::Case;
 use crate::came::Came;
 use crate::handed::hand;
-use crate::turning::Turning;
 use pota_base::{Gate, MemSink, MemSource, NoMemory};
 use pota_top::{Outcome, pota};
 use std::alloc::{AllocError, Global};
 use std::sync::Arc;
-use std::sync::atomic::{AtomicU64, Ordering};
 use std::thread::Threads;
+use turning_watch::{Counts, Turning};
 use watch::{Calm, Owing, Stable};
 
 /// The room of the sink for the line that tells of a fault.
@@ -43,13 +42,13 @@ fn made<T>(answer: Result<T, NoMemory>) -> Result<T, AllocError> {
     }
 }
 
-// What a run reads and writes, and the count of the watches that are dropped.
+// What a run reads and writes, and what its watches count.
 #[derive(Drop)]
 struct Outside {
     log: MemSource,
     out: MemSink,
     diag: MemSink,
-    dropped: Arc<AtomicU64, Global>,
+    counts: Arc<Counts, Global>,
 }
 
 impl Outside {
@@ -61,7 +60,7 @@ impl Outside {
             log: made(MemSource::new(alloc, case.text(), piece, log_fails))?,
             out: made(MemSink::new(alloc, case.room, piece, out_fails))?,
             diag: made(MemSink::new(alloc, DIAG_ROOM, usize::MAX, diag_fails))?,
-            dropped: Arc::new(alloc, AtomicU64::new(0))?,
+            counts: Counts::new(alloc)?,
         })
     }
 }
@@ -74,8 +73,8 @@ fn call<R: Threads + Sync, G: Gate>(
     outside: &mut Outside,
     gate: &G,
 ) -> Result<Outcome, AllocError> {
-    let flip = Turning::new(Arc::try_clone(&outside.dropped)?);
-    let idle = Turning::new(Arc::try_clone(&outside.dropped)?);
+    let flip = Turning::new(Arc::try_clone(&outside.counts)?);
+    let idle = Turning::new(Arc::try_clone(&outside.counts)?);
     let mut watches = Vec::new(alloc);
     hand(
         alloc,
@@ -111,6 +110,6 @@ pub fn run<R: Threads + Sync, G: Gate>(
         batches: outcome.batches,
         written: outside.out.held().to_vec(alloc)?,
         told: outside.diag.held().to_vec(alloc)?,
-        dropped: outside.dropped.load(Ordering::SeqCst),
+        dropped: outside.counts.dropped(),
     })
 }
