@@ -1,0 +1,32 @@
+#!/usr/bin/env bash
+# Runs sessions over a generated log of 16 processes and 20,000 events, as one batch and as 100 batches, and prints times, and then
+# look-ups: of the formula whose rows are kept and of one with an operator, and the same where no rows are kept. It works on a scratch
+# copy of the crates, where the program is proved and built as the product is; the best of a line's runs counts. Since the counter of
+# steps takes no bytes, the look-ups come by a copy whose counter has some, and that is tried in place of proved: no times there.
+set -e
+here=$(cd "$(dirname "$0")" && pwd)
+. "$here/../scratch.sh"
+scratch_crates $(crates_below session_rows trace_gen)
+sed -i '/^session_rows:/s/$/ trace_gen anyhow/' "$scratch/crates.txt"
+cd "$scratch/crates/session_rows"
+rm -r data stdout src/case.rt src/log.rt src/reading.rt src/running.rt src/telling.rt src/verdict.rt
+cp "$here/main.txt" src/main.rt
+# In the proof the counter's ledger is the one that the blank names.
+rm -rf proofs/with_steps proofs/run_file
+mkdir -p proofs/run_all
+printf '%s\n' 'use Rattle.session_rows.proofs.run_all.Given as goal' '' 'abbrev pub ghosts-run : goal.ghosts-run' \
+    'ghosts-run g a = record { name = a.blank.name; parts = a.blank.parts }' > proofs/run_all/Invariants.antt
+rt run > /dev/null
+./out/session_rows | sed 's/, 0 look-ups//'
+
+steps=$scratch/crates/pota_base/src/steps.rt
+sed -i 's/^    share: Share<L>,$/    share: Share<L>,\n    count: u64,/; s/Steps { book, share }/Steps { book, share, count: 0 }/' "$steps"
+sed -i 's/^        self.book.add(&mut self.share, 1);$/        self.count = self.count.wrapping_add(1);\n        self.book.add(\&mut self.share, 1);/' "$steps"
+printf '\nimpl<L: Ledger> Steps<L> {\n    pub fn count(&self) -> u64 {\n        self.count\n    }\n}\n' >> "$steps"
+sed -i 's/^const RUNS: u32 = .*/const RUNS: u32 = 1;/; s/in \[1, 4\]/in [1]/; s/^    0$/    steps.count()/' src/main.rt
+echo 'look-ups, rows kept'
+rt try --seconds 1200 | sed 's/: [0-9]* us,/:/'
+sed -i 's/Rows::grown(alloc, settled.rows(), shape)/Rows::new(alloc, shape)/; s/Some(settled) if keeps/Some(_settled) if keeps/' \
+    "$scratch/crates/conjunctions/src/settling.rt"
+echo 'look-ups, no rows kept'
+rt try --seconds 1200 | sed 's/: [0-9]* us,/:/'

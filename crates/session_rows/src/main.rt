@@ -1,0 +1,107 @@
+//! Runs sessions on the cases of `data/`, and prints a line a case: `ok`, or what is told of the
+//! first run that came out otherwise than it must.
+//!
+//! A line that is empty or begins with `#` says nothing; each other line is a keyword, and behind
+//! one space what it speaks of.
+//!
+//! ```text
+//! case NAME        a new case
+//! formula TEXT     its formula
+//! watch NAME KIND  a watch that is handed in: stable, owing, calm or turning
+//! log TEXT         a line of the log
+//! log-as-before    the whole log of the case before
+//! workers N        the case is run with N workers; where it stands more than once, with each of
+//!                  these numbers
+//! cuttings         the case is run once for each way to cut the log's events, in their order, into
+//!                  batches, and what is told of the last batch must be what is told
+//! tells TEXT       a line that must be told
+//! end              the case is whole
+//! ```
+//!
+//! Behind each batch, without `cuttings`, is told `refused CODE at line N` if it has a fault, and
+//! then, of the trace so far:
+//!
+//! ```text
+//! batches N                    how many batches were taken; nothing behind it where none was
+//! truth TRUTH                  the truth at the initial cut
+//! slice CUT ROW ..             the slice: its least cut, and the least cut with each event
+//! part I.J TRUTH               part J of disjunct I
+//! part I.J OPERATOR TRUTH CUT ROW ..    a temporal one, with the slice of its operand
+//! conjunction K CUT ROW ..     the rows that conjunction K was settled to
+//! watch NAME TRUTH ..          what a watch that the formula names answered to each state
+//! fed N                        how many states the turning watches were fed in all
+//! ```
+//!
+//! Events go process by process, a cut that is not there is `none`, and of a batch of a cutting the
+//! first line is not told. In the end, when the session is dropped, `dropped N` tells how many
+//! turning watches were dropped with it.
+#![tactic(auto)]
+
+ghost use Rattle.std.specs.Prelude.{◌≡◌, ◌<◌};
+
+mod case;
+mod log;
+mod opening;
+mod reading;
+mod running;
+mod taking;
+mod telling;
+mod verdict;
+
+use case::Case;
+use pota_base::Steps;
+use reading::add_line;
+use std::alloc::Global;
+use std::marker::Brand;
+use std::sync::ledger::{Blank, Ledger};
+use std::thread::Threads;
+use std::{fs, io};
+use verdict::judge;
+
+const FILES: [&str; 3] = ["batches.cases", "watches.cases", "cuttings.cases"];
+
+fn judge_all<R: Threads + Sync + Print, L: Ledger>(
+    rt: &R,
+    alloc: Global,
+    text: &str,
+    steps: &mut Steps<L>,
+) -> io::Result<()> {
+    let mut case = Case::new(alloc);
+    for line in text.lines() {
+        if line == "end" {
+            let said = judge(rt, alloc, &case, steps)?;
+            println!(rt; "{}: {}", case.name.as_str(), said.as_str())?;
+            case = case.next(alloc);
+        } else {
+            add_line(alloc, &mut case, line)?;
+        }
+    }
+    Ok(())
+}
+
+fn with_steps<R: Threads + Sync + Print, L: Ledger>(
+    rt: &R,
+    alloc: Global,
+    text: &str,
+    blank: Blank,
+) -> io::Result<()>
+    requires name { blank.name ≡ L.name }
+    requires parts { blank.parts ≡ L.parts }
+    requires some { 0 < blank.parts }
+{
+    let mut steps = Steps::<L>::new(blank);
+    judge_all(rt, alloc, text, &mut steps)
+}
+
+fn run_file<R: Threads + Sync + Print>(rt: &R, alloc: Global, text: &str) -> io::Result<()> {
+    with_steps::<R, Brand>(rt, alloc, text, Blank::new(1))
+}
+
+fn main(rt: HostRuntime) -> io::Result<()> {
+    let alloc = rt.alloc();
+    for path in FILES {
+        let text = fs::read_to_string(&rt, path)?;
+        run_file(&rt, alloc, text.as_str())?;
+    }
+    Ok(())
+}

@@ -1,0 +1,67 @@
+//! The session of a formula over a header.
+
+ghost use Rattle.std.specs.Prelude.{IfOk, IfSome};
+ghost use Rattle.rctl_class.specs.NamedParts.{AreDisjuncts, disjuncts_of};
+
+use event_log::Header;
+use log_fitting::{has_few_variables, is_header};
+use pota_base::{List, NoMemory, Refused};
+use pota_names::Name;
+use rctl_class::{Classed, classify, read_formulas_are_within_limits};
+use rctl_names::resolve;
+use rctl_parse::parse;
+use session::Session;
+use std::alloc::Global;
+use watch::Handed;
+
+/// The most watches that a formula may be looked up among.
+const MOST_WATCHES: usize = 8;
+
+fn classed(alloc: Global, text: &str) -> Result<Option<Classed>, NoMemory>
+    ensures { IfOk result (λ o. IfSome o (λ c. AreDisjuncts (disjuncts_of c.disjuncts))) }
+{
+    let formula = match parse(alloc, text.as_bytes()) {
+        Ok(formula) => formula,
+        Err(Refused::Fault(_)) => return Ok(None),
+        Err(Refused::NoMemory) => return Err(NoMemory),
+    };
+    read_formulas_are_within_limits();
+    match classify(alloc, &formula) {
+        Ok(classed) => Ok(Some(classed)),
+        Err(Refused::Fault(_)) => Ok(None),
+        Err(Refused::NoMemory) => Err(NoMemory),
+    }
+}
+
+fn names_of(alloc: Global, watches: &[Handed]) -> Result<List<Name>, NoMemory> {
+    let mut names = List::new(alloc);
+    for handed in watches {
+        names.push(handed.name.copy(alloc)?)?;
+    }
+    Ok(names)
+}
+
+/// The session without batches, none where the formula or a name of it is not one.
+pub fn session_of(
+    alloc: Global,
+    formula: &str,
+    header: Header,
+    watches: Vec<Handed>,
+) -> Result<Option<Session>, NoMemory> {
+    let Some(classed) = classed(alloc, formula)? else {
+        return Ok(None);
+    };
+    let names = names_of(alloc, watches.as_slice())?;
+    if names.len() > MOST_WATCHES || !is_header(&header) || !has_few_variables(&header) {
+        return Ok(None);
+    }
+    let resolved = match resolve(alloc, &classed, &header, &names) {
+        Ok(resolved) => resolved,
+        Err(Refused::Fault(_)) => return Ok(None),
+        Err(Refused::NoMemory) => return Err(NoMemory),
+    };
+    if resolved.watch_process.len() != watches.len() {
+        return Ok(None);
+    }
+    Ok(Some(Session::new(alloc, header, resolved, watches)?))
+}
