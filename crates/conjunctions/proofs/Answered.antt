@@ -1,5 +1,5 @@
 -- The disjuncts of a formula, one after the other.
-use Rattle.std.proofs.Common.{◌≡◌, ◌⊎◌, ℕ, suc, zero, ◌+◌, ◌<◌, ◌≤◌, Bool, true, false, List, [], ◌∷◌, ◌++◌, length, map, take, drop, get_or, sum, replicate, flat_map, Option, Some, None, refl, sym, ◌∙◌, ap, subst, arith, append_assoc, append-nil, add-one, inl, inr}
+use Rattle.std.proofs.Common.{◌≡◌, ◌⊎◌, ℕ, suc, zero, ◌+◌, ◌<◌, ◌≤◌, Bool, true, false, List, [], ◌∷◌, ◌++◌, length, map, take, drop, get_or, sum, replicate, flat_map, Option, Some, None, refl, sym, ◌∙◌, ap, subst, arith, append_assoc, append-nil, add-one, inl, inr, rules}
 use Rattle.std.specs.Prelude.{◌↔◌, ◌||◌, IsTrue}
 use Rattle.std.proofs.lemmas.Grind.{flat_map-append}
 use Rattle.std.proofs.lemmas.List.Concat.{flat_map-cons}
@@ -29,6 +29,10 @@ use Rattle.conjunctions.specs.Settling.{AreFloors, Settles}
 use Rattle.conjunctions.specs.Answering.{IsSliceOf, IsAnswer, places_from, all_places, ArePartAnswers, AddsAnswers}
 use Rattle.conjunctions.proofs.InTurn.{settles_none, settles_on, floors_left, floors_right}
 use Rattle.conjunctions.proofs.Adding.{answers_none, answers_more}
+use Rattle.graft.specs.Joined.{min_rows, joined_views}
+use Rattle.graft.proofs.Joining.{joined_fits, joined_stands_for}
+use Rattle.std.specs.Prelude.{IfSome}
+use Rattle.conjunctions.specs.Joining.{so_far}
 use Rattle.conjunctions.proofs.Joining.{some_joined, joined_more}
 
 -- what stands once these disjuncts were settled
@@ -117,6 +121,40 @@ answered_more seen order workers round now next s t u parts more truth holds sli
       joined_more (run_seen seen reading) (names_seen seen reading) order ds d (slice_of slice) (slice_of one) (slice_of joined) (before.stands reading are) (is.cuts reading are) stands;
 }
 
+-- ---- the slice so far
+
+-- rows without cuts change no row
+min_none : (ks : List (Option Cut)) (n : ℕ) → length ks ≡ n → min_rows (replicate n no_row) ks ≡ ks
+min_none [] zero h = refl
+min_none [] (suc n) h = absurd (omega (arith, h))
+min_none (k ∷ ks) zero h = absurd (omega (arith, h))
+min_none (k ∷ ks) (suc n) h = ap (λ (rows : List (Option Cut)). k ∷ rows) (min_none ks n (omega (arith, h)))
+
+-- the slice of the first disjunct is joined to nothing
+pub first_alone : (one : SliceView) → length one.rows ≡ sum one.lens + 1 → one ≡ joined_views (so_far one.lens None) one
+first_alone one size = ap (λ (rows : List (Option Cut)). record { lens = one.lens; rows = rows }) (sym (min_none one.rows (sum one.lens + 1) size))
+
+pub record Joins (o : Clocks) (slice one joined : SliceView) : Type 0 where
+  pub fits : FitsOrder o joined
+  pub stands : StandsFor o (slice_of joined) (Smallest (Either (Cuts o (slice_of slice)) (Cuts o (slice_of one))))
+
+-- the slice of one disjunct more, as the code joins it
+pub joins : (o : Clocks) → IsOrder o → (before : Option SliceView) (one joined : SliceView) → FitsOrder o (so_far (lengths o) before) → FitsOrder o one
+    → joined ≡ joined_views (so_far one.lens before) one → Joins o (so_far (lengths o) before) one joined
+joins o order before one joined f g is =
+    let slice : SliceView = so_far (lengths o) before in
+    let at : joined ≡ joined_views slice one = is ∙ ap (λ (lens : List ℕ). joined_views (so_far lens before) one) g.shape in
+    let same : slice.lens ≡ one.lens = f.shape ∙ sym g.shape in
+    record {
+      fits = subst (FitsOrder o) (sym at) (joined_fits o order slice one same f g);
+      stands = subst (λ (s : SliceView). StandsFor o (slice_of s) (Smallest (Either (Cuts o (slice_of slice)) (Cuts o (slice_of one))))) (sym at) (joined_stands_for o slice one same f g);
+    }
+
+-- what was joined has the lengths of the next slice
+pub same_lens : (o : Clocks) (before : Option SliceView) (one : SliceView) → FitsOrder o (so_far (lengths o) before) → FitsOrder o one → IfSome before (λ slice. slice.lens ≡ one.lens)
+same_lens o None one f g = search rules
+same_lens o (Some slice) one f g = f.shape ∙ sym g.shape
+
 pub answered_all : (seen : Observed) (workers : ℕ) (round now : RoundView) (s t : ℕ) (answer : Answer) (ds : List (List Piece)) → answer.batch ≡ seen.trace.batches
     → Answered seen workers round now s t answer.parts answer.truth answer.slice ds → IsAnswer seen ds answer
 answered_all seen workers round now s t answer ds batch is = record {
@@ -178,8 +216,3 @@ disjunct_floors seen workers round now s t ds d later floors settles =
 pub initial_is : (seen : Observed) (n : ℕ) → n ≡ length (lens_seen seen) → replicate n 0 ≡ initial (clocks_seen seen)
 unfolding initial
 initial_is seen n is = ap (λ m. replicate m 0) (is ∙ length-lengths (clocks_seen seen))
-
--- the slice without rows as the code makes it
-pub empty_is : (seen : Observed) (slice : SliceView) (lens : List ℕ) → lens ≡ lens_seen seen → slice ≡ record { lens = lens; rows = replicate (sum lens + 1) no_row }
-    → slice ≡ record { lens = lens_seen seen; rows = replicate (sum (lens_seen seen) + 1) no_row }
-empty_is seen slice lens is at = subst (λ (l : List ℕ). slice ≡ record { lens = l; rows = replicate (sum l + 1) no_row }) is at

@@ -6,3 +6,4 @@ pub mod Counting
 pub mod Settling
 pub mod Answering
 pub mod Operating
+pub mod Joining

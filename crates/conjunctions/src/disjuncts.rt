@@ -1,11 +1,13 @@
 //! The answer of a formula: its disjuncts one after the other.
-ghost use Rattle.std.specs.Prelude.{◌≡◌, ◌≤◌, length, IfOk, OnOk};
+ghost use Rattle.std.specs.Prelude.{◌≡◌, ◌≤◌, length, IfOk, IfSome, OnOk};
+ghost use Rattle.graft.specs.Joined.{joined_views};
 ghost use Rattle.rctl_parts.specs.Pieces.{disjuncts_of};
 ghost use Rattle.rctl_parts.specs.MadeFor.{AreMadeFor};
 ghost use Rattle.conjunctions.specs.Observing.{IsReady, scope_seen};
 ghost use Rattle.conjunctions.specs.Numbering.{all_conjunctions};
 ghost use Rattle.conjunctions.specs.Settling.{AreFloors, Settles};
 ghost use Rattle.conjunctions.specs.Answering.{IsAnswer};
+ghost use Rattle.conjunctions.specs.Joining.{so_far};
 
 use crate::answer::Answer;
 use crate::conjunction::settle_conjunction;
@@ -13,12 +15,34 @@ use crate::observed::Observed;
 use crate::round::Round;
 use cut_lattice::Cut;
 use graft::join_slices;
-use pota_base::{Gate, List, NoMemory, Steps};
+use pota_base::{Gate, List, NoMemory, Shape, Steps};
 use rctl_parts::Part;
 use slice_graph::Slice;
 use std::alloc::Global;
 use std::sync::ledger::Ledger;
 use std::thread::Threads;
+
+/// Joins the slice of a disjunct to that of those before it, where there are any.
+fn join_disjunct(alloc: Global, before: Option<Slice>, one: Slice) -> Result<Slice, NoMemory>
+    requires { IfSome before (λ slice. slice.lens ≡ one.lens) }
+    ensures { IfOk result (λ joined. joined ≡ joined_views (so_far one.lens before) one) }
+{
+    let _shape = one.shape();
+    match before {
+        Some(before) => join_slices(alloc, &before, &one),
+        None => Ok(one),
+    }
+}
+
+/// What was joined, and the slice of no cut where nothing was.
+fn joined_slice(alloc: Global, shape: &Shape, joined: Option<Slice>) -> Result<Slice, NoMemory>
+    ensures { IfOk result (λ slice. slice ≡ so_far shape.now joined) }
+{
+    match joined {
+        Some(slice) => Ok(slice),
+        None => Slice::empty(alloc, shape),
+    }
+}
 
 /// The answer of the formula that these disjuncts are, on what was observed. Each conjunction is
 /// settled once, from its rows of before where none of its parts is temporal, by 1 to 16 workers;
@@ -49,7 +73,7 @@ pub fn answer_all<R: Threads + Sync, G: Gate, L: Ledger>(
     let start = Cut::new(alloc, shape.procs())?;
     let mut parts = List::new(alloc);
     let mut truth = false;
-    let mut slice = Slice::empty(alloc, shape)?;
+    let mut joined = None;
     'disjuncts: for (index, disjunct) in disjuncts.iter().enumerate() {
         let one = settle_conjunction(
             rt,
@@ -65,8 +89,10 @@ pub fn answer_all<R: Threads + Sync, G: Gate, L: Ledger>(
             steps,
         )?;
         truth |= one.has(&start);
-        slice = join_slices(alloc, &slice, &one)?;
+        let more = join_disjunct(alloc, joined, one)?;
+        joined = Some(more);
     }
+    let slice = joined_slice(alloc, shape, joined)?;
     Ok(Answer {
         batch: seen.trace.batches(),
         truth,

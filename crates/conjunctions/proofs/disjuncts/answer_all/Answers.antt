@@ -1,8 +1,8 @@
-use Rattle.std.proofs.Common.{◌≡◌, ℕ, ◌+◌, ◌<◌, ◌≤◌, false, List, [], take, length, sym, ◌∙◌, ap, subst, arith}
+use Rattle.std.proofs.Common.{◌≡◌, ℕ, ◌+◌, ◌<◌, ◌≤◌, false, List, [], None, take, length, refl, sym, ◌∙◌, ap, subst, arith}
 use Rattle.std.specs.Prelude.{◌↔◌, ◌||◌, IsTrue}
 use Rattle.run_model.specs.Cut.{Cut, Clocks, initial, lengths}
 use Rattle.run_model.specs.Slice.{Cuts}
-use Rattle.slice_graph.specs.Views.{slice_of}
+use Rattle.slice_graph.specs.Views.{SliceView, slice_of}
 use Rattle.conjunctions.specs.declared.answer.PartAnswer.{PartAnswer}
 use Rattle.conjunctions.specs.Answering.{IsSliceOf, AddsAnswers, places_from}
 use Rattle.conjunctions.specs.Settling.{AreFloors, Settles}
@@ -12,17 +12,17 @@ use Rattle.rctl_parts.specs.declared.part.Part.{Part}
 use Rattle.rctl_parts.specs.MadeFor.{AllFit, EachFits, parts_count, disjuncts_count}
 use Rattle.conjunctions.specs.Observing.{clocks_seen, lens_seen, scope_seen}
 use Rattle.conjunctions.specs.Numbering.{conjunctions_in, all_conjunctions}
+use Rattle.conjunctions.specs.Joining.{so_far}
 use Rattle.conjunctions.proofs.Ending.{is_order}
 use Rattle.conjunctions.proofs.Parts.{first_is_cut}
-use Rattle.conjunctions.proofs.Answered.{Answered, answered_none, answered_more, answered_all, disjunct_at, disjuncts_taken, length-disjuncts, all_taken, disjunct_fits, disjunct_count, disjunct_floors, initial_is, empty_is}
+use Rattle.conjunctions.proofs.Answered.{Answered, answered_none, answered_more, answered_all, disjunct_at, disjuncts_taken, length-disjuncts, all_taken, disjunct_fits, disjunct_count, disjunct_floors, initial_is, joins, same_lens}
 use Rattle.conjunctions.proofs.disjuncts.answer_all.Goals as goal
 
 pub disjuncts-init : goal.disjuncts-init
 disjuncts-init g c =
     let seen = c.args.seen.now in
-    let lens = c.shape-shape.ensures.lens ∙ ap lengths (c.order.ensures.order ∙ sym c.order.ensures.trace.clocks) in
-    subst (λ (parts : List PartAnswer). Answered seen c.args.workers c.args.round.now c.args.round.now c.args.steps.now c.args.steps.now parts false c.in_ok-slice.slice []) (sym c.new-parts.ensures)
-    (answered_none seen c.args.workers c.args.round.now c.args.steps.now c.in_ok-slice.slice (empty_is seen c.in_ok-slice.slice c.shape-shape.result.now lens c.in_ok-slice.ensures))
+    subst (λ (parts : List PartAnswer). Answered seen c.args.workers c.args.round.now c.args.round.now c.args.steps.now c.args.steps.now parts false (so_far (lens_seen seen) None) []) (sym c.new-parts.ensures)
+    (answered_none seen c.args.workers c.args.round.now c.args.steps.now (so_far (lens_seen seen) None) refl)
 
 pub settle_conjunction-requires-clause-fits : goal.settle_conjunction-requires-clause-fits
 settle_conjunction-requires-clause-fits g c = λ κs lives.
@@ -72,15 +72,16 @@ disjuncts-preserved g c =
     let told = subst (λ (k : ℕ). AddsAnswers seen c.disjuncts.parts c.settle_conjunction.new.answers (places_from k 1 d)) number
     (subst (λ (parts : List Part). AddsAnswers seen c.disjuncts.parts c.settle_conjunction.new.answers (places_from (c.disjuncts.index + 1) 1 (pieces_of parts))) c.as_slice.ensures c.in_ok-one.ensures.answers) in
     let is = subst (λ (parts : List Part). IsSliceOf seen c.in_ok-one.one (pieces_of parts)) c.as_slice.ensures c.in_ok-one.ensures.slice in
+    let joined = joins o order c.disjuncts.joined c.in_ok-one.one c.in_ok-more.more c.disjuncts.invariant.fits is.fits c.in_ok-more.ensures in
     let has = subst (λ (cut : Cut). IsTrue c.has-truth.result ↔ Cuts o (slice_of c.in_ok-one.one) cut) start (c.has-truth.ensures.cuts o is.fits) in
-    subst (Answered seen c.args.workers c.args.round.now c.settle_conjunction.new.round c.args.steps.now c.settle_conjunction.new.steps c.settle_conjunction.new.answers (c.disjuncts.truth || c.has-truth.result) c.in_ok-slice-2.slice)
+    subst (Answered seen c.args.workers c.args.round.now c.settle_conjunction.new.round c.args.steps.now c.settle_conjunction.new.steps c.settle_conjunction.new.answers (c.disjuncts.truth || c.has-truth.result) c.in_ok-more.more)
     (sym (disjuncts_taken all c.disjuncts.index c.index-disjuncts-index.result there c.index-disjuncts-index.is))
     (answered_more seen order c.args.workers c.args.round.now c.disjuncts.round c.settle_conjunction.new.round c.args.steps.now c.disjuncts.steps c.settle_conjunction.new.steps c.disjuncts.parts c.settle_conjunction.new.answers
-    c.disjuncts.truth c.has-truth.result c.disjuncts.slice c.in_ok-one.one c.in_ok-slice-2.slice ds d c.disjuncts.invariant settles told is has
-    (c.in_ok-slice-2.ensures.fits o order c.disjuncts.invariant.fits is.fits) (c.in_ok-slice-2.ensures.stands o c.disjuncts.invariant.fits is.fits))
+    c.disjuncts.truth c.has-truth.result (so_far (lens_seen seen) c.disjuncts.joined) c.in_ok-one.one c.in_ok-more.more ds d c.disjuncts.invariant settles told is has
+    joined.fits joined.stands)
 
-pub join_slices-requires : goal.join_slices-requires
-join_slices-requires g c = c.disjuncts.invariant.fits.shape ∙ sym c.in_ok-one.ensures.slice.fits.shape
+pub join_disjunct-requires : goal.join_disjunct-requires
+join_disjunct-requires g c = same_lens (clocks_seen c.args.seen.now) c.disjuncts.joined c.in_ok-one.one c.disjuncts.invariant.fits c.in_ok-one.ensures.slice.fits
 
 pub overflow_cast-index : goal.overflow_cast-index
 overflow_cast-index g c = omega (arith, length-map c.args.disjuncts.now pieces_of, c.requires.made.few, c.disjuncts-test.true)
@@ -91,10 +92,13 @@ overflow_add-index g c = omega (arith, length-map c.args.disjuncts.now pieces_of
 pub returns-clause-answer : goal.returns-clause-answer
 returns-clause-answer g c =
     let seen = c.args.seen.now in
-    let all = subst (Answered seen c.args.workers c.args.round.now c.disjuncts.round c.args.steps.now c.disjuncts.steps c.disjuncts.parts c.disjuncts.truth c.disjuncts.slice)
+    let lens = c.shape-shape.ensures.lens ∙ ap lengths (c.order.ensures.order ∙ sym c.order.ensures.trace.clocks) in
+    let slice : c.in_ok-slice.slice ≡ so_far (lens_seen seen) c.disjuncts.joined = c.in_ok-slice.ensures ∙ ap (λ (l : List ℕ). so_far l c.disjuncts.joined) lens in
+    let all = subst (Answered seen c.args.workers c.args.round.now c.disjuncts.round c.args.steps.now c.disjuncts.steps c.disjuncts.parts c.disjuncts.truth (so_far (lens_seen seen) c.disjuncts.joined))
     (all_taken c.args.disjuncts.now c.disjuncts.index c.disjuncts-test.false) c.disjuncts.invariant in
-    answered_all seen c.args.workers c.args.round.now c.disjuncts.round c.args.steps.now c.disjuncts.steps (record { batch = c.batches.result; truth = c.disjuncts.truth; slice = c.disjuncts.slice; parts = c.disjuncts.parts })
-    (disjuncts_of c.args.disjuncts.now) c.batches.ensures all
+    answered_all seen c.args.workers c.args.round.now c.disjuncts.round c.args.steps.now c.disjuncts.steps (record { batch = c.batches.result; truth = c.disjuncts.truth; slice = c.in_ok-slice.slice; parts = c.disjuncts.parts })
+    (disjuncts_of c.args.disjuncts.now) c.batches.ensures
+    (subst (λ (s : SliceView). Answered seen c.args.workers c.args.round.now c.disjuncts.round c.args.steps.now c.disjuncts.steps c.disjuncts.parts c.disjuncts.truth s (disjuncts_of c.args.disjuncts.now)) (sym slice) all)
 
 pub returns-clause-settles : goal.returns-clause-settles
 returns-clause-settles g c =
