@@ -1,5 +1,6 @@
 -- Which parts of a formula get a witness, by the truth of each at the initial cut.
-use Rattle.std.specs.Prelude.{ℕ, ◌+◌, Bool, true, false, not, ◌&&◌, ◌==◌, if◌then◌else◌, List, [], ◌∷◌}
+use Rattle.std.specs.Prelude.{ℕ, ◌+◌, Bool, true, false, not, ◌&&◌, ◌==◌, if◌then◌else◌, List, []}
+use Rattle.std.specs.Prelude.{◌∷◌}
 use Rattle.std.specs.List.{filter}
 use Rattle.conjunctions.specs.declared.answer.PartAnswer.{PartAnswer}
 

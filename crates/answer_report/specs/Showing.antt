@@ -1,9 +1,11 @@
 -- What is told of a slice and of parts.
-use Rattle.std.specs.Prelude.{◌≡◌, ◌≤◌, Bool, true, false, List, [], ◌∷◌, ◌++◌, Option, Some, None, IfSome, MatchOption}
+use Rattle.std.specs.Prelude.{◌≡◌, ◌≤◌, Bool, true, false, List, [], ◌∷◌, ◌++◌, Option, Some, None}
+use Rattle.std.specs.Prelude.{IfSome, MatchOption}
 use Rattle.run_model.specs.Cut.{Clocks, lengths}
 use Rattle.run_model.specs.Slice.{Cuts, IsTextOf}
 use Rattle.run_model.specs.Witness as model
-use Rattle.run_model.specs.Witness.{WitnessOperator, ExistsFinally, AlwaysGlobally, ExistsGlobally, IsCanonical}
+use Rattle.run_model.specs.Witness.{WitnessOperator, ExistsFinally, AlwaysGlobally, ExistsGlobally}
+use Rattle.run_model.specs.Witness.{IsCanonical}
 use Rattle.rctl_grammar.specs.declared.tree.Operator.{Operator}
 use Rattle.rctl_grammar.specs.declared.tree.Operator.TheVariants as operator
 use Rattle.slice_graph.specs.Views.{SliceView, slice_of}

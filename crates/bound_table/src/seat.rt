@@ -42,8 +42,11 @@ impl Model for Seat {
     ghost Value = { SeatView };
 
     ghost view = { λ seat. record {
-      table = record
-          { id = seat.token.table_id; claims = seat.claimer.table; system = seat.token.me.0.system };
+      table = record {
+        id = seat.token.table_id;
+        claims = seat.claimer.table;
+        system = seat.token.me.0.system;
+      };
       floor = seat.token.me.0.floor;
       claims = seat.claimer.claims;
       marks = seat.claimer.marks;

@@ -3,9 +3,11 @@
 //! A vector of 16 bits has the seat's floor of the row, and a second one for each process the value
 //! at which the pulls from it were looked up last. Where they are equal each pull holds. So only
 //! the pulls from what rose are looked up again.
-ghost use Rattle.std.specs.Prelude.{◌≡◌, ◌⊎◌, ℕ, ◌+◌, ◌*◌, ◌^◌, ◌<◌, ◌≤◌, true, length, sum, slice_index};
+ghost use Rattle.std.specs.Prelude.{◌≡◌, ◌⊎◌, ℕ, ◌+◌, ◌*◌, ◌^◌, ◌<◌, ◌≤◌, true, length, sum};
+ghost use Rattle.std.specs.Prelude.{slice_index};
 ghost use Rattle.pull_system.specs.Vector.{IsWithin, IsVector};
-ghost use Rattle.pull_system.specs.System.{IsSystem, IsClosed, source_of, target_of, ask, numbers_from};
+ghost use Rattle.pull_system.specs.System.{IsSystem, IsClosed, source_of, target_of, ask};
+ghost use Rattle.pull_system.specs.System.{numbers_from};
 ghost use Rattle.pull_system.specs.Rows.{row_at, IsLeast};
 ghost use Rattle.pull_system.specs.Asks.{IsAskedBy, AreAsks};
 ghost use Rattle.raise_machine.specs.Bounds.{word_at, has_start};

@@ -1,4 +1,5 @@
-ghost use Rattle.std.specs.Prelude.{◌≡◌, ◌≢◌, ℕ, ◌+◌, ◌*◌, ◌<◌, ◌≤◌, List, [], ◌∷◌, ◌++◌, true, false, length, sum, slice_index, slice_set, IfOk};
+ghost use Rattle.std.specs.Prelude.{◌≡◌, ◌≢◌, ℕ, ◌+◌, ◌*◌, ◌<◌, ◌≤◌, List, [], ◌∷◌, ◌++◌, true};
+ghost use Rattle.std.specs.Prelude.{false, length, sum, slice_index, slice_set, IfOk};
 ghost use Rattle.pull_system.specs.Vector.{IsWithin, IsMaximum};
 ghost use Rattle.pull_system.specs.System.{IsSystem};
 ghost use Rattle.pull_system.specs.Rows.{place_of};

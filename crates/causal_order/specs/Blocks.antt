@@ -1,5 +1,6 @@
 -- What the code keeps of the clocks: one block for each process, in which row stands behind row.
-use Rattle.std.specs.Prelude.{◌≡◌, ℕ, zero, suc, ◌<◌, List, [], ◌∷◌, length, map, take, drop, get_or}
+use Rattle.std.specs.Prelude.{◌≡◌, ℕ, zero, suc, ◌<◌, List, [], ◌∷◌, length, map, take, drop}
+use Rattle.std.specs.Prelude.{get_or}
 use Rattle.pota_base.specs.Shape.{IsShape}
 use Rattle.run_model.specs.Cut.{Cut, Clocks, lengths}
 use Rattle.run_model.specs.Consistent.{IsOrder}

@@ -1,5 +1,6 @@
 //! The vector clocks of one process.
-ghost use Rattle.std.specs.Prelude.{◌≡◌, ◌-◌, ◌<◌, ◌≤◌, [], ◌∷◌, ◌++◌, length, take, get_or, OnOk, OnErr};
+ghost use Rattle.std.specs.Prelude.{◌≡◌, ◌-◌, ◌<◌, ◌≤◌, [], ◌∷◌, ◌++◌, length, take, get_or, OnOk};
+ghost use Rattle.std.specs.Prelude.{OnErr};
 ghost use Rattle.causal_order.specs.Blocks.{BlockView};
 
 use pota_base::NoMemory;

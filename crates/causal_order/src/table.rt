@@ -1,5 +1,6 @@
 //! A table of vector clocks, of which nothing is known but their widths.
-ghost use Rattle.std.specs.Prelude.{◌≡◌, ℕ, ◌-◌, ◌<◌, ◌≤◌, [], List, length, get_or, replicate, set, sum, take, IfOk, OnOk, OnErr};
+ghost use Rattle.std.specs.Prelude.{◌≡◌, ℕ, ◌-◌, ◌<◌, ◌≤◌, [], List, length, get_or, replicate};
+ghost use Rattle.std.specs.Prelude.{set, sum, take, IfOk, OnOk, OnErr};
 ghost use Rattle.std.specs.List.{AllByRecursion};
 ghost use Rattle.run_model.specs.Cut.{lengths};
 ghost use Rattle.run_model.specs.Consistent.{clock};

@@ -9,7 +9,8 @@
 //! refused                       the command line is refused
 //! asks TEXT                     it asks for this, in the words of `asked` in src/asking.rt
 //!
-//! log SEED PROCS EVENTS         the log of these numbers, which reading and checking find no fault in
+//! log SEED PROCS EVENTS         the log of these numbers, in which reading and checking find no
+//!                               fault
 //! line TEXT                     one line more of its text, where the lines are given
 //! ```
 #![tactic(auto)]

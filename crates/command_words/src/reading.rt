@@ -1,7 +1,8 @@
 //! Whether the rule takes the words.
 ghost use Rattle.std.specs.Prelude.{◌≡◌, Some, None, IfOk, OnOk, is_some, map};
 ghost use Rattle.std.specs.String.{string_bytes};
-ghost use Rattle.command_words.specs.Rule.{is_used, nothing_given, with_use, waiting, with_flag, step};
+ghost use Rattle.command_words.specs.Rule.{is_used, nothing_given, with_use, waiting, with_flag};
+ghost use Rattle.command_words.specs.Rule.{step};
 ghost use Rattle.command_words.specs.Rule.{with_word, with_place, given, kind_of};
 ghost use Rattle.command_words.specs.Seen.{given_seen, kind_seen, Took};
 

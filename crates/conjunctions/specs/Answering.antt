@@ -1,6 +1,7 @@
 -- The answer of a formula: its truth, its slice, and the truth and the operand's slice of each
 -- part.
-use Rattle.std.specs.Prelude.{◌≡◌, ℕ, ◌+◌, ◌↔◌, Bool, List, [], ◌∷◌, ◌++◌, Option, None, Some, IsTrue}
+use Rattle.std.specs.Prelude.{◌≡◌, ℕ, ◌+◌, ◌↔◌, Bool, List, [], ◌∷◌, ◌++◌, Option, None, Some}
+use Rattle.std.specs.Prelude.{IsTrue}
 use Rattle.run_model.specs.Cut.{Cut, Clocks, initial}
 use Rattle.run_model.specs.Sublattice.{Smallest}
 use Rattle.run_model.specs.Slice.{StandsFor, Cuts}
@@ -13,7 +14,8 @@ use Rattle.rctl_parts.specs.Spelled.{formula_of, disjunction_of}
 use Rattle.conjunctions.specs.declared.observed.Observed.{Observed}
 use Rattle.conjunctions.specs.declared.answer.PartAnswer.{PartAnswer}
 use Rattle.conjunctions.specs.declared.answer.Answer.{Answer}
-use Rattle.conjunctions.specs.Observing.{Reading, AreAnswers, Satisfying, clocks_seen, run_seen, names_seen}
+use Rattle.conjunctions.specs.Observing.{Reading, AreAnswers, Satisfying, clocks_seen, run_seen}
+use Rattle.conjunctions.specs.Observing.{names_seen}
 
 -- the slice is that of the consistent cuts at which all of the parts are true
 pub record IsSliceOf (seen : Observed) (slice : SliceView) (ps : List Piece) : Type 0 where

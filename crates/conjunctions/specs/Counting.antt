@@ -1,5 +1,6 @@
 -- How many steps one worker may take.
-use Rattle.std.specs.Prelude.{ℕ, ◌+◌, ◌-◌, ◌*◌, Bool, true, false, List, [], ◌∷◌, length, drop, sum, Option, Some, None}
+use Rattle.std.specs.Prelude.{ℕ, ◌+◌, ◌-◌, ◌*◌, Bool, true, false, List, [], ◌∷◌, length, drop, sum}
+use Rattle.std.specs.Prelude.{Option, Some, None}
 use Rattle.pull_system.specs.Rows.{RowsView, starts}
 use Rattle.pull_system.specs.Growth.{grown_words}
 use Rattle.rctl_parts.specs.Pieces.{Piece, atom, temporal}

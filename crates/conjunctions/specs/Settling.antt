@@ -1,6 +1,7 @@
 -- The rows of conjunctions: what each of them has to be, and what a call of the recursion leaves of
 -- the lists of rows.
-use Rattle.std.specs.Prelude.{◌≡◌, ℕ, ◌+◌, ◌<◌, ◌≤◌, ◌↔◌, Bool, true, List, [], ◌∷◌, ◌++◌, length, drop, sum, slice_index, get_or, Option, Some, None}
+use Rattle.std.specs.Prelude.{◌≡◌, ℕ, ◌+◌, ◌<◌, ◌≤◌, ◌↔◌, Bool, true, List, [], ◌∷◌, ◌++◌, length}
+use Rattle.std.specs.Prelude.{drop, sum, slice_index, get_or, Option, Some, None}
 use Rattle.run_model.specs.Cut.{Cut, Clocks, IsWithin, lengths}
 use Rattle.run_model.specs.Consistent.{IsConsistent}
 use Rattle.run_model.specs.Slice.{Cuts}
@@ -17,7 +18,8 @@ use Rattle.conjunctions.specs.declared.observed.Observed.{Observed}
 use Rattle.causal_order.specs.Growth.{HasGrown}
 use Rattle.trace_growth.specs.Laws.{StatesHaveGrown}
 use Rattle.channel_preds.specs.Truth.{HasMoreEvents}
-use Rattle.conjunctions.specs.Observing.{Reading, AreAnswers, Satisfying, clocks_seen, lens_seen, trace_seen}
+use Rattle.conjunctions.specs.Observing.{Reading, AreAnswers, Satisfying, clocks_seen, lens_seen}
+use Rattle.conjunctions.specs.Observing.{trace_seen}
 use Rattle.conjunctions.specs.Numbering.{all_atoms}
 use Rattle.conjunctions.specs.Systems.{system_of}
 use Rattle.conjunctions.specs.Rounds.{RoundView}

@@ -1,5 +1,6 @@
 -- The system of a conjunction of atoms: the pulls of the order, and then those of each atom.
-use Rattle.std.specs.Prelude.{◌≡◌, ℕ, ◌≤◌, ◌↔◌, Bool, true, false, Option, None, Some, List, [], ◌++◌, length, flat_map, All, IsTrue}
+use Rattle.std.specs.Prelude.{◌≡◌, ℕ, ◌≤◌, ◌↔◌, Bool, true, false, Option, None, Some, List, []}
+use Rattle.std.specs.Prelude.{◌++◌, length, flat_map, All, IsTrue}
 use Rattle.run_model.specs.Cut.{Cut, initial}
 use Rattle.run_model.specs.Consistent.{IsConsistent}
 use Rattle.run_model.specs.Meaning.{Sat}
@@ -14,7 +15,8 @@ use Rattle.local_preds.specs.LocalPulls.{constant_pulls_of}
 use Rattle.channel_preds.specs.Truth.{lens_of, at_most_pulls, at_least_pulls}
 use Rattle.rctl_parts.specs.Spelled.{conjunction_of, atom_formula}
 use Rattle.conjunctions.specs.declared.observed.Observed.{Observed}
-use Rattle.conjunctions.specs.Observing.{Reading, AreAnswers, clocks_seen, lens_seen, run_seen, names_seen}
+use Rattle.conjunctions.specs.Observing.{Reading, AreAnswers, clocks_seen, lens_seen, run_seen}
+use Rattle.conjunctions.specs.Observing.{names_seen}
 use Rattle.conjunctions.specs.Numbering.{all_atoms}
 use Rattle.conjunctions.specs.Counting.{rooms_of}
 

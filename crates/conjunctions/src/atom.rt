@@ -1,5 +1,6 @@
 //! The pulls of atoms, and their truth at the initial cut.
-ghost use Rattle.std.specs.Prelude.{◌≡◌, ◌∷◌, [], ◌++◌, ◌<◌, ◌≤◌, ◌^◌, true, false, length, Option, None, Some, IfOk, OnOk, List as ListOf};
+ghost use Rattle.std.specs.Prelude.{◌≡◌, ◌∷◌, [], ◌++◌, ◌<◌, ◌≤◌, ◌^◌, true, false, length, Option};
+ghost use Rattle.std.specs.Prelude.{None, Some, IfOk, OnOk, List as ListOf};
 ghost use Rattle.pull_system.specs.System.{IsPull};
 ghost use Rattle.rctl_parts.specs.Pieces.{Atom, piece_of, local, at_most, at_least, never, atom};
 ghost use Rattle.rctl_parts.specs.Exprs.{expr_of};
@@ -43,7 +44,8 @@ fn local_pulls(
 ) -> Result<AtomPulls, NoMemory>
     requires ready { IsReady seen.now }
     requires fits { AtomFits (scope_seen seen.now) (local process (expr_of expr.now)) }
-    ensures { IfOk result (λ a. IsAtomOf seen.now (local process (expr_of expr.now)) a.pulls a.truth) }
+    ensures { IfOk result
+        (λ a. IsAtomOf seen.now (local process (expr_of expr.now)) a.pulls a.truth) }
 {
     let states = seen.trace.states();
     let row = truth_row(alloc, expr, states, process.unwrap_or(0), &seen.watch_rows)?;

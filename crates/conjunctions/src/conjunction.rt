@@ -7,7 +7,8 @@ ghost use Rattle.conjunctions.specs.Observing.{IsReady, scope_seen, clocks_seen}
 ghost use Rattle.conjunctions.specs.Numbering.{within, conjunctions_in};
 ghost use Rattle.conjunctions.specs.Systems.{AddsPulls};
 ghost use Rattle.conjunctions.specs.Settling.{AreFloors, Settles};
-ghost use Rattle.conjunctions.specs.Answering.{IsSliceOf, IsPartAnswer, AddsAnswers, places_from, place};
+ghost use Rattle.conjunctions.specs.Answering.{IsSliceOf, IsPartAnswer, AddsAnswers, places_from};
+ghost use Rattle.conjunctions.specs.Answering.{place};
 
 use crate::answer::PartAnswer;
 use crate::atom::{add_atom, append};
@@ -108,7 +109,8 @@ fn add_part<R: Threads + Sync, G: Gate, L: Ledger>(
     requires floors { AreFloors seen.now round.old.before (within (piece_of part.now)) }
     requires some { 1 ≤ workers }
     requires few { workers ≤ 16 }
-    ensures answer { IfOk result (IsPartAnswer seen.now (place disjunct number (piece_of part.now))) }
+    ensures answer { IfOk result
+        (IsPartAnswer seen.now (place disjunct number (piece_of part.now))) }
     ensures pulls { OnOk result (AddsPulls seen.now pulls.old pulls.new (piece_of part.now ∷ [])) }
     ensures settles { OnOk result (Settles seen.now workers round.old round.new steps.old steps.new
         (within (piece_of part.now))) }

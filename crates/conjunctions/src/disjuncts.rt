@@ -62,7 +62,8 @@ pub fn answer_all<R: Threads + Sync, G: Gate, L: Ledger>(
 ) -> Result<Answer, NoMemory>
     requires ready { IsReady seen.now }
     requires made { AreMadeFor (scope_seen seen.now) (disjuncts_of disjuncts.now) }
-    requires floors { AreFloors seen.now round.old.before (all_conjunctions (disjuncts_of disjuncts.now)) }
+    requires floors { AreFloors seen.now round.old.before
+        (all_conjunctions (disjuncts_of disjuncts.now)) }
     requires some { 1 ≤ workers }
     requires few { workers ≤ 16 }
     ensures answer { IfOk result (IsAnswer seen.now (disjuncts_of disjuncts.now)) }

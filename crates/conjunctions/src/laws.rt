@@ -15,7 +15,8 @@ ghost use Rattle.conjunctions.specs.Answering.{IsAnswer};
 /// found, and in whichever batches the events came. So it is that of a fresh start, but for the
 /// number of batches where that differs.
 pub fn one_answer()
-    ensures { (seen : Observed) → IsTrace seen.trace.states → (ds : List (List Piece)) (a b : Answer)
+    ensures { (seen : Observed) → IsTrace seen.trace.states
+        → (ds : List (List Piece)) (a b : Answer)
         → IsAnswer seen ds a → IsAnswer seen ds b → a ≡ b }
 {}
 

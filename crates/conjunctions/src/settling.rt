@@ -1,5 +1,6 @@
 //! The rows of one conjunction, and its slice.
-ghost use Rattle.std.specs.Prelude.{◌≡◌, ◌^◌, ◌<◌, ◌≤◌, true, false, length, All, Option, IfOk, IsTrue};
+ghost use Rattle.std.specs.Prelude.{◌≡◌, ◌^◌, ◌<◌, ◌≤◌, true, false, length, All, Option, IfOk};
+ghost use Rattle.std.specs.Prelude.{IsTrue};
 ghost use Rattle.run_model.specs.Cut.{Cut, lengths, IsWithin};
 ghost use Rattle.pota_base.specs.Shape.{IsShape};
 ghost use Rattle.pull_system.specs.System.{SystemView, IsPull, IsClosed};
@@ -86,7 +87,8 @@ pub fn settle_pulls<R: Threads + Sync, G: Gate, L: Ledger>(
         (first_of round.old.before) }
     requires some { 1 ≤ workers }
     requires few { workers ≤ 16 }
-    ensures { IfOk result (SettlesOne order.now pulls keeps workers round.old round.new steps.old steps.new) }
+    ensures { IfOk result
+        (SettlesOne order.now pulls keeps workers round.old round.new steps.old steps.new) }
 {
     let system = System::new(alloc, order.shape(), pulls)?;
     let floor = floor_of(alloc, order.shape(), keeps, round.next())?;

@@ -1,4 +1,5 @@
-ghost use Rattle.std.specs.Prelude.{◌≡◌, ℕ, ◌<◌, ◌≤◌, ◌↔◌, IsTrue, IfOk, List, length, replicate, set};
+ghost use Rattle.std.specs.Prelude.{◌≡◌, ℕ, ◌<◌, ◌≤◌, ◌↔◌, IsTrue, IfOk, List, length, replicate};
+ghost use Rattle.std.specs.Prelude.{set};
 ghost use Rattle.run_model.specs.Cut.{count, IsWithin, min_cut, max_cut};
 
 use pota_base::{NoMemory, Shape};

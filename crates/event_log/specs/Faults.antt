@@ -1,6 +1,7 @@
 -- The first fault of a text and the items that it gives, looked up over all its bytes. Each byte is
 -- a moment, and the bytes before it, the newest first, are its past.
-use Rattle.std.specs.Prelude.{◌≡◌, ℕ, ◌+◌, Bool, not, ◌&&◌, ◌==◌, nat_lt, nat_le, List, [], ◌∷◌, ◌++◌, length, slice_index, Option, None, Some, is_some, if◌then◌else◌}
+use Rattle.std.specs.Prelude.{◌≡◌, ℕ, ◌+◌, Bool, not, ◌&&◌, ◌==◌, nat_lt, nat_le, List, [], ◌∷◌}
+use Rattle.std.specs.Prelude.{◌++◌, length, slice_index, Option, None, Some, is_some, if◌then◌else◌}
 use Rattle.std.specs.Option.{option_map}
 use Rattle.log_lines.specs.Reading.{choose}
 use Rattle.event_log.specs.declared.item.LogCode.{LogCode}

@@ -1,5 +1,6 @@
 -- What the reader of lines keeps of the lines that it has read, and what it answers.
-use Rattle.std.specs.Prelude.{◌≡◌, ℕ, ◌+◌, true, false, List, [], ◌∷◌, ◌++◌, length, Option, None, Some, unwrap_or, Result, Ok, Err}
+use Rattle.std.specs.Prelude.{◌≡◌, ℕ, ◌+◌, true, false, List, [], ◌∷◌, ◌++◌, length, Option, None}
+use Rattle.std.specs.Prelude.{Some, unwrap_or, Result, Ok, Err}
 use Rattle.std.specs.Option.{option_to_list}
 use Rattle.pota_base.specs.declared.fault.Refused.{Refused}
 use Rattle.pota_base.specs.declared.fault.Refused.TheVariants as refused
@@ -14,7 +15,8 @@ use Rattle.event_log.specs.declared.line_reader.LineReader.{LineReader}
 use Rattle.event_log.specs.declared.line_reader.LineTold.{LineTold}
 use Rattle.event_log.specs.declared.line_reader.Stage.{Stage}
 use Rattle.event_log.specs.declared.line_reader.Stage.TheVariants as stage
-use Rattle.event_log.specs.Before.{Line, names, variables, variables_after, events, is_header_over, is_ended, Told, gives, refuses, told}
+use Rattle.event_log.specs.Before.{Line, names, variables, variables_after, events, is_header_over}
+use Rattle.event_log.specs.Before.{is_ended, Told, gives, refuses, told}
 
 -- what was read, and this fault where it was malformed
 abbrev pub RefusedAs : {A : Type 0} → Result A LineError → LogCode → Result A (Refused LogCode)

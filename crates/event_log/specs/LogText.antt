@@ -1,9 +1,12 @@
 -- The grammar of a log: which logs have a text, the one text of each, and what reading it gives.
-use Rattle.std.specs.Prelude.{◌≡◌, ◌≢◌, ℕ, ◌+◌, ◌^◌, ◌<◌, ◌≤◌, true, List, [], ◌∷◌, ◌++◌, length, map, slice_index_or, FitsSigned}
+use Rattle.std.specs.Prelude.{◌≡◌, ◌≢◌, ℕ, ◌+◌, ◌^◌, ◌<◌, ◌≤◌, true, List, [], ◌∷◌, ◌++◌, length}
+use Rattle.std.specs.Prelude.{map, slice_index_or, FitsSigned}
 use Rattle.std.specs.Int.{w64}
 use Rattle.std.specs.List.{AllByRecursion}
 use Rattle.log_lines.specs.Names.{Name, is_name, are_distinct}
-use Rattle.log_lines.specs.Spelling.{NamedValue, Action, Internal, Send, Receive, EventLine, ProcsFit, names_of, procs_line, vars_line, event_line, batch_line, end_line}
+use Rattle.log_lines.specs.Spelling.{NamedValue, Action, Internal, Send, Receive, EventLine}
+use Rattle.log_lines.specs.Spelling.{ProcsFit, names_of, procs_line, vars_line, event_line}
+use Rattle.log_lines.specs.Spelling.{batch_line, end_line}
 use Rattle.event_log.specs.declared.item.Item.{Item}
 use Rattle.event_log.specs.declared.item.Item.TheVariants as item
 use Rattle.event_log.specs.declared.log.Binding.{Binding}

@@ -1,5 +1,6 @@
 -- The data of a trace: the header, and the events of each process in their order.
-use Rattle.std.specs.Prelude.{◌≡◌, ℕ, ℤ, ◌+◌, ◌<◌, ◌≤◌, true, List, [], ◌∷◌, ◌++◌, length, map, take, set, sum, get_or, replicate}
+use Rattle.std.specs.Prelude.{◌≡◌, ℕ, ℤ, ◌+◌, ◌<◌, ◌≤◌, true, List, [], ◌∷◌, ◌++◌, length, map}
+use Rattle.std.specs.Prelude.{take, set, sum, get_or, replicate}
 use Rattle.std.specs.List.{AllByRecursion}
 use Rattle.log_lines.specs.Names.{are_distinct}
 use Rattle.event_log.specs.declared.log.Binding.{Binding}

@@ -1,6 +1,7 @@
 //! A log that comes in pieces, up to its first fault.
 
-ghost use Rattle.std.specs.Prelude.{◌≡◌, ◌+◌, ◌^◌, ◌<◌, ◌≤◌, ◌++◌, ◌∷◌, [], false, length, None, IfOk, OnOk, IsTrue};
+ghost use Rattle.std.specs.Prelude.{◌≡◌, ◌+◌, ◌^◌, ◌<◌, ◌≤◌, ◌++◌, ◌∷◌, [], false, length, None};
+ghost use Rattle.std.specs.Prelude.{IfOk, OnOk, IsTrue};
 ghost use Rattle.std.specs.Option.{option_to_list};
 ghost use Rattle.event_log.specs.Lines.{header_items};
 ghost use Rattle.event_log.specs.Faults.{byte_fault};
@@ -118,7 +119,8 @@ impl Feeder {
     ghost use Rattle.event_log.specs.Before.{is_ended};
     ghost use Rattle.event_log.specs.Moments.{HasNoFeed, lines, IsPlainByte};
     ghost use Rattle.event_log.specs.Faults.{end_fault};
-    ghost use Rattle.event_log.specs.Feeding.{Past, CountsLines, HasFed, Gains, TakesPlain, ClosesLine, TakesFedLine, TakesPiece};
+    ghost use Rattle.event_log.specs.Feeding.{Past, CountsLines, HasFed, Gains, TakesPlain};
+    ghost use Rattle.event_log.specs.Feeding.{ClosesLine, TakesFedLine, TakesPiece};
 
     /// A reader that has read nothing. It takes no memory.
     #[tactic(auto, unfolding(crate::specs::Moments::lines, crate::specs::Moments::line_now, crate::specs::Faults::first_fault))]

@@ -1,11 +1,14 @@
 //! The events of one process, and its state after each of them.
-ghost use Rattle.std.specs.Prelude.{◌≡◌, ℕ, ℤ, pos, ◌+◌, ◌*◌, ◌<◌, ◌≤◌, [], ◌∷◌, ◌++◌, List, length, map, take, get_or, slice_get, slice_index_or, IfOk, OnOk, OnErr};
+ghost use Rattle.std.specs.Prelude.{◌≡◌, ℕ, ℤ, pos, ◌+◌, ◌*◌, ◌<◌, ◌≤◌, [], ◌∷◌, ◌++◌, List};
+ghost use Rattle.std.specs.Prelude.{length, map, take, get_or, slice_get, slice_index_or, IfOk};
+ghost use Rattle.std.specs.Prelude.{OnOk, OnErr};
 ghost use Rattle.std.specs.Prelude.{drop, ◌-◌};
 ghost use Rattle.std.specs.List.{AllByRecursion};
 ghost use Rattle.run_model.specs.Run.{assigned};
 ghost use Rattle.event_log.specs.declared.log.Assign.{Assign};
 ghost use Rattle.event_log.specs.declared.log.Binding.{Binding};
-ghost use Rattle.event_log.specs.States.{HistoryView, states_in, joined, assignment_of, AssignsWithin};
+ghost use Rattle.event_log.specs.States.{HistoryView, states_in, joined, assignment_of};
+ghost use Rattle.event_log.specs.States.{AssignsWithin};
 
 use crate::log::{Assign, Binding, Event};
 use pota_base::NoMemory;

@@ -1,11 +1,11 @@
 //! The text of a log: what its lines say, the first fault of any text, and the text of a log.
 //!
-//! `Reader::feed` gives the items and the first fault of the bytes so far, however they are cut into
-//! pieces (`read`); after want of memory it answers that from then on (`spent`, `err`).
-//! `Reader::finish` gives the first fault of the whole text (`fault`). `write_log` writes the text of
-//! a log. Laws: that text has no fault and gives the log's items (`a_log_reads_back`); a text without
-//! a fault is that of a log that can be written (`no_fault_is_a_log`); the items of any bytes are
-//! those of a log, as far as they go (`items_fit`).
+//! `Reader::feed` gives the items and the first fault of the bytes so far, however they are cut
+//! into pieces (`read`); after want of memory it answers that from then on (`spent`, `err`).
+//! `Reader::finish` gives the first fault of the whole text (`fault`). `write_log` writes the text
+//! of a log. Laws: that text has no fault and gives the log's items (`a_log_reads_back`); a text
+//! without a fault is that of a log that can be written (`no_fault_is_a_log`); the items of any
+//! bytes are those of a log, as far as they go (`items_fit`).
 //!
 //! `States` keeps the state of each process after each of its events (`state`, `value`) and takes a
 //! batch whole or not at all (`extend`).

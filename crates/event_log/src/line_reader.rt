@@ -1,6 +1,7 @@
 //! The lines of a log in their order, each without its line feed.
 
-ghost use Rattle.std.specs.Prelude.{◌≡◌, ◌+◌, ◌-◌, ◌^◌, ◌<◌, ◌≤◌, ◌∷◌, ◌++◌, [], length, All, IfOk, OnOk, IsOk, IsSomeAnd};
+ghost use Rattle.std.specs.Prelude.{◌≡◌, ◌+◌, ◌-◌, ◌^◌, ◌<◌, ◌≤◌, ◌∷◌, ◌++◌, [], length, All, IfOk};
+ghost use Rattle.std.specs.Prelude.{OnOk, IsOk, IsSomeAnd};
 
 use crate::copies::{bindings_of, copy_of, filled, names_of};
 use crate::item::{Item, LogCode};
@@ -91,8 +92,10 @@ impl LineTold {
 
 impl LineReader {
     ghost use Rattle.event_log.specs.declared.line_reader.Stage.TheVariants.{Header as InHeader};
-    ghost use Rattle.event_log.specs.Before.{Lines, is_ended, heading_told, procs_told, vars_told, body_told, filled};
-    ghost use Rattle.event_log.specs.Lines.{HasReadLines, JudgedAs, JudgedItem, CountsLine, TakesProcs, TakesVars, Passes, TakesLine};
+    ghost use Rattle.event_log.specs.Before.{Lines, is_ended, heading_told, procs_told, vars_told};
+    ghost use Rattle.event_log.specs.Before.{body_told, filled};
+    ghost use Rattle.event_log.specs.Lines.{HasReadLines, JudgedAs, JudgedItem, CountsLine};
+    ghost use Rattle.event_log.specs.Lines.{TakesProcs, TakesVars, Passes, TakesLine};
 
     /// A reader that has read no line. It takes no memory.
     #[tactic(auto, unfolding(crate::specs::Before::names, crate::specs::Before::variables, crate::specs::Before::events, crate::specs::Before::is_header_over, crate::specs::Before::is_ended))]

@@ -1,10 +1,12 @@
 //! The data of a growing trace.
-ghost use Rattle.std.specs.Prelude.{◌≡◌, ℕ, ◌-◌, pos, ◌+◌, ◌<◌, ◌≤◌, [], List, length, map, get_or, replicate, slice_index_or, sum, IfOk, OnOk, OnErr};
+ghost use Rattle.std.specs.Prelude.{◌≡◌, ℕ, ◌-◌, pos, ◌+◌, ◌<◌, ◌≤◌, [], List, length, map, get_or};
+ghost use Rattle.std.specs.Prelude.{replicate, slice_index_or, sum, IfOk, OnOk, OnErr};
 ghost use Rattle.std.specs.List.{AllByRecursion};
 ghost use Rattle.run_model.specs.Run.{state_after, states_of, process_at};
 ghost use Rattle.pota_base.specs.Shape.{HasEvent};
 ghost use Rattle.event_log.specs.declared.log.Event.{Event};
-ghost use Rattle.event_log.specs.States.{HistoryView, StatesView, IsHeader, AreWhole, MayFollow, with_batch, trace_of, nothing, Grown, HasRoom, Added};
+ghost use Rattle.event_log.specs.States.{HistoryView, StatesView, IsHeader, AreWhole, MayFollow};
+ghost use Rattle.event_log.specs.States.{with_batch, trace_of, nothing, Grown, HasRoom, Added};
 
 use crate::counting::{MANY_EVENTS, count_events};
 use crate::history::History;

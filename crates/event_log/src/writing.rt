@@ -1,12 +1,17 @@
 //! The text of a log.
 
-ghost use Rattle.std.specs.Prelude.{◌≡◌, ◌++◌, ◌∷◌, ◌<◌, ◌≤◌, [], length, IfOk, OnOk, slice_index_or};
+ghost use Rattle.std.specs.Prelude.{◌≡◌, ◌++◌, ◌∷◌, ◌<◌, ◌≤◌, [], length, IfOk, OnOk};
+ghost use Rattle.std.specs.Prelude.{slice_index_or};
 ghost use Rattle.std.specs.List.{AllByRecursion};
 ghost use Rattle.std.specs.Fmt.{decimal};
-ghost use Rattle.log_lines.specs.Spelling.{names_text, values_text, clock_rest, clock_text, action_text, event_line};
+ghost use Rattle.log_lines.specs.Spelling.{names_text, values_text, clock_rest, clock_text};
+ghost use Rattle.log_lines.specs.Spelling.{action_text, event_line};
 ghost use Rattle.event_log.specs.declared.log.Header.{Header as HeaderOf};
 ghost use Rattle.event_log.specs.Numbers.{variables_at};
-ghost use Rattle.event_log.specs.LogText.{values_of, named_values, action_of, line_of, vars_lines, header_lines, event_lines, batch_lines, closing_line, text_of, log_text, AssignFits, KindWithin, EventFits, EventsFit, BatchesFit};
+ghost use Rattle.event_log.specs.LogText.{values_of, named_values, action_of, line_of, vars_lines};
+ghost use Rattle.event_log.specs.LogText.{header_lines, event_lines, batch_lines, closing_line};
+ghost use Rattle.event_log.specs.LogText.{text_of, log_text, AssignFits, KindWithin, EventFits};
+ghost use Rattle.event_log.specs.LogText.{EventsFit, BatchesFit};
 ghost use Rattle.event_log.specs.Laws.{IsLog};
 
 use crate::log::{Assign, Binding, Event, Header, Kind, Log};

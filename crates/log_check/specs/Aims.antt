@@ -1,5 +1,6 @@
 -- What a log is checked for: a formula, what its reports show, and the watches that it may name.
-use Rattle.std.specs.Prelude.{◌≡◌, ℕ, ℤ, ◌≤◌, true, Bool, List, [], ◌∷◌, length, map, take, Option, if◌then◌else◌}
+use Rattle.std.specs.Prelude.{◌≡◌, ℕ, ℤ, ◌≤◌, true, Bool, List, [], ◌∷◌, length, map, take, Option}
+use Rattle.std.specs.Prelude.{if◌then◌else◌}
 use Rattle.std.specs.Str.{bytes_eq}
 use Rattle.run_model.specs.Cut.{initial}
 use Rattle.run_model.specs.Run.{Name, Watches, Run, run_of, clocks_of}

@@ -14,7 +14,8 @@ use Rattle.rctl_class.specs.Nodes.{formula_of}
 use Rattle.rctl_names.specs.Seen as names
 use Rattle.conjunctions.specs.Observing.{Reading, AreAnswers, AreFull}
 use Rattle.run_report.specs.Reports.{counted}
-use Rattle.log_judgement.specs.Judgement.{Prefix, followed_by, Judgement, waiting, growing, finished, refused}
+use Rattle.log_judgement.specs.Judgement.{Prefix, followed_by, Judgement, waiting, growing}
+use Rattle.log_judgement.specs.Judgement.{finished, refused}
 use Rattle.session.specs.declared.session.Session.{Session}
 use Rattle.session.specs.Growing.{GrowingView, HasAnswer}
 use Rattle.session.specs.Fed.{AreFedFrom, AnswersAs}

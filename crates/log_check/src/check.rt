@@ -5,8 +5,10 @@ ghost use Rattle.event_log.specs.LogText.{HeaderFits};
 ghost use Rattle.report.specs.Spelling.{IsWellFormed};
 ghost use Rattle.run_request.specs.Questions.{IsStated};
 ghost use Rattle.log_judgement.specs.Judgement.{Prefix, Judgement, judge, opened, waiting};
-ghost use Rattle.log_check.specs.Aims.{Aim, AreWatches, IsReportFor, aim_of, names_of, rules_of, watches_of};
-ghost use Rattle.log_check.specs.Checking.{GoesOn, HasClosed, IsCheckOf, IsRefusedAs, MayFollow, end_item};
+ghost use Rattle.log_check.specs.Aims.{Aim, AreWatches, IsReportFor, aim_of, names_of, rules_of};
+ghost use Rattle.log_check.specs.Aims.{watches_of};
+ghost use Rattle.log_check.specs.Checking.{GoesOn, HasClosed, IsCheckOf, IsRefusedAs, MayFollow};
+ghost use Rattle.log_check.specs.Checking.{end_item};
 
 use answer_report::{Wanted, report_on};
 use event_log::{Event, Header, Item};

@@ -1,6 +1,7 @@
 -- What is due of the bytes of a log: the batches that have a report of their own, the number of
 -- batches that were closed, and one fault at most.
-use Rattle.std.specs.Prelude.{◌≡◌, ℕ, ◌≤◌, min, Bool, true, false, List, [], ◌∷◌, ◌++◌, length, Option, None, Some}
+use Rattle.std.specs.Prelude.{◌≡◌, ℕ, ◌≤◌, min, Bool, true, false, List, [], ◌∷◌, ◌++◌, length}
+use Rattle.std.specs.Prelude.{Option, None, Some}
 use Rattle.log_lines.specs.Reading.{choose}
 use Rattle.event_log.specs.declared.item.Item.{Item}
 use Rattle.event_log.specs.declared.item.LogFault.{LogFault}
@@ -10,7 +11,8 @@ use Rattle.event_log.specs.LogText.{onto}
 use Rattle.event_log.specs.Faults.{fault_of, end_fault, items_in}
 use Rattle.log_judgement.specs.declared.refusal.Refusal.{Refusal}
 use Rattle.log_judgement.specs.declared.refusal.Refusal.TheVariants as refusal
-use Rattle.log_judgement.specs.Judgement.{Prefix, followed_by, Rules, Judgement, waiting, growing, finished, refused, judged}
+use Rattle.log_judgement.specs.Judgement.{Prefix, followed_by, Rules, Judgement, waiting, growing}
+use Rattle.log_judgement.specs.Judgement.{finished, refused, judged}
 
 -- ---- how bytes are read as a log
 

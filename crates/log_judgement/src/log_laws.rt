@@ -10,7 +10,8 @@ ghost use Rattle.log_judgement.specs.WholeLogs.{IsLogFor, IsDueOfLog};
 /// Of a log without a fault that has the names, the log after each batch is due and no fault.
 pub fn no_fault_is_due_of_a_log()
     ensures { (names : Header → Option FormulaFault) (bytes : List ℕ) (log : Log)
-        → IsLogFor names bytes log → IsDueOfLog log (due log_reading (with_names names) true bytes) }
+        → IsLogFor names bytes log
+        → IsDueOfLog log (due log_reading (with_names names) true bytes) }
 {}
 
 /// Bytes of which no fault is due are the text of such a log.

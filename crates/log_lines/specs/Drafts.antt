@@ -9,7 +9,8 @@ use Rattle.log_lines.specs.declared.draft.ActionDraft.TheVariants as drafted
 use Rattle.log_lines.specs.declared.draft.EventDraft.{EventDraft}
 use Rattle.log_lines.specs.declared.draft.VarsDraft.{VarsDraft}
 use Rattle.log_lines.specs.Names.{Name}
-use Rattle.log_lines.specs.Spelling.{NamedValue, Action, Internal, Send, Receive, EventLine, VarsLine}
+use Rattle.log_lines.specs.Spelling.{NamedValue, Action, Internal, Send, Receive, EventLine}
+use Rattle.log_lines.specs.Spelling.{VarsLine}
 
 -- ---- what a reader of bytes gave
 

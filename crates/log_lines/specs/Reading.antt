@@ -1,9 +1,12 @@
 -- Reading a line from left to right: what stands at the front of the bytes, with the bytes after
 -- it, or None where it does not stand there. What was read before stands in the argument `front`.
-use Rattle.std.specs.Prelude.{ℕ, zero, suc, ◌+◌, ◌-◌, ◌^◌, Bool, ◌&&◌, ◌==◌, nat_lt, nat_le, List, [], ◌∷◌, ◌++◌, length, take, drop, slice_index, Option, None, Some, is_some, if◌then◌else◌}
+use Rattle.std.specs.Prelude.{ℕ, zero, suc, ◌+◌, ◌-◌, ◌^◌, Bool, ◌&&◌, ◌==◌, nat_lt, nat_le, List}
+use Rattle.std.specs.Prelude.{[], ◌∷◌, ◌++◌, length, take, drop, slice_index, Option, None, Some}
+use Rattle.std.specs.Prelude.{is_some, if◌then◌else◌}
 pub use Rattle.pota_base.specs.Number.{◌>>=◌, number_at, signed_at}
 use Rattle.log_lines.specs.Names.{Name, is_name_start, is_name_byte, are_distinct}
-use Rattle.log_lines.specs.Spelling.{NamedValue, Action, Internal, Send, Receive, EventLine, VarsLine, names_of}
+use Rattle.log_lines.specs.Spelling.{NamedValue, Action, Internal, Send, Receive, EventLine}
+use Rattle.log_lines.specs.Spelling.{VarsLine, names_of}
 
 -- ---- words and names
 

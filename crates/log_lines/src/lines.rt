@@ -3,9 +3,13 @@
 ghost use Rattle.std.specs.Prelude.{◌≡◌, ◌<◌, List, length, IfOk, IfSome};
 ghost use Rattle.std.specs.Str.{bytes_eq};
 ghost use Rattle.log_lines.specs.Names.{Name as NameOf, place_of};
-ghost use Rattle.log_lines.specs.Spelling.{EventLine, EventLineFits, event_line, VarsLine, VarsLineFits, vars_line, ProcsFit, procs_line, batch_line, end_line};
-ghost use Rattle.log_lines.specs.Reading.{clock_at, message_at, action_at, event_in, vars_in, procs_in, begins_vars};
-ghost use Rattle.log_lines.specs.Drafts.{Gives, action_of, event_of, vars_of, texts_of, message_seen, action_seen};
+ghost use Rattle.log_lines.specs.Spelling.{EventLine, EventLineFits, event_line, VarsLine};
+ghost use Rattle.log_lines.specs.Spelling.{VarsLineFits, vars_line, ProcsFit, procs_line};
+ghost use Rattle.log_lines.specs.Spelling.{batch_line, end_line};
+ghost use Rattle.log_lines.specs.Reading.{clock_at, message_at, action_at, event_in, vars_in};
+ghost use Rattle.log_lines.specs.Reading.{procs_in, begins_vars};
+ghost use Rattle.log_lines.specs.Drafts.{Gives, action_of, event_of, vars_of, texts_of};
+ghost use Rattle.log_lines.specs.Drafts.{message_seen, action_seen};
 
 use crate::draft::{ActionDraft, EventDraft, LineError, VarsDraft};
 use crate::frames::Frames;

@@ -1,7 +1,8 @@
 //! Lists at the end of a line, and clocks.
 
 ghost use Rattle.std.specs.Prelude.{◌≡◌, ◌^◌, ◌<◌, ◌≤◌, [], ◌∷◌, length, map};
-ghost use Rattle.log_lines.specs.Reading.{value_at, names_from, values_from, values_at, clock_from, clock_at};
+ghost use Rattle.log_lines.specs.Reading.{value_at, names_from, values_from, values_at, clock_from};
+ghost use Rattle.log_lines.specs.Reading.{clock_at};
 ghost use Rattle.log_lines.specs.Drafts.{Gives, value_of, values_of, value_seen, texts_of};
 
 use crate::draft::{LineError, Setting};

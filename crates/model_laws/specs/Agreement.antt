@@ -2,7 +2,9 @@
 -- watches by their values along the events of their process, channels by their counts.
 use Rattle.std.specs.Prelude.{◌≡◌, ℕ, ⊤}
 use Rattle.run_model.specs.Run.{Name, Run}
-use Rattle.run_model.specs.Formula.{Side, Number, Variable, Formula, Truth, Comparison, Watched, InTransit, Empty, Not, And, Or, Temporal, Until, Formulas, Nil, Cons}
+use Rattle.run_model.specs.Formula.{Side, Number, Variable, Formula, Truth, Comparison, Watched}
+use Rattle.run_model.specs.Formula.{InTransit, Empty, Not, And, Or, Temporal, Until, Formulas, Nil}
+use Rattle.run_model.specs.Formula.{Cons}
 
 -- the variable of a process
 pub record AgreeOnVariable (r s : Run) (process variable : Name) : Type 0 where

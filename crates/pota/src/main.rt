@@ -37,7 +37,8 @@ fn hand_in(
     watches: &mut Vec<Handed>,
 ) -> Result<(), NoMemory>
     requires { is_name name.now ≡ true }
-    ensures { OnOk result (names_of watches.new.items ≡ names_of watches.old.items ++ name.now ∷ []) }
+    ensures { OnOk result
+        (names_of watches.new.items ≡ names_of watches.old.items ++ name.now ∷ []) }
 {
     let Some(name) = Name::new(alloc, name)? else {
         unreachable!()

@@ -1,6 +1,7 @@
 use Rattle.std.specs.Prelude.{ℕ}
 use Rattle.pota_base.specs.declared.status.Status.{Status}
-use Rattle.pota_base.specs.declared.status.Status.TheVariants.{True, False, Usage, Formula, Log, ReadFault, WriteFault, OutOfMemory}
+use Rattle.pota_base.specs.declared.status.Status.TheVariants.{True, False, Usage, Formula, Log}
+use Rattle.pota_base.specs.declared.status.Status.TheVariants.{ReadFault, WriteFault, OutOfMemory}
 
 -- the exit status that stands for how a run ended
 abbrev pub code_of : Status → ℕ

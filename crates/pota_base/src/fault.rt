@@ -1,4 +1,5 @@
-ghost use Rattle.pota_base.specs.declared.fault.Refused.TheVariants.{Fault, NoMemory as OutOfMemory};
+ghost use Rattle.pota_base.specs.declared.fault.Refused.TheVariants.{Fault};
+ghost use Rattle.pota_base.specs.declared.fault.Refused.TheVariants.{NoMemory as OutOfMemory};
 ghost use Rattle.std.specs.Prelude.{◌≡◌};
 
 use std::alloc::{AllocError, AllocFailed};

@@ -1,4 +1,5 @@
-ghost use Rattle.std.specs.Prelude.{◌≡◌, [], ◌∷◌, ◌++◌, ◌<◌, ◌↔◌, length, slice_get, slice_index_or, slice_set, IsTrue, IfOk, OnOk, OnErr};
+ghost use Rattle.std.specs.Prelude.{◌≡◌, [], ◌∷◌, ◌++◌, ◌<◌, ◌↔◌, length, slice_get};
+ghost use Rattle.std.specs.Prelude.{slice_index_or, slice_set, IsTrue, IfOk, OnOk, OnErr};
 
 use crate::fault::NoMemory;
 use std::alloc::Global;

@@ -1,8 +1,10 @@
 //! Numbers as text: decimal, without a sign but `-`, and without leading zeros.
-ghost use Rattle.std.specs.Prelude.{◌≡◌, ℕ, ℤ, ◌+◌, ◌-◌, ◌*◌, ◌^◌, ◌<◌, ◌≤◌, ◌++◌, length, drop, FitsSigned, IfSome, IfNone, OnOk, OnErr};
+ghost use Rattle.std.specs.Prelude.{◌≡◌, ℕ, ℤ, ◌+◌, ◌-◌, ◌*◌, ◌^◌, ◌<◌, ◌≤◌, ◌++◌, length, drop};
+ghost use Rattle.std.specs.Prelude.{FitsSigned, IfSome, IfNone, OnOk, OnErr};
 ghost use Rattle.std.specs.Int.{w64};
 ghost use Rattle.std.specs.Fmt.{decimal, signed_decimal};
-ghost use Rattle.pota_base.specs.Number.{is_digit, is_leading_zero, digits_end, number_at, minus_at, plus_at, signed_at, seen, whole};
+ghost use Rattle.pota_base.specs.Number.{is_digit, is_leading_zero, digits_end, number_at};
+ghost use Rattle.pota_base.specs.Number.{minus_at, plus_at, signed_at, seen, whole};
 
 use crate::{Bytes, NoMemory};
 

@@ -1,4 +1,5 @@
-ghost use Rattle.std.specs.Prelude.{◌≡◌, ℕ, ◌+◌, ◌<◌, ◌≤◌, ◌↔◌, length, get_or, set, slice_index, sum, IsNone, IfSome, IfOk};
+ghost use Rattle.std.specs.Prelude.{◌≡◌, ℕ, ◌+◌, ◌<◌, ◌≤◌, ◌↔◌, length, get_or, set, slice_index};
+ghost use Rattle.std.specs.Prelude.{sum, IsNone, IfSome, IfOk};
 ghost use Rattle.pota_base.specs.Shape.{IsShape, AreStarts};
 
 use crate::fault::NoMemory;

@@ -1,5 +1,6 @@
 //! The answers to a check and to a bench.
-ghost use Rattle.std.specs.Prelude.{◌≡◌, ◌≤◌, ◌<◌, ◌++◌, [], ℕ, false, length, List as ListOf, Option, IfOk, OnOk};
+ghost use Rattle.std.specs.Prelude.{◌≡◌, ◌≤◌, ◌<◌, ◌++◌, [], ℕ, false, length, List as ListOf};
+ghost use Rattle.std.specs.Prelude.{Option, IfOk, OnOk};
 ghost use Rattle.event_log.specs.LogText.{log_items, event_items};
 ghost use Rattle.log_judgement.specs.Judgement.{waiting};
 ghost use Rattle.command_words.specs.declared.request.Task.TheVariants.{Bench, Check};

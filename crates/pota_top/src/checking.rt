@@ -3,7 +3,8 @@ ghost use Rattle.std.specs.Prelude.{◌≡◌, ◌∷◌, ◌++◌, ◌≤◌, [
 ghost use Rattle.log_judgement.specs.Judgement.{Prefix, Judgement, judge, judged};
 ghost use Rattle.log_check.specs.Aims.{Aim, rules_of};
 ghost use Rattle.log_check.specs.Checking.{HasClosed, IsCheckOf, MayFollow};
-ghost use Rattle.pota_top.specs.Checking.{AreTexts, IsBenchAim, Judges, Puts, Reports, Stands, SumsUp, TakesItems};
+ghost use Rattle.pota_top.specs.Checking.{AreTexts, IsBenchAim, Judges, Puts, Reports, Stands};
+ghost use Rattle.pota_top.specs.Checking.{SumsUp, TakesItems};
 ghost use Rattle.bench_summary.specs.Views.{sizes_of as summed_sizes};
 ghost use Rattle.pota_top.specs.Run.{sizes_of};
 

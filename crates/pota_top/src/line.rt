@@ -1,6 +1,7 @@
 //! The one line that tells of a run without a verdict. It takes no memory.
 ghost use Rattle.std.specs.Prelude.{◌≡◌, ◌+◌, ◌≤◌, ◌++◌, [], List, length, take};
-ghost use Rattle.pota_top.specs.Outcome.{usage_text, formula_text, log_text, line_of, cause_of, Told};
+ghost use Rattle.pota_top.specs.Outcome.{usage_text, formula_text, log_text, line_of, cause_of};
+ghost use Rattle.pota_top.specs.Outcome.{Told};
 
 use crate::outcome::{Fault, Outcome};
 use crate::texts::{formula_code_text, log_code_text};

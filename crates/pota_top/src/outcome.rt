@@ -1,7 +1,8 @@
 //! How a run ended.
 ghost use Rattle.std.specs.Prelude.{◌≡◌};
 ghost use Rattle.pota_top.specs.declared.outcome.Fault.TheVariants.{Memory};
-ghost use Rattle.pota_top.specs.Outcome.{status_of, fault_of_question, fault_of_refusal, outcome_of};
+ghost use Rattle.pota_top.specs.Outcome.{status_of, fault_of_question, fault_of_refusal};
+ghost use Rattle.pota_top.specs.Outcome.{outcome_of};
 
 use event_log::LogFault;
 use log_judgement::Refusal;

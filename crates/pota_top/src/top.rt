@@ -6,7 +6,8 @@ ghost use Rattle.run_request.specs.Questions.{IsQuestion};
 ghost use Rattle.log_check.specs.Aims.{AreWatches};
 ghost use Rattle.pota_top.specs.Outcome.{Told, line_of, outcome_of};
 ghost use Rattle.pota_top.specs.Asking.{handing_of};
-ghost use Rattle.pota_top.specs.Run.{IsBenchAnswered, IsCalm, IsDecided, IsRefusedAsAsked, IsRefusedAsDue, Ran};
+ghost use Rattle.pota_top.specs.Run.{IsBenchAnswered, IsCalm, IsDecided, IsRefusedAsAsked};
+ghost use Rattle.pota_top.specs.Run.{IsRefusedAsDue, Ran};
 
 use crate::answering::{answer_bench, answer_check};
 use crate::checking::Means;

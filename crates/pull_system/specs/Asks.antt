@@ -1,5 +1,6 @@
 -- Rows of asks: for one value of a source, the most that any of its pulls asks of each process.
-use Rattle.std.specs.Prelude.{◌≡◌, ◌⊎◌, ℕ, ◌+◌, ◌*◌, ◌<◌, ◌≤◌, List, [], length, slice_index, slice_index_or}
+use Rattle.std.specs.Prelude.{◌≡◌, ◌⊎◌, ℕ, ◌+◌, ◌*◌, ◌<◌, ◌≤◌, List, [], length, slice_index}
+use Rattle.std.specs.Prelude.{slice_index_or}
 use Rattle.pull_system.specs.System.{SystemView, source_of, target_of, ask}
 
 -- some pull from the process asks this number of the target

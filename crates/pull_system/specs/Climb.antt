@@ -1,5 +1,6 @@
 -- What stays true while a vector is raised to the least closed one.
-use Rattle.std.specs.Prelude.{◌≡◌, ◌≢◌, ◌⊎◌, ℕ, ◌<◌, List, ◌≤◌, Bool, false, true, length, slice_index, slice_index_or, slice_set, if◌then◌else◌}
+use Rattle.std.specs.Prelude.{◌≡◌, ◌≢◌, ◌⊎◌, ℕ, ◌<◌, List, ◌≤◌, Bool, false, true, length}
+use Rattle.std.specs.Prelude.{slice_index, slice_index_or, slice_set, if◌then◌else◌}
 use Rattle.std.specs.List.{sum_by}
 use Rattle.pull_system.specs.Vector.{IsWithin, IsVector}
 use Rattle.pull_system.specs.System.{SystemView, IsClosedFrom, HoldsPull, source_of, target_of, ask}

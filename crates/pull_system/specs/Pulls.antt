@@ -1,6 +1,7 @@
 -- Lists of pulls, as the parts of a formula and the order of a run give them, and the tables that
 -- they are made by.
-use Rattle.std.specs.Prelude.{ℕ, zero, suc, ◌≤◌, Bool, nat_lt, if◌then◌else◌, List, All, slice_index}
+use Rattle.std.specs.Prelude.{ℕ, zero, suc, ◌≤◌, Bool, nat_lt, if◌then◌else◌, List, All}
+use Rattle.std.specs.Prelude.{slice_index}
 use Rattle.pull_system.specs.declared.pull.Pull.{Pull}
 
 -- the pull holds at the vector

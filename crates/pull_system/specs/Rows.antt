@@ -1,5 +1,6 @@
 -- One vector per row: row 0 is the bottom's, the others are the events' in row order.
-use Rattle.std.specs.Prelude.{◌≡◌, ℕ, zero, suc, ◌+◌, ◌-◌, ◌*◌, ◌≤◌, List, [], ◌∷◌, ◌++◌, length, sum, slice_range, nat_le, if◌then◌else◌}
+use Rattle.std.specs.Prelude.{◌≡◌, ℕ, zero, suc, ◌+◌, ◌-◌, ◌*◌, ◌≤◌, List, [], ◌∷◌, ◌++◌, length}
+use Rattle.std.specs.Prelude.{sum, slice_range, nat_le, if◌then◌else◌}
 use Rattle.pota_base.specs.Shape.{IsShape}
 use Rattle.pull_system.specs.System.{SystemView, IsLeastFrom}
 

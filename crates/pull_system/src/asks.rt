@@ -1,6 +1,7 @@
 //! Rows of asks: what the pulls from a process ask of each process, for each value of its
 //! component.
-ghost use Rattle.std.specs.Prelude.{◌≡◌, ℕ, ◌+◌, ◌*◌, ◌^◌, ◌<◌, ◌≤◌, List, length, max, slice_index, slice_set, slice_range, IfOk, OnOk, ◌++◌};
+ghost use Rattle.std.specs.Prelude.{◌≡◌, ℕ, ◌+◌, ◌*◌, ◌^◌, ◌<◌, ◌≤◌, List, length, max};
+ghost use Rattle.std.specs.Prelude.{slice_index, slice_set, slice_range, IfOk, OnOk, ◌++◌};
 ghost use Rattle.pull_system.specs.System.{SystemView, IsSystem, AreBySource};
 ghost use Rattle.pull_system.specs.Asks.{AreAsks, AreAskRows, AreAllAsks};
 

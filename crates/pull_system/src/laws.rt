@@ -1,12 +1,14 @@
 //! Laws on systems and rows. The functions do nothing.
-ghost use Rattle.std.specs.Prelude.{◌≡◌, ◌↔◌, ℕ, ◌<◌, ◌≤◌, Bool, true, List, ◌++◌, length, sum, slice_index, slice_set};
+ghost use Rattle.std.specs.Prelude.{◌≡◌, ◌↔◌, ℕ, ◌<◌, ◌≤◌, Bool, true, List, ◌++◌, length, sum};
+ghost use Rattle.std.specs.Prelude.{slice_index, slice_set};
 ghost use Rattle.pull_system.specs.declared.pull.Pull.{Pull};
 ghost use Rattle.pull_system.specs.Pulls.{ClosedUnder, first_below};
 ghost use Rattle.pota_base.specs.declared.shape.EventId.{EventId};
 ghost use Rattle.pota_base.specs.Shape.{HasEvent, row_of};
 ghost use Rattle.pull_system.specs.Vector.{IsWithin, IsVector, IsMinimum, IsMaximum};
 ghost use Rattle.pull_system.specs.System.{SystemView, IsSystem, IsClosed, IsLeastFrom};
-ghost use Rattle.pull_system.specs.Rows.{RowsView, AreLeastRows, start_of, starts, place_of, row_at};
+ghost use Rattle.pull_system.specs.Rows.{RowsView, AreLeastRows, start_of, starts, place_of};
+ghost use Rattle.pull_system.specs.Rows.{row_at};
 ghost use Rattle.pull_system.specs.Growth.{Grows, grown_words};
 ghost use Rattle.pull_system.specs.Climb.{IsBelowLeast};
 

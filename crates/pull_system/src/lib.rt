@@ -1,9 +1,10 @@
 //! Systems of monotone pulls between the components of a vector, and one vector per row.
 //!
-//! `System::pull` gives one entry of a pull's table, and `System::asks` what all pulls from a process
-//! ask at one value; both count look-ups (clauses `step` and `steps`). The laws, functions with empty
-//! bodies, say that the least closed vector exists and is unique, and that where a system grows, its
-//! earlier least rows stay below the later ones (`growing_systems`). Nothing is said of time.
+//! `System::pull` gives one entry of a pull's table, and `System::asks` what all pulls from a
+//! process ask at one value; both count look-ups (clauses `step` and `steps`). The laws, functions
+//! with empty bodies, say that the least closed vector exists and is unique, and that where a
+//! system grows, its earlier least rows stay below the later ones (`growing_systems`). Nothing is
+//! said of time.
 #![tactic(auto)]
 
 mod asks;

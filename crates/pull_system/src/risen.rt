@@ -1,4 +1,5 @@
-ghost use Rattle.std.specs.Prelude.{◌≡◌, ℕ, ◌+◌, ◌<◌, ◌≤◌, true, false, length, slice_index_or, slice_set, IfSome, IfNone};
+ghost use Rattle.std.specs.Prelude.{◌≡◌, ℕ, ◌+◌, ◌<◌, ◌≤◌, true, false, length, slice_index_or};
+ghost use Rattle.std.specs.Prelude.{slice_set, IfSome, IfNone};
 ghost use Rattle.pull_system.specs.Climb.{marked};
 
 use std::marker::Model;
@@ -44,7 +45,8 @@ impl Risen {
         ensures there { IfSome result (λ process. slice_index_or self.old process false ≡ true) }
         ensures unmarked { IfSome result (λ process. self.new ≡ slice_set self.old process false) }
         ensures count { IfSome result (λ _. marked self.new + 1 ≡ marked self.old) }
-        ensures none { IfNone result ((process : ℕ) → slice_index_or self.old process false ≡ false) }
+        ensures none { IfNone result
+            ((process : ℕ) → slice_index_or self.old process false ≡ false) }
         ensures end { IfNone result (self.new ≡ self.old) }
         ensures size { length self.new ≡ 32 }
     {

@@ -1,4 +1,5 @@
-ghost use Rattle.std.specs.Prelude.{◌≡◌, ◌+◌, ◌*◌, ◌≤◌, ◌<◌, length, sum, slice_index, slice_set, max, IfOk, IfSome, OnOk, ◌++◌};
+ghost use Rattle.std.specs.Prelude.{◌≡◌, ◌+◌, ◌*◌, ◌≤◌, ◌<◌, length, sum, slice_index, slice_set};
+ghost use Rattle.std.specs.Prelude.{max, IfOk, IfSome, OnOk, ◌++◌};
 ghost use Rattle.pota_base.specs.Shape.{IsShape};
 ghost use Rattle.pull_system.specs.Rows.{start_of, starts, row_at};
 ghost use Rattle.pull_system.specs.Growth.{DidNotFall, grown_row, grown_words, old_row};
@@ -29,7 +30,8 @@ impl Rows {
 
     /// Each row at its start.
     pub fn new(alloc: Global, shape: &Shape) -> Result<Rows, NoMemory>
-        ensures { IfOk result (λ rows. rows ≡ record { lens = shape.now; words = starts shape.now }) }
+        ensures { IfOk result
+            (λ rows. rows ≡ record { lens = shape.now; words = starts shape.now }) }
     {
         let shape = shape.copy(alloc)?;
         let words = start_words(alloc, &shape)?;

@@ -1,4 +1,5 @@
-ghost use Rattle.std.specs.Prelude.{◌≡◌, ℕ, ◌+◌, ◌^◌, ◌<◌, ◌≤◌, ◌↔◌, length, slice_index, All, IsTrue, IfOk, []};
+ghost use Rattle.std.specs.Prelude.{◌≡◌, ℕ, ◌+◌, ◌^◌, ◌<◌, ◌≤◌, ◌↔◌, length, slice_index, All};
+ghost use Rattle.std.specs.Prelude.{IsTrue, IfOk, []};
 ghost use Rattle.pull_system.specs.System.{IsPull, HoldsPull, numbers_from, AreBySource};
 
 use crate::asks::{all_asks, row_of};
@@ -36,7 +37,8 @@ impl Model for System {
 impl System {
     ghost use Rattle.pota_base.specs.Shape.{IsShape};
     ghost use Rattle.pull_system.specs.Vector.{IsVector};
-    ghost use Rattle.pull_system.specs.System.{SystemView, IsSystem, IsClosed, pull_at, ask, source_of, target_of};
+    ghost use Rattle.pull_system.specs.System.{SystemView, IsSystem, IsClosed, pull_at, ask};
+    ghost use Rattle.pull_system.specs.System.{source_of, target_of};
     ghost use Rattle.pull_system.specs.Asks.{AreAsks};
 
     /// The system of these pulls, of which there are fewer than 2^32. They keep their order.

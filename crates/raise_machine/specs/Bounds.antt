@@ -1,5 +1,6 @@
 -- Words of rows that lie between the starts and the least closed vectors.
-use Rattle.std.specs.Prelude.{◌≡◌, ℕ, ◌+◌, ◌*◌, ◌<◌, ◌≤◌, List, [], ◌∷◌, Bool, true, ◌&&◌, nat_le, length, sum, max, slice_index, slice_set}
+use Rattle.std.specs.Prelude.{◌≡◌, ℕ, ◌+◌, ◌*◌, ◌<◌, ◌≤◌, List, [], ◌∷◌, Bool, true, ◌&&◌, nat_le}
+use Rattle.std.specs.Prelude.{length, sum, max, slice_index, slice_set}
 use Rattle.pull_system.specs.Vector.{IsWithin}
 use Rattle.pull_system.specs.System.{SystemView, IsClosedFrom}
 use Rattle.pull_system.specs.Rows.{start_of, starts, place_of}

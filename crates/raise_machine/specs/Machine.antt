@@ -1,6 +1,7 @@
 -- The raise machine: one word per row and process, and steps that raise one word (after Chase and
 -- Garg's advancing of forbidden processes, in any order, with lending between rows added).
-use Rattle.std.specs.Prelude.{slice_index, ◌<◌, ◌≡◌, ℕ, zero, suc, ◌+◌, List, [], ◌∷◌, Bool, ◌&&◌, nat_le, nat_lt, length, sum, if◌then◌else◌}
+use Rattle.std.specs.Prelude.{slice_index, ◌<◌, ◌≡◌, ℕ, zero, suc, ◌+◌, List, [], ◌∷◌, Bool, ◌&&◌}
+use Rattle.std.specs.Prelude.{nat_le, nat_lt, length, sum, if◌then◌else◌}
 use Rattle.pull_system.specs.System.{SystemView, source_of, target_of, ask}
 use Rattle.pull_system.specs.Rows.{place_of}
 use Rattle.raise_machine.specs.declared.step.Step.{Step}

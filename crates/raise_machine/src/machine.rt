@@ -31,7 +31,8 @@ impl Model for Machine {
 }
 
 impl Machine {
-    ghost use Rattle.raise_machine.specs.Machine.{is_word, is_allowed, words_after, happens, words_at, allowed_count};
+    ghost use Rattle.raise_machine.specs.Machine.{is_word, is_allowed, words_after, happens};
+    ghost use Rattle.raise_machine.specs.Machine.{words_at, allowed_count};
 
     /// The machine whose words are the floor, which lies between the starts and the least closed
     /// vectors.

@@ -11,7 +11,8 @@ use Rattle.rctl_grammar.specs.declared.tree.Operator.TheVariants as operator
 use Rattle.rctl_grammar.specs.declared.tree.Atom.{Atom}
 use Rattle.rctl_grammar.specs.declared.tree.Atom.TheVariants as atom
 use Rattle.rctl_grammar.specs.Shape.{relation_of}
-use Rattle.rctl_class.specs.Nodes.{Node, Nodes, leaf, negation, conjunction, disjunction, under, until_of, none, more, formula_of}
+use Rattle.rctl_class.specs.Nodes.{Node, Nodes, leaf, negation, conjunction, disjunction, under}
+use Rattle.rctl_class.specs.Nodes.{until_of, none, more, formula_of}
 use Rattle.rctl_class.specs.Uses.{earlier, fault_at}
 
 -- ---- what is wrong with one node that isn't local

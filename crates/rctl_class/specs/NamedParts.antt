@@ -1,5 +1,6 @@
 -- Parts by names as plain data, the formulas that they spell, and the names that they use.
-use Rattle.std.specs.Prelude.{◌≡◌, ℕ, ◌+◌, ◌^◌, ◌≤◌, Bool, true, false, ◌&&◌, List, [], ◌∷◌, ◌++◌, map, length, Option, None, Some, IsTrue, ⊤}
+use Rattle.std.specs.Prelude.{◌≡◌, ℕ, ◌+◌, ◌^◌, ◌≤◌, Bool, true, false, ◌&&◌, List, [], ◌∷◌, ◌++◌}
+use Rattle.std.specs.Prelude.{map, length, Option, None, Some, IsTrue, ⊤}
 use Rattle.run_model.specs.Run.{Name}
 use Rattle.run_model.specs.Formula as model
 use Rattle.run_model.specs.Class.{is_analysed}

@@ -1,6 +1,7 @@
 -- A tree with its places as plain data, on which the rest goes by cases, and the formula that it
 -- spells.
-use Rattle.std.specs.Prelude.{◌≡◌, ℕ, ◌+◌, ◌^◌, ◌≤◌, nat_lt, Bool, true, ◌&&◌, List, [], ◌∷◌, IsTrue}
+use Rattle.std.specs.Prelude.{◌≡◌, ℕ, ◌+◌, ◌^◌, ◌≤◌, nat_lt, Bool, true, ◌&&◌, List, [], ◌∷◌}
+use Rattle.std.specs.Prelude.{IsTrue}
 use Rattle.run_model.specs.Formula as model
 use Rattle.run_model.specs.Class.{is_wide}
 use Rattle.rctl_grammar.specs.declared.tree.Operator.{Operator}

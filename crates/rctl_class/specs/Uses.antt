@@ -1,6 +1,7 @@
 -- The names that a formula uses, in the order of its text, and the first one that is unknown or
 -- stands where it may not.
-use Rattle.std.specs.Prelude.{◌≡◌, ℕ, Bool, false, not, ◌&&◌, ◌||◌, List, [], ◌∷◌, ◌++◌, Option, None, Some, if◌then◌else◌, bytes_eq}
+use Rattle.std.specs.Prelude.{◌≡◌, ℕ, Bool, false, not, ◌&&◌, ◌||◌, List, [], ◌∷◌, ◌++◌, Option}
+use Rattle.std.specs.Prelude.{None, Some, if◌then◌else◌, bytes_eq}
 use Rattle.run_model.specs.Run.{Name}
 use Rattle.rctl_grammar.specs.declared.fault.FormulaCode.TheVariants as code
 use Rattle.rctl_grammar.specs.declared.fault.FormulaCode.{FormulaCode}
@@ -10,7 +11,8 @@ use Rattle.rctl_grammar.specs.declared.tree.Side.{Side}
 use Rattle.rctl_grammar.specs.declared.tree.Side.TheVariants as side
 use Rattle.rctl_grammar.specs.declared.tree.Atom.{Atom}
 use Rattle.rctl_grammar.specs.declared.tree.Atom.TheVariants as atom
-use Rattle.rctl_class.specs.Nodes.{Node, Nodes, leaf, negation, conjunction, disjunction, under, until_of, none, more}
+use Rattle.rctl_class.specs.Nodes.{Node, Nodes, leaf, negation, conjunction, disjunction, under}
+use Rattle.rctl_class.specs.Nodes.{until_of, none, more}
 
 -- a name in the text: of a process, of a variable of a process, or of a watch on a process
 pub data Use : Type 0 where

@@ -1,5 +1,6 @@
 -- The parts and the disjuncts of a formula of the class, by names and with their places.
-use Rattle.std.specs.Prelude.{ℕ, zero, suc, ◌+◌, ◌-◌, ◌^◌, min, Bool, true, false, not, ◌&&◌, List, [], ◌∷◌, ◌++◌, Option, None, Some, if◌then◌else◌, bytes_eq}
+use Rattle.std.specs.Prelude.{ℕ, zero, suc, ◌+◌, ◌-◌, ◌^◌, min, Bool, true, false, not, ◌&&◌, List}
+use Rattle.std.specs.Prelude.{[], ◌∷◌, ◌++◌, Option, None, Some, if◌then◌else◌, bytes_eq}
 use Rattle.run_model.specs.Run.{Name}
 use Rattle.run_model.specs.Class.{is_local, after_sign}
 use Rattle.run_model.specs.Formula as model
@@ -11,7 +12,8 @@ use Rattle.rctl_grammar.specs.declared.tree.Atom.TheVariants as atom
 use Rattle.rctl_grammar.specs.Shape.{relation_of}
 use Rattle.rctl_class.specs.declared.named.NamedSide.{NamedSide}
 use Rattle.rctl_class.specs.declared.named.NamedSide.TheVariants as named_side
-use Rattle.rctl_class.specs.Nodes.{Node, Nodes, leaf, negation, conjunction, disjunction, under, until_of, none, more, formula_of}
+use Rattle.rctl_class.specs.Nodes.{Node, Nodes, leaf, negation, conjunction, disjunction, under}
+use Rattle.rctl_class.specs.Nodes.{until_of, none, more, formula_of}
 use Rattle.rctl_class.specs.Uses as used
 use Rattle.rctl_class.specs.Uses.{Use, uses_of}
 use Rattle.rctl_class.specs.NamedParts as named

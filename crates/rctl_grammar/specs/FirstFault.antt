@@ -1,5 +1,6 @@
 -- The first fault of a text, over its tokens: the limits laid over the reading from left to right.
-use Rattle.std.specs.Prelude.{ℕ, zero, suc, Bool, true, false, ◌+◌, nat_lt, List, [], ◌∷◌, Option, None, Some, if◌then◌else◌}
+use Rattle.std.specs.Prelude.{ℕ, zero, suc, Bool, true, false, ◌+◌, nat_lt, List, [], ◌∷◌, Option}
+use Rattle.std.specs.Prelude.{None, Some, if◌then◌else◌}
 use Rattle.rctl_grammar.specs.declared.token.Kind.{Kind}
 use Rattle.rctl_grammar.specs.declared.token.Kind.TheVariants as kind
 use Rattle.rctl_grammar.specs.declared.token.Word.{Word}
@@ -9,8 +10,14 @@ use Rattle.rctl_grammar.specs.declared.token.End.{End}
 use Rattle.rctl_grammar.specs.declared.token.End.TheVariants as end
 use Rattle.rctl_grammar.specs.declared.fault.FormulaCode.TheVariants as code
 use Rattle.rctl_grammar.specs.declared.fault.FormulaFault.{FormulaFault}
-use Rattle.rctl_grammar.specs.Grammar.{Spelled, Conjunction, Disjunction, amp_nodes, bar_nodes, nodes_conjunction, nodes_disjunction, in_range, counts}
-use Rattle.rctl_grammar.specs.Machine.{Front, compared, transit_compared, Before, nothing, bar, Outer, top, in_group, in_left, in_right, Open, first_of, next_of, in_negation, in_temporal, State, operand, a_word, in_leaf, a_path, after, start, settled, step_kind, whole_of, sign, NameSign, by_dot, by_at, no_sign, Following, by_amp, by_bar, by_another, following}
+use Rattle.rctl_grammar.specs.Grammar.{Spelled, Conjunction, Disjunction, amp_nodes, bar_nodes}
+use Rattle.rctl_grammar.specs.Grammar.{nodes_conjunction, nodes_disjunction, in_range, counts}
+use Rattle.rctl_grammar.specs.Machine.{Front, compared, transit_compared, Before, nothing, bar}
+use Rattle.rctl_grammar.specs.Machine.{Outer, top, in_group, in_left, in_right, Open, first_of}
+use Rattle.rctl_grammar.specs.Machine.{next_of, in_negation, in_temporal, State, operand, a_word}
+use Rattle.rctl_grammar.specs.Machine.{in_leaf, a_path, after, start, settled, step_kind, whole_of}
+use Rattle.rctl_grammar.specs.Machine.{sign, NameSign, by_dot, by_at, no_sign, Following, by_amp}
+use Rattle.rctl_grammar.specs.Machine.{by_bar, by_another, following}
 
 -- ---- what stands open, and what was counted
 

@@ -11,7 +11,12 @@ use Rattle.rctl_grammar.specs.declared.token.Token.{Token}
 use Rattle.rctl_grammar.specs.declared.tree.Compare.{Compare}
 use Rattle.rctl_grammar.specs.declared.tree.Operator.{Operator}
 use Rattle.rctl_grammar.specs.declared.tree.Operator.TheVariants as operator
-use Rattle.rctl_grammar.specs.Grammar.{Spelled, Channel, Variable, number, variable, Leaf, constant, comparison, watch, transit, emptiness, Path, Disjunction, one_conjunction, or, Conjunction, one_unary, and, Unary, leaf, negation, temporal, group, until, tok, spelled, named, word_of, path_word, text_channel, text_variable, text_path, text_disjunction, text_conjunction}
+use Rattle.rctl_grammar.specs.Grammar.{Spelled, Channel, Variable, number, variable, Leaf, constant}
+use Rattle.rctl_grammar.specs.Grammar.{comparison, watch, transit, emptiness, Path, Disjunction}
+use Rattle.rctl_grammar.specs.Grammar.{one_conjunction, or, Conjunction, one_unary, and, Unary}
+use Rattle.rctl_grammar.specs.Grammar.{leaf, negation, temporal, group, until, tok, spelled, named}
+use Rattle.rctl_grammar.specs.Grammar.{word_of, path_word, text_channel, text_variable, text_path}
+use Rattle.rctl_grammar.specs.Grammar.{text_disjunction, text_conjunction}
 
 -- ---- what of a derivation stands there
 

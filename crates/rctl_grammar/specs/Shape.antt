@@ -14,7 +14,8 @@ use Rattle.rctl_grammar.specs.declared.tree.Atom.TheVariants as atom
 use Rattle.rctl_grammar.specs.declared.tree.Tree.{Tree}
 use Rattle.rctl_grammar.specs.declared.tree.Tree.TheOpen.{Tree-F}
 use Rattle.rctl_grammar.specs.declared.tree.Tree.TheFolds.{fold-Tree}
-use Rattle.rctl_grammar.specs.Grammar.{Disjunction, one_conjunction, or, Conjunction, one_unary, and, Unary, leaf, negation, temporal, group, until, atom_of}
+use Rattle.rctl_grammar.specs.Grammar.{Disjunction, one_conjunction, or, Conjunction, one_unary}
+use Rattle.rctl_grammar.specs.Grammar.{and, Unary, leaf, negation, temporal, group, until, atom_of}
 
 -- the right side of a comparison
 pub data PlainSide : Type 0 where

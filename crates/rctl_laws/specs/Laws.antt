@@ -5,7 +5,8 @@ use Rattle.rctl_grammar.specs.declared.token.End.{End}
 use Rattle.rctl_grammar.specs.declared.token.End.TheVariants as end
 use Rattle.rctl_grammar.specs.declared.fault.FormulaCode.{FormulaCode}
 use Rattle.rctl_grammar.specs.declared.fault.FormulaFault.{FormulaFault}
-use Rattle.rctl_grammar.specs.Grammar.{Disjunction, IsFormula, levels_disjunction, nodes_disjunction, disjunction_in_range}
+use Rattle.rctl_grammar.specs.Grammar.{Disjunction, IsFormula, levels_disjunction}
+use Rattle.rctl_grammar.specs.Grammar.{nodes_disjunction, disjunction_in_range}
 use Rattle.rctl_grammar.specs.Machine.{read}
 use Rattle.rctl_grammar.specs.FirstFault.{MOST_LEVELS, MOST_NODES, first_fault}
 use Rattle.rctl_lexer.specs.Lexing.{Ascend, place_of}

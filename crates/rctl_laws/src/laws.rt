@@ -1,4 +1,5 @@
-ghost use Rattle.rctl_laws.specs.Laws.{FirstFaultPrecedes, FirstFaultStands, NoFaultIsWithinLimits, OneReading, WithinLimitsIsRead};
+ghost use Rattle.rctl_laws.specs.Laws.{FirstFaultPrecedes, FirstFaultStands, NoFaultIsWithinLimits};
+ghost use Rattle.rctl_laws.specs.Laws.{OneReading, WithinLimitsIsRead};
 
 /// Tokens that are a formula have one reading.
 pub fn reading_is_one()

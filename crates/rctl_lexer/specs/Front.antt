@@ -1,5 +1,6 @@
 -- What stands at the front of a text: the longest token there, a blank, or neither.
-use Rattle.std.specs.Prelude.{ℕ, ◌+◌, ◌<◌, Bool, false, ◌&&◌, ◌||◌, ◌==◌, not, List, [], ◌∷◌, take, Option, Some, None, ℤ, if◌then◌else◌}
+use Rattle.std.specs.Prelude.{ℕ, ◌+◌, ◌<◌, Bool, false, ◌&&◌, ◌||◌, ◌==◌, not, List, [], ◌∷◌, take}
+use Rattle.std.specs.Prelude.{Option, Some, None, ℤ, if◌then◌else◌}
 use Rattle.pota_base.specs.Number.{is_digit, signed_at, whole}
 use Rattle.pota_names.specs.Names.{is_name, is_name_start, is_name_byte}
 use Rattle.rctl_grammar.specs.declared.token.Kind.{Kind}

@@ -1,5 +1,6 @@
 -- Worked examples: texts and their tokens.
-use Rattle.std.specs.Prelude.{◌≡◌, ℕ, pos, negsuc, List, [], ◌∷◌, replicate, Some, None, codes, refl}
+use Rattle.std.specs.Prelude.{◌≡◌, ℕ, pos, negsuc, List, [], ◌∷◌, replicate, Some, None, codes}
+use Rattle.std.specs.Prelude.{refl}
 use Rattle.pota_base.specs.Number.{signed_at, digits_from}
 use Rattle.rctl_grammar.specs.declared.token.Kind.{Kind}
 use Rattle.rctl_grammar.specs.declared.token.Kind.TheVariants as kind
@@ -10,7 +11,8 @@ use Rattle.rctl_grammar.specs.declared.token.End.TheVariants as end_is
 use Rattle.rctl_grammar.specs.declared.tree.Compare.TheVariants as compare
 use Rattle.rctl_lexer.specs.declared.lexer.Lexed.{Lexed}
 use Rattle.rctl_lexer.specs.Words.{word_of}
-use Rattle.rctl_lexer.specs.Front.{front, word_front, number_front, sign_front, sign_of, with_equals}
+use Rattle.rctl_lexer.specs.Front.{front, word_front, number_front, sign_front, sign_of}
+use Rattle.rctl_lexer.specs.Front.{with_equals}
 use Rattle.rctl_lexer.specs.Lexing.{lex, lex_from}
 
 -- all of it

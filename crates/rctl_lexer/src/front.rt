@@ -1,7 +1,9 @@
 //! What stands at the front of a text.
 
 ghost use Rattle.std.specs.Prelude.{◌≡◌, ◌+◌, ◌<◌, ◌≤◌, length, IfOk};
-ghost use Rattle.rctl_lexer.specs.Front.{begins_number, front, is_blank, may_begin_number, number_front, number_value, sign_front, sign_of, starts_digit, with_equals, word_front, IsWithin};
+ghost use Rattle.rctl_lexer.specs.Front.{begins_number, front, is_blank, may_begin_number};
+ghost use Rattle.rctl_lexer.specs.Front.{number_front, number_value, sign_front, sign_of};
+ghost use Rattle.rctl_lexer.specs.Front.{starts_digit, with_equals, word_front, IsWithin};
 
 use crate::run::{Class, run_of};
 use crate::word::word_of;

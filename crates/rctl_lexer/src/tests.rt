@@ -14,7 +14,10 @@ fn tokens_of_a_comparison(rt: HostRuntime) -> Result<(), Fail> {
     }
     assert!(rt; matches!(&tokens[0].kind, Kind::Word(Word::Ef, _)));
     assert!(rt;
-        matches!(&tokens[1].kind, Kind::Word(Word::Plain, name) if name.as_bytes() == b"P".as_slice())
+        matches!(
+            &tokens[1].kind,
+            Kind::Word(Word::Plain, name) if name.as_bytes() == b"P".as_slice()
+        )
     );
     assert!(rt; matches!(tokens[2].kind, Kind::Dot));
     assert!(rt; matches!(tokens[4].kind, Kind::Compare(Compare::Le)));

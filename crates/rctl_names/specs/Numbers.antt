@@ -1,5 +1,6 @@
 -- The numbers of a formula's names, and the first name that has none or stands where it may not.
-use Rattle.std.specs.Prelude.{ℕ, Bool, false, not, ◌==◌, List, [], ◌∷◌, ◌++◌, get_or, set, Option, None, Some, is_some, if◌then◌else◌}
+use Rattle.std.specs.Prelude.{ℕ, Bool, false, not, ◌==◌, List, [], ◌∷◌, ◌++◌, get_or, set, Option}
+use Rattle.std.specs.Prelude.{None, Some, is_some, if◌then◌else◌}
 use Rattle.run_model.specs.Run.{Name}
 use Rattle.log_lines.specs.Names.{place_of}
 use Rattle.rctl_grammar.specs.declared.fault.FormulaCode.TheVariants as code

@@ -22,7 +22,10 @@ use Rattle.rctl_names.specs.declared.process.Process.{Process}
 use Rattle.rctl_names.specs.declared.scope.Scope.{Scope}
 use Rattle.rctl_names.specs.declared.watches.Watches.{Watches}
 use Rattle.rctl_parts.specs.declared.part.Resolved.{Resolved}
-use Rattle.rctl_names.specs.Numbers.{number, variables_of, known_in, LocalName, local_names, all_local_names, local_fault, local_after, part_fault, operand_fault, disjuncts_fault, part_after, operand_after, disjuncts_after}
+use Rattle.rctl_names.specs.Numbers.{number, variables_of, known_in, LocalName, local_names}
+use Rattle.rctl_names.specs.Numbers.{all_local_names, local_fault, local_after, part_fault}
+use Rattle.rctl_names.specs.Numbers.{operand_fault, disjuncts_fault, part_after, operand_after}
+use Rattle.rctl_names.specs.Numbers.{disjuncts_after}
 use Rattle.rctl_names.specs.Seen.{names_of, names_in, variables_on, watched_in}
 
 -- ---- what each part becomes

@@ -1,5 +1,6 @@
 -- What the parser reads of a formula, whatever stands around it.
-use Rattle.std.specs.Prelude.{◌≡◌, ◌⊎◌, ℕ, ◌+◌, ◌-◌, ◌≤◌, ◌<◌, Bool, true, length, List, [], ◌∷◌, None, Some}
+use Rattle.std.specs.Prelude.{◌≡◌, ◌⊎◌, ℕ, ◌+◌, ◌-◌, ◌≤◌, ◌<◌, Bool, true, length, List, [], ◌∷◌}
+use Rattle.std.specs.Prelude.{None, Some}
 use Rattle.run_model.specs.Run.{Name}
 use Rattle.rctl_grammar.specs.declared.token.Kind.TheVariants as kind
 use Rattle.rctl_grammar.specs.declared.token.Word.{Word}
@@ -9,9 +10,20 @@ use Rattle.rctl_grammar.specs.declared.token.End.{End}
 use Rattle.rctl_grammar.specs.declared.fault.FormulaFault.{FormulaFault}
 use Rattle.rctl_grammar.specs.declared.tree.Atom.{Atom}
 use Rattle.rctl_grammar.specs.declared.tree.Tree.{Tree}
-use Rattle.rctl_grammar.specs.Grammar.{Spelled, named, Leaf, leaf, atom_of, first_token, leaf_in_range, text_leaf, Disjunction, Conjunction, Unary, tok, spelled, word_of, path_word, truth_word, text_disjunction, text_conjunction, text_unary, first_amp, first_bar, tree_disjunction, tree_conjunction, tree_unary, disjuncts, conjuncts, levels_disjunction, levels_conjunction, levels_unary, nodes_disjunction, nodes_conjunction, nodes_unary, amp_nodes, bar_nodes, disjunction_in_range, conjunction_in_range, unary_in_range}
-use Rattle.rctl_grammar.specs.Machine.{Before, nothing, bar, Outer, in_left, Open, first_of, next_of, operand, a_word, after, plug, joined, settled, NameSign, no_sign, sign}
-use Rattle.rctl_grammar.specs.FirstFault.{fault_of, depth, depth_outer, nodes_open, nodes_outer, nodes_before}
+use Rattle.rctl_grammar.specs.Grammar.{Spelled, named, Leaf, leaf, atom_of, first_token}
+use Rattle.rctl_grammar.specs.Grammar.{leaf_in_range, text_leaf, Disjunction, Conjunction, Unary}
+use Rattle.rctl_grammar.specs.Grammar.{tok, spelled, word_of, path_word, truth_word}
+use Rattle.rctl_grammar.specs.Grammar.{text_disjunction, text_conjunction, text_unary, first_amp}
+use Rattle.rctl_grammar.specs.Grammar.{first_bar, tree_disjunction, tree_conjunction, tree_unary}
+use Rattle.rctl_grammar.specs.Grammar.{disjuncts, conjuncts, levels_disjunction, levels_conjunction}
+use Rattle.rctl_grammar.specs.Grammar.{levels_unary, nodes_disjunction, nodes_conjunction}
+use Rattle.rctl_grammar.specs.Grammar.{nodes_unary, amp_nodes, bar_nodes, disjunction_in_range}
+use Rattle.rctl_grammar.specs.Grammar.{conjunction_in_range, unary_in_range}
+use Rattle.rctl_grammar.specs.Machine.{Before, nothing, bar, Outer, in_left, Open, first_of}
+use Rattle.rctl_grammar.specs.Machine.{next_of, operand, a_word, after, plug, joined, settled}
+use Rattle.rctl_grammar.specs.Machine.{NameSign, no_sign, sign}
+use Rattle.rctl_grammar.specs.FirstFault.{fault_of, depth, depth_outer, nodes_open, nodes_outer}
+use Rattle.rctl_grammar.specs.FirstFault.{nodes_before}
 use Rattle.rctl_parse.specs.declared.around.Around.{Around}
 use Rattle.rctl_parse.specs.declared.role.LeafRole.{LeafRole}
 use Rattle.rctl_parse.specs.declared.role.LeafRole.TheVariants as leaf_role

@@ -14,8 +14,13 @@ use Rattle.rctl_grammar.specs.declared.tree.Compare.{Compare}
 use Rattle.rctl_grammar.specs.declared.tree.Place.{Place}
 use Rattle.rctl_grammar.specs.declared.tree.Side.{Side}
 use Rattle.rctl_grammar.specs.declared.tree.Atom.{Atom}
-use Rattle.rctl_grammar.specs.Grammar.{Channel, Variable, RightSide, Leaf, comparison, tok, placed_name, side_of, side_in_range, atom_of, first_token, leaf_in_range, text_leaf}
-use Rattle.rctl_grammar.specs.Machine.{Front, compared, channel_word, ChannelWord, LeafStep, going, whole, Open, in_leaf, put_leaf, step_channel, text_front, open_round_in, close_round_in, open_square_in, close_square_in, comma_in, dot_in}
+use Rattle.rctl_grammar.specs.Grammar.{Channel, Variable, RightSide, Leaf, comparison, tok}
+use Rattle.rctl_grammar.specs.Grammar.{placed_name, side_of, side_in_range, atom_of, first_token}
+use Rattle.rctl_grammar.specs.Grammar.{leaf_in_range, text_leaf}
+use Rattle.rctl_grammar.specs.Machine.{Front, compared, channel_word, ChannelWord, LeafStep, going}
+use Rattle.rctl_grammar.specs.Machine.{whole, Open, in_leaf, put_leaf, step_channel, text_front}
+use Rattle.rctl_grammar.specs.Machine.{open_round_in, close_round_in, open_square_in}
+use Rattle.rctl_grammar.specs.Machine.{close_square_in, comma_in, dot_in}
 use Rattle.rctl_grammar.specs.FirstFault.{syntax_at, token_at, fault_of}
 use Rattle.rctl_parse.specs.declared.symbol.Symbol.{Symbol}
 use Rattle.rctl_parse.specs.declared.symbol.Symbol.TheVariants as symbol

@@ -1,7 +1,8 @@
 //! What stands around a place of the text, and the limits there.
 
 ghost use Rattle.pota_base.specs.declared.fault.Refused.TheVariants.{Fault};
-ghost use Rattle.rctl_grammar.specs.FirstFault.{either, level_opens, node_stands, too_deep_at, too_many_at};
+ghost use Rattle.rctl_grammar.specs.FirstFault.{either, level_opens, node_stands, too_deep_at};
+ghost use Rattle.rctl_grammar.specs.FirstFault.{too_many_at};
 ghost use Rattle.rctl_parse.specs.Limits.{Opened, Entered};
 ghost use Rattle.rctl_parse.specs.Reading.{Faults, cut_short, here};
 ghost use Rattle.std.specs.Prelude.{◌≡◌, Some, ◌+◌, ◌<◌, ◌≤◌, MatchResult};

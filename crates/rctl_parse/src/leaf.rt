@@ -2,11 +2,15 @@
 
 ghost use Rattle.pota_base.specs.declared.fault.Refused.TheVariants.{Fault};
 ghost use Rattle.rctl_grammar.specs.FirstFault.{number_at};
-ghost use Rattle.rctl_grammar.specs.Grammar.{Spelled, Channel, Variable, in_range, number_of, placed_name};
-ghost use Rattle.rctl_grammar.specs.Machine.{word_in, compare_in, number_in, ChannelWord, compared, process_dot, process_at, channel_word, of_transit, of_emptiness, transit_compared};
+ghost use Rattle.rctl_grammar.specs.Grammar.{Spelled, Channel, Variable, in_range, number_of};
+ghost use Rattle.rctl_grammar.specs.Grammar.{placed_name};
+ghost use Rattle.rctl_grammar.specs.Machine.{word_in, compare_in, number_in, ChannelWord, compared};
+ghost use Rattle.rctl_grammar.specs.Machine.{process_dot, process_at, channel_word, of_transit};
+ghost use Rattle.rctl_grammar.specs.Machine.{of_emptiness, transit_compared};
 ghost use Rattle.rctl_grammar.specs.declared.tree.Compare.{Compare as Compared};
 ghost use Rattle.rctl_grammar.specs.declared.tree.Side.TheVariants.{Number};
-ghost use Rattle.rctl_parse.specs.Reading.{Faults, Misses, found, place_in, comparison_in, CountRead, SideRead, ChannelRead, LeafRead, LeafFault};
+ghost use Rattle.rctl_parse.specs.Reading.{Faults, Misses, found, place_in, comparison_in};
+ghost use Rattle.rctl_parse.specs.Reading.{CountRead, SideRead, ChannelRead, LeafRead, LeafFault};
 ghost use Rattle.run_model.specs.Run.{Name as Bytes};
 ghost use Rattle.std.specs.Prelude.{◌≡◌, ℕ, false, true, IfOk, MatchOption, MatchResult};
 

@@ -6,7 +6,10 @@ ghost use Rattle.rctl_grammar.specs.Machine.{no_sign};
 ghost use Rattle.rctl_grammar.specs.declared.token.Kind.TheVariants.{OpenRound};
 ghost use Rattle.rctl_grammar.specs.declared.token.Token.{Token as First};
 ghost use Rattle.rctl_grammar.specs.declared.token.Word.{Word as WordIs};
-ghost use Rattle.rctl_parse.specs.Parts.{sign_of, IsLeafRole, WordRead, WordFault, UnaryFault, UnaryRead, PathRead, EnclosedRead, EnclosedFault, ConjunctionFault, ConjunctionRead, FormulaFails, FormulaRead};
+ghost use Rattle.rctl_parse.specs.Parts.{sign_of, IsLeafRole, WordRead, WordFault, UnaryFault};
+ghost use Rattle.rctl_parse.specs.Parts.{UnaryRead, PathRead, EnclosedRead, EnclosedFault};
+ghost use Rattle.rctl_parse.specs.Parts.{ConjunctionFault, ConjunctionRead, FormulaFails};
+ghost use Rattle.rctl_parse.specs.Parts.{FormulaRead};
 ghost use Rattle.rctl_parse.specs.Prefixes.{IsPrefix, prefix_tree};
 ghost use Rattle.rctl_parse.specs.Reading.{Faults};
 ghost use Rattle.run_model.specs.Run.{Name as Bytes};
@@ -206,7 +209,8 @@ fn enclosed<'a>(
     symbol: Symbol,
 ) -> Result<Part<'a>, Stop>
     ensures { MatchResult result (λ part. EnclosedRead symbol tokens.now part.rest.now inside
-        part.nodes part.tree) (λ stop. Faults stop (λ f. EnclosedFault symbol tokens.now inside f)) }
+        part.nodes part.tree)
+        (λ stop. Faults stop (λ f. EnclosedFault symbol tokens.now inside f)) }
 {
     let Part { tree, nodes, rest } = formula(alloc, tokens, inside)?;
     let (_, rest) = wanted(rest, inside.end, symbol)?;

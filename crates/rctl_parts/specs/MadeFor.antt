@@ -1,6 +1,7 @@
 -- When parts are made for a header and for watches: each number in them is there, and each watch is
 -- on one process.
-use Rattle.std.specs.Prelude.{◌≡◌, ℕ, ◌+◌, ◌^◌, ◌<◌, ◌≤◌, ◌==◌, Bool, true, false, ◌&&◌, ◌||◌, List, [], ◌∷◌, length, get_or, Option, None, Some, IsTrue, ⊤}
+use Rattle.std.specs.Prelude.{◌≡◌, ℕ, ◌+◌, ◌^◌, ◌<◌, ◌≤◌, ◌==◌, Bool, true, false, ◌&&◌, ◌||◌, List}
+use Rattle.std.specs.Prelude.{[], ◌∷◌, length, get_or, Option, None, Some, IsTrue, ⊤}
 use Rattle.run_model.specs.Class.{is_analysed}
 use Rattle.rctl_grammar.specs.Shape.{model_operator}
 use Rattle.rctl_parts.specs.declared.expr.LocalSide.{LocalSide}

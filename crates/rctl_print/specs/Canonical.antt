@@ -5,7 +5,9 @@ use Rattle.rctl_grammar.specs.declared.tree.Compare.{Compare}
 use Rattle.rctl_grammar.specs.declared.tree.Compare.TheVariants as compare
 use Rattle.rctl_grammar.specs.declared.tree.Operator.{Operator}
 use Rattle.rctl_grammar.specs.declared.tree.Operator.TheVariants as operator
-use Rattle.rctl_grammar.specs.Shape.{PlainSide, number, variable, PlainAtom, truth, comparison, watch, transit, emptiness, Shape, plain, not, conjunction, disjunction, under, until_of, Shapes, one, more}
+use Rattle.rctl_grammar.specs.Shape.{PlainSide, number, variable, PlainAtom, truth, comparison}
+use Rattle.rctl_grammar.specs.Shape.{watch, transit, emptiness, Shape, plain, not, conjunction}
+use Rattle.rctl_grammar.specs.Shape.{disjunction, under, until_of, Shapes, one, more}
 use Rattle.rctl_print.specs.declared.joint.Joint.{Joint}
 use Rattle.rctl_print.specs.declared.joint.Joint.TheVariants.{Amp, Bar}
 

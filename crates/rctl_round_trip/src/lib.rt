@@ -5,7 +5,8 @@
 
 mod again;
 
-ghost use Rattle.rctl_round_trip.specs.RoundTrip.{PrintedHasNoFault, PrintedIsItself, PrintedIsRead, PrintedIsShort};
+ghost use Rattle.rctl_round_trip.specs.RoundTrip.{PrintedHasNoFault, PrintedIsItself};
+ghost use Rattle.rctl_round_trip.specs.RoundTrip.{PrintedIsRead, PrintedIsShort};
 
 pub use again::{read_back, read_back_short};
 

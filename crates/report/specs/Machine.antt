@@ -1,5 +1,6 @@
 -- The reading of a report, line by line.
-use Rattle.std.specs.Prelude.{◌≡◌, ℕ, Bool, true, false, List, [], ◌∷◌, ◌++◌, length, Option, None, Some, is_some, if◌then◌else◌}
+use Rattle.std.specs.Prelude.{◌≡◌, ℕ, Bool, true, false, List, [], ◌∷◌, ◌++◌, length, Option, None}
+use Rattle.std.specs.Prelude.{Some, is_some, if◌then◌else◌}
 use Rattle.std.specs.Str.{bytes_eq}
 use Rattle.std.specs.List.{AllByRecursion}
 use Rattle.run_model.specs.Cut.{Cut}
@@ -12,13 +13,16 @@ use Rattle.event_log.specs.Before.{Line}
 use Rattle.slice_graph.specs.declared.edges.Edge.{Edge}
 use Rattle.report_lines.specs.declared.kinds.WitnessText.{WitnessText}
 use Rattle.report_lines.specs.Formula.{IsCanonical}
-use Rattle.report_lines.specs.Spelling.{title, batch_line, lengths_line, formula_line, IsPositive, RunFits, WitnessTextFits}
-use Rattle.report_lines.specs.Reading.{is_title, batch_in, lengths_in, formula_in, verdict_in, slice_in, edge_in, step_in, witness_in, has_path, with_steps}
+use Rattle.report_lines.specs.Spelling.{title, batch_line, lengths_line, formula_line, IsPositive}
+use Rattle.report_lines.specs.Spelling.{RunFits, WitnessTextFits}
+use Rattle.report_lines.specs.Reading.{is_title, batch_in, lengths_in, formula_in, verdict_in}
+use Rattle.report_lines.specs.Reading.{slice_in, edge_in, step_in, witness_in, has_path, with_steps}
 use Rattle.report.specs.declared.report.SliceText.{SliceText}
 use Rattle.report.specs.declared.report.Report.{Report}
 use Rattle.report.specs.declared.draft.Draft.{Draft}
 use Rattle.report.specs.declared.draft.Draft.TheVariants as draft
-use Rattle.report.specs.Spelling.{IsWellFormed, SliceFits, slice_lines, witness_lines, head_lines, body_lines, report_lines}
+use Rattle.report.specs.Spelling.{IsWellFormed, SliceFits, slice_lines, witness_lines, head_lines}
+use Rattle.report.specs.Spelling.{body_lines, report_lines}
 
 -- ---- parts of drafts
 

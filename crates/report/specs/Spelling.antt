@@ -1,5 +1,6 @@
 -- Reports: which of them are well formed, and the one text of each.
-use Rattle.std.specs.Prelude.{◌≡◌, ℕ, List, [], ◌∷◌, ◌++◌, map, flat_map, Option, None, Some, IfSome}
+use Rattle.std.specs.Prelude.{◌≡◌, ℕ, List, [], ◌∷◌, ◌++◌, map, flat_map, Option, None, Some}
+use Rattle.std.specs.Prelude.{IfSome}
 use Rattle.std.specs.List.{AllByRecursion}
 use Rattle.run_model.specs.Cut.{Cut}
 use Rattle.log_lines.specs.Names.{Name}
@@ -8,7 +9,9 @@ use Rattle.event_log.specs.Before.{Line}
 use Rattle.event_log.specs.LogText.{text_of}
 use Rattle.report_lines.specs.declared.kinds.WitnessText.{WitnessText}
 use Rattle.report_lines.specs.Formula.{IsCanonical}
-use Rattle.report_lines.specs.Spelling.{title, batch_line, lengths_line, formula_line, verdict_line, slice_line, edge_line, witness_line, step_line, IsPositive, EdgeFits, BoundsFit, WitnessTextFits, RunFits}
+use Rattle.report_lines.specs.Spelling.{title, batch_line, lengths_line, formula_line, verdict_line}
+use Rattle.report_lines.specs.Spelling.{slice_line, edge_line, witness_line, step_line, IsPositive}
+use Rattle.report_lines.specs.Spelling.{EdgeFits, BoundsFit, WitnessTextFits, RunFits}
 use Rattle.report_lines.specs.Reading.{steps_of}
 use Rattle.report.specs.declared.report.SliceText.{SliceText}
 use Rattle.report.specs.declared.report.Report.{Report}

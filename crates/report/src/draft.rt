@@ -4,7 +4,13 @@ ghost use Rattle.std.specs.Prelude.{◌≡◌, ◌≤◌, length, IfOk};
 ghost use Rattle.log_lines.specs.Spelling.{ProcsFit};
 ghost use Rattle.report_lines.specs.Spelling.{RunFits};
 ghost use Rattle.report_lines.specs.Reading.{has_path, with_steps};
-ghost use Rattle.report.specs.declared.draft.Draft.TheVariants.{Numbered as NumberedAs, Named as NamedAs, Measured as MeasuredAs, Stated as StatedAs, Judged as JudgedAs, Sliced as SlicedAs, Walked as WalkedAs};
+ghost use Rattle.report.specs.declared.draft.Draft.TheVariants.{Numbered as NumberedAs};
+ghost use Rattle.report.specs.declared.draft.Draft.TheVariants.{Named as NamedAs};
+ghost use Rattle.report.specs.declared.draft.Draft.TheVariants.{Measured as MeasuredAs};
+ghost use Rattle.report.specs.declared.draft.Draft.TheVariants.{Stated as StatedAs};
+ghost use Rattle.report.specs.declared.draft.Draft.TheVariants.{Judged as JudgedAs};
+ghost use Rattle.report.specs.declared.draft.Draft.TheVariants.{Sliced as SlicedAs};
+ghost use Rattle.report.specs.declared.draft.Draft.TheVariants.{Walked as WalkedAs};
 ghost use Rattle.report.specs.Machine.{body_step, step, next_edge, next_step, walked, IsGood};
 
 use crate::report::{Report, SliceText};

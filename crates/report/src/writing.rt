@@ -5,7 +5,8 @@ ghost use Rattle.std.specs.List.{AllByRecursion};
 ghost use Rattle.event_log.specs.LogText.{text_of};
 ghost use Rattle.report_lines.specs.Spelling.{truth_text, edge_line, step_line};
 ghost use Rattle.report_lines.specs.Reading.{steps_of};
-ghost use Rattle.report.specs.Spelling.{IsWellFormed, head_lines, slice_lines, lines_of_slice, witness_lines, lines_of_witnesses, report_text};
+ghost use Rattle.report.specs.Spelling.{IsWellFormed, head_lines, slice_lines, lines_of_slice};
+ghost use Rattle.report.specs.Spelling.{witness_lines, lines_of_witnesses, report_text};
 ghost use Rattle.report.specs.Writing.{IsOf, Joins, IsTold};
 
 use crate::report::{Report, SliceText};

@@ -1,5 +1,6 @@
 -- Canonical texts of formulas.
-use Rattle.std.specs.Prelude.{◌≡◌, ℕ, Bool, false, ◌&&◌, List, codes, ◌++◌, Option, None, Some, is_none, if◌then◌else◌}
+use Rattle.std.specs.Prelude.{◌≡◌, ℕ, Bool, false, ◌&&◌, List, codes, ◌++◌, Option, None, Some}
+use Rattle.std.specs.Prelude.{is_none, if◌then◌else◌}
 use Rattle.std.specs.Str.{bytes_eq}
 use Rattle.rctl_grammar.specs.declared.tree.Tree.{Tree}
 use Rattle.rctl_grammar.specs.Grammar.{Disjunction}

@@ -2,7 +2,8 @@
 
 ghost use Rattle.std.specs.Prelude.{◌≡◌, ◌≤◌, IfOk, length, sum, if◌then◌else◌};
 ghost use Rattle.report_lines.specs.Formula.{is_canonical};
-ghost use Rattle.report_lines.specs.Reading.{is_title, batch_in, lengths_in, formula_in, verdict_in};
+ghost use Rattle.report_lines.specs.Reading.{is_title, batch_in, lengths_in, formula_in};
+ghost use Rattle.report_lines.specs.Reading.{verdict_in};
 
 use crate::parts::{cut_at, positive_at};
 use cut_lattice::Cut;

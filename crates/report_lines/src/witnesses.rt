@@ -1,7 +1,8 @@
 //! The lines of witnesses.
 
 ghost use Rattle.std.specs.Prelude.{◌≡◌, ◌≤◌, length, IfOk};
-ghost use Rattle.report_lines.specs.Reading.{goal_in, pair_in, plain_in, kind_in, numbers_seen, numbers_at, witness_in};
+ghost use Rattle.report_lines.specs.Reading.{goal_in, pair_in, plain_in, kind_in, numbers_seen};
+ghost use Rattle.report_lines.specs.Reading.{numbers_at, witness_in};
 
 use crate::kinds::WitnessText;
 use crate::parts::{event_at, positive_at, within_at};

@@ -4,7 +4,8 @@ ghost use Rattle.std.specs.Prelude.{◌≡◌, ◌++◌, ◌∷◌, ◌<◌, [],
 ghost use Rattle.log_lines.specs.Spelling.{clock_text};
 ghost use Rattle.event_log.specs.LogText.{text_of};
 ghost use Rattle.witness_kinds.specs.declared.Witness.TheVariants.{StuckPair};
-ghost use Rattle.report_lines.specs.Spelling.{event_text, bounds_text, kind_text, slice_line, edge_line, witness_line, step_line, IsNamed};
+ghost use Rattle.report_lines.specs.Spelling.{event_text, bounds_text, kind_text, slice_line};
+ghost use Rattle.report_lines.specs.Spelling.{edge_line, witness_line, step_line, IsNamed};
 
 use crate::kinds::WitnessText;
 use cut_lattice::Cut;

@@ -1,11 +1,15 @@
 -- The formulas that are analysed: local and regular ones, and the disjunctions of regular ones
 -- (regular predicates: Garg and Mittal; their closure under the temporal operators: Sen and Garg).
 -- A sign says whether a formula stands under an even number of negations.
-use Rattle.std.specs.Prelude.{ℕ, zero, suc, ◌+◌, ◌⊎◌, Bool, true, false, not, ◌&&◌, ◌||◌, if◌then◌else◌, IsTrue, MatchBool, ⊤, List, [], ◌∷◌, ◌++◌, bytes_eq}
+use Rattle.std.specs.Prelude.{ℕ, zero, suc, ◌+◌, ◌⊎◌, Bool, true, false, not, ◌&&◌, ◌||◌}
+use Rattle.std.specs.Prelude.{if◌then◌else◌, IsTrue, MatchBool, ⊤, List, [], ◌∷◌, ◌++◌, bytes_eq}
 use Rattle.std.specs.List.{list_all}
 use Rattle.run_model.specs.Cut.{Cut}
 use Rattle.run_model.specs.Run.{Name, Run}
-use Rattle.run_model.specs.Formula.{Relation, Equal, Unequal, Less, LessOrEqual, Greater, GreaterOrEqual, Side, Number, Variable, Operator, Ef, Ag, Eg, Ex, Af, Ax, Formula, Truth, Comparison, Watched, InTransit, Empty, Not, And, Or, Temporal, Until, Formulas, Nil, Cons}
+use Rattle.run_model.specs.Formula.{Relation, Equal, Unequal, Less, LessOrEqual, Greater}
+use Rattle.run_model.specs.Formula.{GreaterOrEqual, Side, Number, Variable, Operator, Ef, Ag, Eg}
+use Rattle.run_model.specs.Formula.{Ex, Af, Ax, Formula, Truth, Comparison, Watched, InTransit}
+use Rattle.run_model.specs.Formula.{Empty, Not, And, Or, Temporal, Until, Formulas, Nil, Cons}
 use Rattle.run_model.specs.Meaning.{Sat, Family}
 use Rattle.run_model.specs.Consistent.{IsConsistent}
 use Rattle.run_model.specs.Sublattice.{Smallest}

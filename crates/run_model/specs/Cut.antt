@@ -1,7 +1,8 @@
 -- Cuts of a run: one count per process, the number of its first events that the cut has. Vector
 -- clocks (Fidge; Mattern) are cuts too: the clock of an event is the cut of the events that are it
 -- or before it.
-use Rattle.std.specs.Prelude.{◌≡◌, ℕ, ◌+◌, ◌<◌, ◌≤◌, min, max, List, [], ◌∷◌, length, get_or, set, replicate, map}
+use Rattle.std.specs.Prelude.{◌≡◌, ℕ, ◌+◌, ◌<◌, ◌≤◌, min, max, List, [], ◌∷◌, length, get_or, set}
+use Rattle.std.specs.Prelude.{replicate, map}
 
 abbrev pub Cut : Type 0
 Cut = List ℕ

@@ -1,12 +1,16 @@
 -- Truth of a formula at a consistent cut of a run (Sen and Garg, on finite runs: every path can be
 -- taken to the final cut).
-use Rattle.std.specs.Prelude.{◌≡◌, ℕ, ◌-◌, ◌≤◌, ◌⊎◌, Bool, not, ◌==◌, if◌then◌else◌, IsTrue, ℤ, pos, int_lt, int_le, ⊤}
+use Rattle.std.specs.Prelude.{◌≡◌, ℕ, ◌-◌, ◌≤◌, ◌⊎◌, Bool, not, ◌==◌, if◌then◌else◌, IsTrue, ℤ, pos}
+use Rattle.std.specs.Prelude.{int_lt, int_le, ⊤}
 use Rattle.std.specs.Ordering.{int_eq}
 use Rattle.run_model.specs.Cut.{Cut, count}
 use Rattle.run_model.specs.Run.{Name, Run}
 use Rattle.run_model.specs.Consistent.{IsOrder, IsConsistent}
 use Rattle.run_model.specs.Operators.{SomeTime, EachTime, Staying}
-use Rattle.run_model.specs.Formula.{Relation, Equal, Unequal, Less, LessOrEqual, Greater, GreaterOrEqual, Side, Number, Variable, Ef, Ag, Eg, Ex, Af, Ax, Formula, Truth, Comparison, Watched, InTransit, Empty, Not, And, Or, Temporal, Until, Formulas, Nil, Cons}
+use Rattle.run_model.specs.Formula.{Relation, Equal, Unequal, Less, LessOrEqual, Greater}
+use Rattle.run_model.specs.Formula.{GreaterOrEqual, Side, Number, Variable, Ef, Ag, Eg, Ex, Af, Ax}
+use Rattle.run_model.specs.Formula.{Formula, Truth, Comparison, Watched, InTransit, Empty, Not, And}
+use Rattle.run_model.specs.Formula.{Or, Temporal, Until, Formulas, Nil, Cons}
 
 abbrev pub compares : Relation → ℤ → ℤ → Bool
 compares Equal x y = int_eq x y

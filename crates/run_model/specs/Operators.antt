@@ -1,6 +1,7 @@
 -- What the temporal operators make of a set of cuts (Sen and Garg, on finite runs), and what they
 -- and disjunction make of slices.
-use Rattle.std.specs.Prelude.{◌≡◌, ℕ, ◌≤◌, List, [], ◌∷◌, Option, Some, None, option_map, if◌then◌else◌, nat_le}
+use Rattle.std.specs.Prelude.{◌≡◌, ℕ, ◌≤◌, List, [], ◌∷◌, Option, Some, None, option_map}
+use Rattle.std.specs.Prelude.{if◌then◌else◌, nat_le}
 use Rattle.run_model.specs.Cut.{Cut, Clocks, count, min_cut, max_cut, lengths, initial}
 use Rattle.run_model.specs.Consistent.{IsEvent, IsPath, clock}
 use Rattle.run_model.specs.Sublattice.{AllIn}

@@ -1,6 +1,7 @@
 -- One run of a distributed program: what was logged of it, the states that its processes passed
 -- through, and what formulas see of it.
-use Rattle.std.specs.Prelude.{ℕ, Bool, false, List, [], ◌∷◌, map, get_or, take, set, ℤ, pos, ◌==◌, count_by}
+use Rattle.std.specs.Prelude.{ℕ, Bool, false, List, [], ◌∷◌, map, get_or, take, set, ℤ, pos, ◌==◌}
+use Rattle.std.specs.Prelude.{count_by}
 use Rattle.std.specs.Str.{bytes_eq}
 use Rattle.std.specs.List.{position_or_len}
 use Rattle.run_model.specs.Cut.{Cut, Clocks}

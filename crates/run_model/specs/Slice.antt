@@ -1,7 +1,8 @@
 -- Slices (Mittal and Garg): a closed set of cuts by its least cut and, for each event, the least
 -- cut that has the event (Birkhoff: a finite distributive lattice is known by its join-irreducible
 -- members).
-use Rattle.std.specs.Prelude.{◌≡◌, ℕ, zero, suc, ◌≤◌, List, [], ◌∷◌, Option, Some, None, MatchOption, All, ◌&&◌, nat_lt, if◌then◌else◌, length, flat_map}
+use Rattle.std.specs.Prelude.{◌≡◌, ℕ, zero, suc, ◌≤◌, List, [], ◌∷◌, Option, Some, None}
+use Rattle.std.specs.Prelude.{MatchOption, All, ◌&&◌, nat_lt, if◌then◌else◌, length, flat_map}
 use Rattle.std.specs.List.{range_with_len}
 use Rattle.run_model.specs.Cut.{Cut, Clocks, count, IsWithin, lengths}
 use Rattle.run_model.specs.Consistent.{IsConsistent, IsEvent, clock}

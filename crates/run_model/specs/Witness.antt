@@ -1,12 +1,14 @@
 -- Witnesses of a temporal formula at the initial cut: the kinds, when a witness is of its kind, and
 -- the canonical one (both ours).
-use Rattle.std.specs.Prelude.{◌≡◌, ℕ, ◌+◌, ◌<◌, ◌≤◌, ◌⊎◌, ◌↔◌, Bool, true, false, IsFalse, List, [], ◌∷◌, length, Option, Some, None, MatchOption}
+use Rattle.std.specs.Prelude.{◌≡◌, ℕ, ◌+◌, ◌<◌, ◌≤◌, ◌⊎◌, ◌↔◌, Bool, true, false, IsFalse, List, []}
+use Rattle.std.specs.Prelude.{◌∷◌, length, Option, Some, None, MatchOption}
 use Rattle.run_model.specs.Cut.{Cut, Clocks, count, IsWithin, with_next, lengths, initial}
 use Rattle.run_model.specs.Run.{Run}
 use Rattle.run_model.specs.Consistent.{clock, IsEvent, IsConsistent}
 use Rattle.run_model.specs.Sublattice.{IsLeast}
 use Rattle.run_model.specs.Slice.{Slice, Cuts, StandsFor}
-use Rattle.run_model.specs.Formula.{Ef, Ag, Eg, Ex, Af, Ax, Formula, Truth, Comparison, Watched, InTransit, Empty, Not, And, Or, Temporal, Until}
+use Rattle.run_model.specs.Formula.{Ef, Ag, Eg, Ex, Af, Ax, Formula, Truth, Comparison, Watched}
+use Rattle.run_model.specs.Formula.{InTransit, Empty, Not, And, Or, Temporal, Until}
 use Rattle.run_model.specs.Meaning.{Sat, Family}
 
 -- an event by its process, from 0, and its position there, from 1

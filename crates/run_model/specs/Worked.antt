@@ -1,8 +1,10 @@
 -- Worked examples: small logs, and words to write formulas over them and what comes out.
 use Rattle.std.specs.Prelude.{ℕ, Bool, true, MatchBool, List, [], ◌∷◌, ℤ, pos}
 use Rattle.run_model.specs.Cut.{Cut, initial}
-use Rattle.run_model.specs.Run.{Name, Kind, Internal, Send, Receive, Event, Process, Trace, Run, run_of}
-use Rattle.run_model.specs.Formula.{Equal, Unequal, LessOrEqual, Number, Formula, Comparison, And, Or, Nil, Cons}
+use Rattle.run_model.specs.Run.{Name, Kind, Internal, Send, Receive, Event, Process, Trace, Run}
+use Rattle.run_model.specs.Run.{run_of}
+use Rattle.run_model.specs.Formula.{Equal, Unequal, LessOrEqual, Number, Formula, Comparison, And}
+use Rattle.run_model.specs.Formula.{Or, Nil, Cons}
 use Rattle.run_model.specs.Meaning.{Sat, Family}
 use Rattle.run_model.specs.Class.{Shown}
 use Rattle.run_model.specs.Slice.{Slice, StandsFor, Edge, IsPrintedAs}

@@ -8,7 +8,9 @@ ghost use Rattle.run_model.specs.Slice.{Slice, StandsFor};
 ghost use Rattle.run_model.specs.Operators.{joined_all};
 ghost use Rattle.run_model.specs.Formula.{Formula};
 ghost use Rattle.run_model.specs.Meaning.{IsRun, Sat, Family};
-ghost use Rattle.run_model.specs.Class.{is_wide, IsRegular, IsOfClass, disjuncts, SatDisjuncts, DisjunctFamily, StandForDisjuncts, AreRegular, HaveRegularParts, Shown};
+ghost use Rattle.run_model.specs.Class.{is_wide, IsRegular, IsOfClass, disjuncts, SatDisjuncts};
+ghost use Rattle.run_model.specs.Class.{DisjunctFamily, StandForDisjuncts, AreRegular};
+ghost use Rattle.run_model.specs.Class.{HaveRegularParts, Shown};
 
 /// A formula is true or false at each consistent cut.
 pub fn truth_is_decided()

@@ -5,7 +5,8 @@ ghost use Rattle.run_model.specs.Cut.{Cut, Clocks, count, IsWithin, lengths};
 ghost use Rattle.run_model.specs.Consistent.{IsOrder, IsEvent, IsConsistent};
 ghost use Rattle.run_model.specs.Sublattice.{IsClosed, IsLeast, IsGreatest};
 ghost use Rattle.run_model.specs.Slice.{Slice, StandsFor};
-ghost use Rattle.run_model.specs.Operators.{SomeTime, EachTime, Staying, HoldsAlways, HasPairs, whole, nowhere, lowered, raised};
+ghost use Rattle.run_model.specs.Operators.{SomeTime, EachTime, Staying, HoldsAlways, HasPairs};
+ghost use Rattle.run_model.specs.Operators.{whole, nowhere, lowered, raised};
 
 use crate::sublattice_laws::SetOfCuts;
 

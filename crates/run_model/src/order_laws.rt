@@ -1,7 +1,8 @@
 // Laws of the order of a run, of its consistent cuts and of the paths through them.
 ghost use Rattle.std.specs.Prelude.{◌≡◌, ℕ, ◌<◌, List};
 ghost use Rattle.run_model.specs.Cut.{Cut, Clocks, IsWithin, min_cut, max_cut, lengths, initial};
-ghost use Rattle.run_model.specs.Consistent.{IsOrder, IsEvent, IsConsistent, HappenedBefore, IsPath, clock};
+ghost use Rattle.run_model.specs.Consistent.{IsOrder, IsEvent, IsConsistent, HappenedBefore};
+ghost use Rattle.run_model.specs.Consistent.{IsPath, clock};
 ghost use Rattle.run_model.specs.Sublattice.{IsClosed, IsLeast, IsGreatest, Having};
 
 /// Happened before is a strict partial order (Lamport), and the events of one process stand in it

@@ -1,6 +1,7 @@
 // Laws of logged runs.
 ghost use Rattle.std.specs.Prelude.{◌≡◌, ℕ, ◌+◌, ◌≤◌, false, [], length, get_or};
-ghost use Rattle.run_model.specs.Run.{Name, Process, Trace, Watches, clocks_of, run_of, process_at, states_of, state_after};
+ghost use Rattle.run_model.specs.Run.{Name, Process, Trace, Watches, clocks_of, run_of, process_at};
+ghost use Rattle.run_model.specs.Run.{states_of, state_after};
 ghost use Rattle.run_model.specs.Consistent.{IsOrder};
 ghost use Rattle.run_model.specs.Meaning.{IsRun};
 

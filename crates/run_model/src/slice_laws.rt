@@ -3,7 +3,8 @@ ghost use Rattle.std.specs.Prelude.{◌≡◌, ℕ, ◌↔◌, List};
 ghost use Rattle.run_model.specs.Cut.{Cut, Clocks, lengths};
 ghost use Rattle.run_model.specs.Consistent.{IsOrder, IsEvent};
 ghost use Rattle.run_model.specs.Sublattice.{IsClosed, IsLeast, IsGreatest, Smallest, Either};
-ghost use Rattle.run_model.specs.Slice.{Slice, Cuts, StandsFor, Fits, Edge, Denoted, IsPrintedAs, edges_of};
+ghost use Rattle.run_model.specs.Slice.{Slice, Cuts, StandsFor, Fits, Edge, Denoted, IsPrintedAs};
+ghost use Rattle.run_model.specs.Slice.{edges_of};
 ghost use Rattle.run_model.specs.Operators.{joined};
 
 use crate::sublattice_laws::SetOfCuts;

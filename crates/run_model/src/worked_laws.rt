@@ -6,9 +6,14 @@ ghost use Rattle.run_model.specs.Run.{clocks_of};
 ghost use Rattle.run_model.specs.Consistent.{IsConsistent};
 ghost use Rattle.run_model.specs.Meaning.{IsRun};
 ghost use Rattle.run_model.specs.Class.{is_conjunctive, is_disjunctive, IsOfClass};
-ghost use Rattle.run_model.specs.Formula.{Equal, LessOrEqual, Truth, Watched, InTransit, Empty, Not, Temporal, Ef, Ag, Eg, Af};
-ghost use Rattle.run_model.specs.Worked.{p, q, cut, five_events, two_events, first_two_events, no_events, x_is, x_is_not, x_at_most, y_is, both, one_of, edge, at, path_to, run_with_watch, HasVerdict, HasSlice, HasNoSlice, HasWitness};
-ghost use Rattle.run_model.specs.Witness.{ExistsFinally, AlwaysGlobally, ExistsGlobally, Reach, Against, Always, StuckFinish, StuckPair, Nothing};
+ghost use Rattle.run_model.specs.Formula.{Equal, LessOrEqual, Truth, Watched, InTransit, Empty};
+ghost use Rattle.run_model.specs.Formula.{Not, Temporal, Ef, Ag, Eg, Af};
+ghost use Rattle.run_model.specs.Worked.{p, q, cut, five_events, two_events, first_two_events};
+ghost use Rattle.run_model.specs.Worked.{no_events, x_is, x_is_not, x_at_most, y_is, both, one_of};
+ghost use Rattle.run_model.specs.Worked.{edge, at, path_to, run_with_watch, HasVerdict, HasSlice};
+ghost use Rattle.run_model.specs.Worked.{HasNoSlice, HasWitness};
+ghost use Rattle.run_model.specs.Witness.{ExistsFinally, AlwaysGlobally, ExistsGlobally, Reach};
+ghost use Rattle.run_model.specs.Witness.{Against, Always, StuckFinish, StuckPair, Nothing};
 
 /// The clocks of the examples are those of orders, so there are runs.
 pub fn examples_are_runs()

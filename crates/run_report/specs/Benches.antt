@@ -1,5 +1,6 @@
 -- The summary of a bench: how large the log is that was made, and what the report on it says.
-use Rattle.std.specs.Prelude.{◌≡◌, ℕ, ◌+◌, true, false, List, [], ◌∷◌, ◌++◌, length, Option, None, Some, codes}
+use Rattle.std.specs.Prelude.{◌≡◌, ℕ, ◌+◌, true, false, List, [], ◌∷◌, ◌++◌, length, Option, None}
+use Rattle.std.specs.Prelude.{Some, codes}
 use Rattle.std.specs.Fmt.{decimal}
 use Rattle.run_model.specs.Run.{Watches}
 use Rattle.log_lines.specs.Spelling.{end_line}

@@ -1,5 +1,6 @@
 -- What the report of a run says after some of its batches.
-use Rattle.std.specs.Prelude.{◌≡◌, ℕ, ◌↔◌, min, Bool, true, false, List, [], length, map, Option, Some, None}
+use Rattle.std.specs.Prelude.{◌≡◌, ℕ, ◌↔◌, min, Bool, true, false, List, [], length, map, Option}
+use Rattle.std.specs.Prelude.{Some, None}
 use Rattle.run_model.specs.Cut.{lengths, initial}
 use Rattle.run_model.specs.Run.{Run, Trace, Watches, run_of, clocks_of}
 use Rattle.run_model.specs.Formula.{Formula}

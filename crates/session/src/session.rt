@@ -1,5 +1,7 @@
 //! A session: a formula over a growing trace, and the watches that it names.
-ghost use Rattle.std.specs.Prelude.{◌≡◌, ◌↔◌, ◌<◌, ◌≤◌, ◌-◌, ℤ, List as ListOf, [], Some, None, true, false, length, slice_index_or, Err, ◌+◌, IsTrue, IfOk, OnOk};
+ghost use Rattle.std.specs.Prelude.{◌≡◌, ◌↔◌, ◌<◌, ◌≤◌, ◌-◌, ℤ, List as ListOf, [], Some, None};
+ghost use Rattle.std.specs.Prelude.{true, false, length, slice_index_or, Err, ◌+◌, IsTrue, IfOk};
+ghost use Rattle.std.specs.Prelude.{OnOk};
 ghost use Rattle.event_log.specs.States.{IsHeader};
 ghost use Rattle.pota_base.specs.declared.fault.Refused.TheVariants as refused;
 ghost use Rattle.vector_clock.specs.Faults.{batch_fault};

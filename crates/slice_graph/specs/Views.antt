@@ -1,5 +1,6 @@
 -- A slice as code keeps it: the lengths of the processes, and for each row a cut or none.
-use Rattle.std.specs.Prelude.{◌≡◌, ℕ, zero, suc, ◌+◌, ◌<◌, List, [], ◌∷◌, length, get_or, replicate, sum, take, Option, Some, None}
+use Rattle.std.specs.Prelude.{◌≡◌, ℕ, zero, suc, ◌+◌, ◌<◌, List, [], ◌∷◌, length, get_or, replicate}
+use Rattle.std.specs.Prelude.{sum, take, Option, Some, None}
 use Rattle.pota_base.specs.Shape.{IsShape}
 use Rattle.run_model.specs.Cut.{Cut, count, IsWithin, max_cut}
 use Rattle.run_model.specs.Slice.{Slice, HasWithin}

@@ -1,6 +1,7 @@
 -- How rows stand in one block of words: each word of a row without a cut is one more than the
 -- length.
-use Rattle.std.specs.Prelude.{◌≡◌, ℕ, ◌+◌, ◌*◌, ◌<◌, List, [], length, get_or, map, Option, Some, None, nat_le, if◌then◌else◌}
+use Rattle.std.specs.Prelude.{◌≡◌, ℕ, ◌+◌, ◌*◌, ◌<◌, List, [], length, get_or, map, Option, Some}
+use Rattle.std.specs.Prelude.{None, nat_le, if◌then◌else◌}
 use Rattle.pota_base.specs.Shape.{IsShape}
 use Rattle.run_model.specs.Cut.{Cut}
 use Rattle.causal_order.specs.Blocks.{rows_of}

@@ -1,5 +1,6 @@
 //! Slices from the least closed vectors of a system, and from cuts that are at hand.
-ghost use Rattle.std.specs.Prelude.{◌≡◌, ℕ, ◌≤◌, ◌↔◌, [], ◌∷◌, ◌++◌, Option, length, sum, get_or, IsTrue, IfOk, OnOk};
+ghost use Rattle.std.specs.Prelude.{◌≡◌, ℕ, ◌≤◌, ◌↔◌, [], ◌∷◌, ◌++◌, Option, length, sum, get_or};
+ghost use Rattle.std.specs.Prelude.{IsTrue, IfOk, OnOk};
 ghost use Rattle.std.specs.Bool.{OnTrue};
 ghost use Rattle.pota_base.specs.Shape.{IsShape};
 ghost use Rattle.run_model.specs.Cut.{Cut as CutOfRun, Clocks, IsWithin, lengths};

@@ -1,5 +1,6 @@
 //! A slice: its rows, and the maximum of them.
-ghost use Rattle.std.specs.Prelude.{◌≡◌, ℕ, ◌+◌, ◌<◌, ◌≤◌, ◌↔◌, [], ◌∷◌, None, length, sum, get_or, replicate, IsTrue, IfOk, MatchOption, option_map};
+ghost use Rattle.std.specs.Prelude.{◌≡◌, ℕ, ◌+◌, ◌<◌, ◌≤◌, ◌↔◌, [], ◌∷◌, None, length, sum, get_or};
+ghost use Rattle.std.specs.Prelude.{replicate, IsTrue, IfOk, MatchOption, option_map};
 ghost use Rattle.std.specs.Option.{option_copied};
 ghost use Rattle.pota_base.specs.Shape.{HasEvent};
 ghost use Rattle.run_model.specs.Cut.{Cut as CutOfRun, Clocks, count, lengths};

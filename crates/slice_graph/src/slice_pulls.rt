@@ -1,5 +1,6 @@
 //! The pulls of a slice.
-ghost use Rattle.std.specs.Prelude.{◌≡◌, ℕ, ◌+◌, ◌*◌, ◌<◌, ◌↔◌, ◌++◌, length, flat_map, All, IfOk, OnOk};
+ghost use Rattle.std.specs.Prelude.{◌≡◌, ℕ, ◌+◌, ◌*◌, ◌<◌, ◌↔◌, ◌++◌, length, flat_map, All, IfOk};
+ghost use Rattle.std.specs.Prelude.{OnOk};
 ghost use Rattle.std.specs.List.{range_with_len};
 ghost use Rattle.run_model.specs.Cut.{Cut, Clocks, count};
 ghost use Rattle.run_model.specs.Slice.{Cuts};

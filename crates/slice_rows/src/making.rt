@@ -1,5 +1,6 @@
 //! The slice of a case: that of each part, joined.
-ghost use Rattle.std.specs.Prelude.{◌≡◌, ℕ, ◌+◌, ◌≤◌, ◌<◌, ◌^◌, ◌++◌, List as ListOf, length, sum, All, IfOk, IfSome, OnOk};
+ghost use Rattle.std.specs.Prelude.{◌≡◌, ℕ, ◌+◌, ◌≤◌, ◌<◌, ◌^◌, ◌++◌, List as ListOf, length, sum};
+ghost use Rattle.std.specs.Prelude.{All, IfOk, IfSome, OnOk};
 ghost use Rattle.run_model.specs.Cut.{lengths};
 ghost use Rattle.pull_system.specs.declared.pull.Pull.{Pull as PullOf};
 ghost use Rattle.pull_system.specs.System.{SystemView, IsSystem};

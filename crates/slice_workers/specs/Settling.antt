@@ -1,6 +1,7 @@
 -- What settling more rows does to a seat's floor, to the marks of what is done, and to the count of
 -- steps.
-use Rattle.std.specs.Prelude.{◌≡◌, ℕ, ◌+◌, ◌-◌, ◌*◌, ◌<◌, ◌≤◌, List, Bool, true, false, length, sum, slice_index, slice_index_or}
+use Rattle.std.specs.Prelude.{◌≡◌, ℕ, ◌+◌, ◌-◌, ◌*◌, ◌<◌, ◌≤◌, List, Bool, true, false, length, sum}
+use Rattle.std.specs.Prelude.{slice_index, slice_index_or}
 use Rattle.pull_system.specs.Vector.{IsWithin}
 use Rattle.pull_system.specs.System.{SystemView}
 use Rattle.pull_system.specs.Rows.{IsLeast}

@@ -1,5 +1,6 @@
 //! The rows of one process, settled in order, each from the one before.
-ghost use Rattle.std.specs.Prelude.{◌≡◌, ◌⊎◌, ℕ, ◌+◌, ◌-◌, ◌*◌, ◌<◌, ◌≤◌, true, false, length, sum, take, slice_index, slice_index_or, slice_set};
+ghost use Rattle.std.specs.Prelude.{◌≡◌, ◌⊎◌, ℕ, ◌+◌, ◌-◌, ◌*◌, ◌<◌, ◌≤◌, true, false, length, sum};
+ghost use Rattle.std.specs.Prelude.{take, slice_index, slice_index_or, slice_set};
 ghost use Rattle.pull_system.specs.Vector.{IsWithin, IsVector};
 ghost use Rattle.pull_system.specs.Rows.{IsLeast};
 ghost use Rattle.raise_machine.specs.Bounds.{AreBounds, word_at, has_start};

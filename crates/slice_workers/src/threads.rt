@@ -1,5 +1,6 @@
 //! Workers on threads, each with a seat of its own, and what they hand back.
-ghost use Rattle.std.specs.Prelude.{◌≡◌, ◌⊎◌, ℕ, ◌<◌, ◌≤◌, All, true, false, length, slice_index_or, IfOk};
+ghost use Rattle.std.specs.Prelude.{◌≡◌, ◌⊎◌, ℕ, ◌<◌, ◌≤◌, All, true, false, length};
+ghost use Rattle.std.specs.Prelude.{slice_index_or, IfOk};
 ghost use Rattle.pull_system.specs.Vector.{IsWithin};
 ghost use Rattle.slice_workers.specs.Reaching.{AreHanded};
 ghost use Rattle.slice_workers.specs.Jobs.{IsJob, IsDone};

@@ -1,5 +1,6 @@
 //! Which processes a worker settles, and what is left to the calling thread.
-ghost use Rattle.std.specs.Prelude.{◌≡◌, ◌≢◌, ℕ, ◌+◌, ◌*◌, ◌<◌, ◌≤◌, true, false, length, sum, slice_index_or, slice_set};
+ghost use Rattle.std.specs.Prelude.{◌≡◌, ◌≢◌, ℕ, ◌+◌, ◌*◌, ◌<◌, ◌≤◌, true, false, length, sum};
+ghost use Rattle.std.specs.Prelude.{slice_index_or, slice_set};
 ghost use Rattle.pull_system.specs.Vector.{IsWithin};
 ghost use Rattle.pull_system.specs.Climb.{marked};
 ghost use Rattle.slice_workers.specs.Reaching.{AreHanded, handed_events};

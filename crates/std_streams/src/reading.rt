@@ -32,7 +32,8 @@ impl<R: Read> Source for Reading<R> {
 
     fn read(&mut self, into: &mut [u8]) -> Result<usize, Failed>
         ensures bound { ReadsAtMost result into.new }
-        ensures bytes { ReadConsumes (R.remaining self.old.inner) (R.remaining self.new.inner) result into.new }
+        ensures bytes { ReadConsumes (R.remaining self.old.inner) (R.remaining self.new.inner)
+            result into.new }
         ensures cause { HasCause self.old.faults self.new.faults result }
         ensures same { IfOk result (λ _. self.new.faults ≡ self.old.faults) }
         ensures error { OnErr result (self.new.faults ≡ one_more self.old.faults) }

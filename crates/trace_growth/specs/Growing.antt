@@ -3,7 +3,8 @@ use Rattle.std.specs.Prelude.{◌≡◌, ℕ, ◌+◌, ◌^◌, ◌-◌, min, Bo
 use Rattle.std.specs.List.{AllByRecursion}
 use Rattle.event_log.specs.declared.log.Event.{Event}
 use Rattle.event_log.specs.declared.log.Header.{Header}
-use Rattle.event_log.specs.States.{StatesView, IsHeader, AreWhole, MayFollow, opened, with_batch, trace_of}
+use Rattle.event_log.specs.States.{StatesView, IsHeader, AreWhole, MayFollow, opened, with_batch}
+use Rattle.event_log.specs.States.{trace_of}
 use Rattle.run_model.specs.Run as run
 use Rattle.vector_clock.specs.declared.clocks.Clocks.{Clocks}
 use Rattle.vector_clock.specs.Events.{EventFits, clocks_of}

@@ -1,12 +1,15 @@
 //! A growing trace.
-ghost use Rattle.std.specs.Prelude.{◌≡◌, ℕ, ◌-◌, ◌<◌, ◌≤◌, ◌↔◌, Some, None, true, false, pos, [], length, map, get_or, slice_index_or, IsTrue, IfOk, OnOk, IfErr, MatchResult};
+ghost use Rattle.std.specs.Prelude.{◌≡◌, ℕ, ◌-◌, ◌<◌, ◌≤◌, ◌↔◌, Some, None, true, false, pos, []};
+ghost use Rattle.std.specs.Prelude.{length, map, get_or, slice_index_or, IsTrue, IfOk, OnOk, IfErr};
+ghost use Rattle.std.specs.Prelude.{MatchResult};
 ghost use Rattle.run_model.specs.Run.{state_after, process_at};
 ghost use Rattle.pota_base.specs.Shape.{HasEvent};
 ghost use Rattle.event_log.specs.States.{IsHeader, trace_of};
 ghost use Rattle.vector_clock.specs.Events.{clocks_of};
 ghost use Rattle.vector_clock.specs.Faults.{batch_fault};
 ghost use Rattle.vector_clock.specs.Admitted.{IfFault, IfWantsMemory};
-ghost use Rattle.trace_growth.specs.Growing.{opened_trace, with_trace_batch, one_more, FitsTrace, IsTrace};
+ghost use Rattle.trace_growth.specs.Growing.{opened_trace, with_trace_batch, one_more, FitsTrace};
+ghost use Rattle.trace_growth.specs.Growing.{IsTrace};
 
 use causal_order::Order;
 use event_log::{Event, Header, LogFault, States};
@@ -141,7 +144,8 @@ impl Trace {
         requires state { position ≤ length (get_or self.now.states.events process []) }
         requires variable { variable < length (get_or self.now.states.header.vars process []) }
         ensures { result ≡ get_or
-            (state_after (process_at (trace_of self.now.states) process) position) variable (pos 0) }
+            (state_after (process_at (trace_of self.now.states) process) position)
+            variable (pos 0) }
     {
         self.states.value(process, position, variable)
     }

@@ -8,7 +8,8 @@ use Rattle.event_log.specs.declared.log.Log.{Log}
 use Rattle.event_log.specs.LogText.{LogFits}
 use Rattle.event_log.specs.States.{StatesView, with_batches, trace_of, trace_of_log}
 use Rattle.vector_clock.specs.Events.{AllFit, no_events, clocks_of}
-use Rattle.vector_clock.specs.Faults.{has_wrong_own, goes_back, is_open, is_loop, batches_fault, log_fault}
+use Rattle.vector_clock.specs.Faults.{has_wrong_own, goes_back, is_open, is_loop, batches_fault}
+use Rattle.vector_clock.specs.Faults.{log_fault}
 use Rattle.vector_clock.specs.Faultless.{AreFaultless, IsLoggedRun}
 use Rattle.vector_clock.specs.Sound.{IsSound, is_newly_open, is_newly_loop}
 

@@ -1,5 +1,6 @@
 //! The clocks of a log, checked batch by batch.
-ghost use Rattle.std.specs.Prelude.{◌≡◌, ℕ, ◌+◌, ◌<◌, ◌≤◌, Some, None, length, sum, IfOk, OnOk, OnErr};
+ghost use Rattle.std.specs.Prelude.{◌≡◌, ℕ, ◌+◌, ◌<◌, ◌≤◌, Some, None, length, sum, IfOk, OnOk};
+ghost use Rattle.std.specs.Prelude.{OnErr};
 ghost use Rattle.run_model.specs.Cut.{lengths};
 ghost use Rattle.event_log.specs.States.{with_batch, with_batches};
 ghost use Rattle.vector_clock.specs.Events.{Events, BatchFits, CanBeChecked, no_events, clocks_of};

@@ -1,12 +1,15 @@
 //! The clocks of all events up to the end of a batch, and the faults of a clock among them.
-ghost use Rattle.std.specs.Prelude.{◌≡◌, ℕ, ◌-◌, ◌<◌, ◌≤◌, ◌==◌, ◌&&◌, not, nat_le, nat_lt, [], length, get_or, IfOk, IsTrue};
+ghost use Rattle.std.specs.Prelude.{◌≡◌, ℕ, ◌-◌, ◌<◌, ◌≤◌, ◌==◌, ◌&&◌, not, nat_le, nat_lt, []};
+ghost use Rattle.std.specs.Prelude.{length, get_or, IfOk, IsTrue};
 ghost use Rattle.std.specs.List.{AllByRecursion};
 ghost use Rattle.log_lines.specs.Reading.{choose};
 ghost use Rattle.run_model.specs.Cut.{count, IsWithin, lengths};
 ghost use Rattle.run_model.specs.Consistent.{clock};
 ghost use Rattle.causal_order.specs.Growth.{HasClock, with_clocks};
-ghost use Rattle.vector_clock.specs.Faults.{clock_fault as fault_of_clock, goes_back as falls_back, is_dangling as counts_too_many};
-ghost use Rattle.vector_clock.specs.Sound.{IsSound, AddsOnlyItself, counted_before as counted_by, is_newly_open as is_open, is_newly_loop as is_loop};
+ghost use Rattle.vector_clock.specs.Faults.{clock_fault as fault_of_clock, goes_back as falls_back};
+ghost use Rattle.vector_clock.specs.Faults.{is_dangling as counts_too_many};
+ghost use Rattle.vector_clock.specs.Sound.{IsSound, AddsOnlyItself, counted_before as counted_by};
+ghost use Rattle.vector_clock.specs.Sound.{is_newly_open as is_open, is_newly_loop as is_loop};
 
 use crate::batch_clocks::BatchClocks;
 use crate::beyond::{are_same_but, is_beyond};

@@ -1,12 +1,14 @@
 //! The first fault of a batch behind the events that were admitted.
-ghost use Rattle.std.specs.Prelude.{◌≡◌, ℕ, ◌+◌, ◌-◌, ◌<◌, ◌≤◌, [], length, get_or, sum, None, IfOk, OnOk};
+ghost use Rattle.std.specs.Prelude.{◌≡◌, ℕ, ◌+◌, ◌-◌, ◌<◌, ◌≤◌, [], length, get_or, sum, None};
+ghost use Rattle.std.specs.Prelude.{IfOk, OnOk};
 ghost use Rattle.std.specs.List.{AllByRecursion};
 ghost use Rattle.run_model.specs.Cut.{lengths};
 ghost use Rattle.run_model.specs.Consistent.{IsOrder};
 ghost use Rattle.event_log.specs.States.{with_batch};
 ghost use Rattle.causal_order.specs.Growth.{with_clocks};
 ghost use Rattle.vector_clock.specs.Events.{Events, EventFits, BatchFits, clocks_of};
-ghost use Rattle.vector_clock.specs.Faults.{batch_fault, clock_fault as fault_of_clock, event_fault as fault_of_event};
+ghost use Rattle.vector_clock.specs.Faults.{batch_fault, clock_fault as fault_of_clock};
+ghost use Rattle.vector_clock.specs.Faults.{event_fault as fault_of_event};
 ghost use Rattle.vector_clock.specs.Sound.{IsSound};
 ghost use Rattle.vector_clock.specs.Admitted.{HasMessages, StandsIn};
 

@@ -1,10 +1,17 @@
 //! Laws of the checks, as contracts of functions that do nothing.
 ghost use Rattle.std.specs.Prelude.{◌≡◌, Some, None};
-ghost use Rattle.event_log.specs.declared.item.LogCode.TheVariants.{ClockOwn, ClockBack, ClockDangling, ClockOpen, ClockLoop, MessageTwice, ReceiveUnsent, ReceiveEarly};
+ghost use Rattle.event_log.specs.declared.item.LogCode.TheVariants.{ClockOwn, ClockBack};
+ghost use Rattle.event_log.specs.declared.item.LogCode.TheVariants.{ClockDangling, ClockOpen};
+ghost use Rattle.event_log.specs.declared.item.LogCode.TheVariants.{ClockLoop, MessageTwice};
+ghost use Rattle.event_log.specs.declared.item.LogCode.TheVariants.{ReceiveUnsent, ReceiveEarly};
 ghost use Rattle.vector_clock.specs.Events.{no_events};
 ghost use Rattle.vector_clock.specs.Faults.{batch_fault, batches_fault};
-ghost use Rattle.vector_clock.specs.Laws.{NoFaultIsAnOrder, NoFaultIsARun, FaultlessIsARun, RunHasTheClocks, OnlyNewNamesCount};
-ghost use Rattle.vector_clock.specs.Worked.{skips_its_place, forgets_an_event, names_no_event, leaves_a_past_out, name_each_other, sends_again, receives_no_message, receives_before_the_send, two_messages, names_the_next_batch};
+ghost use Rattle.vector_clock.specs.Laws.{NoFaultIsAnOrder, NoFaultIsARun, FaultlessIsARun};
+ghost use Rattle.vector_clock.specs.Laws.{RunHasTheClocks, OnlyNewNamesCount};
+ghost use Rattle.vector_clock.specs.Worked.{skips_its_place, forgets_an_event, names_no_event};
+ghost use Rattle.vector_clock.specs.Worked.{leaves_a_past_out, name_each_other, sends_again};
+ghost use Rattle.vector_clock.specs.Worked.{receives_no_message, receives_before_the_send};
+ghost use Rattle.vector_clock.specs.Worked.{two_messages, names_the_next_batch};
 
 /// The clocks of batches without a fault are those of an order.
 pub fn no_fault_is_an_order()

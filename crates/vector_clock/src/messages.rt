@@ -1,12 +1,15 @@
 //! The messages of a log, and their faults.
-ghost use Rattle.std.specs.Prelude.{◌≡◌, ℕ, ◌+◌, ◌<◌, ◌≤◌, nat_lt, if◌then◌else◌, Some, None, length, map, sum, OnOk, OnErr};
+ghost use Rattle.std.specs.Prelude.{◌≡◌, ℕ, ◌+◌, ◌<◌, ◌≤◌, nat_lt, if◌then◌else◌, Some, None};
+ghost use Rattle.std.specs.Prelude.{length, map, sum, OnOk, OnErr};
 ghost use Rattle.std.specs.List.{AllByRecursion};
 ghost use Rattle.event_log.specs.States.{with_event, with_batch};
 ghost use Rattle.run_model.specs.Cut.{count};
-ghost use Rattle.event_log.specs.declared.item.LogCode.TheVariants.{MessageTwice, ReceiveUnsent, ReceiveEarly};
+ghost use Rattle.event_log.specs.declared.item.LogCode.TheVariants.{MessageTwice, ReceiveUnsent};
+ghost use Rattle.event_log.specs.declared.item.LogCode.TheVariants.{ReceiveEarly};
 ghost use Rattle.event_log.specs.LogText.{KindWithin};
 ghost use Rattle.log_lines.specs.Reading.{choose};
-ghost use Rattle.vector_clock.specs.Events.{Events, EventFits, no_events, place as place_of, raised};
+ghost use Rattle.vector_clock.specs.Events.{Events, EventFits, no_events, place as place_of};
+ghost use Rattle.vector_clock.specs.Events.{raised};
 ghost use Rattle.vector_clock.specs.Faults.{message_fault as fault_of_message};
 ghost use Rattle.vector_clock.specs.Met.{is_place};
 ghost use Rattle.vector_clock.specs.Admitted.{HasMessages, StandsIn};

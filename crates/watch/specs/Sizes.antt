@@ -2,7 +2,8 @@
 -- each.
 use Rattle.std.specs.Prelude.{◌≡◌, ℕ, ℤ, Bool, List, [], ◌∷◌, Option, Some, length, refl}
 use Rattle.std.proofs.Common.{arith}
-use Rattle.watch.specs.Answering.{stable_from, kept, owing_from, owing_after, calm_from, agreeing_after, first_variable}
+use Rattle.watch.specs.Answering.{stable_from, kept, owing_from, owing_after, calm_from}
+use Rattle.watch.specs.Answering.{agreeing_after, first_variable}
 
 pub length-stable_from : (before : Option (List ℤ)) (states : List (List ℤ))
     → length (stable_from before states) ≡ length states

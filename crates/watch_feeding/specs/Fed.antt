@@ -1,5 +1,6 @@
 -- Watches that are fed the states of the processes that they are on.
-use Rattle.std.specs.Prelude.{◌≡◌, ℕ, ℤ, ◌+◌, ◌<◌, ◌≤◌, Bool, List, [], ◌++◌, Option, Some, None, length, take, get_or}
+use Rattle.std.specs.Prelude.{◌≡◌, ℕ, ℤ, ◌+◌, ◌<◌, ◌≤◌, Bool, List, [], ◌++◌, Option, Some, None}
+use Rattle.std.specs.Prelude.{length, take, get_or}
 use Rattle.run_model.specs.Run.{process_at, states_of}
 use Rattle.event_log.specs.States.{StatesView, AreWhole, trace_of}
 use Rattle.local_preds.specs.Rows.{len_at}

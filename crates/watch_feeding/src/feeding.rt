@@ -1,4 +1,5 @@
-ghost use Rattle.std.specs.Prelude.{◌≡◌, ℕ, ◌+◌, ◌<◌, ◌≤◌, List, [], Option, Some, None, length, take, drop, get_or, slice_get, slice_set};
+ghost use Rattle.std.specs.Prelude.{◌≡◌, ℕ, ◌+◌, ◌<◌, ◌≤◌, List, [], Option, Some, None, length};
+ghost use Rattle.std.specs.Prelude.{take, drop, get_or, slice_get, slice_set};
 ghost use Rattle.event_log.specs.States.{AreWhole};
 ghost use Rattle.local_preds.specs.Rows.{len_at};
 ghost use Rattle.local_preds.specs.LocalRuns.{AreFull};

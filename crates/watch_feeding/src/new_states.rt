@@ -1,4 +1,5 @@
-ghost use Rattle.std.specs.Prelude.{◌≡◌, ℕ, List, [], Option, Some, None, length, drop, get_or, slice_get, OnOk, OnErr};
+ghost use Rattle.std.specs.Prelude.{◌≡◌, ℕ, List, [], Option, Some, None, length, drop, get_or};
+ghost use Rattle.std.specs.Prelude.{slice_get, OnOk, OnErr};
 ghost use Rattle.local_preds.specs.LocalRuns.{AreFull};
 ghost use Rattle.watch_feeding.specs.Fed.{states_at, IsFed, HaveRows, RowsHaveGrown};
 
