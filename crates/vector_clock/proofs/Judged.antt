@@ -105,7 +105,7 @@ lens_one o p row =
     at (x ∷ xs) zero = refl
     at (x ∷ xs) (suc q) = at xs q
 
-lens_clocks : (o : Clocks) (es : List Event) → lengths (with_clocks o es) ≡ raised (lengths o) es
+pub lens_clocks : (o : Clocks) (es : List Event) → lengths (with_clocks o es) ≡ raised (lengths o) es
 unfolding with_clocks raised
 lens_clocks o [] = refl
 lens_clocks o (e ∷ es) = lens_clocks (with_row o e.process e.clock) es ∙ ap (λ (lens : List ℕ). raised lens es) (lens_one o e.process e.clock)

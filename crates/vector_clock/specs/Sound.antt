@@ -1,7 +1,6 @@
 -- Clocks without a fault, and the rule that only the events that a clock newly names need be looked
 -- at.
-use Rattle.std.specs.Prelude.{◌≡◌, ℕ, ◌-◌, ◌<◌, Bool, not, ◌&&◌, ◌==◌, nat_lt, nat_le, [], ◌∷◌}
-use Rattle.std.specs.Prelude.{◌++◌, length, if◌then◌else◌}
+use Rattle.std.specs.Prelude.{◌≡◌, ℕ, ◌-◌, ◌<◌, Bool, not, ◌&&◌, ◌==◌, nat_lt, nat_le, List, [], ◌∷◌, ◌++◌, length, if◌then◌else◌}
 use Rattle.run_model.specs.Cut.{Clocks, count, IsWithin, lengths}
 use Rattle.run_model.specs.Consistent.{clock}
 use Rattle.event_log.specs.declared.log.Event.{Event}
@@ -49,3 +48,8 @@ abbrev pub joined_clocks : Clocks → Clocks → Clocks
 joined_clocks [] added = []
 joined_clocks (rows ∷ o) [] = rows ∷ o
 joined_clocks (rows ∷ o) (more ∷ added) = (rows ++ more) ∷ joined_clocks o added
+
+-- the tables have as many processes, and these are the lengths of both together
+pub record AreJoined (o added : Clocks) (lens : List ℕ) : Type 0 where
+  pub count : length added ≡ length o
+  pub lens_are : lens ≡ lengths (joined_clocks o added)

@@ -59,19 +59,6 @@ fn places_in(alloc: Global, procs: u32, batch: &[Event]) -> Result<Vec<List<u32>
     Ok(places)
 }
 
-// How many events of the process a batch has.
-fn len_among(batch: &[Event], process: u32) -> usize
-    ensures { result ≡ length (own_clocks batch.now process) }
-{
-    let mut len = 0;
-    for event in batch {
-        if event.process == process {
-            len += 1;
-        }
-    }
-    len
-}
-
 // The clock of the event at a position of the process in a batch.
 fn clock_among(batch: &[Event], process: u32, position: u32) -> &[u32]
     requires first { 1 ≤ position }
@@ -107,17 +94,6 @@ impl<'a> BatchClocks<'a> {
             batch,
             places,
         })
-    }
-
-    /// How many events of the batch the process has.
-    pub fn len_of(&self, process: u32) -> usize
-        requires { process < length self.now }
-        ensures { result ≡ length (get_or self.now process []) }
-    {
-        if self.places.is_empty() {
-            return len_among(self.batch, process);
-        }
-        self.places[process as usize].len()
     }
 
     /// The clock of the event at a position of a process in the batch, counted from 1.

@@ -3,7 +3,7 @@ ghost use Rattle.std.specs.Prelude.{◌≡◌, ℕ, ◌+◌, ◌<◌, ◌≤◌,
 ghost use Rattle.std.specs.Prelude.{OnErr};
 ghost use Rattle.run_model.specs.Cut.{lengths};
 ghost use Rattle.event_log.specs.States.{with_batch, with_batches};
-ghost use Rattle.vector_clock.specs.Events.{Events, BatchFits, CanBeChecked, no_events, clocks_of};
+ghost use Rattle.vector_clock.specs.Events.{Events, BatchFits, CanBeChecked, no_events, clocks_of, raised};
 ghost use Rattle.vector_clock.specs.Faults.{batch_fault, log_fault};
 ghost use Rattle.vector_clock.specs.Admitted.{HasAdmitted, HasMessages, IfFault};
 
@@ -75,10 +75,11 @@ impl Clocks {
         }
     }
 
-    // Takes the clocks of a batch that has no fault, where the messages are those up to the end of
-    // the batch.
+    // Takes the clocks of a batch that has no fault, where the messages and the counts that are
+    // taken are those up to the end of the batch.
     fn judge(&mut self, batch: &[Event]) -> Result<(), Refused<LogFault>>
-        requires { BatchFits (length self.old.order) (sum (lengths self.old.order)) batch.now }
+        requires fits { BatchFits (length self.old.order) (sum (lengths self.old.order)) batch.now }
+        requires taken { self.old.taken.items ≡ raised (lengths self.old.order) batch.now }
         ensures ok { OnOk result ((events : Events) → self.old.order ≡ clocks_of events
             → HasMessages self.old.messages (with_batch events batch.now)
             → (batch_fault events batch.now ≡ None)
@@ -96,6 +97,7 @@ impl Clocks {
             &self.order,
             &self.messages,
             batch,
+            &self.taken,
             &mut self.judged,
         )?;
         if let Some(fault) = fault {

@@ -1,6 +1,5 @@
 //! The clocks of all events up to the end of a batch, and the faults of a clock among them.
-ghost use Rattle.std.specs.Prelude.{◌≡◌, ℕ, ◌-◌, ◌<◌, ◌≤◌, ◌==◌, ◌&&◌, not, nat_le, nat_lt, []};
-ghost use Rattle.std.specs.Prelude.{length, get_or, IfOk, IsTrue};
+ghost use Rattle.std.specs.Prelude.{◌≡◌, ℕ, ◌-◌, ◌<◌, ◌≤◌, ◌==◌, ◌&&◌, not, nat_lt, [], length, get_or, IfOk, IsTrue};
 ghost use Rattle.std.specs.List.{AllByRecursion};
 ghost use Rattle.log_lines.specs.Reading.{choose};
 ghost use Rattle.run_model.specs.Cut.{count, IsWithin, lengths};
@@ -25,17 +24,19 @@ use std::marker::Model;
 pub struct Joined<'a> {
     admitted: &'a Order,
     added: BatchClocks<'a>,
+    // How many events each process has.
+    lens: &'a [u32],
 }
 
 impl<'a> Model for Joined<'a> {
-    ghost use Rattle.std.specs.Prelude.{List, ℕ, ◌≡◌, length};
-    ghost use Rattle.vector_clock.specs.Sound.{joined_clocks};
+    ghost use Rattle.std.specs.Prelude.{List, ℕ};
+    ghost use Rattle.vector_clock.specs.Sound.{joined_clocks, AreJoined};
 
     ghost Value = { List (List (List ℕ)) };
 
     ghost view = { λ j. joined_clocks j.admitted.now j.added };
 
-    ghost invariant = { λ j. length j.added ≡ length j.admitted.now };
+    ghost invariant = { λ j. AreJoined j.admitted.now j.added j.lens.now };
 }
 
 // The count of a process, and 0 where there is no clock.
@@ -64,13 +65,19 @@ impl<'a> Joined<'a> {
         alloc: Global,
         admitted: &'a Order,
         batch: &'a [Event],
+        lens: &'a [u32],
     ) -> Result<Joined<'a>, NoMemory>
         requires each { AllByRecursion (HasClock (length admitted.now)) batch.now }
         requires few { length batch.now ≤ 50000 }
+        requires lens { lens.now ≡ lengths (with_clocks admitted.now batch.now) }
         ensures { IfOk result (λ j. j ≡ with_clocks admitted.now batch.now) }
     {
         let added = BatchClocks::new(alloc, admitted.shape().procs(), batch)?;
-        Ok(Joined { admitted, added })
+        Ok(Joined {
+            admitted,
+            added,
+            lens,
+        })
     }
 
     // How many processes there are.
@@ -78,15 +85,6 @@ impl<'a> Joined<'a> {
         ensures { result ≡ length self.now }
     {
         self.admitted.shape().procs()
-    }
-
-    // Whether the process has so many events.
-    fn has(&self, process: u32, position: u32) -> bool
-        requires { process < length self.now }
-        ensures { result ≡ nat_le position (length (get_or self.now process [])) }
-    {
-        let admitted = self.admitted.shape().len_of(process);
-        position <= admitted || (position - admitted) as usize <= self.added.len_of(process)
     }
 
     // The clock of the event at a position of a process.
@@ -124,13 +122,7 @@ impl<'a> Joined<'a> {
         requires { length event.now.clock ≡ length self.now }
         ensures { result ≡ counts_too_many self.now event.now }
     {
-        let clock = event.clock.as_slice();
-        for process in 0..self.procs() {
-            if !self.has(process, clock[process as usize]) {
-                return true;
-            }
-        }
-        false
+        is_beyond(event.clock.as_slice(), self.lens)
     }
 
     // Whether the clock of an event that is newly named isn't within the event's clock.

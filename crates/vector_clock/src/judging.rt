@@ -6,9 +6,8 @@ ghost use Rattle.run_model.specs.Cut.{lengths};
 ghost use Rattle.run_model.specs.Consistent.{IsOrder};
 ghost use Rattle.event_log.specs.States.{with_batch};
 ghost use Rattle.causal_order.specs.Growth.{with_clocks};
-ghost use Rattle.vector_clock.specs.Events.{Events, EventFits, BatchFits, clocks_of};
-ghost use Rattle.vector_clock.specs.Faults.{batch_fault, clock_fault as fault_of_clock};
-ghost use Rattle.vector_clock.specs.Faults.{event_fault as fault_of_event};
+ghost use Rattle.vector_clock.specs.Events.{Events, EventFits, BatchFits, clocks_of, raised};
+ghost use Rattle.vector_clock.specs.Faults.{batch_fault, clock_fault as fault_of_clock, event_fault as fault_of_event};
 ghost use Rattle.vector_clock.specs.Sound.{IsSound};
 ghost use Rattle.vector_clock.specs.Admitted.{HasMessages, StandsIn};
 
@@ -50,23 +49,25 @@ pub fn set_counts(counts: &mut Vec<u32>, lens: &[u32]) -> Result<(), NoMemory>
     Ok(())
 }
 
-/// The first fault of a batch. The messages are those up to the end of the batch. It counts the
-/// events that it has judged in `judged`.
+/// The first fault of a batch. The messages are those up to the end of the batch, and `lens` has how
+/// many events each process has then. It counts the events that it has judged in `judged`.
 pub fn first_fault(
     alloc: Global,
     order: &Order,
     messages: &Messages,
     batch: &[Event],
+    lens: &[u32],
     judged: &mut Vec<u32>,
 ) -> Result<Option<LogFault>, NoMemory>
-    requires { BatchFits (length order.now) (sum (lengths order.now)) batch.now }
+    requires lens { lens.now ≡ raised (lengths order.now) batch.now }
+    requires fits { BatchFits (length order.now) (sum (lengths order.now)) batch.now }
     ensures fault { IfOk result (λ fault. (before : Events) → order.now ≡ clocks_of before
         → HasMessages messages.now (with_batch before batch.now)
         → fault ≡ batch_fault before batch.now) }
     ensures order { IfOk result (λ fault. fault ≡ None
         → IsOrder (with_clocks order.now batch.now)) }
 {
-    let joined = Joined::new(alloc, order, batch)?;
+    let joined = Joined::new(alloc, order, batch, lens)?;
     set_counts(judged, order.shape().lens())?;
     for event in batch {
         let place = judged[event.process as usize] + 1;

@@ -27,6 +27,9 @@ returns-in_err-note_all-clause-same c =
     } in
     on_err _ same
 
+pub judge-requires-clause-taken : goal.judge-requires-clause-taken
+judge-requires-clause-taken c = c.in_ok-note_all.ensures.counts ∙ ap (λ (xs : List ℕ). raised xs c.args.batch.now) (c.in_ok-set_counts.ensures ∙ c.lens.ensures.lens ∙ c.shape.ensures.lens)
+
 pub forget_all-requires : goal.forget_all-requires
 forget_all-requires c =
     let count : length c.judge.new.self.taken.items ≡ length c.args.self.now.order =

@@ -6,8 +6,8 @@ use Rattle.vector_clock.proofs.clocks.Clocks.judge.Goals as goal
 
 pub extend-requires : goal.extend-requires
 extend-requires c = record {
-  each = fits_have_clocks _ c.args.batch.now c.requires.each;
-  few = c.requires.few;
+  each = fits_have_clocks _ c.args.batch.now c.requires.fits.each;
+  few = c.requires.fits.few;
   order = c.in_ok-fault.ensures.order c.in_default.is;
 }
 
