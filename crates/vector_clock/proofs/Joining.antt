@@ -1,7 +1,5 @@
 -- Clocks of a batch behind those that were admitted.
-use Rattle.std.proofs.Common.{◌≡◌, ℕ, zero, suc, ◌+◌, ◌-◌, ◌<◌, ◌≤◌, List, [], ◌∷◌, ◌++◌, length, get_or, replicate, refl, sym, ap, ◌∙◌, arith, append_assoc, append-nil, length-append, inl, inr}
-use Rattle.std.specs.Prelude.{nat_le}
-use Rattle.std.proofs.lemmas.Bool.{cases_lt, le-leb, lt-leb}
+use Rattle.std.proofs.Common.{◌≡◌, ℕ, zero, suc, ◌+◌, ◌-◌, ◌<◌, ◌≤◌, List, [], ◌∷◌, ◌++◌, length, get_or, replicate, refl, sym, ap, ◌∙◌, arith, append_assoc, append-nil, length-append}
 use Rattle.std.proofs.lemmas.List.{length-set, length-replicate, get_or_append_left, get_or-append-add}
 use Rattle.event_log.specs.declared.log.Event.{Event}
 use Rattle.run_model.specs.Cut.{Cut, Clocks}
@@ -70,9 +68,3 @@ joined_len o added all p is same =
 
 pub joined_count : (o added all : Clocks) → joined_clocks o added ≡ all → length all ≡ length o
 joined_count o added all is = ap length (sym is) ∙ length-joined o added
-
-pub same_leb : (a n m k : ℕ) → n < a → k ≡ n + m → nat_le (a - n) m ≡ nat_le a k
-same_leb a n m k lt is = elim (cases_lt k a) [
-  | inl more ↦ lt-leb (a - n) m (omega arith) ∙ sym (lt-leb a k more)
-  | inr within ↦ le-leb (a - n) m (omega arith) ∙ sym (le-leb a k within)
-]

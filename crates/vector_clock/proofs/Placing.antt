@@ -107,7 +107,7 @@ pub procs_are : (procs : ℕ) (batch : List Event) (all : Clocks) → with_clock
 procs_are procs batch all is = ap length (sym is) ∙ length-with_clocks (replicate procs []) batch ∙ length-replicate procs []
 
 -- the clocks of one process
-pub own_rows : (procs : ℕ) (batch : List Event) (places : List (List ℕ)) (all : Clocks) (p : ℕ) → ArePlaces procs batch places → with_clocks (replicate procs []) batch ≡ all
+own_rows : (procs : ℕ) (batch : List Event) (places : List (List ℕ)) (all : Clocks) (p : ℕ) → ArePlaces procs batch places → with_clocks (replicate procs []) batch ≡ all
     → get_or all p [] ≡ map (clock_in batch) (get_or places p [])
 own_rows procs batch places all p in_batch is =
     ap (λ (o : Clocks). get_or o p []) (sym (in_batch.clocks ∙ is)) ∙ get_or-map (map (clock_in batch)) places p []
@@ -187,15 +187,6 @@ seen_clock batch i e p lt at own =
     let last : length front ≡ length front + 0 = omega arith in
     ap (λ (rs : List Cut). get_or rs (length front) []) (own_split batch i e p lt at ∙ ap (λ (rs : List Cut). front ++ rs) (cond-true (e.process == p) (e.clock ∷ rest) rest (eq-eqb e.process p own)))
     ∙ ap (λ (k : ℕ). get_or (front ++ e.clock ∷ rest) k []) last ∙ get_or-append-add front (e.clock ∷ rest) 0 []
-
-pub seen_few : (batch : List Event) (i p : ℕ) → length (own_clocks (take i batch) p) ≤ i
-seen_few [] zero p = omega arith
-seen_few [] (suc i) p = omega arith
-seen_few (e ∷ batch) zero p = omega arith
-seen_few (e ∷ batch) (suc i) p = elim (cases_Bool (e.process == p)) [
-  | inl own ↦ omega (arith, ap length (cond-true (e.process == p) (e.clock ∷ own_clocks (take i batch) p) (own_clocks (take i batch) p) own), seen_few batch i p)
-  | inr other ↦ omega (arith, ap length (cond-false (e.process == p) (e.clock ∷ own_clocks (take i batch) p) (own_clocks (take i batch) p) other), seen_few batch i p)
-]
 
 rows_with : (o : Clocks) (batch : List Event) (p : ℕ) → AllByRecursion (HasClock (length o)) batch → get_or (with_clocks o batch) p [] ≡ get_or o p [] ++ own_clocks batch p
 unfolding with_clocks
