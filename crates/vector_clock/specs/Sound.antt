@@ -1,6 +1,7 @@
 -- Clocks without a fault, and the rule that only the events that a clock newly names need be looked
 -- at.
-use Rattle.std.specs.Prelude.{◌≡◌, ℕ, ◌-◌, ◌<◌, Bool, not, ◌&&◌, ◌==◌, nat_lt, nat_le, List, [], ◌∷◌, ◌++◌, length, if◌then◌else◌}
+use Rattle.std.specs.Prelude.{◌≡◌, ℕ, ◌-◌, ◌<◌, Bool, not, ◌&&◌, ◌==◌, nat_lt, nat_le, List, []}
+use Rattle.std.specs.Prelude.{◌∷◌, ◌++◌, length, if◌then◌else◌}
 use Rattle.run_model.specs.Cut.{Clocks, count, IsWithin, lengths}
 use Rattle.run_model.specs.Consistent.{clock}
 use Rattle.event_log.specs.declared.log.Event.{Event}

@@ -3,7 +3,8 @@ ghost use Rattle.std.specs.Prelude.{◌≡◌, ℕ, ◌+◌, ◌<◌, ◌≤◌,
 ghost use Rattle.std.specs.Prelude.{OnErr};
 ghost use Rattle.run_model.specs.Cut.{lengths};
 ghost use Rattle.event_log.specs.States.{with_batch, with_batches};
-ghost use Rattle.vector_clock.specs.Events.{Events, BatchFits, CanBeChecked, no_events, clocks_of, raised};
+ghost use Rattle.vector_clock.specs.Events.{Events, BatchFits, CanBeChecked, no_events, clocks_of};
+ghost use Rattle.vector_clock.specs.Events.{raised};
 ghost use Rattle.vector_clock.specs.Faults.{batch_fault, log_fault};
 ghost use Rattle.vector_clock.specs.Admitted.{HasAdmitted, HasMessages, IfFault};
 

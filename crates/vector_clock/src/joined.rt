@@ -1,5 +1,6 @@
 //! The clocks of all events up to the end of a batch, and the faults of a clock among them.
-ghost use Rattle.std.specs.Prelude.{◌≡◌, ℕ, ◌-◌, ◌<◌, ◌≤◌, ◌==◌, ◌&&◌, not, nat_lt, [], length, get_or, IfOk, IsTrue};
+ghost use Rattle.std.specs.Prelude.{◌≡◌, ℕ, ◌-◌, ◌<◌, ◌≤◌, ◌==◌, ◌&&◌, not, nat_lt, [], length};
+ghost use Rattle.std.specs.Prelude.{get_or, IfOk, IsTrue};
 ghost use Rattle.std.specs.List.{AllByRecursion};
 ghost use Rattle.log_lines.specs.Reading.{choose};
 ghost use Rattle.run_model.specs.Cut.{count, IsWithin, lengths};
@@ -54,7 +55,8 @@ fn counted_in(clock: Option<&[u32]>, process: u32) -> u32
 fn newly_names(event: &Event, before: Option<&[u32]>, other: u32) -> bool
     requires { other < length event.now.clock }
     ensures { result ≡ (not (other == event.now.process)
-        && nat_lt (choose before.entry (λ row. count row.now other) 0) (count event.now.clock other)) }
+        && nat_lt (choose before.entry (λ row. count row.now other) 0)
+        (count event.now.clock other)) }
 {
     other != event.process && counted_in(before, other) < event.clock.as_slice()[other as usize]
 }
