@@ -31,7 +31,7 @@ scratch_crates() {
     top=$(cd "$(dirname "${BASH_SOURCE[0]}")/.." && pwd)
     git -C "$scratch" init -q
     cp "$top/HANDLES" "$scratch/"
-    mkdir "$scratch/crates"
+    mkdir -p "$scratch/crates"
     for name in "$@"; do
         mkdir "$scratch/crates/$name"
         (cd "$top/crates/$name" && tar cf - --exclude=out .) | tar xf - -C "$scratch/crates/$name"

@@ -1,23 +1,62 @@
 #!/usr/bin/env bash
-# Prints the time of reading and of checking a generated log apart, and the time that the program takes for the texts that cost the
-# most. It works on a scratch copy of the crates, where what is timed is proved and built.
+# Prints the times of reading and of checking a log apart, and the peak of the memory, the log's own bytes within: of 32 processes
+# and 50,000 events in one batch, of the same with a batch behind each event, and of 64 MiB of empty batches. Then the time that
+# the program takes for the texts that cost the most. It works on a scratch copy of the crates, where what is timed is proved and
+# built. With the word `log` it stops before the program is built.
 set -e
 here=$(cd "$(dirname "$0")" && pwd)
 . "$here/../scratch.sh"
-scratch_crates $(crates_below pota worked_rows)
+scratch_crates $(crates_below vector_clock log_fitting)
+(cd "$here/../../crates/worked_rows" && tar cf - --exclude=out .) | (mkdir "$scratch/crates/worked_rows"
+    tar xf - -C "$scratch/crates/worked_rows")
+echo "worked_rows: pota_base event_log vector_clock log_fitting" >> "$scratch/crates.txt"
 cd "$scratch/crates/worked_rows"
-rm -r data stdout src/verdict.rt
+rm -r data stdout src/verdict.rt src/generated.rt
 cp "$here/main.txt" src/main.rt
-rt run 2>/dev/null
 
+# The clocks are those of Fidge and Mattern; each third event sends to the next process, whose next event receives.
+awk 'BEGIN {
+    print "pota-log 1"
+    line = "procs"
+    for (p = 1; p <= 32; p++) line = line " P" p
+    print line
+    for (p = 1; p <= 32; p++) print "vars P" p " n=0"
+    for (event = 0; event < 50000; event++) {
+        p = event % 32
+        if (event % 3 == 2)
+            for (q = 0; q < 32; q++)
+                if (clock[(p + 31) % 32, q] > clock[p, q]) clock[p, q] = clock[(p + 31) % 32, q]
+        clock[p, p]++
+        line = "ev P" p + 1 " " clock[p, 0] + 0
+        for (q = 1; q < 32; q++) line = line "," clock[p, q] + 0
+        if (event % 3 == 1) line = line " send P" (p + 1) % 32 + 1 " " event
+        else if (event % 3 == 2) line = line " recv P" (p + 31) % 32 + 1 " " event - 1
+        else line = line " int"
+        print line " n=" event
+    }
+    print "end"
+}' > "$scratch/one_batch"
+sed '/^ev /a batch' "$scratch/one_batch" > "$scratch/a_batch_an_event"
 header='pota-log 1\nprocs P\nvars P x=0\n'
+(printf "$header"; yes batch | head -n 10999999; echo end) > "$scratch/empty_batches"
+ln -s "$scratch/one_batch" log
+rt run > /dev/null
+for log in one_batch a_batch_an_event empty_batches; do
+    echo "$log: $(wc -c < "$scratch/$log") bytes"
+    ln -sf "$scratch/$log" log
+    for _ in 1 2 3; do
+        /usr/bin/time -f 'peak memory: %M KiB' ./out/worked_rows
+    done
+done
+[ "$1" != log ] || exit 0
+
 head -c 67108864 /dev/urandom > "$scratch/garbage"
 (printf "$header"; head -c 67108800 /dev/zero | tr '\0' a) > "$scratch/one_line"
 (printf "$header"; head -c 67108800 /dev/zero | tr '\0' '\n') > "$scratch/line_feeds"
-(printf "$header"; yes batch | head -n 10999999; echo end) > "$scratch/batches"
+scratch_crates $(crates_below pota | grep -vxFf <(cut -d: -f1 "$scratch/crates.txt"))
 cd "$scratch/crates/pota"
 rt run > /dev/null 2>&1 < stdin -- check 'EF (P.x = 0 & P.x = 0)' || true
-for text in garbage one_line line_feeds batches; do
+for text in garbage one_line line_feeds empty_batches; do
     echo "$text: $(wc -c < "$scratch/$text") bytes"
     time ./out/pota check 'EF (P.x = 0 & P.x = 0)' < "$scratch/$text" || true
 done
