@@ -37,8 +37,6 @@
 //! turning watches were dropped with it.
 #![tactic(auto)]
 
-ghost use Rattle.std.specs.Prelude.{◌≡◌, ◌<◌};
-
 mod case;
 mod log;
 mod opening;
@@ -49,27 +47,19 @@ mod telling;
 mod verdict;
 
 use case::Case;
-use pota_base::Steps;
 use reading::add_line;
 use std::alloc::Global;
-use std::marker::Brand;
-use std::sync::ledger::{Blank, Ledger};
 use std::thread::Threads;
 use std::{fs, io};
 use verdict::judge;
 
 const FILES: [&str; 3] = ["batches.cases", "watches.cases", "cuttings.cases"];
 
-fn judge_all<R: Threads + Sync + Print, L: Ledger>(
-    rt: &R,
-    alloc: Global,
-    text: &str,
-    steps: &mut Steps<L>,
-) -> io::Result<()> {
+fn judge_all<R: Threads + Sync + Print>(rt: &R, alloc: Global, text: &str) -> io::Result<()> {
     let mut case = Case::new(alloc);
     for line in text.lines() {
         if line == "end" {
-            let said = judge(rt, alloc, &case, steps)?;
+            let said = judge(rt, alloc, &case)?;
             println!(rt; "{}: {}", case.name.as_str(), said.as_str())?;
             case = case.next(alloc);
         } else {
@@ -79,29 +69,11 @@ fn judge_all<R: Threads + Sync + Print, L: Ledger>(
     Ok(())
 }
 
-fn with_steps<R: Threads + Sync + Print, L: Ledger>(
-    rt: &R,
-    alloc: Global,
-    text: &str,
-    blank: Blank,
-) -> io::Result<()>
-    requires name { blank.name ≡ L.name }
-    requires parts { blank.parts ≡ L.parts }
-    requires some { 0 < blank.parts }
-{
-    let mut steps = Steps::<L>::new(blank);
-    judge_all(rt, alloc, text, &mut steps)
-}
-
-fn run_file<R: Threads + Sync + Print>(rt: &R, alloc: Global, text: &str) -> io::Result<()> {
-    with_steps::<R, Brand>(rt, alloc, text, Blank::new(1))
-}
-
 fn main(rt: HostRuntime) -> io::Result<()> {
     let alloc = rt.alloc();
     for path in FILES {
         let text = fs::read_to_string(&rt, path)?;
-        run_file(&rt, alloc, text.as_str())?;
+        judge_all(&rt, alloc, text.as_str())?;
     }
     Ok(())
 }

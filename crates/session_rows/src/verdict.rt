@@ -1,11 +1,13 @@
 //! Whether all runs of a case tell what they must.
+ghost use Rattle.std.specs.Prelude.{◌≡◌, ◌<◌};
 
 use crate::case::Case;
 use crate::log::{cuttings, read};
 use crate::running::{Setting, run};
 use pota_base::{NoMemory, Steps};
 use std::alloc::{AllocError, Global};
-use std::sync::ledger::Ledger;
+use std::marker::Brand;
+use std::sync::ledger::{Blank, Ledger};
 use std::thread::Threads;
 
 // What the run tells, if that is not what it must tell.
@@ -90,14 +92,24 @@ fn found<R: Threads + Sync, L: Ledger>(
     Ok(String::from_str(alloc, "ok")?)
 }
 
-/// `ok`, or what is told of the first run that told something else than it must.
-pub fn judge<R: Threads + Sync, L: Ledger>(
+// The same, with steps that this ledger counts.
+fn counted<R: Threads + Sync, L: Ledger>(
     rt: &R,
     alloc: Global,
     case: &Case,
-    steps: &mut Steps<L>,
-) -> Result<String, AllocError> {
-    match found(rt, alloc, case, steps) {
+    blank: Blank,
+) -> Result<String, NoMemory>
+    requires name { blank.name ≡ L.name }
+    requires parts { blank.parts ≡ L.parts }
+    requires some { 0 < blank.parts }
+{
+    let mut steps = Steps::<L>::new(blank);
+    found(rt, alloc, case, &mut steps)
+}
+
+/// `ok`, or what is told of the first run that told something else than it must.
+pub fn judge<R: Threads + Sync>(rt: &R, alloc: Global, case: &Case) -> Result<String, AllocError> {
+    match counted::<R, Brand>(rt, alloc, case, Blank::new(1)) {
         Ok(said) => Ok(said),
         Err(_) => Err(AllocError),
     }
