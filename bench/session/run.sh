@@ -12,7 +12,7 @@ cd "$scratch/crates/session_rows"
 rm -r data stdout src/case.rt src/log.rt src/reading.rt src/running.rt src/telling.rt src/verdict.rt
 cp "$here/main.txt" src/main.rt
 # In the proof the counter's ledger is the one that the blank names.
-rm -rf proofs/with_steps proofs/run_file
+rm -r proofs/verdict
 mkdir -p proofs/run_all
 printf '%s\n' 'use Rattle.session_rows.proofs.run_all.Given as goal' '' 'abbrev pub ghosts-run : goal.ghosts-run' \
     'ghosts-run g a = record { name = a.blank.name; parts = a.blank.parts }' > proofs/run_all/Invariants.antt
