@@ -6,6 +6,7 @@ pub mod NewNames
 pub mod Growth
 pub mod Faultless
 pub mod OwnCounts
+pub mod JoinedCounts
 pub mod BatchLaws
 pub mod FirstPlaces
 pub mod MessageLaws

@@ -1,7 +1,7 @@
 -- Clocks without a fault, and the rule that only the events that a clock newly names need be looked
 -- at.
-use Rattle.std.specs.Prelude.{◌≡◌, ℕ, ◌-◌, ◌<◌, Bool, not, ◌&&◌, ◌==◌, nat_lt, nat_le, List, []}
-use Rattle.std.specs.Prelude.{◌∷◌, ◌++◌, length, if◌then◌else◌}
+use Rattle.std.specs.Prelude.{◌≡◌, ℕ, ◌-◌, ◌<◌, max, Bool, not, ◌&&◌, ◌==◌, nat_lt, nat_le, List}
+use Rattle.std.specs.Prelude.{[], ◌∷◌, ◌++◌, length, if◌then◌else◌}
 use Rattle.run_model.specs.Cut.{Clocks, count, IsWithin, lengths}
 use Rattle.run_model.specs.Consistent.{clock}
 use Rattle.event_log.specs.declared.log.Event.{Event}
@@ -43,6 +43,17 @@ pub record AddsOnlyItself (o : Clocks) (a : ℕ) (e : Event) : Type 0 where
   pub later : 1 < a
   pub same : (j : ℕ) → (j ≡ e.process → ⊥)
       → count e.clock j ≡ count (clock o e.process (a - 1)) j
+
+-- the last event of process q that the clock counts has no fault and doesn't count this event, and
+-- the clock has the greater counts of that one and of the event before on its process; of its own
+-- process it may count any number of events
+pub record JoinsNamed (o : Clocks) (a : ℕ) (e : Event) (q : ℕ) : Type 0 where
+  pub later : 1 < a
+  pub other : q ≡ e.process → ⊥
+  pub sound : IsSound o q (count e.clock q)
+  pub earlier : count (named_clock o e q) e.process < a
+  pub joined : (j : ℕ) → (j ≡ e.process → ⊥)
+      → count e.clock j ≡ max (count (clock o e.process (a - 1)) j) (count (named_clock o e q) j)
 
 -- the clocks of each process, with those of the second table behind those of the first
 abbrev pub joined_clocks : Clocks → Clocks → Clocks

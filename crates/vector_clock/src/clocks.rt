@@ -47,11 +47,13 @@ impl Clocks {
     /// Checks a batch and takes it whole, or none of it. A fault is the first of its events in
     /// their order, at the line of its event.
     ///
-    /// It compares each clock of the batch with that of the event before on its process, and where
-    /// more than the event's own count differs, with the clock of the last event of each process
-    /// that the event newly names: one that its clock counts and that of the event before doesn't.
-    /// So an event costs about one row of counts for each event that it newly names. A message
-    /// costs look-ups in an ordered map.
+    /// It compares each clock of the batch with that of the event before on its process. Where more
+    /// than the event's own count differs, a receipt whose clock joins that one and the clock of
+    /// the sender's last event that it counts has no fault, if that event was judged before. Any
+    /// other clock is compared with that of the last event of each process that the event newly
+    /// names: one that its clock counts and that of the event before doesn't. So an event costs two
+    /// or three rows of counts where its clock is as most are, and else about one for each event
+    /// that it newly names. A message costs look-ups in an ordered map.
     pub fn admit(&mut self, batch: &[Event]) -> Result<(), Refused<LogFault>>
         requires { BatchFits (length self.old.order) (sum (lengths self.old.order)) batch.now }
         ensures ok { OnOk result ((events : Events) → HasAdmitted self.old events

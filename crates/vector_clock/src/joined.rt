@@ -1,20 +1,22 @@
 //! The clocks of all events up to the end of a batch, and the faults of a clock among them.
 ghost use Rattle.std.specs.Prelude.{◌≡◌, ℕ, ◌-◌, ◌<◌, ◌≤◌, ◌==◌, ◌&&◌, not, nat_lt, [], length};
-ghost use Rattle.std.specs.Prelude.{get_or, IfOk, IsTrue};
+ghost use Rattle.std.specs.Prelude.{get_or, IfOk, IsTrue, None};
 ghost use Rattle.std.specs.List.{AllByRecursion};
 ghost use Rattle.log_lines.specs.Reading.{choose};
 ghost use Rattle.run_model.specs.Cut.{count, IsWithin, lengths};
-ghost use Rattle.run_model.specs.Consistent.{clock};
+ghost use Rattle.run_model.specs.Consistent.{clock, IsEvent};
+ghost use Rattle.event_log.specs.LogText.{KindWithin};
 ghost use Rattle.causal_order.specs.Growth.{HasClock, with_clocks};
 ghost use Rattle.vector_clock.specs.Faults.{clock_fault as fault_of_clock, goes_back as falls_back};
 ghost use Rattle.vector_clock.specs.Faults.{is_dangling as counts_too_many};
-ghost use Rattle.vector_clock.specs.Sound.{IsSound, AddsOnlyItself, counted_before as counted_by};
+ghost use Rattle.vector_clock.specs.Sound.{IsSound, AddsOnlyItself, JoinsNamed};
+ghost use Rattle.vector_clock.specs.Sound.{counted_before as counted_by};
 ghost use Rattle.vector_clock.specs.Sound.{is_newly_open as is_open, is_newly_loop as is_loop};
 
 use crate::batch_clocks::BatchClocks;
-use crate::beyond::{are_same_but, is_beyond};
+use crate::beyond::{are_same_but, is_beyond, is_join_but};
 use causal_order::Order;
-use event_log::{Event, LogCode};
+use event_log::{Event, Kind, LogCode};
 use pota_base::{EventId, NoMemory};
 use std::alloc::Global;
 use std::marker::Model;
@@ -193,18 +195,63 @@ impl<'a> Joined<'a> {
             )
     }
 
-    /// The first fault of the clock of an event at its place. The event before on its process has
-    /// none.
-    pub fn clock_fault(&self, event: &Event, place: u32) -> Option<LogCode>
+    // Whether the clock has the greater counts of the event before on the process and of the last
+    // event of process `other` that it counts, which was judged before.
+    fn joins_named(&self, event: &Event, place: u32, other: u32, judged: &[u32]) -> bool
         requires process { event.now.process < length self.now }
         requires width { length event.now.clock ≡ length self.now }
         requires place { place ≤ length (get_or self.now event.now.process []) }
+        requires other { other < length self.now }
+        requires counts { length judged.now ≡ length self.now }
+        requires judged { (p a : ℕ) → IsEvent judged.now p a → IsSound self.now p a }
+        ensures { IsTrue result → JoinsNamed self.now place event.now other }
+    {
+        let clock = event.clock.as_slice();
+        let own = event.process;
+        let position = clock[other as usize];
+        if place <= 1 || other == own || position < 1 || position > judged[other as usize] {
+            return false;
+        }
+        let named = self.clock(other, position);
+        named[own as usize] < place
+            && is_join_but(self.clock(own, place - 1), named, clock, own as usize)
+    }
+
+    // Whether the clock of a receipt joins that of an event of the sender, so that it has no fault.
+    fn joins_sender(&self, event: &Event, place: u32, judged: &[u32]) -> bool
+        requires process { event.now.process < length self.now }
+        requires width { length event.now.clock ≡ length self.now }
+        requires peer { KindWithin (length event.now.clock) event.now.kind }
+        requires place { place ≤ length (get_or self.now event.now.process []) }
+        requires own { count event.now.clock event.now.process ≡ place }
         requires before { 1 < place → IsSound self.now event.now.process (place - 1) }
+        requires counts { length judged.now ≡ length self.now }
+        requires judged { (p a : ℕ) → IsEvent judged.now p a → IsSound self.now p a }
+        ensures { IsTrue result → None ≡ fault_of_clock self.now place event.now }
+    {
+        match event.kind {
+            Kind::Receive { sender, .. } => self.joins_named(event, place, sender, judged),
+            _ => false,
+        }
+    }
+
+    /// The first fault of the clock of an event at its place. The event before on its process has
+    /// none, nor have so many events of each process as were judged.
+    pub fn clock_fault(&self, event: &Event, place: u32, judged: &[u32]) -> Option<LogCode>
+        requires process { event.now.process < length self.now }
+        requires width { length event.now.clock ≡ length self.now }
+        requires peer { KindWithin (length event.now.clock) event.now.kind }
+        requires place { place ≤ length (get_or self.now event.now.process []) }
+        requires before { 1 < place → IsSound self.now event.now.process (place - 1) }
+        requires counts { length judged.now ≡ length self.now }
+        requires judged { (p a : ℕ) → IsEvent judged.now p a → IsSound self.now p a }
         ensures { result ≡ fault_of_clock self.now place event.now }
     {
         if *event.clock.get(event.process as usize) != place {
             Some(LogCode::ClockOwn)
         } else if self.adds_only_itself(event, place) {
+            None
+        } else if self.joins_sender(event, place, judged) {
             None
         } else if self.goes_back(event, place) {
             Some(LogCode::ClockBack)

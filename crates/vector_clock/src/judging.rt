@@ -3,7 +3,7 @@ ghost use Rattle.std.specs.Prelude.{◌≡◌, ℕ, ◌+◌, ◌-◌, ◌<◌, �
 ghost use Rattle.std.specs.Prelude.{IfOk, OnOk};
 ghost use Rattle.std.specs.List.{AllByRecursion};
 ghost use Rattle.run_model.specs.Cut.{lengths};
-ghost use Rattle.run_model.specs.Consistent.{IsOrder};
+ghost use Rattle.run_model.specs.Consistent.{IsOrder, IsEvent};
 ghost use Rattle.event_log.specs.States.{with_batch};
 ghost use Rattle.causal_order.specs.Growth.{with_clocks};
 ghost use Rattle.vector_clock.specs.Events.{Events, EventFits, BatchFits, clocks_of, raised};
@@ -25,17 +25,20 @@ fn event_fault(
     messages: &Messages,
     event: &Event,
     place: u32,
+    judged: &[u32],
 ) -> Option<LogCode>
     requires fits { EventFits (length joined.now) event.now }
     requires first { 1 ≤ place }
     requires place { place ≤ length (get_or joined.now event.now.process []) }
     requires before { 1 < place → IsSound joined.now event.now.process (place - 1) }
+    requires counts { length judged.now ≡ length joined.now }
+    requires judged { (p a : ℕ) → IsEvent judged.now p a → IsSound joined.now p a }
     ensures clock { result ≡ None → fault_of_clock joined.now place event.now ≡ None }
     ensures first { (before all : Events) → joined.now ≡ clocks_of all
         → HasMessages messages.now all → StandsIn before all event.now place
         → result ≡ fault_of_event before all event.now }
 {
-    match joined.clock_fault(event, place) {
+    match joined.clock_fault(event, place, judged) {
         Some(code) => Some(code),
         None => messages.message_fault(event, place),
     }
@@ -72,7 +75,7 @@ pub fn first_fault(
     set_counts(judged, order.shape().lens())?;
     for event in batch {
         let place = judged[event.process as usize] + 1;
-        if let Some(code) = event_fault(&joined, messages, event, place) {
+        if let Some(code) = event_fault(&joined, messages, event, place, judged) {
             return Ok(Some(LogFault {
                 code,
                 line: event.line,

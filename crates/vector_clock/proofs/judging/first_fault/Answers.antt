@@ -1,10 +1,12 @@
-use Rattle.std.proofs.Common.{◌≡◌, ℕ, ◌+◌, ◌<◌, length, take, refl, sym, ap, ◌∙◌, subst, arith}
+use Rattle.std.proofs.Common.{◌≡◌, ℕ, ◌+◌, ◌<◌, List, length, take, refl, sym, ap, ◌∙◌, subst, arith}
 use Rattle.std.specs.Prelude.{None}
 use Rattle.run_model.specs.Cut.{Clocks, lengths}
+use Rattle.run_model.specs.Consistent.{IsEvent}
 use Rattle.causal_order.specs.Growth.{with_clocks}
 use Rattle.causal_order.proofs.Growing.{length-lengths, length-with_clocks}
 use Rattle.vector_clock.specs.Events.{EventFits}
 use Rattle.vector_clock.specs.Faults.{clock_fault}
+use Rattle.vector_clock.specs.Sound.{IsSound}
 use Rattle.vector_clock.proofs.Below.{count_is}
 use Rattle.vector_clock.proofs.Growth.{fits_have_clocks}
 use Rattle.vector_clock.proofs.Counting.{one_fits, few_taken, length-raised}
@@ -56,6 +58,23 @@ event_fault-requires-clause-before c =
     (subst (λ (o : Clocks). Judged c.args.order.now o c.args.messages.now c.args.batch.now c.loop-event.judged.items c.loop-event.event-index) (sym c.in_ok-joined.ensures) c.loop-event.invariant) c.in_ok-joined.ensures
     (fits_have_clocks _ c.args.batch.now c.requires.fits.each) c.loop-event-test.true c.event-item.is fits.clock c.index.ensures in
     at.before
+
+pub event_fault-requires-clause-counts : goal.event_fault-requires-clause-counts
+event_fault-requires-clause-counts c =
+    omega (
+      arith,
+      ap length c.deref.ensures.value,
+      ap length c.loop-event.invariant.counts,
+      length-raised (lengths c.args.order.now) (take c.loop-event.event-index c.args.batch.now),
+      length-lengths c.args.order.now,
+      ap length c.in_ok-joined.ensures,
+      length-with_clocks c.args.order.now c.args.batch.now,
+    )
+
+pub event_fault-requires-clause-judged : goal.event_fault-requires-clause-judged
+event_fault-requires-clause-judged c = λ p a there.
+    let counted = c.deref.ensures.value ∙ c.loop-event.invariant.counts ∙ sym (lens_clocks c.args.order.now (take c.loop-event.event-index c.args.batch.now)) in
+    subst (λ (o : Clocks). IsSound o p a) (sym c.in_ok-joined.ensures) (c.loop-event.invariant.sound p a (subst (λ (lens : List ℕ). IsEvent lens p a) counted there))
 
 pub index_mut-requires : goal.index_mut-requires
 index_mut-requires c =
