@@ -2,9 +2,9 @@
 use Rattle.std.proofs.Common.{◌≡◌, ℕ, zero, suc, ◌+◌, ◌<◌, ◌≤◌, List, [], ◌∷◌, ◌++◌, length, map, take, get_or, set, refl, sym, ap, ◌∙◌, subst, arith, append_assoc, append-nil, length-append}
 use Rattle.std.specs.List.{AllByRecursion}
 use Rattle.std.specs.Prelude.{ℤ}
-use Rattle.std.proofs.Common.{inl, inr, below_more}
+use Rattle.std.proofs.Common.{inl, inr, below_more, reverse}
 use Rattle.std.proofs.lemmas.Bool.{cases_eq, cases_lt}
-use Rattle.std.proofs.lemmas.List.{length-set, length-map, get_or_past, get_or-set_same, get_or-set_other, get_or-map, take_at, ext_get_or}
+use Rattle.std.proofs.lemmas.List.{length-set, length-map, get_or_past, get_or-set_same, get_or-set_other, get_or-map, take_at, ext_get_or, reverse-append}
 use Rattle.event_log.specs.declared.log.Event.{Event}
 use Rattle.event_log.specs.declared.log.Binding.{Binding}
 use Rattle.event_log.specs.States.{HistoryView, nothing, events_in, with_event, with_batch, AssignsWithin, Grown, HasRoom, Added}
@@ -151,6 +151,10 @@ pub so_far_all : (old : List HistoryView) (batch rest : List Event) (now : List 
 so_far_all old batch rest now h none =
     let whole : batch ≡ h.done = h.split ∙ ap (λ (es : List Event). h.done ++ es) none ∙ append-nil h.done in
     subst (λ (es : List Event). Added old es now) (sym whole) h.added
+
+-- what goes from the end of a batch is the first of the batch turned round
+pub turned : (before rest : List Event) (e : Event) → before ≡ rest ++ e ∷ [] → reverse before ≡ e ∷ reverse rest
+turned before rest e is = ap reverse is ∙ reverse-append rest (e ∷ [])
 
 all_split : (P : Event → Type 0) (xs : List Event) (y : Event) (ys : List Event) → AllByRecursion P (xs ++ y ∷ ys) → P y
 all_split P [] y ys h = h.0

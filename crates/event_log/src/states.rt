@@ -15,6 +15,9 @@ use pota_base::{EventId, List, NoMemory, Shape};
 use std::alloc::Global;
 use std::marker::Model;
 
+/// The memory of so many events of a batch is given back at once.
+const GIVEN_BACK: usize = 4_096;
+
 /// The data of a trace: a header, and the events of each process in their order. It keeps the
 /// values of all variables after each event.
 #[derive(Debug, Drop)]
@@ -111,14 +114,26 @@ fn add_batch(histories: &mut Vec<History>, batch: Vec<Event>) -> Result<(), NoMe
     add_all(histories, batch)
 }
 
-// Puts each event of the batch behind those of its process. Without memory some may be there.
-fn add_all(histories: &mut Vec<History>, batch: Vec<Event>) -> Result<(), NoMemory>
+// Gives back the memory of the events that have gone, where it is worth the while.
+fn give_back(batch: &mut Vec<Event>)
+    ensures { batch.new.items ≡ batch.old.items }
+{
+    if batch.len() % GIVEN_BACK == 0 {
+        batch.shrink_to_fit();
+    }
+}
+
+// Puts each event of the batch behind those of its process. Without memory some may be there. The
+// batch goes from its end, and is therefore turned round first, so that its memory is given back
+// while that of the histories is filled.
+fn add_all(histories: &mut Vec<History>, mut batch: Vec<Event>) -> Result<(), NoMemory>
     requires { AllByRecursion (HasRoom histories.old.items) batch.items }
     ensures ok { OnOk result (Added histories.old.items batch.items histories.new.items) }
     ensures grown { Grown histories.old.items histories.new.items }
 {
-    let mut events = batch.into_iter();
-    while let Some(event) = events.next() {
+    batch.reverse();
+    while let Some(event) = batch.pop() {
+        give_back(&mut batch);
         let process = event.process as usize;
         histories[process].push(event)?;
     }
