@@ -12,10 +12,11 @@ ghost use Rattle.log_lines.specs.Reading.{clock_at};
 ghost use Rattle.log_lines.specs.Drafts.{Gives};
 ghost use Rattle.log_lines.specs.Frames.{FrameFits, clock_front};
 
+use crate::counts::count_at;
 use crate::draft::LineError;
 use crate::values::sized_clock_at;
 use crate::words::text_at;
-use pota_base::{NoMemory, number_at};
+use pota_base::NoMemory;
 use std::alloc::Global;
 
 /// A clock that was read, and its text before and behind one of its counts.
@@ -120,10 +121,10 @@ impl Frame {
             ≡ Some (set self.now.counts.items self.now.place x.0, x.1.now)) }
     {
         let own = bytes.strip_prefix(self.before.as_slice())?;
-        let (count, after) = number_at(u64::from(u32::MAX), own)?;
+        let (count, after) = count_at(own)?;
         let rest = after.strip_prefix(self.behind.as_slice())?;
         let action = text_at(b" ", rest)?;
-        Some((count as u32, rest))
+        Some((count, rest))
     }
 
     // The clock at the front and the bytes behind it, where it differs in its own count alone.

@@ -4,6 +4,7 @@
 //! faster and change nothing of what is read: `read_event` says the same whatever they are.
 #![tactic(auto)]
 
+mod counts;
 mod draft;
 mod frames;
 mod lines;

@@ -5,9 +5,10 @@ ghost use Rattle.log_lines.specs.Reading.{value_at, names_from, values_from, val
 ghost use Rattle.log_lines.specs.Reading.{clock_at};
 ghost use Rattle.log_lines.specs.Drafts.{Gives, value_of, values_of, value_seen, texts_of};
 
+use crate::counts::count_at;
 use crate::draft::{LineError, Setting};
 use crate::words::{are_distinct, spaced_name_at, text_at};
-use pota_base::{number_at, signed_at};
+use pota_base::signed_at;
 use std::alloc::Global;
 
 /// ` NAME=INT` at the front, and the bytes after it.
@@ -86,8 +87,8 @@ fn clock_from(
     clock.push(first)?;
     let mut rest = bytes;
     while let Some(behind) = text_at(b",", rest) {
-        let (number, after) = number_at(u64::from(u32::MAX), behind).ok_or(LineError::Malformed)?;
-        clock.push(number as u32)?;
+        let (number, after) = count_at(behind).ok_or(LineError::Malformed)?;
+        clock.push(number)?;
         rest = after;
     }
     Ok((clock, rest))
@@ -103,8 +104,8 @@ pub(crate) fn sized_clock_at(
 ) -> Result<(Vec<u32>, &[u8]), LineError>
     ensures { Gives (λ x. (x.0.items, x.1.now)) result (clock_at bytes.now) }
 {
-    let (first, rest) = number_at(u64::from(u32::MAX), bytes).ok_or(LineError::Malformed)?;
-    clock_from(alloc, width, first as u32, rest)
+    let (first, rest) = count_at(bytes).ok_or(LineError::Malformed)?;
+    clock_from(alloc, width, first, rest)
 }
 
 /// The clock at the front, and the bytes after its last component.
