@@ -66,6 +66,22 @@ fn a_message(alloc: Global, n: u32) -> Result<List<Event>, NoMemory>
     Ok(batch)
 }
 
+// So many events of the first of two processes.
+fn many_events(alloc: Global, count: u32) -> Result<List<Event>, NoMemory>
+    requires { count ≤ 50000 }
+    ensures fits { IfOk result (λ batch. AllByRecursion (EventFits 2) batch) }
+    ensures known { IfOk result (λ batch. (h : Header) → length h.procs ≡ 2
+        → AllByRecursion (IsKnown h) batch) }
+    ensures len { IfOk result (λ batch. length batch ≤ 50000) }
+{
+    let mut batch = List::new(alloc);
+    for before in 0..count {
+        let clock = [before + 1, 0];
+        add(alloc, &mut batch, 0, before + 3, &clock, Kind::Internal)?;
+    }
+    Ok(batch)
+}
+
 // `procs P Q`
 fn two_processes(alloc: Global) -> Result<Option<Header>, NoMemory>
     ensures { IfOk result (λ o. IfSome o (λ h. IsHeader h × (length h.procs ≡ 2))) }
@@ -86,7 +102,7 @@ fn two_processes(alloc: Global) -> Result<Option<Header>, NoMemory>
 fn trace_for(alloc: Global, batch: &List<Event>) -> Result<Option<Trace>, NoMemory>
     requires fits { AllByRecursion (EventFits 2) batch.now }
     requires known { (h : Header) → length h.procs ≡ 2 → AllByRecursion (IsKnown h) batch.now }
-    requires len { length batch.now ≤ 2 }
+    requires len { length batch.now ≤ 50000 }
     ensures { IfOk result (λ o. IfSome o (λ trace. FitsTrace trace batch.now)) }
 {
     match two_processes(alloc)? {
@@ -127,5 +143,20 @@ fn a_batch_with_a_fault_is_not_taken(rt: HostRuntime) -> Result<(), Fail> {
     assert!(rt; !trace.is_spent());
     assert_eq!(rt; trace.batches(), 0);
     assert_eq!(rt; trace.order().shape().events(), 0);
+    Ok(())
+}
+
+// Room for all events of a large batch is taken at once, and its memory given back piece by piece.
+#[test]
+fn a_large_batch_is_taken(rt: HostRuntime) -> Result<(), Fail> {
+    let batch = many_events(rt.alloc(), 10_000)?;
+    let mut trace = trace_for(rt.alloc(), &batch)?.ok_or("names")?;
+    assert!(rt; trace.extend(batch).is_ok());
+    assert_eq!(rt; trace.states().shape().lens(), [10_000, 0].as_slice());
+    let middle = EventId {
+        process: 0,
+        position: 4_097,
+    };
+    assert_eq!(rt; trace.event(middle).line, 4_099);
     Ok(())
 }
