@@ -1,17 +1,16 @@
 #!/usr/bin/env bash
-# Prints the times of reading and of checking a log apart, and the peak of the memory, the log's own bytes within: of 32 processes
-# and 50,000 events in one batch, of the same with a batch behind each event, and of 64 MiB of empty batches. Then the time that
-# the program takes for the texts that cost the most. It works on a scratch copy of the crates, where what is timed is proved and
-# built. With the word `log` it stops before the program is built.
+# Prints the times of reading and of checking a log apart, and the peak of the memory: of 32 processes and 50,000 events in one
+# batch, of the same with a batch behind each event, and of 64 MiB of empty batches. As in the product, a log comes in pieces of
+# 64 KiB, and what a piece gives is put into the trace before the next one is read. Then the time that the program takes for the
+# texts that cost the most. It works on a scratch copy of the crates, where what is timed is proved and built. With the word `log`
+# it stops before the program is built.
 set -e
 here=$(cd "$(dirname "$0")" && pwd)
 . "$here/../scratch.sh"
-scratch_crates $(crates_below vector_clock log_fitting)
-(cd "$here/../../crates/worked_rows" && tar cf - --exclude=out .) | (mkdir "$scratch/crates/worked_rows"
-    tar xf - -C "$scratch/crates/worked_rows")
-echo "worked_rows: pota_base event_log vector_clock log_fitting" >> "$scratch/crates.txt"
-cd "$scratch/crates/worked_rows"
-rm -r data stdout src/verdict.rt src/generated.rt
+scratch_crates $(crates_below trace_growth log_fitting)
+mkdir -p "$scratch/crates/log_times/src"
+echo "log_times: $(cut -d: -f1 "$scratch/crates.txt" | tr '\n' ' ')anyhow" >> "$scratch/crates.txt"
+cd "$scratch/crates/log_times"
 cp "$here/main.txt" src/main.rt
 
 # The clocks are those of Fidge and Mattern; each third event sends to the next process, whose next event receives.
@@ -39,13 +38,11 @@ awk 'BEGIN {
 sed '/^ev /a batch' "$scratch/one_batch" > "$scratch/a_batch_an_event"
 header='pota-log 1\nprocs P\nvars P x=0\n'
 (printf "$header"; yes batch | head -n 10999999; echo end) > "$scratch/empty_batches"
-ln -s "$scratch/one_batch" log
-rt run > /dev/null
+rt run > /dev/null < "$scratch/one_batch"
 for log in one_batch a_batch_an_event empty_batches; do
     echo "$log: $(wc -c < "$scratch/$log") bytes"
-    ln -sf "$scratch/$log" log
     for _ in 1 2 3; do
-        /usr/bin/time -f 'peak memory: %M KiB' ./out/worked_rows
+        /usr/bin/time -f 'peak memory: %M KiB, processor: %U s and %S s of the system' ./out/log_times < "$scratch/$log"
     done
 done
 [ "$1" != log ] || exit 0
