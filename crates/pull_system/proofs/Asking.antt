@@ -1,26 +1,20 @@
 -- Rows of asks: made by one pull after another, read by their place, and counted.
-use Rattle.std.proofs.Common.{◌≡◌, ℕ, zero, suc, ◌+◌, ◌-◌, ◌*◌, ◌^◌, ◌<◌, ◌≤◌, ◌⊎◌, inl, inr, Some, List, [], ◌∷◌, ◌++◌, length, get_or, set, max, take, drop, replicate, refl, arith, sym, ap, ◌∙◌, subst, length-append, get_or-set_same}
-use Rattle.std.proofs.lemmas.List.{length-set, length-take, length-drop, get_or-take, get_or-drop, get_or-append-add, get_or_past}
-use Rattle.std.proofs.Math.ListN.{get_or-append}
+use Rattle.std.proofs.Common.{◌≡◌, ℕ, zero, suc, ◌+◌, ◌-◌, ◌*◌, ◌/◌, ◌^◌, ◌<◌, ◌≤◌, ◌⊎◌, inl, inr, Some, List, [], ◌∷◌, ◌++◌, length, get_or, set, max, take, drop, replicate, refl, arith, sym, ap, ◌∙◌, subst, length-append, get_or-set_same}
+use Rattle.std.proofs.lemmas.List.{length-set, length-replicate, length-take, length-drop, get_or-take, get_or-drop}
+use Rattle.std.proofs.Math.Seq.{take-append_seam}
 use Rattle.std.proofs.Math.Nat.{mul-le-mul_left}
+use Rattle.std.proofs.lemmas.Nat.{div-mul-add}
+use Rattle.std.proofs.lemmas.Bool.{cases_eq}
 use Rattle.std.specs.Prelude.{slice_index, slice_get}
 use Rattle.std.proofs.lemmas.Option.{get_or_from_slice_get}
 use Rattle.std.specs.List.{slice_range}
 use Rattle.pull_system.specs.declared.pull.Pull.{Pull}
-use Rattle.pull_system.specs.System.{SystemView, IsSystem, IsPull, pull_at, source_of, target_of, ask, no_pull, numbers_from, AreBySource}
-use Rattle.pull_system.specs.Asks.{IsAskedBy, AreAsks, AreAskRows, AreAllAsks, AreAsksSoFar}
+use Rattle.pull_system.specs.System.{SystemView, IsSystem, IsPull, pull_at, target_of, ask, numbers_from, AreBySource}
+use Rattle.pull_system.specs.Asks.{IsAskedBy, AreAsks, AreAskRows, AreAllAsks, HasAsked, AreRowsSoFar}
 use Rattle.pull_system.proofs.Climbing.{set_case}
 use Rattle.pull_system.proofs.Pulls.{pull-of}
 use Rattle.pull_system.proofs.Numbers.{IsNumber, numbers_from-has, numbers_from-is, numbers_case, source_in}
 use Rattle.pull_system.proofs.Sums.{component_le}
-
-pub asks_none : (system : SystemView) (process x : ℕ) (numbers : List ℕ) → AreAsksSoFar system process x numbers 0 (replicate 32 0)
-asks_none system process x numbers = record { size = refl; covers = λ i below. absurd (omega arith); asked = λ target. inl (zeros 32 target) }
-  where
-    zeros : (n i : ℕ) → slice_index (replicate n 0) i ≡ 0
-    zeros zero i = refl
-    zeros (suc n) zero = refl
-    zeros (suc n) (suc i) = zeros n i
 
 within_one : (i n : ℕ) → i < n + 1 → (i < n) ⊎ (i ≡ n)
 within_one i n h = grind arith
@@ -32,100 +26,63 @@ asked_along : (system : SystemView) (process x s t m n : ℕ) → s ≡ t → m 
 asked_along system process x s t m n same_target same asked =
     record { k = asked.k; there = asked.there; from = asked.from; to = asked.to ∙ same_target; asks = asked.asks ∙ same }
 
--- one pull more is gathered into a row of asks
-pub asks_more : (system : SystemView) (process x : ℕ) (numbers : List ℕ) (count k : ℕ) (asks now : List ℕ) → AreAsksSoFar system process x numbers count asks → k ≡ get_or numbers count 0 → k < length system.pulls
-    → source_of system k ≡ process → target_of system k < 32 → now ≡ set asks (target_of system k) (max (get_or asks (target_of system k) 0) (ask system k x)) → AreAsksSoFar system process x numbers (count + 1) now
-asks_more system process x numbers count k asks now before is there from few same = record {
-  size = ap length same ∙ length-set asks target m ∙ before.size;
-  covers = λ i below. elim (within_one i count below) [
-    | inl less ↦ omega (arith, before.covers i less, more (target_of system (get_or numbers i 0)))
-    | inr last ↦ let P : ℕ → Type 0 = λ j. ask system j x ≤ get_or now (target_of system j) 0 in subst P (is ∙ ap (λ j. get_or numbers j 0) (sym last)) (omega (arith, here))
+-- the places of two words in rows of one size
+place_is : (n x y i j : ℕ) → i < n → j < n → x * n + i ≡ y * n + j → (x ≡ y) × (i ≡ j)
+place_is n x y i j lt less same =
+    let rows : x ≡ y = sym (div-mul-add x n i lt) ∙ ap (λ (p : ℕ). p / n) same ∙ div-mul-add y n j less in
+    (rows, omega (arith, same, ap (λ (z : ℕ). z * n) rows))
+
+keep_at : (now new : List ℕ) (place value i : ℕ) → new ≡ set now place value → (i ≡ place → ⊥) → get_or new i 0 ≡ get_or now i 0
+keep_at now new place value i same other =
+    ap (λ xs. get_or xs i 0) same ∙ elim (set_case now place value i 0) [ inl e ↦ e | inr e ↦ absurd (other e.0) ]
+
+-- the rows of the first values have what the pull asks
+pub record AsksUpTo (pull : Pull) (procs count : ℕ) (before now : List ℕ) : Type 0 where
+  pub size : length now ≡ length before
+  pub raised : (x : ℕ) → x < count → get_or now (x * procs + pull.dst) 0 ≡ max (get_or before (x * procs + pull.dst) 0) (get_or pull.table x 0)
+  pub later : (x : ℕ) → count ≤ x → get_or now (x * procs + pull.dst) 0 ≡ get_or before (x * procs + pull.dst) 0
+  pub others : (x target : ℕ) → target < procs → (target ≡ pull.dst → ⊥) → get_or now (x * procs + target) 0 ≡ get_or before (x * procs + target) 0
+
+pub upto_none : (pull : Pull) (procs : ℕ) (rows : List ℕ) → AsksUpTo pull procs 0 rows rows
+upto_none pull procs rows = record { size = refl; raised = λ x below. absurd (omega arith); later = λ x _. refl; others = λ x target _ _. refl }
+
+pub upto_more : (pull : Pull) (procs count : ℕ) (before now new : List ℕ) → AsksUpTo pull procs count before now → pull.dst < procs → count * procs + pull.dst < length now
+    → new ≡ set now (count * procs + pull.dst) (max (get_or now (count * procs + pull.dst) 0) (get_or pull.table count 0)) → AsksUpTo pull procs (count + 1) before new
+upto_more pull procs count before now new upto few room same = record {
+  size = ap length same ∙ length-set now place value ∙ upto.size;
+  raised = λ x below. elim (within_one x count below) [
+    | inl less ↦ keep x (λ e. omega (arith, less, e)) ∙ upto.raised x less
+    | inr last ↦
+        let P : ℕ → Type 0 = λ y. get_or new (y * procs + pull.dst) 0 ≡ max (get_or before (y * procs + pull.dst) 0) (get_or pull.table y 0) in
+        subst P (sym last) (ap (λ xs. get_or xs place 0) same ∙ get_or-set_same now place value 0 room ∙ ap (λ m. max m (get_or pull.table count 0)) (upto.later count (omega arith)))
   ];
-  asked = λ t. elim (set_case asks target m t 0) [
-    | inl e ↦
-        let keep : get_or now t 0 ≡ get_or asks t 0 = ap (λ xs. get_or xs t 0) same ∙ e in
-        elim (before.asked t) [ inl none ↦ inl (keep ∙ none) | inr by ↦ inr (asked_along system process x t t _ _ refl (sym keep) by) ]
-    | inr e ↦
-        let new : get_or now t 0 ≡ m = ap (λ xs. get_or xs t 0) same ∙ e.1 in
-        elim (max_case (get_or asks target 0) (ask system k x)) [
-          | inr by_pull ↦ inr record { k = k; there = there; from = from; to = sym e.0; asks = sym (new ∙ by_pull) }
-          | inl as_before ↦
-              elim (before.asked target) [
-                | inl none ↦ inl (new ∙ as_before ∙ none)
-                | inr by ↦ inr (asked_along system process x target t _ _ (sym e.0) (sym (new ∙ as_before)) by)
-              ]
-        ]
-  ];
+  later = λ x le. keep x (λ e. omega (arith, le, e)) ∙ upto.later x (omega (arith, le));
+  others = λ x target there other. keep_at now new place value (x * procs + target) same (λ e. other (place_is procs x count target pull.dst there few e).1) ∙ upto.others x target there other;
 }
   where
-    target : ℕ
-    target = target_of system k
+    place : ℕ
+    place = count * procs + pull.dst
 
-    m : ℕ
-    m = max (get_or asks target 0) (ask system k x)
+    value : ℕ
+    value = max (get_or now place 0) (get_or pull.table count 0)
 
-    here : get_or now target 0 ≡ m
-    here = ap (λ xs. get_or xs target 0) same ∙ get_or-set_same asks target m 0 (omega (arith, before.size))
+    keep : (x : ℕ) → (x ≡ count → ⊥) → get_or new (x * procs + pull.dst) 0 ≡ get_or now (x * procs + pull.dst) 0
+    keep x other = keep_at now new place value (x * procs + pull.dst) same (λ e. other (place_is procs x count pull.dst pull.dst few few e).0)
 
-    more : (i : ℕ) → get_or asks i 0 ≤ get_or now i 0
-    more i = elim (set_case asks target m i 0) [
-      | inl e ↦ omega (arith, ap (λ xs. get_or xs i 0) same, e)
-      | inr e ↦ omega (arith, ap (λ xs. get_or xs i 0) same, e.1, ap (λ j. get_or asks j 0) e.0)
-    ]
+pub upto_whole : (pull : Pull) (procs count : ℕ) (before now : List ℕ) → AsksUpTo pull procs count before now → length pull.table ≤ count → HasAsked pull procs before now
+upto_whole pull procs count before now upto whole = record { size = upto.size; raised = λ x below. upto.raised x (omega (arith, below, whole)); others = upto.others }
 
--- with all pulls from the process gathered, the first numbers are its row of asks
-pub asks_whole : (system : SystemView) → IsSystem system → (process x : ℕ) (numbers : List ℕ) (count : ℕ) (asks row : List ℕ) → AreAsksSoFar system process x numbers count asks → numbers ≡ numbers_from system.pulls process (length system.pulls)
-    → count ≡ length numbers → row ≡ take (length system.lens) asks → AreAsks system process x row
-asks_whole system is process x numbers count asks row all same whole cut = record {
-  size = omega (arith, ap length cut, length-take (length system.lens) asks, all.size, is.shape.few);
-  covers = λ k there from.
-      let at = numbers_from-has system.pulls process (length system.pulls) k there from in
-      let found : get_or numbers at.index 0 ≡ k = ap (λ ns. get_or ns at.index 0) same ∙ at.is in
-      let p : IsPull system.lens (pull_at system k) = pull-of system is k there in
-      let P : ℕ → Type 0 = λ j. ask system j x ≤ get_or asks (target_of system j) 0 in
-      let covered : ask system k x ≤ get_or asks (target_of system k) 0 = subst P found (all.covers at.index (omega (arith, whole, at.there, ap length same))) in
-      omega (arith, covered, read (target_of system k) p.target);
-  asked = λ target there. elim (all.asked target) [ inl none ↦ inl (read target there ∙ none) | inr by ↦ inr (asked_along system process x target target _ _ refl (sym (read target there)) by) ];
+zeros : (n i : ℕ) → slice_index (replicate n 0) i ≡ 0
+zeros zero i = refl
+zeros (suc n) zero = refl
+zeros (suc n) (suc i) = zeros n i
+
+pub rows_none : (system : SystemView) (process values : ℕ) (numbers rows : List ℕ) → rows ≡ replicate (values * length system.lens) 0 → AreRowsSoFar system process values numbers 0 rows
+rows_none system process values numbers rows same = record {
+  size = ap length same ∙ length-replicate (values * length system.lens) 0;
+  covers = λ x i inside below. absurd (omega arith);
+  asked = λ x target inside there. inl (ap (λ xs. get_or xs (x * length system.lens + target) 0) same ∙ zeros (values * length system.lens) (x * length system.lens + target));
 }
-  where
-    read : (i : ℕ) → i < length system.lens → get_or row i 0 ≡ get_or asks i 0
-    read i there = ap (λ xs. get_or xs i 0) cut ∙ get_or-take (length system.lens) asks i 0 there
-
-pub rows_none : (system : SystemView) (process : ℕ) → AreAskRows system process 0 []
-rows_none system process = record { size = omega arith; covers = λ x k below there from. absurd (omega arith); asked = λ x target below there. absurd (omega arith) }
-
--- one row of asks more
-pub rows_more : (system : SystemView) → IsSystem system → (process count : ℕ) (rows asks now : List ℕ) → AreAskRows system process count rows → AreAsks system process count asks → now ≡ rows ++ asks → AreAskRows system process (count + 1) now
-rows_more system is process count rows asks now before row same = record {
-  size = omega (arith, ap length same, length-append rows asks, before.size, row.size);
-  covers = λ x k below there from.
-      let p : IsPull system.lens (pull_at system k) = pull-of system is k there in
-      let P : ℕ → Type 0 = λ y. ask system k y ≤ get_or now (y * n + target_of system k) 0 in
-      elim (within_one x count below) [
-        | inl less ↦ omega (arith, before.covers x k less there from, old x (target_of system k) less p.target)
-        | inr last ↦ subst P (sym last) (omega (arith, row.covers k there from, new (target_of system k)))
-      ];
-  asked = λ x target below there.
-      let P : ℕ → Type 0 = λ y. (get_or now (y * n + target) 0 ≡ 0) ⊎ IsAskedBy system process y target (get_or now (y * n + target) 0) in
-      elim (within_one x count below) [
-        | inl less ↦ along x target _ _ (old x target less there) (before.asked x target less there)
-        | inr last ↦ subst P (sym last) (along count target _ _ (new target) (row.asked target there))
-      ];
-}
-  where
-    n : ℕ
-    n = length system.lens
-
-    along : (x target a b : ℕ) → a ≡ b → (b ≡ 0) ⊎ IsAskedBy system process x target b → (a ≡ 0) ⊎ IsAskedBy system process x target a
-    along x target a b e (inl none) = inl (e ∙ none)
-    along x target a b e (inr by) = inr (asked_along system process x target target _ _ refl (sym e) by)
-
-    old : (x target : ℕ) → x < count → target < n → get_or now (x * n + target) 0 ≡ get_or rows (x * n + target) 0
-    old x target less there =
-        ap (λ xs. get_or xs (x * n + target) 0) same ∙ get_or-append rows asks 0 (x * n + target) (omega (arith, before.size, mul-le-mul_left n (let h : x + 1 ≤ count = omega arith in h)))
-
-    new : (target : ℕ) → get_or now (count * n + target) 0 ≡ get_or asks target 0
-    new target = ap (λ xs. get_or xs (count * n + target) 0) same ∙ ap (λ i. get_or (rows ++ asks) (i + target) 0) (sym before.size) ∙ get_or-append-add rows asks target 0
 
 -- the row of asks of one value, read from all of them
 pub row_read : (system : SystemView) → IsSystem system → (process count x : ℕ) (rows asks : List ℕ) → AreAskRows system process count rows → x < count → asks ≡ slice_range rows (x * length system.lens) (x * length system.lens + length system.lens)
@@ -197,35 +154,94 @@ pub source_numbers : (system : SystemView) (by_source : List (List ℕ)) (proces
     → numbers ≡ numbers_from system.pulls process (length system.pulls)
 source_numbers system by_source process numbers item are there found same = same ∙ sym (get_or_from_slice_get by_source process item [] found) ∙ are.each process there
 
--- a pull that was read, its entry included
-pub record IsRead (system : SystemView) (process k x : ℕ) (pull : Pull) : Type 0 where
+-- the rows as they stand once they were written in place
+pub written_back : (len : ℕ) (now before : List ℕ) → len ≡ length before → length now ≡ length before → take len (now ++ drop (length now) before) ≡ now
+written_back len now before whole same =
+    ap (λ (n : ℕ). take n (now ++ drop (length now) before)) (whole ∙ sym same) ∙ take-append_seam now (drop (length now) before)
+
+-- a pull that was read
+pub record IsRead (system : SystemView) (process k : ℕ) (pull : Pull) : Type 0 where
   pub is : pull_at system k ≡ pull
   pub fits : IsPull system.lens pull
-  pub entry : x < length pull.table
-  pub few : pull.dst < 32
-  pub small : get_or pull.table x 0 < 2 ^ 16
+  pub size : length pull.table ≡ get_or system.lens process 0 + 2
+  pub small : (x : ℕ) → get_or pull.table x 0 < 2 ^ 16
 
-pub read_pull : (system : SystemView) → IsSystem system → (process k x : ℕ) → IsNumber system.pulls process (length system.pulls) k → x ≤ get_or system.lens process 0 + 1 → (pull : Pull) → pull_at system k ≡ pull → IsRead system process k x pull
-read_pull system is process k x number less pull same =
+pub read_pull : (system : SystemView) → IsSystem system → (process k : ℕ) → IsNumber system.pulls process (length system.pulls) k → (pull : Pull) → pull_at system k ≡ pull → IsRead system process k pull
+read_pull system is process k number pull same =
     let P : Pull → Type 0 = IsPull system.lens in
     let p : IsPull system.lens pull = subst P same (pull-of system is k number.below) in
     let from : pull.src ≡ process = ap (λ q. q.src) (sym same) ∙ number.from in
     record {
       is = same;
       fits = p;
-      entry = omega (arith, p.size, ap (λ i. get_or system.lens i 0) from);
-      few = omega (arith, p.target, is.shape.few);
-      small = omega (arith, p.table.within x, is.shape.events, component_le system.lens pull.dst);
+      size = omega (arith, p.size, ap (λ i. get_or system.lens i 0) from);
+      small = λ x. omega (arith, p.table.within x, is.shape.events, component_le system.lens pull.dst);
     }
 
 -- one pull more was read
-pub asks_next : (system : SystemView) (process x : ℕ) (numbers : List ℕ) (count : ℕ) (asks now : List ℕ) (pull : Pull) → AreAsksSoFar system process x numbers count asks → IsNumber system.pulls process (length system.pulls) (get_or numbers count 0)
-    → IsRead system process (get_or numbers count 0) x pull → now ≡ set asks pull.dst (max (get_or asks pull.dst 0) (get_or pull.table x 0)) → AreAsksSoFar system process x numbers (count + 1) now
-asks_next system process x numbers count asks now pull before number read same =
-    let k : ℕ = get_or numbers count 0 in
-    let to : pull.dst ≡ target_of system k = ap (λ q. q.dst) (sym read.is) in
-    asks_more system process x numbers count k asks now before refl number.below number.from (omega (arith, read.few))
-    (same ∙ ap (λ t. set asks t (max (get_or asks t 0) (get_or pull.table x 0))) to ∙ ap (λ q. set asks (target_of system k) (max (get_or asks (target_of system k) 0) (get_or q.table x 0))) (sym read.is))
+pub rows_more : (system : SystemView) → IsSystem system → (process values : ℕ) (numbers : List ℕ) (count : ℕ) (rows now : List ℕ) (pull : Pull) → AreRowsSoFar system process values numbers count rows
+    → numbers ≡ numbers_from system.pulls process (length system.pulls) → count < length numbers → values ≡ get_or system.lens process 0 + 2 → IsRead system process (get_or numbers count 0) pull → HasAsked pull (length system.lens) rows now
+    → AreRowsSoFar system process values numbers (count + 1) now
+rows_more system is process values numbers count rows now pull before same below whole read asked = record {
+  size = asked.size ∙ before.size;
+  covers = λ x i inside less. elim (within_one i count less) [
+    | inl earlier ↦
+        let number = number_is system process i numbers same (omega (arith, earlier, below)) in
+        omega (arith, before.covers x i inside earlier, more x (target_of system (get_or numbers i 0)) inside (pull-of system is (get_or numbers i 0) number.below).target)
+    | inr last ↦
+        let P : ℕ → Type 0 = λ j. ask system (get_or numbers j 0) x ≤ get_or now (x * n + target_of system (get_or numbers j 0)) 0 in
+        subst P (sym last) (here x inside)
+  ];
+  asked = λ x target inside there. elim (cases_eq target pull.dst) [
+    | inr other ↦ along x target _ _ (asked.others x target there other) (before.asked x target inside there)
+    | inl at ↦
+        let new : get_or now (x * n + target) 0 ≡ max (get_or rows (x * n + target) 0) (get_or pull.table x 0) =
+        let P : ℕ → Type 0 = λ t. get_or now (x * n + t) 0 ≡ max (get_or rows (x * n + t) 0) (get_or pull.table x 0) in subst P (sym at) (asked.raised x (omega (arith, inside, whole, read.size))) in
+        elim (max_case (get_or rows (x * n + target) 0) (get_or pull.table x 0)) [
+          | inl as_before ↦ along x target _ _ (new ∙ as_before) (before.asked x target inside there)
+          | inr by_pull ↦ inr record { k = k; there = number_k.below; from = number_k.from; to = ap (λ q. q.dst) read.is ∙ sym at; asks = ap (λ q. get_or q.table x 0) read.is ∙ sym (new ∙ by_pull) }
+        ]
+  ];
+}
+  where
+    n : ℕ
+    n = length system.lens
+
+    k : ℕ
+    k = get_or numbers count 0
+
+    number_k : IsNumber system.pulls process (length system.pulls) (get_or numbers count 0)
+    number_k = number_is system process count numbers same below
+
+    along : (x target a b : ℕ) → a ≡ b → (b ≡ 0) ⊎ IsAskedBy system process x target b → (a ≡ 0) ⊎ IsAskedBy system process x target a
+    along x target a b e (inl none) = inl (e ∙ none)
+    along x target a b e (inr by) = inr (asked_along system process x target target _ _ refl (sym e) by)
+
+    more : (x target : ℕ) → x < values → target < n → get_or rows (x * n + target) 0 ≤ get_or now (x * n + target) 0
+    more x target inside there = elim (cases_eq target pull.dst) [
+      | inr other ↦ omega (arith, asked.others x target there other)
+      | inl at ↦
+          let P : ℕ → Type 0 = λ t. get_or rows (x * n + t) 0 ≤ get_or now (x * n + t) 0 in
+          subst P (sym at) (omega (arith, asked.raised x (omega (arith, inside, whole, read.size))))
+    ]
+
+    here : (x : ℕ) → x < values → ask system (get_or numbers count 0) x ≤ get_or now (x * n + target_of system (get_or numbers count 0)) 0
+    here x inside =
+        let P : Pull → Type 0 = λ q. get_or q.table x 0 ≤ get_or now (x * n + q.dst) 0 in
+        subst P (sym read.is) (omega (arith, asked.raised x (omega (arith, inside, whole, read.size))))
+
+-- with all pulls from the process read, the rows are those of the process
+pub rows_whole : (system : SystemView) (process values : ℕ) (numbers : List ℕ) (count : ℕ) (rows : List ℕ) → AreRowsSoFar system process values numbers count rows → numbers ≡ numbers_from system.pulls process (length system.pulls) → length numbers ≤ count
+    → AreAskRows system process values rows
+rows_whole system process values numbers count rows all same whole = record {
+  size = all.size;
+  covers = λ x k below there from.
+      let at = numbers_from-has system.pulls process (length system.pulls) k there from in
+      let found : get_or numbers at.index 0 ≡ k = ap (λ ns. get_or ns at.index 0) same ∙ at.is in
+      let P : ℕ → Type 0 = λ j. ask system j x ≤ get_or rows (x * length system.lens + target_of system j) 0 in
+      subst P found (all.covers x at.index below (omega (arith, whole, at.there, ap length same)));
+  asked = all.asked;
+}
 
 -- where the row of one value stands among the rows of asks that were read
 pub record HasAsks (system : SystemView) (process x procs : ℕ) (rows : List ℕ) : Type 0 where

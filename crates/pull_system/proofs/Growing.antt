@@ -1,5 +1,5 @@
 -- The least rows of a system are below those of one that it grows into, row by row.
-use Rattle.std.proofs.Common.{◌≡◌, ℕ, zero, suc, ◌+◌, ◌-◌, ◌*◌, ◌<◌, ◌≤◌, ◌⊎◌, inl, inr, min, List, [], ◌∷◌, Bool, Option, Some, None, length, sum, get_or, drop, drop-cons, refl, arith, sym, ap, ◌∙◌, subst}
+use Rattle.std.proofs.Common.{◌≡◌, ℕ, zero, suc, ◌+◌, ◌-◌, ◌<◌, ◌≤◌, ◌⊎◌, inl, inr, min, List, [], ◌∷◌, Bool, Option, Some, None, length, sum, get_or, drop, drop-cons, refl, arith, sym, ap, ◌∙◌, subst}
 use Rattle.std.specs.Prelude.{nat_le, if◌then◌else◌}
 use Rattle.std.proofs.lemmas.Bool.Decides.{leb_tells}
 use Rattle.std.proofs.lemmas.List.{get_or_past, drop_all}
@@ -8,7 +8,7 @@ use Rattle.pota_base.specs.Shape.{IsShape}
 use Rattle.pull_system.specs.Vector.{IsWithin, IsVector}
 use Rattle.pull_system.specs.System.{SystemView, IsSystem, IsPull, IsClosedFrom, IsLeastFrom, pull_at, source_of, target_of, ask}
 use Rattle.pull_system.specs.Rows.{RowsView, AreRows, AreLeastRows, start_of, row_at}
-use Rattle.pull_system.specs.Growth.{DidNotFall, PullGrows, Grows, old_row_from, old_row, kept_or_start, grown_row, grown_words}
+use Rattle.pull_system.specs.Growth.{PullGrows, Grows, old_row_from, old_row, kept_or_start, grown_row, grown_words}
 use Rattle.pull_system.specs.Climb.{IsBelowLeast}
 use Rattle.pull_system.proofs.Pulls.{pull-of}
 use Rattle.pull_system.proofs.Climbing.{lt_or_le}

@@ -1,5 +1,5 @@
 -- The starts of the rows, by their places.
-use Rattle.std.proofs.Common.{◌≡◌, ℕ, zero, suc, ◌+◌, ◌-◌, ◌*◌, ◌<◌, ◌≤◌, ◌⊎◌, inl, inr, Bool, List, [], ◌∷◌, ◌++◌, length, sum, get_or, set, take, drop, refl, arith, length-append, ap, ◌∙◌, sym}
+use Rattle.std.proofs.Common.{◌≡◌, ℕ, zero, suc, ◌+◌, ◌-◌, ◌*◌, ◌<◌, ◌≤◌, ◌⊎◌, inl, inr, Bool, List, [], ◌∷◌, ◌++◌, length, sum, get_or, set, take, drop, replicate, refl, arith, length-append, append-nil, ap, ◌∙◌, sym}
 use Rattle.std.specs.Prelude.{nat_le, if◌then◌else◌}
 use Rattle.std.proofs.lemmas.Bool.Decides.{leb_tells}
 use Rattle.std.proofs.lemmas.List.{get_or-append-add, get_or-take, get_or-drop, length-take, length-drop, ext_get_or}
@@ -135,3 +135,83 @@ first_rows-within f g size zero size_f size_g within i = omega arith
 first_rows-within f g size (suc rows) size_f size_g within i =
     append_within (first_rows f rows) (first_rows g rows) (f rows) (g rows) (length-first_rows f size rows (λ r _. size_f r) ∙ sym (length-first_rows g size rows (λ r _. size_g r)))
     (first_rows-within f g size rows size_f size_g within) (within rows) i
+
+start_zeros : (lens : List ℕ) → start_of lens 0 ≡ replicate (length lens) 0
+start_zeros [] = refl
+start_zeros (len ∷ lens) = in_head len lens 0 (omega arith) ∙ ap (λ (xs : List ℕ). 0 ∷ xs) (start_zeros lens)
+
+-- the row is past the first processes, by what is left
+pub record IsPast (lens : List ℕ) (row count left : ℕ) : Type 0 where
+  pub start : start_of lens row ≡ replicate count 0 ++ start_of (drop count lens) left
+  pub few : count ≤ length lens
+
+pub past_none : (lens : List ℕ) (row : ℕ) → IsPast lens row 0 row
+past_none lens row = record { start = refl; few = omega arith }
+
+-- the start of a row among the events of the first process that is left
+start_here : (lens : List ℕ) (count left : ℕ) → count < length lens → left ≤ get_or lens count 0
+    → start_of (drop count lens) left ≡ set (replicate (length lens - count) 0) 0 left
+start_here [] count left there within = absurd (omega arith)
+start_here (len ∷ lens) zero left there within =
+    let whole : suc (length lens) ≡ length (len ∷ lens) - 0 = omega arith in
+    in_head len lens left within ∙ ap (λ (xs : List ℕ). left ∷ xs) (start_zeros lens) ∙ ap (λ (n : ℕ). set (replicate n 0) 0 left) whole
+start_here (len ∷ lens) (suc count) left there within =
+    let rest : length lens - count ≡ length (len ∷ lens) - suc count = omega arith in
+    start_here lens count left (omega (arith, there)) within ∙ ap (λ (n : ℕ). set (replicate n 0) 0 left) rest
+
+-- what is left is past one process more
+pub past_more : (lens : List ℕ) (row count left : ℕ) → IsPast lens row count left → count < length lens → get_or lens count 0 < left
+    → IsPast lens row (count + 1) (left - get_or lens count 0)
+past_more lens row count left past there over = record {
+  start = past.start ∙ ap (λ (xs : List ℕ). replicate count 0 ++ xs) (next lens count left there over) ∙ one_more count _;
+  few = omega (arith, there);
+}
+  where
+    next : (lens : List ℕ) (count left : ℕ) → count < length lens → get_or lens count 0 < left
+        → start_of (drop count lens) left ≡ 0 ∷ start_of (drop (count + 1) lens) (left - get_or lens count 0)
+    next [] count left there over = absurd (omega arith)
+    next (len ∷ lens) zero left there over = in_tail len lens left (left - len) (omega arith) (omega arith)
+    next (len ∷ lens) (suc count) left there over =
+        let more : suc (count + 1) ≡ suc count + 1 = omega arith in
+        next lens count left (omega (arith, there)) over ∙ ap (λ (n : ℕ). 0 ∷ start_of (drop n (len ∷ lens)) (left - get_or lens count 0)) more
+
+    one_more : (n : ℕ) (xs : List ℕ) → replicate n 0 ++ 0 ∷ xs ≡ replicate (n + 1) 0 ++ xs
+    one_more zero xs = refl
+    one_more (suc n) xs =
+        let more : suc (n + 1) ≡ suc n + 1 = omega arith in
+        ap (λ (ys : List ℕ). 0 ∷ ys) (one_more n xs) ∙ ap (λ (m : ℕ). replicate m 0 ++ xs) more
+
+-- the zeros of a row, with what is left put in its place
+pub start_put : (before lens zeros : List ℕ) (row count left : ℕ) → IsPast lens row count left → count < length lens → left ≤ get_or lens count 0
+    → zeros ≡ replicate (length lens) 0 → set (before ++ zeros) (length before + count) left ≡ before ++ start_of lens row
+start_put before lens zeros row count left past there within none =
+    ap (λ zs. set (before ++ zs) (length before + count) left) none ∙ set_behind before (replicate (length lens) 0) count left
+    ∙ ap (λ (xs : List ℕ). before ++ xs)
+    (split (length lens) count left (omega (arith, there)) ∙ ap (λ (xs : List ℕ). replicate count 0 ++ xs) (sym (start_here lens count left there within)) ∙ sym past.start)
+  where
+    set_behind : (xs ys : List ℕ) (i v : ℕ) → set (xs ++ ys) (length xs + i) v ≡ xs ++ set ys i v
+    set_behind [] ys i v = ap (λ (n : ℕ). set ys n v) (omega arith)
+    set_behind (x ∷ xs) ys i v =
+        let more : length (x ∷ xs) + i ≡ suc (length xs + i) = omega arith in
+        ap (λ (n : ℕ). set (x ∷ (xs ++ ys)) n v) more ∙ ap (λ (zs : List ℕ). x ∷ zs) (set_behind xs ys i v)
+
+    split : (n count v : ℕ) → count ≤ n → set (replicate n 0) count v ≡ replicate count 0 ++ set (replicate (n - count) 0) 0 v
+    split n zero v le = ap (λ (m : ℕ). set (replicate m 0) 0 v) (omega arith)
+    split zero (suc count) v le = absurd (omega arith)
+    split (suc n) (suc count) v le =
+        let rest : n - count ≡ suc n - suc count = omega arith in
+        ap (λ (xs : List ℕ). 0 ∷ xs) (split n count v (omega arith)) ∙ ap (λ (m : ℕ). 0 ∷ (replicate count 0 ++ set (replicate m 0) 0 v)) rest
+
+-- a row is among the events of some process
+pub past_whole : (lens : List ℕ) (row left : ℕ) → IsPast lens row (length lens) left → (xs : List ℕ) → xs ≡ replicate (length lens) 0 → xs ≡ start_of lens row
+past_whole lens row left past xs none = none ∙ sym (append-nil (replicate (length lens) 0)) ∙ ap (λ (ys : List ℕ). replicate (length lens) 0 ++ start_of ys left) (sym (gone lens)) ∙ sym past.start
+  where
+    gone : (xs : List ℕ) → drop (length xs) xs ≡ []
+    gone [] = refl
+    gone (x ∷ xs) = gone xs
+
+-- the first of some zeros
+pub zeros_of : (most n : ℕ) → n ≤ most → take {A = ℕ} n (replicate most 0) ≡ replicate n 0
+zeros_of most zero few = refl
+zeros_of zero (suc n) few = absurd (omega arith)
+zeros_of (suc most) (suc n) few = ap (λ (xs : List ℕ). 0 ∷ xs) (zeros_of most n (omega arith))

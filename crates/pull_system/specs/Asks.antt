@@ -1,6 +1,7 @@
 -- Rows of asks: for one value of a source, the most that any of its pulls asks of each process.
-use Rattle.std.specs.Prelude.{◌≡◌, ◌⊎◌, ℕ, ◌+◌, ◌*◌, ◌<◌, ◌≤◌, List, [], length, slice_index}
+use Rattle.std.specs.Prelude.{◌≡◌, ◌⊎◌, ℕ, ◌+◌, ◌*◌, ◌<◌, ◌≤◌, List, [], length, max, slice_index}
 use Rattle.std.specs.Prelude.{slice_index_or}
+use Rattle.pull_system.specs.declared.pull.Pull.{Pull}
 use Rattle.pull_system.specs.System.{SystemView, source_of, target_of, ask}
 
 -- some pull from the process asks this number of the target
@@ -36,12 +37,21 @@ pub record AreAllAsks (system : SystemView) (asks : List (List ℕ)) : Type 0 wh
       → AreAskRows system process (slice_index system.lens process + 2)
       (slice_index_or asks process [])
 
--- what the first of these numbers of pulls ask, with room for every process that there may be
-pub record AreAsksSoFar (system : SystemView) (process x : ℕ) (numbers : List ℕ) (count : ℕ)
-    (asks : List ℕ) : Type 0 where
-  pub size : length asks ≡ 32
-  pub covers : (i : ℕ) → i < count
-      → ask system (slice_index numbers i) x
-      ≤ slice_index asks (target_of system (slice_index numbers i))
-  pub asked : (target : ℕ) → (slice_index asks target ≡ 0)
-      ⊎ IsAskedBy system process x target (slice_index asks target)
+-- the rows have what they had before, and at the pull's target what the pull asks at each value
+-- where that is more
+pub record HasAsked (pull : Pull) (procs : ℕ) (before now : List ℕ) : Type 0 where
+  pub size : length now ≡ length before
+  pub raised : (x : ℕ) → x < length pull.table → slice_index now (x * procs + pull.dst)
+      ≡ max (slice_index before (x * procs + pull.dst)) (slice_index pull.table x)
+  pub others : (x target : ℕ) → target < procs → (target ≡ pull.dst → ⊥)
+      → slice_index now (x * procs + target) ≡ slice_index before (x * procs + target)
+
+-- what the first of these numbers of pulls ask at each value
+pub record AreRowsSoFar (system : SystemView) (process values : ℕ) (numbers : List ℕ) (count : ℕ)
+    (rows : List ℕ) : Type 0 where
+  pub size : length rows ≡ values * length system.lens
+  pub covers : (x i : ℕ) → x < values → i < count → ask system (slice_index numbers i) x
+      ≤ slice_index rows (x * length system.lens + target_of system (slice_index numbers i))
+  pub asked : (x target : ℕ) → x < values → target < length system.lens
+      → (slice_index rows (x * length system.lens + target) ≡ 0)
+      ⊎ IsAskedBy system process x target (slice_index rows (x * length system.lens + target))

@@ -1,6 +1,6 @@
 -- What a system has become when its processes have more events: the later pulls ask for no less,
 -- and the earlier rows are kept.
-use Rattle.std.specs.Prelude.{◌≡◌, ℕ, zero, suc, ◌+◌, ◌-◌, ◌<◌, ◌≤◌, min, List, [], ◌∷◌, Option}
+use Rattle.std.specs.Prelude.{◌≡◌, ℕ, ◌+◌, ◌-◌, ◌<◌, ◌≤◌, min, List, [], ◌∷◌, Option}
 use Rattle.std.specs.Prelude.{Some, None, length, sum, slice_index, nat_le, if◌then◌else◌}
 use Rattle.pull_system.specs.declared.pull.Pull.{Pull}
 use Rattle.pull_system.specs.System.{SystemView, pull_at}

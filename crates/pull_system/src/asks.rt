@@ -1,9 +1,9 @@
 //! Rows of asks: what the pulls from a process ask of each process, for each value of its
 //! component.
-ghost use Rattle.std.specs.Prelude.{◌≡◌, ℕ, ◌+◌, ◌*◌, ◌^◌, ◌<◌, ◌≤◌, List, length, max};
-ghost use Rattle.std.specs.Prelude.{slice_index, slice_set, slice_range, IfOk, OnOk, ◌++◌};
+ghost use Rattle.std.specs.Prelude.{◌≡◌, ℕ, ◌+◌, ◌*◌, ◌^◌, ◌<◌, ◌≤◌, length, slice_index};
+ghost use Rattle.std.specs.Prelude.{slice_range, IfOk};
 ghost use Rattle.pull_system.specs.System.{SystemView, IsSystem, AreBySource};
-ghost use Rattle.pull_system.specs.Asks.{AreAsks, AreAskRows, AreAllAsks};
+ghost use Rattle.pull_system.specs.Asks.{AreAskRows, AreAllAsks, HasAsked};
 
 use crate::pull::Pull;
 use pota_base::{List, NoMemory, Shape};
@@ -27,7 +27,8 @@ pub(crate) fn all_asks(
     Ok(asks)
 }
 
-/// The rows of asks of a process, one for each value of its component.
+/// The rows of asks of a process, one for each value of its component: zeros, raised by each of its
+/// pulls in turn.
 fn ask_rows(
     alloc: Global,
     shape: &Shape,
@@ -41,49 +42,27 @@ fn ask_rows(
     ensures { let system : SystemView = record { lens = shape.now; pulls = pulls.now } in
         IfOk result (AreAskRows system process (slice_index shape.now process + 2)) }
 {
-    let values = shape.len_of(process) + 2;
-    let mut rows = Vec::with_capacity(alloc, values as usize * shape.procs() as usize)?;
-    for x in 0..values {
-        push_asks(&mut rows, shape, pulls, by_source, process, x)?;
+    let values = shape.len_of(process) as usize + 2;
+    let procs = shape.procs() as usize;
+    let mut rows = vec![in alloc; 0u16; values * procs]?;
+    for &k in by_source.get(process as usize).as_slice() {
+        ask_more(pulls.get(k as usize), procs, &mut rows);
     }
     Ok(List::from_vec(rows))
 }
 
-/// Appends what the pulls from the process ask of each process where its component is `x`.
-fn push_asks(
-    rows: &mut Vec<u16>,
-    shape: &Shape,
-    pulls: &List<Pull>,
-    by_source: &List<List<u32>>,
-    process: u32,
-    x: u32,
-) -> Result<(), NoMemory>
-    requires system { IsSystem record { lens = shape.now; pulls = pulls.now } }
-    requires by_source { AreBySource record { lens = shape.now; pulls = pulls.now } by_source.now }
-    requires process { process < length shape.now }
-    requires entry { x ≤ slice_index shape.now process + 1 }
-    ensures { OnOk result ((asks : List ℕ) × (rows.new.items ≡ rows.old.items ++ asks)
-        × AreAsks record { lens = shape.now; pulls = pulls.now } process x asks) }
+/// Raises what the rows ask of the pull's target to what this pull asks of it at each value.
+fn ask_more(pull: &Pull, procs: usize, rows: &mut [u16])
+    requires target { pull.now.dst < procs }
+    requires room { length rows.old ≡ length pull.now.table * procs }
+    requires fits { (x : ℕ) → slice_index pull.now.table x < 2 ^ 16 }
+    ensures { HasAsked pull.now procs rows.old rows.new }
 {
-    let mut asks = [0; 32];
-    for &k in by_source.get(process as usize).as_slice() {
-        ask_more(pulls.get(k as usize), x, &mut asks);
-    }
-    rows.extend_from_slice(&asks[..shape.procs() as usize])?;
-    Ok(())
-}
-
-/// Raises what is asked of the pull's target to what this pull asks of it where its source is `x`.
-fn ask_more(pull: &Pull, x: u32, asks: &mut [u16; 32])
-    requires target { pull.now.dst < 32 }
-    requires entry { x < length pull.now.table }
-    requires fits { slice_index pull.now.table x < 2 ^ 16 }
-    ensures { let asked = max (slice_index asks.old pull.now.dst) (slice_index pull.now.table x) in
-        asks.new ≡ slice_set asks.old pull.now.dst asked }
-{
-    let asked = *pull.table.get(x as usize) as u16;
     let target = pull.dst as usize;
-    asks[target] = asks[target].max(asked);
+    for (x, &asked) in pull.table.as_slice().iter().enumerate() {
+        let place = x * procs + target;
+        rows[place] = rows[place].max(asked as u16);
+    }
 }
 
 /// The row of a value among rows of one size.

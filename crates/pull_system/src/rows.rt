@@ -139,14 +139,21 @@ fn start_words(alloc: Global, shape: &Shape) -> Result<Vec<u64>, NoMemory>
     Ok(words)
 }
 
-/// Appends the start of a row.
+/// Appends the start of a row: zeros, with what is left of the row's number at its process.
 fn push_start(words: &mut Vec<u64>, lens: &[u32], row: u32) -> Result<(), NoMemory>
+    requires { IsShape lens.now }
     ensures { OnOk result (words.new.items ≡ words.old.items ++ start_of lens.now row) }
 {
+    let zeros = [0; 32];
+    let begin = words.len();
+    words.extend_from_slice(&zeros[..lens.len()])?;
     let mut left = row;
-    for len in lens {
-        words.push(if left <= *len { left as u64 } else { 0 })?;
-        left = left.saturating_sub(*len);
+    for (process, &len) in lens.iter().enumerate() {
+        if left <= len {
+            words[begin + process] = left as u64;
+            return Ok(());
+        }
+        left -= len;
     }
     Ok(())
 }
@@ -168,7 +175,8 @@ fn grow_words(alloc: Global, shape: &Shape, old: &Rows) -> Result<Vec<u64>, NoMe
 
 /// Appends a row as it was, or the start of a new event's row.
 fn push_grown(words: &mut Vec<u64>, lens: &[u32], old: &Rows, row: u32) -> Result<(), NoMemory>
-    requires { length old.now.lens ≡ length lens.now }
+    requires shape { IsShape lens.now }
+    requires procs { length old.now.lens ≡ length lens.now }
     ensures { OnOk result (words.new.items ≡ words.old.items ++ grown_row lens.now old.now row) }
 {
     match old_row(old.shape().lens(), lens, row) {

@@ -1,5 +1,6 @@
-use Rattle.pull_system.specs.Asks.{AreAskRows}
+use Rattle.std.proofs.Common.{◌+◌, slice_index}
+use Rattle.pull_system.specs.Asks.{AreRowsSoFar}
 use Rattle.pull_system.proofs.asks.ask_rows.Given as goal
 
-abbrev pub invariant-loop-x : goal.invariant-loop-x
-invariant-loop-x l = AreAskRows record { lens = l.shape; pulls = l.pulls } l.process l.x l.rows.items
+abbrev pub invariant-loop-k : goal.invariant-loop-k
+invariant-loop-k l = AreRowsSoFar record { lens = l.shape; pulls = l.pulls } l.process (slice_index l.shape l.process + 2) l.k-items l.k-index l.rows.items

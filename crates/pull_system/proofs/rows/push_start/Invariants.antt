@@ -1,6 +1,9 @@
-use Rattle.std.proofs.Common.{◌≡◌, ◌++◌, drop}
-use Rattle.pull_system.specs.Rows.{start_of}
+use Rattle.std.proofs.Common.{◌≡◌, ◌++◌, length, replicate}
+use Rattle.pull_system.proofs.Starts.{IsPast}
 use Rattle.pull_system.proofs.rows.push_start.Given as goal
 
-abbrev pub invariant-loop-len : goal.invariant-loop-len
-invariant-loop-len l = l.words.items ++ start_of (drop l.len-index l.lens) l.left ≡ l.fn.words.items ++ start_of l.lens l.row
+abbrev pub invariant-loop-process : goal.invariant-loop-process
+invariant-loop-process l = record {
+  past : IsPast l.lens l.row l.process l.left;
+  zeros : l.words.items ≡ l.fn.words.items ++ replicate (length l.lens) 0;
+}
