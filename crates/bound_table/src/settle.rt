@@ -291,6 +291,9 @@ impl BoundTable {
         ensures pays { let pulls = length self.now.system.pulls in
             steps.new + pulls * sum seen.old ≤ steps.old + pulls * sum seen.new }
     {
+        if excess(vector, seen) == 0 {
+            return 0;
+        }
         let mut asked = 0;
         for process in 0..self.system().shape().procs() {
             asked += self.ask_again(seat, row, process, vector, seen, steps);

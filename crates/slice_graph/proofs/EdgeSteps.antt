@@ -1,8 +1,8 @@
 -- Edges by the words of rows.
-use Rattle.std.proofs.Common.{◌≡◌, ℕ, zero, suc, ◌+◌, ◌-◌, ◌<◌, ◌≤◌, ◌↔◌, List, [], ◌∷◌, ◌++◌, length, map, flat_map, Option, Some, None, option_map, refl, sym, ap, ◌∙◌, subst, arith}
+use Rattle.std.proofs.Common.{◌≡◌, ℕ, zero, suc, ◌-◌, ◌≤◌, ◌↔◌, List, length, flat_map, Option, Some, None, option_map, refl, sym, ap, ◌∙◌, subst, arith}
 use Rattle.std.specs.List.{range_with_len}
 use Rattle.std.proofs.lemmas.Option.{same_Some}
-use Rattle.run_model.specs.Cut.{Cut, Clocks, count, IsWithin, lengths}
+use Rattle.run_model.specs.Cut.{Cut, Clocks, count}
 use Rattle.run_model.specs.Consistent.{IsOrder, clock}
 use Rattle.run_model.specs.Sublattice.{IsLeast, IsGreatest}
 use Rattle.run_model.specs.Slice.{Slice, HasWithin, IsLeastOf, Cuts, Denoted, IsPrintedAs, Edge, cut_of, previous, edge_into, edges_of}

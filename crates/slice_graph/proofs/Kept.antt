@@ -1,17 +1,17 @@
 -- The cuts that are kept of the least closed vectors are the slice of the closed cuts.
-use Rattle.std.proofs.Common.{◌≡◌, ℕ, zero, suc, ◌+◌, ◌<◌, ◌≤◌, ◌↔◌, min, max, List, [], ◌∷◌, length, get_or, take, set, sum, Option, Some, None, refl, sym, ap, ◌∙◌, subst, arith, inl, inr, le_refl}
-use Rattle.std.proofs.lemmas.Bool.{cases_eq, cases_lt}
+use Rattle.std.proofs.Common.{◌≡◌, ℕ, ◌+◌, ◌≤◌, ◌↔◌, List, length, get_or, take, set, sum, Option, Some, None, sym, ap, ◌∙◌, subst, arith, inl, inr}
+use Rattle.std.proofs.lemmas.Bool.{cases_eq}
 use Rattle.std.proofs.lemmas.List.{get_or-set_same, get_or-set_other}
 use Rattle.pota_base.specs.Shape.{HasEvent, row_of}
 use Rattle.pota_base.specs.declared.shape.EventId.{EventId}
 use Rattle.run_model.specs.Cut.{Cut, Clocks, count, IsWithin, min_cut, max_cut, lengths}
-use Rattle.run_model.specs.Consistent.{IsOrder, IsConsistent, IsEvent}
+use Rattle.run_model.specs.Consistent.{IsOrder, IsConsistent}
 use Rattle.run_model.specs.Sublattice.{IsClosed as IsClosedSet, IsLeast as IsLeastCut, Having}
-use Rattle.run_model.specs.Slice.{Slice, IsLeastOf, Cuts, StandsFor}
-use Rattle.run_model.proofs.Counts.{count-min, count-max, length-min, length-max, within_trans}
+use Rattle.run_model.specs.Slice.{IsLeastOf, Cuts, StandsFor}
+use Rattle.run_model.proofs.Counts.{count-min, count-max, length-min, length-max}
 use Rattle.run_model.proofs.Orders.{min_consistent, max_consistent, has_process}
 use Rattle.run_model.proofs.SliceLemmas.{least_same, exact_slice}
-use Rattle.pull_system.specs.Vector.{IsWithin as IsBelow, IsVector, IsMinimum, IsMaximum}
+use Rattle.pull_system.specs.Vector.{IsVector}
 use Rattle.pull_system.specs.System.{SystemView, IsSystem, IsClosed, IsClosedFrom, IsLeastFrom}
 use Rattle.pull_system.specs.Rows.{IsLeast, AreLeastRows, start_of, row_at}
 use Rattle.pull_system.proofs.Starts.{start_of-bottom, start_of-event, length-start_of}

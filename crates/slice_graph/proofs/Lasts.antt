@@ -1,17 +1,17 @@
 -- A slice's cuts by the rows of the last events that they have.
-use Rattle.std.proofs.Common.{◌≡◌, ℕ, zero, suc, ◌+◌, ◌<◌, ◌≤◌, ◌↔◌, List, [], length, Option, Some, None, refl, sym, ap, ◌∙◌, subst, arith, inl, inr, le_refl, le_trans}
+use Rattle.std.proofs.Common.{◌≡◌, ℕ, zero, suc, ◌<◌, ◌≤◌, ◌↔◌, List, length, Option, Some, None, refl, sym, ap, ◌∙◌, subst, arith, inl, inr, le_refl, le_trans}
 use Rattle.std.proofs.lemmas.Bool.{cases_lt}
 use Rattle.run_model.specs.Cut.{Cut, Clocks, count, IsWithin, lengths}
-use Rattle.run_model.specs.Consistent.{IsEvent, IsConsistent, clock}
-use Rattle.run_model.specs.Sublattice.{IsLeast, Having}
-use Rattle.run_model.specs.Slice.{Slice, HasWithin, IsLeastOf, Cuts, StandsFor, Fits}
+use Rattle.run_model.specs.Consistent.{IsConsistent, clock}
+use Rattle.run_model.specs.Sublattice.{Having}
+use Rattle.run_model.specs.Slice.{Slice, HasWithin, Cuts, Fits}
 use Rattle.run_model.proofs.Counts.{within_refl, within_trans, count_past, length-lengths}
 use Rattle.run_model.proofs.Orders.{has_process}
 use Rattle.run_model.proofs.SliceLemmas.{least_there, has_within_up}
-use Rattle.slice_graph.specs.Views.{SliceView, slice_of, last_row, IsCut, IsRow, HasLasts, no_row}
+use Rattle.slice_graph.specs.Views.{SliceView, slice_of, last_row, IsCut, IsRow, HasLasts}
 use Rattle.slice_graph.specs.Words.{filled, row_words}
 use Rattle.slice_graph.specs.Fitting.{FitsOrder}
-use Rattle.slice_graph.proofs.Words.{count-past_ends, filled_most, filled_within}
+use Rattle.slice_graph.proofs.Words.{count-past_ends, filled_most}
 
 -- a cut of the slice between the row of the last of the first a events and c
 pub last_cut : (o : Clocks) (s : Slice) → Fits o s → (c : Cut) (i a : ℕ) → a ≤ count (lengths o) i → HasWithin (last_row s i a) c

@@ -5,6 +5,7 @@ pub mod Lasts
 pub mod Tops
 pub mod Kept
 pub mod Pairs
+pub mod RowByRow
 pub mod OrderPulls
 pub mod SlicePulls
 pub mod EdgeSteps

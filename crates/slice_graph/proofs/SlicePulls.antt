@@ -1,17 +1,17 @@
 -- The pulls of a slice: they are pulls of its shape, and hold exactly at its cuts.
-use Rattle.std.proofs.Common.{◌≡◌, ℕ, zero, suc, ◌+◌, ◌*◌, ◌<◌, ◌≤◌, ◌↔◌, leb, List, [], ◌∷◌, length, map, flat_map, All, Option, None, Some, refl, sym, ap, ◌∙◌, subst, arith, inl, inr, le_refl}
+use Rattle.std.proofs.Common.{◌≡◌, ℕ, zero, suc, ◌+◌, ◌*◌, ◌<◌, ◌≤◌, ◌↔◌, leb, List, [], length, flat_map, All, refl, subst, arith, inl, inr}
 use Rattle.std.specs.List.{range_with_len}
 use Rattle.std.proofs.lemmas.Bool.{cases_lt, cond-true, cond-false, le-leb, lt-leb}
 use Rattle.std.proofs.lemmas.List.Elements.{All-nil, All-cons, All-head}
 use Rattle.std.proofs.lemmas.List.FromFn.{length-map-range_with_len}
-use Rattle.run_model.specs.Cut.{Cut, Clocks, count, IsWithin, lengths}
-use Rattle.run_model.specs.Slice.{Slice, HasWithin, Cuts}
+use Rattle.run_model.specs.Cut.{Cut, Clocks, count}
+use Rattle.run_model.specs.Slice.{Cuts}
 use Rattle.run_model.proofs.Counts.{count_past}
 use Rattle.pull_system.specs.declared.pull.Pull.{Pull}
 use Rattle.pull_system.specs.System.{IsPull}
 use Rattle.pull_system.specs.Pulls.{HoldsAt, ClosedUnder}
 use Rattle.slice_graph.specs.Views.{SliceView, slice_of, last_row, IsCut, IsRow, AreRows, HasLasts}
-use Rattle.slice_graph.specs.Words.{filled, row_words}
+use Rattle.slice_graph.specs.Words.{row_words}
 use Rattle.slice_graph.specs.Fitting.{FitsOrder}
 use Rattle.slice_graph.specs.PullLists.{slice_entry, slice_table, slice_pull, pulls_of_slice}
 use Rattle.slice_graph.proofs.Words.{filled_most, filled_within, length-filled}
@@ -26,10 +26,10 @@ last_is_row v rows i (suc a) = rows.cuts.each _
 
 -- ---- entries
 
-entry_within : (v : SliceView) (i j x : ℕ) → x ≤ count v.lens i → slice_entry v i j x ≡ count (row_words v i x) j
+pub entry_within : (v : SliceView) (i j x : ℕ) → x ≤ count v.lens i → slice_entry v i j x ≡ count (row_words v i x) j
 entry_within v i j x le = cond-true (leb x (count v.lens i)) (count (row_words v i x) j) (count v.lens j + 1) (le-leb x (count v.lens i) le)
 
-entry_past : (v : SliceView) (i j x : ℕ) → count v.lens i < x → slice_entry v i j x ≡ count v.lens j + 1
+pub entry_past : (v : SliceView) (i j x : ℕ) → count v.lens i < x → slice_entry v i j x ≡ count v.lens j + 1
 entry_past v i j x gt = cond-false (leb x (count v.lens i)) (count (row_words v i x) j) (count v.lens j + 1) (lt-leb x (count v.lens i) gt)
 
 entry_most : (v : SliceView) → AreRows v → (i j x : ℕ) → slice_entry v i j x ≤ count v.lens j + 1

@@ -1,20 +1,19 @@
 -- The maximum of the rows of a slice is its greatest cut.
-use Rattle.std.proofs.Common.{◌≡◌, ℕ, zero, suc, ◌+◌, ◌<◌, ◌≤◌, List, [], ◌∷◌, length, get_or, drop, take, replicate, sum, Option, Some, None, option_map, refl, sym, ap, ◌∙◌, subst, arith, inl, inr, le_trans}
+use Rattle.std.proofs.Common.{◌≡◌, ℕ, zero, suc, ◌+◌, ◌<◌, ◌≤◌, List, [], ◌∷◌, length, get_or, drop, take, replicate, sum, Option, Some, None, option_map, refl, sym, ap, ◌∙◌, subst, arith, inl, inr}
 use Rattle.std.specs.Prelude.{MatchOption}
 use Rattle.std.proofs.lemmas.Option.{none-some, same_Some}
 use Rattle.std.proofs.lemmas.Bool.{cases_lt}
 use Rattle.std.proofs.lemmas.List.{at_drop_more, at_drop_all, length-replicate, get_or_past}
-use Rattle.pota_base.specs.Shape.{HasEvent, row_of}
-use Rattle.pota_base.specs.declared.shape.EventId.{EventId}
+use Rattle.pota_base.specs.Shape.{row_of}
 use Rattle.run_model.specs.Cut.{Cut, Clocks, count, IsWithin, max_cut, lengths}
-use Rattle.run_model.specs.Consistent.{IsOrder, IsConsistent, IsEvent}
-use Rattle.run_model.specs.Sublattice.{IsClosed, IsLeast, IsGreatest, Having}
-use Rattle.run_model.specs.Slice.{Slice, HasWithin, IsLeastOf, Cuts, StandsFor, Fits}
-use Rattle.run_model.proofs.Counts.{within_refl, within_trans, max_left, max_right, max_absorbs, length-max, length-lengths, count_past, same_counts, count-max}
+use Rattle.run_model.specs.Consistent.{IsOrder, IsEvent}
+use Rattle.run_model.specs.Sublattice.{IsGreatest, Having}
+use Rattle.run_model.specs.Slice.{HasWithin, IsLeastOf, Cuts}
+use Rattle.run_model.proofs.Counts.{within_refl, within_trans, max_left, max_right, max_absorbs, length-lengths}
 use Rattle.run_model.proofs.SliceLemmas.{cuts_closed, greatest_from_rows}
 use Rattle.slice_graph.specs.Views.{SliceView, slice_of, joined_onto, joined_rows, no_row}
 use Rattle.slice_graph.specs.Fitting.{FitsOrder}
-use Rattle.slice_graph.proofs.Events.{event_of_row, row_there}
+use Rattle.slice_graph.proofs.Events.{event_of_row}
 
 -- ---- one row after the other
 

@@ -11,6 +11,7 @@
 //! or the memory that a call takes.
 #![tactic(auto)]
 
+mod columns;
 mod cuts;
 mod edges;
 mod from_rows;

@@ -1,13 +1,15 @@
 //! The pulls of the order of a run.
-ghost use Rattle.std.specs.Prelude.{◌≡◌, ℕ, ◌+◌, ◌-◌, ◌*◌, ◌<◌, ◌≤◌, ◌↔◌, ◌++◌, length, flat_map};
-ghost use Rattle.std.specs.Prelude.{All, IfOk, OnOk};
+ghost use Rattle.std.specs.Prelude.{◌≡◌, ℕ, ◌+◌, ◌-◌, ◌*◌, ◌<◌, ◌≤◌, ◌↔◌, ◌==◌, [], ◌∷◌, ◌++◌, length};
+ghost use Rattle.std.specs.Prelude.{flat_map, if◌then◌else◌, All, IfOk, OnOk};
 ghost use Rattle.std.specs.List.{range_with_len};
 ghost use Rattle.run_model.specs.Cut.{Cut, count, IsWithin, lengths};
 ghost use Rattle.run_model.specs.Consistent.{IsConsistent};
 ghost use Rattle.pull_system.specs.System.{IsPull};
 ghost use Rattle.pull_system.specs.Pulls.{ClosedUnder};
-ghost use Rattle.slice_graph.specs.PullLists.{past_count, order_table, order_pull, pulls_of_order};
+ghost use Rattle.slice_graph.specs.PullLists.{past_count, order_entry, order_pull};
+ghost use Rattle.slice_graph.specs.PullLists.{pulls_of_order, AreTables};
 
+use crate::columns::{empty_tables, push_entries};
 use causal_order::Order;
 use pota_base::{EventId, List, NoMemory};
 use pull_system::Pull;
@@ -41,23 +43,23 @@ fn push_pulls_from(
     ensures { OnOk result (pulls.new ≡ pulls.old
         ++ flat_map (order_pull order.now source) (range_with_len 0 (length order.now))) }
 {
+    let mut tables = order_tables(alloc, order, source)?;
     for target in 0..order.shape().procs() {
-        push_pull(alloc, order, source, target, pulls)?;
+        let table = tables.replace(target as usize, List::new(alloc));
+        push_pull(source, target, table, pulls)?;
     }
     Ok(())
 }
 
 /// Appends the pull between two processes, where they are not the same.
 fn push_pull(
-    alloc: Global,
-    order: &Order,
     source: u32,
     target: u32,
+    table: List<u32>,
     pulls: &mut List<Pull>,
 ) -> Result<(), NoMemory>
-    requires source { source < length order.now }
-    requires target { target < length order.now }
-    ensures { OnOk result (pulls.new ≡ pulls.old ++ order_pull order.now source target) }
+    ensures { OnOk result (pulls.new ≡ pulls.old ++ (if source == target then []
+        else record { src = source; dst = target; table = table } ∷ [])) }
 {
     if source == target {
         return Ok(());
@@ -65,42 +67,43 @@ fn push_pull(
     pulls.push(Pull {
         src: source,
         dst: target,
-        table: order_table(alloc, order, source, target)?,
+        table,
     })
 }
 
-/// The table of the pull between two processes.
-fn order_table(
-    alloc: Global,
-    order: &Order,
-    source: u32,
-    target: u32,
-) -> Result<List<u32>, NoMemory>
-    requires source { source < length order.now }
-    requires target { target < length order.now }
-    ensures { IfOk result (λ table. table ≡ order_table order.now source target) }
+/// The tables of the pulls from one process to each process, itself too.
+fn order_tables(alloc: Global, order: &Order, source: u32) -> Result<List<List<u32>>, NoMemory>
+    requires { source < length order.now }
+    ensures { IfOk result (λ tables. let entries = count (lengths order.now) source + 2 in
+        AreTables (order_entry order.now source) (length order.now) entries tables) }
 {
-    let len = order.shape().len_of(source);
-    let mut table = Vec::with_capacity(alloc, len as usize + 2)?;
+    let shape = order.shape();
+    let len = shape.len_of(source);
+    let zeros = [0; 32];
+    let none = &zeros[..shape.procs() as usize];
+    let mut tables = empty_tables(alloc, shape.procs(), len as usize + 2)?;
     for position in 0..len + 2 {
-        table.push(past_count(order, source, target, position.min(len)))?;
+        push_entries(&mut tables, past(order, source, position.min(len), none))?;
     }
-    Ok(List::from_vec(table))
+    Ok(List::from_vec(tables))
 }
 
-/// How many events of the target the pasts of the source's first events have.
-fn past_count(order: &Order, source: u32, target: u32, position: u32) -> u32
+/// How many events of each process the pasts of the source's first events have, which is `none`
+/// where there is no event.
+fn past<'a>(order: &'a Order, source: u32, position: u32, none: &'a [u32]) -> &'a [u32]
     requires source { source < length order.now }
-    requires target { target < length order.now }
     requires position { position ≤ count (lengths order.now) source }
-    ensures { result ≡ past_count order.now source target position }
+    requires width { length none.now ≡ length order.now }
+    requires none { (target : ℕ) → count none.now target ≡ 0 }
+    ensures width { length result.now ≡ length order.now }
+    ensures past { (target : ℕ) → count result.now target
+        ≡ past_count order.now source target position }
 {
     if position == 0 {
-        return 0;
+        return none;
     }
-    let event = EventId {
+    order.clock(EventId {
         process: source,
         position,
-    };
-    order.clock(event)[target as usize]
+    })
 }

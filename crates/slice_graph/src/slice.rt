@@ -7,6 +7,7 @@ ghost use Rattle.run_model.specs.Cut.{Cut as CutOfRun, Clocks, count, lengths};
 ghost use Rattle.run_model.specs.Consistent.{IsOrder};
 ghost use Rattle.run_model.specs.Sublattice.{IsGreatest, Having};
 ghost use Rattle.run_model.specs.Slice.{Cuts, IsLeastOf};
+ghost use Rattle.slice_graph.specs.Words.{past_ends};
 ghost use Rattle.slice_graph.specs.Views.{AreCuts, joined_onto, joined_rows, slice_of, no_row};
 
 use crate::cuts::{is_within, join_into};
@@ -146,6 +147,13 @@ impl Slice {
         }
         let row = self.shape().row_of(EventId { process, position });
         self.table.words(row as usize)
+    }
+
+    /// The words of a row without a cut: each is one more than the process's length.
+    pub(crate) fn absent(&self) -> &[u32]
+        ensures { result.now ≡ past_ends self.now.lens }
+    {
+        self.table.absent()
     }
 
     /// Whether the slice has the cut. It takes no memory.

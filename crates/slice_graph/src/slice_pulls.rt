@@ -8,8 +8,9 @@ ghost use Rattle.pull_system.specs.System.{IsPull};
 ghost use Rattle.pull_system.specs.Pulls.{ClosedUnder};
 ghost use Rattle.slice_graph.specs.Views.{IsCut, slice_of};
 ghost use Rattle.slice_graph.specs.Fitting.{FitsOrder};
-ghost use Rattle.slice_graph.specs.PullLists.{slice_entry, slice_table, slice_pull, pulls_of_slice};
+ghost use Rattle.slice_graph.specs.PullLists.{slice_entry, slice_pull, pulls_of_slice, AreTables};
 
+use crate::columns::{empty_tables, push_entries};
 use crate::slice::Slice;
 use pota_base::{List, NoMemory};
 use pull_system::Pull;
@@ -47,8 +48,9 @@ fn push_pulls_from(
     ensures { OnOk result (pulls.new ≡ pulls.old
         ++ flat_map (slice_pull slice.now source) (range_with_len 0 (length slice.now.lens))) }
 {
+    let mut tables = slice_tables(alloc, slice, source)?;
     for target in 0..slice.shape().procs() {
-        let table = slice_table(alloc, slice, source, target)?;
+        let table = tables.replace(target as usize, List::new(alloc));
         pulls.push(Pull {
             src: source,
             dst: target,
@@ -58,35 +60,18 @@ fn push_pulls_from(
     Ok(())
 }
 
-/// The table of the pull between two processes.
-fn slice_table(
-    alloc: Global,
-    slice: &Slice,
-    source: u32,
-    target: u32,
-) -> Result<List<u32>, NoMemory>
-    requires source { source < length slice.now.lens }
-    requires target { target < length slice.now.lens }
-    ensures { IfOk result (λ table. table ≡ slice_table slice.now source target) }
-{
-    let len = slice.shape().len_of(source);
-    let mut table = Vec::with_capacity(alloc, len as usize + 2)?;
-    for position in 0..len + 2 {
-        table.push(entry(slice, source, target, position))?;
-    }
-    Ok(List::from_vec(table))
-}
-
-/// What the slice asks of the target where the source has so many events.
-fn entry(slice: &Slice, source: u32, target: u32, position: u32) -> u32
-    requires source { source < length slice.now.lens }
-    requires target { target < length slice.now.lens }
-    ensures { result ≡ slice_entry slice.now source target position }
+/// The tables of the pulls from one process to each process.
+fn slice_tables(alloc: Global, slice: &Slice, source: u32) -> Result<List<List<u32>>, NoMemory>
+    requires { source < length slice.now.lens }
+    ensures { IfOk result (λ tables. let entries = count slice.now.lens source + 2 in
+        AreTables (slice_entry slice.now source) (length slice.now.lens) entries tables) }
 {
     let shape = slice.shape();
-    if position <= shape.len_of(source) {
-        slice.words(source, position)[target as usize]
-    } else {
-        shape.len_of(target) + 1
+    let len = shape.len_of(source);
+    let mut tables = empty_tables(alloc, shape.procs(), len as usize + 2)?;
+    for position in 0..len + 1 {
+        push_entries(&mut tables, slice.words(source, position))?;
     }
+    push_entries(&mut tables, slice.absent())?;
+    Ok(List::from_vec(tables))
 }

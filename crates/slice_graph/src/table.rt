@@ -95,6 +95,13 @@ impl CutTable {
         &self.words[start..start + width]
     }
 
+    /// The words of a row without a cut: each is one more than the process's length.
+    pub(crate) fn absent(&self) -> &[u32]
+        ensures { result.now ≡ past_ends self.now.lens }
+    {
+        self.absent.as_slice()
+    }
+
     /// The cut of a row.
     pub fn cut(&self, row: usize) -> Option<&[u32]>
         requires { row < length self.now.rows }

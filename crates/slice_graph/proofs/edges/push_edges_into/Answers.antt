@@ -1,4 +1,4 @@
-use Rattle.std.proofs.Common.{◌≡◌, ℕ, List, ◌+◌, ◌-◌, ◌++◌, length, map, flat_map, subst, arith, ap, ◌∙◌}
+use Rattle.std.proofs.Common.{◌≡◌, ℕ, List, ◌-◌, ◌++◌, length, map, flat_map, subst, arith, ap, ◌∙◌}
 use Rattle.std.specs.List.{range_with_len}
 use Rattle.run_model.specs.Slice.{Edge, cut_of, edge_into}
 use Rattle.slice_graph.specs.Views.{slice_of}

@@ -1,6 +1,6 @@
 use Rattle.std.proofs.Common.{ℕ, ◌≡◌, ◌↔◌, List, All, length, flat_map, arith, ap, sym, subst, ◌∙◌}
 use Rattle.std.specs.List.{range_with_len}
-use Rattle.run_model.specs.Cut.{Cut, lengths}
+use Rattle.run_model.specs.Cut.{lengths}
 use Rattle.run_model.specs.Consistent.{IsConsistent}
 use Rattle.run_model.proofs.Counts.{length-lengths}
 use Rattle.pull_system.specs.declared.pull.Pull.{Pull}

@@ -1,7 +1,6 @@
 use Rattle.std.proofs.Common.{sum, ap, sym, subst, arith}
 use Rattle.std.proofs.lemmas.Result.{IfOk-weaker}
 use Rattle.run_model.proofs.Counts.{length-lengths}
-use Rattle.slice_graph.specs.Views.{SliceView}
 use Rattle.slice_graph.proofs.Building.{BuiltBy}
 use Rattle.slice_graph.proofs.Kept.{KeptRow, kept_stands, kept_fits, kept_cuts}
 use Rattle.slice_graph.proofs.slice.Slice.from_rows.Goals as goal

@@ -1,5 +1,4 @@
 use Rattle.std.proofs.Common.{List, ℕ, [], ap, ◌∙◌}
-use Rattle.slice_graph.specs.Views.{SliceView}
 use Rattle.slice_graph.proofs.Words.{no_rows}
 use Rattle.slice_graph.proofs.table.CutTable.new.Goals as goal
 
