@@ -125,7 +125,9 @@ fn lend_counts(
     for process in 0..table.system().shape().procs() {
         let i = process as usize;
         let count = count_past(counts[i], closed[i], process == own);
-        lend_event(table, seat, row, process, count);
+        if count > 0 {
+            lend_event(table, seat, row, process, count);
+        }
     }
 }
 
