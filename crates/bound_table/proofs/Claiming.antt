@@ -1,5 +1,5 @@
 -- Steps on bounds leave a seat's claims as they are.
-use Rattle.std.proofs.Common.{◌≡◌, ℕ, ◌+◌, ◌<◌, ◌≤◌, List, [], ◌∷◌, ◌++◌, length, get_or, set, refl, arith, sym, ap, ◌∙◌, subst, get_or-set_same}
+use Rattle.std.proofs.Common.{refl, ◌∙◌}
 use Rattle.bound_table.specs.Views.{SeatView, KeepsClaims}
 
 pub keeps_refl : (seat : SeatView) → KeepsClaims seat seat

@@ -1,6 +1,7 @@
 pub mod Moves
 pub mod Floors
 pub mod Seeing
+pub mod Reading
 pub mod Allowed
 pub mod Lends
 pub mod Claiming

@@ -1,23 +1,23 @@
 -- Which pulls hold by the values at which they were looked up last, while a row rises.
-use Rattle.std.proofs.Common.{◌≡◌, ℕ, zero, suc, ◌+◌, ◌*◌, ◌^◌, ◌<◌, ◌≤◌, ◌⊎◌, inl, inr, List, [], ◌∷◌, true, length, get_or, set, sum, refl, arith, sym, ap, ◌∙◌, subst, get_or-set_same}
+use Rattle.std.proofs.Common.{◌≡◌, ℕ, zero, suc, ◌+◌, ◌*◌, ◌^◌, ◌<◌, ◌≤◌, ◌⊎◌, inl, inr, List, [], ◌∷◌, length, get_or, set, sum, refl, arith, sym, ap, ◌∙◌, subst, get_or-set_same}
 use Rattle.std.proofs.lemmas.List.{length-set, get_or_past, ext_get_or}
 use Rattle.std.proofs.Math.Nat.{mul-le-mul_left}
 use Rattle.pull_system.specs.Vector.{IsWithin, IsVector}
 use Rattle.pull_system.specs.declared.pull.Pull.{Pull}
 use Rattle.pull_system.specs.System.{SystemView, IsSystem, IsPull, IsClosed, HoldsPull, source_of, target_of, ask, pull_at, numbers_from}
 use Rattle.pull_system.proofs.Asking.{pulls_from_first}
-use Rattle.pull_system.specs.Rows.{place_of, row_at, start_of, IsLeast}
+use Rattle.pull_system.specs.Rows.{place_of, start_of, IsLeast}
 use Rattle.pull_system.specs.Asks.{IsAskedBy, AreAsks}
 use Rattle.pull_system.proofs.Climbing.{set_case, lt_or_le, settled_least}
 use Rattle.pull_system.proofs.Pulls.{pull-of}
-use Rattle.pull_system.proofs.Sums.{component_le, sum-within, sum-set, sum-is_vector}
+use Rattle.pull_system.proofs.Sums.{component_le, sum-within, sum-is_vector}
 use Rattle.raise_machine.specs.Bounds.{AreBounds, word_at}
 use Rattle.raise_machine.proofs.Raising.{word_in_range}
 use Rattle.bound_table.specs.Kept.{FollowsFirst, Follows}
 use Rattle.bound_table.specs.Asking.{HoldSeen, IsAsking, IsPullStep, IsRaised}
 use Rattle.bound_table.proofs.Allowed.{pull_allowed}
 use Rattle.bound_table.proofs.Lends.{set_within}
-use Rattle.bound_table.proofs.Floors.{place_there, within_one, follows_trans, follows_again, follows_below, follows_set, follows_rises, row_sum, within_trans}
+use Rattle.bound_table.proofs.Floors.{place_there, within_one, follows_trans, follows_again, follows_below, follows_set, follows_rises}
 
 -- a word is small enough for 16 bits
 pub word_small : (system : SystemView) → IsSystem system → (floor : List ℕ) → AreBounds system floor → (row process : ℕ) → process < length system.lens → word_at system.lens floor row process < 2 ^ 16

@@ -201,10 +201,13 @@ impl BoundTable {
     {
         seat.bounds();
         let shape = self.system.shape();
-        let count = (shape.events() as usize + 1) * shape.procs() as usize;
-        let mut words = Vec::with_capacity(alloc, count)?;
-        for word in 0..count {
-            words.push(self.load(seat, word))?;
+        let procs = shape.procs() as usize;
+        let mut room = [0; 32];
+        let room = &mut room[..procs];
+        let mut words = Vec::with_capacity(alloc, (shape.events() as usize + 1) * procs)?;
+        for row in 0..shape.events() + 1 {
+            self.look(seat, row, room);
+            words.extend_from_slice(room)?;
         }
         Rows::from_words(alloc, shape, words)
     }

@@ -1,4 +1,4 @@
-use Rattle.std.proofs.Common.{rules, arith, refl, ◌≡◌, ◌+◌, ◌≤◌, ℕ, List, get_or, set, sum}
+use Rattle.std.proofs.Common.{arith, refl, ◌+◌, ◌≤◌, ℕ, List, get_or, set, sum}
 use Rattle.pull_system.specs.System.{SystemView}
 use Rattle.pull_system.proofs.Settling.{numbers_few}
 use Rattle.pull_system.proofs.Sums.{sum-set}

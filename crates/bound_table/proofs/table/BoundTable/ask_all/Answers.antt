@@ -1,4 +1,4 @@
-use Rattle.std.proofs.Common.{rules, arith, refl, ap, ◌≡◌, ◌+◌, ◌<◌, ◌≤◌, ◌∙◌, ℕ, List, length, get_or, set}
+use Rattle.std.proofs.Common.{rules, arith, refl, ap, ◌≡◌, ◌+◌, ◌<◌, ◌≤◌, ◌∙◌, ℕ, List, length, get_or}
 use Rattle.std.proofs.lemmas.List.{length-set}
 use Rattle.pull_system.specs.System.{SystemView}
 use Rattle.pull_system.proofs.Asking.{pulls_from_few}

@@ -1,4 +1,4 @@
-use Rattle.std.proofs.Common.{rules, arith, ◌≡◌, subst}
+use Rattle.std.proofs.Common.{rules, subst}
 use Rattle.pull_system.specs.System.{SystemView}
 use Rattle.pull_system.specs.Asks.{AreAsks}
 use Rattle.bound_table.proofs.Seeing.{entry_there, asks_hold}

@@ -1,4 +1,4 @@
-use Rattle.std.proofs.Common.{rules, arith, refl, ap, ◌≡◌, ◌+◌, ◌<◌, ◌≤◌, ◌∙◌, ℕ, List, length, get_or, set}
+use Rattle.std.proofs.Common.{rules, arith, ap, ◌≡◌, ◌<◌, ◌≤◌, ◌∙◌, ℕ, length, get_or}
 use Rattle.pull_system.specs.System.{SystemView}
 use Rattle.pull_system.proofs.Asking.{pulls_from_few}
 use Rattle.bound_table.proofs.Floors.{follows_rises}

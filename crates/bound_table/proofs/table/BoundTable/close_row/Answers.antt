@@ -1,8 +1,7 @@
-use Rattle.std.proofs.Common.{rules, arith, ap, ◌≡◌, ◌≤◌, ◌∙◌, ℕ, sum}
+use Rattle.std.proofs.Common.{arith}
 use Rattle.pull_system.specs.System.{SystemView}
-use Rattle.bound_table.proofs.Floors.{follows_again}
-use Rattle.bound_table.proofs.Seeing.{asking_trans, asking_again, asking_least, asking_sum, asking_room, within_sum, settle_looks, looks_more, pays_more, first_looks}
-use Rattle.bound_table.proofs.Claiming.{keeps_refl, keeps_trans}
+use Rattle.bound_table.proofs.Seeing.{asking_trans, asking_least, asking_sum, asking_room, within_sum, looks_more, pays_more, first_looks}
+use Rattle.bound_table.proofs.Claiming.{keeps_trans}
 use Rattle.bound_table.proofs.table.BoundTable.close_row.Goals as goal
 
 pub loop-asked-init : goal.loop-asked-init

@@ -1,4 +1,4 @@
-use Rattle.std.proofs.Common.{ℕ, ◌≡◌, ◌+◌, ◌-◌, ◌*◌, ◌≤◌, length, sum}
+use Rattle.std.proofs.Common.{◌≡◌, ◌+◌, ◌-◌, ◌*◌, ◌≤◌, length, sum}
 use Rattle.pull_system.specs.Vector.{IsWithin}
 use Rattle.bound_table.specs.Asking.{IsAsking}
 use Rattle.bound_table.specs.Views.{KeepsClaims}

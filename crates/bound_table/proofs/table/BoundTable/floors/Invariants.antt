@@ -1,14 +1,15 @@
-use Rattle.std.proofs.Common.{ℕ, ◌≡◌, ◌<◌, length, slice_index}
+use Rattle.std.proofs.Common.{◌≡◌, length}
 use Rattle.pull_system.specs.Vector.{IsWithin}
 use Rattle.raise_machine.specs.Bounds.{AreBounds}
 use Rattle.bound_table.specs.Views.{KeepsClaims}
+use Rattle.bound_table.proofs.Reading.{AreRead}
 use Rattle.bound_table.proofs.table.BoundTable.floors.Given as goal
 
-abbrev pub invariant-loop-word : goal.invariant-loop-word
-invariant-loop-word l = record {
+abbrev pub invariant-loop-row : goal.invariant-loop-row
+invariant-loop-row l = record {
   keeps : KeepsClaims l.fn.seat l.seat;
-  size : length l.words.items ≡ l.word;
-  read : (i : ℕ) → i < l.word → slice_index l.words.items i ≡ slice_index l.seat.floor i;
+  width : length l.room ≡ length l.self.system.lens;
+  read : AreRead l.self.system.lens l.row l.seat.floor l.words.items;
   rises : IsWithin l.fn.seat.floor l.seat.floor;
   bounds : AreBounds l.self.system l.seat.floor;
 }

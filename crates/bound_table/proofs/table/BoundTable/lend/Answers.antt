@@ -6,7 +6,7 @@ use Rattle.raise_machine.specs.Bounds.{word_at}
 use Rattle.bound_table.proofs.Allowed.{lend_allowed}
 use Rattle.bound_table.proofs.Floors.{place_there, within_trans}
 use Rattle.bound_table.proofs.Lends.{has_start_more, set_within, reached, LendsAt, lends_within, lends_others, lends_next}
-use Rattle.bound_table.proofs.Claiming.{keeps_refl, keeps_trans}
+use Rattle.bound_table.proofs.Claiming.{keeps_trans}
 use Rattle.bound_table.proofs.table.BoundTable.lend.Goals as goal
 
 pub raise_by_lend-raised-requires-clause-step : goal.raise_by_lend-raised-requires-clause-step

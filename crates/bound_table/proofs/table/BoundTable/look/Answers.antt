@@ -1,4 +1,4 @@
-use Rattle.std.proofs.Common.{rules, ◌+◌, ◌∙◌}
+use Rattle.std.proofs.Common.{rules, ◌+◌}
 use Rattle.bound_table.proofs.Allowed.{bounds_along}
 use Rattle.bound_table.proofs.Floors.{follows_none, follows_set, within_one}
 use Rattle.bound_table.proofs.Claiming.{keeps_refl, keeps_trans}

@@ -1,4 +1,3 @@
-use Rattle.std.proofs.Common.{◌≡◌}
 use Rattle.bound_table.specs.Kept.{FollowsFirst}
 use Rattle.bound_table.specs.Views.{KeepsClaims}
 use Rattle.bound_table.proofs.table.BoundTable.look.Given as goal

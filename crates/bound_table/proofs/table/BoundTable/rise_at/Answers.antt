@@ -1,4 +1,4 @@
-use Rattle.std.proofs.Common.{rules, arith, refl}
+use Rattle.std.proofs.Common.{arith, refl}
 use Rattle.pull_system.specs.System.{SystemView}
 use Rattle.bound_table.proofs.Seeing.{asked_by, asked_step, reached_word, raised_small, follows_raised}
 use Rattle.bound_table.proofs.table.BoundTable.rise_at.Goals as goal

@@ -1,6 +1,6 @@
-use Rattle.std.proofs.Common.{rules, arith, ap, ◌≡◌, ◌<◌, ◌∙◌, ◌≤◌, ℕ, length, get_or, inl, inr}
+use Rattle.std.proofs.Common.{rules, arith, ap, ◌≡◌, ◌∙◌, ◌≤◌, length, get_or}
 use Rattle.pull_system.specs.System.{SystemView}
-use Rattle.bound_table.proofs.Floors.{follows_trans, follows_again, follows_rises, within_one}
+use Rattle.bound_table.proofs.Floors.{follows_trans, follows_again, follows_rises}
 use Rattle.bound_table.proofs.Seeing.{within_first, upto_next}
 use Rattle.bound_table.proofs.Claiming.{keeps_refl, keeps_trans}
 use Rattle.bound_table.proofs.table.BoundTable.rise_to.Goals as goal

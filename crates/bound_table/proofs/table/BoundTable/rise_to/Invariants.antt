@@ -1,4 +1,4 @@
-use Rattle.std.proofs.Common.{ℕ, ◌≡◌, ◌<◌, ◌≤◌, slice_index}
+use Rattle.std.proofs.Common.{ℕ, ◌<◌, ◌≤◌, slice_index}
 use Rattle.bound_table.specs.Kept.{Follows}
 use Rattle.bound_table.specs.Views.{KeepsClaims}
 use Rattle.bound_table.proofs.table.BoundTable.rise_to.Given as goal

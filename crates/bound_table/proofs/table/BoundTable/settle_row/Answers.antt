@@ -1,4 +1,4 @@
-use Rattle.std.proofs.Common.{rules, arith, ap, sym, ◌≡◌, ◌≤◌, ◌∙◌, ℕ, sum, length}
+use Rattle.std.proofs.Common.{rules, arith, ap, sym, ◌≡◌, ◌≤◌, sum, length}
 use Rattle.pull_system.specs.System.{SystemView}
 use Rattle.pull_system.specs.Rows.{row_at}
 use Rattle.bound_table.proofs.Allowed.{bounds_along}

@@ -1,8 +1,8 @@
-use Rattle.std.proofs.Common.{rules, arith, ap, sym, ◌≡◌, ◌≤◌, ◌∙◌, ℕ, sum, get_or, length}
+use Rattle.std.proofs.Common.{rules, arith, ap, sym, ◌≡◌, ◌≤◌, sum, get_or}
 use Rattle.pull_system.specs.System.{SystemView}
 use Rattle.pull_system.specs.Rows.{row_at}
 use Rattle.bound_table.proofs.Allowed.{bounds_along}
-use Rattle.bound_table.proofs.Floors.{follows_trans, follows_again, row_sum}
+use Rattle.bound_table.proofs.Floors.{follows_trans, row_sum}
 use Rattle.bound_table.proofs.Seeing.{vector_small, follows_along, least_along, lent_asking, fewer_looks}
 use Rattle.bound_table.proofs.table.BoundTable.settle_row_after.Goals as goal
 
