@@ -1,9 +1,9 @@
 -- Rows of asks: made by one pull after another, read by their place, and counted.
-use Rattle.std.proofs.Common.{◌≡◌, ℕ, zero, suc, ◌+◌, ◌-◌, ◌*◌, ◌/◌, ◌^◌, ◌<◌, ◌≤◌, ◌⊎◌, inl, inr, Some, List, [], ◌∷◌, ◌++◌, length, get_or, set, max, take, drop, replicate, refl, arith, sym, ap, ◌∙◌, subst, length-append, get_or-set_same}
+use Rattle.std.proofs.Common.{◌≡◌, ℕ, zero, suc, ◌+◌, ◌-◌, ◌*◌, ◌^◌, ◌<◌, ◌≤◌, ◌⊎◌, inl, inr, Some, List, [], ◌∷◌, ◌++◌, length, get_or, set, max, take, drop, replicate, refl, arith, sym, ap, ◌∙◌, subst, length-append, get_or-set_same}
 use Rattle.std.proofs.lemmas.List.{length-set, length-replicate, length-take, length-drop, get_or-take, get_or-drop}
 use Rattle.std.proofs.Math.Seq.{take-append_seam}
 use Rattle.std.proofs.Math.Nat.{mul-le-mul_left}
-use Rattle.std.proofs.lemmas.Nat.{div-mul-add}
+use Rattle.std.proofs.lemmas.Nat.{same_from_place}
 use Rattle.std.proofs.lemmas.Bool.{cases_eq}
 use Rattle.std.specs.Prelude.{slice_index, slice_get}
 use Rattle.std.proofs.lemmas.Option.{get_or_from_slice_get}
@@ -25,12 +25,6 @@ max_case a b = grind arith
 asked_along : (system : SystemView) (process x s t m n : ℕ) → s ≡ t → m ≡ n → IsAskedBy system process x s m → IsAskedBy system process x t n
 asked_along system process x s t m n same_target same asked =
     record { k = asked.k; there = asked.there; from = asked.from; to = asked.to ∙ same_target; asks = asked.asks ∙ same }
-
--- the places of two words in rows of one size
-place_is : (n x y i j : ℕ) → i < n → j < n → x * n + i ≡ y * n + j → (x ≡ y) × (i ≡ j)
-place_is n x y i j lt less same =
-    let rows : x ≡ y = sym (div-mul-add x n i lt) ∙ ap (λ (p : ℕ). p / n) same ∙ div-mul-add y n j less in
-    (rows, omega (arith, same, ap (λ (z : ℕ). z * n) rows))
 
 keep_at : (now new : List ℕ) (place value i : ℕ) → new ≡ set now place value → (i ≡ place → ⊥) → get_or new i 0 ≡ get_or now i 0
 keep_at now new place value i same other =
@@ -57,7 +51,7 @@ upto_more pull procs count before now new upto few room same = record {
         subst P (sym last) (ap (λ xs. get_or xs place 0) same ∙ get_or-set_same now place value 0 room ∙ ap (λ m. max m (get_or pull.table count 0)) (upto.later count (omega arith)))
   ];
   later = λ x le. keep x (λ e. omega (arith, le, e)) ∙ upto.later x (omega (arith, le));
-  others = λ x target there other. keep_at now new place value (x * procs + target) same (λ e. other (place_is procs x count target pull.dst there few e).1) ∙ upto.others x target there other;
+  others = λ x target there other. keep_at now new place value (x * procs + target) same (λ e. other (same_from_place x target count pull.dst procs there few e).1) ∙ upto.others x target there other;
 }
   where
     place : ℕ
@@ -67,7 +61,7 @@ upto_more pull procs count before now new upto few room same = record {
     value = max (get_or now place 0) (get_or pull.table count 0)
 
     keep : (x : ℕ) → (x ≡ count → ⊥) → get_or new (x * procs + pull.dst) 0 ≡ get_or now (x * procs + pull.dst) 0
-    keep x other = keep_at now new place value (x * procs + pull.dst) same (λ e. other (place_is procs x count pull.dst pull.dst few few e).0)
+    keep x other = keep_at now new place value (x * procs + pull.dst) same (λ e. other (same_from_place x pull.dst count pull.dst procs few few e).0)
 
 pub upto_whole : (pull : Pull) (procs count : ℕ) (before now : List ℕ) → AsksUpTo pull procs count before now → length pull.table ≤ count → HasAsked pull procs before now
 upto_whole pull procs count before now upto whole = record { size = upto.size; raised = λ x below. upto.raised x (omega (arith, below, whole)); others = upto.others }

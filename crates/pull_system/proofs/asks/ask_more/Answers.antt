@@ -1,4 +1,4 @@
-use Rattle.std.proofs.Common.{rules, arith, ◌≡◌, ℕ, ◌+◌, ◌*◌, ◌<◌, max, length, get_or, set, ap}
+use Rattle.std.proofs.Common.{rules, arith, ◌≡◌, ℕ, ◌+◌, ◌*◌, ◌<◌, length, set, ap}
 use Rattle.std.proofs.lemmas.Nat.{mul-add-lt}
 use Rattle.pull_system.proofs.Asking.{upto_more}
 use Rattle.pull_system.proofs.asks.ask_more.Goals as goal
@@ -9,5 +9,4 @@ loop-x-preserved c =
     let below : c.loop-x.x < length c.args.pull.now.table = search rules in
     let inside : place < c.args.procs * length c.args.pull.now.table = mul-add-lt c.loop-x.x c.args.procs c.args.pull.now.dst (length c.args.pull.now.table) below c.requires.target in
     let room : place < length c.loop-x.rows = omega (arith, inside, c.requires.room, c.loop-x.invariant.size) in
-    let value : c.max.result ≡ max (get_or c.loop-x.rows place 0) (get_or c.args.pull.now.table c.loop-x.x 0) = search rules in
-    upto_more c.args.pull.now c.args.procs c.loop-x.x c.args.rows.now c.loop-x.rows _ c.loop-x.invariant c.requires.target room (ap (set c.loop-x.rows place) value)
+    upto_more c.args.pull.now c.args.procs c.loop-x.x c.args.rows.now c.loop-x.rows _ c.loop-x.invariant c.requires.target room (ap (set c.loop-x.rows place) (search rules))
