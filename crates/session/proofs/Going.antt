@@ -1,5 +1,6 @@
 -- From one batch to the next.
-use Rattle.std.proofs.Common.{◌≡◌, ℕ, zero, suc, ◌-◌, ◌<◌, ◌≤◌, Bool, false, List, [], ◌∷◌, ◌++◌, length, map, replicate, get_or, Option, Some, None, slice_get, slice_index_or, refl, sym, ◌∙◌, ap, subst, arith, append-nil, length-append}
+use Rattle.std.proofs.Common.{◌≡◌, ℕ, zero, suc, ◌<◌, ◌≤◌, Bool, false, List, [], ◌∷◌, ◌++◌, length, map, replicate, get_or, Option, Some, None, slice_get, slice_index_or, IsSome, refl, sym, ◌∙◌, ap, subst, arith, append-nil, length-append}
+use Rattle.std.proofs.lemmas.Bool.{true≢false}
 use Rattle.std.proofs.lemmas.List.{length-map, length-replicate}
 use Rattle.std.proofs.lemmas.Option.{none-some, same_Some, slice_get_past}
 use Rattle.event_log.specs.declared.log.Event.{Event}
@@ -21,7 +22,8 @@ use Rattle.conjunctions.specs.Observing.{AreFull, scope_seen}
 use Rattle.conjunctions.specs.Numbering.{all_conjunctions}
 use Rattle.conjunctions.specs.Settling.{IsSettled, AreSettled, AreFloors, IsLater}
 use Rattle.conjunctions.specs.Answering.{IsAnswer}
-use Rattle.session.specs.Growing.{GrowingView, opened_observed, Stands, Keeps, Completes, MayGoOn, TakesBatch, HasAnswer}
+use Rattle.session.specs.Growing.{GrowingView, opened_observed, Stands, Keeps, Completes, TakesBatch, HasAnswer}
+use Rattle.session.proofs.OneTrace.{later_on, later_itself}
 use Rattle.session.proofs.Named.{watches_on}
 use Rattle.session.proofs.Taking.{is_later}
 
@@ -55,7 +57,7 @@ keeps_opened header on disjuncts fits made =
       unspent = refl;
       trace = is_trace (opened header) fits no_batch;
       made = made;
-      rows = record {
+      watched = record {
         whole = (is_trace (opened header) fits no_batch).whole;
         count = length-replicate (length on) [];
         process = λ w p is.
@@ -68,7 +70,9 @@ keeps_opened header on disjuncts fits made =
             );
         within = λ w p is. omega (arith, ap length (fresh_rows seen refl w));
       };
-      stands = record { batches = refl; unfed = refl; unsettled = refl };
+      full = λ taken. absurd (omega arith);
+      floors = record { floors = λ later is more. tt };
+      stands = tt;
     }
 
 pub keeps_new : (header : Header) (on : List (Option ℕ)) (disjuncts : List (List Part)) (trace : TraceView) (n : ℕ) (rows : List (List Bool)) (settled : List RowsView) → IsHeader header
@@ -126,9 +130,9 @@ module _ (before : Observed) (disjuncts : List (List Part)) (settled : List Rows
       let later = later_with (seen_with before trace) refl refl (λ w p on. more w) in
       record {
         whole = is_now.whole;
-        count = b.keeps.rows.count;
-        process = λ w p on. omega (arith, b.keeps.rows.process w p on, b.keeps.trace.whole.events, is_now.whole.events, ap (λ (h : Header). length h.procs) later.header);
-        within = λ w p on. omega (arith, b.keeps.rows.within w p on, longer_at before (seen_with before trace) later p);
+        count = b.keeps.watched.count;
+        process = λ w p on. omega (arith, b.keeps.watched.process w p on, b.keeps.trace.whole.events, is_now.whole.events, ap (λ (h : Header). length h.procs) later.header);
+        within = λ w p on. omega (arith, b.keeps.watched.within w p on, longer_at before (seen_with before trace) later p);
       }
 
   pub rows_now : HaveRows trace.states before.watch_process before.watch_rows
@@ -137,34 +141,24 @@ module _ (before : Observed) (disjuncts : List (List Part)) (settled : List Rows
   pub made_now : AreMadeFor (scope_seen (seen_with before trace)) (disjuncts_of disjuncts)
   made_now = subst (λ (h : Header). AreMadeFor (record { variables = map length h.vars; watch_process = before.watch_process }) (disjuncts_of disjuncts)) (sym (ap (λ (t : TraceView). t.states.header) b.taken)) b.keeps.made
 
-  floors_at : KeptRows → (o : Option Answer) → Stands before disjuncts settled o → (after : Observed) → Completes (seen_with before trace) after → AreFloors after settled (all_conjunctions (disjuncts_of disjuncts))
-  floors_at kept None stands after done = subst (λ (rows : List RowsView). AreFloors after rows (all_conjunctions (disjuncts_of disjuncts))) (sym stands.unsettled) tt
-  floors_at kept (Some a) stands after done =
-      kept before after (disjuncts_of disjuncts) settled b.keeps.trace (completed_trace after done) stands.full (completed_later after done) b.keeps.made.fit stands.settled
-
-  pub goes_on : KeptRows → MayGoOn (seen_with before trace) settled (all_conjunctions (disjuncts_of disjuncts))
-  goes_on kept = record { floors = floors_at kept answer b.keeps.stands }
-
   -- what is known behind the batch
-  pub keeps_on : (after : Observed) → Completes (seen_with before trace) after → (rows : List RowsView) (a : Answer) → IsAnswer after (disjuncts_of disjuncts) a
-      → AreSettled after (all_conjunctions (disjuncts_of disjuncts)) rows → Keeps after disjuncts rows (Some a)
-  keeps_on after done rows a is settles = record {
+  pub keeps_on : (after : Observed) → Completes (seen_with before trace) after → Keeps after disjuncts settled None
+  keeps_on after done = record {
     unspent = ap (λ (t : TraceView). t.spent) done.trace ∙ unspent;
     trace = completed_trace after done;
     made =
         subst (λ (t : TraceView). AreMadeFor (record { variables = map length t.states.header.vars; watch_process = after.watch_process }) (disjuncts_of disjuncts)) (sym done.trace)
         (subst (λ (on : List (Option ℕ)). AreMadeFor (record { variables = map length trace.states.header.vars; watch_process = on }) (disjuncts_of disjuncts)) (sym done.watches) made_now);
-    rows = record {
+    watched = record {
       whole = (completed_trace after done).whole;
       count = done.rows.count ∙ rows_now.count ∙ sym (ap length done.watches);
       process = λ w p on. subst (λ (t : TraceView). p < length t.states.events) (sym done.trace) (rows_now.process w p (ap (λ (ps : List (Option ℕ)). get_or ps w None) (sym done.watches) ∙ on));
       within = λ w p on. let h = (done.full.each p w on).1 in omega (arith, h);
     };
-    stands = record { full = done.full; answer = is; settled = settles };
+    full = λ taken. done.full;
+    floors = record { floors = λ later is more. b.keeps.floors.floors later is (later_on before after later (completed_later after done) more) };
+    stands = tt;
   }
-
-  pub taken_batches : (after : Observed) → Completes (seen_with before trace) after → 1 ≤ after.trace.batches
-  taken_batches after done = omega (arith, ap (λ (t : TraceView). t.batches) done.trace, ap (λ (t : TraceView). t.batches) b.taken)
 
   pub takes : (after : Observed) → Completes (seen_with before trace) after → (spent later_spent : Bool) (rows : List RowsView) (told : Option Answer)
       → TakesBatch (record { seen = before; disjuncts = disjuncts; settled = settled; answer = answer; spent = spent })
@@ -182,7 +176,24 @@ begun v w trace batch same keeps unspent fits told = record {
   taken = told.2;
 }
 
--- ---- what was answered
+-- ---- what is answered
+
+-- each conjunction may begin from its rows
+pub floors_now : (seen : Observed) (disjuncts : List (List Part)) (rows : List RowsView) (o : Option Answer) → Keeps seen disjuncts rows o → AreFloors seen rows (all_conjunctions (disjuncts_of disjuncts))
+floors_now seen disjuncts rows o keeps = keeps.floors.floors seen keeps.trace (later_itself seen)
+
+-- what is known behind the answer
+pub keeps_answered : KeptRows → (seen : Observed) (disjuncts : List (List Part)) (before : List RowsView) (o : Option Answer) → Keeps seen disjuncts before o → 1 ≤ seen.trace.batches → (rows : List RowsView) (a : Answer)
+    → IsAnswer seen (disjuncts_of disjuncts) a → AreSettled seen (all_conjunctions (disjuncts_of disjuncts)) rows → Keeps seen disjuncts rows (Some a)
+keeps_answered kept seen disjuncts before o keeps taken rows a is settles = record {
+  unspent = keeps.unspent;
+  trace = keeps.trace;
+  made = keeps.made;
+  watched = keeps.watched;
+  full = keeps.full;
+  floors = record { floors = λ later now more. kept seen later (disjuncts_of disjuncts) rows keeps.trace now (keeps.full taken) more keeps.made.fit settles };
+  stands = record { answer = is; settled = settles };
+}
 
 settled_count : (seen : Observed) (cs : List (List Piece)) (rows : List RowsView) → AreSettled seen cs rows → length rows ≡ length cs
 settled_count seen [] [] h = refl
@@ -197,25 +208,20 @@ settled_at seen (c ∷ cs) [] k r h is = absurd h
 settled_at seen (c ∷ cs) (x ∷ rows) zero r h is = subst (IsSettled seen c) (same_Some x r is) h.0
 settled_at seen (c ∷ cs) (x ∷ rows) (suc k) r h is = settled_at seen cs rows k r h.1 is
 
-stands_settled : (seen : Observed) (disjuncts : List (List Part)) (rows : List RowsView) (told : Option Answer) → Stands seen disjuncts rows told → 1 ≤ seen.trace.batches
-    → AreSettled seen (all_conjunctions (disjuncts_of disjuncts)) rows
-stands_settled seen disjuncts rows None stands taken = absurd (let none = stands.batches in omega arith)
-stands_settled seen disjuncts rows (Some a) stands taken = stands.settled
+stands_settled : (seen : Observed) (disjuncts : List (List Part)) (rows : List RowsView) (told : Option Answer) → Stands seen disjuncts rows told → IsSome told → AreSettled seen (all_conjunctions (disjuncts_of disjuncts)) rows
+stands_settled seen disjuncts rows None stands answered = absurd (true≢false (sym answered))
+stands_settled seen disjuncts rows (Some a) stands answered = stands.settled
 
 -- the rows of all conjunctions are there
 answered_rows : (v w : GrowingView) → v ≡ w → (v.spent ≡ false → Keeps v.seen v.disjuncts v.settled v.answer) → HasAnswer w → AreSettled v.seen (all_conjunctions (disjuncts_of v.disjuncts)) v.settled
 answered_rows v w same keeps has =
     let h = subst HasAnswer (sym same) has in
-    stands_settled v.seen v.disjuncts v.settled v.answer (keeps h.unspent).stands h.taken
-
-stands_full : (seen : Observed) (disjuncts : List (List Part)) (rows : List RowsView) (told : Option Answer) → Stands seen disjuncts rows told → 1 ≤ seen.trace.batches → AreFull seen
-stands_full seen disjuncts rows None stands taken = absurd (let none = stands.batches in omega arith)
-stands_full seen disjuncts rows (Some a) stands taken = stands.full
+    stands_settled v.seen v.disjuncts v.settled v.answer (keeps h.unspent).stands h.answered
 
 pub answered_full : (v w : GrowingView) → v ≡ w → (v.spent ≡ false → Keeps v.seen v.disjuncts v.settled v.answer) → HasAnswer w → AreFull v.seen
 answered_full v w same keeps has =
     let h = subst HasAnswer (sym same) has in
-    stands_full v.seen v.disjuncts v.settled v.answer (keeps h.unspent).stands h.taken
+    (keeps h.unspent).full h.taken
 
 pub kept_trace : (v w : GrowingView) → v ≡ w → (v.spent ≡ false → Keeps v.seen v.disjuncts v.settled v.answer) → HasAnswer w → IsTrace v.seen.trace.states
 kept_trace v w same keeps has = (keeps (subst HasAnswer (sym same) has).unspent).trace

@@ -1,6 +1,6 @@
 -- What was observed later than something later; batches that are joined; and one answer for one
 -- trace.
-use Rattle.std.proofs.Common.{◌≡◌, ℕ, ◌+◌, ℤ, Bool, List, [], ◌∷◌, ◌++◌, length, take, get_or, Option, Some, None, refl, sym, ◌∙◌, ap, subst, arith, append_assoc}
+use Rattle.std.proofs.Common.{◌≡◌, ℕ, ◌+◌, ℤ, Bool, List, [], ◌∷◌, ◌++◌, length, take, get_or, Option, Some, None, refl, sym, ◌∙◌, ap, subst, arith, append-nil, append_assoc}
 use Rattle.std.proofs.lemmas.List.{ext_get_or}
 use Rattle.std.proofs.Math.Seq.{take-append_seam}
 use Rattle.run_model.specs.Run.{process_at, states_of}
@@ -36,6 +36,21 @@ later_on before then after first second = record {
   states = λ p. more_on (states_seen before p) (states_seen then p) (states_seen after p) (first.states p) (second.states p);
   watches = second.watches ∙ first.watches;
   rows = λ w p on. more_on (row_of before w) (row_of then w) (row_of after w) (first.rows w p on) (second.rows w p (ap (λ (ps : List (Option ℕ)). get_or ps w None) first.watches ∙ on));
+}
+
+-- nothing came behind a list
+nothing_more : {X : Type 0} (a : List X) → (x : List X) × (a ≡ a ++ x)
+nothing_more a = ([], sym (append-nil a))
+
+-- what was observed is later than itself
+pub later_itself : (seen : Observed) → IsLater seen seen
+later_itself seen = record {
+  header = refl;
+  events = record { each = λ p. nothing_more (get_or seen.trace.states.events p []) };
+  clocks = record { count = refl; each = λ p. nothing_more (get_or (clocks_seen seen) p []) };
+  states = λ p. nothing_more (states_seen seen p);
+  watches = refl;
+  rows = λ w p on. nothing_more (row_of seen w);
 }
 
 -- ---- batches

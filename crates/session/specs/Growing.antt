@@ -1,6 +1,6 @@
 -- A formula over a trace that grows batch by batch.
 use Rattle.std.specs.Prelude.{◌≡◌, ℕ, ◌≤◌, Bool, false, List, [], ◌∷◌, ◌++◌, length, replicate}
-use Rattle.std.specs.Prelude.{Option, None, Some}
+use Rattle.std.specs.Prelude.{Option, None, Some, IsSome}
 use Rattle.event_log.specs.declared.log.Event.{Event}
 use Rattle.event_log.specs.declared.log.Header.{Header}
 use Rattle.trace_growth.specs.Growing.{IsTrace, opened_trace, with_trace_batch}
@@ -43,38 +43,41 @@ opened_growing header on disjuncts = record {
   spent = false;
 }
 
--- no batch was taken, and no watch was fed
-pub record IsFresh (seen : Observed) (rows : List RowsView) : Type 0 where
-  pub batches : seen.trace.batches ≡ 0
-  pub unfed : seen.watch_rows ≡ replicate (length seen.watch_process) []
-  pub unsettled : rows ≡ []
+-- each conjunction may begin from its rows, on what was observed and on all that is observed later
+pub record MayGoOn (seen : Observed) (rows : List RowsView) (cs : List (List Piece))
+    : Type 0 where
+  pub floors : (later : Observed) → IsTrace later.trace.states → IsLater seen later
+      → AreFloors later rows cs
 
--- the answer is that of the formula on what was observed, the rows are those of its conjunctions,
--- and each named watch has answered each state
+-- the answer is that of the formula on what was observed, and the rows are those of its
+-- conjunctions
 pub record IsAnswered (seen : Observed) (disjuncts : List (List Part)) (rows : List RowsView)
     (told : Answer) : Type 0 where
-  pub full : AreFull seen
   pub answer : IsAnswer seen (disjuncts_of disjuncts) told
   pub settled : AreSettled seen (all_conjunctions (disjuncts_of disjuncts)) rows
 
--- nothing was answered before the first batch
+-- nothing is said where there is no answer
 abbrev pub Stands : Observed → List (List Part) → List RowsView → Option Answer → Type 0
-Stands seen disjuncts settled None = IsFresh seen settled
-Stands seen disjuncts settled (Some answer) = IsAnswered seen disjuncts settled answer
+Stands seen disjuncts rows None = Unit {0}
+Stands seen disjuncts rows (Some answer) = IsAnswered seen disjuncts rows answer
 
--- the trace goes on, the formula is made for it and for the watches, and what was answered is of it
-pub record Keeps (seen : Observed) (disjuncts : List (List Part)) (settled : List RowsView)
+-- the trace goes on, the formula is made for it and for the watches, each named watch has answered
+-- each state of the batches, and what was answered and settled is of what was observed
+pub record Keeps (seen : Observed) (disjuncts : List (List Part)) (rows : List RowsView)
     (answer : Option Answer) : Type 0 where
   pub unspent : seen.trace.spent ≡ false
   pub trace : IsTrace seen.trace.states
   pub made : AreMadeFor (scope_seen seen) (disjuncts_of disjuncts)
-  pub rows : HaveRows seen.trace.states seen.watch_process seen.watch_rows
-  pub stands : Stands seen disjuncts settled answer
+  pub watched : HaveRows seen.trace.states seen.watch_process seen.watch_rows
+  pub full : 1 ≤ seen.trace.batches → AreFull seen
+  pub floors : MayGoOn seen rows (all_conjunctions (disjuncts_of disjuncts))
+  pub stands : Stands seen disjuncts rows answer
 
--- a batch was taken, and memory sufficed so far
+-- a batch was taken, memory sufficed so far, and the answer on the trace so far was made
 pub record HasAnswer (growing : GrowingView) : Type 0 where
   pub unspent : growing.spent ≡ false
   pub taken : 1 ≤ growing.seen.trace.batches
+  pub answered : IsSome growing.answer
 
 -- the batch was taken: its events stand behind those of the trace, all that was observed before is
 -- there still, each named watch has answered each state, and the formula is as before
@@ -94,11 +97,6 @@ pub record Completes (before after : Observed) : Type 0 where
   pub watches : after.watch_process ≡ before.watch_process
   pub rows : RowsHaveGrown before.watch_process before.watch_rows after.watch_rows
   pub full : AreFull after
-
--- whatever the watches will answer, each conjunction may begin from its rows of before
-pub record MayGoOn (seen : Observed) (settled : List RowsView) (cs : List (List Piece))
-    : Type 0 where
-  pub floors : (after : Observed) → Completes seen after → AreFloors after settled cs
 
 -- the events of batches in their order
 abbrev pub all_events : List (List Event) → List Event

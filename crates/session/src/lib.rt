@@ -1,11 +1,15 @@
 //! A formula over a trace that grows by batches.
 //!
-//! `Session::extend` takes a batch whole, or answers exactly its first fault and is as before, and
-//! the boxes of the watches too (`ok`, `fault`). After want of memory it is spent: it answers that
-//! from then on and feeds nothing (`memory`, `spent`). After each batch `Session::answer` has the
-//! truth of the formula, its slice and its parts on the trace so far, and `Session::settled` the
-//! rows of each of the `Session::conjunctions`. The rows of a conjunction of atoms are kept from
-//! batch to batch, and one worker takes at most the steps of their rise (`looks`).
+//! `Session::observe` takes a batch whole, or answers exactly its first fault and is as before, and
+//! the boxes of the watches too (`ok`, `fault`). It makes no answer. `Session::settle` makes the
+//! answer on the trace so far, by however many batches it came, and does nothing where that answer
+//! is there already (`again`). `Session::extend` is the two in a row. After want of memory the
+//! session is spent: it answers that from then on and feeds nothing (`memory`, `spent`).
+//!
+//! `Session::answer` has the truth of the formula, its slice and its parts on the trace so far, and
+//! `Session::settled` the rows of each of the `Session::conjunctions`. The rows of a conjunction of
+//! atoms are kept from answer to answer (`rows`), and one worker takes at most the steps of their
+//! rise (`looks`). So batches that nobody asks an answer for cost no look-up.
 //!
 //! A watch that the formula names is fed each state of its process once, in order (`fed`), so its
 //! row is what it answered from the start on (`since_start`, `answers`). The others are

@@ -1,7 +1,7 @@
 //! A session: a formula over a growing trace, and the watches that it names.
 ghost use Rattle.std.specs.Prelude.{◌≡◌, ◌↔◌, ◌<◌, ◌≤◌, ◌-◌, ℤ, List as ListOf, [], Some, None};
 ghost use Rattle.std.specs.Prelude.{true, false, length, slice_index_or, Err, ◌+◌, IsTrue, IfOk};
-ghost use Rattle.std.specs.Prelude.{OnOk};
+ghost use Rattle.std.specs.Prelude.{OnOk, OnErr, IsOk, IsSome};
 ghost use Rattle.event_log.specs.States.{IsHeader};
 ghost use Rattle.pota_base.specs.declared.fault.Refused.TheVariants as refused;
 ghost use Rattle.vector_clock.specs.Faults.{batch_fault};
@@ -17,7 +17,7 @@ ghost use Rattle.conjunctions.specs.Answering.{IsAnswer};
 ghost use Rattle.session.specs.Growing.{opened_observed, opened_growing, HasAnswer, TakesBatch};
 ghost use Rattle.session.specs.Fed.{Feeds, AreFedFrom, AnswersAs};
 
-use crate::batch::take_batch;
+use crate::batch::{answer_seen, feed_batch};
 use crate::growing::Growing;
 use conjunctions::{Answer, Observed, settled_rows_are_kept};
 use event_log::{Event, Header, LogFault};
@@ -63,8 +63,130 @@ impl Session {
         })
     }
 
-    /// Takes a whole batch, or none of it, and makes its answer by 1 to 16 workers. It may wait for
-    /// the threads that it joins.
+    /// Takes a whole batch, or none of it, and makes no answer.
+    ///
+    /// A fault is the first of the batch's clocks and messages, at the line of its event: the
+    /// session is then as before, and no watch was fed. After want of memory the session is spent:
+    /// it answers that from then on, and feeds nothing.
+    pub fn observe(&mut self, batch: List<Event>) -> Result<(), Refused<LogFault>>
+        requires batch { self.old.growing.spent ≡ false
+            → FitsTrace self.old.growing.seen.trace batch }
+        ensures ok { OnOk result ((self.old.growing.spent ≡ false)
+            × (batch_fault self.old.growing.seen.trace.states.events batch ≡ None)
+            × TakesBatch self.old.growing self.new.growing batch) }
+        ensures unspent { OnOk result (self.new.growing.spent ≡ false) }
+        ensures unanswered { OnOk result (self.new.growing.answer ≡ None) }
+        ensures rows { OnOk result (self.new.growing.settled ≡ self.old.growing.settled) }
+        ensures fed { OnOk result (Feeds
+            (λ h. answers (h.watch.vtable, h.watch.value))
+            self.old.watches.items self.new.watches.items
+            self.old.growing.seen self.new.growing.seen) }
+        ensures since_start { (handed : _) → AreFedFrom
+            (λ h. answers (h.watch.vtable, h.watch.value))
+            handed self.old.watches.items self.old.growing.seen
+            → OnOk result (AreFedFrom
+            (λ h. answers (h.watch.vtable, h.watch.value))
+            handed self.new.watches.items self.new.growing.seen) }
+        ensures answers { (handed : _) (reading : Reading) → AreFedFrom
+            (λ h. answers (h.watch.vtable, h.watch.value))
+            handed self.old.watches.items self.old.growing.seen
+            → AnswersAs
+            (λ h. answers (h.watch.vtable, h.watch.value))
+            handed reading
+            → OnOk result (AreAnswers self.new.growing.seen reading) }
+        ensures fault { IfFault result (λ fault. (self.old.growing.spent ≡ false)
+            × (batch_fault self.old.growing.seen.trace.states.events batch ≡ Some fault)
+            × (self.new.growing ≡ self.old.growing) × (self.new.watches ≡ self.old.watches)) }
+        ensures memory { IfWantsMemory result (self.new.growing.spent ≡ true) }
+        ensures spent { self.old.growing.spent ≡ true
+            → (result ≡ Err refused.NoMemory) × (self.new.growing ≡ self.old.growing)
+            × (self.new.watches ≡ self.old.watches) }
+    {
+        if self.growing.spent {
+            return Err(Refused::NoMemory);
+        }
+        match self.growing.seen.trace.extend(batch) {
+            Ok(()) => {}
+            Err(Refused::Fault(fault)) => return Err(Refused::Fault(fault)),
+            Err(Refused::NoMemory) => {
+                self.growing.spent = true;
+                return Err(Refused::NoMemory);
+            }
+        }
+        match feed_batch(
+            self.growing.alloc,
+            &mut self.growing.seen,
+            &mut self.watches,
+        ) {
+            Ok(()) => {
+                self.growing.answer = None;
+                Ok(())
+            }
+            Err(NoMemory) => {
+                self.growing.spent = true;
+                Err(Refused::NoMemory)
+            }
+        }
+    }
+
+    // Whether the answer on the trace so far was made.
+    fn is_answered(&self) -> bool
+        ensures { IsTrue result ↔ IsSome self.now.growing.answer }
+    {
+        self.growing.answer.is_some()
+    }
+
+    /// Makes the answer on the trace so far by 1 to 16 workers, where it isn't there already. It
+    /// may wait for the threads that it joins. After want of memory the session is spent.
+    pub fn settle<R: Threads + Sync, G: Gate, L: Ledger>(
+        &mut self,
+        rt: &R,
+        workers: u32,
+        gate: &G,
+        steps: &mut Steps<L>,
+    ) -> Result<(), NoMemory>
+        requires unspent { self.old.growing.spent ≡ false }
+        requires taken { 1 ≤ self.old.growing.seen.trace.batches }
+        requires some { 1 ≤ workers }
+        requires few { workers ≤ 16 }
+        ensures answer { OnOk result (HasAnswer self.new.growing) }
+        ensures seen { self.new.growing.seen ≡ self.old.growing.seen }
+        ensures disjuncts { self.new.growing.disjuncts ≡ self.old.growing.disjuncts }
+        ensures watches { self.new.watches ≡ self.old.watches }
+        ensures looks { OnOk result (workers ≡ 1 → steps.new ≤ steps.old
+            + bounds (lens_seen self.old.growing.seen) self.old.growing.settled
+            (all_conjunctions (disjuncts_of self.old.growing.disjuncts)) self.new.growing.settled) }
+        ensures again { IsSome self.old.growing.answer → IsOk result
+            × (self.new.growing ≡ self.old.growing) × (steps.new ≡ steps.old) }
+        ensures memory { OnErr result (self.new.growing.spent ≡ true) }
+    {
+        if self.is_answered() {
+            return Ok(());
+        }
+        settled_rows_are_kept();
+        match answer_seen(
+            rt,
+            self.growing.alloc,
+            &self.growing.seen,
+            &self.growing.disjuncts,
+            &mut self.growing.settled,
+            workers,
+            gate,
+            steps,
+        ) {
+            Ok(answer) => {
+                self.growing.answer = Some(answer);
+                Ok(())
+            }
+            Err(NoMemory) => {
+                self.growing.spent = true;
+                Err(NoMemory)
+            }
+        }
+    }
+
+    /// Takes a whole batch, or none of it, and makes its answer by 1 to 16 workers: `observe`, and
+    /// then `settle`. It may wait for the threads that it joins.
     ///
     /// A fault is the first of the batch's clocks and messages, at the line of its event: the
     /// session is then as before, and no watch was fed. After want of memory the session is spent:
@@ -114,38 +236,9 @@ impl Session {
             → (result ≡ Err refused.NoMemory) × (self.new.growing ≡ self.old.growing)
             × (self.new.watches ≡ self.old.watches) × (steps.new ≡ steps.old) }
     {
-        if self.growing.spent {
-            return Err(Refused::NoMemory);
-        }
-        match self.growing.seen.trace.extend(batch) {
-            Ok(()) => {}
-            Err(Refused::Fault(fault)) => return Err(Refused::Fault(fault)),
-            Err(Refused::NoMemory) => {
-                self.growing.spent = true;
-                return Err(Refused::NoMemory);
-            }
-        }
-        settled_rows_are_kept();
-        match take_batch(
-            rt,
-            self.growing.alloc,
-            &mut self.growing.seen,
-            &self.growing.disjuncts,
-            &mut self.watches,
-            &mut self.growing.settled,
-            workers,
-            gate,
-            steps,
-        ) {
-            Ok(answer) => {
-                self.growing.answer = Some(answer);
-                Ok(())
-            }
-            Err(NoMemory) => {
-                self.growing.spent = true;
-                Err(Refused::NoMemory)
-            }
-        }
+        self.observe(batch)?;
+        self.settle(rt, workers, gate, steps)?;
+        Ok(())
     }
 
     /// Whether memory was wanted.
@@ -171,8 +264,7 @@ impl Session {
         &self.growing.seen
     }
 
-    /// The answer of the last batch that was taken, on what the watches answered to all states so
-    /// far.
+    /// The answer on the trace so far, and on what the watches answered to all its states.
     pub fn answer(&self) -> &Answer
         requires { HasAnswer self.now.growing }
         ensures answer { IsAnswer self.now.growing.seen

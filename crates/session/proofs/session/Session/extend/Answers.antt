@@ -1,51 +1,8 @@
-use Rattle.std.proofs.Common.{◌≡◌, None, Some, false, length, sym, ◌∙◌, ap, subst}
-use Rattle.vector_clock.specs.Faults.{batch_fault}
-use Rattle.session.specs.Growing.{GrowingView, TakesBatch}
-use Rattle.session.proofs.Feeding.{along, rows_within, feeds_from, fed_after, answers_since}
-use Rattle.session.proofs.Going.{begun, rows_now, goes_on, keeps_on, takes, completed_later, completed_trace}
+use Rattle.std.proofs.Common.{sym, subst}
+use Rattle.conjunctions.specs.declared.observed.Observed.{Observed}
+use Rattle.conjunctions.specs.Observing.{AreAnswers}
 use Rattle.session.proofs.session.Session.extend.Goals as goal
 
-pub take_batch-requires-clause-rows : goal.take_batch-requires-clause-rows
-take_batch-requires-clause-rows g c κs within =
-    let same = along c.self.view_is (λ s. s.growing) in
-    rows_now _ _ _ _ _ c.args.batch (begun _ c.args.self.now.growing c.extend.new.self c.args.batch same c.self.invariant c.if-self.false c.requires.batch c.in-Ok.ensures.ok)
-
-pub take_batch-requires-clause-floors : goal.take_batch-requires-clause-floors
-take_batch-requires-clause-floors g c κs within =
-    let same = along c.self.view_is (λ s. s.growing) in
-    goes_on _ _ _ _ _ c.args.batch (begun _ c.args.self.now.growing c.extend.new.self c.args.batch same c.self.invariant c.if-self.false c.requires.batch c.in-Ok.ensures.ok) c.settled_rows_are_kept.ensures
-
-pub invariant_of-self-in-Ok-take_batch : goal.invariant_of-self-in-Ok-take_batch
-invariant_of-self-in-Ok-take_batch g c = λ unspent.
-    let same = along c.self.view_is (λ s. s.growing) in
-    keeps_on _ _ _ _ _ c.args.batch (begun _ c.args.self.now.growing c.extend.new.self c.args.batch same c.self.invariant c.if-self.false c.requires.batch c.in-Ok.ensures.ok)
-    c.take_batch.new.seen c.in-Ok-take_batch.ensures.completes c.take_batch.new.settled c.in-Ok-take_batch.answer c.in-Ok-take_batch.ensures.answer c.in-Ok-take_batch.ensures.settled
-
-pub returns-in-Ok-take_batch-clause-ok : goal.returns-in-Ok-take_batch-clause-ok
-returns-in-Ok-take_batch-clause-ok g c =
-    let same = along c.self.view_is (λ s. s.growing) in
-    let b = begun _ c.args.self.now.growing c.extend.new.self c.args.batch same c.self.invariant c.if-self.false c.requires.batch c.in-Ok.ensures.ok in
-    subst (λ (v : GrowingView). (v.spent ≡ false) × (batch_fault v.seen.trace.states.events c.args.batch ≡ None) × TakesBatch v (record { seen = c.take_batch.new.seen; disjuncts = c.self.inside.0.0.disjuncts; settled = c.take_batch.new.settled; answer = Some c.in-Ok-take_batch.answer; spent = c.self.inside.0.0.spent }) c.args.batch) same
-    (c.if-self.false, c.in-Ok.ensures.ok.1, takes _ _ _ _ _ c.args.batch b c.take_batch.new.seen c.in-Ok-take_batch.ensures.completes c.self.inside.0.0.spent c.self.inside.0.0.spent c.take_batch.new.settled (Some c.in-Ok-take_batch.answer))
-
-pub returns-in-Ok-take_batch-clause-since_start : goal.returns-in-Ok-take_batch-clause-since_start
-returns-in-Ok-take_batch-clause-since_start g c = λ handed since.
-    let same = along c.self.view_is (λ s. s.growing) in
-    let b = begun _ c.args.self.now.growing c.extend.new.self c.args.batch same c.self.invariant c.if-self.false c.requires.batch c.in-Ok.ensures.ok in
-    let done = c.in-Ok-take_batch.ensures.completes in
-    let after = c.take_batch.new.seen in
-    fed_after c.self.view_is (λ s. s.growing.seen) (λ s. s.watches.items) _ handed c.take_batch.new.watches.items after (completed_trace _ _ _ _ _ c.args.batch b after done)
-    (rows_within c.self.inside.0.0.seen b.keeps.trace b.keeps.rows) done.full (completed_later _ _ _ _ _ c.args.batch b after done)
-    (feeds_from _ c.self.inside.0.1.0.items c.take_batch.new.watches.items c.self.inside.0.0.seen after c.extend.new.self c.in-Ok-take_batch.ensures.fed) since
-
-pub returns-in-Ok-take_batch-clause-answers : goal.returns-in-Ok-take_batch-clause-answers
-returns-in-Ok-take_batch-clause-answers g c = λ handed reading since as_handed.
-    let same = along c.self.view_is (λ s. s.growing) in
-    let b = begun _ c.args.self.now.growing c.extend.new.self c.args.batch same c.self.invariant c.if-self.false c.requires.batch c.in-Ok.ensures.ok in
-    let done = c.in-Ok-take_batch.ensures.completes in
-    let after = c.take_batch.new.seen in
-    let is = completed_trace _ _ _ _ _ c.args.batch b after done in
-    let feeds = feeds_from _ c.self.inside.0.1.0.items c.take_batch.new.watches.items c.self.inside.0.0.seen after c.extend.new.self c.in-Ok-take_batch.ensures.fed in
-    let fed = fed_after c.self.view_is (λ s. s.growing.seen) (λ s. s.watches.items) _ handed c.take_batch.new.watches.items after is (rows_within c.self.inside.0.0.seen b.keeps.trace b.keeps.rows) done.full
-    (completed_later _ _ _ _ _ c.args.batch b after done) feeds since in
-    answers_since _ handed c.take_batch.new.watches.items after reading is done.full (sym fed.count ∙ c.in-Ok-take_batch.ensures.paired ∙ c.self.inside.1.0 ∙ ap length (sym done.watches)) fed as_handed
+pub returns-clause-answers : goal.returns-clause-answers
+returns-clause-answers g c = λ handed reading since as_handed.
+    subst (λ (s : Observed). AreAnswers s reading) (sym c.settle.ensures.seen) (c.in_ok-observe.ensures.answers handed reading since as_handed)

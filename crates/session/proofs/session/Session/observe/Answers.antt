@@ -1,0 +1,46 @@
+use Rattle.std.proofs.Common.{◌≡◌, None, false, length, sym, ◌∙◌, ap, subst}
+use Rattle.vector_clock.specs.Faults.{batch_fault}
+use Rattle.session.specs.Growing.{GrowingView, TakesBatch}
+use Rattle.session.proofs.Feeding.{along, rows_within, feeds_from, fed_after, answers_since}
+use Rattle.session.proofs.Going.{begun, rows_now, keeps_on, takes, completed_later, completed_trace}
+use Rattle.session.proofs.session.Session.observe.Goals as goal
+
+pub feed_batch-requires-clause-rows : goal.feed_batch-requires-clause-rows
+feed_batch-requires-clause-rows g c =
+    let same = along c.self.view_is (λ s. s.growing) in
+    rows_now _ _ _ _ _ c.args.batch (begun _ c.args.self.now.growing c.extend.new.self c.args.batch same c.self.invariant c.if-self.false c.requires.batch c.in-Ok.ensures.ok)
+
+pub invariant_of-self-in-Ok-feed_batch : goal.invariant_of-self-in-Ok-feed_batch
+invariant_of-self-in-Ok-feed_batch g c = λ unspent.
+    let same = along c.self.view_is (λ s. s.growing) in
+    keeps_on _ _ _ _ _ c.args.batch (begun _ c.args.self.now.growing c.extend.new.self c.args.batch same c.self.invariant c.if-self.false c.requires.batch c.in-Ok.ensures.ok)
+    c.feed_batch.new.seen c.in-Ok-feed_batch.ensures.completes
+
+pub returns-in-Ok-feed_batch-clause-ok : goal.returns-in-Ok-feed_batch-clause-ok
+returns-in-Ok-feed_batch-clause-ok g c =
+    let same = along c.self.view_is (λ s. s.growing) in
+    let b = begun _ c.args.self.now.growing c.extend.new.self c.args.batch same c.self.invariant c.if-self.false c.requires.batch c.in-Ok.ensures.ok in
+    subst (λ (v : GrowingView). (v.spent ≡ false) × (batch_fault v.seen.trace.states.events c.args.batch ≡ None) × TakesBatch v (record { seen = c.feed_batch.new.seen; disjuncts = c.self.inside.0.0.disjuncts; settled = c.self.inside.0.0.settled; answer = None; spent = c.self.inside.0.0.spent }) c.args.batch) same
+    (c.if-self.false, c.in-Ok.ensures.ok.1, takes _ _ _ _ _ c.args.batch b c.feed_batch.new.seen c.in-Ok-feed_batch.ensures.completes c.self.inside.0.0.spent c.self.inside.0.0.spent c.self.inside.0.0.settled None)
+
+pub returns-in-Ok-feed_batch-clause-since_start : goal.returns-in-Ok-feed_batch-clause-since_start
+returns-in-Ok-feed_batch-clause-since_start g c = λ handed since.
+    let same = along c.self.view_is (λ s. s.growing) in
+    let b = begun _ c.args.self.now.growing c.extend.new.self c.args.batch same c.self.invariant c.if-self.false c.requires.batch c.in-Ok.ensures.ok in
+    let done = c.in-Ok-feed_batch.ensures.completes in
+    let after = c.feed_batch.new.seen in
+    fed_after c.self.view_is (λ s. s.growing.seen) (λ s. s.watches.items) _ handed c.feed_batch.new.watches.items after (completed_trace _ _ _ _ _ c.args.batch b after done)
+    (rows_within c.self.inside.0.0.seen b.keeps.trace b.keeps.watched) done.full (completed_later _ _ _ _ _ c.args.batch b after done)
+    (feeds_from _ c.self.inside.0.1.0.items c.feed_batch.new.watches.items c.self.inside.0.0.seen after c.extend.new.self c.in-Ok-feed_batch.ensures.fed) since
+
+pub returns-in-Ok-feed_batch-clause-answers : goal.returns-in-Ok-feed_batch-clause-answers
+returns-in-Ok-feed_batch-clause-answers g c = λ handed reading since as_handed.
+    let same = along c.self.view_is (λ s. s.growing) in
+    let b = begun _ c.args.self.now.growing c.extend.new.self c.args.batch same c.self.invariant c.if-self.false c.requires.batch c.in-Ok.ensures.ok in
+    let done = c.in-Ok-feed_batch.ensures.completes in
+    let after = c.feed_batch.new.seen in
+    let is = completed_trace _ _ _ _ _ c.args.batch b after done in
+    let feeds = feeds_from _ c.self.inside.0.1.0.items c.feed_batch.new.watches.items c.self.inside.0.0.seen after c.extend.new.self c.in-Ok-feed_batch.ensures.fed in
+    let fed = fed_after c.self.view_is (λ s. s.growing.seen) (λ s. s.watches.items) _ handed c.feed_batch.new.watches.items after is (rows_within c.self.inside.0.0.seen b.keeps.trace b.keeps.watched) done.full
+    (completed_later _ _ _ _ _ c.args.batch b after done) feeds since in
+    answers_since _ handed c.feed_batch.new.watches.items after reading is done.full (sym fed.count ∙ c.in-Ok-feed_batch.ensures.paired ∙ c.self.inside.1.0 ∙ ap length (sym done.watches)) fed as_handed
