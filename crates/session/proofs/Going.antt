@@ -192,7 +192,7 @@ keeps_answered kept seen disjuncts before o keeps taken rows a is settles = reco
   watched = keeps.watched;
   full = keeps.full;
   floors = record { floors = λ later now more. kept seen later (disjuncts_of disjuncts) rows keeps.trace now (keeps.full taken) more keeps.made.fit settles };
-  stands = record { answer = is; settled = settles };
+  stands = record { taken = taken; answer = is; settled = settles };
 }
 
 settled_count : (seen : Observed) (cs : List (List Piece)) (rows : List RowsView) → AreSettled seen cs rows → length rows ≡ length cs
@@ -211,6 +211,15 @@ settled_at seen (c ∷ cs) (x ∷ rows) (suc k) r h is = settled_at seen cs rows
 stands_settled : (seen : Observed) (disjuncts : List (List Part)) (rows : List RowsView) (told : Option Answer) → Stands seen disjuncts rows told → IsSome told → AreSettled seen (all_conjunctions (disjuncts_of disjuncts)) rows
 stands_settled seen disjuncts rows None stands answered = absurd (true≢false (sym answered))
 stands_settled seen disjuncts rows (Some a) stands answered = stands.settled
+
+stands_taken : (seen : Observed) (disjuncts : List (List Part)) (rows : List RowsView) (told : Option Answer) → Stands seen disjuncts rows told → IsSome told → 1 ≤ seen.trace.batches
+stands_taken seen disjuncts rows None stands answered = absurd (true≢false (sym answered))
+stands_taken seen disjuncts rows (Some a) stands answered = stands.taken
+
+-- an answer that is there is that on the trace so far
+pub has_answer : (v w : GrowingView) → v ≡ w → (v.spent ≡ false → Keeps v.seen v.disjuncts v.settled v.answer) → v.spent ≡ false → IsSome v.answer → HasAnswer w
+has_answer v w same keeps unspent answered =
+    subst HasAnswer same (record { unspent = unspent; taken = stands_taken v.seen v.disjuncts v.settled v.answer (keeps unspent).stands answered; answered = answered })
 
 -- the rows of all conjunctions are there
 answered_rows : (v w : GrowingView) → v ≡ w → (v.spent ≡ false → Keeps v.seen v.disjuncts v.settled v.answer) → HasAnswer w → AreSettled v.seen (all_conjunctions (disjuncts_of v.disjuncts)) v.settled

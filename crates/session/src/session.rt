@@ -1,7 +1,7 @@
 //! A session: a formula over a growing trace, and the watches that it names.
 ghost use Rattle.std.specs.Prelude.{◌≡◌, ◌↔◌, ◌<◌, ◌≤◌, ◌-◌, ℤ, List as ListOf, [], Some, None};
 ghost use Rattle.std.specs.Prelude.{true, false, length, slice_index_or, Err, ◌+◌, IsTrue, IfOk};
-ghost use Rattle.std.specs.Prelude.{OnOk, OnErr, IsOk, IsSome};
+ghost use Rattle.std.specs.Prelude.{OnOk, OnErr, IsOk};
 ghost use Rattle.event_log.specs.States.{IsHeader};
 ghost use Rattle.pota_base.specs.declared.fault.Refused.TheVariants as refused;
 ghost use Rattle.vector_clock.specs.Faults.{batch_fault};
@@ -129,13 +129,6 @@ impl Session {
         }
     }
 
-    // Whether the answer on the trace so far was made.
-    fn is_answered(&self) -> bool
-        ensures { IsTrue result ↔ IsSome self.now.growing.answer }
-    {
-        self.growing.answer.is_some()
-    }
-
     /// Makes the answer on the trace so far by 1 to 16 workers, where it isn't there already. It
     /// may wait for the threads that it joins. After want of memory the session is spent.
     pub fn settle<R: Threads + Sync, G: Gate, L: Ledger>(
@@ -156,7 +149,7 @@ impl Session {
         ensures looks { OnOk result (workers ≡ 1 → steps.new ≤ steps.old
             + bounds (lens_seen self.old.growing.seen) self.old.growing.settled
             (all_conjunctions (disjuncts_of self.old.growing.disjuncts)) self.new.growing.settled) }
-        ensures again { IsSome self.old.growing.answer → IsOk result
+        ensures again { HasAnswer self.old.growing → IsOk result
             × (self.new.growing ≡ self.old.growing) × (steps.new ≡ steps.old) }
         ensures memory { OnErr result (self.new.growing.spent ≡ true) }
     {
@@ -246,6 +239,14 @@ impl Session {
         ensures { IsTrue result ↔ (self.now.growing.spent ≡ true) }
     {
         self.growing.spent
+    }
+
+    /// Whether the answer on the trace so far was made. So it is behind each `extend` and `settle`
+    /// that gave `Ok`, and behind an `observe` that gave it no more.
+    pub fn is_answered(&self) -> bool
+        ensures { IsTrue result ↔ HasAnswer self.now.growing }
+    {
+        !self.growing.spent && self.growing.answer.is_some()
     }
 
     /// The trace so far.
