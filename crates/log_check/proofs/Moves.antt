@@ -14,7 +14,7 @@ use Rattle.event_log.specs.declared.log.Event.{Event}
 use Rattle.event_log.specs.LogText.{HeaderFits, EventFits, event_count}
 use Rattle.event_log.proofs.Lists.{all_push}
 use Rattle.vector_clock.specs.Faults.{batch_fault}
-use Rattle.trace_growth.specs.Growing.{FitsTrace}
+use Rattle.trace_growth.specs.Growing.{TraceView, FitsTrace}
 use Rattle.rctl_parts.specs.declared.part.Part.{Part}
 use Rattle.rctl_parts.specs.declared.part.Resolved.{Resolved}
 use Rattle.rctl_parts.specs.Pieces as piece
@@ -40,7 +40,7 @@ use Rattle.log_judgement.specs.Due.{after_each, closed_of, batches_of}
 use Rattle.log_judgement.proofs.Items.{after_each-push}
 use Rattle.watch.specs.declared.predicate.Handed.{Handed}
 use Rattle.session.specs.declared.session.Session.{Session}
-use Rattle.session.specs.Growing.{GrowingView, HasAnswer, TakesBatch, opened_growing}
+use Rattle.session.specs.Growing.{GrowingView, TakesBatch, opened_growing}
 use Rattle.session.specs.Fed.{AreFedFrom, AnswersAs}
 use Rattle.log_check.specs.declared.check.LogCheck.{LogCheck}
 use Rattle.log_check.specs.Aims.{Says, Aim, rules_of, aim_of, names_of, watches_of, AreWatches}
@@ -104,7 +104,7 @@ module _ {X : Type 0} {P : X → Type 0} (says : Says X P) where
     trace = ap (λ (x : GrowingView). x.seen.trace) opened_;
     meaning = subst (λ (x : GrowingView). EachAlike (part_formulas (names.names_of header aim.names) (piece.disjuncts_of x.disjuncts)) (disjuncts true (formula_of aim.node))) (sym opened_)
         (subst (λ (fs : List (List Formula)). EachAlike fs (disjuncts true (formula_of aim.node))) (sym is.spelled) classed.meaning);
-    answered = λ some. absurd (omega (arith, some));
+    watched = λ some. absurd (omega (arith, some));
   }
 
   pub opens : (aim : Aim) (header : Header) (resolved : Resolved) (ds : List (List named.Piece)) (check now : LogCheck X P) (session : Session X P) → IsCheckOf says aim check waiting
@@ -284,7 +284,7 @@ module _ {X : Type 0} {P : X → Type 0} (says : Says X P) where
         refused_now : (l : Bool) → judge (rules_of aim) j (end_item l) ≡ refused (Some c.log) (refusal.Log f)
         refused_now l = ap (λ (x : Judgement). judge (rules_of aim) x (end_item l)) c.is ∙ refused_so l
 
-    module _ (next : Session X P) (free : batch_fault session.growing.seen.trace.states.events batch ≡ None) (takes : TakesBatch session.growing next.growing batch) (answer : HasAnswer next.growing)
+    module _ (next : Session X P) (free : batch_fault session.growing.seen.trace.states.events batch ≡ None) (takes : TakesBatch session.growing next.growing batch) (unspent : next.growing.spent ≡ false)
         (fed : (handed : List (Handed X P)) → AreFedFrom says handed session.watches.items session.growing.seen → AreFedFrom says handed next.watches.items next.growing.seen)
         (answers : AreAnswers next.growing.seen (reading_of aim)) (count : ℕ) (counts : count ≡ min (check.batches + 1) 4294967295) (es : List Event) (none : es ≡ []) where
       abbrev after : Prefix
@@ -293,10 +293,10 @@ module _ {X : Type 0} {P : X → Type 0} (says : Says X P) where
       taken_now : HasTaken aim next.growing after
       taken_now = record {
         fits = c.taken.fits;
-        unspent = answer.unspent;
+        unspent = unspent;
         trace = trace_closed session.growing.seen.trace next.growing.seen.trace c.log batch c.since c.taken.trace since_is takes.trace;
         meaning = subst (λ (ps : List (List Part)). EachAlike (part_formulas (names.names_of c.log.header aim.names) (piece.disjuncts_of ps)) (disjuncts true (formula_of aim.node))) (sym takes.disjuncts) c.taken.meaning;
-        answered = λ some_now. record { answer = answer; watches = answers; full = takes.full };
+        watched = λ some_now. record { taken = omega (arith, ap (λ (t : TraceView). t.batches) takes.trace); watches = answers; full = takes.full };
       }
 
       handed_now : AreHanded says aim next

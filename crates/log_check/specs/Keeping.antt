@@ -12,6 +12,7 @@ use Rattle.rctl_parts.specs.Spelled.{part_formulas}
 use Rattle.rctl_class.specs.Classed.{EachAlike}
 use Rattle.rctl_class.specs.Nodes.{formula_of}
 use Rattle.rctl_names.specs.Seen as names
+use Rattle.conjunctions.specs.declared.observed.Observed.{Observed}
 use Rattle.conjunctions.specs.Observing.{Reading, AreAnswers, AreFull}
 use Rattle.run_report.specs.Reports.{counted}
 use Rattle.log_judgement.specs.Judgement.{Prefix, followed_by, Judgement, waiting, growing}
@@ -38,11 +39,11 @@ trace_after log = record {
 abbrev pub reading_of : Aim → Reading
 reading_of aim = record { watch_names = aim.names; watches = aim.watches }
 
--- a batch was answered
-pub record IsAnswered (aim : Aim) (growing : GrowingView) : Type 0 where
-  pub answer : HasAnswer growing
-  pub watches : AreAnswers growing.seen (reading_of aim)
-  pub full : AreFull growing.seen
+-- batches were observed: each named watch has answered each state
+pub record IsWatched (aim : Aim) (seen : Observed) : Type 0 where
+  pub taken : 1 ≤ seen.trace.batches
+  pub watches : AreAnswers seen (reading_of aim)
+  pub full : AreFull seen
 
 -- the batches of the log were taken, for parts that mean what the formula does
 pub record HasTaken (aim : Aim) (growing : GrowingView) (log : Prefix) : Type 0 where
@@ -51,7 +52,7 @@ pub record HasTaken (aim : Aim) (growing : GrowingView) (log : Prefix) : Type 0 
   pub trace : growing.seen.trace ≡ trace_after log
   pub meaning : EachAlike (part_formulas (names.names_of log.header aim.names)
       (piece.disjuncts_of growing.disjuncts)) (disjuncts true (formula_of aim.node))
-  pub answered : 0 < length log.batches → IsAnswered aim growing
+  pub watched : 0 < length log.batches → IsWatched aim growing.seen
 
 -- the watches answer as those that were handed in, which were fed the states of the log so far
 pub record AreHanded {X : Type 0} {P : X → Type 0} (says : Says X P) (aim : Aim)
@@ -84,6 +85,12 @@ pub record IsOpen {X : Type 0} {P : X → Type 0} (says : Says X P) (aim : Aim)
   pub some : check.session ≡ Some session
   pub taken : HasTaken aim session.growing log
   pub watches : AreHanded says aim session
+
+-- the header came, and the answer on the batches so far was made
+pub record HasAnswered {X : Type 0} {P : X → Type 0} (check : LogCheck X P) : Type 0 where
+  pub session : Session X P
+  pub some : check.session ≡ Some session
+  pub answer : HasAnswer session.growing
 
 -- the items so far are judged so
 abbrev pub Keeps : {X : Type 0} {P : X → Type 0} → Says X P → Aim → LogCheck X P → Judgement

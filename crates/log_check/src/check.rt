@@ -9,6 +9,7 @@ ghost use Rattle.log_check.specs.Aims.{Aim, AreWatches, IsReportFor, aim_of, nam
 ghost use Rattle.log_check.specs.Aims.{watches_of};
 ghost use Rattle.log_check.specs.Checking.{GoesOn, HasClosed, IsCheckOf, IsRefusedAs, MayFollow};
 ghost use Rattle.log_check.specs.Checking.{end_item};
+ghost use Rattle.log_check.specs.Keeping.{HasAnswered};
 
 use answer_report::{Wanted, report_on};
 use event_log::{Event, Header, Item};
@@ -115,20 +116,10 @@ impl LogCheck {
     }
 
     // A batch is closed. Tells whether it was by a `batch` line.
-    fn close<R: Threads + Sync, G: Gate, L: Ledger>(
-        &mut self,
-        rt: &R,
-        alloc: Global,
-        last: bool,
-        workers: u32,
-        gate: &G,
-        steps: &mut Steps<L>,
-    ) -> Result<bool, Refused<Refusal>>
+    fn close(&mut self, alloc: Global, last: bool) -> Result<bool, Refused<Refusal>>
         requires check { (aim : Aim) × (j : Judgement)
             × IsCheckOf (λ h. answers (h.watch.vtable, h.watch.value)) aim self.old j
             × MayFollow j (end_item last ∷ []) }
-        requires some { 1 ≤ workers }
-        requires few { workers ≤ 16 }
         ensures ok { IfOk result (λ closed. (aim : Aim) (j : Judgement)
             → IsCheckOf (λ h. answers (h.watch.vtable, h.watch.value)) aim self.old j
             → MayFollow j (end_item last ∷ [])
@@ -146,7 +137,7 @@ impl LogCheck {
         let Some(session) = &mut self.session else {
             unreachable!()
         };
-        match session.extend(rt, batch, workers, gate, steps) {
+        match session.observe(batch) {
             Ok(()) => {}
             Err(Refused::Fault(fault)) => return Err(Refused::Fault(Refusal::Log(fault))),
             Err(Refused::NoMemory) => return Err(Refused::NoMemory),
@@ -157,22 +148,12 @@ impl LogCheck {
     }
 
     /// Takes one item more, behind those before, and tells whether a `batch` line closed a batch.
-    /// `Fault` is the refusal that is due there; nothing may be taken behind it. A batch is settled
-    /// by 1 to 16 workers, and it may wait for the threads that it joins.
-    pub fn take<R: Threads + Sync, G: Gate, L: Ledger>(
-        &mut self,
-        rt: &R,
-        alloc: Global,
-        item: Item,
-        workers: u32,
-        gate: &G,
-        steps: &mut Steps<L>,
-    ) -> Result<bool, Refused<Refusal>>
+    /// `Fault` is the refusal that is due there; nothing may be taken behind it. The formula is not
+    /// answered before a report is asked for.
+    pub fn take(&mut self, alloc: Global, item: Item) -> Result<bool, Refused<Refusal>>
         requires check { (aim : Aim) × (j : Judgement)
             × IsCheckOf (λ h. answers (h.watch.vtable, h.watch.value)) aim self.old j
             × MayFollow j (item ∷ []) }
-        requires some { 1 ≤ workers }
-        requires few { workers ≤ 16 }
         ensures ok { IfOk result (λ closed. (aim : Aim) (j : Judgement)
             → IsCheckOf (λ h. answers (h.watch.vtable, h.watch.value)) aim self.old j
             → MayFollow j (item ∷ [])
@@ -192,16 +173,43 @@ impl LogCheck {
                 Ok(()) => Ok(false),
                 Err(refused) => Err(refused),
             },
-            Item::BatchEnd => self.close(rt, alloc, false, workers, gate, steps),
-            Item::End => self.close(rt, alloc, true, workers, gate, steps),
+            Item::BatchEnd => self.close(alloc, false),
+            Item::End => self.close(alloc, true),
         }
     }
 
-    /// The report on the log as far as the last closed batch.
-    pub fn report(&self, alloc: Global) -> Result<Report, NoMemory>
-        requires { (aim : Aim) × (j : Judgement) × (log : Prefix)
+    // The answer on the batches so far is made.
+    fn settle<R: Threads + Sync, G: Gate, L: Ledger>(
+        &mut self,
+        rt: &R,
+        workers: u32,
+        gate: &G,
+        steps: &mut Steps<L>,
+    ) -> Result<(), NoMemory>
+        requires check { (aim : Aim) × (j : Judgement) × (log : Prefix)
+            × IsCheckOf (λ h. answers (h.watch.vtable, h.watch.value)) aim self.old j
+            × HasClosed j log }
+        requires some { 1 ≤ workers }
+        requires few { workers ≤ 16 }
+        ensures answered { OnOk result (HasAnswered self.new) }
+        ensures goes_on { OnOk result ((aim : Aim) (j : Judgement)
+            → IsCheckOf (λ h. answers (h.watch.vtable, h.watch.value)) aim self.old j
+            → IsCheckOf (λ h. answers (h.watch.vtable, h.watch.value)) aim self.new j) }
+        ensures batches { self.new.batches ≡ self.old.batches }
+    {
+        let Some(session) = &mut self.session else {
+            unreachable!()
+        };
+        session.settle(rt, workers, gate, steps)?;
+        Ok(())
+    }
+
+    // The report of the answer that was made.
+    fn told(&self, alloc: Global) -> Result<Report, NoMemory>
+        requires check { (aim : Aim) × (j : Judgement) × (log : Prefix)
             × IsCheckOf (λ h. answers (h.watch.vtable, h.watch.value)) aim self.now j
             × HasClosed j log }
+        requires answered { HasAnswered self.now }
         ensures says { IfOk result (λ report. (aim : Aim) (j : Judgement) (log : Prefix)
             → IsCheckOf (λ h. answers (h.watch.vtable, h.watch.value)) aim self.now j
             → HasClosed j log → IsReportFor aim log report) }
@@ -224,5 +232,34 @@ impl LogCheck {
             Ok(report) => Ok(report),
             Err(_) => Err(NoMemory),
         }
+    }
+
+    /// The report on the log as far as the last closed batch. Its answer is made by 1 to 16 workers,
+    /// and it may wait for the threads that it joins.
+    pub fn report<R: Threads + Sync, G: Gate, L: Ledger>(
+        &mut self,
+        rt: &R,
+        alloc: Global,
+        workers: u32,
+        gate: &G,
+        steps: &mut Steps<L>,
+    ) -> Result<Report, NoMemory>
+        requires check { (aim : Aim) × (j : Judgement) × (log : Prefix)
+            × IsCheckOf (λ h. answers (h.watch.vtable, h.watch.value)) aim self.old j
+            × HasClosed j log }
+        requires some { 1 ≤ workers }
+        requires few { workers ≤ 16 }
+        ensures says { IfOk result (λ report. (aim : Aim) (j : Judgement) (log : Prefix)
+            → IsCheckOf (λ h. answers (h.watch.vtable, h.watch.value)) aim self.old j
+            → HasClosed j log → IsReportFor aim log report) }
+        ensures fits { IfOk result IsWellFormed }
+        ensures goes_on { OnOk result ((aim : Aim) (j : Judgement)
+            → IsCheckOf (λ h. answers (h.watch.vtable, h.watch.value)) aim self.old j
+            → IsCheckOf (λ h. answers (h.watch.vtable, h.watch.value)) aim self.new j) }
+        ensures batches { self.new.batches ≡ self.old.batches }
+    {
+        self.settle(rt, workers, gate, steps)?;
+        let report = self.told(alloc)?;
+        Ok(report)
     }
 }
