@@ -234,8 +234,8 @@ impl LogCheck {
         }
     }
 
-    /// The report on the log as far as the last closed batch. Its answer is made by 1 to 16 workers,
-    /// and it may wait for the threads that it joins.
+    /// The report on the log as far as the last closed batch. Its answer is made by 1 to 16
+    /// workers, and it may wait for the threads that it joins.
     pub fn report<R: Threads + Sync, G: Gate, L: Ledger>(
         &mut self,
         rt: &R,

@@ -1,9 +1,7 @@
 -- A bench: the items of the log that is made, and what they lead to.
-use Rattle.std.proofs.Common.{◌≡◌, ℕ, ◌≤◌, Bool, true, false, Option, Some, None, Result, Ok, Err, List, [], ◌∷◌, ◌++◌, length, refl, sym, ap, subst, ◌∙◌, arith, append_assoc, append-nil}
-use Rattle.std.specs.Io.KnownBytes.{Appends}
+use Rattle.std.proofs.Common.{◌≡◌, ℕ, Bool, true, false, Option, Some, None, Result, Ok, Err, List, [], ◌∷◌, ◌++◌, refl, sym, ap, subst, ◌∙◌, arith, append_assoc, append-nil}
 use Rattle.std.proofs.KnownBytes.{Appends-nil, Appends-trans}
-use Rattle.std.proofs.lemmas.Option.{none-some, same_Some}
-use Rattle.pota_base.specs.Outside.{Rose}
+use Rattle.std.proofs.lemmas.Option.{none-some}
 use Rattle.rctl_grammar.specs.declared.fault.FormulaFault.{FormulaFault}
 use Rattle.command_words.specs.declared.request.Sizes.{Sizes}
 use Rattle.event_log.specs.declared.item.Item.{Item}
@@ -12,15 +10,15 @@ use Rattle.event_log.specs.declared.log.Event.{Event}
 use Rattle.event_log.specs.declared.item.LogFault.{LogFault}
 use Rattle.event_log.specs.declared.log.Header.{Header}
 use Rattle.event_log.specs.declared.log.Log.{Log}
-use Rattle.event_log.specs.Faults.{items_in, end_fault}
+use Rattle.event_log.specs.Faults.{items_in}
 use Rattle.event_log.specs.FittingItems.{FitFirst}
 use Rattle.event_log.specs.Laws.{IsLog}
 use Rattle.event_log.specs.LogText.{onto, log_text, event_items, batch_items, log_items}
 use Rattle.event_log.proofs.FittingItems.{items_fit}
 use Rattle.log_judgement.specs.declared.refusal.Refusal.{Refusal}
 use Rattle.log_judgement.specs.declared.refusal.Refusal.TheVariants as refusal
-use Rattle.log_judgement.specs.Judgement.{Prefix, Judgement, waiting, growing, finished, refused, with_names, opened, judged}
-use Rattle.log_judgement.specs.Due.{whole_of, batches_of, at_end, log_reading, due}
+use Rattle.log_judgement.specs.Judgement.{Prefix, Judgement, waiting, refused, with_names, opened, judged}
+use Rattle.log_judgement.specs.Due.{whole_of, batches_of, at_end}
 use Rattle.log_judgement.specs.WholeLogs.{IsLogFor, all_of}
 use Rattle.log_judgement.proofs.Items.{refused-stays}
 use Rattle.log_judgement.proofs.Logs.{log_due, reads_back}
@@ -35,8 +33,8 @@ use Rattle.pota_top.specs.declared.outcome.Fault.TheVariants as fault
 use Rattle.pota_top.specs.declared.outcome.Stop.{Stop}
 use Rattle.pota_top.specs.declared.outcome.Verdict.{Verdict}
 use Rattle.pota_top.specs.Run.{made_by, sizes_of}
-use Rattle.pota_top.specs.Checking.{closed_in, AreTexts, HasPartOf, HasFrontOf, Stands, IsRefusedAt, StopsIn, TakesItems, SummaryStops, SumsUpTo, SumsUp}
-use Rattle.pota_top.specs.Benching.{IsSummary, missing_name, IsBenchOf, IsBenchPart, BenchStops, BenchesTo, HasMade, CanBeMade}
+use Rattle.pota_top.specs.Checking.{closed_in, AreTexts, Stands, StopsIn, TakesItems, SummaryStops, SumsUpTo, SumsUp}
+use Rattle.pota_top.specs.Benching.{BenchStops, BenchesTo, HasMade, CanBeMade}
 use Rattle.pota_top.proofs.Endings.{whole_closed}
 
 -- ---- the items of a log of one batch

@@ -1,6 +1,6 @@
 -- What a run says where no count rose, memory was there and the source tells its bytes.
-use Rattle.std.proofs.Common.{◌≡◌, ℕ, ◌≤◌, List, [], ◌++◌, Option, Some, None, refl, sym, ap, ◌∙◌, subst, arith, inl, inr}
-use Rattle.std.specs.Prelude.{Bool, true, false, if◌then◌else◌, ◌↔◌, ◌⊎◌}
+use Rattle.std.proofs.Common.{◌≡◌, ℕ, List, [], ◌++◌, Option, Some, None, refl, sym, ap, ◌∙◌, subst, inl, inr}
+use Rattle.std.specs.Prelude.{Bool, true, false, if◌then◌else◌, ◌↔◌}
 use Rattle.std.specs.Io.KnownBytes.{Appends, Consumes, IsAtEnd}
 use Rattle.std.proofs.lemmas.List.{append-nil}
 use Rattle.std.proofs.lemmas.Option.{none-some, same_Some}
@@ -10,7 +10,6 @@ use Rattle.pota_base.specs.declared.status.Status.TheVariants as status
 use Rattle.rctl_grammar.specs.declared.fault.FormulaFault.{FormulaFault}
 use Rattle.rctl_grammar.specs.declared.tree.Tree.{Tree}
 use Rattle.rctl_class.specs.Nodes.{node_of}
-use Rattle.command_words.specs.declared.request.Task.{Task}
 use Rattle.command_words.specs.declared.request.Task.TheVariants as task
 use Rattle.command_words.specs.declared.request.Shown.{Shown}
 use Rattle.command_words.specs.declared.request.Sizes.{Sizes}
@@ -26,12 +25,11 @@ use Rattle.log_judgement.specs.Texts.{IsDueText}
 use Rattle.log_judgement.proofs.Dues.{due_stays}
 use Rattle.log_judgement.proofs.Readings.{log_is_read}
 use Rattle.log_check.specs.Aims.{unknown_name}
-use Rattle.pota_top.specs.declared.outcome.Fault.{Fault}
 use Rattle.pota_top.specs.declared.outcome.Fault.TheVariants as fault
 use Rattle.pota_top.specs.declared.outcome.Outcome.{Outcome}
 use Rattle.pota_top.specs.Outcome.{status_of, fault_of_question, fault_of_refusal}
 use Rattle.pota_top.specs.Asking.{Handing, asked_by, due_of}
-use Rattle.pota_top.specs.Run.{IsTold, IsTrueAtStart, HasVerdict, IsRefused, IsBenched, HasBenched, LacksName, IsMisasked, made_by, Answer, Ran, IsCalm, WritesAsDue, TellsTruth, TellsFault, IsDecided, IsRefusedAsDue, IsRefusedAsAsked, Benches, IsBenchAnswered}
+use Rattle.pota_top.specs.Run.{IsTrueAtStart, HasVerdict, IsRefused, HasBenched, LacksName, IsMisasked, made_by, Answer, Ran, IsCalm, WritesAsDue, TellsTruth, TellsFault, IsDecided, IsRefusedAsDue, IsRefusedAsAsked, Benches, IsBenchAnswered}
 
 -- ---- the bytes of a source
 

@@ -1,28 +1,23 @@
 -- The whole log: its report and its verdict.
-use Rattle.std.proofs.Common.{◌≡◌, ℕ, ◌≤◌, Bool, true, false, Option, Some, None, Result, Ok, Err, List, [], ◌∷◌, ◌++◌, length, refl, sym, ap, subst, ◌∙◌, arith, append-nil}
-use Rattle.std.specs.Io.KnownBytes.{Appends, Consumes, IsAtEnd}
-use Rattle.std.proofs.KnownBytes.{Appends-nil, Appends-trans}
+use Rattle.std.proofs.Common.{◌≡◌, ℕ, Bool, true, false, Option, Some, None, Result, Ok, Err, List, [], ◌∷◌, ◌++◌, sym, ap, ◌∙◌, arith, append-nil}
+use Rattle.std.specs.Io.KnownBytes.{IsAtEnd}
+use Rattle.std.proofs.KnownBytes.{Appends-trans}
 use Rattle.std.proofs.lemmas.Option.{none-some, same_Some}
-use Rattle.rctl_grammar.specs.declared.fault.FormulaFault.{FormulaFault}
 use Rattle.event_log.specs.declared.item.LogFault.{LogFault}
-use Rattle.event_log.specs.declared.log.Header.{Header}
-use Rattle.event_log.specs.declared.log.Log.{Log}
-use Rattle.event_log.specs.Faults.{end_fault}
-use Rattle.event_log.specs.LogText.{onto}
-use Rattle.log_judgement.specs.Judgement.{Prefix, followed_by, Judgement, waiting, growing, finished, refused, with_names}
-use Rattle.log_judgement.specs.Due.{closed_of, whole_of, fault_in, at_end, told, log_reading, due}
+use Rattle.log_judgement.specs.Judgement.{Prefix, followed_by, Judgement, waiting, growing, finished, refused}
+use Rattle.log_judgement.specs.Due.{closed_of, whole_of, fault_in, at_end, told}
 use Rattle.log_judgement.specs.Texts.{listed, reported}
 use Rattle.log_judgement.specs.WholeLogs.{all_of}
 use Rattle.log_judgement.proofs.Logs.{log_due, due_log}
-use Rattle.log_check.specs.Aims.{Says, Aim, rules_of, names_of, unknown_name}
+use Rattle.log_check.specs.Aims.{Says, Aim, unknown_name}
 use Rattle.log_check.specs.Checking.{IsCheckOf, HasClosed}
 use Rattle.log_check.specs.declared.check.LogCheck.{LogCheck}
 use Rattle.pota_top.specs.declared.outcome.Fault.{Fault}
 use Rattle.pota_top.specs.declared.outcome.Fault.TheVariants as fault
 use Rattle.pota_top.specs.declared.outcome.Stop.{Stop}
 use Rattle.pota_top.specs.declared.outcome.Verdict.{Verdict}
-use Rattle.pota_top.specs.Checking.{closed_in, AreTexts, HasPartOf, HasFrontOf, ReportStops, Reports}
-use Rattle.pota_top.specs.Reading.{due_in, judgement_in, IsWhole, TellsDue, StopsAt, ReadsTo, HasReadLog, IsVerdictOn, ChecksTo, HasChecked}
+use Rattle.pota_top.specs.Checking.{closed_in, AreTexts, ReportStops, Reports}
+use Rattle.pota_top.specs.Reading.{due_in, judgement_in, IsWhole, StopsAt, HasReadLog, IsVerdictOn, ChecksTo, HasChecked}
 use Rattle.pota_top.proofs.Items.{texts_as, part_of_more, front_of_more}
 use Rattle.pota_top.proofs.ReadingSteps.{reported_open, none_told}
 

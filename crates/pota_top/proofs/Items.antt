@@ -1,13 +1,12 @@
 -- What a check's items lead to.
-use Rattle.std.proofs.Common.{◌≡◌, ℕ, ◌≤◌, Bool, true, false, Option, Some, None, Result, Ok, Err, List, [], ◌∷◌, ◌++◌, refl, sym, ap, subst, ◌∙◌, arith, append_assoc, append-nil}
+use Rattle.std.proofs.Common.{◌≡◌, ℕ, ◌≤◌, Bool, true, false, Option, Result, Ok, Err, List, [], ◌∷◌, ◌++◌, refl, sym, ap, subst, ◌∙◌, arith, append_assoc, append-nil}
 use Rattle.std.specs.Io.KnownBytes.{Appends}
 use Rattle.std.proofs.KnownBytes.{Appends-nil, Appends-trans}
-use Rattle.pota_base.specs.Outside.{Rose}
 use Rattle.event_log.specs.declared.item.Item.{Item}
 use Rattle.log_judgement.specs.declared.refusal.Refusal.{Refusal}
 use Rattle.log_judgement.specs.declared.refusal.Refusal.TheVariants as refusal
-use Rattle.log_judgement.specs.Judgement.{Prefix, Rules, Judgement, refused, judge, judged}
-use Rattle.log_judgement.specs.Due.{closed_of, batches_of}
+use Rattle.log_judgement.specs.Judgement.{Prefix, Rules, Judgement, judge, judged}
+use Rattle.log_judgement.specs.Due.{closed_of}
 use Rattle.log_judgement.proofs.Items.{judged-append, refused-stays, all_more}
 use Rattle.log_check.specs.Aims.{Says, Aim, rules_of}
 use Rattle.log_check.specs.Checking.{IsCheckOf, GoesOn, HasClosed, MayFollow}
@@ -17,7 +16,7 @@ use Rattle.pota_top.specs.declared.outcome.Fault.{Fault}
 use Rattle.pota_top.specs.declared.outcome.Fault.TheVariants as fault
 use Rattle.pota_top.specs.declared.outcome.Stop.{Stop}
 use Rattle.pota_top.specs.declared.outcome.Verdict.{Verdict}
-use Rattle.pota_top.specs.Checking.{closed_in, AreTexts, HasPartOf, HasFrontOf, ReportStops, ReportsTo, Reports, Stands, IsRefusedBy, IsRefusedAt, JudgeStops, Judges, StopsIn, ItemsTo, TakesItems}
+use Rattle.pota_top.specs.Checking.{closed_in, AreTexts, HasPartOf, HasFrontOf, ReportStops, Reports, Stands, IsRefusedBy, IsRefusedAt, JudgeStops, StopsIn, TakesItems}
 
 -- ---- reports behind those before
 
@@ -189,24 +188,24 @@ module _ {X : Type 0} {P : X → Type 0} (says : Says X P) (aim : Aim) where
     abbrev next : Judgement
     next = judge (rules_of aim) before i
 
-    pub report_written : {T : Type 0} (x : T) (v : Verdict)
+    pub report_written : {T : Type 0} (x : T) (v : Verdict) (last : LogCheck X P) → IsCheckOf says aim last next
         → Reports held held' of of' aim now.batches (closed_of before) on.closes.0 text (Ok v)
-        → TakesItems held held' of of' says aim true now next text (Ok x)
-    report_written x v r = record {
+        → TakesItems held held' of of' says aim true last next text (Ok x)
+    report_written x v last still r = record {
       written = r.written;
       wrote = r.wrote;
       later = r.later;
       to = record {
-        check_is = on.is;
+        check_is = still;
         texts = texts_as aim (closed_of next) (closed_of before ++ on.closes.0 ∷ []) (text ++ r.written)
             on.closes.2 r.to.0;
       };
     }
 
-    pub report_stops : {T : Type 0} (stop : Stop)
+    pub report_stops : {T : Type 0} (stop : Stop) (last : LogCheck X P)
         → Reports held held' of of' aim now.batches (closed_of before) on.closes.0 text (Err stop)
-        → TakesItems {T = T} held held' of of' says aim true now next text (Err stop)
-    report_stops stop r = record {
+        → TakesItems {T = T} held held' of of' says aim true last next text (Err stop)
+    report_stops stop last r = record {
       written = r.written;
       wrote = r.wrote;
       later = r.later;
@@ -242,17 +241,17 @@ module _ {X : Type 0} {P : X → Type 0} (says : Says X P) (aim : Aim) where
     Writes result = (log : Prefix) → HasClosed (judge (rules_of aim) before i) log → AreTexts aim (closed_of before) text
         → Reports held held' of of' aim now.batches (closed_of before) log text result
 
-    pub closed_written : {T : Type 0} (x : T) (v : Verdict) → Writes (Ok v)
-        → TakesItems held held' of of' says aim each now (judge (rules_of aim) before i) text (Ok x)
-    closed_written x v writes =
-        subst (λ (e : Bool). TakesItems held held' of of' says aim e now (judge (rules_of aim) before i) text (Ok x)) (sym has_each)
-        (report_written before i check now text held held' of of' stands_so on_so x v (writes on_so.closes.0 on_so.closes.1 stands_so.texts))
+    pub closed_written : {T : Type 0} (x : T) (v : Verdict) (last : LogCheck X P) → IsCheckOf says aim last (judge (rules_of aim) before i) → Writes (Ok v)
+        → TakesItems held held' of of' says aim each last (judge (rules_of aim) before i) text (Ok x)
+    closed_written x v last still writes =
+        subst (λ (e : Bool). TakesItems held held' of of' says aim e last (judge (rules_of aim) before i) text (Ok x)) (sym has_each)
+        (report_written before i check now text held held' of of' stands_so on_so x v last still (writes on_so.closes.0 on_so.closes.1 stands_so.texts))
 
-    pub closed_stops : {T : Type 0} (stop : Stop) → Writes (Err stop)
-        → TakesItems {T = T} held held' of of' says aim each now (judge (rules_of aim) before i) text (Err stop)
-    closed_stops {T} stop writes =
-        subst (λ (e : Bool). TakesItems {T = T} held held' of of' says aim e now (judge (rules_of aim) before i) text (Err stop)) (sym has_each)
-        (report_stops before i check now text held held' of of' stands_so on_so stop (writes on_so.closes.0 on_so.closes.1 stands_so.texts))
+    pub closed_stops : {T : Type 0} (stop : Stop) (last : LogCheck X P) → Writes (Err stop)
+        → TakesItems {T = T} held held' of of' says aim each last (judge (rules_of aim) before i) text (Err stop)
+    closed_stops {T} stop last writes =
+        subst (λ (e : Bool). TakesItems {T = T} held held' of of' says aim e last (judge (rules_of aim) before i) text (Err stop)) (sym has_each)
+        (report_stops before i check now text held held' of of' stands_so on_so stop last (writes on_so.closes.0 on_so.closes.1 stands_so.texts))
 
     pub some_report : (j : Judgement) × (log : Prefix) × IsCheckOf says aim now j × HasClosed j log
     some_report = (judge (rules_of aim) before i, on_so.closes.0, on_so.is, on_so.closes.1)

@@ -1,5 +1,5 @@
 -- How reading follows what is due.
-use Rattle.std.proofs.Common.{◌≡◌, ℕ, ◌-◌, ◌<◌, ◌≤◌, Bool, true, false, Option, Some, None, Result, Ok, Err, List, [], ◌∷◌, ◌++◌, length, take, length-append, refl, sym, ap, subst, ◌∙◌, arith, append-nil, append_assoc}
+use Rattle.std.proofs.Common.{◌≡◌, ℕ, ◌-◌, ◌<◌, ◌≤◌, Bool, true, false, Option, Some, None, Result, Ok, Err, List, [], ◌++◌, length, take, length-append, refl, sym, ap, subst, ◌∙◌, arith, append-nil}
 use Rattle.std.specs.Io.KnownBytes.{Appends, Consumes, IsAtEnd, Keeps}
 use Rattle.std.proofs.KnownBytes.{Appends-nil, Appends-trans, Consumes-nil, Consumes-trans}
 use Rattle.std.proofs.lemmas.List.{length-take-le}
@@ -18,7 +18,7 @@ use Rattle.event_log.proofs.Lists.{onto-append, length-onto}
 use Rattle.log_judgement.specs.declared.refusal.Refusal.{Refusal}
 use Rattle.log_judgement.specs.declared.refusal.Refusal.TheVariants as refusal
 use Rattle.log_judgement.specs.Judgement.{Prefix, Judgement, waiting, growing, finished, refused, judged}
-use Rattle.log_judgement.specs.Due.{closed_of, whole_of, batches_of, fault_in, text_fault, told}
+use Rattle.log_judgement.specs.Due.{closed_of, fault_in, text_fault, told}
 use Rattle.log_judgement.specs.Texts.{reported}
 use Rattle.log_judgement.proofs.Items.{judged-append}
 use Rattle.log_judgement.proofs.Readings.{log_is_read}
@@ -31,8 +31,8 @@ use Rattle.pota_top.specs.declared.outcome.Fault.TheVariants as fault
 use Rattle.pota_top.specs.declared.outcome.Stop.{Stop}
 use Rattle.pota_top.specs.declared.reading.Turn.{Turn}
 use Rattle.pota_top.specs.declared.reading.Turn.TheVariants as turn
-use Rattle.pota_top.specs.Checking.{closed_in, AreTexts, HasPartOf, HasFrontOf, Stands, StopsIn, TakesItems}
-use Rattle.pota_top.specs.Reading.{due_in, judgement_in, HasJudged, IsWhole, TellsDue, StopsAt, PieceTo, TakesPiece, Finishes, TurnsTo, Turns, ReadsTo, HasReadLog}
+use Rattle.pota_top.specs.Checking.{closed_in, AreTexts, HasFrontOf, Stands, StopsIn, TakesItems}
+use Rattle.pota_top.specs.Reading.{due_in, judgement_in, HasJudged, IsWhole, TellsDue, StopsAt, PieceTo, TakesPiece, Finishes, TurnsTo, Turns, HasReadLog}
 use Rattle.pota_top.proofs.Items.{closed_more, texts_as, part_of_more, front_of_more}
 
 -- ---- what is told of a judgement

@@ -1,10 +1,9 @@
 -- What writing a report, or the summary of a bench, leads to.
-use Rattle.std.proofs.Common.{◌≡◌, ℕ, ◌≤◌, Bool, true, false, Option, Some, None, Result, Ok, Err, List, [], ◌∷◌, ◌++◌, refl, sym, ap, subst, ◌∙◌, arith, append-nil}
+use Rattle.std.proofs.Common.{◌≡◌, ℕ, Bool, true, Option, Result, Ok, Err, List, [], ◌∷◌, ◌++◌, refl, sym, ap, subst, ◌∙◌, arith, append-nil}
 use Rattle.std.specs.Prelude.{OnOk, OnErr}
 use Rattle.std.specs.Io.KnownBytes.{Appends}
 use Rattle.std.proofs.KnownBytes.{Appends-nil}
 use Rattle.pota_base.specs.Outside.{Rose, IsPrefix, HasCause, AppendsPrefix}
-use Rattle.event_log.specs.declared.log.Event.{Event}
 use Rattle.report.specs.declared.report.Report.{Report}
 use Rattle.report.specs.Spelling.{report_text}
 use Rattle.run_report.specs.Reports.{Asked, IsReportOf, counted}
@@ -12,7 +11,7 @@ use Rattle.run_report.specs.Benches.{IsSummaryOf, benched, summary_text}
 use Rattle.run_report.specs.Benches as bench
 use Rattle.log_judgement.specs.declared.refusal.Refusal.{Refusal}
 use Rattle.log_judgement.specs.declared.refusal.Refusal.TheVariants as refusal
-use Rattle.log_judgement.specs.Judgement.{Prefix, followed_by, Judgement, waiting, growing, finished, refused}
+use Rattle.log_judgement.specs.Judgement.{Prefix, Judgement, waiting, growing, finished, refused}
 use Rattle.log_judgement.specs.Due.{batches_of}
 use Rattle.log_judgement.proofs.Texts.{reports_join}
 use Rattle.log_check.specs.Aims.{Aim, asked_of, IsReportFor}
@@ -22,7 +21,7 @@ use Rattle.pota_top.specs.declared.outcome.Fault.TheVariants as fault
 use Rattle.pota_top.specs.declared.outcome.Stop.{Stop}
 use Rattle.pota_top.specs.declared.outcome.Verdict.{Verdict}
 use Rattle.pota_top.specs.Outcome.{fault_of_refusal}
-use Rattle.pota_top.specs.Checking.{AreTexts, HasPartOf, HasFrontOf, ReportStops, Reports, PutsTo, Puts, JudgeStops, IsBenchAim, SummaryStops, SumsUp}
+use Rattle.pota_top.specs.Checking.{AreTexts, ReportStops, Reports, Puts, JudgeStops, IsBenchAim, SummaryStops, SumsUp}
 use Rattle.pota_top.proofs.Items.{whole_front}
 
 -- ---- one text

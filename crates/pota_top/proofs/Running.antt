@@ -1,19 +1,15 @@
 -- How the answers to a check and a bench are those to the words.
-use Rattle.std.proofs.Common.{◌≡◌, ℕ, ◌≤◌, List, [], ◌∷◌, ◌++◌, length, Option, Some, None, Result, Ok, Err, refl, sym, ap, ◌∙◌, subst, arith, inl, inr, append_assoc}
-use Rattle.std.specs.Prelude.{Bool, true, false, if◌then◌else◌, ◌↔◌, ◌⊎◌}
+use Rattle.std.proofs.Common.{◌≡◌, ℕ, ◌≤◌, List, [], ◌∷◌, ◌++◌, Option, Some, None, Result, Ok, Err, refl, sym, ap, ◌∙◌, subst, arith, inl, inr, append_assoc}
+use Rattle.std.specs.Prelude.{Bool, true, false, if◌then◌else◌, ◌↔◌}
 use Rattle.std.specs.List.{AllByRecursion}
-use Rattle.std.specs.Io.KnownBytes.{Appends, Consumes, IsAtEnd}
+use Rattle.std.specs.Io.KnownBytes.{IsAtEnd}
 use Rattle.std.proofs.KnownBytes.{Appends-nil, Consumes-nil}
-use Rattle.pota_base.specs.Outside.{Rose, IsPrefix}
-use Rattle.pota_base.specs.declared.status.Status.{Status}
+use Rattle.pota_base.specs.Outside.{IsPrefix}
 use Rattle.pota_base.specs.declared.status.Status.TheVariants as status
 use Rattle.run_model.specs.Class.{IsOfClass}
 use Rattle.run_model.specs.Run.{Name, Watches}
-use Rattle.rctl_grammar.specs.declared.fault.FormulaFault.{FormulaFault}
-use Rattle.rctl_grammar.specs.declared.tree.Tree.{Tree}
 use Rattle.rctl_class.specs.Nodes.{node_of, formula_of}
 use Rattle.rctl_class.proofs.Class.{of_the_class}
-use Rattle.command_words.specs.declared.request.Task.{Task}
 use Rattle.command_words.specs.declared.request.Task.TheVariants as task
 use Rattle.command_words.specs.declared.request.Shown.{Shown}
 use Rattle.command_words.specs.declared.request.Sizes.{Sizes}
@@ -23,12 +19,11 @@ use Rattle.run_request.specs.declared.question.QuestionFault.TheVariants as ques
 use Rattle.run_request.specs.Questions.{IsQuestionFault, IsStated, AsksFor}
 use Rattle.run_report.specs.Reports.{Asked, IsReportOf}
 use Rattle.run_report.specs.Benches.{IsSummaryOf}
-use Rattle.report.specs.Spelling.{report_text}
 use Rattle.log_judgement.specs.declared.refusal.Refusal.{Refusal}
 use Rattle.log_judgement.specs.declared.refusal.Refusal.TheVariants as refusal
 use Rattle.log_judgement.specs.Judgement.{Prefix}
 use Rattle.log_judgement.specs.WholeLogs.{all_of}
-use Rattle.log_judgement.specs.Texts.{reported, AreReports, IsDueText}
+use Rattle.log_judgement.specs.Texts.{reported, AreReports}
 use Rattle.log_judgement.proofs.Dues.{due_grows}
 use Rattle.log_judgement.proofs.Orders.{IsOrdered, all_ordered}
 use Rattle.log_judgement.proofs.Readings.{log_is_read}
@@ -41,11 +36,11 @@ use Rattle.pota_top.specs.declared.outcome.Outcome.{Outcome}
 use Rattle.pota_top.specs.declared.outcome.Stop.{Stop}
 use Rattle.pota_top.specs.declared.outcome.Verdict.{Verdict}
 use Rattle.pota_top.specs.Outcome.{status_of, fault_of_question, fault_of_refusal, outcome_of}
-use Rattle.pota_top.specs.Asking.{Handing, handing_of, asked_by, asked, due_of}
+use Rattle.pota_top.specs.Asking.{Handing, handing_of, asked_by, asked}
 use Rattle.pota_top.specs.Checking.{AreTexts, HasPartOf, HasFrontOf}
 use Rattle.pota_top.specs.Reading.{due_in, TellsDue, StopsAt, IsVerdictOn, ChecksTo, HasChecked}
-use Rattle.pota_top.specs.Benching.{IsSummary, missing_name, IsBenchOf, IsBenchPart, BenchStops, BenchesTo, HasMade}
-use Rattle.pota_top.specs.Run.{IsTold, IsTrueAtStart, HasVerdict, IsRefused, IsCutShort, HasPart, IsBenched, HasBenched, LacksName, HasSummaryPart, IsMisasked, IsWholeDue, IsOutOfMemory, sizes_of, made_by, Answer, Ran}
+use Rattle.pota_top.specs.Benching.{IsSummary, missing_name, IsBenchOf, BenchStops, BenchesTo, HasMade}
+use Rattle.pota_top.specs.Run.{IsTold, IsTrueAtStart, HasVerdict, IsRefused, HasPart, IsBenched, HasBenched, IsWholeDue, sizes_of, made_by, Answer, Ran}
 
 -- ---- a formula that is stated is asked
 

@@ -11,7 +11,7 @@ use Rattle.command_words.specs.declared.request.Task.{Task}
 use Rattle.command_words.specs.declared.request.Task.TheVariants.{Check, Bench}
 use Rattle.command_words.specs.Numbers.{number, workers_of, needed, sizes_of}
 use Rattle.command_words.specs.Request.{Values, values_of, check_of, bench_of, task_of, Wanted, wanted, request_of}
-use Rattle.command_words.specs.Rule.{Text, Given, given}
+use Rattle.command_words.specs.Rule.{Text, given}
 use Rattle.run_request.specs.declared.question.Question.{Question}
 use Rattle.run_request.specs.Questions.{IsQuestion}
 use Rattle.pota_top.specs.Benching.{CanBeMade}

@@ -1,6 +1,6 @@
 -- What is asked of a log: a formula, what is shown of it, and the watches that it may name; and
 -- what is due of the log's bytes then.
-use Rattle.std.specs.Prelude.{ℕ, Bool, false, List}
+use Rattle.std.specs.Prelude.{ℕ, Bool, List}
 use Rattle.run_model.specs.Run.{Name, Watches}
 use Rattle.rctl_grammar.specs.Shape.{shape_of}
 use Rattle.rctl_grammar.specs.declared.tree.Tree.{Tree}

@@ -2,11 +2,9 @@
 use Rattle.std.specs.Prelude.{◌≡◌, ℕ, ◌≤◌, ◌↔◌, true, List, [], Option, Some, None, Result, Ok, Err}
 use Rattle.std.specs.Io.KnownBytes.{Appends}
 use Rattle.pota_base.specs.Outside.{Rose, IsPrefix}
-use Rattle.event_log.specs.declared.log.Log.{Log}
 use Rattle.rctl_grammar.specs.declared.fault.FormulaFault.{FormulaFault}
 use Rattle.command_words.specs.declared.request.Sizes.{Sizes}
 use Rattle.run_report.specs.Benches.{IsSummaryOf}
-use Rattle.log_judgement.specs.Judgement.{Prefix}
 use Rattle.log_judgement.specs.WholeLogs.{all_of}
 use Rattle.log_check.specs.Aims.{Aim, asked_of, unknown_name, IsTrueSoFar}
 use Rattle.pota_top.specs.declared.outcome.Fault.{Fault}

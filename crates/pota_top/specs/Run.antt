@@ -12,7 +12,6 @@ use Rattle.event_log.specs.declared.item.LogFault.{LogFault}
 use Rattle.event_log.specs.declared.log.Log.{Log}
 use Rattle.rctl_grammar.specs.declared.fault.FormulaFault.{FormulaFault}
 use Rattle.rctl_grammar.specs.declared.tree.Tree.{Tree}
-use Rattle.command_words.specs.declared.request.Task.{Task}
 use Rattle.command_words.specs.declared.request.Task.TheVariants as task
 use Rattle.command_words.specs.declared.request.Shown.{Shown}
 use Rattle.command_words.specs.declared.request.Sizes.{Sizes}
@@ -21,13 +20,12 @@ use Rattle.run_request.specs.declared.question.QuestionFault.TheVariants as ques
 use Rattle.run_request.specs.Questions.{IsQuestionFault, AsksFor}
 use Rattle.report.specs.declared.report.Report.{Report}
 use Rattle.report.specs.Spelling.{report_text}
-use Rattle.run_report.specs.Reports.{Asked, trace_so_far, IsReportOf, counted}
+use Rattle.run_report.specs.Reports.{trace_so_far, IsReportOf, counted}
 use Rattle.run_report.specs.Benches.{IsSummaryOf}
 use Rattle.run_report.specs.Benches as bench
 use Rattle.log_judgement.specs.declared.refusal.Refusal.{Refusal}
 use Rattle.log_judgement.specs.declared.refusal.Refusal.TheVariants as refusal
 use Rattle.log_judgement.specs.Judgement.{Prefix}
-use Rattle.log_judgement.specs.Due.{Due}
 use Rattle.log_judgement.specs.Texts.{reported, AreReports, IsDueText}
 use Rattle.rctl_class.specs.Nodes.{node_of}
 use Rattle.log_check.specs.Aims.{unknown_name}

@@ -47,7 +47,7 @@ fn check_all<R: Threads + Sync, G: Gate, L: Ledger, S: Source, O: Sink>(
     if let Err(stop) = read_log(means, checking, log, out) {
         return Err(stop);
     }
-    checking.report(means.alloc, out)
+    checking.report(means, out)
 }
 
 // Checks the log that the source has.
@@ -145,7 +145,7 @@ fn bench_all<R: Threads + Sync, G: Gate, L: Ledger, O: Sink>(
     if let Err(stop) = checking.take_all(means, items, out) {
         return Err(stop);
     }
-    checking.sum_up(means.alloc, sizes, out)
+    checking.sum_up(means, sizes, out)
 }
 
 // Checks the log that is made, and writes its summary.

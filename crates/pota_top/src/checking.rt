@@ -1,7 +1,9 @@
 //! A log that is checked item by item, with the reports that its batches have.
 ghost use Rattle.std.specs.Prelude.{◌≡◌, ◌∷◌, ◌++◌, ◌≤◌, [], ℕ, List as ListOf};
+ghost use Rattle.std.specs.Prelude.{IfOk, OnOk};
 ghost use Rattle.log_judgement.specs.Judgement.{Prefix, Judgement, judge, judged};
-ghost use Rattle.log_check.specs.Aims.{Aim, rules_of};
+ghost use Rattle.report.specs.Spelling.{IsWellFormed};
+ghost use Rattle.log_check.specs.Aims.{Aim, IsReportFor, rules_of};
 ghost use Rattle.log_check.specs.Checking.{HasClosed, IsCheckOf, MayFollow};
 ghost use Rattle.pota_top.specs.Checking.{AreTexts, IsBenchAim, Judges, Puts, Reports, Stands};
 ghost use Rattle.pota_top.specs.Checking.{SumsUp, TakesItems};
@@ -13,7 +15,7 @@ use bench_summary::write_summary;
 use command_words::Sizes;
 use event_log::Item;
 use log_check::LogCheck;
-use pota_base::{Gate, List, Refused, Sink, Steps, write_all};
+use pota_base::{Gate, List, NoMemory, Refused, Sink, Steps, write_all};
 use report::{Report, write_report};
 use std::alloc::Global;
 use std::sync::ledger::Ledger;
@@ -64,48 +66,68 @@ impl<L: Ledger> Checking<L> {
         }
     }
 
-    /// Writes the report on the log as far as the last closed batch, and gives its verdict.
-    pub fn report<O: Sink>(&self, alloc: Global, out: &mut O) -> Result<Verdict, Stop>
+    // The report on the log as far as the last closed batch.
+    fn ask<R: Threads + Sync, G: Gate>(
+        &mut self,
+        means: &Means<'_, R, G>,
+    ) -> Result<Report, NoMemory>
         requires { (aim : Aim) × (j : Judgement) × (log : Prefix)
             × IsCheckOf
-            (λ h. answers (h.watch.vtable, h.watch.value)) aim self.now.check j × HasClosed j log }
-        ensures { (aim : Aim) (j : Judgement) (log : Prefix)
+            (λ h. answers (h.watch.vtable, h.watch.value)) aim self.old.check j × HasClosed j log }
+        ensures says { IfOk result (λ report. (aim : Aim) (j : Judgement) (log : Prefix)
             → IsCheckOf
-            (λ h. answers (h.watch.vtable, h.watch.value)) aim self.now.check j → HasClosed j log
+            (λ h. answers (h.watch.vtable, h.watch.value)) aim self.old.check j → HasClosed j log
+            → IsReportFor aim log report) }
+        ensures fits { IfOk result IsWellFormed }
+        ensures goes_on { OnOk result ((aim : Aim) (j : Judgement)
+            → IsCheckOf
+            (λ h. answers (h.watch.vtable, h.watch.value)) aim self.old.check j
+            → IsCheckOf
+            (λ h. answers (h.watch.vtable, h.watch.value)) aim self.new.check j) }
+        ensures each { self.new.each_batch ≡ self.old.each_batch }
+    {
+        let steps = &mut self.steps;
+        self.check.report(means.runtime, means.alloc, self.workers, means.gate, steps)
+    }
+
+    /// Writes the report on the log as far as the last closed batch, and gives its verdict.
+    pub fn report<R: Threads + Sync, G: Gate, O: Sink>(
+        &mut self,
+        means: &Means<'_, R, G>,
+        out: &mut O,
+    ) -> Result<Verdict, Stop>
+        requires { (aim : Aim) × (j : Judgement) × (log : Prefix)
+            × IsCheckOf
+            (λ h. answers (h.watch.vtable, h.watch.value)) aim self.old.check j × HasClosed j log }
+        ensures reports { (aim : Aim) (j : Judgement) (log : Prefix)
+            → IsCheckOf
+            (λ h. answers (h.watch.vtable, h.watch.value)) aim self.old.check j → HasClosed j log
             → (before : ListOf Prefix) (text : ListOf ℕ)
             → AreTexts aim before text
             → Reports (O.held out.old) (O.held out.new) (O.faults out.old) (O.faults out.new)
-            aim self.now.check.batches before log text result }
+            aim self.old.check.batches before log text result }
+        ensures goes_on { OnOk result ((aim : Aim) (j : Judgement)
+            → IsCheckOf
+            (λ h. answers (h.watch.vtable, h.watch.value)) aim self.old.check j
+            → IsCheckOf
+            (λ h. answers (h.watch.vtable, h.watch.value)) aim self.new.check j) }
+        ensures each { self.new.each_batch ≡ self.old.each_batch }
     {
-        let Ok(report) = self.check.report(alloc) else {
+        let batches = self.check.batches;
+        let Ok(report) = self.ask(means) else {
             return Err(Stop::without_memory());
         };
-        let Ok(text) = write_report(alloc, &report) else {
+        let Ok(text) = write_report(means.alloc, &report) else {
             return Err(Stop::without_memory());
         };
-        if let Err(stop) = put(out, text.as_slice(), self.check.batches) {
+        if let Err(stop) = put(out, text.as_slice(), batches) {
             return Err(stop);
         }
-        Ok(self.verdict(&report))
-    }
-
-    // The verdict that a report tells.
-    fn verdict(&self, report: &Report) -> Verdict
-        ensures { result
-            ≡ record { batches = self.now.check.batches; truth = report.now.verdict } }
-    {
-        Verdict {
-            batches: self.check.batches,
-            truth: report.verdict,
-        }
+        Ok(verdict(batches, &report))
     }
 
     // Takes one item more, and tells whether a `batch` line closed a batch.
-    fn judge<R: Threads + Sync, G: Gate>(
-        &mut self,
-        means: &Means<'_, R, G>,
-        item: Item,
-    ) -> Result<bool, Stop>
+    fn judge(&mut self, alloc: Global, item: Item) -> Result<bool, Stop>
         requires { (aim : Aim) × (j : Judgement)
             × IsCheckOf
             (λ h. answers (h.watch.vtable, h.watch.value))
@@ -120,9 +142,7 @@ impl<L: Ledger> Checking<L> {
             result }
         ensures each { self.new.each_batch ≡ self.old.each_batch }
     {
-        let alloc = means.alloc;
-        let steps = &mut self.steps;
-        match self.check.take(means.runtime, alloc, item, self.workers, means.gate, steps) {
+        match self.check.take(alloc, item) {
             Ok(closed) => Ok(closed),
             Err(Refused::Fault(refusal)) => Err(self.stop(Fault::of_refusal(refusal))),
             Err(Refused::NoMemory) => Err(Stop::without_memory()),
@@ -151,7 +171,7 @@ impl<L: Ledger> Checking<L> {
             (judge (rules_of aim) j item) text result }
         ensures each { self.new.each_batch ≡ self.old.each_batch }
     {
-        let closed = match self.judge(means, item) {
+        let closed = match self.judge(means.alloc, item) {
             Ok(closed) => closed,
             Err(stop) => return Err(stop),
         };
@@ -161,7 +181,7 @@ impl<L: Ledger> Checking<L> {
         if !self.each_batch {
             return Ok(());
         }
-        match self.report(means.alloc, out) {
+        match self.report(means, out) {
             Ok(_) => Ok(()),
             Err(stop) => Err(stop),
         }
@@ -200,27 +220,43 @@ impl<L: Ledger> Checking<L> {
     }
 
     /// Writes the summary of a bench whose log is that so far, and gives the verdict on it.
-    pub fn sum_up<O: Sink>(&self, alloc: Global, sizes: Sizes, out: &mut O) -> Result<Verdict, Stop>
+    pub fn sum_up<R: Threads + Sync, G: Gate, O: Sink>(
+        &mut self,
+        means: &Means<'_, R, G>,
+        sizes: Sizes,
+        out: &mut O,
+    ) -> Result<Verdict, Stop>
         requires { (aim : Aim) × (j : Judgement) × (log : Prefix)
             × IsCheckOf
-            (λ h. answers (h.watch.vtable, h.watch.value)) aim self.now.check j × HasClosed j log }
+            (λ h. answers (h.watch.vtable, h.watch.value)) aim self.old.check j × HasClosed j log }
         ensures { (aim : Aim) (j : Judgement) (log : Prefix)
             → IsCheckOf
-            (λ h. answers (h.watch.vtable, h.watch.value)) aim self.now.check j → HasClosed j log
+            (λ h. answers (h.watch.vtable, h.watch.value)) aim self.old.check j → HasClosed j log
             → IsBenchAim aim
             → SumsUp (O.held out.old) (O.held out.new) (O.faults out.old) (O.faults out.new)
-            aim self.now.check.batches log (sizes_of sizes) result }
+            aim self.old.check.batches log (sizes_of sizes) result }
     {
-        let Ok(report) = self.check.report(alloc) else {
+        let batches = self.check.batches;
+        let Ok(report) = self.ask(means) else {
             return Err(Stop::without_memory());
         };
-        let Ok(text) = write_summary(alloc, summary_sizes(sizes), &report) else {
+        let Ok(text) = write_summary(means.alloc, summary_sizes(sizes), &report) else {
             return Err(Stop::without_memory());
         };
-        if let Err(stop) = put(out, text.as_slice(), self.check.batches) {
+        if let Err(stop) = put(out, text.as_slice(), batches) {
             return Err(stop);
         }
-        Ok(self.verdict(&report))
+        Ok(verdict(batches, &report))
+    }
+}
+
+// The verdict that a report of so many batches tells.
+fn verdict(batches: u32, report: &Report) -> Verdict
+    ensures { result ≡ record { batches = batches; truth = report.now.verdict } }
+{
+    Verdict {
+        batches,
+        truth: report.verdict,
     }
 }
 

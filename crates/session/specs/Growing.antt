@@ -49,8 +49,8 @@ pub record MayGoOn (seen : Observed) (rows : List RowsView) (cs : List (List Pie
   pub floors : (later : Observed) → IsTrace later.trace.states → IsLater seen later
       → AreFloors later rows cs
 
--- batches were taken, the answer is that of the formula on what was observed, and the rows are those
--- of its conjunctions
+-- batches were taken, the answer is that of the formula on what was observed, and the rows are
+-- those of its conjunctions
 pub record IsAnswered (seen : Observed) (disjuncts : List (List Part)) (rows : List RowsView)
     (told : Answer) : Type 0 where
   pub taken : 1 ≤ seen.trace.batches

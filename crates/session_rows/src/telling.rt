@@ -142,7 +142,7 @@ pub fn tell(
         text.push_str("spent\n")?;
         return Ok(());
     }
-    if session.trace().batches() == 0 {
+    if !session.is_answered() {
         text.push_str("batches 0\n")?;
         return Ok(());
     }

@@ -28,8 +28,8 @@ returns-in-Err g c aim is benches =
     (g.O.Sink.held c.take_all.new.out) (g.O.Sink.faults c.args.out.now) (g.O.Sink.faults c.take_all.new.out) c.args.checking.now.each_batch c.requires.last c.args.checking.now.check
     c.take_all.new.self.check _ is (c.in-Err.ensures.items aim))
 
-pub sum_up-requires : goal.sum_up-requires
-sum_up-requires g c =
+pub sum_up-requires-after_bounds : goal.sum_up-requires-after_bounds
+sum_up-requires-after_bounds g c κs lives =
     let aim = c.requires.check.0 in
     let t = taken_made (λ h. (goal.Watch-dyn g (h.watch.vtable, h.watch.value)).answers h.watch.value) aim c.args.sizes c.requires.sizes c.in-Ok.items c.in-Ok.ensures (g.O.Sink.held c.args.out.now)
     (g.O.Sink.held c.take_all.new.out) (g.O.Sink.faults c.args.out.now) (g.O.Sink.faults c.take_all.new.out) c.args.checking.now.each_batch c.requires.last c.args.checking.now.check

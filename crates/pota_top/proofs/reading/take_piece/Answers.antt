@@ -1,4 +1,3 @@
-use Rattle.std.proofs.Common.{◌≡◌, Some, None}
 use Rattle.pota_top.specs.Reading.{judgement_in}
 use Rattle.pota_top.proofs.ReadingSteps.{piece_short, piece_follows, piece_stops, piece_faults, piece_passes}
 use Rattle.pota_top.proofs.reading.take_piece.Goals as goal

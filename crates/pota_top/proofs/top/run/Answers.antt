@@ -1,5 +1,3 @@
-use Rattle.std.proofs.Common.{subst, sym}
-use Rattle.pota_top.specs.declared.outcome.Outcome.{Outcome}
 use Rattle.pota_top.proofs.Clauses.{told_as}
 use Rattle.pota_top.proofs.top.run.Goals as goal
 

@@ -11,8 +11,8 @@ returns-in-Err-clause-items g c aim j text stands follows =
     (g.O.Sink.held c.args.out.now) (g.O.Sink.faults c.args.out.now) stands c.in-Err.stop
     (c.in-Err.ensures.judged aim j stands.check_is follows)
 
-pub report-requires : goal.report-requires
-report-requires g c =
+pub report-requires-after_bounds : goal.report-requires-after_bounds
+report-requires-after_bounds g c κs lives =
     let aim = c.requires.0 in
     let j = c.requires.1 in
     let stands = c.requires.3 in
@@ -37,8 +37,9 @@ returns-in-Ok-report-clause-items g c aim j text stands follows =
     closed_written (λ h. (goal.Watch-dyn g (h.watch.vtable, h.watch.value)).answers h.watch.value) aim c.args.self.now.each_batch c.in-Ok.closed each closed j c.args.item c.args.self.now.check
     c.judge.new.self.check text (g.O.Sink.held c.args.out.now) (g.O.Sink.held c.report.new.out)
     (g.O.Sink.faults c.args.out.now) (g.O.Sink.faults c.report.new.out) stands
-    (c.in-Ok.ensures.judged aim j stands.check_is follows) _ c.in-Ok-report.field-0
-    (λ log is texts. c.in-Ok-report.ensures aim (judge (rules_of aim) j c.args.item) log
+    (c.in-Ok.ensures.judged aim j stands.check_is follows) _ c.in-Ok-report.field-0 c.report.new.self.check
+    (c.in-Ok-report.ensures.goes_on aim (judge (rules_of aim) j c.args.item) (c.in-Ok.ensures.judged aim j stands.check_is follows).is)
+    (λ log is texts. c.in-Ok-report.ensures.reports aim (judge (rules_of aim) j c.args.item) log
     (c.in-Ok.ensures.judged aim j stands.check_is follows).is is (closed_of j) text texts)
 
 pub returns-in-Err-report-clause-items : goal.returns-in-Err-report-clause-items
@@ -48,6 +49,6 @@ returns-in-Err-report-clause-items g c aim j text stands follows =
     closed_stops (λ h. (goal.Watch-dyn g (h.watch.vtable, h.watch.value)).answers h.watch.value) aim c.args.self.now.each_batch c.in-Ok.closed each closed j c.args.item c.args.self.now.check
     c.judge.new.self.check text (g.O.Sink.held c.args.out.now) (g.O.Sink.held c.report.new.out)
     (g.O.Sink.faults c.args.out.now) (g.O.Sink.faults c.report.new.out) stands
-    (c.in-Ok.ensures.judged aim j stands.check_is follows) c.in-Err-report.stop
-    (λ log is texts. c.in-Err-report.ensures aim (judge (rules_of aim) j c.args.item) log
+    (c.in-Ok.ensures.judged aim j stands.check_is follows) c.in-Err-report.stop c.report.new.self.check
+    (λ log is texts. c.in-Err-report.ensures.reports aim (judge (rules_of aim) j c.args.item) log
     (c.in-Ok.ensures.judged aim j stands.check_is follows).is is (closed_of j) text texts)
