@@ -218,6 +218,7 @@ impl Feeder {
     }
 
     // The line feed of this line.
+    #[inline(always)]
     fn close(&mut self, line: &[u8]) -> Result<LineGiven, NoMemory>
         ensures closes { IfOk result (λ given. ClosesLine self.old line.now given self.new) }
         ensures line { self.new.line.items ≡ self.old.line.items }

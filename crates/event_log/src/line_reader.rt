@@ -292,6 +292,7 @@ impl LineReader {
     }
 
     /// Reads one line more. After a fault, and without memory, the reader is of no further use.
+    #[inline(always)]
     pub fn take(&mut self, alloc: Global, line: &[u8]) -> Result<LineTold, NoMemory>
         requires { self.old.lines < 2 ^ 32 - 1 }
         ensures takes { IfOk result (λ t. TakesLine self.old line.now t self.new) }

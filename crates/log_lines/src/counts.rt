@@ -43,6 +43,7 @@ fn any_count_at(bytes: &[u8]) -> Option<(u32, &[u8])>
 }
 
 /// The number of 32 bits at the front, and the bytes after its last digit.
+#[inline(always)]
 pub fn count_at(bytes: &[u8]) -> Option<(u32, &[u8])>
     ensures { seen result ≡ number_at (2 ^ 32 - 1) bytes.now }
 {

@@ -1,15 +1,14 @@
 -- What a trace is at each moment, and what a batch adds to it.
-use Rattle.std.proofs.Common.{◌≡◌, ℕ, zero, suc, List, [], ◌∷◌, ◌++◌, length, map, get_or, refl, sym, ap, ◌∙◌, subst, arith}
+use Rattle.std.proofs.Common.{◌≡◌, ℕ, zero, suc, List, [], ◌∷◌, ◌++◌, length, map, refl, sym, ap, ◌∙◌, subst, arith}
 use Rattle.std.specs.Prelude.{ℤ, Bool, false, None}
 use Rattle.std.specs.List.{AllByRecursion}
 use Rattle.std.proofs.lemmas.List.{map-append}
 use Rattle.event_log.specs.declared.log.Event.{Event}
 use Rattle.event_log.specs.declared.log.Binding.{Binding}
 use Rattle.event_log.specs.declared.log.Header.{Header}
-use Rattle.event_log.specs.States.{StatesView, IsHeader, AreWhole, with_batch, trace_of, processes_of, opened, event_of}
+use Rattle.event_log.specs.States.{StatesView, IsHeader, with_batch, trace_of, processes_of, opened, event_of}
 use Rattle.run_model.specs.Run as run
-use Rattle.run_model.specs.Cut.{Clocks}
-use Rattle.causal_order.specs.Growth.{HasGrown, with_clocks}
+use Rattle.causal_order.specs.Growth.{HasGrown}
 use Rattle.causal_order.proofs.Growing.{grown_none}
 use Rattle.vector_clock.specs.declared.clocks.Clocks as code
 use Rattle.vector_clock.specs.Events.{Events, EventFits, clocks_of, own_events, no_events}

@@ -1,4 +1,4 @@
-use Rattle.std.proofs.Common.{length, subst}
+use Rattle.std.proofs.Common.{subst}
 use Rattle.std.specs.Prelude.{ℕ}
 use Rattle.vector_clock.specs.Events.{no_events}
 use Rattle.vector_clock.specs.Admitted.{HasAdmitted}
