@@ -53,8 +53,8 @@ pub fn set_counts(counts: &mut Vec<u32>, lens: &[u32]) -> Result<(), NoMemory>
     Ok(())
 }
 
-/// The first fault of a batch. The messages are those up to the end of the batch, and `lens` has how
-/// many events each process has then. It counts the events that it has judged in `judged`.
+/// The first fault of a batch. The messages are those up to the end of the batch, and `lens` has
+/// how many events each process has then. It counts the events that it has judged in `judged`.
 pub fn first_fault(
     alloc: Global,
     order: &Order,
