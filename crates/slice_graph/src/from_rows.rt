@@ -44,9 +44,10 @@ impl Slice {
         let _shape = order.shape();
         let shape = rows.shape();
         let mut table = CutTable::new(alloc, shape)?;
-        let mut cut = Cut::new(alloc, shape.procs())?;
+        let mut room = [0; 32];
+        let room = &mut room[..shape.procs() as usize];
         for row in 0..shape.events() + 1 {
-            push_kept(&mut table, rows, row, &mut cut)?;
+            push_kept(&mut table, rows, row, room)?;
         }
         Slice::of(alloc, table)
     }
@@ -88,7 +89,7 @@ fn push_row(table: &mut CutTable, row: &Option<Cut>) -> Result<(), NoMemory>
 
 /// Puts behind the other rows the cut that a row's vector is, and none where a component is above
 /// its length.
-fn push_kept(table: &mut CutTable, rows: &Rows, row: u32, cut: &mut Cut) -> Result<(), NoMemory>
+fn push_kept(table: &mut CutTable, rows: &Rows, row: u32, cut: &mut [u32]) -> Result<(), NoMemory>
     requires row { row ≤ sum rows.now.lens }
     requires lens { table.old.lens ≡ rows.now.lens }
     requires width { length cut.old ≡ length rows.now.lens }
@@ -98,17 +99,15 @@ fn push_kept(table: &mut CutTable, rows: &Rows, row: u32, cut: &mut Cut) -> Resu
         × (table.new ≡ record table.old { rows = table.old.rows ++ kept ∷ [] })) }
 {
     let shape = rows.shape();
-    let procs = shape.procs() as usize;
-    let start = row as usize * procs;
-    if keep(&rows.as_words()[start..start + procs], shape.lens(), cut) {
-        table.push_cut(cut.as_slice())
+    if keep(rows.row(row), shape.lens(), cut) {
+        table.push_cut(cut)
     } else {
         table.push_none()
     }
 }
 
 /// Whether each component of the vector is at most its length. Then `cut` is the vector.
-fn keep(vector: &[u64], lens: &[u32], cut: &mut Cut) -> bool
+fn keep(vector: &[u64], lens: &[u32], cut: &mut [u32]) -> bool
     requires shape { IsShape lens.now }
     requires vector { length vector.now ≡ length lens.now }
     requires width { length cut.old ≡ length lens.now }
@@ -120,7 +119,7 @@ fn keep(vector: &[u64], lens: &[u32], cut: &mut Cut) -> bool
         if vector[process] > lens[process] as u64 {
             return false;
         }
-        cut.set(process as u32, vector[process] as u32);
+        cut[process] = vector[process] as u32;
     }
     true
 }
