@@ -2,6 +2,7 @@
 
 ghost use Rattle.std.specs.Prelude.{IfOk, IfSome};
 ghost use Rattle.rctl_class.specs.NamedParts.{AreDisjuncts, disjuncts_of};
+ghost use Rattle.rctl_class.specs.Nodes.{IsWithinLimits, node_of};
 
 use event_log::Header;
 use log_fitting::{has_few_variables, is_header};
@@ -9,7 +10,7 @@ use pota_base::{List, NoMemory, Refused};
 use pota_names::Name;
 use rctl_class::{Classed, classify, read_formulas_are_within_limits};
 use rctl_names::resolve;
-use rctl_parse::parse;
+use rctl_parse::{Formula, parse};
 use session::Session;
 use std::alloc::Global;
 use watch::Handed;
@@ -17,20 +18,40 @@ use watch::Handed;
 /// The most watches that a formula may be looked up among.
 const MOST_WATCHES: usize = 8;
 
-fn classed(alloc: Global, text: &str) -> Result<Option<Classed>, NoMemory>
+// The formula of a text, none where the text has a fault.
+fn parsed(alloc: Global, text: &str) -> Result<Option<Formula>, NoMemory>
+    ensures { IfOk result (λ o. IfSome o (λ formula. IsWithinLimits (node_of formula.tree))) }
+{
+    match parse(alloc, text.as_bytes()) {
+        Ok(formula) => {
+            read_formulas_are_within_limits();
+            Ok(Some(formula))
+        }
+        Err(Refused::Fault(_)) => Ok(None),
+        Err(Refused::NoMemory) => Err(NoMemory),
+    }
+}
+
+// The disjuncts of a formula, none where it is not of the class.
+fn disjuncts(alloc: Global, formula: &Formula) -> Result<Option<Classed>, NoMemory>
+    requires { IsWithinLimits (node_of formula.now.tree) }
     ensures { IfOk result (λ o. IfSome o (λ c. AreDisjuncts (disjuncts_of c.disjuncts))) }
 {
-    let formula = match parse(alloc, text.as_bytes()) {
-        Ok(formula) => formula,
-        Err(Refused::Fault(_)) => return Ok(None),
-        Err(Refused::NoMemory) => return Err(NoMemory),
-    };
-    read_formulas_are_within_limits();
-    match classify(alloc, &formula) {
+    match classify(alloc, formula) {
         Ok(classed) => Ok(Some(classed)),
         Err(Refused::Fault(_)) => Ok(None),
         Err(Refused::NoMemory) => Err(NoMemory),
     }
+}
+
+// The disjuncts of a text, none where it has a fault.
+fn classed(alloc: Global, text: &str) -> Result<Option<Classed>, NoMemory>
+    ensures { IfOk result (λ o. IfSome o (λ c. AreDisjuncts (disjuncts_of c.disjuncts))) }
+{
+    let Some(formula) = parsed(alloc, text)? else {
+        return Ok(None);
+    };
+    disjuncts(alloc, &formula)
 }
 
 fn names_of(alloc: Global, watches: &[Handed]) -> Result<List<Name>, NoMemory> {

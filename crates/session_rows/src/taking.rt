@@ -1,10 +1,13 @@
 //! One batch, handed to a session.
-ghost use Rattle.std.specs.Prelude.{◌≡◌, ◌≤◌, false, IsTrue};
+ghost use Rattle.std.specs.Prelude.{◌≡◌, ◌+◌, ◌≤◌, false, length, sum, IsTrue};
+ghost use Rattle.std.specs.List.{AllByRecursion};
+ghost use Rattle.event_log.specs.States.{MayFollow};
+ghost use Rattle.vector_clock.specs.Events.{EventFits};
 ghost use Rattle.trace_growth.specs.Growing.{FitsTrace};
 
-use event_log::{Event, LogFault};
+use event_log::{Event, LogFault, States};
 use log_fitting::{are_known, events_fit};
-use pota_base::{FreeGate, List, NoMemory, Refused, Steps};
+use pota_base::{FreeGate, List, NoMemory, Refused, Shape, Steps};
 use session::Session;
 use std::sync::ledger::Ledger;
 use std::thread::Threads;
@@ -22,17 +25,36 @@ pub enum Taken {
     Unfit,
 }
 
+// Whether so many events more are no more than a trace may have.
+fn has_room(shape: &Shape, more: usize) -> bool
+    ensures { IsTrue result → sum shape.now + more ≤ 50000 }
+{
+    let before = shape.events() as usize;
+    before <= MOST_EVENTS && more <= MOST_EVENTS - before
+}
+
+// Whether the events may follow those that are there.
+fn may_follow(states: &States, batch: &[Event]) -> bool
+    ensures follows { IsTrue result → MayFollow states.now.header states.now.events batch.now }
+    ensures each { IsTrue result
+        → AllByRecursion (EventFits (length states.now.events)) batch.now }
+{
+    let shape = states.shape();
+    if !has_room(shape, batch.len()) {
+        return false;
+    }
+    if !are_known(states.header(), batch) {
+        return false;
+    }
+    events_fit(shape.procs() as usize, batch)
+}
+
 // Whether the batch may be handed to the trace.
 fn fits(trace: &Trace, batch: &[Event]) -> bool
     requires { trace.now.spent ≡ false }
     ensures { IsTrue result → FitsTrace trace.now batch.now }
 {
-    let states = trace.states();
-    let before = states.shape().events() as usize;
-    if batch.len() > MOST_EVENTS.saturating_sub(before) {
-        return false;
-    }
-    are_known(states.header(), batch) && events_fit(states.shape().procs() as usize, batch)
+    may_follow(trace.states(), batch)
 }
 
 /// Hands the batch to the session, if it may be.
