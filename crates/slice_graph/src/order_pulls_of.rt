@@ -1,6 +1,6 @@
 //! The pulls of the order of a run.
-ghost use Rattle.std.specs.Prelude.{◌≡◌, ℕ, ◌+◌, ◌-◌, ◌*◌, ◌<◌, ◌≤◌, ◌↔◌, ◌==◌, [], ◌∷◌, ◌++◌, length};
-ghost use Rattle.std.specs.Prelude.{flat_map, if◌then◌else◌, All, IfOk, OnOk};
+ghost use Rattle.std.specs.Prelude.{◌≡◌, ℕ, ◌+◌, ◌-◌, ◌*◌, ◌<◌, ◌≤◌, ◌↔◌, ◌==◌, [], ◌∷◌, ◌++◌};
+ghost use Rattle.std.specs.Prelude.{length, flat_map, if◌then◌else◌, All, IfOk, OnOk};
 ghost use Rattle.std.specs.List.{range_with_len};
 ghost use Rattle.run_model.specs.Cut.{Cut, count, IsWithin, lengths};
 ghost use Rattle.run_model.specs.Consistent.{IsConsistent};
