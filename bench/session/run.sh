@@ -13,9 +13,9 @@ rm -r data stdout src/case.rt src/log.rt src/reading.rt src/running.rt src/telli
 cp "$here/main.txt" src/main.rt
 # In the proof the counter's ledger is the one that the blank names.
 rm -r proofs/verdict
-mkdir -p proofs/run_all
-printf '%s\n' 'use Rattle.session_rows.proofs.run_all.Given as goal' '' 'abbrev pub ghosts-run : goal.ghosts-run' \
-    'ghosts-run g a = record { name = a.blank.name; parts = a.blank.parts }' > proofs/run_all/Invariants.antt
+mkdir -p proofs/measured
+printf '%s\n' 'use Rattle.session_rows.proofs.measured.Given as goal' '' 'abbrev pub ghosts-run : goal.ghosts-run' \
+    'ghosts-run g a = record { name = a.blank.name; parts = a.blank.parts }' > proofs/measured/Invariants.antt
 rt run > /dev/null
 ./out/session_rows | sed 's/, 0 look-ups//'
 
