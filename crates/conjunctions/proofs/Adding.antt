@@ -4,7 +4,7 @@ use Rattle.std.specs.Prelude.{◌↔◌, ◌&&◌}
 use Rattle.std.proofs.lemmas.List.Elements.{All-append}
 use Rattle.std.proofs.lemmas.Grind.{flat_map-append}
 use Rattle.run_model.proofs.EdgeLemmas.{all_left, all_right}
-use Rattle.run_model.specs.Cut.{Cut}
+use Rattle.run_model.specs.Cut.{Cut, IsWithin}
 use Rattle.run_model.specs.Run.{Run}
 use Rattle.run_model.specs.Consistent.{IsConsistent}
 use Rattle.run_model.specs.Meaning.{Sat, SatAll}
@@ -54,9 +54,20 @@ pub atoms_right : (ps qs : List Piece) → all_atoms (ps ++ qs) ≡ true → all
 atoms_right [] qs h = h
 atoms_right (p ∷ ps) qs h = atoms_right ps qs (and_right (is_atom p) (all_atoms (ps ++ qs)) h)
 
+and_rest : (a b : Bool) → a ≡ true → (a && b) ≡ false → b ≡ false
+and_rest true b h some = some
+and_rest false b h some = absurd (cc)
+
+-- where the first parts are atoms, a temporal one is among the others
+temporal_right : (ps qs : List Piece) → all_atoms ps ≡ true → all_atoms (ps ++ qs) ≡ false → all_atoms qs ≡ false
+temporal_right [] qs h some = some
+temporal_right (p ∷ ps) qs h some =
+    let first = and_left (is_atom p) (all_atoms ps) h in
+    temporal_right ps qs (and_right (is_atom p) (all_atoms ps) h) (and_rest (is_atom p) (all_atoms (ps ++ qs)) first some)
+
 -- ---- pulls
 
-closed_none : (c : Cut) → ClosedUnder [] c
+pub closed_none : (c : Cut) → ClosedUnder [] c
 closed_none c k d there = absurd (omega arith)
 
 pub adds_none : (seen : Observed) (pulls : List Pull) → AddsPulls seen pulls pulls []
@@ -66,6 +77,7 @@ adds_none seen pulls = record {
   fit = λ k d there. absurd (omega arith);
   few = omega arith;
   meaning = λ reading are c consistent. (λ h. tt, λ h. closed_none c);
+  orders = λ temporal. absurd (cc);
   own = λ atoms. refl;
 }
 
@@ -82,11 +94,18 @@ adds_more seen a b c ps qs first second = record {
         λ h. joined.1 (early.0 (all_left (HoldsAt cut) first.added second.added h), late.0 (all_right (HoldsAt cut) first.added second.added h)),
         λ h. All-append (HoldsAt cut) first.added second.added (early.1 (joined.0 h).0) (late.1 (joined.0 h).1),
       );
+  orders = λ temporal cut shaped within closed. ordered (all_atoms ps) refl temporal cut shaped within closed;
   own = λ atoms.
       let early = first.own (atoms_left ps qs atoms) in
       let late = second.own (atoms_right ps qs atoms) in
       ap (λ pulls. pulls ++ second.added) early ∙ ap (λ pulls. pulls_of_parts seen ps ++ pulls) late ∙ sym (flat_map-append (pulls_of_part seen) ps qs);
 }
+  where
+    ordered : (atoms : Bool) → all_atoms ps ≡ atoms → all_atoms (ps ++ qs) ≡ false → (cut : Cut) → length cut ≡ length (clocks_seen seen) → IsWithin cut (lens_seen seen)
+        → ClosedUnder (first.added ++ second.added) cut → IsConsistent (clocks_seen seen) cut
+    ordered false is temporal cut shaped within closed = first.orders is cut shaped within (all_left (HoldsAt cut) first.added second.added closed)
+    ordered true is temporal cut shaped within closed =
+        second.orders (temporal_right ps qs is temporal) cut shaped within (all_right (HoldsAt cut) first.added second.added closed)
 
 -- ---- answers
 

@@ -6,13 +6,11 @@ use Rattle.std.proofs.lemmas.List.Concat.{flat_map-cons}
 use Rattle.std.proofs.Math.Seq.{take-suc}
 use Rattle.pull_system.specs.declared.pull.Pull.{Pull}
 use Rattle.pull_system.specs.Rows.{RowsView}
-use Rattle.slice_graph.specs.PullLists.{pulls_of_order}
 use Rattle.rctl_parts.specs.declared.part.Part.{Part}
 use Rattle.rctl_parts.specs.Pieces.{Piece, piece_of, pieces_of}
 use Rattle.rctl_parts.specs.MadeFor.{Scope, PieceFits, EachFits, part_count, parts_count}
 use Rattle.conjunctions.specs.declared.observed.Observed.{Observed}
 use Rattle.conjunctions.specs.declared.answer.PartAnswer.{PartAnswer}
-use Rattle.conjunctions.specs.Observing.{clocks_seen, lens_seen}
 use Rattle.conjunctions.specs.Numbering.{within, conjunctions_in}
 use Rattle.conjunctions.specs.Rounds.{RoundView}
 use Rattle.conjunctions.specs.Systems.{AddsPulls}
@@ -21,25 +19,25 @@ use Rattle.conjunctions.specs.Answering.{places_from, place, IsPartAnswer, AddsA
 use Rattle.conjunctions.proofs.InTurn.{settles_none, settles_on, floors_left, floors_right}
 use Rattle.conjunctions.proofs.Adding.{adds_none, adds_more, answers_none, answers_more, places_joined}
 
--- what stands once these parts were added: their pulls behind those of the order, the rows within them, and their answers
-pub record Gathered (seen : Observed) (workers disjunct : ℕ) (round now : RoundView) (steps steps_now : ℕ) (answers answers_now : List PartAnswer) (pulls : List Pull) (ps : List Piece) : Type 0 where
-  pub adds : AddsPulls seen (pulls_of_order (clocks_seen seen)) pulls ps
+-- what stands once these parts were added: their pulls behind the first ones, the rows within them, and their answers
+pub record Gathered (seen : Observed) (workers disjunct : ℕ) (round now : RoundView) (steps steps_now : ℕ) (answers answers_now : List PartAnswer) (begun pulls : List Pull) (ps : List Piece) : Type 0 where
+  pub adds : AddsPulls seen begun pulls ps
   pub settles : Settles seen workers round now steps steps_now (flat_map within ps)
   pub told : AddsAnswers seen answers answers_now (places_from disjunct 1 ps)
 
-pub gathered_none : (seen : Observed) (workers disjunct : ℕ) (round : RoundView) (steps : ℕ) (answers : List PartAnswer) (pulls : List Pull) → pulls ≡ pulls_of_order (clocks_seen seen)
-    → Gathered seen workers disjunct round round steps steps answers answers pulls []
-gathered_none seen workers disjunct round steps answers pulls is = record {
-  adds = subst (λ (list : List Pull). AddsPulls seen (pulls_of_order (clocks_seen seen)) list []) (sym is) (adds_none seen (pulls_of_order (clocks_seen seen)));
+pub gathered_none : (seen : Observed) (workers disjunct : ℕ) (round : RoundView) (steps : ℕ) (answers : List PartAnswer) (begun pulls : List Pull) → pulls ≡ begun
+    → Gathered seen workers disjunct round round steps steps answers answers begun pulls []
+gathered_none seen workers disjunct round steps answers begun pulls is = record {
+  adds = subst (λ (list : List Pull). AddsPulls seen begun list []) (sym is) (adds_none seen begun);
   settles = settles_none seen workers round steps;
   told = answers_none seen answers;
 }
 
-pub gathered_more : (seen : Observed) (workers disjunct : ℕ) (round now next : RoundView) (s t u : ℕ) (a b c : List PartAnswer) (pulls more : List Pull) (ps : List Piece) (p : Piece) (answer : PartAnswer)
-    → Gathered seen workers disjunct round now s t a b pulls ps → AddsPulls seen pulls more (p ∷ []) → Settles seen workers now next t u (within p)
-    → IsPartAnswer seen (place disjunct (length ps + 1) p) answer → c ≡ b ++ answer ∷ [] → Gathered seen workers disjunct round next s u a c more (ps ++ p ∷ [])
-gathered_more seen workers disjunct round now next s t u a b c pulls more ps p answer gathered adds settles is c_is = record {
-  adds = adds_more seen (pulls_of_order (clocks_seen seen)) pulls more ps (p ∷ []) gathered.adds adds;
+pub gathered_more : (seen : Observed) (workers disjunct : ℕ) (round now next : RoundView) (s t u : ℕ) (a b c : List PartAnswer) (begun pulls more : List Pull) (ps : List Piece) (p : Piece) (answer : PartAnswer)
+    → Gathered seen workers disjunct round now s t a b begun pulls ps → AddsPulls seen pulls more (p ∷ []) → Settles seen workers now next t u (within p)
+    → IsPartAnswer seen (place disjunct (length ps + 1) p) answer → c ≡ b ++ answer ∷ [] → Gathered seen workers disjunct round next s u a c begun more (ps ++ p ∷ [])
+gathered_more seen workers disjunct round now next s t u a b c begun pulls more ps p answer gathered adds settles is c_is = record {
+  adds = adds_more seen begun pulls more ps (p ∷ []) gathered.adds adds;
   settles = subst (Settles seen workers round next s u) (sym parts) (settles_on seen workers round now next s t u (flat_map within ps) (within p) gathered.settles settles);
   told = subst (AddsAnswers seen a c) (sym places) (answers_more seen a b c (places_from disjunct 1 ps) (places_from disjunct (1 + length ps) (p ∷ [])) gathered.told one);
 }

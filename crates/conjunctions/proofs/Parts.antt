@@ -58,29 +58,38 @@ count_pieces (p ∷ ps) = ap (λ n. part_count p + n) (count_pieces ps)
 pub one_adds : (seen : Observed) (old new added : List Pull) (p : Piece) → new ≡ old ++ added → All (IsPull (lens_seen seen)) added
     → length added ≤ room_of (length (lens_seen seen)) p
     → ((reading : Reading) → AreAnswers seen reading → (c : Cut) → IsConsistent (clocks_seen seen) c → ClosedUnder added c ↔ Sat (run_seen seen reading) (formula_of (names_seen seen reading) p) c)
+    → (is_atom p ≡ false → (c : Cut) → length c ≡ length (clocks_seen seen) → IsWithin c (lens_seen seen) → ClosedUnder added c → IsConsistent (clocks_seen seen) c)
     → (is_atom p ≡ true → added ≡ pulls_of_part seen p) → AddsPulls seen old new (p ∷ [])
-one_adds seen old new added p is fit few meaning own = record {
+one_adds seen old new added p is fit few meaning orders own = record {
   added = added;
   is = is;
   fit = fit;
   few = omega arith;
   meaning = λ reading are c consistent. let part = meaning reading are c consistent in (λ h. (part.0 h, tt), λ h. part.1 h.0);
+  orders = λ temporal. orders (other (is_atom p) temporal);
   own = λ atoms. own (first (is_atom p) atoms) ∙ sym (append-nil (pulls_of_part seen p));
 }
   where
+    other : (b : Bool) → (b && true) ≡ false → b ≡ false
+    other true h = h
+    other false h = refl
+
     first : (b : Bool) → (b && true) ≡ true → b ≡ true
     first true h = refl
     first false h = h
 
 pub atom_adds : (seen : Observed) (old new added : List Pull) (truth : Bool) (a : Atom) → new ≡ old ++ added → IsAtomOf seen a added truth → AddsPulls seen old new (atom a ∷ [])
-atom_adds seen old new added truth a is atom_is = one_adds seen old new added (atom a) is atom_is.fit atom_is.few atom_is.meaning (λ h. atom_is.own)
+atom_adds seen old new added truth a is atom_is = one_adds seen old new added (atom a) is atom_is.fit atom_is.few atom_is.meaning (λ h. absurd (cc)) (λ h. atom_is.own)
 
--- a consistent cut is one of the slice's lengths
-pub cut_is : (o : Clocks) (slice : SliceView) → FitsOrder o slice → (c : Cut) → IsConsistent o c → IsCut slice.lens c
-cut_is o slice fits c consistent = record {
-  size = consistent.shaped ∙ sym (length-lengths o) ∙ ap length (sym fits.shape);
-  within = subst (λ (lens : List ℕ). IsWithin c lens) (sym fits.shape) consistent.within;
+-- a cut of the order's lengths is one of the slice's
+cut_of_lengths : (o : Clocks) (slice : SliceView) → FitsOrder o slice → (c : Cut) → length c ≡ length o → IsWithin c (lengths o) → IsCut slice.lens c
+cut_of_lengths o slice fits c shaped within = record {
+  size = shaped ∙ sym (length-lengths o) ∙ ap length (sym fits.shape);
+  within = subst (λ (lens : List ℕ). IsWithin c lens) (sym fits.shape) within;
 }
+
+pub cut_is : (o : Clocks) (slice : SliceView) → FitsOrder o slice → (c : Cut) → IsConsistent o c → IsCut slice.lens c
+cut_is o slice fits c consistent = cut_of_lengths o slice fits c consistent.shaped consistent.within
 
 -- the operator over the operand's slice is true exactly where the part is
 pub operator_means : (seen : Observed) (o : Operator) (ps : List Piece) (operand : SliceView) → IsTrue (is_analysed (model_operator o)) → IsSliceOf seen operand ps
@@ -125,6 +134,7 @@ pub record ArePullsOf (seen : Observed) (slice : SliceView) (pulls : List Pull) 
   pub fit : All (IsPull (lens_seen seen)) pulls
   pub count : length pulls ≡ length (lens_seen seen) * length (lens_seen seen)
   pub closed : (c : Cut) → IsConsistent (clocks_seen seen) c → ClosedUnder pulls c ↔ Cuts (clocks_seen seen) (slice_of slice) c
+  pub orders : (c : Cut) → length c ≡ length (clocks_seen seen) → IsWithin c (lens_seen seen) → ClosedUnder pulls c → IsConsistent (clocks_seen seen) c
 
 pub temporal_adds : (seen : Observed) (o : Operator) (ps : List Piece) (operand slice : SliceView) (old new added : List Pull) → IsTrue (is_analysed (model_operator o)) → IsSliceOf seen operand ps
     → IsOperated seen o operand slice → ArePullsOf seen slice added → new ≡ old ++ added → AddsPulls seen old new (temporal o (pieces ps) ∷ [])
@@ -135,7 +145,7 @@ temporal_adds seen o ps operand slice old new added analysed is operated pulls a
     let cuts = operated.cuts c consistent in
     let closed = pulls.closed c consistent in
     (λ h. means.0 (cuts.0 (closed.0 h)), λ h. closed.1 (cuts.1 (means.1 h))))
-    (λ h. absurd (cc))
+    (λ h. pulls.orders) (λ h. absurd (cc))
 
 pub temporal_answer : (seen : Observed) (o : Operator) (ps : List Piece) (operand slice : SliceView) (d k : ℕ) (answer : PartAnswer) → IsTrue (is_analysed (model_operator o))
     → IsSliceOf seen operand ps → IsOperated seen o operand slice → answer.disjunct ≡ d → answer.part ≡ k → answer.operator ≡ Some o → answer.operand ≡ Some operand
@@ -196,6 +206,7 @@ pulls_of_fitting seen slice pulls fits fit count closed = record {
   fit = subst (λ (lens : List ℕ). All (IsPull lens) pulls) fits.shape fit;
   count = count ∙ ap (λ (lens : List ℕ). length lens * length lens) fits.shape;
   closed = λ c consistent. closed c (cut_is (clocks_seen seen) slice fits c consistent);
+  orders = λ c shaped within h. ((closed c (cut_of_lengths (clocks_seen seen) slice fits c shaped within)).0 h).consistent;
 }
 
 -- the initial cut is one of a fitting slice's lengths

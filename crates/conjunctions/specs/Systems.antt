@@ -1,7 +1,7 @@
 -- The system of a conjunction of atoms: the pulls of the order, and then those of each atom.
 use Rattle.std.specs.Prelude.{◌≡◌, ℕ, ◌≤◌, ◌↔◌, Bool, true, false, Option, None, Some, List, []}
 use Rattle.std.specs.Prelude.{◌++◌, length, flat_map, All, IsTrue}
-use Rattle.run_model.specs.Cut.{Cut, initial}
+use Rattle.run_model.specs.Cut.{Cut, Clocks, IsWithin, initial}
 use Rattle.run_model.specs.Consistent.{IsConsistent}
 use Rattle.run_model.specs.Meaning.{Sat}
 use Rattle.pull_system.specs.declared.pull.Pull.{Pull}
@@ -51,8 +51,15 @@ ordered_system seen added = record {
 abbrev pub system_of : Observed → List Piece → SystemView
 system_of seen ps = ordered_system seen (pulls_of_parts seen ps)
 
+-- the pulls that a conjunction begins with: those of the order where all of its parts are atoms,
+-- and else none, since only consistent cuts are closed under the pulls of a temporal part
+abbrev pub first_pulls : Clocks → Bool → List Pull
+first_pulls o true = pulls_of_order o
+first_pulls o false = []
+
 -- the pulls of these parts stand behind those that were there: a consistent cut is closed under
--- them exactly where all parts are true
+-- them exactly where all parts are true, and where a part is temporal only consistent cuts are
+-- closed under them
 pub record AddsPulls (seen : Observed) (old new : List Pull) (ps : List Piece) : Type 0 where
   pub added : List Pull
   pub is : new ≡ old ++ added
@@ -62,6 +69,8 @@ pub record AddsPulls (seen : Observed) (old new : List Pull) (ps : List Piece) :
       → IsConsistent (clocks_seen seen) c
       → ClosedUnder added c ↔ Sat (run_seen seen reading)
       (conjunction_of (names_seen seen reading) ps) c
+  pub orders : all_atoms ps ≡ false → (c : Cut) → length c ≡ length (clocks_seen seen)
+      → IsWithin c (lens_seen seen) → ClosedUnder added c → IsConsistent (clocks_seen seen) c
   pub own : all_atoms ps ≡ true → added ≡ pulls_of_parts seen ps
 
 -- the pulls and the truth at the initial cut of an atom

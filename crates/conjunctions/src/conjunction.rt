@@ -15,12 +15,12 @@ use crate::atom::{add_atom, append};
 use crate::observed::Observed;
 use crate::operator::operate;
 use crate::round::Round;
-use crate::settling::{are_atoms, settle_pulls};
+use crate::settling::{are_atoms, first_pulls, settle_pulls};
 use cut_lattice::Cut;
 use pota_base::{Gate, List, NoMemory, Steps};
 use pull_system::Pull;
 use rctl_parts::Part;
-use slice_graph::{Slice, order_pulls};
+use slice_graph::Slice;
 use std::alloc::Global;
 use std::sync::ledger::Ledger;
 use std::thread::Threads;
@@ -54,7 +54,7 @@ pub fn settle_conjunction<R: Threads + Sync, G: Gate, L: Ledger>(
     ensures answers { OnOk result (AddsAnswers seen.now answers.old answers.new
         (places_from disjunct 1 (pieces_of parts.now))) }
 {
-    let mut pulls = order_pulls(alloc, seen.trace.order())?;
+    let mut pulls = first_pulls(alloc, seen.trace.order(), parts)?;
     'parts: for (index, part) in parts.iter().enumerate() {
         let answer = add_part(
             rt,

@@ -11,6 +11,7 @@ ghost use Rattle.slice_graph.specs.Fitting.{HasOrder};
 ghost use Rattle.rctl_parts.specs.Pieces.{piece_of, pieces_of};
 ghost use Rattle.conjunctions.specs.Counting.{first_of, floor_words};
 ghost use Rattle.conjunctions.specs.Numbering.{is_atom, all_atoms};
+ghost use Rattle.conjunctions.specs.Systems.{first_pulls};
 ghost use Rattle.conjunctions.specs.Settling.{IsFloorOf, CanBegin, SettlesOne};
 
 use crate::round::Round;
@@ -19,7 +20,7 @@ use causal_order::Order;
 use pota_base::{Gate, List, NoMemory, Shape, Steps};
 use pull_system::{Pull, Rows, System};
 use rctl_parts::Part;
-use slice_graph::Slice;
+use slice_graph::{Slice, order_pulls};
 use slice_workers::{Settled, settle_all};
 use std::alloc::Global;
 use std::sync::ledger::Ledger;
@@ -46,6 +47,19 @@ pub fn are_atoms(parts: &[Part]) -> bool
         }
     }
     true
+}
+
+/// The pulls that a conjunction of these parts begins with: those of the order where none of them
+/// is temporal, and else none, since only consistent cuts are closed under a temporal part's pulls.
+pub fn first_pulls(alloc: Global, order: &Order, parts: &[Part]) -> Result<List<Pull>, NoMemory>
+    ensures { IfOk result
+        (λ pulls. pulls ≡ first_pulls order.now (all_atoms (pieces_of parts.now))) }
+{
+    if are_atoms(parts) {
+        order_pulls(alloc, order)
+    } else {
+        Ok(List::new(alloc))
+    }
 }
 
 /// The rows from which a conjunction begins: its rows of before, grown, where they are kept, and

@@ -1,6 +1,6 @@
 use Rattle.std.proofs.Common.{◌≡◌, ℕ, ◌+◌, ◌<◌, ◌≤◌, ◌∷◌, [], ◌++◌, length, take, flat_map, List, Option, Some, None, true, refl, sym, ◌∙◌, ap, subst, arith}
 use Rattle.std.specs.Prelude.{IsTrue, ◌↔◌}
-use Rattle.run_model.specs.Cut.{Cut, initial}
+use Rattle.run_model.specs.Cut.{Cut, Clocks, initial}
 use Rattle.run_model.specs.Slice.{Cuts}
 use Rattle.slice_graph.specs.Views.{slice_of}
 use Rattle.rctl_parts.specs.declared.part.Part.{Part}
@@ -9,7 +9,6 @@ use Rattle.rctl_parts.proofs.Folds.{piece-Temporal}
 use Rattle.rctl_parts.proofs.Rules as rules_of
 use Rattle.std.proofs.lemmas.Result.{IfOk-weaker}
 use Rattle.pull_system.specs.declared.pull.Pull.{Pull}
-use Rattle.slice_graph.specs.PullLists.{pulls_of_order}
 use Rattle.rctl_parts.specs.MadeFor.{EachFits, parts_count}
 use Rattle.conjunctions.specs.declared.observed.Observed.{Observed}
 use Rattle.conjunctions.specs.Rounds.{RoundView}
@@ -17,12 +16,12 @@ use Rattle.conjunctions.specs.Settling.{AreFloors, Settles}
 use Rattle.conjunctions.proofs.InTurn.{settles_on}
 use Rattle.conjunctions.proofs.Settled.{slice_settled, rows_settled}
 use Rattle.conjunctions.proofs.Gathering.{Gathered, gathered_none, gathered_more, splits_at, taken_more, length-taken, fits_at, count_at, floors_at, floors_last}
-use Rattle.conjunctions.proofs.Ending.{order_pulls_are, pulls_fit, pulls_count, pulls_have_order, can_begin_by, settles_one_by, taken_all, few_parts}
+use Rattle.conjunctions.proofs.Ending.{first_pulls_are, pulls_fit, pulls_count, pulls_have_order, can_begin_by, settles_one_by, taken_all, few_parts}
 use Rattle.conjunctions.specs.declared.answer.PartAnswer.{PartAnswer}
-use Rattle.conjunctions.specs.Numbering.{is_atom, within, conjunctions_in}
+use Rattle.conjunctions.specs.Numbering.{is_atom, all_atoms, within, conjunctions_in}
 use Rattle.conjunctions.specs.Answering.{IsSliceOf, IsPartAnswer, place}
 use Rattle.conjunctions.specs.Observing.{clocks_seen, scope_seen}
-use Rattle.conjunctions.specs.Systems.{AddsPulls}
+use Rattle.conjunctions.specs.Systems.{AddsPulls, first_pulls}
 use Rattle.conjunctions.proofs.Parts.{temporal_fits, temporal_count, temporal_floors, temporal_settles, atom_settles, operated_by, pulls_of_fitting, first_is_cut, temporal_adds, temporal_answer, atom_answer}
 use Rattle.conjunctions.proofs.conjunction.+conjunction.Goals as goal
 
@@ -94,8 +93,8 @@ add_part-returns-in_ok-truth-in-Local g t c =
 
 pub settle_conjunction-parts-init : goal.settle_conjunction-parts-init
 settle_conjunction-parts-init g t c =
-    gathered_none c.args.seen.now c.args.workers c.args.disjunct c.args.round.now c.args.steps.now c.args.answers.now c.in_ok-pulls.pulls
-    (c.in_ok-pulls.ensures.list ∙ ap pulls_of_order (c.order.ensures.order ∙ sym c.order.ensures.trace.clocks))
+    gathered_none c.args.seen.now c.args.workers c.args.disjunct c.args.round.now c.args.steps.now c.args.answers.now (first_pulls (clocks_seen c.args.seen.now) (all_atoms (pieces_of c.args.parts.now))) c.in_ok-pulls.pulls
+    (c.in_ok-pulls.ensures ∙ ap (λ (o : Clocks). first_pulls o (all_atoms (pieces_of c.args.parts.now))) (c.order.ensures.order ∙ sym c.order.ensures.trace.clocks))
 
 pub settle_conjunction-overflow_cast-index : goal.settle_conjunction-overflow_cast-index
 settle_conjunction-overflow_cast-index g t c = omega (arith, few_parts c.args.parts.now c.requires.count, c.parts-test.true)
@@ -125,17 +124,18 @@ settle_conjunction-parts-preserved g t c =
     let ps = pieces_of (take c.parts.index c.args.parts.now) in
     let p = piece_of c.index-parts-index.result in
     let there = c.parts-test.true in
+    let begun = first_pulls (clocks_seen seen) (all_atoms (pieces_of c.args.parts.now)) in
     let number : c.parts.index + 1 ≡ length ps + 1 = ap (λ n. n + 1) (sym (length-taken c.args.parts.now c.parts.index (omega (arith, there)))) in
     let is = subst (λ (k : ℕ). IsPartAnswer seen (place c.args.disjunct k p) c.in_ok-answer.answer) number c.in_ok-answer.ensures.answer in
-    subst (Gathered seen c.args.workers c.args.disjunct c.args.round.now c.add_part.new.round c.args.steps.now c.add_part.new.steps c.args.answers.now c.push.new.self c.add_part.new.pulls)
+    subst (Gathered seen c.args.workers c.args.disjunct c.args.round.now c.add_part.new.round c.args.steps.now c.add_part.new.steps c.args.answers.now c.push.new.self begun c.add_part.new.pulls)
     (sym (taken_more c.args.parts.now c.parts.index c.index-parts-index.result there c.index-parts-index.is))
     (gathered_more seen c.args.workers c.args.disjunct c.args.round.now c.parts.round c.add_part.new.round c.args.steps.now c.parts.steps c.add_part.new.steps c.args.answers.now c.parts.answers c.push.new.self
-    c.parts.pulls c.add_part.new.pulls ps p c.in_ok-answer.answer c.parts.invariant c.in_ok-answer.ensures.pulls c.in_ok-answer.ensures.settles is c.in_ok-push.ensures.ok)
+    begun c.parts.pulls c.add_part.new.pulls ps p c.in_ok-answer.answer c.parts.invariant c.in_ok-answer.ensures.pulls c.in_ok-answer.ensures.settles is c.in_ok-push.ensures.ok)
 
 -- all parts were taken
-adds_all : (seen : Observed) (pulls : List Pull) (parts : List Part) (i : ℕ) → length parts ≤ i → AddsPulls seen (pulls_of_order (clocks_seen seen)) pulls (pieces_of (take i parts))
-    → AddsPulls seen (pulls_of_order (clocks_seen seen)) pulls (pieces_of parts)
-adds_all seen pulls parts i h adds = subst (AddsPulls seen (pulls_of_order (clocks_seen seen)) pulls) (taken_all parts i h) adds
+adds_all : (seen : Observed) (pulls : List Pull) (parts : List Part) (i : ℕ) → length parts ≤ i → AddsPulls seen (first_pulls (clocks_seen seen) (all_atoms (pieces_of parts))) pulls (pieces_of (take i parts))
+    → AddsPulls seen (first_pulls (clocks_seen seen) (all_atoms (pieces_of parts))) pulls (pieces_of parts)
+adds_all seen pulls parts i h adds = subst (AddsPulls seen (first_pulls (clocks_seen seen) (all_atoms (pieces_of parts))) pulls) (taken_all parts i h) adds
 
 settles_all : (seen : Observed) (workers : ℕ) (old new : RoundView) (s t : ℕ) (parts : List Part) (i : ℕ) → length parts ≤ i → Settles seen workers old new s t (flat_map within (pieces_of (take i parts)))
     → Settles seen workers old new s t (flat_map within (pieces_of parts))
@@ -173,7 +173,7 @@ settle_conjunction-returns-clause-slice g t c =
     let adds = adds_all seen c.parts.pulls c.args.parts.now c.parts.index c.parts-test.false c.parts.invariant.adds in
     IfOk-weaker c.settle_pulls.result _ _
     (λ slice one.
-    slice_settled seen c.parts.pulls ps c.args.workers c.parts.round c.settle_pulls.new.round c.parts.steps c.settle_pulls.new.steps slice (order_pulls_are seen trace) adds
+    slice_settled seen c.parts.pulls ps c.args.workers c.parts.round c.settle_pulls.new.round c.parts.steps c.settle_pulls.new.steps slice (first_pulls_are seen trace (all_atoms ps)) adds
     (settles_one_by seen c.parts.pulls ps c.args.workers c.parts.round c.settle_pulls.new.round c.parts.steps c.settle_pulls.new.steps slice c.order-2.result.now
     (c.order-2.ensures.order ∙ sym trace.clocks) c.are_atoms.result c.are_atoms.ensures one))
     c.settle_pulls.ensures
@@ -188,7 +188,7 @@ settle_conjunction-returns-clause-settles g t c =
     IfOk-weaker c.settle_pulls.result _ _
     (λ slice one.
     settles_on seen c.args.workers c.args.round.now c.parts.round c.settle_pulls.new.round c.args.steps.now c.parts.steps c.settle_pulls.new.steps (flat_map within ps) (ps ∷ []) early
-    (rows_settled seen c.parts.pulls ps c.args.workers c.parts.round c.settle_pulls.new.round c.parts.steps c.settle_pulls.new.steps slice (order_pulls_are seen trace) adds
+    (rows_settled seen c.parts.pulls ps c.args.workers c.parts.round c.settle_pulls.new.round c.parts.steps c.settle_pulls.new.steps slice (first_pulls_are seen trace (all_atoms ps)) adds
     (settles_one_by seen c.parts.pulls ps c.args.workers c.parts.round c.settle_pulls.new.round c.parts.steps c.settle_pulls.new.steps slice c.order-2.result.now
     (c.order-2.ensures.order ∙ sym trace.clocks) c.are_atoms.result c.are_atoms.ensures one)))
     c.settle_pulls.ensures
