@@ -3,3 +3,4 @@ pub mod Words
 pub mod Fitting
 pub mod PullLists
 pub mod Edges
+pub mod Starting

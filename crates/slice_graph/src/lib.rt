@@ -19,6 +19,7 @@ mod laws;
 mod order_pulls_of;
 mod slice;
 mod slice_pulls;
+mod starting;
 mod table;
 
 pub use cuts::{event_at, is_within, join_into, set_words};
@@ -26,6 +27,7 @@ pub use edges::Edge;
 pub use laws::{least_or_none, order_grows, systems_of_an_order};
 pub use order_pulls_of::order_pulls;
 pub use slice::Slice;
+pub use starting::order_rows;
 pub use table::CutTable;
 
 #[cfg(test)]

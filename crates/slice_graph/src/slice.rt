@@ -7,7 +7,7 @@ ghost use Rattle.run_model.specs.Cut.{Cut as CutOfRun, Clocks, count, lengths};
 ghost use Rattle.run_model.specs.Consistent.{IsOrder};
 ghost use Rattle.run_model.specs.Sublattice.{IsGreatest, Having};
 ghost use Rattle.run_model.specs.Slice.{Cuts, IsLeastOf};
-ghost use Rattle.slice_graph.specs.Words.{past_ends};
+ghost use Rattle.slice_graph.specs.Words.{past_ends, filled};
 ghost use Rattle.slice_graph.specs.Views.{AreCuts, joined_onto, joined_rows, slice_of, no_row};
 
 use crate::cuts::{is_within, join_into};
@@ -146,6 +146,15 @@ impl Slice {
             return self.table.words(0);
         }
         let row = self.shape().row_of(EventId { process, position });
+        self.table.words(row as usize)
+    }
+
+    /// The words of a row. Row 0 is the bottom's.
+    pub(crate) fn words_of_row(&self, row: u32) -> &[u32]
+        requires { row ≤ sum self.now.lens }
+        ensures words { result.now ≡ filled self.now.lens (get_or self.now.rows row no_row) }
+        ensures width { length result.now ≡ length self.now.lens }
+    {
         self.table.words(row as usize)
     }
 

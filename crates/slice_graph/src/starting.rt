@@ -1,0 +1,92 @@
+//! Rows that a table of a system may begin from: those of a slice, and the clocks of an order.
+ghost use Rattle.std.specs.Prelude.{◌≡◌, ℕ, ◌+◌, ◌<◌, ◌≤◌, length, get_or, replicate, sum, IfOk};
+ghost use Rattle.pota_base.specs.Shape.{HasEvent, row_of};
+ghost use Rattle.pota_base.specs.declared.shape.EventId.{EventId};
+ghost use Rattle.run_model.specs.Cut.{Clocks, lengths};
+ghost use Rattle.run_model.specs.Consistent.{clock};
+ghost use Rattle.pull_system.specs.Rows.{row_at};
+ghost use Rattle.slice_graph.specs.Views.{no_row};
+ghost use Rattle.slice_graph.specs.Words.{filled};
+ghost use Rattle.slice_graph.specs.Fitting.{FitsOrder};
+ghost use Rattle.slice_graph.specs.PullLists.{pulls_of_order, pulls_of_slice};
+ghost use Rattle.slice_graph.specs.Starting.{AreWithinClosed};
+
+use crate::slice::Slice;
+use causal_order::Order;
+use pota_base::NoMemory;
+use pull_system::Rows;
+use std::alloc::Global;
+
+impl Slice {
+    /// The rows of the slice, as a table of a system may begin from them. A row without a cut has
+    /// one more than each length.
+    pub fn rows(&self, alloc: Global) -> Result<Rows, NoMemory>
+        ensures lens { IfOk result (λ rows. rows.lens ≡ self.now.lens) }
+        ensures words { IfOk result (λ rows. (row : ℕ) → row ≤ sum self.now.lens
+            → row_at self.now.lens rows.words row
+            ≡ filled self.now.lens (get_or self.now.rows row no_row)) }
+        ensures begins { (o : Clocks) → FitsOrder o self.now → IfOk result (λ rows.
+            AreWithinClosed self.now.lens (pulls_of_slice self.now) rows.words) }
+    {
+        let shape = self.shape();
+        let procs = shape.procs() as usize;
+        let mut room = [0; 32];
+        let room = &mut room[..procs];
+        let mut words = Vec::with_capacity(alloc, (shape.events() as usize + 1) * procs)?;
+        for row in 0..shape.events() + 1 {
+            widen(self.words_of_row(row), room);
+            words.extend_from_slice(room)?;
+        }
+        Rows::from_words(alloc, shape, words)
+    }
+}
+
+/// The clocks of the events as rows, with zeros as the bottom's, as a table of a system may begin
+/// from them.
+pub fn order_rows(alloc: Global, order: &Order) -> Result<Rows, NoMemory>
+    ensures lens { IfOk result (λ rows. rows.lens ≡ lengths order.now) }
+    ensures bottom { IfOk result (λ rows.
+        row_at (lengths order.now) rows.words 0 ≡ replicate (length order.now) 0) }
+    ensures events { IfOk result (λ rows. (e : EventId) → HasEvent (lengths order.now) e
+        → row_at (lengths order.now) rows.words (row_of (lengths order.now) e)
+        ≡ clock order.now e.process e.position) }
+    ensures begins { IfOk result (λ rows.
+        AreWithinClosed (lengths order.now) (pulls_of_order order.now) rows.words) }
+{
+    let shape = order.shape();
+    let procs = shape.procs() as usize;
+    let zeros = [0; 32];
+    let mut room = [0; 32];
+    let room = &mut room[..procs];
+    let mut words = Vec::with_capacity(alloc, (shape.events() as usize + 1) * procs)?;
+    for row in 0..shape.events() + 1 {
+        widen(clock_of(order, row, &zeros[..procs]), room);
+        words.extend_from_slice(room)?;
+    }
+    Rows::from_words(alloc, shape, words)
+}
+
+/// The clock of a row's event, and `none` for the bottom's row.
+fn clock_of<'a>(order: &'a Order, row: u32, none: &'a [u32]) -> &'a [u32]
+    requires row { row ≤ sum (lengths order.now) }
+    requires width { length none.now ≡ length order.now }
+    ensures width { length result.now ≡ length order.now }
+    ensures bottom { row ≡ 0 → result.now ≡ none.now }
+    ensures event { (e : EventId) → HasEvent (lengths order.now) e → row_of (lengths order.now) e ≡ row
+        → result.now ≡ clock order.now e.process e.position }
+{
+    match order.shape().event_of(row) {
+        Some(event) => order.clock(event),
+        None => none,
+    }
+}
+
+/// Makes `into` the numbers of the row.
+fn widen(row: &[u32], into: &mut [u64])
+    requires { length row.now ≡ length into.old }
+    ensures { into.new ≡ row.now }
+{
+    for process in 0..row.len() {
+        into[process] = row[process] as u64;
+    }
+}
