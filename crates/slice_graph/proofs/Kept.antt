@@ -49,11 +49,11 @@ kept_least o system lens count has start v least (Some c) kept = subst (IsLeastC
 })
 
 -- each cut is above the start of the bottom's row
-bottom_start : (lens : List ℕ) (c : Cut) → IsWithin (start_of lens 0) c
+pub bottom_start : (lens : List ℕ) (c : Cut) → IsWithin (start_of lens 0) c
 bottom_start lens c i = omega (arith, start_of-bottom lens i)
 
 -- a cut is above the start of an event's row exactly where it has the event
-event_start : (lens : List ℕ) (e : EventId) (c : Cut) → HasEvent lens e → IsWithin (start_of lens (row_of lens e)) c ↔ (e.position ≤ count c e.process)
+pub event_start : (lens : List ℕ) (e : EventId) (c : Cut) → HasEvent lens e → IsWithin (start_of lens (row_of lens e)) c ↔ (e.position ≤ count c e.process)
 event_start lens e c there = (
   λ h. omega (arith, h e.process, at, same),
   λ h i. elim (cases_eq i e.process) [

@@ -10,3 +10,4 @@ pub mod OrderPulls
 pub mod SlicePulls
 pub mod EdgeSteps
 pub mod OrderGrowing
+pub mod StartingRows

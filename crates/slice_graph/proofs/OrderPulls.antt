@@ -38,7 +38,7 @@ table_rises f n most rises within = record {
 
 -- ---- entries
 
-past_is : (o : Clocks) (i j x : ℕ) → 0 < x → past_count o i j x ≡ count (clock o i x) j
+pub past_is : (o : Clocks) (i j x : ℕ) → 0 < x → past_count o i j x ≡ count (clock o i x) j
 past_is o i j zero pos = absurd (omega arith)
 past_is o i j (suc x) pos = refl
 

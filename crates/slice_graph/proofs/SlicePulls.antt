@@ -38,7 +38,7 @@ entry_most v rows i j x = elim (cases_lt (count v.lens i) x) [
   | inr le ↦ omega (arith, entry_within v i j x le, filled_most v.lens (last_row (slice_of v) i x) (last_is_row v rows i x) j)
 ]
 
-entries_rise : (o : Clocks) (v : SliceView) → FitsOrder o v → AreRows v → (i j x y : ℕ) → j < length v.lens → x ≤ y → slice_entry v i j x ≤ slice_entry v i j y
+pub entries_rise : (o : Clocks) (v : SliceView) → FitsOrder o v → AreRows v → (i j x y : ℕ) → j < length v.lens → x ≤ y → slice_entry v i j x ≤ slice_entry v i j y
 entries_rise o v fits rows i j x y process up = elim (cases_lt (count v.lens i) y) [
   | inl past ↦ omega (arith, entry_past v i j y past, entry_most v rows i j x)
   | inr le ↦ omega (

@@ -83,7 +83,7 @@ no_rows_filled lens absent words shape is none = record {
 row_in : (lens : List ℕ) (n : ℕ) (words : List ℕ) (row : ℕ) → row < n → get_or (cuts_in lens n words) row no_row ≡ cut_in lens (get_or (rows_of (length lens) n words) row [])
 row_in lens n words row lt = get_or-map (cut_in lens) (rows_of (length lens) n words) row [] no_row (omega (arith, length-rows_of (length lens) n words))
 
-rows_pushed : (lens : List ℕ) (n : ℕ) (words row : List ℕ) → length words ≡ n * length lens → length row ≡ length lens
+pub rows_pushed : (lens : List ℕ) (n : ℕ) (words row : List ℕ) → length words ≡ n * length lens → length row ≡ length lens
     → rows_of (length lens) (n + 1) (words ++ row) ≡ rows_of (length lens) n words ++ row ∷ []
 rows_pushed lens n words row size width =
     let one : n + 1 ≡ suc n = omega arith in

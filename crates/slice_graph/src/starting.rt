@@ -56,11 +56,12 @@ pub fn order_rows(alloc: Global, order: &Order) -> Result<Rows, NoMemory>
     let shape = order.shape();
     let procs = shape.procs() as usize;
     let zeros = [0; 32];
+    let none = &zeros[..procs];
     let mut room = [0; 32];
     let room = &mut room[..procs];
     let mut words = Vec::with_capacity(alloc, (shape.events() as usize + 1) * procs)?;
     for row in 0..shape.events() + 1 {
-        widen(clock_of(order, row, &zeros[..procs]), room);
+        widen(clock_of(order, row, none), room);
         words.extend_from_slice(room)?;
     }
     Rows::from_words(alloc, shape, words)
