@@ -1,5 +1,10 @@
+ghost use Rattle.std.specs.Prelude.{◌≡◌, IfOk};
+
 use super::*;
-use pota_base::Shape;
+use causal_order::Order;
+use event_log::{Event, Kind};
+use pota_base::{List, NoMemory, Shape};
+use std::alloc::Global;
 use std::test::Fail;
 
 #[test]
@@ -12,5 +17,55 @@ fn rows_with_and_without_cuts(rt: HostRuntime) -> Result<(), Fail> {
     assert_eq!(rt; table.cut(0), None);
     assert_eq!(rt; table.words(0), [3, 2].as_slice());
     assert_eq!(rt; table.words(1), [2, 1].as_slice());
+    Ok(())
+}
+
+/// A slice without the second event of the first process, whose first event comes before that of
+/// the second.
+fn three_cuts(alloc: Global) -> Result<Slice, NoMemory> {
+    let shape = Shape::new(alloc, &[2, 1])?;
+    let mut table = CutTable::new(alloc, &shape)?;
+    table.push_cut(&[0, 0])?;
+    table.push_cut(&[1, 0])?;
+    table.push_none()?;
+    table.push_cut(&[1, 1])?;
+    Slice::of(alloc, table)
+}
+
+#[test]
+fn a_table_begins_from_the_rows_of_a_slice(rt: HostRuntime) -> Result<(), Fail> {
+    let slice = three_cuts(rt.alloc())?;
+    let rows = slice.rows(rt.alloc())?;
+    assert_eq!(rt; rows.as_words(), [0, 0, 1, 0, 3, 2, 1, 1].as_slice());
+    Ok(())
+}
+
+fn event(alloc: Global, process: u32, line: u32, clock: &[u32]) -> Result<Event, NoMemory>
+    ensures { IfOk result (λ event. (event.process ≡ process) × (event.clock ≡ clock.now)) }
+{
+    Ok(Event {
+        process,
+        line,
+        clock: List::from_vec(Vec::from_slice(alloc, clock)?),
+        kind: Kind::Internal,
+        assigns: List::new(alloc),
+    })
+}
+
+/// Two processes, with two events and one; the one comes after the first of the two.
+fn three_events(alloc: Global) -> Result<Order, NoMemory> {
+    let mut order = Order::new(alloc, 2)?;
+    let first = event(alloc, 0, 3, &[1, 0])?;
+    let second = event(alloc, 0, 4, &[2, 0])?;
+    let other = event(alloc, 1, 5, &[1, 1])?;
+    order.extend(&[first, second, other])?;
+    Ok(order)
+}
+
+#[test]
+fn a_table_begins_from_the_clocks(rt: HostRuntime) -> Result<(), Fail> {
+    let order = three_events(rt.alloc())?;
+    let rows = order_rows(rt.alloc(), &order)?;
+    assert_eq!(rt; rows.as_words(), [0, 0, 1, 0, 2, 0, 1, 1].as_slice());
     Ok(())
 }
