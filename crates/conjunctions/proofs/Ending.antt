@@ -28,6 +28,7 @@ use Rattle.conjunctions.specs.Numbering.{is_atom, all_atoms}
 use Rattle.conjunctions.specs.Counting.{room_of, rooms_of, pulls_bound, first_of}
 use Rattle.conjunctions.specs.Rounds.{RoundView}
 use Rattle.conjunctions.specs.Systems.{AddsPulls, first_pulls, pulls_of_parts}
+use Rattle.conjunctions.specs.Beginning.{BeginsWithOrder}
 use Rattle.conjunctions.specs.Settling.{IsFloorOf, CanBegin, IsFloor, AreFloors, SettlesOne}
 use Rattle.conjunctions.proofs.Settled.{AreFirstPulls, few_pulls, has_order}
 use Rattle.conjunctions.proofs.Adding.{closed_none}
@@ -89,6 +90,13 @@ pulls_count seen trace pulls ps adds few =
     let rooms = few_rooms n ps small in
     let bound = few_pulls seen pulls ps (first_pulls_are seen trace (all_atoms ps)) adds in
     omega (arith, length_count ps)
+
+-- where all parts are atoms, the pulls begin with those of the order
+pub begins_with_order : (seen : Observed) (pulls : List Pull) (ps : List Piece) → AddsPulls seen (first_pulls (clocks_seen seen) (all_atoms ps)) pulls ps
+    → (order : Clocks) → order ≡ clocks_seen seen → (keeps : Bool) → keeps ≡ all_atoms ps → keeps ≡ true → BeginsWithOrder order pulls
+begins_with_order seen pulls ps adds order is keeps keeps_is kept =
+    subst (λ (o : Clocks). BeginsWithOrder o pulls) (sym is)
+    (record { others = adds.added; is = adds.is ∙ ap (λ b. first_pulls (clocks_seen seen) b ++ adds.added) (sym keeps_is ∙ kept) })
 
 -- the rows of before of the conjunction itself
 pub can_begin : (seen : Observed) (before : List RowsView) (pulls : List Pull) (ps : List Piece) → AddsPulls seen (first_pulls (clocks_seen seen) (all_atoms ps)) pulls ps → AreFloors seen before (ps ∷ [])

@@ -1,5 +1,6 @@
 -- The parts of a conjunction, one after the other.
-use Rattle.std.proofs.Common.{◌≡◌, ℕ, suc, zero, ◌+◌, ◌<◌, ◌≤◌, true, List, [], ◌∷◌, ◌++◌, length, map, take, drop, get_or, flat_map, refl, sym, ◌∙◌, ap, subst, arith, append_assoc, append-nil, add-one}
+use Rattle.std.proofs.Common.{◌≡◌, ℕ, suc, zero, ◌+◌, ◌<◌, ◌≤◌, true, List, [], ◌∷◌, ◌++◌, length, map, take, drop, get_or, flat_map, Option, None, refl, sym, ◌∙◌, ap, subst, arith, append_assoc, append-nil, add-one}
+use Rattle.std.specs.Prelude.{IfSome}
 use Rattle.std.proofs.lemmas.List.{length-map, length-take-le}
 use Rattle.std.proofs.lemmas.Grind.{flat_map-append}
 use Rattle.std.proofs.lemmas.List.Concat.{flat_map-cons}
@@ -11,7 +12,10 @@ use Rattle.rctl_parts.specs.Pieces.{Piece, piece_of, pieces_of}
 use Rattle.rctl_parts.specs.MadeFor.{Scope, PieceFits, EachFits, part_count, parts_count}
 use Rattle.conjunctions.specs.declared.observed.Observed.{Observed}
 use Rattle.conjunctions.specs.declared.answer.PartAnswer.{PartAnswer}
+use Rattle.conjunctions.specs.declared.gathered.Gathered.{Gathered}
+use Rattle.conjunctions.specs.Observing.{lens_seen}
 use Rattle.conjunctions.specs.Numbering.{within, conjunctions_in}
+use Rattle.conjunctions.specs.Beginning.{MayBeginFrom, FloorFits}
 use Rattle.conjunctions.specs.Rounds.{RoundView}
 use Rattle.conjunctions.specs.Systems.{AddsPulls}
 use Rattle.conjunctions.specs.Settling.{AreFloors, Settles}
@@ -19,27 +23,30 @@ use Rattle.conjunctions.specs.Answering.{places_from, place, IsPartAnswer, AddsA
 use Rattle.conjunctions.proofs.InTurn.{settles_none, settles_on, floors_left, floors_right}
 use Rattle.conjunctions.proofs.Adding.{adds_none, adds_more, answers_none, answers_more, places_joined}
 
--- what stands once these parts were added: their pulls behind the first ones, the rows within them, and their answers
-pub record Gathered (seen : Observed) (workers disjunct : ℕ) (round now : RoundView) (steps steps_now : ℕ) (answers answers_now : List PartAnswer) (begun pulls : List Pull) (ps : List Piece) : Type 0 where
-  pub adds : AddsPulls seen begun pulls ps
+-- what stands once these parts were added: their pulls behind the first ones, rows to begin from, the rows within them, and their answers
+pub record PartsAdded (seen : Observed) (workers disjunct : ℕ) (round now : RoundView) (steps steps_now : ℕ) (answers answers_now : List PartAnswer) (begun : List Pull) (gathered : Gathered) (ps : List Piece) : Type 0 where
+  pub adds : AddsPulls seen begun gathered.pulls ps
+  pub floor : FloorFits (lens_seen seen) gathered
   pub settles : Settles seen workers round now steps steps_now (flat_map within ps)
   pub told : AddsAnswers seen answers answers_now (places_from disjunct 1 ps)
 
-pub gathered_none : (seen : Observed) (workers disjunct : ℕ) (round : RoundView) (steps : ℕ) (answers : List PartAnswer) (begun pulls : List Pull) → pulls ≡ begun
-    → Gathered seen workers disjunct round round steps steps answers answers begun pulls []
-gathered_none seen workers disjunct round steps answers begun pulls is = record {
+pub added_none : (seen : Observed) (workers disjunct : ℕ) (round : RoundView) (steps : ℕ) (answers : List PartAnswer) (begun : List Pull) (gathered : Gathered) → gathered.pulls ≡ begun → gathered.floor ≡ None
+    → PartsAdded seen workers disjunct round round steps steps answers answers begun gathered []
+added_none seen workers disjunct round steps answers begun gathered is none = record {
   adds = subst (λ (list : List Pull). AddsPulls seen begun list []) (sym is) (adds_none seen begun);
+  floor = subst (λ (f : Option RowsView). IfSome f (MayBeginFrom (lens_seen seen) gathered.pulls)) (sym none) tt;
   settles = settles_none seen workers round steps;
   told = answers_none seen answers;
 }
 
-pub gathered_more : (seen : Observed) (workers disjunct : ℕ) (round now next : RoundView) (s t u : ℕ) (a b c : List PartAnswer) (begun pulls more : List Pull) (ps : List Piece) (p : Piece) (answer : PartAnswer)
-    → Gathered seen workers disjunct round now s t a b begun pulls ps → AddsPulls seen pulls more (p ∷ []) → Settles seen workers now next t u (within p)
-    → IsPartAnswer seen (place disjunct (length ps + 1) p) answer → c ≡ b ++ answer ∷ [] → Gathered seen workers disjunct round next s u a c begun more (ps ++ p ∷ [])
-gathered_more seen workers disjunct round now next s t u a b c begun pulls more ps p answer gathered adds settles is c_is = record {
-  adds = adds_more seen begun pulls more ps (p ∷ []) gathered.adds adds;
-  settles = subst (Settles seen workers round next s u) (sym parts) (settles_on seen workers round now next s t u (flat_map within ps) (within p) gathered.settles settles);
-  told = subst (AddsAnswers seen a c) (sym places) (answers_more seen a b c (places_from disjunct 1 ps) (places_from disjunct (1 + length ps) (p ∷ [])) gathered.told one);
+pub added_more : (seen : Observed) (workers disjunct : ℕ) (round now next : RoundView) (s t u : ℕ) (a b c : List PartAnswer) (begun : List Pull) (gathered more : Gathered) (ps : List Piece) (p : Piece) (answer : PartAnswer)
+    → PartsAdded seen workers disjunct round now s t a b begun gathered ps → AddsPulls seen gathered.pulls more.pulls (p ∷ []) → FloorFits (lens_seen seen) more → Settles seen workers now next t u (within p)
+    → IsPartAnswer seen (place disjunct (length ps + 1) p) answer → c ≡ b ++ answer ∷ [] → PartsAdded seen workers disjunct round next s u a c begun more (ps ++ p ∷ [])
+added_more seen workers disjunct round now next s t u a b c begun gathered more ps p answer added adds floor settles is c_is = record {
+  adds = adds_more seen begun gathered.pulls more.pulls ps (p ∷ []) added.adds adds;
+  floor = floor;
+  settles = subst (Settles seen workers round next s u) (sym parts) (settles_on seen workers round now next s t u (flat_map within ps) (within p) added.settles settles);
+  told = subst (AddsAnswers seen a c) (sym places) (answers_more seen a b c (places_from disjunct 1 ps) (places_from disjunct (1 + length ps) (p ∷ [])) added.told one);
 }
   where
     parts : flat_map within (ps ++ p ∷ []) ≡ flat_map within ps ++ within p

@@ -8,6 +8,7 @@ mod Joining
 mod Atoms
 mod Parts
 mod Gathering
+mod Beginning
 mod SettlingOne
 mod Ending
 mod Answered

@@ -3,6 +3,7 @@ pub mod Observing
 pub mod Numbering
 pub mod Systems
 pub mod Counting
+pub mod Beginning
 pub mod Settling
 pub mod Answering
 pub mod Operating

@@ -1,5 +1,5 @@
 //! The pulls of atoms, and their truth at the initial cut.
-ghost use Rattle.std.specs.Prelude.{◌≡◌, ◌∷◌, [], ◌++◌, ◌<◌, ◌≤◌, ◌^◌, true, false, length, Option};
+ghost use Rattle.std.specs.Prelude.{◌≡◌, ◌∷◌, [], ◌<◌, ◌≤◌, ◌^◌, true, false, length, Option};
 ghost use Rattle.std.specs.Prelude.{None, Some, IfOk, OnOk, List as ListOf};
 ghost use Rattle.pull_system.specs.System.{IsPull};
 ghost use Rattle.rctl_parts.specs.Pieces.{Atom, piece_of, local, at_most, at_least, never, atom};
@@ -10,6 +10,7 @@ ghost use Rattle.conjunctions.specs.Numbering.{is_atom};
 ghost use Rattle.conjunctions.specs.Systems.{AddsPulls, IsAtomOf};
 ghost use Rattle.conjunctions.specs.Answering.{HoldsAtFirst};
 
+use crate::gathered::Gathered;
 use crate::observed::Observed;
 use channel_preds::{at_least, at_most, counts};
 use local_preds::{constant_pulls, pulls_of, truth_row};
@@ -23,16 +24,6 @@ use std::alloc::Global;
 pub struct AtomPulls {
     pub pulls: List<Pull>,
     pub truth: bool,
-}
-
-/// Puts pulls behind others.
-pub fn append(pulls: &mut List<Pull>, added: List<Pull>) -> Result<(), NoMemory>
-    ensures { OnOk result (pulls.new ≡ pulls.old ++ added) }
-{
-    for pull in added.into_vec() {
-        pulls.push(pull)?;
-    }
-    Ok(())
 }
 
 /// The pulls of an expression over a process, or over none.
@@ -104,15 +95,17 @@ pub fn add_atom(
     alloc: Global,
     seen: &Observed,
     part: &Part,
-    pulls: &mut List<Pull>,
+    gathered: &mut Gathered,
 ) -> Result<bool, NoMemory>
     requires ready { IsReady seen.now }
     requires atom { is_atom (piece_of part.now) ≡ true }
     requires fits { PieceFits (scope_seen seen.now) (piece_of part.now) }
-    ensures pulls { OnOk result (AddsPulls seen.now pulls.old pulls.new (piece_of part.now ∷ [])) }
+    ensures pulls { OnOk result
+        (AddsPulls seen.now gathered.old.pulls gathered.new.pulls (piece_of part.now ∷ [])) }
+    ensures floor { gathered.new.floor ≡ gathered.old.floor }
     ensures truth { IfOk result (HoldsAtFirst seen.now (piece_of part.now)) }
 {
     let found = atom_pulls(alloc, seen, part)?;
-    append(pulls, found.pulls)?;
+    gathered.add_pulls(found.pulls)?;
     Ok(found.truth)
 }

@@ -3,22 +3,23 @@ ghost use Rattle.std.specs.Prelude.{◌≡◌, ◌∷◌, [], ◌+◌, ◌<◌, 
 ghost use Rattle.run_model.specs.Cut.{initial};
 ghost use Rattle.rctl_parts.specs.Pieces.{piece_of, pieces_of};
 ghost use Rattle.rctl_parts.specs.MadeFor.{PieceFits, EachFits, part_count, parts_count};
-ghost use Rattle.conjunctions.specs.Observing.{IsReady, scope_seen, clocks_seen};
+ghost use Rattle.conjunctions.specs.Observing.{IsReady, scope_seen, clocks_seen, lens_seen};
 ghost use Rattle.conjunctions.specs.Numbering.{within, conjunctions_in};
 ghost use Rattle.conjunctions.specs.Systems.{AddsPulls};
+ghost use Rattle.conjunctions.specs.Beginning.{FloorFits};
 ghost use Rattle.conjunctions.specs.Settling.{AreFloors, Settles};
 ghost use Rattle.conjunctions.specs.Answering.{IsSliceOf, IsPartAnswer, AddsAnswers, places_from};
 ghost use Rattle.conjunctions.specs.Answering.{place};
 
 use crate::answer::PartAnswer;
-use crate::atom::{add_atom, append};
+use crate::atom::add_atom;
+use crate::gathered::Gathered;
 use crate::observed::Observed;
 use crate::operator::operate;
 use crate::round::Round;
-use crate::settling::{are_atoms, first_pulls, settle_pulls};
+use crate::settling::{are_atoms, settle_gathered};
 use cut_lattice::Cut;
 use pota_base::{Gate, List, NoMemory, Steps};
-use pull_system::Pull;
 use rctl_parts::Part;
 use slice_graph::Slice;
 use std::alloc::Global;
@@ -54,7 +55,8 @@ pub fn settle_conjunction<R: Threads + Sync, G: Gate, L: Ledger>(
     ensures answers { OnOk result (AddsAnswers seen.now answers.old answers.new
         (places_from disjunct 1 (pieces_of parts.now))) }
 {
-    let mut pulls = first_pulls(alloc, seen.trace.order(), parts)?;
+    let atoms = are_atoms(parts);
+    let mut gathered = Gathered::new(alloc, seen.trace.order(), atoms)?;
     'parts: for (index, part) in parts.iter().enumerate() {
         let answer = add_part(
             rt,
@@ -65,19 +67,19 @@ pub fn settle_conjunction<R: Threads + Sync, G: Gate, L: Ledger>(
             index as u32 + 1,
             start,
             round,
-            &mut pulls,
+            &mut gathered,
             workers,
             gate,
             steps,
         )?;
         answers.push(answer)?;
     }
-    settle_pulls(
+    settle_gathered(
         rt,
         alloc,
         seen.trace.order(),
-        pulls,
-        are_atoms(parts),
+        gathered,
+        atoms,
         round,
         workers,
         gate,
@@ -85,8 +87,8 @@ pub fn settle_conjunction<R: Threads + Sync, G: Gate, L: Ledger>(
     )
 }
 
-/// Settles the conjunctions within a part, and puts its pulls behind the others. It gives the
-/// part's answer.
+/// Settles the conjunctions within a part, and gathers what the part asks. It gives the part's
+/// answer.
 #[cycle(conjunction)]
 fn add_part<R: Threads + Sync, G: Gate, L: Ledger>(
     rt: &R,
@@ -97,7 +99,7 @@ fn add_part<R: Threads + Sync, G: Gate, L: Ledger>(
     number: u32,
     start: &Cut,
     round: &mut Round,
-    pulls: &mut List<Pull>,
+    gathered: &mut Gathered,
     workers: u32,
     gate: &G,
     steps: &mut Steps<L>,
@@ -107,11 +109,14 @@ fn add_part<R: Threads + Sync, G: Gate, L: Ledger>(
     requires count { part_count (piece_of part.now) ≤ 128 }
     requires start { start.now ≡ initial (clocks_seen seen.now) }
     requires floors { AreFloors seen.now round.old.before (within (piece_of part.now)) }
+    requires floor { FloorFits (lens_seen seen.now) gathered.old }
     requires some { 1 ≤ workers }
     requires few { workers ≤ 16 }
     ensures answer { IfOk result
         (IsPartAnswer seen.now (place disjunct number (piece_of part.now))) }
-    ensures pulls { OnOk result (AddsPulls seen.now pulls.old pulls.new (piece_of part.now ∷ [])) }
+    ensures pulls { OnOk result
+        (AddsPulls seen.now gathered.old.pulls gathered.new.pulls (piece_of part.now ∷ [])) }
+    ensures floor { OnOk result (FloorFits (lens_seen seen.now) gathered.new) }
     ensures settles { OnOk result (Settles seen.now workers round.old round.new steps.old steps.new
         (within (piece_of part.now))) }
 {
@@ -132,7 +137,7 @@ fn add_part<R: Threads + Sync, G: Gate, L: Ledger>(
                 steps,
             )?;
             let slice = operate(alloc, seen.trace.order(), *operator, &operand)?;
-            append(pulls, slice.pulls(alloc)?)?;
+            gathered.add_slice(alloc, &slice)?;
             Ok(PartAnswer {
                 disjunct,
                 part: number,
@@ -142,7 +147,7 @@ fn add_part<R: Threads + Sync, G: Gate, L: Ledger>(
             })
         }
         Part::Local { .. } | Part::AtMost { .. } | Part::AtLeast { .. } | Part::Never => {
-            let truth = add_atom(alloc, seen, part, pulls)?;
+            let truth = add_atom(alloc, seen, part, gathered)?;
             Ok(PartAnswer {
                 disjunct,
                 part: number,

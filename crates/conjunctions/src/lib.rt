@@ -18,6 +18,7 @@ mod answer;
 mod atom;
 mod conjunction;
 mod disjuncts;
+mod gathered;
 mod laws;
 mod observed;
 mod operator;

@@ -1,26 +1,23 @@
 //! The rows of one conjunction, and its slice.
-ghost use Rattle.std.specs.Prelude.{◌≡◌, ◌^◌, ◌<◌, ◌≤◌, true, false, length, All, Option, IfOk};
-ghost use Rattle.std.specs.Prelude.{IsTrue};
-ghost use Rattle.run_model.specs.Cut.{Cut, lengths, IsWithin};
-ghost use Rattle.pota_base.specs.Shape.{IsShape};
-ghost use Rattle.pull_system.specs.System.{SystemView, IsPull, IsClosed};
-ghost use Rattle.pull_system.specs.Rows.{starts};
-ghost use Rattle.pull_system.specs.Growth.{DidNotFall, grown_words};
-ghost use Rattle.raise_machine.specs.Bounds.{AreBounds};
+ghost use Rattle.std.specs.Prelude.{◌≡◌, ◌^◌, ◌<◌, ◌≤◌, true, false, length, All, IfOk, IfSome};
+ghost use Rattle.run_model.specs.Cut.{lengths};
+ghost use Rattle.pull_system.specs.System.{IsPull};
 ghost use Rattle.slice_graph.specs.Fitting.{HasOrder};
 ghost use Rattle.rctl_parts.specs.Pieces.{piece_of, pieces_of};
-ghost use Rattle.conjunctions.specs.Counting.{first_of, floor_words};
+ghost use Rattle.conjunctions.specs.Counting.{first_of};
 ghost use Rattle.conjunctions.specs.Numbering.{is_atom, all_atoms};
-ghost use Rattle.conjunctions.specs.Systems.{first_pulls};
+ghost use Rattle.conjunctions.specs.Beginning.{BeginsWithOrder, BeginsAtoms, BeginsOthers};
+ghost use Rattle.conjunctions.specs.Beginning.{FloorFits};
 ghost use Rattle.conjunctions.specs.Settling.{IsFloorOf, CanBegin, SettlesOne};
 
+use crate::gathered::Gathered;
 use crate::round::Round;
 use bound_table::BoundTable;
 use causal_order::Order;
-use pota_base::{Gate, List, NoMemory, Shape, Steps};
-use pull_system::{Pull, Rows, System};
+use pota_base::{Gate, NoMemory, Steps};
+use pull_system::{Rows, System};
 use rctl_parts::Part;
-use slice_graph::{Slice, order_pulls};
+use slice_graph::{Slice, order_rows};
 use slice_workers::{Settled, settle_all};
 use std::alloc::Global;
 use std::sync::ledger::Ledger;
@@ -49,63 +46,84 @@ pub fn are_atoms(parts: &[Part]) -> bool
     true
 }
 
-/// The pulls that a conjunction of these parts begins with: those of the order where none of them
-/// is temporal, and else none, since only consistent cuts are closed under a temporal part's pulls.
-pub fn first_pulls(alloc: Global, order: &Order, parts: &[Part]) -> Result<List<Pull>, NoMemory>
-    ensures { IfOk result
-        (λ pulls. pulls ≡ first_pulls order.now (all_atoms (pieces_of parts.now))) }
-{
-    if are_atoms(parts) {
-        order_pulls(alloc, order)
-    } else {
-        Ok(List::new(alloc))
-    }
-}
-
-/// The rows from which a conjunction begins: its rows of before, grown, where they are kept, and
-/// else each at its start.
-fn floor_of(
-    alloc: Global,
-    shape: &Shape,
-    keeps: bool,
-    before: Option<Settled>,
-) -> Result<Rows, NoMemory>
-    requires { IsFloorOf shape.now keeps before }
-    ensures lens { IfOk result (λ rows. rows.lens ≡ shape.now) }
-    ensures words { IfOk result (λ rows. keeps ≡ true → rows.words ≡ floor_words shape.now before) }
-    ensures starts { IfOk result (λ rows. keeps ≡ false → rows.words ≡ starts shape.now) }
+/// The rows from which a conjunction of atoms begins: its rows of before, grown, and where there
+/// are none the clocks of the events.
+fn floor_of_atoms(alloc: Global, order: &Order, before: Option<Settled>) -> Result<Rows, NoMemory>
+    requires { IsFloorOf (lengths order.now) true before }
+    ensures lens { IfOk result (λ rows. rows.lens ≡ lengths order.now) }
+    ensures begins { IfOk result (λ rows. BeginsAtoms order.now before rows.words) }
 {
     match before {
-        Some(settled) if keeps => Rows::grown(alloc, settled.rows(), shape),
-        _ => Rows::new(alloc, shape),
+        Some(settled) => Rows::grown(alloc, settled.rows(), order.shape()),
+        None => order_rows(alloc, order),
     }
 }
 
-/// Settles the rows of the conjunction that has these pulls, from its rows of before where they are
-/// kept, and gives its slice.
-pub fn settle_pulls<R: Threads + Sync, G: Gate, L: Ledger>(
+/// The rows from which another conjunction begins: those that were gathered, and where there are
+/// none each at its start.
+fn floor_of_others(alloc: Global, order: &Order, gathered: Option<Rows>) -> Result<Rows, NoMemory>
+    requires { IfSome gathered (λ rows. rows.lens ≡ lengths order.now) }
+    ensures lens { IfOk result (λ rows. rows.lens ≡ lengths order.now) }
+    ensures begins { IfOk result (λ rows. BeginsOthers (lengths order.now) gathered rows.words) }
+{
+    match gathered {
+        Some(rows) => Ok(rows),
+        None => Rows::new(alloc, order.shape()),
+    }
+}
+
+/// The rows from which a conjunction begins: where it keeps its rows, as one of atoms, and else
+/// from those that were gathered.
+fn floor_of(
+    alloc: Global,
+    order: &Order,
+    keeps: bool,
+    before: Option<Settled>,
+    gathered: Option<Rows>,
+) -> Result<Rows, NoMemory>
+    requires before { IsFloorOf (lengths order.now) keeps before }
+    requires gathered { IfSome gathered (λ rows. rows.lens ≡ lengths order.now) }
+    ensures lens { IfOk result (λ rows. rows.lens ≡ lengths order.now) }
+    ensures atoms { keeps ≡ true → IfOk result (λ rows. BeginsAtoms order.now before rows.words) }
+    ensures others { keeps ≡ false → IfOk result
+        (λ rows. BeginsOthers (lengths order.now) gathered rows.words) }
+{
+    if keeps {
+        floor_of_atoms(alloc, order, before)
+    } else {
+        floor_of_others(alloc, order, gathered)
+    }
+}
+
+/// Settles the rows of the conjunction that has what was gathered, from its rows of before where
+/// they are kept, and gives its slice.
+pub fn settle_gathered<R: Threads + Sync, G: Gate, L: Ledger>(
     rt: &R,
     alloc: Global,
     order: &Order,
-    pulls: List<Pull>,
+    gathered: Gathered,
     keeps: bool,
     round: &mut Round,
     workers: u32,
     gate: &G,
     steps: &mut Steps<L>,
 ) -> Result<Slice, NoMemory>
-    requires fit { All (IsPull (lengths order.now)) pulls }
-    requires count { length pulls < 2 ^ 32 }
-    requires order { HasOrder order.now (record { lens = lengths order.now; pulls = pulls }) }
-    requires floor { CanBegin (record { lens = lengths order.now; pulls = pulls }) keeps
+    requires fit { All (IsPull (lengths order.now)) gathered.pulls }
+    requires count { length gathered.pulls < 2 ^ 32 }
+    requires order { HasOrder order.now
+        (record { lens = lengths order.now; pulls = gathered.pulls }) }
+    requires first { keeps ≡ true → BeginsWithOrder order.now gathered.pulls }
+    requires before { CanBegin (record { lens = lengths order.now; pulls = gathered.pulls }) keeps
         (first_of round.old.before) }
+    requires floor { FloorFits (lengths order.now) gathered }
     requires some { 1 ≤ workers }
     requires few { workers ≤ 16 }
     ensures { IfOk result
-        (SettlesOne order.now pulls keeps workers round.old round.new steps.old steps.new) }
+        (SettlesOne order.now gathered.pulls keeps workers round.old round.new steps.old steps.new) }
 {
+    let Gathered { pulls, floor } = gathered;
     let system = System::new(alloc, order.shape(), pulls)?;
-    let floor = floor_of(alloc, order.shape(), keeps, round.next())?;
+    let floor = floor_of(alloc, order, keeps, round.next(), floor)?;
     let (table, mut seat) = BoundTable::new(alloc, system, &floor)?;
     drop(floor);
     let settled = settle_all(rt, alloc, &table, &mut seat, workers, gate, steps)?;

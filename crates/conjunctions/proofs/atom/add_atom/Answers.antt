@@ -11,7 +11,7 @@ returns-clause-pulls c =
     let seen = c.args.seen.now in
     let of = atom_of (piece_of c.args.part.now) c.requires.atom in
     let is = c.in_ok-found.ensures of.0 of.1 in
-    subst (λ (p : Piece). AddsPulls seen c.args.pulls.now c.append.new.pulls (p ∷ [])) (sym of.1) (atom_adds seen c.args.pulls.now c.append.new.pulls c.in_ok-found.found.pulls _ of.0 c.in_ok-append.ensures is)
+    subst (λ (p : Piece). AddsPulls seen c.args.gathered.now.pulls c.add_pulls.new.self.pulls (p ∷ [])) (sym of.1) (atom_adds seen c.args.gathered.now.pulls c.add_pulls.new.self.pulls c.in_ok-found.found.pulls _ of.0 c.in_ok-add_pulls.ensures.pulls is)
 
 pub returns-clause-truth : goal.returns-clause-truth
 returns-clause-truth c =

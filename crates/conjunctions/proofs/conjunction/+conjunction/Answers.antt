@@ -1,8 +1,10 @@
-use Rattle.std.proofs.Common.{◌≡◌, ℕ, ◌+◌, ◌<◌, ◌≤◌, ◌∷◌, [], ◌++◌, length, take, flat_map, List, Option, Some, None, true, refl, sym, ◌∙◌, ap, subst, arith}
+use Rattle.std.proofs.Common.{◌≡◌, ℕ, ◌+◌, ◌<◌, ◌≤◌, ◌∷◌, [], ◌++◌, length, take, flat_map, List, Option, Some, None, Bool, true, refl, sym, ◌∙◌, ap, subst, arith}
 use Rattle.std.specs.Prelude.{IsTrue, ◌↔◌}
-use Rattle.run_model.specs.Cut.{Cut, Clocks, initial}
+use Rattle.run_model.specs.Cut.{Cut, Clocks, initial, lengths}
 use Rattle.run_model.specs.Slice.{Cuts}
 use Rattle.slice_graph.specs.Views.{slice_of}
+use Rattle.slice_graph.specs.PullLists.{pulls_of_slice}
+use Rattle.slice_graph.proofs.SlicePulls.{slice_pulls_fit, slice_pulls_count, slice_closed}
 use Rattle.rctl_parts.specs.declared.part.Part.{Part}
 use Rattle.rctl_parts.specs.Pieces.{Piece, piece_of, pieces_of, pieces, temporal}
 use Rattle.rctl_parts.proofs.Folds.{piece-Temporal}
@@ -13,14 +15,16 @@ use Rattle.rctl_parts.specs.MadeFor.{EachFits, parts_count}
 use Rattle.conjunctions.specs.declared.observed.Observed.{Observed}
 use Rattle.conjunctions.specs.Rounds.{RoundView}
 use Rattle.conjunctions.specs.Settling.{AreFloors, Settles}
+use Rattle.conjunctions.specs.Beginning.{FloorFits}
+use Rattle.conjunctions.proofs.Beginning.{floor_more}
 use Rattle.conjunctions.proofs.InTurn.{settles_on}
 use Rattle.conjunctions.proofs.Settled.{slice_settled, rows_settled}
-use Rattle.conjunctions.proofs.Gathering.{Gathered, gathered_none, gathered_more, splits_at, taken_more, length-taken, fits_at, count_at, floors_at, floors_last}
-use Rattle.conjunctions.proofs.Ending.{first_pulls_are, pulls_fit, pulls_count, pulls_have_order, can_begin_by, settles_one_by, taken_all, few_parts}
+use Rattle.conjunctions.proofs.Gathering.{PartsAdded, added_none, added_more, splits_at, taken_more, length-taken, fits_at, count_at, floors_at, floors_last}
+use Rattle.conjunctions.proofs.Ending.{begins_with_order, first_pulls_are, pulls_fit, pulls_count, pulls_have_order, can_begin_by, settles_one_by, taken_all, few_parts}
 use Rattle.conjunctions.specs.declared.answer.PartAnswer.{PartAnswer}
 use Rattle.conjunctions.specs.Numbering.{is_atom, all_atoms, within, conjunctions_in}
 use Rattle.conjunctions.specs.Answering.{IsSliceOf, IsPartAnswer, place}
-use Rattle.conjunctions.specs.Observing.{clocks_seen, scope_seen}
+use Rattle.conjunctions.specs.Observing.{clocks_seen, lens_seen, scope_seen}
 use Rattle.conjunctions.specs.Systems.{AddsPulls, first_pulls}
 use Rattle.conjunctions.proofs.Parts.{temporal_fits, temporal_count, temporal_floors, temporal_settles, atom_settles, operated_by, pulls_of_fitting, first_is_cut, temporal_adds, temporal_answer, atom_answer}
 use Rattle.conjunctions.proofs.conjunction.+conjunction.Goals as goal
@@ -54,8 +58,8 @@ add_part-has-requires g t c =
 pub add_part-add_atom-requires-clause-atom : goal.add_part-add_atom-requires-clause-atom
 add_part-add_atom-requires-clause-atom g t c = grind (arith, rules_of.pieces)
 
-pub add_part-returns-in_ok-append-in-Temporal : goal.add_part-returns-in_ok-append-in-Temporal
-add_part-returns-in_ok-append-in-Temporal g t c =
+pub add_part-returns-in_ok-add_slice-in-Temporal : goal.add_part-returns-in_ok-add_slice-in-Temporal
+add_part-returns-in_ok-add_slice-in-Temporal g t c =
     let seen = c.args.seen.now in
     let o = c.in-Temporal.operator in
     let ps = pieces_of c.in-Temporal.parts in
@@ -66,15 +70,16 @@ add_part-returns-in_ok-append-in-Temporal g t c =
     let order_is = c.order.ensures.order ∙ sym c.order.ensures.trace.clocks in
     let operated = operated_by seen o operand slice c.order.result.now order_is c.in_ok-slice-in-Temporal.ensures.fits c.in_ok-slice-in-Temporal.ensures.cuts in
     let operand_is : IsSliceOf seen operand ps = subst (λ (parts : List Part). IsSliceOf seen operand (pieces_of parts)) c.as_slice.ensures c.in_ok-operand-in-Temporal.ensures.slice in
-    let pulls = pulls_of_fitting seen slice c.in_ok-pulls-in-Temporal.field-0 operated.fits (c.in_ok-pulls-in-Temporal.ensures.pulls (clocks_seen seen) operated.fits) c.in_ok-pulls-in-Temporal.ensures.count
-    (c.in_ok-pulls-in-Temporal.ensures.closed (clocks_seen seen) operated.fits) in
+    let rows = c.in_ok-add_slice-in-Temporal.ensures.rows in
+    let pulls = pulls_of_fitting seen slice (pulls_of_slice slice) operated.fits (slice_pulls_fit (clocks_seen seen) slice operated.fits rows) (slice_pulls_count slice) (slice_closed (clocks_seen seen) slice operated.fits rows) in
     let has = subst (λ (start : Cut). IsTrue c.has.result ↔ Cuts (clocks_seen seen) (slice_of slice) start) c.requires.start (c.has.ensures.cuts (clocks_seen seen) operated.fits) in
     let answer : PartAnswer = record { disjunct = c.args.disjunct; part = c.args.number; operator = Some o; truth = c.has.result; operand = Some operand } in
     record {
       answer = subst (λ (p : Piece). IsPartAnswer seen (place c.args.disjunct c.args.number p) answer) (sym is)
           (temporal_answer seen o ps operand slice c.args.disjunct c.args.number answer analysed operand_is operated refl refl refl refl has);
-      pulls = subst (λ (p : Piece). AddsPulls seen c.args.pulls.now c.append.new.pulls (p ∷ [])) (sym is)
-          (temporal_adds seen o ps operand slice c.args.pulls.now c.append.new.pulls c.in_ok-pulls-in-Temporal.field-0 analysed operand_is operated pulls c.in_ok-append-in-Temporal.ensures);
+      pulls = subst (λ (p : Piece). AddsPulls seen c.args.gathered.now.pulls c.add_slice.new.self.pulls (p ∷ [])) (sym is)
+          (temporal_adds seen o ps operand slice c.args.gathered.now.pulls c.add_slice.new.self.pulls (pulls_of_slice slice) analysed operand_is operated pulls c.in_ok-add_slice-in-Temporal.ensures.pulls);
+      floor = c.in_ok-add_slice-in-Temporal.ensures.floor (clocks_seen seen) operated.fits c.requires.floor;
       settles = temporal_settles seen c.args.workers c.args.round.now c.settle_conjunction.new.round c.args.steps.now c.settle_conjunction.new.steps (piece_of c.args.part.now) o ps is
           (rw c.as_slice.ensures at c.in_ok-operand-in-Temporal.ensures.settles);
     }
@@ -88,13 +93,18 @@ add_part-returns-in_ok-truth-in-Local g t c =
     record {
       answer = atom_answer seen p c.args.disjunct c.args.number answer is refl refl refl refl c.in_ok-truth-in-Local.ensures.truth;
       pulls = c.in_ok-truth-in-Local.ensures.pulls;
+      floor = let adds = c.in_ok-truth-in-Local.ensures.pulls in
+          floor_more (lens_seen seen) c.args.gathered.now c.add_atom.new.gathered adds.added adds.is c.in_ok-truth-in-Local.ensures.floor c.requires.floor;
       settles = atom_settles seen c.args.workers c.args.round.now c.args.steps.now p is;
     }
 
 pub settle_conjunction-parts-init : goal.settle_conjunction-parts-init
 settle_conjunction-parts-init g t c =
-    gathered_none c.args.seen.now c.args.workers c.args.disjunct c.args.round.now c.args.steps.now c.args.answers.now (first_pulls (clocks_seen c.args.seen.now) (all_atoms (pieces_of c.args.parts.now))) c.in_ok-pulls.pulls
-    (c.in_ok-pulls.ensures ∙ ap (λ (o : Clocks). first_pulls o (all_atoms (pieces_of c.args.parts.now))) (c.order.ensures.order ∙ sym c.order.ensures.trace.clocks))
+    let first : Clocks → Bool → List Pull = first_pulls in
+    added_none c.args.seen.now c.args.workers c.args.disjunct c.args.round.now c.args.steps.now c.args.answers.now (first_pulls (clocks_seen c.args.seen.now) (all_atoms (pieces_of c.args.parts.now))) c.in_ok-gathered.gathered
+    (c.in_ok-gathered.ensures.pulls ∙ ap (λ (b : Bool). first c.order.result.now b) c.are_atoms-atoms.ensures
+    ∙ ap (λ (o : Clocks). first_pulls o (all_atoms (pieces_of c.args.parts.now))) (c.order.ensures.order ∙ sym c.order.ensures.trace.clocks))
+    c.in_ok-gathered.ensures.floor
 
 pub settle_conjunction-overflow_cast-index : goal.settle_conjunction-overflow_cast-index
 settle_conjunction-overflow_cast-index g t c = omega (arith, few_parts c.args.parts.now c.requires.count, c.parts-test.true)
@@ -127,10 +137,10 @@ settle_conjunction-parts-preserved g t c =
     let begun = first_pulls (clocks_seen seen) (all_atoms (pieces_of c.args.parts.now)) in
     let number : c.parts.index + 1 ≡ length ps + 1 = ap (λ n. n + 1) (sym (length-taken c.args.parts.now c.parts.index (omega (arith, there)))) in
     let is = subst (λ (k : ℕ). IsPartAnswer seen (place c.args.disjunct k p) c.in_ok-answer.answer) number c.in_ok-answer.ensures.answer in
-    subst (Gathered seen c.args.workers c.args.disjunct c.args.round.now c.add_part.new.round c.args.steps.now c.add_part.new.steps c.args.answers.now c.push.new.self begun c.add_part.new.pulls)
+    subst (PartsAdded seen c.args.workers c.args.disjunct c.args.round.now c.add_part.new.round c.args.steps.now c.add_part.new.steps c.args.answers.now c.push.new.self begun c.add_part.new.gathered)
     (sym (taken_more c.args.parts.now c.parts.index c.index-parts-index.result there c.index-parts-index.is))
-    (gathered_more seen c.args.workers c.args.disjunct c.args.round.now c.parts.round c.add_part.new.round c.args.steps.now c.parts.steps c.add_part.new.steps c.args.answers.now c.parts.answers c.push.new.self
-    begun c.parts.pulls c.add_part.new.pulls ps p c.in_ok-answer.answer c.parts.invariant c.in_ok-answer.ensures.pulls c.in_ok-answer.ensures.settles is c.in_ok-push.ensures.ok)
+    (added_more seen c.args.workers c.args.disjunct c.args.round.now c.parts.round c.add_part.new.round c.args.steps.now c.parts.steps c.add_part.new.steps c.args.answers.now c.parts.answers c.push.new.self
+    begun c.parts.gathered c.add_part.new.gathered ps p c.in_ok-answer.answer c.parts.invariant c.in_ok-answer.ensures.pulls c.in_ok-answer.ensures.floor c.in_ok-answer.ensures.settles is c.in_ok-push.ensures.ok)
 
 -- all parts were taken
 adds_all : (seen : Observed) (pulls : List Pull) (parts : List Part) (i : ℕ) → length parts ≤ i → AddsPulls seen (first_pulls (clocks_seen seen) (all_atoms (pieces_of parts))) pulls (pieces_of (take i parts))
@@ -141,54 +151,64 @@ settles_all : (seen : Observed) (workers : ℕ) (old new : RoundView) (s t : ℕ
     → Settles seen workers old new s t (flat_map within (pieces_of parts))
 settles_all seen workers old new s t parts i h settles = subst (λ (ps : List Piece). Settles seen workers old new s t (flat_map within ps)) (taken_all parts i h) settles
 
-pub settle_conjunction-settle_pulls-requires-clause-fit : goal.settle_conjunction-settle_pulls-requires-clause-fit
-settle_conjunction-settle_pulls-requires-clause-fit g t c = λ κs lives.
-    pulls_fit c.args.seen.now c.order-2.ensures.trace c.parts.pulls (pieces_of c.args.parts.now)
-    (adds_all c.args.seen.now c.parts.pulls c.args.parts.now c.parts.index c.parts-test.false c.parts.invariant.adds) c.order-2.result.now (c.order-2.ensures.order ∙ sym c.order-2.ensures.trace.clocks)
+pub settle_conjunction-settle_gathered-requires-clause-fit : goal.settle_conjunction-settle_gathered-requires-clause-fit
+settle_conjunction-settle_gathered-requires-clause-fit g t c = λ κs lives.
+    pulls_fit c.args.seen.now c.order-2.ensures.trace c.parts.gathered.pulls (pieces_of c.args.parts.now)
+    (adds_all c.args.seen.now c.parts.gathered.pulls c.args.parts.now c.parts.index c.parts-test.false c.parts.invariant.adds) c.order-2.result.now (c.order-2.ensures.order ∙ sym c.order-2.ensures.trace.clocks)
 
-pub settle_conjunction-settle_pulls-requires-clause-count : goal.settle_conjunction-settle_pulls-requires-clause-count
-settle_conjunction-settle_pulls-requires-clause-count g t c = λ κs lives.
-    pulls_count c.args.seen.now c.order-2.ensures.trace c.parts.pulls (pieces_of c.args.parts.now)
-    (adds_all c.args.seen.now c.parts.pulls c.args.parts.now c.parts.index c.parts-test.false c.parts.invariant.adds) c.requires.count
+pub settle_conjunction-settle_gathered-requires-clause-count : goal.settle_conjunction-settle_gathered-requires-clause-count
+settle_conjunction-settle_gathered-requires-clause-count g t c = λ κs lives.
+    pulls_count c.args.seen.now c.order-2.ensures.trace c.parts.gathered.pulls (pieces_of c.args.parts.now)
+    (adds_all c.args.seen.now c.parts.gathered.pulls c.args.parts.now c.parts.index c.parts-test.false c.parts.invariant.adds) c.requires.count
 
-pub settle_conjunction-settle_pulls-requires-clause-order : goal.settle_conjunction-settle_pulls-requires-clause-order
-settle_conjunction-settle_pulls-requires-clause-order g t c = λ κs lives.
-    pulls_have_order c.args.seen.now c.order-2.ensures.trace c.parts.pulls (pieces_of c.args.parts.now)
-    (adds_all c.args.seen.now c.parts.pulls c.args.parts.now c.parts.index c.parts-test.false c.parts.invariant.adds) c.order-2.result.now (c.order-2.ensures.order ∙ sym c.order-2.ensures.trace.clocks)
+pub settle_conjunction-settle_gathered-requires-clause-order : goal.settle_conjunction-settle_gathered-requires-clause-order
+settle_conjunction-settle_gathered-requires-clause-order g t c = λ κs lives.
+    pulls_have_order c.args.seen.now c.order-2.ensures.trace c.parts.gathered.pulls (pieces_of c.args.parts.now)
+    (adds_all c.args.seen.now c.parts.gathered.pulls c.args.parts.now c.parts.index c.parts-test.false c.parts.invariant.adds) c.order-2.result.now (c.order-2.ensures.order ∙ sym c.order-2.ensures.trace.clocks)
 
-pub settle_conjunction-settle_pulls-requires-clause-floor : goal.settle_conjunction-settle_pulls-requires-clause-floor
-settle_conjunction-settle_pulls-requires-clause-floor g t c = λ κs lives.
+pub settle_conjunction-settle_gathered-requires-clause-first : goal.settle_conjunction-settle_gathered-requires-clause-first
+settle_conjunction-settle_gathered-requires-clause-first g t c = λ κs lives.
+    begins_with_order c.args.seen.now c.parts.gathered.pulls (pieces_of c.args.parts.now)
+    (adds_all c.args.seen.now c.parts.gathered.pulls c.args.parts.now c.parts.index c.parts-test.false c.parts.invariant.adds)
+    c.order-2.result.now (c.order-2.ensures.order ∙ sym c.order-2.ensures.trace.clocks) c.are_atoms-atoms.result c.are_atoms-atoms.ensures
+
+pub settle_conjunction-settle_gathered-requires-clause-floor : goal.settle_conjunction-settle_gathered-requires-clause-floor
+settle_conjunction-settle_gathered-requires-clause-floor g t c = λ κs lives.
+    subst (λ (o : Clocks). FloorFits (lengths o) c.parts.gathered) (sym (c.order-2.ensures.order ∙ sym c.order-2.ensures.trace.clocks)) c.parts.invariant.floor
+
+pub settle_conjunction-settle_gathered-requires-clause-before : goal.settle_conjunction-settle_gathered-requires-clause-before
+settle_conjunction-settle_gathered-requires-clause-before g t c = λ κs lives.
     let seen = c.args.seen.now in
     let settles = settles_all seen c.args.workers c.args.round.now c.parts.round c.args.steps.now c.parts.steps c.args.parts.now c.parts.index c.parts-test.false c.parts.invariant.settles in
-    can_begin_by seen c.parts.round.before c.parts.pulls (pieces_of c.args.parts.now)
-    (adds_all seen c.parts.pulls c.args.parts.now c.parts.index c.parts-test.false c.parts.invariant.adds)
+    can_begin_by seen c.parts.round.before c.parts.gathered.pulls (pieces_of c.args.parts.now)
+    (adds_all seen c.parts.gathered.pulls c.args.parts.now c.parts.index c.parts-test.false c.parts.invariant.adds)
     (floors_last seen c.args.workers c.args.round.now c.parts.round c.args.steps.now c.parts.steps (pieces_of c.args.parts.now) c.requires.floors settles)
-    c.order-2.result.now (c.order-2.ensures.order ∙ sym c.order-2.ensures.trace.clocks) c.are_atoms.result c.are_atoms.ensures
+    c.order-2.result.now (c.order-2.ensures.order ∙ sym c.order-2.ensures.trace.clocks) c.are_atoms-atoms.result c.are_atoms-atoms.ensures
 
 pub settle_conjunction-returns-clause-slice : goal.settle_conjunction-returns-clause-slice
 settle_conjunction-returns-clause-slice g t c =
     let seen = c.args.seen.now in
     let ps = pieces_of c.args.parts.now in
     let trace = c.order-2.ensures.trace in
-    let adds = adds_all seen c.parts.pulls c.args.parts.now c.parts.index c.parts-test.false c.parts.invariant.adds in
-    IfOk-weaker c.settle_pulls.result _ _
+    let adds = adds_all seen c.parts.gathered.pulls c.args.parts.now c.parts.index c.parts-test.false c.parts.invariant.adds in
+    IfOk-weaker c.settle_gathered.result _ _
     (λ slice one.
-    slice_settled seen c.parts.pulls ps c.args.workers c.parts.round c.settle_pulls.new.round c.parts.steps c.settle_pulls.new.steps slice (first_pulls_are seen trace (all_atoms ps)) adds
-    (settles_one_by seen c.parts.pulls ps c.args.workers c.parts.round c.settle_pulls.new.round c.parts.steps c.settle_pulls.new.steps slice c.order-2.result.now
-    (c.order-2.ensures.order ∙ sym trace.clocks) c.are_atoms.result c.are_atoms.ensures one))
-    c.settle_pulls.ensures
+    slice_settled seen c.parts.gathered.pulls ps c.args.workers c.parts.round c.settle_gathered.new.round c.parts.steps c.settle_gathered.new.steps slice (first_pulls_are seen trace (all_atoms ps)) adds
+    (settles_one_by seen c.parts.gathered.pulls ps c.args.workers c.parts.round c.settle_gathered.new.round c.parts.steps c.settle_gathered.new.steps slice c.order-2.result.now
+    (c.order-2.ensures.order ∙ sym trace.clocks) c.are_atoms-atoms.result c.are_atoms-atoms.ensures one))
+    c.settle_gathered.ensures
 
 pub settle_conjunction-returns-clause-settles : goal.settle_conjunction-returns-clause-settles
 settle_conjunction-returns-clause-settles g t c =
     let seen = c.args.seen.now in
     let ps = pieces_of c.args.parts.now in
     let trace = c.order-2.ensures.trace in
-    let adds = adds_all seen c.parts.pulls c.args.parts.now c.parts.index c.parts-test.false c.parts.invariant.adds in
+    let adds = adds_all seen c.parts.gathered.pulls c.args.parts.now c.parts.index c.parts-test.false c.parts.invariant.adds in
     let early = settles_all seen c.args.workers c.args.round.now c.parts.round c.args.steps.now c.parts.steps c.args.parts.now c.parts.index c.parts-test.false c.parts.invariant.settles in
-    IfOk-weaker c.settle_pulls.result _ _
+    IfOk-weaker c.settle_gathered.result _ _
     (λ slice one.
-    settles_on seen c.args.workers c.args.round.now c.parts.round c.settle_pulls.new.round c.args.steps.now c.parts.steps c.settle_pulls.new.steps (flat_map within ps) (ps ∷ []) early
-    (rows_settled seen c.parts.pulls ps c.args.workers c.parts.round c.settle_pulls.new.round c.parts.steps c.settle_pulls.new.steps slice (first_pulls_are seen trace (all_atoms ps)) adds
-    (settles_one_by seen c.parts.pulls ps c.args.workers c.parts.round c.settle_pulls.new.round c.parts.steps c.settle_pulls.new.steps slice c.order-2.result.now
-    (c.order-2.ensures.order ∙ sym trace.clocks) c.are_atoms.result c.are_atoms.ensures one)))
-    c.settle_pulls.ensures
+    settles_on seen c.args.workers c.args.round.now c.parts.round c.settle_gathered.new.round c.args.steps.now c.parts.steps c.settle_gathered.new.steps (flat_map within ps) (ps ∷ []) early
+    (rows_settled seen c.parts.gathered.pulls ps c.args.workers c.parts.round c.settle_gathered.new.round c.parts.steps c.settle_gathered.new.steps slice (first_pulls_are seen trace (all_atoms ps)) adds
+    (settles_one_by seen c.parts.gathered.pulls ps c.args.workers c.parts.round c.settle_gathered.new.round c.parts.steps c.settle_gathered.new.steps slice c.order-2.result.now
+    (c.order-2.ensures.order ∙ sym trace.clocks) c.are_atoms-atoms.result c.are_atoms-atoms.ensures one)))
+    c.settle_gathered.ensures
