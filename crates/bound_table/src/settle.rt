@@ -204,11 +204,8 @@ impl BoundTable {
         ensures raised { IsRaised self.now.system seat.old.floor seat.new.floor row process lent
             result }
     {
-        let word = self.load(seat, self.place(row, process));
-        if lent as u64 <= word {
-            return word as u16;
-        }
-        self.raise_by_lend(seat, before, row, process, lent as u64) as u16
+        let found = self.load(seat, self.place(row, process));
+        self.raise_by_lend(seat, before, row, process, found, lent as u64) as u16
     }
 
     /// Looks up the pulls from each process once.

@@ -186,7 +186,8 @@ impl BoundTable {
         seat.bounds();
         for process in 0..self.system.shape().procs() {
             let y = self.load(seat, self.place(from_row, process));
-            let _raised = self.raise_by_lend(seat, from_row, to_row, process, y);
+            let found = self.load(seat, self.place(to_row, process));
+            let _raised = self.raise_by_lend(seat, from_row, to_row, process, found, y);
         }
     }
 
@@ -257,27 +258,33 @@ impl BoundTable {
 
     /// The machine's step of lending: the word of `to_row` becomes at least `y`, which the seat's
     /// floor for `from_row` has reached. It gives what the word became, which is the seat's floor
-    /// for it.
+    /// for it. Where `found`, the floor for it so far, is as high already, nothing is raised.
     pub(crate) fn raise_by_lend(
         &self,
         seat: &mut Seat,
         from_row: u32,
         to_row: u32,
         process: u32,
+        found: u64,
         y: u64,
     ) -> u64
         requires fits { seat.old.table ≡ self.now }
+        requires found { found ≡ word_at self.now.system.lens seat.old.floor to_row process }
         requires step { is_allowed self.now.system seat.old.floor (Lend to_row from_row process y)
             ≡ true }
         ensures keeps { KeepsClaims seat.old seat.new }
         ensures raised { IsRaised self.now.system seat.old.floor seat.new.floor to_row process y
             result }
     {
+        seat.bounds();
+        if y <= found {
+            return found;
+        }
         let word = self.place(to_row, process);
-        let found = self
+        let was = self
             .table
             .shared
             .fetch_max::<Lifts>(&mut seat.token, word, y);
-        found.max(y)
+        was.max(y)
     }
 }

@@ -3,8 +3,8 @@ use Rattle.bound_table.proofs.Moves.{lifts}
 use Rattle.bound_table.proofs.Allowed.{lend_step_bound, bound_along, bounds_along}
 use Rattle.bound_table.proofs.table.BoundTable.raise_by_lend.Goals as goal
 
-pub fetch_max-found-requires : goal.fetch_max-found-requires
-fetch_max-found-requires c =
+pub fetch_max-was-requires : goal.fetch_max-was-requires
+fetch_max-was-requires c =
     let system = c.args.self.now.system in
     let bounds = bounds_along _ system _ c.args.seat.now.floor (search rules) (search rules) c.seat.invariant.0.floor in (
       search rules,
