@@ -1,6 +1,6 @@
 -- A vector that follows a row of the floor, while words of the row are read and raised.
 use Rattle.std.proofs.Common.{◌≡◌, ℕ, ◌+◌, ◌*◌, ◌<◌, ◌≤◌, ◌⊎◌, inl, inr, List, length, get_or, set, sum, refl, arith, sym, ap, ◌∙◌, subst, get_or-set_same}
-use Rattle.std.proofs.lemmas.List.{length-set, get_or_past}
+use Rattle.std.proofs.lemmas.List.{length-set, get_or_past, ext_get_or}
 use Rattle.std.proofs.lemmas.Nat.{same_from_place}
 use Rattle.std.proofs.Math.Nat.{mul-le-mul_left}
 use Rattle.pull_system.specs.Vector.{IsWithin}
@@ -99,6 +99,24 @@ follows_again system row a b v follows = record {
   rises = record { each = λ i. omega arith };
   bounds = follows.bounds;
 }
+
+-- the words of a row follow it
+pub row_follows : (system : SystemView) (row : ℕ) (floor v : List ℕ) → row ≤ sum system.lens → AreBounds system floor → v ≡ row_at system.lens floor row → Follows system row floor floor v
+row_follows system row floor v row_there bounds same = record {
+  size = ap (λ x. length x) same ∙ length-row_at system.lens floor row row_there bounds.size;
+  each = λ p there. ap (λ x. get_or x p 0) same ∙ get_or-row_at system.lens floor row p there;
+  others = record { each = λ other p apart there. refl };
+  rises = record { each = λ i. omega arith };
+  bounds = bounds;
+}
+
+-- a vector that follows a row has its words
+pub follows_row : (system : SystemView) (row : ℕ) (old floor v : List ℕ) → row ≤ sum system.lens → Follows system row old floor v → v ≡ row_at system.lens floor row
+follows_row system row old floor v row_there follows =
+    let size : length (row_at system.lens floor row) ≡ length system.lens = length-row_at system.lens floor row row_there follows.bounds.size in
+    ext_get_or 0 v (row_at system.lens floor row) (omega (arith, follows.size, size)) (λ i below.
+    let there : i < length system.lens = omega (arith, follows.size) in
+    follows.each i there ∙ sym (get_or-row_at system.lens floor row i there))
 
 -- a vector that follows a row is at or above the row's start, and within each closed vector of the row
 pub follows_below : (system : SystemView) → IsSystem system → (row : ℕ) (a b v : List ℕ) → row ≤ sum system.lens → Follows system row a b v → IsBelowLeast system (start_of system.lens row) v

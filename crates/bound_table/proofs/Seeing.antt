@@ -13,7 +13,7 @@ use Rattle.pull_system.proofs.Pulls.{pull-of}
 use Rattle.pull_system.proofs.Sums.{component_le, sum-within, sum-is_vector}
 use Rattle.raise_machine.specs.Bounds.{AreBounds, word_at}
 use Rattle.raise_machine.proofs.Raising.{word_in_range}
-use Rattle.bound_table.specs.Kept.{FollowsFirst, Follows}
+use Rattle.bound_table.specs.Kept.{Follows}
 use Rattle.bound_table.specs.Asking.{HoldSeen, IsAsking, IsPullStep, IsRaised}
 use Rattle.bound_table.proofs.Allowed.{pull_allowed}
 use Rattle.bound_table.proofs.Lends.{set_within}
@@ -60,23 +60,11 @@ raised_twice system old mid new row process m a n b row_there there first second
       bounds = second.bounds;
     }
 
-pub vector_small : (system : SystemView) → IsSystem system → (v : List ℕ) → IsVector system.lens v → (i : ℕ) → get_or v i 0 < 2 ^ 16
-vector_small system is v vector i = omega (arith, vector.within i, component_le system.lens i, is.shape.events)
-
-pub follows_small : (system : SystemView) → IsSystem system → (row : ℕ) (old new v : List ℕ) → row ≤ sum system.lens → Follows system row old new v → (i : ℕ) → get_or v i 0 < 2 ^ 16
-follows_small system is row old new v row_there follows = vector_small system is v (follows_below system is row old new v row_there follows).vector
-
 -- the word that rose, in the vector that follows the row
 pub follows_raised : (system : SystemView) (row process number became : ℕ) (old floor floor_now v v_now : List ℕ) → row ≤ sum system.lens → Follows system row old floor v → process < length system.lens
     → IsRaised system floor floor_now row process number became → v_now ≡ set v process became → Follows system row old floor_now v_now
 follows_raised system row process number became old floor floor_now v v_now row_there follows there raised same =
     follows_set system row (length system.lens) (length system.lens) process became old floor floor_now v v_now row_there follows there follows.bounds raised.floor same raised.rises raised.bounds (λ p below. inr below) (omega arith)
-
--- a row that is read or raised from its first process on
-pub follows_next : (system : SystemView) (row process number became : ℕ) (old floor floor_now v v_now : List ℕ) → row ≤ sum system.lens → FollowsFirst system row process old floor v → process < length system.lens
-    → IsRaised system floor floor_now row process number became → v_now ≡ set v process became → FollowsFirst system row (process + 1) old floor_now v_now
-follows_next system row process number became old floor floor_now v v_now row_there follows there raised same =
-    follows_set system row process (process + 1) process became old floor floor_now v v_now row_there follows there follows.bounds raised.floor same raised.rises raised.bounds (λ p below. within_one p process below) (omega arith)
 
 pub raised_within_floor : (system : SystemView) (old new : List ℕ) (row process number became : ℕ) → IsRaised system old new row process number became → IsWithin old new
 raised_within_floor system old new row process number became raised = set_within old new (place_of system.lens row process) became raised.floor raised.rises
@@ -129,10 +117,10 @@ pub asking_least : (system : SystemView) → IsSystem system → (row : ℕ) (ol
 asking_least system is row old new v seen row_there asking back =
     settled_least system (start_of system.lens row) v (follows_below system is row old new v row_there asking.follows) (hold_all system is seen v asking.held asking.within back)
 
--- what was seen equals the vector, and so do the sums
-pub asking_sum : (system : SystemView) (row : ℕ) (old new v seen : List ℕ) → IsAsking system row old new v seen → IsWithin v seen → sum seen ≡ sum v
-asking_sum system row old new v seen asking back =
-    ap sum (ext_get_or 0 seen v (omega (arith, asking.size, asking.follows.size)) (λ i _. omega (arith, asking.within.each i, back.each i)))
+-- what was seen equals the vector
+pub asking_same : (system : SystemView) (row : ℕ) (old new v seen : List ℕ) → IsAsking system row old new v seen → IsWithin v seen → seen ≡ v
+asking_same system row old new v seen asking back =
+    ext_get_or 0 seen v (omega (arith, asking.size, asking.follows.size)) (λ i _. omega (arith, asking.within.each i, back.each i))
 
 pub put_within : (seen v w : List ℕ) (process x : ℕ) → IsWithin seen v → IsWithin v w → x ≤ get_or v process 0 → IsWithin (set seen process x) w
 put_within seen v w process x within more less = record {
@@ -166,9 +154,6 @@ asking_again system row a b v seen asking = record { follows = follows_again sys
 -- the numbers are at most these, and the pulls hold there
 pub asks_hold : (system : SystemView) (process x k : ℕ) (asks v : List ℕ) → AreAsks system process x asks → IsWithin asks v → k < length system.pulls → source_of system k ≡ process → ask system k x ≤ get_or v (target_of system k) 0
 asks_hold system process x k asks v are within there from = omega (arith, are.covers k there from, within.each (target_of system k))
-
-pub list_same : (xs ys : List ℕ) (count : ℕ) → length xs ≡ length ys → length ys ≤ count → ((i : ℕ) → i < count → get_or xs i 0 ≡ get_or ys i 0) → xs ≡ ys
-list_same xs ys count size all same = ext_get_or 0 xs ys size (λ i below. same i (omega arith))
 
 -- a look that raised a number is paid for
 pub look_pays : (pulls looks steps steps_now seen seen_now : ℕ) → looks ≤ pulls → steps_now ≡ steps + looks → seen + 1 ≤ seen_now → steps_now + pulls * seen ≤ steps + pulls * seen_now
@@ -248,11 +233,10 @@ pub looks_more : (pulls start steps steps_now seen seen_now first : ℕ) → ste
 looks_more pulls start steps steps_now seen seen_now first pays before = omega arith
 
 -- a closed vector was lent to the row
-pub lent_asking : (system : SystemView) (row : ℕ) (old new lent seen v : List ℕ) → IsVector system.lens lent → IsClosed system lent → seen ≡ lent → Follows system row old new v → IsWithin seen v → IsAsking system row new new v seen
-lent_asking system row old new lent seen v vector closed same follows within =
-    let P : List ℕ → Type 0 = IsClosed system in record {
-      follows = follows_again system row old new v follows;
-      size = ap length same ∙ vector.size;
-      within = within;
-      held = hold_lent system (length system.lens) seen v (subst P (sym same) closed) within;
-    }
+pub lent_asking : (system : SystemView) (row : ℕ) (old new lent v : List ℕ) → IsVector system.lens lent → IsClosed system lent → Follows system row old new v → IsWithin lent v → IsAsking system row new new v lent
+lent_asking system row old new lent v vector closed follows within = record {
+  follows = follows_again system row old new v follows;
+  size = vector.size;
+  within = within;
+  held = hold_lent system (length system.lens) lent v closed within;
+}

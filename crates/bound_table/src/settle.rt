@@ -2,8 +2,8 @@
 //!
 //! A vector of 16 bits has the seat's floor of the row, and a second one for each process the value
 //! at which the pulls from it were looked up last. Where they are equal each pull holds. So only
-//! the pulls from what rose are looked up again.
-ghost use Rattle.std.specs.Prelude.{◌≡◌, ◌⊎◌, ℕ, ◌+◌, ◌*◌, ◌^◌, ◌<◌, ◌≤◌, true, length, sum};
+//! the pulls from what rose are looked up again. A row's words fit, since a run has few events.
+ghost use Rattle.std.specs.Prelude.{◌≡◌, ◌⊎◌, ℕ, ◌+◌, ◌*◌, ◌<◌, ◌≤◌, true, length, sum};
 ghost use Rattle.std.specs.Prelude.{slice_index};
 ghost use Rattle.pull_system.specs.Vector.{IsWithin, IsVector};
 ghost use Rattle.pull_system.specs.System.{IsSystem, IsClosed, source_of, target_of, ask};
@@ -11,7 +11,7 @@ ghost use Rattle.pull_system.specs.System.{numbers_from};
 ghost use Rattle.pull_system.specs.Rows.{row_at, IsLeast};
 ghost use Rattle.pull_system.specs.Asks.{IsAskedBy, AreAsks};
 ghost use Rattle.raise_machine.specs.Bounds.{word_at, has_start};
-ghost use Rattle.bound_table.specs.Asking.{IsAsking, IsRaised};
+ghost use Rattle.bound_table.specs.Asking.{IsAsking};
 ghost use Rattle.bound_table.specs.Kept.{Follows};
 ghost use Rattle.bound_table.specs.Views.{KeepsClaims};
 
@@ -32,7 +32,7 @@ impl BoundTable {
         &self,
         seat: &mut Seat,
         row: u32,
-        into: &mut [u64],
+        into: &mut [u16],
         steps: &mut Steps<L>,
     )
         requires fits { seat.old.table ≡ self.now }
@@ -46,31 +46,24 @@ impl BoundTable {
             steps.new + pulls * before ≤ steps.old + pulls * (1 + sum into.new) }
     {
         let procs = self.system().shape().procs() as usize;
-        let mut vector = [0; 32];
         let mut seen = [0; 32];
-        self.settle_row(
-            seat,
-            row,
-            into,
-            &mut vector[..procs],
-            &mut seen[..procs],
-            steps,
-        );
+        self.settle_row(seat, row, into, &mut seen[..procs], steps);
     }
 
-    /// Settles the row as `settle` does, from a closed vector in `into` that the row `before` has
-    /// reached. It is lent to the row, and of it only the pulls are looked up whose source rises
-    /// above it.
+    /// Settles the row as `settle` does, from its words as they were looked at last, and from a
+    /// closed vector in `into` that the row `before` has reached. It is lent to the row, and of it
+    /// only the pulls are looked up whose source rises above it. No word is read again.
     ///
     /// The seat's floor for the row has the event of `before`, or `before` is the bottom's. In
-    /// ordinary use `into` is what `settle` or `settle_after` gave for the row `before`, the one
-    /// before on its process.
+    /// ordinary use `looked` is what `look` gave for the row, and `into` what `settle` or
+    /// `settle_after` gave for the row `before`, the one before on its process.
     pub fn settle_after<L: Ledger>(
         &self,
         seat: &mut Seat,
         before: u32,
         row: u32,
-        into: &mut [u64],
+        looked: &mut [u16],
+        into: &mut [u16],
         steps: &mut Steps<L>,
     )
         requires fits { seat.old.table ≡ self.now }
@@ -82,6 +75,7 @@ impl BoundTable {
             → slice_index into.old process
             ≤ word_at self.now.system.lens seat.old.floor before process }
         requires event { has_start self.now.system.lens seat.old.floor row before ≡ true }
+        requires looked { looked.old ≡ row_at self.now.system.lens seat.old.floor row }
         ensures keeps { KeepsClaims seat.old seat.new }
         ensures follows { Follows self.now.system row seat.old.floor seat.new.floor into.new }
         ensures least { IsLeast self.now.system row into.new }
@@ -90,12 +84,12 @@ impl BoundTable {
             steps.new + pulls * before ≤ steps.old + pulls * (1 + sum into.new) }
         ensures pays { let pulls = length self.now.system.pulls in
             steps.new + pulls * sum into.old ≤ steps.old + pulls * sum into.new }
+        ensures looked { looked.new ≡ into.new }
     {
-        let procs = self.system().shape().procs() as usize;
-        let mut vector = [0; 32];
-        let mut seen = [0; 32];
-        let (vector, seen) = (&mut vector[..procs], &mut seen[..procs]);
-        self.settle_row_after(seat, before, row, into, vector, seen, steps);
+        seat.bounds();
+        let _shape = self.system().shape();
+        self.lend_row(seat, before, row, into, looked);
+        self.close_row(seat, row, looked, into, steps);
     }
 
     /// Settles the row from its own words alone.
@@ -103,7 +97,6 @@ impl BoundTable {
         &self,
         seat: &mut Seat,
         row: u32,
-        into: &mut [u64],
         vector: &mut [u16],
         seen: &mut [u16],
         steps: &mut Steps<L>,
@@ -111,101 +104,48 @@ impl BoundTable {
         requires system { IsSystem self.now.system }
         requires fits { seat.old.table ≡ self.now }
         requires row { row ≤ sum self.now.system.lens }
-        requires into { length into.old ≡ length self.now.system.lens }
         requires vector { length vector.old ≡ length self.now.system.lens }
         requires seen { length seen.old ≡ length self.now.system.lens }
         ensures keeps { KeepsClaims seat.old seat.new }
-        ensures follows { Follows self.now.system row seat.old.floor seat.new.floor into.new }
-        ensures least { IsLeast self.now.system row into.new }
+        ensures follows { Follows self.now.system row seat.old.floor seat.new.floor vector.new }
+        ensures least { IsLeast self.now.system row vector.new }
         ensures looks { let pulls = length self.now.system.pulls in
             let before = sum (row_at self.now.system.lens seat.old.floor row) in
-            steps.new + pulls * before ≤ steps.old + pulls * (1 + sum into.new) }
+            steps.new + pulls * before ≤ steps.old + pulls * (1 + sum vector.new) }
     {
         seat.bounds();
-        self.look(seat, row, into);
-        narrow(into, vector);
+        self.look(seat, row, vector);
         self.ask_all(seat, row, vector, seen, steps);
         self.close_row(seat, row, vector, seen, steps);
-        widen(vector, into);
     }
 
-    /// Settles the row from the closed vector in `into`.
-    fn settle_row_after<L: Ledger>(
-        &self,
-        seat: &mut Seat,
-        before: u32,
-        row: u32,
-        into: &mut [u64],
-        vector: &mut [u16],
-        seen: &mut [u16],
-        steps: &mut Steps<L>,
-    )
-        requires system { IsSystem self.now.system }
-        requires fits { seat.old.table ≡ self.now }
-        requires row { row ≤ sum self.now.system.lens }
-        requires before { before ≤ sum self.now.system.lens }
-        requires into { IsVector self.now.system.lens into.old }
-        requires closed { IsClosed self.now.system into.old }
-        requires lent { (process : ℕ) → process < length self.now.system.lens
-            → slice_index into.old process
-            ≤ word_at self.now.system.lens seat.old.floor before process }
-        requires event { has_start self.now.system.lens seat.old.floor row before ≡ true }
-        requires vector { length vector.old ≡ length self.now.system.lens }
-        requires seen { length seen.old ≡ length self.now.system.lens }
-        ensures keeps { KeepsClaims seat.old seat.new }
-        ensures follows { Follows self.now.system row seat.old.floor seat.new.floor into.new }
-        ensures least { IsLeast self.now.system row into.new }
-        ensures looks { let pulls = length self.now.system.pulls in
-            let before = sum (row_at self.now.system.lens seat.old.floor row) in
-            steps.new + pulls * before ≤ steps.old + pulls * (1 + sum into.new) }
-        ensures pays { let pulls = length self.now.system.pulls in
-            steps.new + pulls * sum into.old ≤ steps.old + pulls * sum into.new }
-    {
-        seat.bounds();
-        narrow(into, seen);
-        self.lend_row(seat, before, row, seen, vector);
-        self.close_row(seat, row, vector, seen, steps);
-        widen(vector, into);
-    }
-
-    /// Raises each word of the row to at least what is lent, and reads it.
+    /// Raises each word of the row to at least what is lent.
     fn lend_row(&self, seat: &mut Seat, before: u32, row: u32, lent: &[u16], vector: &mut [u16])
         requires system { IsSystem self.now.system }
         requires fits { seat.old.table ≡ self.now }
         requires row { row ≤ sum self.now.system.lens }
         requires before { before ≤ sum self.now.system.lens }
         requires size { length lent.now ≡ length self.now.system.lens }
-        requires vector { length vector.old ≡ length self.now.system.lens }
         requires lent { (process : ℕ) → process < length self.now.system.lens
             → slice_index lent.now process
             ≤ word_at self.now.system.lens seat.old.floor before process }
         requires event { has_start self.now.system.lens seat.old.floor row before ≡ true }
+        requires follows { Follows self.now.system row seat.old.floor seat.old.floor vector.old }
         ensures keeps { KeepsClaims seat.old seat.new }
         ensures follows { Follows self.now.system row seat.old.floor seat.new.floor vector.new }
         ensures reaches { IsWithin lent.now vector.new }
     {
-        seat.bounds();
-        for process in 0..self.system().shape().procs() {
-            let i = process as usize;
-            vector[i] = self.lend_word(seat, before, row, process, lent[i]);
+        if excess(lent, vector) == 0 {
+            return;
         }
-    }
-
-    /// Reads one word of the row, and raises it where it is below what is lent.
-    fn lend_word(&self, seat: &mut Seat, before: u32, row: u32, process: u32, lent: u16) -> u16
-        requires system { IsSystem self.now.system }
-        requires fits { seat.old.table ≡ self.now }
-        requires row { row ≤ sum self.now.system.lens }
-        requires before { before ≤ sum self.now.system.lens }
-        requires process { process < length self.now.system.lens }
-        requires lent { lent ≤ word_at self.now.system.lens seat.old.floor before process }
-        requires event { has_start self.now.system.lens seat.old.floor row before ≡ true }
-        ensures keeps { KeepsClaims seat.old seat.new }
-        ensures raised { IsRaised self.now.system seat.old.floor seat.new.floor row process lent
-            result }
-    {
-        let found = self.load(seat, self.place(row, process));
-        self.raise_by_lend(seat, before, row, process, found, lent as u64) as u16
+        for process in 0..self.system().shape().procs() {
+            let (found, y) = (
+                vector[process as usize] as u64,
+                lent[process as usize] as u64,
+            );
+            let became = self.raise_by_lend(seat, before, row, process, found, y);
+            vector[process as usize] = became as u16;
+        }
     }
 
     /// Looks up the pulls from each process once.
@@ -256,6 +196,7 @@ impl BoundTable {
             steps.new + pulls * sum vector.old ≤ steps.old + pulls * (1 + sum vector.new) }
         ensures pays { let pulls = length self.now.system.pulls in
             steps.new + pulls * sum seen.old ≤ steps.old + pulls * sum vector.new }
+        ensures same { vector.new ≡ seen.new }
     {
         let mut asked = self.ask_risen(seat, row, vector, seen, steps);
         while asked > 0 {
@@ -432,25 +373,4 @@ fn excess(asks: &[u16], vector: &[u16]) -> u16
         excess = excess.max(asks[i].saturating_sub(vector[i]));
     }
     excess
-}
-
-/// The same numbers in 16 bits each.
-fn narrow(from: &[u64], into: &mut [u16])
-    requires size { length into.old ≡ length from.now }
-    requires fit { (i : ℕ) → slice_index from.now i < 2 ^ 16 }
-    ensures { into.new ≡ from.now }
-{
-    for i in 0..from.len() {
-        into[i] = from[i] as u16;
-    }
-}
-
-/// The same numbers in 64 bits each.
-fn widen(from: &[u16], into: &mut [u64])
-    requires { length into.old ≡ length from.now }
-    ensures { into.new ≡ from.now }
-{
-    for i in 0..from.len() {
-        into[i] = from[i] as u64;
-    }
 }

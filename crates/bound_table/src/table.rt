@@ -150,7 +150,7 @@ impl BoundTable {
 
     /// Reads the words of the row, which become the seat's floors for it, and puts them into
     /// `into`. It looks up no pull.
-    pub fn look(&self, seat: &mut Seat, row: u32, into: &mut [u64])
+    pub fn look(&self, seat: &mut Seat, row: u32, into: &mut [u16])
         requires fits { seat.old.table ≡ self.now }
         requires row { row ≤ sum self.now.system.lens }
         requires into { length into.old ≡ length self.now.system.lens }
@@ -159,7 +159,7 @@ impl BoundTable {
     {
         seat.bounds();
         for process in 0..self.system.shape().procs() {
-            into[process as usize] = self.load(seat, self.place(row, process));
+            into[process as usize] = self.load(seat, self.place(row, process)) as u16;
         }
     }
 
@@ -202,13 +202,10 @@ impl BoundTable {
     {
         seat.bounds();
         let shape = self.system.shape();
-        let procs = shape.procs() as usize;
-        let mut room = [0; 32];
-        let room = &mut room[..procs];
-        let mut words = Vec::with_capacity(alloc, (shape.events() as usize + 1) * procs)?;
-        for row in 0..shape.events() + 1 {
-            self.look(seat, row, room);
-            words.extend_from_slice(room)?;
+        let count = (shape.events() as usize + 1) * shape.procs() as usize;
+        let mut words = Vec::with_capacity(alloc, count)?;
+        for word in 0..count {
+            words.push(self.load(seat, word))?;
         }
         Rows::from_words(alloc, shape, words)
     }

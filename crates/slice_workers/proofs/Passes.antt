@@ -1,15 +1,12 @@
 -- What more processes that are settled cost.
-use Rattle.std.proofs.Common.{◌≡◌, ◌≢◌, ℕ, zero, suc, ◌+◌, ◌-◌, ◌*◌, ◌<◌, ◌≤◌, ◌⊎◌, inl, inr, Bool, true, false, List, [], ◌∷◌, length, get_or, set, sum, refl, arith, sym, ap, ◌∙◌, subst}
+use Rattle.std.proofs.Common.{◌≡◌, ℕ, zero, suc, ◌+◌, ◌-◌, ◌*◌, ◌<◌, ◌≤◌, inl, inr, Bool, true, false, List, [], ◌∷◌, length, get_or, set, sum, refl, arith, ap, ◌∙◌}
 use Rattle.std.specs.Prelude.{if◌then◌else◌}
 use Rattle.std.proofs.lemmas.List.Sums.{sum_by-cons, sum_by-set}
 use Rattle.std.proofs.Math.Nat.{mul-le-mul_left}
 use Rattle.pull_system.specs.Vector.{IsWithin}
-use Rattle.pull_system.specs.System.{SystemView, IsSystem}
-use Rattle.pull_system.specs.Rows.{row_at, IsLeast}
+use Rattle.pull_system.specs.System.{SystemView}
 use Rattle.pull_system.specs.Climb.{marked}
 use Rattle.pull_system.proofs.Climbing.{set_case}
-use Rattle.pull_system.proofs.Sums.{sum-is_vector}
-use Rattle.raise_machine.specs.Bounds.{word_at}
 use Rattle.pull_system.specs.Rows.{place_of}
 use Rattle.slice_workers.specs.Reaching.{AreHanded, handed_events, ReachesFirst}
 use Rattle.slice_workers.specs.Settling.{IsBottom, HasSettled, process_looks}

@@ -1,11 +1,10 @@
 -- Rows that a floor has reached stay reached while it rises, and together they are all rows.
-use Rattle.std.proofs.Common.{◌≡◌, ◌≢◌, ℕ, zero, suc, ◌+◌, ◌-◌, ◌*◌, ◌<◌, ◌≤◌, ◌⊎◌, inl, inr, Bool, true, false, List, [], ◌∷◌, length, get_or, set, max, sum, take, refl, arith, sym, ap, ◌∙◌, subst, replicate, get_or-set_same}
-use Rattle.std.specs.Prelude.{if◌then◌else◌}
-use Rattle.std.proofs.lemmas.List.{length-set, get_or_past, ext_get_or}
+use Rattle.std.proofs.Common.{◌≡◌, ℕ, suc, ◌+◌, ◌-◌, ◌<◌, ◌≤◌, ◌⊎◌, inl, inr, Bool, true, false, List, [], ◌∷◌, length, get_or, set, sum, take, arith, sym, ap, ◌∙◌, subst}
+use Rattle.std.proofs.lemmas.List.{length-set, ext_get_or}
 use Rattle.std.proofs.lemmas.List.Sums.{sum_by-cons}
 use Rattle.pull_system.specs.Vector.{IsWithin, IsMaximum}
-use Rattle.pull_system.specs.System.{SystemView, IsSystem, IsLeastFrom}
-use Rattle.pull_system.specs.Rows.{RowsView, IsLeast, AreLeastRows, row_at, place_of}
+use Rattle.pull_system.specs.System.{SystemView}
+use Rattle.pull_system.specs.Rows.{IsLeast, AreLeastRows, row_at, place_of}
 use Rattle.pull_system.proofs.Climbing.{set_case, lt_or_le}
 use Rattle.pull_system.proofs.Starts.{get_or-row_at, length-row_at}
 use Rattle.std.proofs.lemmas.Bool.{le-leb}

@@ -1,15 +1,15 @@
 -- How the sum of a floor rises when one row of it does.
-use Rattle.std.proofs.Common.{◌≡◌, ◌≢◌, ℕ, zero, suc, ◌+◌, ◌-◌, ◌*◌, ◌<◌, ◌≤◌, ◌⊎◌, inl, inr, List, [], ◌∷◌, ◌++◌, length, get_or, sum, take, drop, refl, arith, sym, ap, ◌∙◌, subst}
+use Rattle.std.proofs.Common.{◌≡◌, ◌≢◌, ℕ, zero, suc, ◌+◌, ◌-◌, ◌*◌, ◌<◌, ◌≤◌, ◌⊎◌, inl, inr, List, ◌++◌, length, sum, take, drop, refl, arith, sym, ap, ◌∙◌}
 use Rattle.std.proofs.lemmas.List.{ext_get_or, take_all}
 use Rattle.std.proofs.lemmas.List.Sums.{sum_by-append}
 use Rattle.std.proofs.Math.Seq.{take-add}
 use Rattle.std.proofs.Math.Nat.{mul-le-mul_left}
 use Rattle.pull_system.specs.Vector.{IsWithin}
 use Rattle.pull_system.specs.System.{SystemView}
-use Rattle.pull_system.specs.Rows.{row_at, place_of}
+use Rattle.pull_system.specs.Rows.{row_at}
 use Rattle.pull_system.proofs.Starts.{get_or-row_at, length-row_at}
 use Rattle.pull_system.proofs.Sums.{sum-within}
-use Rattle.raise_machine.specs.Bounds.{AreBounds, word_at}
+use Rattle.raise_machine.specs.Bounds.{AreBounds}
 use Rattle.bound_table.specs.Kept.{Follows}
 
 -- the sum of the first rows

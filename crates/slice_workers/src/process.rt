@@ -2,7 +2,7 @@
 ghost use Rattle.std.specs.Prelude.{◌≡◌, ◌⊎◌, ℕ, ◌+◌, ◌-◌, ◌*◌, ◌<◌, ◌≤◌, true, false, length, sum};
 ghost use Rattle.std.specs.Prelude.{take, slice_index, slice_index_or, slice_set};
 ghost use Rattle.pull_system.specs.Vector.{IsWithin, IsVector};
-ghost use Rattle.pull_system.specs.Rows.{IsLeast};
+ghost use Rattle.pull_system.specs.Rows.{row_at, IsLeast};
 ghost use Rattle.raise_machine.specs.Bounds.{AreBounds, word_at, has_start};
 ghost use Rattle.bound_table.specs.Views.{KeepsClaims};
 ghost use Rattle.slice_workers.specs.Reaching.{Reaches, ReachesFirst};
@@ -17,8 +17,8 @@ pub(crate) fn settle_process<L: Ledger>(
     table: &BoundTable,
     seat: &mut Seat,
     process: u32,
-    bottom: &[u64],
-    into: &mut [u64],
+    bottom: &[u16],
+    into: &mut [u16],
     steps: &mut Steps<L>,
 )
     requires fits { seat.old.table ≡ table.now }
@@ -59,10 +59,11 @@ fn settle_next<L: Ledger>(
     process: u32,
     before: u32,
     row: u32,
-    into: &mut [u64],
+    into: &mut [u16],
     steps: &mut Steps<L>,
 )
     requires fits { seat.old.table ≡ table.now }
+    requires process { process < length table.now.system.lens }
     requires row { row ≤ sum table.now.system.lens }
     requires before { before ≤ sum table.now.system.lens }
     requires least { IsLeast table.now.system before into.old }
@@ -81,47 +82,79 @@ fn settle_next<L: Ledger>(
     ensures bounds { AreBounds table.now.system seat.new.floor }
 {
     seat.bounds();
-    lend_others(table, seat, process, row, into);
-    table.settle_after(seat, before, row, into, steps);
+    let mut looked = [0; 32];
+    let looked = &mut looked[..table.system().shape().procs() as usize];
+    look_lent(table, seat, process, row, into, looked);
+    table.settle_after(seat, before, row, looked, into, steps);
 }
 
-/// Lends the row what other processes' rows have of which the closed vector of the row before knows
-/// nothing.
+/// Looks at the row, and lends it what other processes' rows have of which the closed vector of the
+/// row before knows nothing.
 ///
 /// Where the row's floor names an event that the closed vector has, that event's least row is
 /// within it already. So only an event past it can bring anything: where the floor was kept from an
 /// earlier batch, or another seat raised the row.
-fn lend_others(table: &BoundTable, seat: &mut Seat, own: u32, row: u32, closed: &[u64])
-    requires fits { seat.old.table ≡ table.now }
-    requires row { row ≤ sum table.now.system.lens }
-    requires closed { length closed.now ≡ length table.now.system.lens }
-    ensures keeps { KeepsClaims seat.old seat.new }
-    ensures rises { IsWithin seat.old.floor seat.new.floor }
-    ensures bounds { AreBounds table.now.system seat.new.floor }
-{
-    let mut counts = [0; 32];
-    let procs = table.system().shape().procs() as usize;
-    lend_counts(table, seat, own, row, closed, &mut counts[..procs]);
-}
-
-/// Lends the row from each other process whose count in it is above that of the closed vector.
-fn lend_counts(
+fn look_lent(
     table: &BoundTable,
     seat: &mut Seat,
     own: u32,
     row: u32,
-    closed: &[u64],
-    counts: &mut [u64],
+    closed: &[u16],
+    looked: &mut [u16],
+)
+    requires fits { seat.old.table ≡ table.now }
+    requires own { own < length table.now.system.lens }
+    requires row { row ≤ sum table.now.system.lens }
+    requires closed { length closed.now ≡ length table.now.system.lens }
+    requires looked { length looked.old ≡ length table.now.system.lens }
+    ensures keeps { KeepsClaims seat.old seat.new }
+    ensures rises { IsWithin seat.old.floor seat.new.floor }
+    ensures bounds { AreBounds table.now.system seat.new.floor }
+    ensures looked { looked.new ≡ row_at table.now.system.lens seat.new.floor row }
+{
+    table.look(seat, row, looked);
+    if !brings_more(looked, closed, own) {
+        return;
+    }
+    lend_others(table, seat, own, row, closed, looked);
+    table.look(seat, row, looked);
+}
+
+/// Whether the count of another process is above that of the closed vector.
+fn brings_more(counts: &[u16], closed: &[u16], own: u32) -> bool
+    requires size { length counts.now ≡ length closed.now }
+    requires own { own < length counts.now }
+{
+    let mut past: u16 = 0;
+    for i in 0..counts.len() {
+        past = past.wrapping_add(is_past(counts[i], closed[i]));
+    }
+    past > is_past(counts[own as usize], closed[own as usize])
+}
+
+/// 1 where the count is above that of the closed vector, and 0 where it is not.
+fn is_past(count: u16, closed: u16) -> u16 {
+    count.saturating_sub(closed).min(1)
+}
+
+/// Lends the row from each other process whose count in it is above that of the closed vector.
+fn lend_others(
+    table: &BoundTable,
+    seat: &mut Seat,
+    own: u32,
+    row: u32,
+    closed: &[u16],
+    counts: &[u16],
 )
     requires fits { seat.old.table ≡ table.now }
     requires row { row ≤ sum table.now.system.lens }
     requires closed { length closed.now ≡ length table.now.system.lens }
-    requires counts { length counts.old ≡ length table.now.system.lens }
+    requires size { length counts.now ≡ length table.now.system.lens }
+    requires counts { (i : ℕ) → i < length table.now.system.lens
+        → slice_index counts.now i ≤ word_at table.now.system.lens seat.old.floor row i }
     ensures keeps { KeepsClaims seat.old seat.new }
     ensures rises { IsWithin seat.old.floor seat.new.floor }
-    ensures bounds { AreBounds table.now.system seat.new.floor }
 {
-    table.look(seat, row, counts);
     for process in 0..table.system().shape().procs() {
         let i = process as usize;
         let count = count_past(counts[i], closed[i], process == own);
@@ -133,18 +166,17 @@ fn lend_counts(
 
 /// Lends the row that of the process's event of this number, or of its last one where there are
 /// fewer.
-fn lend_event(table: &BoundTable, seat: &mut Seat, row: u32, process: u32, count: u64)
+fn lend_event(table: &BoundTable, seat: &mut Seat, row: u32, process: u32, count: u16)
     requires fits { seat.old.table ≡ table.now }
     requires row { row ≤ sum table.now.system.lens }
     requires process { process < length table.now.system.lens }
     requires count { count ≤ word_at table.now.system.lens seat.old.floor row process }
     ensures keeps { KeepsClaims seat.old seat.new }
     ensures rises { IsWithin seat.old.floor seat.new.floor }
-    ensures bounds { AreBounds table.now.system seat.new.floor }
 {
     seat.bounds();
     let shape = table.system().shape();
-    let position = count.min(shape.len_of(process) as u64) as u32;
+    let position = shape.len_of(process).min(count as u32);
     if position > 0 {
         let from_row = shape.row_of(EventId { process, position });
         table.lend(seat, from_row, row);
@@ -152,7 +184,7 @@ fn lend_event(table: &BoundTable, seat: &mut Seat, row: u32, process: u32, count
 }
 
 /// The count of another process where it is above that of the closed vector, and 0 where it is not.
-fn count_past(count: u64, closed: u64, is_own: bool) -> u64
+fn count_past(count: u16, closed: u16, is_own: bool) -> u16
     ensures { result ≤ count }
 {
     if is_own || count <= closed { 0 } else { count }

@@ -145,8 +145,8 @@ fn settle_here<G: Gate, L: Ledger>(
     table: &BoundTable,
     seat: &mut Seat,
     gate: &G,
-    bottom: &mut [u64],
-    into: &mut [u64],
+    bottom: &mut [u16],
+    into: &mut [u16],
     steps: &mut Steps<L>,
 )
     requires system { IsSystem table.now.system }
@@ -195,8 +195,8 @@ fn finish<L: Ledger>(
 fn finish_here<L: Ledger>(
     table: &BoundTable,
     seat: &mut Seat,
-    bottom: &mut [u64],
-    into: &mut [u64],
+    bottom: &mut [u16],
+    into: &mut [u16],
     handed: &mut [bool; 32],
     steps: &mut Steps<L>,
 )

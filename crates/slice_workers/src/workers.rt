@@ -24,8 +24,8 @@ pub(crate) fn none_handed() -> [bool; 32]
 pub(crate) fn settle_claimed<L: Ledger>(
     table: &BoundTable,
     seat: &mut Seat,
-    bottom: &mut [u64],
-    into: &mut [u64],
+    bottom: &mut [u16],
+    into: &mut [u16],
     handed: &mut [bool; 32],
     steps: &mut Steps<L>,
 )
@@ -56,8 +56,8 @@ pub(crate) fn settle_claimed<L: Ledger>(
 pub(crate) fn settle_rest<L: Ledger>(
     table: &BoundTable,
     seat: &mut Seat,
-    bottom: &[u64],
-    into: &mut [u64],
+    bottom: &[u16],
+    into: &mut [u16],
     handed: &mut [bool; 32],
     steps: &mut Steps<L>,
 )
@@ -82,8 +82,8 @@ fn claim_one<L: Ledger>(
     table: &BoundTable,
     seat: &mut Seat,
     process: u32,
-    bottom: &[u64],
-    into: &mut [u64],
+    bottom: &[u16],
+    into: &mut [u16],
     handed: &mut [bool; 32],
     steps: &mut Steps<L>,
 )
@@ -111,8 +111,8 @@ fn settle_left<L: Ledger>(
     table: &BoundTable,
     seat: &mut Seat,
     process: u32,
-    bottom: &[u64],
-    into: &mut [u64],
+    bottom: &[u16],
+    into: &mut [u16],
     handed: &mut [bool; 32],
     steps: &mut Steps<L>,
 )
@@ -138,8 +138,8 @@ fn settle_marked<L: Ledger>(
     table: &BoundTable,
     seat: &mut Seat,
     process: u32,
-    bottom: &[u64],
-    into: &mut [u64],
+    bottom: &[u16],
+    into: &mut [u16],
     handed: &mut [bool; 32],
     steps: &mut Steps<L>,
 )

@@ -1,4 +1,4 @@
-use Rattle.std.proofs.Common.{rules, arith, ◌≡◌, ◌+◌, ◌≤◌, ℕ, List, sum, take, get_or, length, ap, ◌∙◌}
+use Rattle.std.proofs.Common.{arith, ◌≡◌, ◌+◌, sum, take, get_or, ap, ◌∙◌}
 use Rattle.pull_system.specs.System.{SystemView}
 use Rattle.slice_workers.proofs.Reached.{event_lends}
 use Rattle.slice_workers.proofs.process.lend_event.Goals as goal

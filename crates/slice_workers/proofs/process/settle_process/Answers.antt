@@ -1,8 +1,7 @@
-use Rattle.std.proofs.Common.{rules, arith, refl, ap, ◌≡◌, ◌+◌, ◌*◌, ◌≤◌, ◌<◌, ◌∙◌, ℕ, List, sum, take, get_or, length, subst, sym}
-use Rattle.pull_system.specs.System.{SystemView, IsSystem}
-use Rattle.pull_system.specs.Rows.{IsLeast, place_of}
+use Rattle.std.proofs.Common.{rules, arith, refl, ap, ◌≡◌, ◌+◌, ◌*◌, ◌≤◌, ◌∙◌, ℕ, List, sum, take, get_or, length, subst, sym}
+use Rattle.pull_system.specs.System.{SystemView}
+use Rattle.pull_system.specs.Rows.{IsLeast}
 use Rattle.pull_system.proofs.Sums.{sum-is_vector}
-use Rattle.raise_machine.specs.Bounds.{AreBounds}
 use Rattle.bound_table.proofs.Allowed.{bounds_along}
 use Rattle.bound_table.proofs.Claiming.{keeps_refl, keeps_trans}
 use Rattle.bound_table.proofs.Floors.{within_trans}

@@ -1,7 +1,5 @@
-use Rattle.std.proofs.Common.{rules, arith}
 use Rattle.pull_system.specs.System.{SystemView}
 use Rattle.bound_table.proofs.Floors.{within_trans}
-use Rattle.slice_workers.specs.Settling.{IsBottom}
 use Rattle.slice_workers.proofs.Passes.{bottom_more}
 use Rattle.slice_workers.proofs.Reached.{handed_more, all_reached, lent_reaches, settled_bottom}
 use Rattle.slice_workers.proofs.settled.finish_here.Goals as goal

@@ -1,4 +1,4 @@
-use Rattle.std.proofs.Common.{rules, arith, sym, ap, subst, ◌∙◌, ◌≤◌, ℕ, List, sum}
+use Rattle.std.proofs.Common.{rules, sym, ap, subst, ◌∙◌, ◌≤◌, ℕ, List, sum}
 use Rattle.pull_system.specs.System.{SystemView}
 use Rattle.pull_system.specs.Rows.{AreLeastRows}
 use Rattle.pull_system.proofs.Sums.{sum-within}

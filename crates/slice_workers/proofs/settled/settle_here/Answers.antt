@@ -1,4 +1,4 @@
-use Rattle.std.proofs.Common.{rules, arith, ◌+◌, length, sum}
+use Rattle.std.proofs.Common.{arith, ◌+◌, length, sum}
 use Rattle.pull_system.specs.System.{SystemView}
 use Rattle.pull_system.proofs.Sums.{sum-is_vector}
 use Rattle.bound_table.proofs.Floors.{within_trans}

@@ -1,5 +1,4 @@
-use Rattle.std.proofs.Common.{rules, arith, ◌≡◌, ◌∙◌}
-use Rattle.bound_table.proofs.Floors.{within_trans}
+use Rattle.std.proofs.Common.{rules}
 use Rattle.slice_workers.proofs.Reached.{within_refl, none_are_handed}
 use Rattle.slice_workers.proofs.threads.meet_all.Goals as goal
 

@@ -1,4 +1,4 @@
-use Rattle.std.proofs.Common.{rules, arith}
+use Rattle.std.proofs.Common.{rules}
 use Rattle.pull_system.specs.System.{SystemView}
 use Rattle.slice_workers.proofs.Reached.{handed_met, met_left}
 use Rattle.slice_workers.proofs.threads.meet_one.Goals as goal

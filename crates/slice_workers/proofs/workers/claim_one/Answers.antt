@@ -1,4 +1,4 @@
-use Rattle.std.proofs.Common.{rules, arith, subst, sym, ◌≡◌, ◌∙◌, ◌≢◌, List, ℕ, false, true, get_or, ap, inl, inr}
+use Rattle.std.proofs.Common.{subst, sym, ◌∙◌, List, ℕ, false, true, get_or, ap, inl, inr}
 use Rattle.pull_system.specs.System.{SystemView}
 use Rattle.pull_system.proofs.Climbing.{set_case}
 use Rattle.slice_workers.specs.Reaching.{AreHanded}

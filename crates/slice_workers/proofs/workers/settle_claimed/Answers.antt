@@ -1,4 +1,4 @@
-use Rattle.std.proofs.Common.{rules, arith, ap, refl, ◌≡◌, ◌≢◌, ◌<◌, ◌≤◌, ◌∙◌, ℕ, length, false, true, get_or}
+use Rattle.std.proofs.Common.{rules, arith, ap, refl, ◌≤◌, ◌∙◌, length}
 use Rattle.pull_system.specs.System.{SystemView}
 use Rattle.bound_table.proofs.Allowed.{bounds_along}
 use Rattle.bound_table.proofs.Floors.{within_trans}

@@ -1,4 +1,3 @@
-use Rattle.std.proofs.Common.{rules, arith}
 use Rattle.pull_system.specs.System.{SystemView}
 use Rattle.slice_workers.proofs.Passes.{passed_mark}
 use Rattle.slice_workers.proofs.workers.settle_marked.Goals as goal

@@ -1,4 +1,4 @@
-use Rattle.std.proofs.Common.{rules, arith, ap, ◌≡◌, ◌<◌, ◌≤◌, ◌∙◌, ℕ, length, false, true, get_or}
+use Rattle.std.proofs.Common.{rules, arith, ap, ◌≡◌, ◌≤◌, ◌∙◌, length, false, true, get_or}
 use Rattle.pull_system.specs.System.{SystemView}
 use Rattle.bound_table.proofs.Seeing.{upto_next}
 use Rattle.slice_workers.proofs.Passes.{passed_none, passed_on, bottom_more}

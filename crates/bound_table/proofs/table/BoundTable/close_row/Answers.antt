@@ -1,6 +1,6 @@
-use Rattle.std.proofs.Common.{arith}
+use Rattle.std.proofs.Common.{arith, ap, sym, sum}
 use Rattle.pull_system.specs.System.{SystemView}
-use Rattle.bound_table.proofs.Seeing.{asking_trans, asking_least, asking_sum, asking_room, within_sum, looks_more, pays_more, first_looks}
+use Rattle.bound_table.proofs.Seeing.{asking_trans, asking_least, asking_same, asking_room, within_sum, looks_more, pays_more, first_looks}
 use Rattle.bound_table.proofs.Claiming.{keeps_trans}
 use Rattle.bound_table.proofs.table.BoundTable.close_row.Goals as goal
 
@@ -42,11 +42,15 @@ returns-clause-least g c =
 pub returns-clause-looks : goal.returns-clause-looks
 returns-clause-looks g c =
     let system : SystemView = c.args.self.now.system in
-    let same = asking_sum system c.args.row _ _ _ _ c.loop-asked.invariant.asking (c.loop-asked.invariant.done (omega arith)) in
+    let same = ap sum (asking_same system c.args.row _ _ _ _ c.loop-asked.invariant.asking (c.loop-asked.invariant.done (omega arith))) in
     let inv = c.loop-asked.invariant.looks in rw (← same) inv
 
 pub returns-clause-pays : goal.returns-clause-pays
 returns-clause-pays g c =
     let system : SystemView = c.args.self.now.system in
-    let same = asking_sum system c.args.row _ _ _ _ c.loop-asked.invariant.asking (c.loop-asked.invariant.done (omega arith)) in
+    let same = ap sum (asking_same system c.args.row _ _ _ _ c.loop-asked.invariant.asking (c.loop-asked.invariant.done (omega arith))) in
     let inv = c.loop-asked.invariant.pays in rw (← same) inv
+
+pub returns-clause-same : goal.returns-clause-same
+returns-clause-same g c =
+    sym (asking_same c.args.self.now.system c.args.row _ _ _ _ c.loop-asked.invariant.asking (c.loop-asked.invariant.done (omega arith)))

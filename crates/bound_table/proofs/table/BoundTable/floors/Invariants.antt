@@ -1,15 +1,13 @@
-use Rattle.std.proofs.Common.{◌≡◌, length}
 use Rattle.pull_system.specs.Vector.{IsWithin}
 use Rattle.raise_machine.specs.Bounds.{AreBounds}
 use Rattle.bound_table.specs.Views.{KeepsClaims}
 use Rattle.bound_table.proofs.Reading.{AreRead}
 use Rattle.bound_table.proofs.table.BoundTable.floors.Given as goal
 
-abbrev pub invariant-loop-row : goal.invariant-loop-row
-invariant-loop-row l = record {
+abbrev pub invariant-loop-word : goal.invariant-loop-word
+invariant-loop-word l = record {
   keeps : KeepsClaims l.fn.seat l.seat;
-  width : length l.room ≡ length l.self.system.lens;
-  read : AreRead l.self.system.lens l.row l.seat.floor l.words.items;
+  read : AreRead l.word l.seat.floor l.words.items;
   rises : IsWithin l.fn.seat.floor l.seat.floor;
   bounds : AreBounds l.self.system l.seat.floor;
 }

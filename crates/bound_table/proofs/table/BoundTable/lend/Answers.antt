@@ -1,4 +1,4 @@
-use Rattle.std.proofs.Common.{rules, arith, sym, ◌≡◌, ◌∙◌, ◌<◌, ℕ, length}
+use Rattle.std.proofs.Common.{rules, arith, sym, ◌∙◌, ◌<◌, ℕ, length}
 use Rattle.pull_system.specs.System.{SystemView}
 use Rattle.pull_system.specs.Vector.{IsWithin}
 use Rattle.pull_system.specs.Rows.{place_of}

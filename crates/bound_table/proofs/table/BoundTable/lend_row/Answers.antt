@@ -1,10 +1,9 @@
 use Rattle.std.proofs.Common.{rules, arith, ap, ◌≡◌, ◌≤◌, ◌<◌, ◌∙◌, ℕ, length, get_or, refl}
 use Rattle.pull_system.specs.System.{SystemView}
 use Rattle.pull_system.specs.Rows.{place_of}
-use Rattle.bound_table.proofs.Allowed.{bounds_along}
+use Rattle.bound_table.proofs.Allowed.{lend_allowed}
 use Rattle.bound_table.proofs.Lends.{has_start_more}
-use Rattle.bound_table.proofs.Floors.{follows_none}
-use Rattle.bound_table.proofs.Seeing.{follows_next, raised_within_floor, put_next, within_first}
+use Rattle.bound_table.proofs.Seeing.{follows_raised, raised_small, raised_within_floor, put_next, within_first}
 use Rattle.bound_table.proofs.Claiming.{keeps_refl, keeps_trans}
 use Rattle.bound_table.proofs.table.BoundTable.lend_row.Goals as goal
 
@@ -13,9 +12,26 @@ loop-process-init c = record {
   keeps = keeps_refl _;
   event = c.requires.event;
   lent = c.requires.lent;
-  follows = follows_none _ _ _ _ c.requires.vector (bounds_along _ _ _ _ (search rules) (search rules) c.bounds.ensures);
+  follows = c.requires.follows;
   reaches = λ p below. absurd (omega arith);
 }
+
+pub raise_by_lend-became-requires-clause-found : goal.raise_by_lend-became-requires-clause-found
+raise_by_lend-became-requires-clause-found c =
+    c.loop-process.invariant.follows.each c.loop-process.process (search rules)
+
+pub raise_by_lend-became-requires-clause-step : goal.raise_by_lend-became-requires-clause-step
+raise_by_lend-became-requires-clause-step c =
+    let system : SystemView = c.args.self.now.system in
+    let inv = c.loop-process.invariant in
+    let process : ℕ = c.loop-process.process in
+    let there : process < length system.lens = search rules in
+    lend_allowed system c.loop-process.seat.floor c.args.row c.args.before process _ c.requires.row c.requires.before there (inv.lent process there) inv.event
+
+pub overflow_cast-vector : goal.overflow_cast-vector
+overflow_cast-vector c =
+    let system : SystemView = c.args.self.now.system in
+    omega (arith, raised_small system c.requires.system _ _ c.args.row c.loop-process.process _ _ c.requires.row (search rules) c.raise_by_lend-became.ensures.raised)
 
 pub loop-process-preserved : goal.loop-process-preserved
 loop-process-preserved c =
@@ -23,12 +39,13 @@ loop-process-preserved c =
     let inv = c.loop-process.invariant in
     let process : ℕ = c.loop-process.process in
     let there : process < length system.lens = search rules in
-    let within = raised_within_floor system _ _ c.args.row process _ _ c.lend_word.ensures.raised in record {
-      keeps = keeps_trans _ _ _ inv.keeps c.lend_word.ensures.keeps;
+    let raised = c.raise_by_lend-became.ensures.raised in
+    let within = raised_within_floor system _ _ c.args.row process _ _ raised in record {
+      keeps = keeps_trans _ _ _ inv.keeps c.raise_by_lend-became.ensures.keeps;
       event = has_start_more system.lens _ _ c.args.row c.args.before within inv.event;
       lent = λ p p_there. omega (arith, inv.lent p p_there, within.each (place_of system.lens c.args.before p));
-      follows = follows_next system c.args.row process _ c.lend_word.result _ _ _ _ _ c.requires.row inv.follows there c.lend_word.ensures.raised refl;
-      reaches = put_next (λ i n. get_or c.args.lent.now i 0 ≤ n) _ _ process c.lend_word.result (omega (arith, inv.follows.size)) refl inv.reaches c.lend_word.ensures.raised.reaches;
+      follows = follows_raised system c.args.row process _ c.raise_by_lend-became.result _ _ _ _ _ c.requires.row inv.follows there raised refl;
+      reaches = put_next (λ i n. get_or c.args.lent.now i 0 ≤ n) _ _ process c.raise_by_lend-became.result (omega (arith, inv.follows.size)) refl inv.reaches raised.reaches;
     }
 
 pub returns-clause-reaches : goal.returns-clause-reaches

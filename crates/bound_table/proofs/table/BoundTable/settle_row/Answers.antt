@@ -1,18 +1,14 @@
-use Rattle.std.proofs.Common.{rules, arith, ap, sym, ◌≡◌, ◌≤◌, sum, length}
+use Rattle.std.proofs.Common.{rules, arith, ◌≤◌, sum}
 use Rattle.pull_system.specs.System.{SystemView}
 use Rattle.pull_system.specs.Rows.{row_at}
 use Rattle.bound_table.proofs.Allowed.{bounds_along}
 use Rattle.bound_table.proofs.Floors.{follows_trans, follows_again, row_sum}
-use Rattle.bound_table.proofs.Seeing.{follows_small, follows_along, least_along, asking_again, within_sum, settle_looks}
+use Rattle.bound_table.proofs.Seeing.{asking_again, within_sum, settle_looks}
 use Rattle.bound_table.proofs.table.BoundTable.settle_row.Goals as goal
-
-pub narrow-requires-clause-fit : goal.narrow-requires-clause-fit
-narrow-requires-clause-fit g c =
-    follows_small c.args.self.now.system c.requires.system c.args.row _ _ _ c.requires.row c.look.ensures.follows
 
 pub ask_all-requires-clause-follows : goal.ask_all-requires-clause-follows
 ask_all-requires-clause-follows g c =
-    follows_along c.args.self.now.system c.args.row _ _ _ _ (sym c.narrow.ensures) (follows_again c.args.self.now.system c.args.row _ _ _ c.look.ensures.follows)
+    follows_again c.args.self.now.system c.args.row _ _ _ c.look.ensures.follows
 
 pub close_row-requires-clause-asking : goal.close_row-requires-clause-asking
 close_row-requires-clause-asking g c =
@@ -21,18 +17,12 @@ close_row-requires-clause-asking g c =
 pub returns-clause-follows : goal.returns-clause-follows
 returns-clause-follows g c =
     let system : SystemView = c.args.self.now.system in
-    follows_along system c.args.row _ _ _ _ (sym c.widen.ensures)
-    (follows_trans system c.args.row _ _ _ _ _ (follows_trans system c.args.row _ _ _ _ _ c.look.ensures.follows c.ask_all.ensures.asking.follows) c.close_row.ensures.follows)
-
-pub returns-clause-least : goal.returns-clause-least
-returns-clause-least g c =
-    least_along c.args.self.now.system c.args.row _ _ (sym c.widen.ensures) c.close_row.ensures.least
+    follows_trans system c.args.row _ _ _ _ _ (follows_trans system c.args.row _ _ _ _ _ c.look.ensures.follows c.ask_all.ensures.asking.follows) c.close_row.ensures.follows
 
 pub returns-clause-looks : goal.returns-clause-looks
 returns-clause-looks g c =
     let system : SystemView = c.args.self.now.system in
     let bounds = bounds_along _ system _ c.args.seat.now.floor (search rules) (search rules) c.bounds.ensures in
     let before : sum (row_at system.lens c.args.seat.now.floor c.args.row) ≤ sum c.look.new.into = row_sum system c.args.row _ _ _ c.requires.row bounds c.look.ensures.follows in
-    let seen = within_sum c.narrow.new.into c.ask_all.new.seen (omega (arith, ap length c.narrow.ensures, c.look.ensures.follows.size, c.ask_all.ensures.asking.size)) c.ask_all.ensures.reaches in
-    let same : sum c.widen.new.into ≡ sum c.close_row.new.vector = ap sum c.widen.ensures in
-    rw same (settle_looks _ _ _ _ _ _ _ c.ask_all.ensures.looks c.close_row.ensures.pays (omega (arith, before, seen, ap sum c.narrow.ensures)))
+    let seen = within_sum c.look.new.into c.ask_all.new.seen (omega (arith, c.look.ensures.follows.size, c.ask_all.ensures.asking.size)) c.ask_all.ensures.reaches in
+    settle_looks _ _ _ _ _ _ _ c.ask_all.ensures.looks c.close_row.ensures.pays (omega (arith, before, seen))

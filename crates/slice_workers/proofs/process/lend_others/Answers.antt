@@ -1,18 +1,10 @@
-use Rattle.std.proofs.Common.{rules, arith, ◌<◌, ℕ, length}
+use Rattle.std.proofs.Common.{rules, arith}
 use Rattle.pull_system.specs.System.{SystemView}
 use Rattle.pull_system.specs.Rows.{place_of}
 use Rattle.bound_table.proofs.Claiming.{keeps_trans}
 use Rattle.bound_table.proofs.Floors.{within_trans}
-use Rattle.slice_workers.proofs.process.lend_counts.Goals as goal
-use Rattle.slice_workers.proofs.process.lend_counts.Goals.{then-count-gt0, else-count-gt0}
-
-pub loop-process-init : goal.loop-process-init
-loop-process-init c = record {
-  keeps = c.look.ensures.keeps;
-  rises = c.look.ensures.follows.rises;
-  bounds = c.look.ensures.follows.bounds;
-  counts = λ i there. omega (arith, c.look.ensures.follows.each i there);
-}
+use Rattle.slice_workers.proofs.process.lend_others.Goals as goal
+use Rattle.slice_workers.proofs.process.lend_others.Goals.{then-count-gt0, else-count-gt0}
 
 pub lend_event-requires-clause-count : goal.lend_event-requires-clause-count
 lend_event-requires-clause-count c =
@@ -26,7 +18,6 @@ loop-process-preserved c =
       | then-count-gt0 w ↦ let same = w.seat-is in rw same record {
         keeps = keeps_trans _ _ _ inv.keeps w.lend_event.ensures.keeps;
         rises = within_trans _ _ _ inv.rises w.lend_event.ensures.rises;
-        bounds = w.lend_event.ensures.bounds;
         counts = λ i there. omega (arith, inv.counts i there, w.lend_event.ensures.rises.each (place_of system.lens c.args.row i));
       }
       | else-count-gt0 w ↦ let same = w.seat-is in rw same inv
