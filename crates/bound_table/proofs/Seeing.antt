@@ -155,6 +155,9 @@ asking_again system row a b v seen asking = record { follows = follows_again sys
 pub asks_hold : (system : SystemView) (process x k : ℕ) (asks v : List ℕ) → AreAsks system process x asks → IsWithin asks v → k < length system.pulls → source_of system k ≡ process → ask system k x ≤ get_or v (target_of system k) 0
 asks_hold system process x k asks v are within there from = omega (arith, are.covers k there from, within.each (target_of system k))
 
+pub list_same : (xs ys : List ℕ) (count : ℕ) → length xs ≡ length ys → length ys ≤ count → ((i : ℕ) → i < count → get_or xs i 0 ≡ get_or ys i 0) → xs ≡ ys
+list_same xs ys count size all same = ext_get_or 0 xs ys size (λ i below. same i (omega arith))
+
 -- a look that raised a number is paid for
 pub look_pays : (pulls looks steps steps_now seen seen_now : ℕ) → looks ≤ pulls → steps_now ≡ steps + looks → seen + 1 ≤ seen_now → steps_now + pulls * seen ≤ steps + pulls * seen_now
 look_pays pulls looks steps steps_now seen seen_now few took more = omega (arith, mul-le-mul_left pulls more)

@@ -8,6 +8,7 @@
 //! Nothing is said of an order between callers, of progress, nor of time.
 #![tactic(auto)]
 
+mod narrow;
 mod seat;
 mod settle;
 mod table;

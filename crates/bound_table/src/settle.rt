@@ -15,6 +15,7 @@ ghost use Rattle.bound_table.specs.Asking.{IsAsking};
 ghost use Rattle.bound_table.specs.Kept.{Follows};
 ghost use Rattle.bound_table.specs.Views.{KeepsClaims};
 
+use crate::narrow::widen;
 use crate::seat::Seat;
 use crate::table::BoundTable;
 use pota_base::Steps;
@@ -29,6 +30,30 @@ impl BoundTable {
     /// that of the seat's floors, and at most P where these were the least closed vector. It waits
     /// for nobody, and takes no memory.
     pub fn settle<L: Ledger>(
+        &self,
+        seat: &mut Seat,
+        row: u32,
+        into: &mut [u64],
+        steps: &mut Steps<L>,
+    )
+        requires fits { seat.old.table ≡ self.now }
+        requires row { row ≤ sum self.now.system.lens }
+        requires into { length into.old ≡ length self.now.system.lens }
+        ensures keeps { KeepsClaims seat.old seat.new }
+        ensures follows { Follows self.now.system row seat.old.floor seat.new.floor into.new }
+        ensures least { IsLeast self.now.system row into.new }
+        ensures looks { let pulls = length self.now.system.pulls in
+            let before = sum (row_at self.now.system.lens seat.old.floor row) in
+            steps.new + pulls * before ≤ steps.old + pulls * (1 + sum into.new) }
+    {
+        let mut words = [0; 32];
+        let words = &mut words[..self.system().shape().procs() as usize];
+        self.settle_narrow(seat, row, words, steps);
+        widen(words, into);
+    }
+
+    /// Settles the row as `settle` does, with its words in 16 bits.
+    pub fn settle_narrow<L: Ledger>(
         &self,
         seat: &mut Seat,
         row: u32,
@@ -55,8 +80,8 @@ impl BoundTable {
     /// only the pulls are looked up whose source rises above it. No word is read again.
     ///
     /// The seat's floor for the row has the event of `before`, or `before` is the bottom's. In
-    /// ordinary use `looked` is what `look` gave for the row, and `into` what `settle` or
-    /// `settle_after` gave for the row `before`, the one before on its process.
+    /// ordinary use `looked` is what `look_narrow` gave for the row, and `into` what `settle_narrow`
+    /// or `settle_after` gave for the row `before`, the one before on its process.
     pub fn settle_after<L: Ledger>(
         &self,
         seat: &mut Seat,
@@ -114,7 +139,7 @@ impl BoundTable {
             steps.new + pulls * before ≤ steps.old + pulls * (1 + sum vector.new) }
     {
         seat.bounds();
-        self.look(seat, row, vector);
+        self.look_narrow(seat, row, vector);
         self.ask_all(seat, row, vector, seen, steps);
         self.close_row(seat, row, vector, seen, steps);
     }

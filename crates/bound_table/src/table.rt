@@ -11,6 +11,7 @@ ghost use Rattle.bound_table.specs.Kept.{Follows};
 ghost use Rattle.bound_table.specs.Rule.{word_count};
 ghost use Rattle.bound_table.specs.Views.{KeepsClaims};
 
+use crate::narrow::widen;
 use crate::seat::{Bounded, Key, Known, Lifts, Looks, Meets, Seat, Twins};
 use atomic_table::Table;
 use pota_base::NoMemory;
@@ -150,7 +151,22 @@ impl BoundTable {
 
     /// Reads the words of the row, which become the seat's floors for it, and puts them into
     /// `into`. It looks up no pull.
-    pub fn look(&self, seat: &mut Seat, row: u32, into: &mut [u16])
+    pub fn look(&self, seat: &mut Seat, row: u32, into: &mut [u64])
+        requires fits { seat.old.table ≡ self.now }
+        requires row { row ≤ sum self.now.system.lens }
+        requires into { length into.old ≡ length self.now.system.lens }
+        ensures keeps { KeepsClaims seat.old seat.new }
+        ensures follows { Follows self.now.system row seat.old.floor seat.new.floor into.new }
+    {
+        let mut words = [0; 32];
+        let words = &mut words[..self.system().shape().procs() as usize];
+        self.look_narrow(seat, row, words);
+        widen(words, into);
+    }
+
+    /// Looks at the row as `look` does, with its words in 16 bits. They fit, since a run has few
+    /// events.
+    pub fn look_narrow(&self, seat: &mut Seat, row: u32, into: &mut [u16])
         requires fits { seat.old.table ≡ self.now }
         requires row { row ≤ sum self.now.system.lens }
         requires into { length into.old ≡ length self.now.system.lens }

@@ -46,7 +46,7 @@ fn settle_row<L: Ledger>(
     table: &BoundTable,
     seat: &mut Seat,
     row: u32,
-) -> [u16; 2]
+) -> [u64; 2]
     requires name { blank.name ≡ L.name }
     requires parts { blank.parts ≡ L.parts }
     requires some { 0 < blank.parts }
@@ -60,14 +60,14 @@ fn settle_row<L: Ledger>(
     into
 }
 
-fn settled(rt: &impl Abort, table: &BoundTable, seat: &mut Seat, row: u32) -> [u16; 2]
+fn settled(rt: &impl Abort, table: &BoundTable, seat: &mut Seat, row: u32) -> [u64; 2]
     requires { seat.old.table ≡ table.now }
     ensures { seat.new.table ≡ seat.old.table }
 {
     settle_row::<Brand>(rt, Blank::new(1), table, seat, row)
 }
 
-fn looked_at(rt: &impl Abort, table: &BoundTable, seat: &mut Seat, row: u32) -> [u16; 2]
+fn looked_at(rt: &impl Abort, table: &BoundTable, seat: &mut Seat, row: u32) -> [u64; 2]
     requires { seat.old.table ≡ table.now }
     ensures { seat.new.table ≡ seat.old.table }
 {
@@ -101,7 +101,7 @@ fn rows_without_a_cut_pass_the_length(rt: HostRuntime) -> Result<(), Fail> {
 #[derive(Drop)]
 struct Caller {
     seat: Seat,
-    rows: [[u16; 2]; 4],
+    rows: [[u64; 2]; 4],
 }
 
 fn settle_and_lend<L: Ledger>(blank: Blank, table: &BoundTable, mut seat: Seat) -> Caller

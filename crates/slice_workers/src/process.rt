@@ -112,12 +112,12 @@ fn look_lent(
     ensures bounds { AreBounds table.now.system seat.new.floor }
     ensures looked { looked.new ≡ row_at table.now.system.lens seat.new.floor row }
 {
-    table.look(seat, row, looked);
+    table.look_narrow(seat, row, looked);
     if !brings_more(looked, closed, own) {
         return;
     }
     lend_others(table, seat, own, row, closed, looked);
-    table.look(seat, row, looked);
+    table.look_narrow(seat, row, looked);
 }
 
 /// Whether the count of another process is above that of the closed vector.

@@ -208,6 +208,6 @@ fn finish_here<L: Ledger>(
     ensures reaches { ReachesAll table.now.system seat.new.floor }
     ensures rises { IsWithin seat.old.floor seat.new.floor }
 {
-    table.settle(seat, 0, bottom, steps);
+    table.settle_narrow(seat, 0, bottom, steps);
     settle_rest(table, seat, bottom, into, handed, steps);
 }

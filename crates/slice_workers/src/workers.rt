@@ -46,7 +46,7 @@ pub(crate) fn settle_claimed<L: Ledger>(
         ≤ steps.old + length system.pulls * (rows + sum seat.new.floor) }
 {
     seat.bounds();
-    table.settle(seat, 0, bottom, steps);
+    table.settle_narrow(seat, 0, bottom, steps);
     for process in 0..table.system().shape().procs() {
         claim_one(table, seat, process, bottom, into, handed, steps);
     }

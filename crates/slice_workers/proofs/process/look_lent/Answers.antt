@@ -3,8 +3,8 @@ use Rattle.slice_workers.proofs.process.look_lent.Goals as goal
 
 pub returns-then-not-brings_more-clause-looked : goal.returns-then-not-brings_more-clause-looked
 returns-then-not-brings_more-clause-looked c =
-    follows_row c.args.table.now.system c.args.row _ _ _ c.requires.row c.look.ensures.follows
+    follows_row c.args.table.now.system c.args.row _ _ _ c.requires.row c.look_narrow.ensures.follows
 
 pub returns-clause-looked : goal.returns-clause-looked
 returns-clause-looked c =
-    follows_row c.args.table.now.system c.args.row _ _ _ c.requires.row c.look-2.ensures.follows
+    follows_row c.args.table.now.system c.args.row _ _ _ c.requires.row c.look_narrow-2.ensures.follows

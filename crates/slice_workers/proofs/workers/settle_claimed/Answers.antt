@@ -10,8 +10,8 @@ use Rattle.slice_workers.proofs.workers.settle_claimed.Goals as goal
 pub loop-process-init : goal.loop-process-init
 loop-process-init g c =
     let system : SystemView = c.args.table.now.system in record {
-      table = c.settle.ensures.keeps.table;
-      bottom = record { least = c.settle.ensures.least; lent = λ i there. omega (arith, c.settle.ensures.follows.each i there) };
+      table = c.settle_narrow.ensures.keeps.table;
+      bottom = record { least = c.settle_narrow.ensures.least; lent = λ i there. omega (arith, c.settle_narrow.ensures.follows.each i there) };
       settled = passed_none system _ _ _ _ (none_are_handed system _ _ (search rules) c.requires.none);
       free = λ p _. c.requires.none p;
     }
@@ -42,7 +42,7 @@ loop-process-preserved g c =
 
 pub returns-clause-rises : goal.returns-clause-rises
 returns-clause-rises g c =
-    within_trans _ _ _ c.settle.ensures.follows.rises c.loop-process.invariant.settled.rises
+    within_trans _ _ _ c.settle_narrow.ensures.follows.rises c.loop-process.invariant.settled.rises
 
 pub returns-clause-handed : goal.returns-clause-handed
 returns-clause-handed g c =
@@ -51,11 +51,11 @@ returns-clause-handed g c =
 pub returns-clause-looks : goal.returns-clause-looks
 returns-clause-looks g c =
     let system : SystemView = c.args.table.now.system in
-    claimed_looks _ _ _ _ _ _ _ _ _ (none_marked c.args.handed.now c.requires.none) c.settle.ensures.looks c.loop-process.invariant.settled.looks
+    claimed_looks _ _ _ _ _ _ _ _ _ (none_marked c.args.handed.now c.requires.none) c.settle_narrow.ensures.looks c.loop-process.invariant.settled.looks
 
 pub returns-clause-rises_paid : goal.returns-clause-rises_paid
 returns-clause-rises_paid g c =
     let system : SystemView = c.args.table.now.system in
     let bounds = bounds_along _ system _ c.args.seat.now.floor (search rules) (search rules) c.bounds.ensures in
-    let row = row_paid system 0 _ _ _ _ _ _ (omega arith) bounds.size c.settle.ensures.follows (within_refl _) bounds c.settle.ensures.looks refl in
+    let row = row_paid system 0 _ _ _ _ _ _ (omega arith) bounds.size c.settle_narrow.ensures.follows (within_refl _) bounds c.settle_narrow.ensures.looks refl in
     claimed_paid _ _ _ _ _ _ _ _ _ (none_events system.lens c.args.handed.now c.requires.none) row c.loop-process.invariant.settled.paid

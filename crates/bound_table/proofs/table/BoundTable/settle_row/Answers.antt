@@ -8,7 +8,7 @@ use Rattle.bound_table.proofs.table.BoundTable.settle_row.Goals as goal
 
 pub ask_all-requires-clause-follows : goal.ask_all-requires-clause-follows
 ask_all-requires-clause-follows g c =
-    follows_again c.args.self.now.system c.args.row _ _ _ c.look.ensures.follows
+    follows_again c.args.self.now.system c.args.row _ _ _ c.look_narrow.ensures.follows
 
 pub close_row-requires-clause-asking : goal.close_row-requires-clause-asking
 close_row-requires-clause-asking g c =
@@ -17,12 +17,12 @@ close_row-requires-clause-asking g c =
 pub returns-clause-follows : goal.returns-clause-follows
 returns-clause-follows g c =
     let system : SystemView = c.args.self.now.system in
-    follows_trans system c.args.row _ _ _ _ _ (follows_trans system c.args.row _ _ _ _ _ c.look.ensures.follows c.ask_all.ensures.asking.follows) c.close_row.ensures.follows
+    follows_trans system c.args.row _ _ _ _ _ (follows_trans system c.args.row _ _ _ _ _ c.look_narrow.ensures.follows c.ask_all.ensures.asking.follows) c.close_row.ensures.follows
 
 pub returns-clause-looks : goal.returns-clause-looks
 returns-clause-looks g c =
     let system : SystemView = c.args.self.now.system in
     let bounds = bounds_along _ system _ c.args.seat.now.floor (search rules) (search rules) c.bounds.ensures in
-    let before : sum (row_at system.lens c.args.seat.now.floor c.args.row) ≤ sum c.look.new.into = row_sum system c.args.row _ _ _ c.requires.row bounds c.look.ensures.follows in
-    let seen = within_sum c.look.new.into c.ask_all.new.seen (omega (arith, c.look.ensures.follows.size, c.ask_all.ensures.asking.size)) c.ask_all.ensures.reaches in
+    let before : sum (row_at system.lens c.args.seat.now.floor c.args.row) ≤ sum c.look_narrow.new.into = row_sum system c.args.row _ _ _ c.requires.row bounds c.look_narrow.ensures.follows in
+    let seen = within_sum c.look_narrow.new.into c.ask_all.new.seen (omega (arith, c.look_narrow.ensures.follows.size, c.ask_all.ensures.asking.size)) c.ask_all.ensures.reaches in
     settle_looks _ _ _ _ _ _ _ c.ask_all.ensures.looks c.close_row.ensures.pays (omega (arith, before, seen))

@@ -1,6 +1,6 @@
 use Rattle.bound_table.specs.Kept.{FollowsFirst}
 use Rattle.bound_table.specs.Views.{KeepsClaims}
-use Rattle.bound_table.proofs.table.BoundTable.look.Given as goal
+use Rattle.bound_table.proofs.table.BoundTable.look_narrow.Given as goal
 
 abbrev pub invariant-loop-process : goal.invariant-loop-process
 invariant-loop-process l = record {
