@@ -1,27 +1,23 @@
 -- Where the rows of a conjunction begin.
-use Rattle.std.proofs.Common.{◌≡◌, ℕ, zero, suc, ◌+◌, ◌*◌, ◌/◌, ◌%◌, ◌<◌, ◌≤◌, ◌⊎◌, inl, inr, Bool, true, false, List, ◌++◌, length, sum, get_or, Option, Some, None, refl, sym, ◌∙◌, ap, subst, arith}
+use Rattle.std.proofs.Common.{◌≡◌, ℕ, zero, suc, ◌+◌, ◌*◌, ◌/◌, ◌%◌, ◌<◌, ◌≤◌, ◌⊎◌, inl, inr, List, ◌++◌, length, sum, get_or, Option, sym, ◌∙◌, ap, subst, arith}
 use Rattle.std.specs.Prelude.{IfSome}
 use Rattle.std.proofs.Math.Nat.{mod-add-div', mod-lt, mul-le-mul_left}
 use Rattle.std.proofs.lemmas.List.{get_or_past}
-use Rattle.std.proofs.lemmas.Nat.{same_from_place}
 use Rattle.std.proofs.lemmas.Option.{IfSome_then}
 use Rattle.run_model.specs.Cut.{Clocks, lengths}
 use Rattle.pull_system.specs.declared.pull.Pull.{Pull}
-use Rattle.pull_system.specs.Vector.{IsWithin}
 use Rattle.pull_system.specs.System.{SystemView, IsClosedFrom}
 use Rattle.pull_system.specs.Pulls.{ClosedUnder}
-use Rattle.pull_system.specs.Rows.{RowsView, start_of, starts, place_of, row_at}
-use Rattle.pull_system.specs.Growth.{grown_words}
+use Rattle.pull_system.specs.Rows.{RowsView, start_of, starts, place_of}
 use Rattle.pull_system.proofs.PullLists.{closed_under, closed_left, closed_right}
 use Rattle.pull_system.proofs.Starts.{length_starts, starts-place, get_or-row_at}
 use Rattle.raise_machine.specs.Bounds.{AreBounds}
-use Rattle.raise_machine.proofs.Raising.{starts_bounds}
 use Rattle.slice_graph.specs.Views.{SliceView}
 use Rattle.slice_graph.specs.Fitting.{FitsOrder}
-use Rattle.slice_graph.specs.PullLists.{pulls_of_order, pulls_of_slice}
+use Rattle.slice_graph.specs.PullLists.{pulls_of_slice}
 use Rattle.slice_graph.specs.Starting.{AreWithinClosed}
 use Rattle.conjunctions.specs.declared.gathered.Gathered.{Gathered}
-use Rattle.conjunctions.specs.Beginning.{MayBeginFrom, FloorFits, BeginsWithOrder, BeginsAtoms, BeginsOthers}
+use Rattle.conjunctions.specs.Beginning.{MayBeginFrom, FloorFits}
 
 -- ---- more pulls
 

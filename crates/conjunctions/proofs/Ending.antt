@@ -1,15 +1,14 @@
 -- A conjunction once all of its parts were added.
-use Rattle.std.proofs.Common.{◌≡◌, ℕ, suc, zero, ◌+◌, ◌-◌, ◌*◌, ◌^◌, ◌<◌, ◌≤◌, Bool, true, false, List, [], ◌∷◌, ◌++◌, length, map, take, get_or, flat_map, All, Option, Some, None, refl, sym, ◌∙◌, ap, subst, arith}
+use Rattle.std.proofs.Common.{◌≡◌, ℕ, ◌-◌, ◌*◌, ◌<◌, ◌≤◌, Bool, true, false, List, [], ◌∷◌, ◌++◌, length, take, All, Some, refl, sym, ◌∙◌, ap, subst, arith}
 use Rattle.std.specs.Prelude.{◌&&◌}
 use Rattle.std.proofs.lemmas.List.{length-map, take_all}
 use Rattle.std.proofs.lemmas.List.Elements.{All-append}
 use Rattle.std.proofs.Math.Nat.{mul-le-mul}
 use Rattle.run_model.specs.Cut.{Clocks, lengths}
 use Rattle.run_model.specs.Consistent.{IsOrder}
-use Rattle.run_model.proofs.Counts.{length-lengths}
 use Rattle.trace_growth.specs.Growing.{IsTrace}
 use Rattle.pull_system.specs.declared.pull.Pull.{Pull}
-use Rattle.pull_system.specs.System.{SystemView, IsPull}
+use Rattle.pull_system.specs.System.{IsPull}
 use Rattle.pull_system.specs.Rows.{RowsView}
 use Rattle.pull_system.specs.Growth.{DidNotFall, grown_words}
 use Rattle.raise_machine.specs.Bounds.{AreBounds}
@@ -19,17 +18,16 @@ use Rattle.slice_graph.specs.PullLists.{pulls_of_order}
 use Rattle.slice_graph.proofs.OrderPulls.{order_pulls_fit, order_pulls_count, order_closed}
 use Rattle.rctl_parts.specs.declared.part.Part.{Part}
 use Rattle.rctl_parts.specs.Pieces.{Piece, atom, temporal, piece_of, pieces_of}
-use Rattle.rctl_parts.specs.MadeFor.{part_count, parts_count}
+use Rattle.rctl_parts.specs.MadeFor.{parts_count}
 use Rattle.event_log.specs.declared.log.Event.{Event}
-use Rattle.channel_preds.specs.Truth.{lens_of}
 use Rattle.conjunctions.specs.declared.observed.Observed.{Observed}
 use Rattle.conjunctions.specs.Observing.{clocks_seen, lens_seen}
 use Rattle.conjunctions.specs.Numbering.{is_atom, all_atoms}
-use Rattle.conjunctions.specs.Counting.{room_of, rooms_of, pulls_bound, first_of}
+use Rattle.conjunctions.specs.Counting.{rooms_of, first_of}
 use Rattle.conjunctions.specs.Rounds.{RoundView}
 use Rattle.conjunctions.specs.Systems.{AddsPulls, first_pulls, pulls_of_parts}
 use Rattle.conjunctions.specs.Beginning.{BeginsWithOrder}
-use Rattle.conjunctions.specs.Settling.{IsFloorOf, CanBegin, IsFloor, AreFloors, SettlesOne}
+use Rattle.conjunctions.specs.Settling.{CanBegin, AreFloors, SettlesOne}
 use Rattle.conjunctions.proofs.Settled.{AreFirstPulls, few_pulls, has_order}
 use Rattle.conjunctions.proofs.Adding.{closed_none}
 use Rattle.conjunctions.proofs.Atoms.{lens_same}

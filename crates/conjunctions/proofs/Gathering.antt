@@ -1,10 +1,9 @@
 -- The parts of a conjunction, one after the other.
-use Rattle.std.proofs.Common.{◌≡◌, ℕ, suc, zero, ◌+◌, ◌<◌, ◌≤◌, true, List, [], ◌∷◌, ◌++◌, length, map, take, drop, get_or, flat_map, Option, None, refl, sym, ◌∙◌, ap, subst, arith, append_assoc, append-nil, add-one}
+use Rattle.std.proofs.Common.{◌≡◌, ℕ, suc, zero, ◌+◌, ◌<◌, ◌≤◌, List, [], ◌∷◌, ◌++◌, length, take, drop, get_or, flat_map, Option, None, sym, ◌∙◌, ap, subst, arith, append_assoc, append-nil, add-one}
 use Rattle.std.specs.Prelude.{IfSome}
 use Rattle.std.proofs.lemmas.List.{length-map, length-take-le}
 use Rattle.std.proofs.lemmas.Grind.{flat_map-append}
 use Rattle.std.proofs.lemmas.List.Concat.{flat_map-cons}
-use Rattle.std.proofs.Math.Seq.{take-suc}
 use Rattle.pull_system.specs.declared.pull.Pull.{Pull}
 use Rattle.pull_system.specs.Rows.{RowsView}
 use Rattle.rctl_parts.specs.declared.part.Part.{Part}

@@ -1,23 +1,20 @@
 -- One conjunction is settled.
-use Rattle.std.proofs.Common.{◌≡◌, ℕ, ◌+◌, ◌-◌, ◌*◌, ◌≤◌, Bool, true, false, List, [], ◌∷◌, ◌++◌, length, sum, Option, Some, None, get_or, zero, suc, refl, sym, ◌∙◌, ap, subst, arith}
+use Rattle.std.proofs.Common.{◌≡◌, ℕ, ◌+◌, ◌-◌, ◌*◌, ◌≤◌, Bool, true, false, List, [], ◌∷◌, ◌++◌, length, sum, Option, Some, None, get_or, suc, refl, sym, ◌∙◌, ap, subst, arith}
 use Rattle.std.specs.Prelude.{IfSome}
 use Rattle.std.proofs.Math.Nat.{mul-le-mul_left}
 use Rattle.std.proofs.lemmas.List.Sums.{sum_by-cons}
 use Rattle.run_model.specs.Cut.{Clocks, lengths}
 use Rattle.pull_system.specs.declared.pull.Pull.{Pull}
-use Rattle.pull_system.specs.Vector.{IsWithin}
-use Rattle.pull_system.specs.System.{SystemView}
 use Rattle.pull_system.specs.Rows.{RowsView, starts}
-use Rattle.pull_system.specs.Growth.{grown_words}
 use Rattle.pull_system.proofs.PullLists.{closed_left}
 use Rattle.raise_machine.specs.Bounds.{AreBounds}
 use Rattle.raise_machine.proofs.Raising.{starts_bounds}
 use Rattle.slice_graph.specs.PullLists.{pulls_of_order}
 use Rattle.slice_graph.specs.Starting.{AreWithinClosed}
 use Rattle.conjunctions.specs.declared.gathered.Gathered.{Gathered}
-use Rattle.conjunctions.specs.Counting.{floor_words, steps_for, first_of}
+use Rattle.conjunctions.specs.Counting.{floor_words, steps_for}
 use Rattle.conjunctions.specs.Beginning.{MayBeginFrom, FloorFits, BeginsWithOrder, BeginsAtoms, BeginsOthers}
-use Rattle.conjunctions.specs.Settling.{CanBegin, IsFloorOf}
+use Rattle.conjunctions.specs.Settling.{CanBegin}
 use Rattle.conjunctions.proofs.Beginning.{within_more, within_bounds}
 
 -- the rows of before, and those of the order, lie within the bounds

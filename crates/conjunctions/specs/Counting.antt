@@ -24,13 +24,13 @@ abbrev pub first_of : List RowsView → Option RowsView
 first_of [] = None
 first_of (rows ∷ more) = Some rows
 
--- where the rows of a conjunction of atoms begin: those of before, grown, or the starts
+-- no row of a conjunction of atoms begins below its row of before, grown, or its start
 abbrev pub floor_words : List ℕ → Option RowsView → List ℕ
 floor_words lens None = starts lens
 floor_words lens (Some rows) = grown_words lens rows
 
--- the most steps with so many pulls: where rows are kept, by the rise of the words from where they
--- began; else by the lengths
+-- the most steps with so many pulls: where rows are kept, by the rise of the words from there; else
+-- by the lengths
 abbrev pub steps_for : ℕ → Bool → List ℕ → Option RowsView → RowsView → ℕ
 steps_for pulls true lens before rows =
     pulls * ((sum lens + 1) + (sum rows.words - sum (floor_words lens before)))

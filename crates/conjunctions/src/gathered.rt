@@ -4,8 +4,6 @@ ghost use Rattle.run_model.specs.Cut.{Clocks, lengths};
 ghost use Rattle.slice_graph.specs.Views.{AreRows};
 ghost use Rattle.slice_graph.specs.Fitting.{FitsOrder};
 ghost use Rattle.slice_graph.specs.PullLists.{pulls_of_slice};
-ghost use Rattle.rctl_parts.specs.Pieces.{pieces_of};
-ghost use Rattle.conjunctions.specs.Numbering.{all_atoms};
 ghost use Rattle.conjunctions.specs.Systems.{first_pulls};
 ghost use Rattle.conjunctions.specs.Beginning.{FloorFits};
 

@@ -1,5 +1,5 @@
-use Rattle.std.proofs.Common.{◌≡◌, ◌∷◌, [], sym, subst}
-use Rattle.rctl_parts.specs.Pieces.{Piece, piece_of, atom}
+use Rattle.std.proofs.Common.{◌∷◌, [], sym, subst}
+use Rattle.rctl_parts.specs.Pieces.{Piece, piece_of}
 use Rattle.conjunctions.specs.Systems.{AddsPulls}
 use Rattle.conjunctions.specs.Answering.{HoldsAtFirst}
 use Rattle.conjunctions.proofs.Atoms.{atom_of}

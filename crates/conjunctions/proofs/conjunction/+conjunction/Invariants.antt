@@ -1,4 +1,4 @@
-use Rattle.std.proofs.Common.{take, length, ◌≤◌, ◌<◌}
+use Rattle.std.proofs.Common.{take}
 use Rattle.rctl_parts.specs.Pieces.{pieces_of}
 use Rattle.conjunctions.specs.Numbering.{all_atoms}
 use Rattle.conjunctions.specs.Observing.{clocks_seen}

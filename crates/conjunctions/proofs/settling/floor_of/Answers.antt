@@ -1,4 +1,4 @@
-use Rattle.std.proofs.Common.{◌≡◌, Bool, true, subst}
+use Rattle.std.proofs.Common.{Bool, subst}
 use Rattle.run_model.specs.Cut.{lengths}
 use Rattle.conjunctions.specs.Settling.{IsFloorOf}
 use Rattle.conjunctions.proofs.settling.floor_of.Goals as goal

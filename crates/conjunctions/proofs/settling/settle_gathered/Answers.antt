@@ -1,13 +1,13 @@
-use Rattle.std.proofs.Common.{◌≡◌, ℕ, ◌+◌, ◌*◌, ◌≤◌, true, false, List, ◌∷◌, [], ◌++◌, length, sum, Option, refl, sym, ◌∙◌, ap, subst}
+use Rattle.std.proofs.Common.{◌≡◌, ℕ, ◌+◌, ◌*◌, ◌≤◌, true, List, ◌∷◌, [], ◌++◌, length, sum, Option, refl, sym, ◌∙◌, ap, subst}
 use Rattle.std.proofs.lemmas.Option.{IfSome_then}
 use Rattle.run_model.specs.Cut.{lengths}
 use Rattle.pull_system.specs.System.{SystemView, IsSystem}
-use Rattle.pull_system.specs.Rows.{RowsView, AreLeastRows, starts}
+use Rattle.pull_system.specs.Rows.{RowsView, AreLeastRows}
 use Rattle.bound_table.specs.Views.{SeatView}
 use Rattle.raise_machine.specs.Bounds.{AreBounds}
-use Rattle.conjunctions.specs.Counting.{first_of, floor_words, steps_for}
+use Rattle.conjunctions.specs.Counting.{first_of, floor_words}
 use Rattle.conjunctions.specs.Settling.{IsFloorOf}
-use Rattle.conjunctions.specs.Beginning.{BeginsAtoms, BeginsOthers}
+use Rattle.conjunctions.specs.Beginning.{BeginsAtoms}
 use Rattle.conjunctions.proofs.SettlingOne.{floor_bounds, floor_above, steps_within, sum_rises}
 use Rattle.conjunctions.proofs.settling.settle_gathered.Goals as goal
 

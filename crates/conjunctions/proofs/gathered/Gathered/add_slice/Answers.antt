@@ -1,4 +1,4 @@
-use Rattle.std.proofs.Common.{◌≡◌, List, ◌++◌, ◌∙◌, ap}
+use Rattle.std.proofs.Common.{List, ◌++◌, ◌∙◌, ap}
 use Rattle.run_model.specs.Cut.{lengths}
 use Rattle.pull_system.specs.declared.pull.Pull.{Pull}
 use Rattle.conjunctions.proofs.Beginning.{floor_more, slice_floor}
