@@ -1,5 +1,6 @@
 pub mod Marks
 pub mod PullLists
+pub mod Fans
 pub mod FirstNumbers
 pub mod Growing
 pub mod Asking

@@ -1,6 +1,7 @@
 pub mod Vector
 pub mod System
 pub mod Pulls
+pub mod Fans
 pub mod Asks
 pub mod Rows
 pub mod Growth

@@ -8,12 +8,14 @@
 #![tactic(auto)]
 
 mod asks;
+mod fan;
 mod laws;
 mod pull;
 mod risen;
 mod rows;
 mod system;
 
+pub use fan::{Fan, pulls_of};
 pub use laws::{
     closed_lists, closed_vectors, first_numbers, growing_systems, least_vectors, row_starts,
 };

@@ -1,4 +1,4 @@
-use Rattle.std.proofs.Common.{rules, arith, ◌≡◌, ℕ, ◌+◌, ◌*◌, ◌<◌, length, set, ap}
+use Rattle.std.proofs.Common.{rules, arith, ℕ, ◌+◌, ◌*◌, ◌<◌, length, set, ap}
 use Rattle.std.proofs.lemmas.Nat.{mul-add-lt}
 use Rattle.pull_system.proofs.Asking.{upto_more}
 use Rattle.pull_system.proofs.asks.ask_more.Goals as goal
