@@ -1,7 +1,7 @@
 -- The columns of rows: none, one row more, and a table that is the only one.
-use Rattle.std.proofs.Common.{◌≡◌, ℕ, zero, suc, ◌+◌, ◌*◌, ◌<◌, List, [], ◌∷◌, ◌++◌, length, get_or, map, replicate, refl, sym, ap, ◌∙◌, arith, append_assoc}
-use Rattle.std.specs.List.{range_with_len}
-use Rattle.std.proofs.lemmas.List.{same_lists, get_or-append-add}
+use Rattle.std.proofs.Common.{◌≡◌, ℕ, zero, suc, ◌+◌, ◌*◌, ◌<◌, List, [], ◌∷◌, ◌++◌, length, get_or, map, replicate, refl, sym, ap, ◌∙◌, arith, append_assoc, ◌-◌, ◌≤◌, ◌⊎◌, inl, inr, drop, subst}
+use Rattle.std.specs.List.{range_with_len, slice_range}
+use Rattle.std.proofs.lemmas.List.{same_lists, get_or-append-add, get_or-take, get_or-drop}
 use Rattle.std.proofs.lemmas.List.FromFn.{get_or-map-range_with_len, length-map-range_with_len, map-range_with_len_more}
 use Rattle.std.proofs.lemmas.Grind.{same_number_lists}
 use Rattle.std.proofs.lemmas.Nat.{mul-add-lt}
@@ -96,3 +96,44 @@ fan_of_one pull targets entries values target table size =
     ∙ ap (λ (n : ℕ). pulls_of_fan (fan (pull.dst ∷ []) n entries)) size
     ∙ ap (λ (es : List ℕ). pulls_of_fan (fan (pull.dst ∷ []) (length pull.table) es)) table
     ∙ ap one (one_column pull.table)
+
+-- where an entry of a table stands
+pub record StandsAt (width values index x : ℕ) (entries : List ℕ) (tables : List (List ℕ)) : Type 0 where
+  pub below : x < values
+  pub inside : x * width + index < length entries
+  pub is : get_or entries (x * width + index) 0 ≡ get_or (get_or tables index []) x 0
+
+pub entry_stands : (width values index x : ℕ) (entries : List ℕ) (tables : List (List ℕ)) → columns width values entries ≡ tables → length entries ≡ values * width → index < width → x < length (get_or tables index [])
+    → StandsAt width values index x entries tables
+entry_stands width values index x entries tables same size there value =
+    let at : get_or tables index [] ≡ column width values entries index = ap (λ (ts : List (List ℕ)). get_or ts index []) (sym same) ∙ column_at width values entries index there in
+    let entry : ℕ → ℕ = λ y. get_or entries (y * width + index) 0 in
+    let below : x < values = omega (arith, value, ap length at, length-map-range_with_len entry 0 values) in
+    let inside : x * width + index < width * values = mul-add-lt x width index values below there in
+    record {
+      below = below;
+      inside = omega (arith, inside, size);
+      is = sym (ap (λ (t : List ℕ). get_or t x 0) at ∙ get_or-map-range_with_len entry 0 values x x 0 below (omega arith));
+    }
+
+-- a row of entries, which has one entry of each table
+pub record RowStands (width x : ℕ) (entries : List ℕ) (tables : List (List ℕ)) : Type 0 where
+  pub room : x * width + width ≤ length entries
+  pub each : (row : List ℕ) → row ≡ slice_range entries (x * width) (x * width + width) → (i : ℕ) → i < width → get_or row i 0 ≡ get_or (get_or tables i []) x 0
+
+none_or_some : (n : ℕ) → (n ≡ 0) ⊎ (1 ≤ n)
+none_or_some n = grind arith
+
+pub row_stands : (width values most x : ℕ) (entries : List ℕ) (tables : List (List ℕ)) → columns width values entries ≡ tables → length entries ≡ values * width → ((i : ℕ) → i < width → length (get_or tables i []) ≡ most) → x < most
+    → RowStands width x entries tables
+row_stands width values most x entries tables same size sizes below = record {
+  room = elim (none_or_some width) [
+    | inl none ↦ let P : ℕ → Type 0 = λ n. x * n + n ≤ length entries in subst P (sym none) (omega arith)
+    | inr some ↦ let last = stands (width - 1) (omega (arith, some)) in omega (arith, last.inside, some)
+  ];
+  each = λ row is i there.
+      ap (λ (xs : List ℕ). get_or xs i 0) is ∙ get_or-take (x * width + width - x * width) (drop (x * width) entries) i 0 (omega arith) ∙ get_or-drop (x * width) entries i 0 ∙ (stands i there).is;
+}
+  where
+    stands : (i : ℕ) → i < width → StandsAt width values i x entries tables
+    stands i there = entry_stands width values i x entries tables same size there (omega (arith, below, sizes i there))

@@ -4,6 +4,8 @@ pub mod Fans
 pub mod FirstNumbers
 pub mod Growing
 pub mod Asking
+pub mod Raising
+pub mod Placing
 pub mod Starts
 pub mod Sums
 pub mod Pulls

@@ -1,8 +1,8 @@
 -- Rows of asks: for one value of a source, the most that any of its pulls asks of each process.
-use Rattle.std.specs.Prelude.{◌≡◌, ◌⊎◌, ℕ, ◌+◌, ◌*◌, ◌<◌, ◌≤◌, List, [], length, max, slice_index}
+use Rattle.std.specs.Prelude.{◌≡◌, ◌⊎◌, ℕ, ◌+◌, ◌*◌, ◌<◌, ◌≤◌, List, [], length, slice_index}
 use Rattle.std.specs.Prelude.{slice_index_or}
-use Rattle.pull_system.specs.declared.pull.Pull.{Pull}
 use Rattle.pull_system.specs.System.{SystemView, source_of, target_of, ask}
+use Rattle.pull_system.specs.Fans.{FanView, entry_of}
 
 -- some pull from the process asks this number of the target
 pub record IsAskedBy (system : SystemView) (process x target number : ℕ) : Type 0 where
@@ -37,21 +37,39 @@ pub record AreAllAsks (system : SystemView) (asks : List (List ℕ)) : Type 0 wh
       → AreAskRows system process (slice_index system.lens process + 2)
       (slice_index_or asks process [])
 
--- the rows have what they had before, and at the pull's target what the pull asks at each value
--- where that is more
-pub record HasAsked (pull : Pull) (procs : ℕ) (before now : List ℕ) : Type 0 where
-  pub size : length now ≡ length before
-  pub raised : (x : ℕ) → x < length pull.table → slice_index now (x * procs + pull.dst)
-      ≡ max (slice_index before (x * procs + pull.dst)) (slice_index pull.table x)
-  pub others : (x target : ℕ) → target < procs → (target ≡ pull.dst → ⊥)
-      → slice_index now (x * procs + target) ≡ slice_index before (x * procs + target)
+-- one of the first targets of a row that begins there is at this place, and is asked this number
+pub record IsAskedAt (begin : ℕ) (targets row : List ℕ) (count place number : ℕ) : Type 0 where
+  pub index : ℕ
+  pub below : index < count
+  pub at : begin + slice_index targets index ≡ place
+  pub asks : slice_index row index ≡ number
 
--- what the first of these numbers of pulls ask at each value
-pub record AreRowsSoFar (system : SystemView) (process values : ℕ) (numbers : List ℕ) (count : ℕ)
-    (rows : List ℕ) : Type 0 where
-  pub size : length rows ≡ values * length system.lens
-  pub covers : (x i : ℕ) → x < values → i < count → ask system (slice_index numbers i) x
-      ≤ slice_index rows (x * length system.lens + target_of system (slice_index numbers i))
-  pub asked : (x target : ℕ) → x < values → target < length system.lens
-      → (slice_index rows (x * length system.lens + target) ≡ 0)
-      ⊎ IsAskedBy system process x target (slice_index rows (x * length system.lens + target))
+-- At each place there is at least what was there before and what is asked of the first targets of
+-- the row that begins there, and there is one of these.
+pub record IsRaised (begin : ℕ) (targets row : List ℕ) (count : ℕ) (before now : List ℕ) : Type 0
+  where
+    pub size : length now ≡ length before
+    pub keeps : (place : ℕ) → slice_index before place ≤ slice_index now place
+    pub covers : (i : ℕ) → i < count
+        → slice_index row i ≤ slice_index now (begin + slice_index targets i)
+    pub asked : (place : ℕ) → (slice_index now place ≡ slice_index before place)
+        ⊎ IsAskedAt begin targets row count place (slice_index now place)
+
+-- a pull of the fan asks this number of the process at this place of the rows of the first values
+pub record IsAskedOf (fan : FanView) (procs values place number : ℕ) : Type 0 where
+  pub x : ℕ
+  pub index : ℕ
+  pub value : x < values
+  pub target : index < length fan.targets
+  pub at : x * procs + slice_index fan.targets index ≡ place
+  pub asks : entry_of fan index x ≡ number
+
+-- At each place there is at least what was there before and what the pulls of the fan ask there at
+-- the first values, and there is one of these.
+pub record AreRaised (fan : FanView) (procs values : ℕ) (before now : List ℕ) : Type 0 where
+  pub size : length now ≡ length before
+  pub keeps : (place : ℕ) → slice_index before place ≤ slice_index now place
+  pub covers : (x index : ℕ) → x < values → index < length fan.targets
+      → entry_of fan index x ≤ slice_index now (x * procs + slice_index fan.targets index)
+  pub asked : (place : ℕ) → (slice_index now place ≡ slice_index before place)
+      ⊎ IsAskedOf fan procs values place (slice_index now place)

@@ -24,6 +24,10 @@ pub record AreEntries (width values : ℕ) (entries : List ℕ) : Type 0 where
   pub size : length entries ≡ values * width
   pub rows : values ≤ length entries
 
+-- what the pull to the target at this index asks for at a value
+abbrev pub entry_of : FanView → ℕ → ℕ → ℕ
+entry_of fan i x = get_or (get_or fan.tables i []) x 0
+
 -- the pull to the target at this index
 abbrev pub pull_of_fan : FanView → ℕ → Pull
 pull_of_fan fan i =

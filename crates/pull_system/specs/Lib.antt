@@ -2,6 +2,7 @@ pub mod Vector
 pub mod System
 pub mod Pulls
 pub mod Fans
+pub mod Places
 pub mod Asks
 pub mod Rows
 pub mod Growth

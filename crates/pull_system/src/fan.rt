@@ -1,7 +1,8 @@
 //! The pulls from one process, held side by side.
 ghost use Rattle.std.specs.Prelude.{◌≡◌, ℕ, ◌+◌, ◌*◌, ◌^◌, ◌<◌, ◌≤◌, [], ◌∷◌, ◌++◌, length};
-ghost use Rattle.std.specs.Prelude.{replicate, slice_index, get_or, IfOk, OnOk, OnErr};
-ghost use Rattle.pull_system.specs.Fans.{HasRow, pulls_of_fan, pulls_of_fans};
+ghost use Rattle.std.specs.Prelude.{replicate, slice_index, slice_range, get_or, IfOk, OnOk, OnErr};
+ghost use Rattle.pull_system.specs.Fans.{HasRow, entry_of, pulls_of_fan, pulls_of_fans};
+ghost use Rattle.pull_system.specs.Asks.{IsRaised, AreRaised};
 
 use crate::pull::Pull;
 use pota_base::{List, NoMemory};
@@ -87,6 +88,45 @@ impl Fan {
         })
     }
 
+    /// The process that the pulls come from.
+    pub fn source(&self) -> u32
+        ensures { result ≡ self.now.src }
+    {
+        self.src
+    }
+
+    /// The processes that the pulls go to.
+    pub fn targets(&self) -> &[u32]
+        ensures { result.now ≡ self.now.targets }
+    {
+        self.targets.as_slice()
+    }
+
+    /// What the pull to the target at this index asks for at a value.
+    pub(crate) fn entry(&self, index: usize, x: usize) -> u16
+        requires target { index < length self.now.targets }
+        requires value { x < length (get_or self.now.tables index []) }
+        ensures { result ≡ entry_of self.now index x }
+    {
+        self.entries[x * self.targets.len() + index]
+    }
+
+    /// Raises the rows of so many values, with one entry per process, to what the pulls ask there.
+    pub(crate) fn raise(&self, values: usize, procs: usize, rows: &mut [u16])
+        requires values { (i : ℕ) → i < length self.now.targets
+            → length (get_or self.now.tables i []) ≡ values }
+        requires targets { (i : ℕ) → i < length self.now.targets
+            → slice_index self.now.targets i < procs }
+        requires room { values * procs ≤ length rows.old }
+        ensures { AreRaised self.now procs values rows.old rows.new }
+    {
+        let width = self.targets.len();
+        for x in 0..values {
+            let asked = row_of(self.entries.as_slice(), x, width);
+            raise_row(x * procs, self.targets.as_slice(), asked, rows);
+        }
+    }
+
     /// Appends the pulls, in the order of their targets.
     fn push_pulls(&self, alloc: Global, pulls: &mut List<Pull>) -> Result<(), NoMemory>
         ensures { OnOk result (pulls.new ≡ pulls.old ++ pulls_of_fan self.now) }
@@ -122,6 +162,28 @@ pub fn pulls_of(alloc: Global, fans: &[Fan]) -> Result<List<Pull>, NoMemory>
         fan.push_pulls(alloc, &mut pulls)?;
     }
     Ok(pulls)
+}
+
+/// The row of a value among rows of one size.
+pub(crate) fn row_of(rows: &[u16], x: usize, size: usize) -> &[u16]
+    requires { x * size + size ≤ length rows.now }
+    ensures row { result.now ≡ slice_range rows.now (x * size) (x * size + size) }
+    ensures size { length result.now ≡ size }
+{
+    &rows[x * size..x * size + size]
+}
+
+/// Raises the entries of the row that begins there to what is asked of these targets.
+fn raise_row(begin: usize, targets: &[u32], asked: &[u16], rows: &mut [u16])
+    requires size { length asked.now ≡ length targets.now }
+    requires room { (i : ℕ) → i < length targets.now
+        → begin + slice_index targets.now i < length rows.old }
+    ensures { IsRaised begin targets.now asked.now (length targets.now) rows.old rows.new }
+{
+    for (i, &target) in targets.iter().enumerate() {
+        let place = begin + target as usize;
+        rows[place] = rows[place].max(asked[i]);
+    }
 }
 
 /// Appends the numbers of the row, which fit 16 bits. Without memory for all of them none is

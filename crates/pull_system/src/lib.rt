@@ -1,5 +1,6 @@
 //! Systems of monotone pulls between the components of a vector, and one vector per row.
 //!
+//! A `Fan` holds the pulls from one process side by side, and a `System` is made from fans.
 //! `System::pull` gives one entry of a pull's table, and `System::asks` what all pulls from a
 //! process ask at one value; both count look-ups (clauses `step` and `steps`). The laws, functions
 //! with empty bodies, say that the least closed vector exists and is unique, and that where a
@@ -10,6 +11,7 @@
 mod asks;
 mod fan;
 mod laws;
+mod places;
 mod pull;
 mod risen;
 mod rows;

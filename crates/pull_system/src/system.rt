@@ -1,19 +1,24 @@
 ghost use Rattle.std.specs.Prelude.{◌≡◌, ℕ, ◌+◌, ◌^◌, ◌<◌, ◌≤◌, ◌↔◌, length, slice_index, All};
 ghost use Rattle.std.specs.Prelude.{IsTrue, IfOk, []};
-ghost use Rattle.pull_system.specs.System.{IsPull, HoldsPull, numbers_from, AreBySource};
+ghost use Rattle.pull_system.specs.System.{IsPull, HoldsPull, numbers_from};
+ghost use Rattle.pull_system.specs.Fans.{pulls_of_fans};
 
-use crate::asks::{all_asks, row_of};
+use crate::asks::all_asks;
+use crate::fan::{Fan, row_of};
+use crate::places::{Place, places_of, sort_by_source};
 use crate::pull::Pull;
 use pota_base::{List, NoMemory, Shape, Steps};
 use std::alloc::Global;
 use std::marker::Model;
 use std::sync::ledger::Ledger;
 
-/// A shape and the pulls between its processes. Contracts see the lengths and the list of pulls.
+/// A shape and the pulls between its processes, held as fans. Contracts see the lengths and the list of pulls.
 #[derive(Debug, Drop)]
 pub struct System {
     shape: Shape,
-    pulls: List<Pull>,
+    fans: List<Fan>,
+    /// Where each pull stands among the fans.
+    places: List<Place>,
     /// The numbers of each process's outgoing pulls.
     by_source: List<List<u32>>,
     /// For each process one row per value of its component, of one entry per target: the most that
@@ -24,14 +29,19 @@ pub struct System {
 impl Model for System {
     ghost use Rattle.pull_system.specs.System.{SystemView, IsSystem, AreBySource};
     ghost use Rattle.pull_system.specs.Asks.{AreAllAsks};
+    ghost use Rattle.pull_system.specs.Fans.{pulls_of_fans};
+    ghost use Rattle.pull_system.specs.Places.{ArePlaces};
 
     ghost Value = { SystemView };
 
-    ghost view = { λ system. record { lens = system.shape; pulls = system.pulls } };
+    ghost view = { λ system. record { lens = system.shape; pulls = pulls_of_fans system.fans } };
 
-    ghost invariant = { λ system. IsSystem record { lens = system.shape; pulls = system.pulls }
-        × AreBySource record { lens = system.shape; pulls = system.pulls } system.by_source
-        × AreAllAsks record { lens = system.shape; pulls = system.pulls } system.asks };
+    ghost invariant = { λ system.
+        IsSystem record { lens = system.shape; pulls = pulls_of_fans system.fans }
+        × ArePlaces system.fans system.places (pulls_of_fans system.fans)
+        × AreBySource record { lens = system.shape; pulls = pulls_of_fans system.fans }
+        system.by_source
+        × AreAllAsks record { lens = system.shape; pulls = pulls_of_fans system.fans } system.asks };
 }
 
 impl System {
@@ -47,12 +57,26 @@ impl System {
         requires count { length pulls < 2 ^ 32 }
         ensures { IfOk result (λ system. system ≡ record { lens = shape.now; pulls = pulls }) }
     {
+        let fans = fans_of(alloc, shape, &pulls)?;
+        System::of_fans(alloc, shape, fans)
+    }
+
+    /// The system of the pulls of these fans, of which there are fewer than 2^32. They keep their
+    /// order.
+    pub fn of_fans(alloc: Global, shape: &Shape, fans: List<Fan>) -> Result<System, NoMemory>
+        requires pulls { All (IsPull shape.now) (pulls_of_fans fans) }
+        requires count { length (pulls_of_fans fans) < 2 ^ 32 }
+        ensures { IfOk result
+            (λ system. system ≡ record { lens = shape.now; pulls = pulls_of_fans fans }) }
+    {
         let shape = shape.copy(alloc)?;
-        let by_source = sort_by_source(alloc, &shape, &pulls)?;
-        let asks = all_asks(alloc, &shape, &pulls, &by_source)?;
+        let places = places_of(alloc, &fans)?;
+        let by_source = sort_by_source(alloc, &shape, &fans, &places)?;
+        let asks = all_asks(alloc, &shape, &fans)?;
         Ok(System {
             shape,
-            pulls,
+            fans,
+            places,
             by_source,
             asks,
         })
@@ -68,8 +92,8 @@ impl System {
         ensures system { IsSystem self.now }
     {
         steps.tick();
-        let pull = self.pulls.get(k as usize);
-        *pull.table.get(x as usize) as u64
+        let place = self.places.get(k as usize);
+        self.fans.get(place.fan).entry(place.index, x as usize) as u64
     }
 
     /// What the pulls from the process ask of each process where its component is `x`: the most
@@ -96,8 +120,9 @@ impl System {
         ensures pull { IsPull self.now.lens (pull_at self.now k) }
         ensures system { IsSystem self.now }
     {
-        let pull = self.pulls.get(k as usize);
-        (pull.src, pull.dst)
+        let place = self.places.get(k as usize);
+        let fan = self.fans.get(place.fan);
+        (fan.source(), fan.targets()[place.index])
     }
 
     /// The number of pulls.
@@ -105,7 +130,7 @@ impl System {
         ensures count { result ≡ length self.now.pulls }
         ensures system { IsSystem self.now }
     {
-        self.pulls.len() as u32
+        self.places.len() as u32
     }
 
     pub fn shape(&self) -> &Shape
@@ -162,36 +187,17 @@ impl System {
     }
 }
 
-/// The numbers of the pulls of each process of the shape.
-fn sort_by_source(
-    alloc: Global,
-    shape: &Shape,
-    pulls: &List<Pull>,
-) -> Result<List<List<u32>>, NoMemory>
-    requires pulls { All (IsPull shape.now) pulls.now }
-    requires count { length pulls.now < 2 ^ 32 }
-    ensures { IfOk result (λ by_source. AreBySource record { lens = shape.now; pulls = pulls.now }
-        by_source) }
+/// A fan of each pull, in their order.
+fn fans_of(alloc: Global, shape: &Shape, pulls: &List<Pull>) -> Result<List<Fan>, NoMemory>
+    requires { All (IsPull shape.now) pulls.now }
+    ensures { IfOk result (λ fans. pulls_of_fans fans ≡ pulls.now) }
 {
-    let mut by_source = List::new(alloc);
-    for process in 0..shape.procs() {
-        by_source.push(numbers_from(alloc, process, pulls)?)?;
+    let _procs = shape.procs();
+    let mut fans = List::with_capacity(alloc, pulls.len())?;
+    for pull in pulls.as_slice() {
+        fans.push(Fan::of_pull(alloc, pull)?)?;
     }
-    Ok(by_source)
-}
-
-/// The numbers of the pulls from the process.
-fn numbers_from(alloc: Global, process: u32, pulls: &List<Pull>) -> Result<List<u32>, NoMemory>
-    requires { length pulls.now < 2 ^ 32 }
-    ensures { IfOk result (λ numbers. numbers ≡ numbers_from pulls.now process (length pulls.now)) }
-{
-    let mut numbers = List::new(alloc);
-    for (k, pull) in pulls.as_slice().iter().enumerate() {
-        if pull.src == process {
-            numbers.push(k as u32)?;
-        }
-    }
-    Ok(numbers)
+    Ok(fans)
 }
 
 /// Counts as many steps.
