@@ -8,6 +8,7 @@ pub mod Pairs
 pub mod RowByRow
 pub mod OrderPulls
 pub mod SlicePulls
+pub mod Fans
 pub mod EdgeSteps
 pub mod OrderGrowing
 pub mod StartingRows

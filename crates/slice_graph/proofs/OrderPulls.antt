@@ -52,7 +52,7 @@ counts_rise o order i j x y up there = elim (cases_lt 0 x) [
   | inl pos ↦ omega (arith, past_is o i j x pos, past_is o i j y (omega arith), past_rises o order i x y (omega arith, there) pos up j)
 ]
 
-counts_within : (o : Clocks) → IsOrder o → (i j x : ℕ) → x ≤ count (lengths o) i → past_count o i j x ≤ count (lengths o) j
+pub counts_within : (o : Clocks) → IsOrder o → (i j x : ℕ) → x ≤ count (lengths o) i → past_count o i j x ≤ count (lengths o) j
 counts_within o order i j x there = elim (cases_lt 0 x) [
   | inr none ↦ omega (arith, past_none o i j x (omega arith))
   | inl pos ↦ omega (arith, past_is o i j x pos, order.named i x (pos, there) j)

@@ -9,7 +9,7 @@ use Rattle.run_model.proofs.EdgeLemmas.{all_flat, all_flat_at}
 use Rattle.pull_system.specs.declared.pull.Pull.{Pull}
 use Rattle.slice_graph.specs.PullLists.{by_pairs}
 
-range_more : (a n x : ℕ) → a + n ≡ x → range_with_len a (n + 1) ≡ range_with_len a n ++ x ∷ []
+pub range_more : (a n x : ℕ) → a + n ≡ x → range_with_len a (n + 1) ≡ range_with_len a n ++ x ∷ []
 range_more a n x is =
     sym (map-id (range_with_len a (n + 1))) ∙ map-range_with_len_more (λ (k : ℕ). k) a n x is ∙ ap (λ (ks : List ℕ). ks ++ x ∷ []) (map-id (range_with_len a n))
 

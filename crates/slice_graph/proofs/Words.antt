@@ -18,7 +18,7 @@ length-past_ends lens = length-map lens (λ (len : ℕ). len + 1)
 pub count-past_ends : (lens : List ℕ) (i : ℕ) → i < length lens → count (past_ends lens) i ≡ count lens i + 1
 count-past_ends lens i lt = get_or-map (λ (len : ℕ). len + 1) lens i 0 0 lt
 
-past_ends_most : (lens : List ℕ) (i : ℕ) → count (past_ends lens) i ≤ count lens i + 1
+pub past_ends_most : (lens : List ℕ) (i : ℕ) → count (past_ends lens) i ≤ count lens i + 1
 past_ends_most lens i = elim (cases_lt i (length lens)) [
   | inl lt ↦ omega (arith, count-past_ends lens i lt)
   | inr ge ↦ omega (arith, get_or_past (past_ends lens) i 0 (omega (arith, length-past_ends lens)))

@@ -1,6 +1,6 @@
 -- The pulls of an order and those of a slice, by source and then by target.
-use Rattle.std.specs.Prelude.{◌≡◌, ℕ, zero, suc, ◌+◌, ◌<◌, ◌==◌, min, nat_le, List, [], ◌∷◌, ◌++◌}
-use Rattle.std.specs.Prelude.{length, get_or, map, flat_map, if◌then◌else◌}
+use Rattle.std.specs.Prelude.{ℕ, zero, suc, ◌+◌, ◌==◌, min, nat_le, nat_lt, List, [], ◌∷◌}
+use Rattle.std.specs.Prelude.{length, map, flat_map, if◌then◌else◌}
 use Rattle.std.specs.List.{range_with_len}
 use Rattle.run_model.specs.Cut.{Clocks, count, lengths}
 use Rattle.run_model.specs.Consistent.{clock}
@@ -49,14 +49,6 @@ slice_pull v i j = record { src = i; dst = j; table = slice_table v i j } ∷ []
 abbrev pub pulls_of_slice : SliceView → List Pull
 pulls_of_slice v = by_pairs (slice_pull v) (length v.lens)
 
--- one table for each process, with its first entries
-pub record AreTables (entry : ℕ → ℕ → ℕ) (procs count : ℕ) (tables : List (List ℕ)) : Type 0 where
-  pub size : length tables ≡ procs
-  pub each : (j : ℕ) → j < procs
-      → get_or tables j [] ≡ map (entry j) (range_with_len 0 count)
-
--- each table has one number of the row more
-pub record HasRow (row : List ℕ) (before now : List (List ℕ)) : Type 0 where
-  pub size : length now ≡ length before
-  pub each : (j : ℕ) → j < length before
-      → get_or now j [] ≡ get_or before j [] ++ get_or row j 0 ∷ []
+-- the process at this index among all but one
+abbrev pub other : ℕ → ℕ → ℕ
+other process index = if nat_lt index process then index else index + 1

@@ -11,7 +11,6 @@
 //! or the memory that a call takes.
 #![tactic(auto)]
 
-mod columns;
 mod cuts;
 mod edges;
 mod from_rows;
@@ -25,7 +24,7 @@ mod table;
 pub use cuts::{event_at, is_within, join_into, set_words};
 pub use edges::Edge;
 pub use laws::{least_or_none, order_grows, systems_of_an_order};
-pub use order_pulls_of::order_pulls;
+pub use order_pulls_of::{order_fans, order_pulls};
 pub use slice::Slice;
 pub use starting::order_rows;
 pub use table::CutTable;

@@ -1,18 +1,17 @@
 //! The pulls of the order of a run.
-ghost use Rattle.std.specs.Prelude.{◌≡◌, ℕ, ◌+◌, ◌-◌, ◌*◌, ◌<◌, ◌≤◌, ◌↔◌, ◌==◌, [], ◌∷◌, ◌++◌};
-ghost use Rattle.std.specs.Prelude.{length, flat_map, if◌then◌else◌, All, IfOk, OnOk};
+ghost use Rattle.std.specs.Prelude.{◌≡◌, ℕ, ◌+◌, ◌-◌, ◌*◌, ◌^◌, ◌<◌, ◌≤◌, ◌↔◌, length, map};
+ghost use Rattle.std.specs.Prelude.{flat_map, slice_index, All, IfOk};
 ghost use Rattle.std.specs.List.{range_with_len};
 ghost use Rattle.run_model.specs.Cut.{Cut, count, IsWithin, lengths};
 ghost use Rattle.run_model.specs.Consistent.{IsConsistent};
 ghost use Rattle.pull_system.specs.System.{IsPull};
 ghost use Rattle.pull_system.specs.Pulls.{ClosedUnder};
-ghost use Rattle.slice_graph.specs.PullLists.{past_count, order_entry, order_pull};
-ghost use Rattle.slice_graph.specs.PullLists.{pulls_of_order, AreTables};
+ghost use Rattle.pull_system.specs.Fans.{pulls_of_fan, pulls_of_fans};
+ghost use Rattle.slice_graph.specs.PullLists.{past_count, order_pull, other, pulls_of_order};
 
-use crate::columns::{empty_tables, push_entries};
 use causal_order::Order;
 use pota_base::{EventId, List, NoMemory};
-use pull_system::Pull;
+use pull_system::{Fan, Pull, pulls_of};
 use std::alloc::Global;
 
 /// The pulls of the order: for each source and each other process as the target, in this order,
@@ -25,67 +24,86 @@ pub fn order_pulls(alloc: Global, order: &Order) -> Result<List<Pull>, NoMemory>
     ensures closed { IfOk result (λ pulls. (c : Cut) → length c ≡ length order.now
         → IsWithin c (lengths order.now) → ClosedUnder pulls c ↔ IsConsistent order.now c) }
 {
-    let mut pulls = List::new(alloc);
+    let fans = order_fans(alloc, order)?;
+    pulls_of(alloc, fans.as_slice())
+}
+
+/// The pulls of the order side by side: for each source a fan to the other processes, in this
+/// order, with what the clocks of the source's events have of the targets.
+pub fn order_fans(alloc: Global, order: &Order) -> Result<List<Fan>, NoMemory>
+    ensures list { IfOk result (λ fans. pulls_of_fans fans ≡ pulls_of_order order.now) }
+    ensures count { IfOk result (λ fans. length (pulls_of_fans fans)
+        ≡ length order.now * (length order.now - 1)) }
+    ensures pulls { IfOk result (λ fans. All (IsPull (lengths order.now)) (pulls_of_fans fans)) }
+    ensures closed { IfOk result (λ fans. (c : Cut) → length c ≡ length order.now
+        → IsWithin c (lengths order.now)
+        → ClosedUnder (pulls_of_fans fans) c ↔ IsConsistent order.now c) }
+{
+    let mut fans = List::new(alloc);
     for source in 0..order.shape().procs() {
-        push_pulls_from(alloc, order, source, &mut pulls)?;
+        fans.push(order_fan(alloc, order, source)?)?;
     }
-    Ok(pulls)
+    Ok(fans)
 }
 
-/// Appends the pulls from one process.
-fn push_pulls_from(
-    alloc: Global,
-    order: &Order,
-    source: u32,
-    pulls: &mut List<Pull>,
-) -> Result<(), NoMemory>
+/// The pulls from one process to the others.
+fn order_fan(alloc: Global, order: &Order, source: u32) -> Result<Fan, NoMemory>
     requires { source < length order.now }
-    ensures { OnOk result (pulls.new ≡ pulls.old
-        ++ flat_map (order_pull order.now source) (range_with_len 0 (length order.now))) }
-{
-    let mut tables = order_tables(alloc, order, source)?;
-    for target in 0..order.shape().procs() {
-        let table = tables.replace(target as usize, List::new(alloc));
-        push_pull(source, target, table, pulls)?;
-    }
-    Ok(())
-}
-
-/// Appends the pull between two processes, where they are not the same.
-fn push_pull(
-    source: u32,
-    target: u32,
-    table: List<u32>,
-    pulls: &mut List<Pull>,
-) -> Result<(), NoMemory>
-    ensures { OnOk result (pulls.new ≡ pulls.old ++ (if source == target then []
-        else record { src = source; dst = target; table = table } ∷ [])) }
-{
-    if source == target {
-        return Ok(());
-    }
-    pulls.push(Pull {
-        src: source,
-        dst: target,
-        table,
-    })
-}
-
-/// The tables of the pulls from one process to each process, itself too.
-fn order_tables(alloc: Global, order: &Order, source: u32) -> Result<List<List<u32>>, NoMemory>
-    requires { source < length order.now }
-    ensures { IfOk result (λ tables. let entries = count (lengths order.now) source + 2 in
-        AreTables (order_entry order.now source) (length order.now) entries tables) }
+    ensures { IfOk result (λ fan. pulls_of_fan fan
+        ≡ flat_map (order_pull order.now source) (range_with_len 0 (length order.now))) }
 {
     let shape = order.shape();
+    let procs = shape.procs();
     let len = shape.len_of(source);
     let zeros = [0; 32];
-    let none = &zeros[..shape.procs() as usize];
-    let mut tables = empty_tables(alloc, shape.procs(), len as usize + 2)?;
+    let none = &zeros[..procs as usize];
+    let mut room = [0; 32];
+    let room = &mut room[..procs as usize - 1];
+    let targets = other_processes(alloc, procs, source)?;
+    let mut fan = Fan::new(alloc, source, targets, len as usize + 2)?;
     for position in 0..len + 2 {
-        push_entries(&mut tables, past(order, source, position.min(len), none))?;
+        leave_out(past(order, source, position.min(len), none), source, room);
+        fan.push_row(room)?;
     }
-    Ok(List::from_vec(tables))
+    Ok(fan)
+}
+
+/// All processes but one.
+fn other_processes(alloc: Global, procs: u32, process: u32) -> Result<List<u32>, NoMemory>
+    requires { process < procs }
+    ensures { IfOk result (λ others. others ≡ map (other process) (range_with_len 0 (procs - 1))) }
+{
+    let mut others = List::with_capacity(alloc, procs as usize - 1)?;
+    for index in 0..procs - 1 {
+        others.push(other(process, index))?;
+    }
+    Ok(others)
+}
+
+/// Makes `into` the counts of the other processes.
+fn leave_out(counts: &[u32], process: u32, into: &mut [u32])
+    requires process { process < length counts.now }
+    requires width { length into.old + 1 ≡ length counts.now }
+    requires few { length counts.now ≤ 32 }
+    ensures width { length into.new ≡ length into.old }
+    ensures counts { (index : ℕ) → index < length into.new
+        → slice_index into.new index ≡ count counts.now (other process index) }
+{
+    for index in 0..into.len() {
+        into[index] = counts[other(process, index as u32) as usize];
+    }
+}
+
+/// The process at this index among all but one.
+fn other(process: u32, index: u32) -> u32
+    requires { index + 1 < 2 ^ 32 }
+    ensures { result ≡ other process index }
+{
+    if index < process {
+        index
+    } else {
+        index + 1
+    }
 }
 
 /// How many events of each process the pasts of the source's first events have, which is `none`

@@ -1,19 +1,18 @@
 //! The pulls of a slice.
-ghost use Rattle.std.specs.Prelude.{◌≡◌, ℕ, ◌+◌, ◌*◌, ◌<◌, ◌↔◌, ◌++◌, length, flat_map, All, IfOk};
-ghost use Rattle.std.specs.Prelude.{OnOk};
+ghost use Rattle.std.specs.Prelude.{◌≡◌, ℕ, ◌*◌, ◌<◌, ◌↔◌, length, flat_map, All, IfOk};
 ghost use Rattle.std.specs.List.{range_with_len};
-ghost use Rattle.run_model.specs.Cut.{Cut, Clocks, count};
+ghost use Rattle.run_model.specs.Cut.{Cut, Clocks};
 ghost use Rattle.run_model.specs.Slice.{Cuts};
 ghost use Rattle.pull_system.specs.System.{IsPull};
 ghost use Rattle.pull_system.specs.Pulls.{ClosedUnder};
+ghost use Rattle.pull_system.specs.Fans.{pulls_of_fan, pulls_of_fans};
 ghost use Rattle.slice_graph.specs.Views.{IsCut, slice_of};
 ghost use Rattle.slice_graph.specs.Fitting.{FitsOrder};
-ghost use Rattle.slice_graph.specs.PullLists.{slice_entry, slice_pull, pulls_of_slice, AreTables};
+ghost use Rattle.slice_graph.specs.PullLists.{slice_pull, pulls_of_slice};
 
-use crate::columns::{empty_tables, push_entries};
 use crate::slice::Slice;
 use pota_base::{List, NoMemory};
-use pull_system::Pull;
+use pull_system::{Fan, Pull, pulls_of};
 use std::alloc::Global;
 
 impl Slice {
@@ -29,49 +28,53 @@ impl Slice {
         ensures closed { (o : Clocks) → FitsOrder o self.now → (c : Cut) → IsCut self.now.lens c
             → IfOk result (λ pulls. ClosedUnder pulls c ↔ Cuts o (slice_of self.now) c) }
     {
-        let mut pulls = List::new(alloc);
+        let fans = self.fans(alloc)?;
+        pulls_of(alloc, fans.as_slice())
+    }
+
+    /// The pulls of the slice side by side: for each source a fan to all processes, itself too.
+    pub fn fans(&self, alloc: Global) -> Result<List<Fan>, NoMemory>
+        ensures list { IfOk result (λ fans. pulls_of_fans fans ≡ pulls_of_slice self.now) }
+        ensures count { IfOk result (λ fans. length (pulls_of_fans fans)
+            ≡ length self.now.lens * length self.now.lens) }
+        ensures pulls { (o : Clocks) → FitsOrder o self.now
+            → IfOk result (λ fans. All (IsPull self.now.lens) (pulls_of_fans fans)) }
+        ensures closed { (o : Clocks) → FitsOrder o self.now → (c : Cut) → IsCut self.now.lens c
+            → IfOk result (λ fans. ClosedUnder (pulls_of_fans fans) c
+            ↔ Cuts o (slice_of self.now) c) }
+    {
+        let mut fans = List::new(alloc);
         for source in 0..self.shape().procs() {
-            push_pulls_from(alloc, self, source, &mut pulls)?;
+            fans.push(slice_fan(alloc, self, source)?)?;
         }
-        Ok(pulls)
+        Ok(fans)
     }
 }
 
-/// Appends the pulls from one process.
-fn push_pulls_from(
-    alloc: Global,
-    slice: &Slice,
-    source: u32,
-    pulls: &mut List<Pull>,
-) -> Result<(), NoMemory>
+/// The pulls from one process.
+fn slice_fan(alloc: Global, slice: &Slice, source: u32) -> Result<Fan, NoMemory>
     requires { source < length slice.now.lens }
-    ensures { OnOk result (pulls.new ≡ pulls.old
-        ++ flat_map (slice_pull slice.now source) (range_with_len 0 (length slice.now.lens))) }
-{
-    let mut tables = slice_tables(alloc, slice, source)?;
-    for target in 0..slice.shape().procs() {
-        let table = tables.replace(target as usize, List::new(alloc));
-        pulls.push(Pull {
-            src: source,
-            dst: target,
-            table,
-        })?;
-    }
-    Ok(())
-}
-
-/// The tables of the pulls from one process to each process.
-fn slice_tables(alloc: Global, slice: &Slice, source: u32) -> Result<List<List<u32>>, NoMemory>
-    requires { source < length slice.now.lens }
-    ensures { IfOk result (λ tables. let entries = count slice.now.lens source + 2 in
-        AreTables (slice_entry slice.now source) (length slice.now.lens) entries tables) }
+    ensures { IfOk result (λ fan. pulls_of_fan fan
+        ≡ flat_map (slice_pull slice.now source) (range_with_len 0 (length slice.now.lens))) }
 {
     let shape = slice.shape();
     let len = shape.len_of(source);
-    let mut tables = empty_tables(alloc, shape.procs(), len as usize + 2)?;
+    let targets = all_processes(alloc, shape.procs())?;
+    let mut fan = Fan::new(alloc, source, targets, len as usize + 2)?;
     for position in 0..len + 1 {
-        push_entries(&mut tables, slice.words(source, position))?;
+        fan.push_row(slice.words(source, position))?;
     }
-    push_entries(&mut tables, slice.absent())?;
-    Ok(List::from_vec(tables))
+    fan.push_row(slice.absent())?;
+    Ok(fan)
+}
+
+/// The numbers of all processes.
+fn all_processes(alloc: Global, procs: u32) -> Result<List<u32>, NoMemory>
+    ensures { IfOk result (λ all. all ≡ range_with_len 0 procs) }
+{
+    let mut all = List::with_capacity(alloc, procs as usize)?;
+    for process in 0..procs {
+        all.push(process)?;
+    }
+    Ok(all)
 }

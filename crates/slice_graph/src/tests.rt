@@ -4,6 +4,7 @@ use super::*;
 use causal_order::Order;
 use event_log::{Event, Kind};
 use pota_base::{List, NoMemory, Shape};
+use pull_system::{Pull, pulls_of};
 use std::alloc::Global;
 use std::test::Fail;
 
@@ -67,5 +68,35 @@ fn a_table_begins_from_the_clocks(rt: HostRuntime) -> Result<(), Fail> {
     let order = three_events(rt.alloc())?;
     let rows = order_rows(rt.alloc(), &order)?;
     assert_eq!(rt; rows.as_words(), [0, 0, 1, 0, 2, 0, 1, 1].as_slice());
+    Ok(())
+}
+
+fn table_at(pulls: &[Pull], index: usize) -> &[u32] {
+    match pulls.get(index) {
+        Some(pull) => pull.table.as_slice(),
+        None => &[],
+    }
+}
+
+#[test]
+fn each_process_of_a_slice_pulls_each(rt: HostRuntime) -> Result<(), Fail> {
+    let pulls = three_cuts(rt.alloc())?.pulls(rt.alloc())?;
+    assert_eq!(rt; pulls.len(), 4);
+    assert_eq!(rt; table_at(pulls.as_slice(), 0), [0, 1, 3, 3].as_slice());
+    assert_eq!(rt; table_at(pulls.as_slice(), 1), [0, 0, 2, 2].as_slice());
+    assert_eq!(rt; table_at(pulls.as_slice(), 2), [0, 1, 3].as_slice());
+    assert_eq!(rt; table_at(pulls.as_slice(), 3), [0, 1, 2].as_slice());
+    Ok(())
+}
+
+#[test]
+fn each_process_of_an_order_pulls_the_others(rt: HostRuntime) -> Result<(), Fail> {
+    let order = three_events(rt.alloc())?;
+    let fans = order_fans(rt.alloc(), &order)?;
+    assert_eq!(rt; fans.len(), 2);
+    let pulls = pulls_of(rt.alloc(), fans.as_slice())?;
+    assert_eq!(rt; pulls.len(), 2);
+    assert_eq!(rt; table_at(pulls.as_slice(), 0), [0, 0, 0, 0].as_slice());
+    assert_eq!(rt; table_at(pulls.as_slice(), 1), [0, 1, 1].as_slice());
     Ok(())
 }

@@ -1,0 +1,8 @@
+use Rattle.std.proofs.Common.{◌≡◌, length, flat_map}
+use Rattle.std.specs.List.{range_with_len}
+use Rattle.pull_system.specs.Fans.{pulls_of_fans}
+use Rattle.slice_graph.specs.PullLists.{slice_pull}
+use Rattle.slice_graph.proofs.slice.Slice.fans.Given as goal
+
+abbrev pub invariant-loop-source : goal.invariant-loop-source
+invariant-loop-source l = pulls_of_fans l.fans ≡ flat_map (λ i. flat_map (slice_pull l.self i) (range_with_len 0 (length l.self.lens))) (range_with_len 0 l.source)

@@ -1,7 +1,0 @@
-use Rattle.std.proofs.Common.{◌≡◌, length, flat_map}
-use Rattle.std.specs.List.{range_with_len}
-use Rattle.slice_graph.specs.PullLists.{slice_pull}
-use Rattle.slice_graph.proofs.slice.Slice.pulls.Given as goal
-
-abbrev pub invariant-loop-source : goal.invariant-loop-source
-invariant-loop-source l = l.pulls ≡ flat_map (λ i. flat_map (slice_pull l.self i) (range_with_len 0 (length l.self.lens))) (range_with_len 0 l.source)
