@@ -93,7 +93,8 @@ fn settle_next<L: Ledger>(
 ///
 /// Where the row's floor names an event that the closed vector has, that event's least row is
 /// within it already. So only an event past it can bring anything: where the floor was kept from an
-/// earlier batch, or another seat raised the row.
+/// earlier batch, or another seat raised the row. A row that was kept and has all of the closed
+/// vector is mostly closed itself, so it is lent nothing.
 fn look_lent(
     table: &BoundTable,
     seat: &mut Seat,
@@ -113,23 +114,25 @@ fn look_lent(
     ensures looked { looked.new ≡ row_at table.now.system.lens seat.new.floor row }
 {
     table.look_narrow(seat, row, looked);
-    if !brings_more(looked, closed, own) {
+    if !may_gain(looked, closed, own) {
         return;
     }
     lend_others(table, seat, own, row, closed, looked);
     table.look_narrow(seat, row, looked);
 }
 
-/// Whether the count of another process is above that of the closed vector.
-fn brings_more(counts: &[u16], closed: &[u16], own: u32) -> bool
+/// Whether the row lacks something of the closed vector, and has a count of another process above
+/// it.
+fn may_gain(counts: &[u16], closed: &[u16], own: u32) -> bool
     requires size { length counts.now ≡ length closed.now }
     requires own { own < length counts.now }
 {
-    let mut past: u16 = 0;
+    let (mut lacks, mut past): (u16, u16) = (0, 0);
     for i in 0..counts.len() {
+        lacks = lacks.max(closed[i].saturating_sub(counts[i]));
         past = past.wrapping_add(is_past(counts[i], closed[i]));
     }
-    past > is_past(counts[own as usize], closed[own as usize])
+    lacks > 0 && past > is_past(counts[own as usize], closed[own as usize])
 }
 
 /// 1 where the count is above that of the closed vector, and 0 where it is not.
