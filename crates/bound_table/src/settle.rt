@@ -231,6 +231,8 @@ impl BoundTable {
 
     /// Looks up the pulls from each process that has risen, and gives the number of these
     /// processes.
+    // Inside the loop of `close_row` the pass of `excess` would be compiled word by word.
+    #[inline(never)]
     fn ask_risen<L: Ledger>(
         &self,
         seat: &mut Seat,
