@@ -16,8 +16,8 @@ pub(crate) fn all_asks(
     fans: &List<Fan>,
 ) -> Result<List<List<u16>>, NoMemory>
     requires { IsSystem record { lens = shape.now; pulls = pulls_of_fans fans.now } }
-    ensures { let system : SystemView = record { lens = shape.now; pulls = pulls_of_fans fans.now } in
-        IfOk result (AreAllAsks system) }
+    ensures { let system : SystemView = record { lens = shape.now; pulls = pulls_of_fans fans.now }
+        in IfOk result (AreAllAsks system) }
 {
     let mut asks = List::new(alloc);
     for process in 0..shape.procs() {
@@ -36,8 +36,8 @@ fn ask_rows(
 ) -> Result<List<u16>, NoMemory>
     requires system { IsSystem record { lens = shape.now; pulls = pulls_of_fans fans.now } }
     requires process { process < length shape.now }
-    ensures { let system : SystemView = record { lens = shape.now; pulls = pulls_of_fans fans.now } in
-        IfOk result (AreAskRows system process (slice_index shape.now process + 2)) }
+    ensures { let system : SystemView = record { lens = shape.now; pulls = pulls_of_fans fans.now }
+        in IfOk result (AreAskRows system process (slice_index shape.now process + 2)) }
 {
     let values = shape.len_of(process) as usize + 2;
     let procs = shape.procs() as usize;

@@ -48,8 +48,8 @@ pub(crate) fn sort_by_source(
 ) -> Result<List<List<u32>>, NoMemory>
     requires places { ArePlaces fans.now places.now (pulls_of_fans fans.now) }
     requires count { length (pulls_of_fans fans.now) < 2 ^ 32 }
-    ensures { let system : SystemView = record { lens = shape.now; pulls = pulls_of_fans fans.now } in
-        IfOk result (AreBySource system) }
+    ensures { let system : SystemView = record { lens = shape.now; pulls = pulls_of_fans fans.now }
+        in IfOk result (AreBySource system) }
 {
     let mut by_source = List::new(alloc);
     for process in 0..shape.procs() {

@@ -12,7 +12,8 @@ use std::alloc::Global;
 use std::marker::Model;
 use std::sync::ledger::Ledger;
 
-/// A shape and the pulls between its processes, held as fans. Contracts see the lengths and the list of pulls.
+/// A shape and the pulls between its processes, held as fans. Contracts see the lengths and the
+/// list of pulls.
 #[derive(Debug, Drop)]
 pub struct System {
     shape: Shape,
@@ -41,7 +42,8 @@ impl Model for System {
         × ArePlaces system.fans system.places (pulls_of_fans system.fans)
         × AreBySource record { lens = system.shape; pulls = pulls_of_fans system.fans }
         system.by_source
-        × AreAllAsks record { lens = system.shape; pulls = pulls_of_fans system.fans } system.asks };
+        × AreAllAsks record { lens = system.shape; pulls = pulls_of_fans system.fans }
+        system.asks };
 }
 
 impl System {

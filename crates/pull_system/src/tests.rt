@@ -70,38 +70,119 @@ fn pulls_know_their_ends(rt: HostRuntime) -> Result<(), Fail> {
     Ok(())
 }
 
-/// What the pulls from a process ask of both processes at the value.
+/// What the pulls from a process ask of the target at the value.
 fn asked_at<L: Ledger>(
     rt: &impl Abort,
     blank: Blank,
     system: &System,
     process: u32,
     x: u64,
-) -> [u16; 2]
+    target: u32,
+) -> u16
     requires name { blank.name ≡ L.name }
     requires parts { blank.parts ≡ L.parts }
     requires some { 0 < blank.parts }
 {
     assert!(rt; process < system.shape().procs());
     assert!(rt; x <= system.shape().len_of(process) as u64 + 1);
-    assert!(rt; system.shape().procs() == 2);
+    assert!(rt; target < system.shape().procs());
     let mut steps = Steps::<L>::new(blank);
-    let asks = system.asks(process, x, &mut steps);
-    [asks[0], asks[1]]
+    system.asks(process, x, &mut steps)[target as usize]
 }
 
 #[test]
 fn asks_are_the_most_of_each_source(rt: HostRuntime) -> Result<(), Fail> {
     let system = empty_channel(&rt, rt.alloc())?;
-    for (process, x, asks) in [
-        (0, 0, [0, 0]),
-        (0, 1, [0, 1]),
-        (0, 3, [0, 2]),
-        (1, 2, [1, 0]),
+    for (process, x, target, asked) in [
+        (0, 0, 1, 0),
+        (0, 1, 1, 1),
+        (0, 3, 1, 2),
+        (0, 3, 0, 0),
+        (1, 2, 0, 1),
     ] {
         assert_eq!(rt;
-            asked_at::<Brand>(&rt, Blank::new(1), &system, process, x),
-            asks
+            asked_at::<Brand>(&rt, Blank::new(1), &system, process, x, target),
+            asked
+        );
+    }
+    Ok(())
+}
+
+/// The pulls from a process to these targets, with a row for each value of its component.
+fn fan(
+    rt: &impl Abort,
+    alloc: Global,
+    src: u32,
+    targets: &[u32],
+    rows: &[&[u32]],
+) -> Result<Fan, NoMemory> {
+    let targets = List::from_vec(Vec::from_slice(alloc, targets)?);
+    let mut fan = Fan::new(alloc, src, targets, rows.len())?;
+    for row in rows {
+        assert!(rt; row.len() == fan.targets().len());
+        assert!(rt; row.iter().all(|&entry| entry < 1 << 16));
+        fan.push_row(row)?;
+    }
+    Ok(fan)
+}
+
+/// Three processes with three, two and one events. From process 0 there is a fan to both others and
+/// one to process 1 alone.
+fn three_fans(rt: &impl Abort, alloc: Global) -> Result<System, NoMemory> {
+    let shape = Shape::new(alloc, &[3, 2, 1])?;
+    let mut fans = List::new(alloc);
+    let rows: [&[u32]; 5] = [&[0, 0], &[1, 0], &[1, 1], &[2, 1], &[3, 2]];
+    fans.push(fan(rt, alloc, 0, &[1, 2], &rows)?)?;
+    let rows: [&[u32]; 4] = [&[0], &[2], &[3], &[4]];
+    fans.push(fan(rt, alloc, 1, &[0], &rows)?)?;
+    let rows: [&[u32]; 5] = [&[0], &[0], &[2], &[2], &[3]];
+    fans.push(fan(rt, alloc, 0, &[1], &rows)?)?;
+    let pulls = pulls_of(alloc, fans.as_slice())?;
+    assert!(rt; all_fit(pulls.as_slice(), &shape));
+    assert!(rt; pulls.len() == 4);
+    System::of_fans(alloc, &shape, fans)
+}
+
+/// What pull `k` asks of its target where its source is `x`.
+fn pulled_at<L: Ledger>(rt: &impl Abort, blank: Blank, system: &System, k: u32, x: u64) -> u64
+    requires name { blank.name ≡ L.name }
+    requires parts { blank.parts ≡ L.parts }
+    requires some { 0 < blank.parts }
+{
+    assert!(rt; k < system.pulls());
+    let (source, _) = system.ends(k);
+    assert!(rt; x <= system.shape().len_of(source) as u64 + 1);
+    system.pull(k, x, &mut Steps::<L>::new(blank))
+}
+
+#[test]
+fn pulls_of_fans_are_numbered_by_fan_and_target(rt: HostRuntime) -> Result<(), Fail> {
+    let system = three_fans(&rt, rt.alloc())?;
+    assert!(rt; system.pulls() == 4);
+    assert_eq!(rt; system.ends(1), (0, 2));
+    assert_eq!(rt; system.ends(2), (1, 0));
+    for (k, x, asked) in [(0, 4, 3), (1, 3, 1), (2, 1, 2), (3, 2, 2), (3, 1, 0)] {
+        assert_eq!(rt;
+            pulled_at::<Brand>(&rt, Blank::new(1), &system, k, x),
+            asked
+        );
+    }
+    Ok(())
+}
+
+#[test]
+fn asks_are_the_most_of_each_fan(rt: HostRuntime) -> Result<(), Fail> {
+    let system = three_fans(&rt, rt.alloc())?;
+    for (process, x, target, asked) in [
+        (0, 2, 1, 2),
+        (0, 2, 2, 1),
+        (0, 4, 1, 3),
+        (1, 2, 0, 3),
+        (2, 1, 1, 0),
+    ] {
+        assert_eq!(rt;
+            asked_at::<Brand>(&rt, Blank::new(1), &system, process, x, target),
+            asked
         );
     }
     Ok(())
