@@ -29,10 +29,10 @@ pub fan_pulls : (fan : FanView) (src n count : ℕ) (target : ℕ → ℕ) (entr
 fan_pulls fan src n count target entry source targets tables =
     let size : length fan.targets ≡ n = ap length targets ∙ length-map-range_with_len target 0 n in
     ap (λ (m : ℕ). map (pull_of_fan fan) (range_with_len 0 m)) size ∙ map_same (pull_of_fan fan) _ 0 n (λ k lt.
-      let less : k < n = omega (arith, lt) in
-      ap (λ (s : ℕ). record { src = s; dst = get_or fan.targets k 0; table = get_or fan.tables k [] }) source
-      ∙ ap (λ (d : ℕ). record { src = src; dst = d; table = get_or fan.tables k [] }) (ap (λ (ts : List ℕ). get_or ts k 0) targets ∙ get_or-map-range_with_len target 0 n k k 0 less (omega arith))
-      ∙ ap (λ (t : List ℕ). record { src = src; dst = target k; table = t }) (tables.each k less))
+    let less : k < n = omega (arith, lt) in
+    ap (λ (s : ℕ). record { src = s; dst = get_or fan.targets k 0; table = get_or fan.tables k [] }) source
+    ∙ ap (λ (d : ℕ). record { src = src; dst = d; table = get_or fan.tables k [] }) (ap (λ (ts : List ℕ). get_or ts k 0) targets ∙ get_or-map-range_with_len target 0 n k k 0 less (omega arith))
+    ∙ ap (λ (t : List ℕ). record { src = src; dst = target k; table = t }) (tables.each k less))
 
 pub flat_ones : {X : Type 0} (f : ℕ → X) (a n : ℕ) → flat_map (λ j. f j ∷ []) (range_with_len a n) ≡ map f (range_with_len a n)
 flat_ones f a zero = refl

@@ -1,7 +1,6 @@
 -- Tables that are made row by row.
-use Rattle.std.proofs.Common.{◌≡◌, ℕ, zero, suc, ◌+◌, ◌<◌, ◌≤◌, ◌⊎◌, List, [], ◌∷◌, ◌++◌, length, get_or, set, take, map, replicate, refl, sym, ap, ◌∙◌, subst, arith, inl, inr, get_or-set_same}
-use Rattle.std.specs.List.{range_with_len}
-use Rattle.std.proofs.lemmas.List.{length-set, length-replicate}
+use Rattle.std.proofs.Common.{◌≡◌, ℕ, zero, suc, ◌+◌, ◌<◌, ◌≤◌, List, [], ◌∷◌, length, get_or, take, replicate, refl, ap, ◌∙◌, arith}
+use Rattle.std.proofs.lemmas.List.{length-replicate}
 use Rattle.run_model.specs.Cut.{count}
 use Rattle.pull_system.specs.Fans.{AreTables, HasRow}
 use Rattle.slice_graph.proofs.Pairs.{entry_more}

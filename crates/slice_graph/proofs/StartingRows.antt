@@ -5,7 +5,7 @@ use Rattle.std.proofs.lemmas.List.{get_or_append_left, get_or_push}
 use Rattle.std.proofs.lemmas.List.Elements.{All-head}
 use Rattle.pota_base.specs.Shape.{HasEvent, row_of}
 use Rattle.pota_base.specs.declared.shape.EventId.{EventId}
-use Rattle.run_model.specs.Cut.{Cut, Clocks, count, IsWithin as IsWithinCut, lengths}
+use Rattle.run_model.specs.Cut.{Cut, Clocks, count, lengths}
 use Rattle.run_model.specs.Consistent.{IsOrder, IsEvent, clock}
 use Rattle.run_model.specs.Sublattice.{Having}
 use Rattle.run_model.specs.Slice.{IsLeastOf, Cuts}
@@ -19,7 +19,7 @@ use Rattle.pull_system.specs.Rows.{start_of, row_at}
 use Rattle.slice_graph.specs.Views.{SliceView, AreRows, no_row, slice_of, last_row}
 use Rattle.slice_graph.specs.Words.{filled, row_words}
 use Rattle.slice_graph.specs.Fitting.{FitsOrder}
-use Rattle.slice_graph.specs.PullLists.{past_count, order_entry, order_table, order_pull, pulls_of_order, slice_entry, slice_table, slice_pull, pulls_of_slice}
+use Rattle.slice_graph.specs.PullLists.{order_entry, order_table, order_pull, pulls_of_order, slice_entry, slice_table, slice_pull, pulls_of_slice}
 use Rattle.slice_graph.specs.Starting.{AreWithinClosed}
 use Rattle.slice_graph.proofs.Words.{rows_pushed, count-past_ends, length-filled}
 use Rattle.slice_graph.proofs.Events.{event_of_row, row_there}

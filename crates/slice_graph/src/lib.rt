@@ -7,6 +7,8 @@
 //! and the least with an event (clauses `cuts`, `least`, `greatest`). The pulls of an order are
 //! closed exactly at its consistent cuts, and those of a slice exactly at its cuts (clauses
 //! `closed`). Bottom, top and edges denote the cuts (clauses `denoted` and `printed`).
+//! The rows of a slice and the clocks of an order lie within each vector that is closed under their
+//! pulls, from their starts on (clauses `begins`), so that a table of a system may begin from them.
 //! `systems_of_an_order`, `least_or_none` and `order_grows` are laws. Nothing is said of the time
 //! or the memory that a call takes.
 #![tactic(auto)]

@@ -99,11 +99,7 @@ fn other(process: u32, index: u32) -> u32
     requires { index + 1 < 2 ^ 32 }
     ensures { result ≡ other process index }
 {
-    if index < process {
-        index
-    } else {
-        index + 1
-    }
+    if index < process { index } else { index + 1 }
 }
 
 /// How many events of each process the pasts of the source's first events have, which is `none`

@@ -73,7 +73,8 @@ fn clock_of<'a>(order: &'a Order, row: u32, none: &'a [u32]) -> &'a [u32]
     requires width { length none.now ≡ length order.now }
     ensures width { length result.now ≡ length order.now }
     ensures bottom { row ≡ 0 → result.now ≡ none.now }
-    ensures event { (e : EventId) → HasEvent (lengths order.now) e → row_of (lengths order.now) e ≡ row
+    ensures event { (e : EventId) → HasEvent (lengths order.now) e
+        → row_of (lengths order.now) e ≡ row
         → result.now ≡ clock order.now e.process e.position }
 {
     match order.shape().event_of(row) {

@@ -1,4 +1,4 @@
-use Rattle.std.proofs.Common.{rules, ◌≡◌, ◌+◌, ◌*◌, ◌≤◌, ◌∙◌, ℕ, List, length, take, replicate, sum, get_or, refl, ap, sym, subst, arith}
+use Rattle.std.proofs.Common.{rules, ◌≡◌, ◌+◌, ◌∙◌, ℕ, length, replicate, sum, refl, ap, sym, subst, arith}
 use Rattle.std.proofs.lemmas.Result.{IfOk-weaker}
 use Rattle.pota_base.specs.Shape.{row_of}
 use Rattle.run_model.specs.Cut.{lengths}
@@ -8,7 +8,7 @@ use Rattle.slice_graph.specs.PullLists.{pulls_of_order}
 use Rattle.slice_graph.specs.Starting.{AreWithinClosed}
 use Rattle.slice_graph.proofs.Events.{row_there}
 use Rattle.slice_graph.proofs.RowByRow.{zeros_of, zero_counts}
-use Rattle.slice_graph.proofs.StartingRows.{AreBuilt, IsClockRow, words_none, words_more, words_size, words_row, order_begins}
+use Rattle.slice_graph.proofs.StartingRows.{IsClockRow, words_none, words_more, words_size, words_row, order_begins}
 use Rattle.slice_graph.proofs.starting.order_rows.Goals as goal
 
 pub loop-row-init : goal.loop-row-init

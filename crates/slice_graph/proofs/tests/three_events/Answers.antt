@@ -3,7 +3,7 @@ use Rattle.run_model.specs.Cut.{Cut, Clocks, lengths}
 use Rattle.run_model.specs.Consistent.{IsOrder, clock}
 use Rattle.run_model.proofs.ListedSlices.{ordered, ordered_is}
 use Rattle.event_log.specs.declared.log.Event.{Event}
-use Rattle.causal_order.specs.Growth.{HasClock, MayExtend, with_row, with_clocks}
+use Rattle.causal_order.specs.Growth.{MayExtend, with_row, with_clocks}
 use Rattle.slice_graph.proofs.tests.three_events.Goals as goal
 
 abbrev no_events : Clocks

@@ -1,9 +1,9 @@
-use Rattle.std.proofs.Common.{rules, ◌≡◌, ◌+◌, ◌*◌, ◌≤◌, ◌∙◌, ℕ, List, length, sum, get_or, ap, sym, subst, arith}
+use Rattle.std.proofs.Common.{rules, ◌≡◌, ◌+◌, ◌∙◌, length, sum, ap, sym, subst}
 use Rattle.std.proofs.lemmas.Result.{IfOk-weaker}
 use Rattle.pull_system.specs.Rows.{RowsView, row_at}
 use Rattle.slice_graph.specs.PullLists.{pulls_of_slice}
 use Rattle.slice_graph.specs.Starting.{AreWithinClosed}
-use Rattle.slice_graph.proofs.StartingRows.{AreBuilt, IsSliceRow, words_none, words_more, words_size, words_row, slice_begins}
+use Rattle.slice_graph.proofs.StartingRows.{IsSliceRow, words_none, words_more, words_size, words_row, slice_begins}
 use Rattle.slice_graph.proofs.slice.Slice.rows.Goals as goal
 
 pub loop-row-init : goal.loop-row-init
