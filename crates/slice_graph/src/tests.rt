@@ -1,11 +1,14 @@
-ghost use Rattle.std.specs.Prelude.{◌≡◌, IfOk};
+ghost use Rattle.std.specs.Prelude.{◌≡◌, ◌<◌, IfOk};
 
 use super::*;
 use causal_order::Order;
 use event_log::{Event, Kind};
-use pota_base::{List, NoMemory, Shape};
-use pull_system::{Pull, pulls_of};
+use pota_base::{List, NoMemory, Shape, Steps};
+use pull_system::{Pull, System, pulls_of};
 use std::alloc::Global;
+use std::marker::Brand;
+use std::process::Abort;
+use std::sync::ledger::{Blank, Ledger};
 use std::test::Fail;
 
 #[test]
@@ -98,5 +101,29 @@ fn each_process_of_an_order_pulls_the_others(rt: HostRuntime) -> Result<(), Fail
     assert_eq!(rt; pulls.len(), 2);
     assert_eq!(rt; table_at(pulls.as_slice(), 0), [0, 0, 0, 0].as_slice());
     assert_eq!(rt; table_at(pulls.as_slice(), 1), [0, 1, 1].as_slice());
+    Ok(())
+}
+
+fn system_of(alloc: Global, order: &Order) -> Result<System, NoMemory> {
+    let fans = order_fans(alloc, order)?;
+    System::of_fans(alloc, order.shape(), fans)
+}
+
+fn closed_at<L: Ledger>(rt: &impl Abort, blank: Blank, system: &System, vector: &[u64]) -> bool
+    requires name { blank.name ≡ L.name }
+    requires parts { blank.parts ≡ L.parts }
+    requires some { 0 < blank.parts }
+{
+    assert!(rt; system.fits(vector));
+    system.is_closed(vector, &mut Steps::<L>::new(blank))
+}
+
+#[test]
+fn the_cuts_of_an_order_are_closed_under_its_fans(rt: HostRuntime) -> Result<(), Fail> {
+    let system = system_of(rt.alloc(), &three_events(rt.alloc())?)?;
+    assert!(rt; closed_at::<Brand>(&rt, Blank::new(1), &system, &[0, 0]));
+    assert!(rt; closed_at::<Brand>(&rt, Blank::new(1), &system, &[2, 0]));
+    assert!(rt; !closed_at::<Brand>(&rt, Blank::new(1), &system, &[0, 1]));
+    assert!(rt; closed_at::<Brand>(&rt, Blank::new(1), &system, &[1, 1]));
     Ok(())
 }
