@@ -80,8 +80,8 @@ impl BoundTable {
     /// only the pulls are looked up whose source rises above it. No word is read again.
     ///
     /// The seat's floor for the row has the event of `before`, or `before` is the bottom's. In
-    /// ordinary use `looked` is what `look_narrow` gave for the row, and `into` what `settle_narrow`
-    /// or `settle_after` gave for the row `before`, the one before on its process.
+    /// ordinary use `looked` is what `look_narrow` gave for the row, and `into` what
+    /// `settle_narrow` or `settle_after` gave for the row `before`, the one before on its process.
     pub fn settle_after<L: Ledger>(
         &self,
         seat: &mut Seat,
