@@ -121,9 +121,16 @@ fn closed_at<L: Ledger>(rt: &impl Abort, blank: Blank, system: &System, vector: 
 #[test]
 fn the_cuts_of_an_order_are_closed_under_its_fans(rt: HostRuntime) -> Result<(), Fail> {
     let system = system_of(rt.alloc(), &three_events(rt.alloc())?)?;
-    assert!(rt; closed_at::<Brand>(&rt, Blank::new(1), &system, &[0, 0]));
-    assert!(rt; closed_at::<Brand>(&rt, Blank::new(1), &system, &[2, 0]));
-    assert!(rt; !closed_at::<Brand>(&rt, Blank::new(1), &system, &[0, 1]));
-    assert!(rt; closed_at::<Brand>(&rt, Blank::new(1), &system, &[1, 1]));
+    for (vector, closed) in [
+        ([0, 0], true),
+        ([2, 0], true),
+        ([0, 1], false),
+        ([1, 1], true),
+    ] {
+        assert_eq!(rt;
+            closed_at::<Brand>(&rt, Blank::new(1), &system, &vector),
+            closed
+        );
+    }
     Ok(())
 }
