@@ -16,8 +16,7 @@ use Rattle.slice_graph.specs.Views.{SliceView}
 use Rattle.slice_graph.specs.Fitting.{FitsOrder}
 use Rattle.slice_graph.specs.PullLists.{pulls_of_slice}
 use Rattle.slice_graph.specs.Starting.{AreWithinClosed}
-use Rattle.conjunctions.specs.declared.gathered.Gathered.{Gathered}
-use Rattle.conjunctions.specs.Beginning.{MayBeginFrom, FloorFits}
+use Rattle.conjunctions.specs.Beginning.{GatheredView, MayBeginFrom, FloorFits}
 
 -- ---- more pulls
 
@@ -30,7 +29,7 @@ within_more lens some all words fewer within = record {
 }
 
 -- rows stay where pulls are put behind the others
-pub floor_more : (lens : List ℕ) (old new : Gathered) (added : List Pull) → new.pulls ≡ old.pulls ++ added → new.floor ≡ old.floor → FloorFits lens old → FloorFits lens new
+pub floor_more : (lens : List ℕ) (old new : GatheredView) (added : List Pull) → new.pulls ≡ old.pulls ++ added → new.floor ≡ old.floor → FloorFits lens old → FloorFits lens new
 floor_more lens old new added pulls floor fits =
     subst (λ (f : Option RowsView). IfSome f (MayBeginFrom lens new.pulls)) (sym floor) (IfSome_then old.floor fits more)
   where

@@ -11,10 +11,9 @@ use Rattle.rctl_parts.specs.Pieces.{Piece, piece_of, pieces_of}
 use Rattle.rctl_parts.specs.MadeFor.{Scope, PieceFits, EachFits, part_count, parts_count}
 use Rattle.conjunctions.specs.declared.observed.Observed.{Observed}
 use Rattle.conjunctions.specs.declared.answer.PartAnswer.{PartAnswer}
-use Rattle.conjunctions.specs.declared.gathered.Gathered.{Gathered}
 use Rattle.conjunctions.specs.Observing.{lens_seen}
 use Rattle.conjunctions.specs.Numbering.{within, conjunctions_in}
-use Rattle.conjunctions.specs.Beginning.{MayBeginFrom, FloorFits}
+use Rattle.conjunctions.specs.Beginning.{GatheredView, MayBeginFrom, FloorFits}
 use Rattle.conjunctions.specs.Rounds.{RoundView}
 use Rattle.conjunctions.specs.Systems.{AddsPulls}
 use Rattle.conjunctions.specs.Settling.{AreFloors, Settles}
@@ -23,13 +22,13 @@ use Rattle.conjunctions.proofs.InTurn.{settles_none, settles_on, floors_left, fl
 use Rattle.conjunctions.proofs.Adding.{adds_none, adds_more, answers_none, answers_more, places_joined}
 
 -- what stands once these parts were added: their pulls behind the first ones, rows to begin from, the rows within them, and their answers
-pub record PartsAdded (seen : Observed) (workers disjunct : ℕ) (round now : RoundView) (steps steps_now : ℕ) (answers answers_now : List PartAnswer) (begun : List Pull) (gathered : Gathered) (ps : List Piece) : Type 0 where
+pub record PartsAdded (seen : Observed) (workers disjunct : ℕ) (round now : RoundView) (steps steps_now : ℕ) (answers answers_now : List PartAnswer) (begun : List Pull) (gathered : GatheredView) (ps : List Piece) : Type 0 where
   pub adds : AddsPulls seen begun gathered.pulls ps
   pub floor : FloorFits (lens_seen seen) gathered
   pub settles : Settles seen workers round now steps steps_now (flat_map within ps)
   pub told : AddsAnswers seen answers answers_now (places_from disjunct 1 ps)
 
-pub added_none : (seen : Observed) (workers disjunct : ℕ) (round : RoundView) (steps : ℕ) (answers : List PartAnswer) (begun : List Pull) (gathered : Gathered) → gathered.pulls ≡ begun → gathered.floor ≡ None
+pub added_none : (seen : Observed) (workers disjunct : ℕ) (round : RoundView) (steps : ℕ) (answers : List PartAnswer) (begun : List Pull) (gathered : GatheredView) → gathered.pulls ≡ begun → gathered.floor ≡ None
     → PartsAdded seen workers disjunct round round steps steps answers answers begun gathered []
 added_none seen workers disjunct round steps answers begun gathered is none = record {
   adds = subst (λ (list : List Pull). AddsPulls seen begun list []) (sym is) (adds_none seen begun);
@@ -38,7 +37,7 @@ added_none seen workers disjunct round steps answers begun gathered is none = re
   told = answers_none seen answers;
 }
 
-pub added_more : (seen : Observed) (workers disjunct : ℕ) (round now next : RoundView) (s t u : ℕ) (a b c : List PartAnswer) (begun : List Pull) (gathered more : Gathered) (ps : List Piece) (p : Piece) (answer : PartAnswer)
+pub added_more : (seen : Observed) (workers disjunct : ℕ) (round now next : RoundView) (s t u : ℕ) (a b c : List PartAnswer) (begun : List Pull) (gathered more : GatheredView) (ps : List Piece) (p : Piece) (answer : PartAnswer)
     → PartsAdded seen workers disjunct round now s t a b begun gathered ps → AddsPulls seen gathered.pulls more.pulls (p ∷ []) → FloorFits (lens_seen seen) more → Settles seen workers now next t u (within p)
     → IsPartAnswer seen (place disjunct (length ps + 1) p) answer → c ≡ b ++ answer ∷ [] → PartsAdded seen workers disjunct round next s u a c begun more (ps ++ p ∷ [])
 added_more seen workers disjunct round now next s t u a b c begun gathered more ps p answer added adds floor settles is c_is = record {

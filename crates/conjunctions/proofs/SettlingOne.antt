@@ -11,9 +11,8 @@ use Rattle.raise_machine.specs.Bounds.{AreBounds}
 use Rattle.raise_machine.proofs.Raising.{starts_bounds}
 use Rattle.slice_graph.specs.PullLists.{pulls_of_order}
 use Rattle.slice_graph.specs.Starting.{AreWithinClosed}
-use Rattle.conjunctions.specs.declared.gathered.Gathered.{Gathered}
 use Rattle.conjunctions.specs.Counting.{floor_words, steps_for}
-use Rattle.conjunctions.specs.Beginning.{MayBeginFrom, FloorFits, BeginsWithOrder, BeginsAtoms, BeginsOthers}
+use Rattle.conjunctions.specs.Beginning.{GatheredView, MayBeginFrom, FloorFits, BeginsWithOrder, BeginsAtoms, BeginsOthers}
 use Rattle.conjunctions.specs.Settling.{CanBegin}
 use Rattle.conjunctions.proofs.Beginning.{within_more, within_bounds}
 
@@ -34,7 +33,7 @@ others_bounds lens pulls (Some rows) words fits begins =
     subst (AreBounds (record { lens = lens; pulls = pulls })) (sym begins) (within_bounds (record { lens = lens; pulls = pulls }) rows.words fits.within)
 
 -- the rows from which a conjunction begins lie within the bounds
-pub floor_bounds : (o : Clocks) (gathered : Gathered) (keeps : Bool) (before : Option RowsView) (words : List ℕ) → CanBegin (record { lens = lengths o; pulls = gathered.pulls }) keeps before
+pub floor_bounds : (o : Clocks) (gathered : GatheredView) (keeps : Bool) (before : Option RowsView) (words : List ℕ) → CanBegin (record { lens = lengths o; pulls = gathered.pulls }) keeps before
     → (keeps ≡ true → BeginsWithOrder o gathered.pulls) → FloorFits (lengths o) gathered → (keeps ≡ true → BeginsAtoms o before words)
     → (keeps ≡ false → BeginsOthers (lengths o) gathered.floor words) → AreBounds (record { lens = lengths o; pulls = gathered.pulls }) words
 floor_bounds o gathered true before words can first fits atoms others = atoms_bounds o gathered.pulls before words can (first refl) (atoms refl)

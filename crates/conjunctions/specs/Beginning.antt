@@ -6,7 +6,11 @@ use Rattle.pull_system.specs.Rows.{RowsView, starts}
 use Rattle.pull_system.specs.Growth.{grown_words}
 use Rattle.slice_graph.specs.PullLists.{pulls_of_order}
 use Rattle.slice_graph.specs.Starting.{AreWithinClosed}
-use Rattle.conjunctions.specs.declared.gathered.Gathered.{Gathered}
+
+-- what the parts so far ask of cuts, and where there are some, rows to begin from
+pub record GatheredView : Type 0 where
+  pub pulls : List Pull
+  pub floor : Option RowsView
 
 -- rows of these lengths, from which a table of the pulls may begin
 pub record MayBeginFrom (lens : List ℕ) (pulls : List Pull) (rows : RowsView) : Type 0 where
@@ -14,7 +18,7 @@ pub record MayBeginFrom (lens : List ℕ) (pulls : List Pull) (rows : RowsView) 
   pub within : AreWithinClosed lens pulls rows.words
 
 -- where rows are kept, a table of the pulls may begin from them
-abbrev pub FloorFits : List ℕ → Gathered → Type 0
+abbrev pub FloorFits : List ℕ → GatheredView → Type 0
 FloorFits lens gathered = IfSome gathered.floor (MayBeginFrom lens gathered.pulls)
 
 -- the first pulls are those of the order

@@ -106,6 +106,6 @@ pub fn add_atom(
     ensures truth { IfOk result (HoldsAtFirst seen.now (piece_of part.now)) }
 {
     let found = atom_pulls(alloc, seen, part)?;
-    gathered.add_pulls(found.pulls)?;
+    gathered.add_pulls(alloc, seen.trace.order().shape(), found.pulls.as_slice())?;
     Ok(found.truth)
 }

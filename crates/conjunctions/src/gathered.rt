@@ -1,6 +1,8 @@
 //! What the parts of a conjunction ask of its cuts.
-ghost use Rattle.std.specs.Prelude.{◌≡◌, ◌++◌, None, IfOk, OnOk};
+ghost use Rattle.std.specs.Prelude.{◌≡◌, ◌++◌, None, All, IfOk, OnOk};
 ghost use Rattle.run_model.specs.Cut.{Clocks, lengths};
+ghost use Rattle.pull_system.specs.System.{IsPull};
+ghost use Rattle.pull_system.specs.Fans.{pulls_of_fans};
 ghost use Rattle.slice_graph.specs.Views.{AreRows};
 ghost use Rattle.slice_graph.specs.Fitting.{FitsOrder};
 ghost use Rattle.slice_graph.specs.PullLists.{pulls_of_slice};
@@ -8,17 +10,31 @@ ghost use Rattle.conjunctions.specs.Systems.{first_pulls};
 ghost use Rattle.conjunctions.specs.Beginning.{FloorFits};
 
 use causal_order::Order;
-use pota_base::{List, NoMemory};
-use pull_system::{Pull, Rows};
-use slice_graph::{Slice, order_pulls};
+use pota_base::{List, NoMemory, Shape};
+use pull_system::{Fan, Pull, Rows};
+use slice_graph::{Slice, order_fans};
 use std::alloc::Global;
+use std::marker::Model;
 
-/// What the parts so far ask of cuts.
+/// What the parts so far ask of cuts. Contracts see the pulls of the fans, one after the other, and
+/// the floor.
 #[derive(Debug, Drop)]
 pub struct Gathered {
-    pub pulls: List<Pull>,
+    fans: List<Fan>,
     /// The rows of the first temporal part's slice, from which the conjunction may begin.
-    pub floor: Option<Rows>,
+    floor: Option<Rows>,
+}
+
+impl Model for Gathered {
+    ghost use Rattle.pull_system.specs.Fans.{pulls_of_fans};
+    ghost use Rattle.conjunctions.specs.Beginning.{GatheredView};
+
+    ghost Value = { GatheredView };
+
+    ghost view = { λ gathered. record {
+      pulls = pulls_of_fans gathered.fans;
+      floor = gathered.floor;
+    } };
 }
 
 impl Gathered {
@@ -28,21 +44,28 @@ impl Gathered {
         ensures pulls { IfOk result (λ gathered. gathered.pulls ≡ first_pulls order.now atoms) }
         ensures floor { IfOk result (λ gathered. gathered.floor ≡ None) }
     {
-        let pulls = if atoms {
-            order_pulls(alloc, order)?
+        let fans = if atoms {
+            order_fans(alloc, order)?
         } else {
             List::new(alloc)
         };
-        Ok(Gathered { pulls, floor: None })
+        Ok(Gathered { fans, floor: None })
     }
 
     /// Puts pulls behind the others.
-    pub fn add_pulls(&mut self, added: List<Pull>) -> Result<(), NoMemory>
-        ensures pulls { OnOk result (self.new.pulls ≡ self.old.pulls ++ added) }
+    pub fn add_pulls(
+        &mut self,
+        alloc: Global,
+        shape: &Shape,
+        added: &[Pull],
+    ) -> Result<(), NoMemory>
+        requires { All (IsPull shape.now) added.now }
+        ensures pulls { OnOk result (self.new.pulls ≡ self.old.pulls ++ added.now) }
         ensures floor { self.new.floor ≡ self.old.floor }
     {
-        for pull in added.into_vec() {
-            self.pulls.push(pull)?;
+        let _procs = shape.procs();
+        for pull in added {
+            self.fans.push(Fan::of_pull(alloc, pull)?)?;
         }
         Ok(())
     }
@@ -56,10 +79,30 @@ impl Gathered {
         ensures rows { AreRows slice.now }
     {
         let _shape = slice.shape();
-        self.add_pulls(slice.pulls(alloc)?)?;
+        self.add_fans(slice.fans(alloc)?)?;
         if self.floor.is_none() {
             self.floor = Some(slice.rows(alloc)?);
         }
         Ok(())
+    }
+
+    /// Puts fans behind the others.
+    fn add_fans(&mut self, added: List<Fan>) -> Result<(), NoMemory>
+        ensures pulls { OnOk result (self.new.pulls ≡ self.old.pulls ++ pulls_of_fans added) }
+        ensures floor { self.new.floor ≡ self.old.floor }
+    {
+        for fan in added.into_vec() {
+            self.fans.push(fan)?;
+        }
+        Ok(())
+    }
+
+    /// The fans, and the floor.
+    pub fn into_fans(self) -> (List<Fan>, Option<Rows>)
+        ensures pulls { pulls_of_fans result.0 ≡ self.pulls }
+        ensures floor { result.1 ≡ self.floor }
+    {
+        let Gathered { fans, floor } = self;
+        (fans, floor)
     }
 }

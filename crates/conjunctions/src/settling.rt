@@ -118,11 +118,11 @@ pub fn settle_gathered<R: Threads + Sync, G: Gate, L: Ledger>(
     requires floor { FloorFits (lengths order.now) gathered }
     requires some { 1 ≤ workers }
     requires few { workers ≤ 16 }
-    ensures { IfOk result
-        (SettlesOne order.now gathered.pulls keeps workers round.old round.new steps.old steps.new) }
+    ensures { IfOk result (SettlesOne order.now gathered.pulls keeps workers round.old round.new
+        steps.old steps.new) }
 {
-    let Gathered { pulls, floor } = gathered;
-    let system = System::new(alloc, order.shape(), pulls)?;
+    let (fans, floor) = gathered.into_fans();
+    let system = System::of_fans(alloc, order.shape(), fans)?;
     let floor = floor_of(alloc, order, keeps, round.next(), floor)?;
     let (table, mut seat) = BoundTable::new(alloc, system, &floor)?;
     drop(floor);

@@ -1,31 +1,39 @@
-use Rattle.std.proofs.Common.{◌≡◌, ℕ, ◌+◌, ◌*◌, ◌≤◌, true, List, ◌∷◌, [], ◌++◌, length, sum, Option, refl, sym, ◌∙◌, ap, subst}
+use Rattle.std.proofs.Common.{◌≡◌, ℕ, ◌+◌, ◌*◌, ◌≤◌, true, false, List, ◌∷◌, [], ◌++◌, length, sum, Option, refl, sym, ◌∙◌, ap, subst}
+use Rattle.std.specs.Prelude.{IfSome}
 use Rattle.std.proofs.lemmas.Option.{IfSome_then}
 use Rattle.run_model.specs.Cut.{lengths}
+use Rattle.pull_system.specs.declared.pull.Pull.{Pull}
 use Rattle.pull_system.specs.System.{SystemView, IsSystem}
 use Rattle.pull_system.specs.Rows.{RowsView, AreLeastRows}
 use Rattle.bound_table.specs.Views.{SeatView}
 use Rattle.raise_machine.specs.Bounds.{AreBounds}
 use Rattle.conjunctions.specs.Counting.{first_of, floor_words}
 use Rattle.conjunctions.specs.Settling.{IsFloorOf}
-use Rattle.conjunctions.specs.Beginning.{BeginsAtoms}
+use Rattle.conjunctions.specs.Beginning.{BeginsAtoms, BeginsOthers}
 use Rattle.conjunctions.proofs.SettlingOne.{floor_bounds, floor_above, steps_within, sum_rises}
 use Rattle.conjunctions.proofs.settling.settle_gathered.Goals as goal
+
+-- one system by the same lengths and pulls
+system_by : (lens shape : List ℕ) (pulls others : List Pull) → lens ≡ shape → pulls ≡ others → ◌≡◌ {A = SystemView} (record { lens = lens; pulls = pulls }) (record { lens = shape; pulls = others })
+system_by lens shape pulls others lens_is pulls_is = ap (λ (l : List ℕ). let s : SystemView = record { lens = l; pulls = pulls } in s) lens_is ∙ ap (λ (list : List Pull). let s : SystemView = record { lens = shape; pulls = list } in s) pulls_is
 
 pub floor_of-requires-clause-before : goal.floor_of-requires-clause-before
 floor_of-requires-clause-before g c = subst (λ (found : Option RowsView). IsFloorOf (lengths c.args.order.now) c.args.keeps found) (sym c.next.ensures.next) c.requires.before.fell
 
 pub floor_of-requires-clause-gathered : goal.floor_of-requires-clause-gathered
-floor_of-requires-clause-gathered g c = IfSome_then c.args.gathered.floor c.requires.floor (λ rows may. may.shape)
+floor_of-requires-clause-gathered g c =
+    subst (λ (found : Option RowsView). IfSome found (λ rows. rows.lens ≡ lengths c.args.order.now)) (sym c.into_fans-fans.ensures.floor) (IfSome_then c.args.gathered.floor c.requires.floor (λ rows may. may.shape))
 
-pub new-requires-2-clause-bounds : goal.new-requires-2-clause-bounds
-new-requires-2-clause-bounds g c =
+pub new-requires-clause-bounds : goal.new-requires-clause-bounds
+new-requires-clause-bounds g c =
     let o = c.args.order.now in
     let before = first_of c.args.round.now.before in
     let system : SystemView = record { lens = lengths o; pulls = c.args.gathered.pulls } in
-    let system_is : c.in_ok-system.system ≡ system = c.in_ok-system.ensures ∙ ap (λ (l : List ℕ). record { lens = l; pulls = c.args.gathered.pulls }) c.shape.ensures.lens in
+    let system_is : c.in_ok-system.system ≡ system = c.in_ok-system.ensures ∙ system_by _ _ _ _ c.shape.ensures.lens c.into_fans-fans.ensures.pulls in
     let words = c.in_ok-floor.floor.words in
     let atoms : c.args.keeps ≡ true → BeginsAtoms o before words = λ keeps. subst (λ (found : Option RowsView). BeginsAtoms o found words) c.next.ensures.next (c.in_ok-floor.ensures.atoms keeps) in
-    subst (λ (s : SystemView). AreBounds s words) (sym system_is) (floor_bounds o c.args.gathered c.args.keeps before words c.requires.before c.requires.first c.requires.floor atoms c.in_ok-floor.ensures.others)
+    let others : c.args.keeps ≡ false → BeginsOthers (lengths o) c.args.gathered.floor words = λ keeps. subst (λ (found : Option RowsView). BeginsOthers (lengths o) found words) c.into_fans-fans.ensures.floor (c.in_ok-floor.ensures.others keeps) in
+    subst (λ (s : SystemView). AreBounds s words) (sym system_is) (floor_bounds o c.args.gathered c.args.keeps before words c.requires.before c.requires.first c.requires.floor atoms others)
 
 pub returns : goal.returns
 returns g c =
@@ -33,14 +41,15 @@ returns g c =
     let before = first_of c.args.round.now.before in
     let system : SystemView = record { lens = lens; pulls = c.args.gathered.pulls } in
     let rows = c.in_ok-settled.settled in
-    let made : c.in_ok-system.system ≡ system = c.in_ok-system.ensures ∙ ap (λ (l : List ℕ). record { lens = l; pulls = c.args.gathered.pulls }) c.shape.ensures.lens in
+    let made : c.in_ok-system.system ≡ system = c.in_ok-system.ensures ∙ system_by _ _ _ _ c.shape.ensures.lens c.into_fans-fans.ensures.pulls in
     let system_is : c.in_ok-table.table.system ≡ system = c.in_ok-table.ensures.system ∙ made in
     let is_system : IsSystem system = record { shape = c.shape.ensures.shape; pulls = c.requires.fit; count = c.requires.count } in
     let least : AreLeastRows system rows.words = subst (λ (s : SystemView). AreLeastRows s rows.words) system_is c.in_ok-settled.ensures.least in
     let lens_is : rows.lens ≡ lens = c.in_ok-settled.ensures.lens ∙ ap (λ (s : SystemView). s.lens) system_is in
     let words = c.in_ok-floor.floor.words in
     let atoms : c.args.keeps ≡ true → BeginsAtoms c.args.order.now before words = λ keeps. subst (λ (found : Option RowsView). BeginsAtoms c.args.order.now found words) c.next.ensures.next (c.in_ok-floor.ensures.atoms keeps) in
-    let bounds : AreBounds system words = floor_bounds c.args.order.now c.args.gathered c.args.keeps before words c.requires.before c.requires.first c.requires.floor atoms c.in_ok-floor.ensures.others in
+    let others : c.args.keeps ≡ false → BeginsOthers lens c.args.gathered.floor words = λ keeps. subst (λ (found : Option RowsView). BeginsOthers lens found words) c.into_fans-fans.ensures.floor (c.in_ok-floor.ensures.others keeps) in
+    let bounds : AreBounds system words = floor_bounds c.args.order.now c.args.gathered c.args.keeps before words c.requires.before c.requires.first c.requires.floor atoms others in
     record {
       before = c.in_ok-keep.ensures.before ∙ c.next.ensures.before;
       rows = rows;
