@@ -1,6 +1,7 @@
 //! One case: what goes in, and what must be told.
 
 use std::alloc::Global;
+use std::mem;
 
 /// What a watch answers.
 #[derive(Clone, Copy)]
@@ -56,8 +57,9 @@ impl Case {
         Case::behind(alloc, String::new(alloc))
     }
 
-    /// The case behind this one, of which nothing was said.
-    pub fn next(self, alloc: Global) -> Case {
-        Case::behind(alloc, self.log)
+    /// Makes it the case behind it, of which nothing was said.
+    pub fn begin_next(&mut self, alloc: Global) {
+        let log = mem::replace(&mut self.log, String::new(alloc));
+        *self = Case::behind(alloc, log);
     }
 }

@@ -1,6 +1,6 @@
 //! The header and the batches of a log.
 
-use event_log::{Event, Header, Item, Reader};
+use event_log::{Event, Fed, Header, Item, Reader};
 use pota_base::{List, NoMemory};
 use std::alloc::Global;
 use std::mem;
@@ -12,52 +12,110 @@ pub struct Logged {
     pub batches: Vec<List<Event>>,
 }
 
-/// The header and the batches of a text, none where its lines have a fault.
-pub fn read(alloc: Global, text: &str) -> Result<Option<Logged>, NoMemory> {
-    let fed = Reader::new(alloc).feed(text.as_bytes())?;
-    let mut header = None;
-    let mut batches = Vec::new(alloc);
-    let mut batch = List::new(alloc);
-    for item in fed.items.into_vec() {
-        match item {
-            Item::Header(given) => header = Some(given),
-            Item::Event(event) => batch.push(event)?,
-            Item::BatchEnd | Item::End => {
-                batches.push(mem::replace(&mut batch, List::new(alloc)))?
-            }
-        }
-    }
-    match header {
-        Some(header) if fed.fault.is_none() => Ok(Some(Logged { header, batches })),
-        _ => Ok(None),
-    }
-}
-
-/// The events of all batches in their order, cut anew: behind event K where bit K of the cutting is
-/// 1, from 0, and behind the last.
-pub fn cut(
-    alloc: Global,
+// What the items so far gave.
+#[derive(Drop)]
+struct Collected {
+    header: Option<Header>,
     batches: Vec<List<Event>>,
-    cutting: u64,
-) -> Result<Vec<List<Event>>, NoMemory> {
-    let mut cut = Vec::new(alloc);
-    let mut batch = List::new(alloc);
-    let mut left = cutting;
-    for old in batches {
-        for event in old.into_vec() {
-            batch.push(event)?;
-            if left % 2 == 1 {
-                cut.push(mem::replace(&mut batch, List::new(alloc)))?;
-            }
-            left /= 2;
-        }
-    }
-    cut.push(batch)?;
-    Ok(cut)
+    /// The events behind the last batch.
+    batch: List<Event>,
+    /// The bits of the events to come, none where the batches are those of the log.
+    cutting: Option<u64>,
 }
 
-/// How many ways there are to cut the events, up to 12 of them, into batches.
-pub fn cuttings(batches: &[List<Event>]) -> u64 {
+impl Collected {
+    fn new(alloc: Global, cutting: Option<u64>) -> Collected {
+        Collected {
+            header: None,
+            batches: Vec::new(alloc),
+            batch: List::new(alloc),
+            cutting,
+        }
+    }
+
+    fn end_batch(&mut self, alloc: Global) -> Result<(), NoMemory> {
+        let batch = mem::replace(&mut self.batch, List::new(alloc));
+        self.batches.push(batch)?;
+        Ok(())
+    }
+
+    // Whether a cutting has a batch end behind the next event.
+    fn take_bit(&mut self) -> bool {
+        let Some(left) = self.cutting else {
+            return false;
+        };
+        self.cutting = Some(left / 2);
+        left % 2 == 1
+    }
+
+    fn add_event(&mut self, alloc: Global, event: Event) -> Result<(), NoMemory> {
+        self.batch.push(event)?;
+        if self.take_bit() {
+            self.end_batch(alloc)?;
+        }
+        Ok(())
+    }
+
+    fn add(&mut self, alloc: Global, item: Item) -> Result<(), NoMemory> {
+        match item {
+            Item::Header(header) => {
+                self.header = Some(header);
+                Ok(())
+            }
+            Item::Event(event) => self.add_event(alloc, event),
+            Item::BatchEnd if self.cutting.is_some() => Ok(()),
+            Item::BatchEnd | Item::End => self.end_batch(alloc),
+        }
+    }
+
+    fn add_all(&mut self, alloc: Global, items: List<Item>) -> Result<(), NoMemory> {
+        for item in items.into_vec() {
+            self.add(alloc, item)?;
+        }
+        Ok(())
+    }
+
+    fn into_logged(self) -> Option<Logged> {
+        let Collected {
+            header,
+            batches,
+            ..
+        } = self;
+        let header = header?;
+        Some(Logged { header, batches })
+    }
+}
+
+fn fed(alloc: Global, text: &str) -> Result<Fed, NoMemory> {
+    let mut reader = Reader::new(alloc);
+    let fed = reader.feed(text.as_bytes());
+    drop(reader);
+    fed
+}
+
+fn log_of(
+    alloc: Global,
+    items: List<Item>,
+    cutting: Option<u64>,
+) -> Result<Option<Logged>, NoMemory> {
+    let mut collected = Collected::new(alloc, cutting);
+    collected.add_all(alloc, items)?;
+    Ok(collected.into_logged())
+}
+
+/// The header and the batches of a text, none where its lines have a fault. By a cutting the events
+/// of all batches, in their order, are cut anew: behind event K where bit K of the cutting is 1,
+/// from 0, and behind the last.
+pub fn read(alloc: Global, text: &str, cutting: Option<u64>) -> Result<Option<Logged>, NoMemory> {
+    let Fed { items, fault } = fed(alloc, text)?;
+    if fault.is_some() {
+        return Ok(None);
+    }
+    log_of(alloc, items, cutting)
+}
+
+// How many ways there are to cut the events, up to 12 of them, into batches.
+fn ways(batches: &[List<Event>]) -> u64 {
     let mut ways = 1;
     for batch in batches {
         for _ in batch.as_slice() {
@@ -65,4 +123,13 @@ pub fn cuttings(batches: &[List<Event>]) -> u64 {
         }
     }
     (ways / 2).max(1)
+}
+
+/// How many ways there are to cut the events of a text, up to 12 of them, into batches, none where
+/// its lines have a fault.
+pub fn cuttings(alloc: Global, text: &str) -> Result<Option<u64>, NoMemory> {
+    match read(alloc, text, None)? {
+        Some(logged) => Ok(Some(ways(logged.batches.as_slice()))),
+        None => Ok(None),
+    }
 }

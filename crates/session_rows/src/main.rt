@@ -55,18 +55,33 @@ use verdict::judge;
 
 const FILES: [&str; 3] = ["batches.cases", "watches.cases", "cuttings.cases"];
 
-fn judge_all<R: Threads + Sync + Print>(rt: &R, alloc: Global, text: &str) -> io::Result<()> {
-    let mut case = Case::new(alloc);
+// Prints what came of the case, and begins the one behind it.
+fn finish<R: Threads + Sync + Print>(rt: &R, alloc: Global, case: &mut Case) -> io::Result<()> {
+    let said = judge(rt, alloc, case)?;
+    println!(rt; "{}: {}", case.name.as_str(), said.as_str())?;
+    case.begin_next(alloc);
+    Ok(())
+}
+
+fn judge_lines<R: Threads + Sync + Print>(
+    rt: &R,
+    alloc: Global,
+    case: &mut Case,
+    text: &str,
+) -> io::Result<()> {
     for line in text.lines() {
         if line == "end" {
-            let said = judge(rt, alloc, &case)?;
-            println!(rt; "{}: {}", case.name.as_str(), said.as_str())?;
-            case = case.next(alloc);
+            finish(rt, alloc, case)?;
         } else {
-            add_line(alloc, &mut case, line)?;
+            add_line(alloc, case, line)?;
         }
     }
     Ok(())
+}
+
+fn judge_all<R: Threads + Sync + Print>(rt: &R, alloc: Global, text: &str) -> io::Result<()> {
+    let mut case = Case::new(alloc);
+    judge_lines(rt, alloc, &mut case, text)
 }
 
 fn main(rt: HostRuntime) -> io::Result<()> {

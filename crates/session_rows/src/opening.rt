@@ -1,8 +1,13 @@
 //! The session of a formula over a header.
 
-ghost use Rattle.std.specs.Prelude.{IfOk, IfSome};
+ghost use Rattle.std.specs.Prelude.{◌≡◌, length, IfOk, IfSome};
+ghost use Rattle.event_log.specs.States.{IsHeader};
+ghost use Rattle.rctl_parts.specs.Pieces.{disjuncts_of as pieces_of};
+ghost use Rattle.rctl_parts.specs.MadeFor.{AreMadeFor};
 ghost use Rattle.rctl_class.specs.NamedParts.{AreDisjuncts, disjuncts_of};
 ghost use Rattle.rctl_class.specs.Nodes.{IsWithinLimits, node_of};
+ghost use Rattle.conjunctions.specs.Observing.{scope_seen};
+ghost use Rattle.session.specs.Growing.{opened_observed};
 
 use event_log::Header;
 use log_fitting::{has_few_variables, is_header};
@@ -11,6 +16,7 @@ use pota_names::Name;
 use rctl_class::{Classed, classify, read_formulas_are_within_limits};
 use rctl_names::resolve;
 use rctl_parse::{Formula, parse};
+use rctl_parts::Resolved;
 use session::Session;
 use std::alloc::Global;
 use watch::Handed;
@@ -62,6 +68,55 @@ fn names_of(alloc: Global, watches: &[Handed]) -> Result<List<Name>, NoMemory> {
     Ok(names)
 }
 
+// The formula by the numbers of the header and of these names, none where it has another name.
+fn resolved_by(
+    alloc: Global,
+    classed: &Classed,
+    header: &Header,
+    names: &List<Name>,
+) -> Result<Option<Resolved>, NoMemory>
+    requires { AreDisjuncts (disjuncts_of classed.now.disjuncts) }
+    ensures header { IfOk result (λ o. IfSome o (λ _. IsHeader header.now)) }
+    ensures made { IfOk result (λ o. IfSome o (λ resolved. AreMadeFor
+        (scope_seen (opened_observed header.now resolved.watch_process))
+        (pieces_of resolved.disjuncts))) }
+    ensures paired { IfOk result (λ o. IfSome o (λ resolved.
+        length resolved.watch_process ≡ length names.now)) }
+{
+    if names.len() > MOST_WATCHES || !is_header(header) || !has_few_variables(header) {
+        return Ok(None);
+    }
+    match resolve(alloc, classed, header, names) {
+        Ok(resolved) => Ok(Some(resolved)),
+        Err(Refused::Fault(_)) => Ok(None),
+        Err(Refused::NoMemory) => Err(NoMemory),
+    }
+}
+
+// The same of a text, none where it has a fault.
+fn resolved(
+    alloc: Global,
+    formula: &str,
+    header: &Header,
+    watches: &[Handed],
+) -> Result<Option<Resolved>, NoMemory>
+    ensures header { IfOk result (λ o. IfSome o (λ _. IsHeader header.now)) }
+    ensures made { IfOk result (λ o. IfSome o (λ resolved. AreMadeFor
+        (scope_seen (opened_observed header.now resolved.watch_process))
+        (pieces_of resolved.disjuncts))) }
+    ensures paired { IfOk result (λ o. IfSome o (λ resolved.
+        length resolved.watch_process ≡ length watches.now)) }
+{
+    let names = names_of(alloc, watches)?;
+    let Some(classed) = classed(alloc, formula)? else {
+        return Ok(None);
+    };
+    if names.len() != watches.len() {
+        return Ok(None);
+    }
+    resolved_by(alloc, &classed, header, &names)
+}
+
 /// The session without batches, none where the formula or a name of it is not one.
 pub fn session_of(
     alloc: Global,
@@ -69,20 +124,8 @@ pub fn session_of(
     header: Header,
     watches: Vec<Handed>,
 ) -> Result<Option<Session>, NoMemory> {
-    let Some(classed) = classed(alloc, formula)? else {
+    let Some(resolved) = resolved(alloc, formula, &header, watches.as_slice())? else {
         return Ok(None);
     };
-    let names = names_of(alloc, watches.as_slice())?;
-    if names.len() > MOST_WATCHES || !is_header(&header) || !has_few_variables(&header) {
-        return Ok(None);
-    }
-    let resolved = match resolve(alloc, &classed, &header, &names) {
-        Ok(resolved) => resolved,
-        Err(Refused::Fault(_)) => return Ok(None),
-        Err(Refused::NoMemory) => return Err(NoMemory),
-    };
-    if resolved.watch_process.len() != watches.len() {
-        return Ok(None);
-    }
     Ok(Some(Session::new(alloc, header, resolved, watches)?))
 }

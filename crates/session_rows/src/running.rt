@@ -2,15 +2,15 @@
 ghost use Rattle.std.specs.Prelude.{◌≤◌};
 
 use crate::case::{Case, WatchKind};
-use crate::log::{Logged, cut, read};
+use crate::log::{Logged, read};
 use crate::opening::session_of;
 use crate::taking::{Taken, take};
-use crate::telling::{tell, tell_fault};
+use crate::telling::{Watched, tell, tell_fault, tell_number};
 use event_log::Event;
 use pota_base::{List, NoMemory, Steps};
 use pota_names::Name;
 use session::Session;
-use std::alloc::Global;
+use std::alloc::{AllocError, Global};
 use std::sync::Arc;
 use std::sync::ledger::Ledger;
 use std::thread::Threads;
@@ -26,32 +26,28 @@ pub struct Setting {
 }
 
 // What is told behind a batch.
-fn told_behind(
-    alloc: Global,
-    case: &Case,
-    session: &Session,
+fn tell_behind(
+    told: &mut String,
     taken: Taken,
-    counts: &Counts,
-) -> Result<String, NoMemory> {
-    let mut text = String::new(alloc);
+    session: &Session,
+    watched: Watched,
+) -> Result<(), AllocError> {
     match taken {
         Taken::Whole => {}
-        Taken::Refused(fault) => tell_fault(alloc, &mut text, fault)?,
-        Taken::Unfit => text.push_str("a batch that may not be taken\n")?,
+        Taken::Refused(fault) => tell_fault(told, fault)?,
+        Taken::Unfit => told.push_str("a batch that may not be taken\n")?,
     }
-    tell(alloc, &mut text, session, case, counts)?;
-    Ok(text)
+    tell(told, session, watched)
 }
 
 // Takes all batches, and gives what is told: behind each, or of a cutting behind the last alone.
 fn take_all<R: Threads + Sync, L: Ledger>(
     rt: &R,
     alloc: Global,
-    case: &Case,
-    mut session: Session,
+    session: &mut Session,
     batches: Vec<List<Event>>,
     setting: Setting,
-    counts: &Counts,
+    watched: Watched,
     steps: &mut Steps<L>,
 ) -> Result<String, NoMemory>
     requires some { 1 ≤ setting.workers }
@@ -59,14 +55,11 @@ fn take_all<R: Threads + Sync, L: Ledger>(
 {
     let mut told = String::new(alloc);
     for batch in batches {
-        let taken = take(rt, &mut session, batch, setting.workers, steps)?;
-        let text = told_behind(alloc, case, &session, taken, counts)?;
+        let taken = take(rt, session, batch, setting.workers, steps)?;
         if setting.cutting.is_some() {
-            let (_, rest) = text.as_str().split_once('\n').unwrap_or(("", ""));
-            told = String::from_str(alloc, rest)?;
-        } else {
-            told.push_str(text.as_str())?;
+            told.clear();
         }
+        tell_behind(&mut told, taken, session, watched)?;
     }
     Ok(told)
 }
@@ -84,16 +77,68 @@ fn hand(
     Ok(())
 }
 
-// The batches of the log, or its events cut anew.
-fn given(alloc: Global, case: &Case, setting: Setting) -> Result<Option<Logged>, NoMemory> {
-    let Some(Logged { header, batches }) = read(alloc, case.log.as_str())? else {
+// What a run with these watches tells of its batches, none where the log or the formula is not one.
+fn told_with<R: Threads + Sync, L: Ledger>(
+    rt: &R,
+    alloc: Global,
+    case: &Case,
+    setting: Setting,
+    watches: Vec<Handed>,
+    counts: &Counts,
+    steps: &mut Steps<L>,
+) -> Result<Option<String>, NoMemory>
+    requires some { 1 ≤ setting.workers }
+    requires few { setting.workers ≤ 16 }
+{
+    let Some(Logged { header, batches }) = read(alloc, case.log.as_str(), setting.cutting)? else {
         return Ok(None);
     };
-    let batches = match setting.cutting {
-        Some(cutting) => cut(alloc, batches, cutting)?,
-        None => batches,
+    let Some(mut session) = session_of(alloc, case.formula.as_str(), header, watches)? else {
+        return Ok(None);
     };
-    Ok(Some(Logged { header, batches }))
+    let watched = Watched {
+        watches: case.watches.as_slice(),
+        counts,
+    };
+    let told = take_all(rt, alloc, &mut session, batches, setting, watched, steps);
+    drop(session);
+    Ok(Some(told?))
+}
+
+// The same with the watches that the case wants.
+fn told_of_batches<R: Threads + Sync, L: Ledger>(
+    rt: &R,
+    alloc: Global,
+    case: &Case,
+    setting: Setting,
+    counts: &Arc<Counts>,
+    steps: &mut Steps<L>,
+) -> Result<Option<String>, NoMemory>
+    requires some { 1 ≤ setting.workers }
+    requires few { setting.workers ≤ 16 }
+{
+    let mut watches = Vec::new(alloc);
+    for wanted in &case.watches {
+        let name = wanted.name.as_str();
+        match wanted.kind {
+            WatchKind::Stable => {
+                hand(alloc, &mut watches, name, Box::new(alloc, Stable::new())?)?
+            }
+            WatchKind::Owing => hand(alloc, &mut watches, name, Box::new(alloc, Owing::new())?)?,
+            WatchKind::Calm => hand(alloc, &mut watches, name, Box::new(alloc, Calm::new())?)?,
+            WatchKind::Turning => {
+                let turning = Turning::new(Arc::try_clone(counts)?);
+                hand(alloc, &mut watches, name, Box::new(alloc, turning)?)?
+            }
+        }
+    }
+    told_with(rt, alloc, case, setting, watches, counts, steps)
+}
+
+// A text without its first line.
+fn behind_first_line(alloc: Global, text: &str) -> Result<String, AllocError> {
+    let (_, rest) = text.split_once('\n').unwrap_or((text, ""));
+    String::from_str(alloc, rest)
 }
 
 /// What a run tells, none where the log or the formula is not one.
@@ -108,29 +153,13 @@ pub fn run<R: Threads + Sync, L: Ledger>(
     requires few { setting.workers ≤ 16 }
 {
     let counts = Counts::new(alloc)?;
-    let mut watches = Vec::new(alloc);
-    for wanted in &case.watches {
-        let name = wanted.name.as_str();
-        match wanted.kind {
-            WatchKind::Stable => {
-                hand(alloc, &mut watches, name, Box::new(alloc, Stable::new())?)?
-            }
-            WatchKind::Owing => hand(alloc, &mut watches, name, Box::new(alloc, Owing::new())?)?,
-            WatchKind::Calm => hand(alloc, &mut watches, name, Box::new(alloc, Calm::new())?)?,
-            WatchKind::Turning => {
-                let turning = Turning::new(Arc::try_clone(&counts)?);
-                hand(alloc, &mut watches, name, Box::new(alloc, turning)?)?
-            }
-        }
+    let Some(mut told) = told_of_batches(rt, alloc, case, setting, &counts, steps)? else {
+        return Ok(None);
+    };
+    if setting.cutting.is_some() {
+        told = behind_first_line(alloc, told.as_str())?;
     }
-    let Some(Logged { header, batches }) = given(alloc, case, setting)? else {
-        return Ok(None);
-    };
-    let Some(session) = session_of(alloc, case.formula.as_str(), header, watches)? else {
-        return Ok(None);
-    };
-    let mut told = take_all(rt, alloc, case, session, batches, setting, &counts, steps)?;
-    let said = format!(in alloc; "dropped {}\n", counts.dropped())?;
-    told.push_str(said.as_str())?;
+    tell_number(&mut told, "dropped ", counts.dropped())?;
+    told.push('\n')?;
     Ok(Some(told))
 }

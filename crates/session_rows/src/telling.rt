@@ -1,155 +1,177 @@
 //! What is told of a session.
 ghost use Rattle.session.specs.Growing.{HasAnswer};
 
-use crate::case::Case;
-use conjunctions::{Observed, PartAnswer};
+use crate::case::WatchCase;
+use conjunctions::{Answer, PartAnswer};
 use event_log::LogFault;
-use pota_base::NoMemory;
+use pota_base::List;
 use pull_system::Rows;
+use rctl_grammar::Operator;
 use session::Session;
 use slice_graph::Slice;
-use std::alloc::Global;
+use std::alloc::AllocError;
 use turning_watch::Counts;
 
-// A cut, behind a blank.
-fn tell_cut(alloc: Global, text: &mut String, cut: &[u32]) -> Result<(), NoMemory> {
+/// The watches that are handed in, and what those of them count that turn.
+#[derive(Clone, Copy)]
+pub struct Watched<'a> {
+    pub watches: &'a [WatchCase],
+    pub counts: &'a Counts,
+}
+
+/// Tells a number, behind this text.
+pub fn tell_number(text: &mut String, before: &str, number: u64) -> Result<(), AllocError> {
+    text.push_str(before)?;
+    write!(text, "{number}")
+}
+
+fn tell_truth(text: &mut String, truth: bool) -> Result<(), AllocError> {
+    text.push_str(if truth { " true" } else { " false" })
+}
+
+// The count of a cut at a process. A cut stands behind a blank.
+fn tell_count(text: &mut String, process: usize, count: u64) -> Result<(), AllocError> {
+    tell_number(text, if process == 0 { " " } else { "," }, count)
+}
+
+fn tell_cut(text: &mut String, cut: &[u32]) -> Result<(), AllocError> {
     for (process, count) in cut.iter().enumerate() {
-        let before = if process == 0 { ' ' } else { ',' };
-        let said = format!(in alloc; "{}{}", before, count)?;
-        text.push_str(said.as_str())?;
+        tell_count(text, process, *count as u64)?;
     }
     Ok(())
 }
 
 // The least cut of the slice, and the least one with each event.
-fn tell_slice(alloc: Global, text: &mut String, slice: &Slice) -> Result<(), NoMemory> {
+fn tell_slice(text: &mut String, slice: &Slice) -> Result<(), AllocError> {
     for row in 0..=slice.shape().events() {
         match slice.row(row) {
-            Some(cut) => tell_cut(alloc, text, cut)?,
+            Some(cut) => tell_cut(text, cut)?,
             None => text.push_str(" none")?,
         }
     }
-    text.push('\n')?;
-    Ok(())
+    text.push('\n')
 }
 
-// A settled row as a cut, none where a word is above its process's length.
-fn cut_of(alloc: Global, row: &[u64], lens: &[u32]) -> Result<Option<Vec<u32>>, NoMemory> {
-    let mut cut = Vec::new(alloc);
+// Whether a settled row is a cut: none of its words is above its process's length.
+fn is_cut(row: &[u64], lens: &[u32]) -> bool {
     for (word, len) in row.iter().zip(lens) {
         if *word > *len as u64 {
-            return Ok(None);
+            return false;
         }
-        cut.push(*word as u32)?;
     }
-    Ok(Some(cut))
+    true
 }
 
-fn tell_rows(alloc: Global, text: &mut String, rows: &Rows) -> Result<(), NoMemory> {
+fn tell_row(text: &mut String, row: &[u64], lens: &[u32]) -> Result<(), AllocError> {
+    if !is_cut(row, lens) {
+        return text.push_str(" none");
+    }
+    for (process, count) in row.iter().enumerate() {
+        tell_count(text, process, *count)?;
+    }
+    Ok(())
+}
+
+fn tell_rows(text: &mut String, rows: &Rows) -> Result<(), AllocError> {
     let shape = rows.shape();
     for row in 0..=shape.events() {
-        match cut_of(alloc, rows.row(row), shape.lens())? {
-            Some(cut) => tell_cut(alloc, text, cut.as_slice())?,
-            None => text.push_str(" none")?,
-        }
+        tell_row(text, rows.row(row), shape.lens())?;
     }
-    text.push('\n')?;
-    Ok(())
+    text.push('\n')
 }
 
-fn tell_part(alloc: Global, text: &mut String, part: &PartAnswer) -> Result<(), NoMemory> {
-    let said = format!(in alloc; "part {}.{}", part.disjunct, part.part)?;
-    text.push_str(said.as_str())?;
+fn tell_operator(text: &mut String, operator: Operator) -> Result<(), AllocError> {
+    write!(text, " {operator:?}")
+}
+
+fn tell_part(text: &mut String, part: &PartAnswer) -> Result<(), AllocError> {
+    tell_number(text, "part ", part.disjunct as u64)?;
+    tell_number(text, ".", part.part as u64)?;
     if let Some(operator) = part.operator {
-        let said = format!(in alloc; " {:?}", operator)?;
-        text.push_str(said.as_str())?;
+        tell_operator(text, operator)?;
     }
-    let said = format!(in alloc; " {}", part.truth)?;
-    text.push_str(said.as_str())?;
+    tell_truth(text, part.truth)?;
     match &part.operand {
-        Some(operand) => tell_slice(alloc, text, operand),
-        None => Ok(text.push('\n')?),
+        Some(operand) => tell_slice(text, operand),
+        None => text.push('\n'),
     }
 }
 
-fn tell_answer(alloc: Global, text: &mut String, session: &Session) -> Result<(), NoMemory>
-    requires { HasAnswer session.now.growing }
-{
-    let answer = session.answer();
-    let said = format!(in alloc; "batches {}\ntruth {}\nslice", answer.batch, answer.truth)?;
-    text.push_str(said.as_str())?;
-    tell_slice(alloc, text, &answer.slice)?;
+fn tell_answer(text: &mut String, answer: &Answer) -> Result<(), AllocError> {
+    tell_number(text, "batches ", answer.batch as u64)?;
+    text.push_str("\ntruth")?;
+    tell_truth(text, answer.truth)?;
+    text.push_str("\nslice")?;
+    tell_slice(text, &answer.slice)?;
     for part in answer.parts.as_slice() {
-        tell_part(alloc, text, part)?;
+        tell_part(text, part)?;
     }
     Ok(())
 }
 
-fn tell_conjunctions(alloc: Global, text: &mut String, session: &Session) -> Result<(), NoMemory>
+fn tell_conjunctions(text: &mut String, session: &Session) -> Result<(), AllocError>
     requires { HasAnswer session.now.growing }
 {
     let count = u32::try_from(session.conjunctions()).unwrap_or(0);
     for conjunction in 1..=count {
-        let said = format!(in alloc; "conjunction {}", conjunction)?;
-        text.push_str(said.as_str())?;
-        tell_rows(alloc, text, session.settled(conjunction).rows())?;
+        tell_number(text, "conjunction ", conjunction as u64)?;
+        tell_rows(text, session.settled(conjunction).rows())?;
     }
     Ok(())
 }
 
-// What each watch that was fed answered.
-fn tell_watches(
-    alloc: Global,
-    text: &mut String,
-    seen: &Observed,
-    case: &Case,
-) -> Result<(), NoMemory> {
-    for (watch, row) in case.watches.iter().zip(seen.watch_rows.as_slice()) {
-        if !row.is_empty() {
-            let said = format!(in alloc; "watch {}", watch.name)?;
-            text.push_str(said.as_str())?;
-            tell_truths(alloc, text, row.as_slice())?;
-        }
+// What a watch answered, if it was fed.
+fn tell_watch(text: &mut String, name: &str, row: &[bool]) -> Result<(), AllocError> {
+    if row.is_empty() {
+        return Ok(());
     }
-    Ok(())
-}
-
-fn tell_truths(alloc: Global, text: &mut String, row: &[bool]) -> Result<(), NoMemory> {
+    text.push_str("watch ")?;
+    text.push_str(name)?;
     for truth in row {
-        let said = format!(in alloc; " {}", truth)?;
-        text.push_str(said.as_str())?;
+        tell_truth(text, *truth)?;
     }
-    text.push('\n')?;
+    text.push('\n')
+}
+
+fn tell_watches(
+    text: &mut String,
+    watches: &[WatchCase],
+    rows: &[List<bool>],
+) -> Result<(), AllocError> {
+    for (watch, row) in watches.iter().zip(rows) {
+        tell_watch(text, watch.name.as_str(), row.as_slice())?;
+    }
     Ok(())
+}
+
+fn tell_counts(text: &mut String, counts: &Counts) -> Result<(), AllocError> {
+    tell_number(text, "fed ", counts.fed())?;
+    text.push('\n')
 }
 
 /// Tells of the fault of a batch.
-pub fn tell_fault(alloc: Global, text: &mut String, fault: LogFault) -> Result<(), NoMemory> {
-    let said = format!(in alloc; "refused {:?} at line {}\n", fault.code, fault.line)?;
-    text.push_str(said.as_str())?;
-    Ok(())
+pub fn tell_fault(text: &mut String, fault: LogFault) -> Result<(), AllocError> {
+    let LogFault { code, line } = fault;
+    writeln!(text, "refused {code:?} at line {line}")
+}
+
+// The same where the trace so far is answered.
+fn tell_answered(text: &mut String, session: &Session, watched: Watched) -> Result<(), AllocError>
+    requires { HasAnswer session.now.growing }
+{
+    tell_answer(text, session.answer())?;
+    tell_conjunctions(text, session)?;
+    tell_watches(text, watched.watches, session.seen().watch_rows.as_slice())?;
+    tell_counts(text, watched.counts)
 }
 
 /// Tells of the session on the trace so far.
-pub fn tell(
-    alloc: Global,
-    text: &mut String,
-    session: &Session,
-    case: &Case,
-    counts: &Counts,
-) -> Result<(), NoMemory> {
+pub fn tell(text: &mut String, session: &Session, watched: Watched) -> Result<(), AllocError> {
     if session.is_spent() {
-        text.push_str("spent\n")?;
-        return Ok(());
+        return text.push_str("spent\n");
     }
     if !session.is_answered() {
-        text.push_str("batches 0\n")?;
-        return Ok(());
+        return text.push_str("batches 0\n");
     }
-    tell_answer(alloc, text, session)?;
-    tell_conjunctions(alloc, text, session)?;
-    tell_watches(alloc, text, session.seen(), case)?;
-    let said = format!(in alloc; "fed {}\n", counts.fed())?;
-    text.push_str(said.as_str())?;
-    Ok(())
+    tell_answered(text, session, watched)
 }
