@@ -15,6 +15,3 @@ mod table;
 
 pub use seat::Seat;
 pub use table::BoundTable;
-
-#[cfg(test)]
-mod tests;

@@ -15,6 +15,3 @@ mod table;
 
 pub use order::Order;
 pub use table::ClockTable;
-
-#[cfg(test)]
-mod tests;

@@ -8,6 +8,3 @@
 mod cut;
 
 pub use cut::Cut;
-
-#[cfg(test)]
-mod tests;

@@ -39,6 +39,3 @@ pub use reader::Reader;
 pub use split::split_line;
 pub use states::States;
 pub use writing::{put_clock, put_names, put_spaced, write_log};
-
-#[cfg(test)]
-mod tests;

@@ -101,6 +101,3 @@ fn look_at<L: Ledger>(
         risen.mark(target);
     }
 }
-
-#[cfg(test)]
-mod tests;

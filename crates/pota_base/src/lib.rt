@@ -30,6 +30,3 @@ pub use outside::{Sink, Source, write_all};
 pub use shape::{EventId, Shape};
 pub use status::Status;
 pub use steps::Steps;
-
-#[cfg(test)]
-mod tests;

@@ -11,6 +11,3 @@ mod claims;
 
 pub use claimer::Claimer;
 pub use claims::Claims;
-
-#[cfg(test)]
-mod tests;

@@ -25,6 +25,3 @@ pub use pull::{Pull, all_fit};
 pub use risen::Risen;
 pub use rows::Rows;
 pub use system::System;
-
-#[cfg(test)]
-mod tests;

@@ -8,6 +8,3 @@ mod step;
 pub use laws::{grown_rows, runs};
 pub use machine::Machine;
 pub use step::Step;
-
-#[cfg(test)]
-mod tests;

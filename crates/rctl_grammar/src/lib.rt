@@ -17,6 +17,3 @@ pub use fault::{FormulaCode, FormulaFault, Outside};
 pub use laws::trees_are_spelled;
 pub use token::{End, Kind, Token, Word};
 pub use tree::{Atom, Compare, Formula, Operator, Place, Side, Tree};
-
-#[cfg(test)]
-mod tests;

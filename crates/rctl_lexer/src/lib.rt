@@ -11,6 +11,3 @@ mod run;
 mod word;
 
 pub use lexer::{Lexed, lex};
-
-#[cfg(test)]
-mod tests;

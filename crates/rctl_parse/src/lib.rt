@@ -19,6 +19,3 @@ pub use rctl_grammar::{
 };
 pub use rctl_print::print;
 pub use read::{LONGEST_FORMULA, parse, parse_long};
-
-#[cfg(test)]
-mod tests;

@@ -29,6 +29,3 @@ pub fn print(alloc: Global, formula: &Formula) -> Result<Bytes, NoMemory>
     tree::put_tree(&mut out, &formula.tree)?;
     Ok(out)
 }
-
-#[cfg(test)]
-mod tests;

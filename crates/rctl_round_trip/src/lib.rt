@@ -30,6 +30,3 @@ pub fn printed_is_itself()
 pub fn printed_is_short()
     ensures { PrintedIsShort }
 {}
-
-#[cfg(test)]
-mod tests;

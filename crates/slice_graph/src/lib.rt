@@ -30,6 +30,3 @@ pub use order_pulls_of::{order_fans, order_pulls};
 pub use slice::Slice;
 pub use starting::order_rows;
 pub use table::CutTable;
-
-#[cfg(test)]
-mod tests;

@@ -14,6 +14,3 @@ mod threads;
 mod workers;
 
 pub use settled::{Settled, settle_all};
-
-#[cfg(test)]
-mod tests;

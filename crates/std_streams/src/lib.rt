@@ -12,6 +12,3 @@ mod writing;
 
 pub use reading::Reading;
 pub use writing::Writing;
-
-#[cfg(test)]
-mod tests;

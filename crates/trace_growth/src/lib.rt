@@ -13,6 +13,3 @@ mod trace;
 
 pub use laws::a_batch_only_adds;
 pub use trace::Trace;
-
-#[cfg(test)]
-mod tests;

@@ -28,6 +28,3 @@ pub use laws::{
     faultless_is_a_run, no_fault_is_a_run, no_fault_is_an_order, only_new_names_count,
     worked_faults,
 };
-
-#[cfg(test)]
-mod tests;

@@ -16,6 +16,3 @@ pub use calm::Calm;
 pub use owing::Owing;
 pub use predicate::{Handed, Watch, feed_one};
 pub use stable::Stable;
-
-#[cfg(test)]
-mod tests;

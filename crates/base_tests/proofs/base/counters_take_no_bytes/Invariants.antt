@@ -1,0 +1,4 @@
+use Rattle.base_tests.proofs.base.counters_take_no_bytes.Given as goal
+
+abbrev pub ghosts-two_ticks : goal.ghosts-two_ticks
+ghosts-two_ticks g a = record { name = a.blank.name; parts = a.blank.parts }

@@ -1,0 +1,13 @@
+//! Tests of the lowest crates: numbers, lists and shapes, streams, watches, and cuts.
+//!
+//! They stand apart from what they test, so that each crate is proved once.
+#![tactic(auto)]
+
+#[cfg(test)]
+mod base;
+#[cfg(test)]
+mod cuts;
+#[cfg(test)]
+mod streams;
+#[cfg(test)]
+mod watches;

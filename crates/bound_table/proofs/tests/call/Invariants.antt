@@ -1,4 +1,0 @@
-use Rattle.bound_table.proofs.tests.call.Given as goal
-
-abbrev pub ghosts-settle_and_lend : goal.ghosts-settle_and_lend
-ghosts-settle_and_lend a = record { name = a.blank.name; parts = a.blank.parts }

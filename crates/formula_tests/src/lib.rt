@@ -1,0 +1,16 @@
+//! Tests of formulas as text: the grammar, tokens, reading, printing, and reading back what was
+//! printed.
+//!
+//! They stand apart from what they test, so that each crate is proved once.
+#![tactic(auto)]
+
+#[cfg(test)]
+mod grammar;
+#[cfg(test)]
+mod printing;
+#[cfg(test)]
+mod reading;
+#[cfg(test)]
+mod round_trip;
+#[cfg(test)]
+mod tokens;

@@ -1,4 +1,0 @@
-use Rattle.pota_base.proofs.tests.counters_take_no_bytes.Given as goal
-
-abbrev pub ghosts-two_ticks : goal.ghosts-two_ticks
-ghosts-two_ticks g a = record { name = a.blank.name; parts = a.blank.parts }

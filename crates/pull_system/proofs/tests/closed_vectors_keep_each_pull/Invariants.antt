@@ -1,4 +1,0 @@
-use Rattle.pull_system.proofs.tests.closed_vectors_keep_each_pull.Given as goal
-
-abbrev pub ghosts-closed_at : goal.ghosts-closed_at
-ghosts-closed_at g a = record { name = a.blank.name; parts = a.blank.parts }

@@ -1,0 +1,162 @@
+ghost use Rattle.std.specs.Prelude.{◌≡◌, ◌+◌, ◌<◌, ◌≤◌, length, IfOk, IfSome, OnOk};
+ghost use Rattle.std.specs.List.{AllByRecursion};
+ghost use Rattle.event_log.specs.declared.log.Header.{Header};
+ghost use Rattle.event_log.specs.LogText.{KindWithin};
+ghost use Rattle.event_log.specs.States.{IsHeader, IsKnown};
+ghost use Rattle.vector_clock.specs.Events.{EventFits};
+ghost use Rattle.trace_growth.specs.Growing.{FitsTrace};
+
+use event_log::{Event, Header, Kind, LogCode, LogFault, Name};
+use pota_base::{EventId, List, NoMemory, Refused};
+use std::alloc::Global;
+use std::test::Fail;
+use trace_growth::Trace;
+
+// Puts an event without assignments behind those of a batch.
+fn add(
+    alloc: Global,
+    batch: &mut List<Event>,
+    process: u32,
+    line: u32,
+    clock: &[u32],
+    kind: Kind,
+) -> Result<(), NoMemory>
+    requires process { process < length clock.now }
+    requires peer { KindWithin (length clock.now) kind }
+    ensures fits { OnOk result (AllByRecursion (EventFits (length clock.now)) batch.old
+        → AllByRecursion (EventFits (length clock.now)) batch.new) }
+    ensures known { OnOk result ((h : Header) → length h.procs ≡ length clock.now
+        → AllByRecursion (IsKnown h) batch.old → AllByRecursion (IsKnown h) batch.new) }
+    ensures len { OnOk result (length batch.new ≡ length batch.old + 1) }
+{
+    let clock = List::from_vec(Vec::from_slice(alloc, clock)?);
+    batch.push(Event {
+        process,
+        line,
+        clock,
+        kind,
+        assigns: List::new(alloc),
+    })
+}
+
+// `ev P 1,0 send Q 1`, and `ev Q n,1 recv P 1`.
+fn a_message(alloc: Global, n: u32) -> Result<List<Event>, NoMemory>
+    ensures fits { IfOk result (λ batch. AllByRecursion (EventFits 2) batch) }
+    ensures known { IfOk result (λ batch. (h : Header) → length h.procs ≡ 2
+        → AllByRecursion (IsKnown h) batch) }
+    ensures len { IfOk result (λ batch. length batch ≤ 2) }
+{
+    let mut batch = List::new(alloc);
+    add(
+        alloc,
+        &mut batch,
+        0,
+        3,
+        &[1, 0],
+        Kind::Send { to: 1, id: 1 },
+    )?;
+    add(
+        alloc,
+        &mut batch,
+        1,
+        4,
+        &[n, 1],
+        Kind::Receive { sender: 0, id: 1 },
+    )?;
+    Ok(batch)
+}
+
+// So many events of the first of two processes.
+fn many_events(alloc: Global, count: u32) -> Result<List<Event>, NoMemory>
+    requires { count ≤ 50000 }
+    ensures fits { IfOk result (λ batch. AllByRecursion (EventFits 2) batch) }
+    ensures known { IfOk result (λ batch. (h : Header) → length h.procs ≡ 2
+        → AllByRecursion (IsKnown h) batch) }
+    ensures len { IfOk result (λ batch. length batch ≤ 50000) }
+{
+    let mut batch = List::new(alloc);
+    for before in 0..count {
+        let clock = [before + 1, 0];
+        add(alloc, &mut batch, 0, before + 3, &clock, Kind::Internal)?;
+    }
+    Ok(batch)
+}
+
+// `procs P Q`
+fn two_processes(alloc: Global) -> Result<Option<Header>, NoMemory>
+    ensures { IfOk result (λ o. IfSome o (λ h. IsHeader h × (length h.procs ≡ 2))) }
+{
+    let (Some(p), Some(q)) = (Name::new(alloc, b"P")?, Name::new(alloc, b"Q")?) else {
+        return Ok(None);
+    };
+    let mut procs = List::new(alloc);
+    procs.push(p)?;
+    procs.push(q)?;
+    let mut vars = List::new(alloc);
+    vars.push(List::new(alloc))?;
+    vars.push(List::new(alloc))?;
+    Ok(Some(Header { procs, vars }))
+}
+
+// A trace of two processes without events, which the batch fits.
+fn trace_for(alloc: Global, batch: &List<Event>) -> Result<Option<Trace>, NoMemory>
+    requires fits { AllByRecursion (EventFits 2) batch.now }
+    requires known { (h : Header) → length h.procs ≡ 2 → AllByRecursion (IsKnown h) batch.now }
+    requires len { length batch.now ≤ 50000 }
+    ensures { IfOk result (λ o. IfSome o (λ trace. FitsTrace trace batch.now)) }
+{
+    match two_processes(alloc)? {
+        Some(header) => Ok(Some(Trace::new(alloc, header)?)),
+        None => Ok(None),
+    }
+}
+
+#[test]
+fn a_batch_is_taken(rt: HostRuntime) -> Result<(), Fail> {
+    let batch = a_message(rt.alloc(), 1)?;
+    let mut trace = trace_for(rt.alloc(), &batch)?.ok_or("names")?;
+    assert!(rt; trace.extend(batch).is_ok());
+    assert!(rt; !trace.is_spent());
+    assert_eq!(rt; trace.batches(), 1);
+    assert_eq!(rt; trace.states().shape().lens(), [1, 1].as_slice());
+    let received = EventId {
+        process: 1,
+        position: 1,
+    };
+    assert_eq!(rt; trace.event(received).line, 4);
+    Ok(())
+}
+
+#[test]
+fn a_batch_with_a_fault_is_not_taken(rt: HostRuntime) -> Result<(), Fail> {
+    let batch = a_message(rt.alloc(), 0)?;
+    let mut trace = trace_for(rt.alloc(), &batch)?.ok_or("names")?;
+    let fault = match trace.extend(batch) {
+        Err(Refused::Fault(fault)) => Some(fault),
+        _ => None,
+    };
+    let wanted = LogFault {
+        code: LogCode::ReceiveEarly,
+        line: 4,
+    };
+    assert_eq!(rt; fault, Some(wanted));
+    assert!(rt; !trace.is_spent());
+    assert_eq!(rt; trace.batches(), 0);
+    assert_eq!(rt; trace.order().shape().events(), 0);
+    Ok(())
+}
+
+// Room for all events of a large batch is taken at once, and its memory given back piece by piece.
+#[test]
+fn a_large_batch_is_taken(rt: HostRuntime) -> Result<(), Fail> {
+    let batch = many_events(rt.alloc(), 10_000)?;
+    let mut trace = trace_for(rt.alloc(), &batch)?.ok_or("names")?;
+    assert!(rt; trace.extend(batch).is_ok());
+    assert_eq!(rt; trace.states().shape().lens(), [10_000, 0].as_slice());
+    let middle = EventId {
+        process: 0,
+        position: 4_097,
+    };
+    assert_eq!(rt; trace.event(middle).line, 4_099);
+    Ok(())
+}

@@ -1,4 +1,0 @@
-use Rattle.slice_workers.proofs.tests.settled.Given as goal
-
-abbrev pub ghosts-settle_counted : goal.ghosts-settle_counted
-ghosts-settle_counted g a = record { name = a.blank.name; parts = a.blank.parts }

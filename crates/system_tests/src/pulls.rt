@@ -1,0 +1,222 @@
+ghost use Rattle.std.specs.Prelude.{◌≡◌, ◌<◌, ◌^◌, All, length};
+ghost use Rattle.pull_system.specs.System.{IsPull};
+
+use pota_base::{List, NoMemory, Shape, Steps};
+use pull_system::{Fan, Pull, Rows, System, all_fit, pulls_of};
+use std::alloc::Global;
+use std::marker::Brand;
+use std::process::Abort;
+use std::sync::ledger::{Blank, Ledger};
+use std::test::Fail;
+
+fn pull(alloc: Global, src: u32, dst: u32, table: &[u32]) -> Result<Pull, NoMemory> {
+    let table = List::from_vec(Vec::from_slice(alloc, table)?);
+    Ok(Pull { src, dst, table })
+}
+
+/// The pulls of the order of a run of two processes with three and two events, and of the predicate
+/// that the channel is empty.
+fn empty_channel(rt: &impl Abort, alloc: Global) -> Result<System, NoMemory> {
+    let shape = Shape::new(alloc, &[3, 2])?;
+    let mut pulls = List::new(alloc);
+    pulls.push(pull(alloc, 0, 1, &[0, 0, 0, 2, 2])?)?;
+    pulls.push(pull(alloc, 1, 0, &[0, 1, 1, 1])?)?;
+    pulls.push(pull(alloc, 0, 1, &[0, 1, 1, 1, 1])?)?;
+    assert!(rt; all_fit(pulls.as_slice(), &shape));
+    assert!(rt; pulls.len() == 3);
+    System::new(alloc, &shape, pulls)
+}
+
+fn closed_at<L: Ledger>(rt: &impl Abort, blank: Blank, system: &System, vector: &[u64]) -> bool
+    requires name { blank.name ≡ L.name }
+    requires parts { blank.parts ≡ L.parts }
+    requires some { 0 < blank.parts }
+{
+    assert!(rt; system.fits(vector));
+    system.is_closed(vector, &mut Steps::<L>::new(blank))
+}
+
+#[test]
+fn closed_vectors_keep_each_pull(rt: HostRuntime) -> Result<(), Fail> {
+    let system = empty_channel(&rt, rt.alloc())?;
+    assert_eq!(rt; system.pulls(), 3);
+    for (vector, closed) in [
+        ([0, 0], true),
+        ([1, 0], false),
+        ([1, 1], true),
+        ([2, 1], true),
+        ([3, 1], false),
+        ([0, 1], false),
+        ([4, 2], true),
+    ] {
+        assert_eq!(rt;
+            closed_at::<Brand>(&rt, Blank::new(1), &system, &vector),
+            closed
+        );
+    }
+    assert_eq!(rt; system.fits(&[5, 0]), false, "past the length by two");
+    Ok(())
+}
+
+#[test]
+fn pulls_know_their_ends(rt: HostRuntime) -> Result<(), Fail> {
+    let system = empty_channel(&rt, rt.alloc())?;
+    assert!(rt; system.pulls() == 3);
+    assert_eq!(rt; system.ends(1), (1, 0));
+    assert!(rt; system.shape().procs() == 2);
+    assert_eq!(rt; system.pulls_from(0), [0, 2].as_slice());
+    let falling = pull(rt.alloc(), 0, 1, &[0, 1, 0, 1, 1])?;
+    assert_eq!(rt; falling.fits(system.shape()), false);
+    Ok(())
+}
+
+/// What the pulls from a process ask of the target at the value.
+fn asked_at<L: Ledger>(
+    rt: &impl Abort,
+    blank: Blank,
+    system: &System,
+    process: u32,
+    x: u64,
+    target: u32,
+) -> u16
+    requires name { blank.name ≡ L.name }
+    requires parts { blank.parts ≡ L.parts }
+    requires some { 0 < blank.parts }
+{
+    assert!(rt; process < system.shape().procs());
+    assert!(rt; x <= system.shape().len_of(process) as u64 + 1);
+    assert!(rt; target < system.shape().procs());
+    let mut steps = Steps::<L>::new(blank);
+    system.asks(process, x, &mut steps)[target as usize]
+}
+
+#[test]
+fn asks_are_the_most_of_each_source(rt: HostRuntime) -> Result<(), Fail> {
+    let system = empty_channel(&rt, rt.alloc())?;
+    for (process, x, target, asked) in [
+        (0, 0, 1, 0),
+        (0, 1, 1, 1),
+        (0, 3, 1, 2),
+        (0, 3, 0, 0),
+        (1, 2, 0, 1),
+    ] {
+        assert_eq!(rt;
+            asked_at::<Brand>(&rt, Blank::new(1), &system, process, x, target),
+            asked
+        );
+    }
+    Ok(())
+}
+
+/// The pulls from a process to these targets, with a row for each value of its component.
+fn fan(
+    rt: &impl Abort,
+    alloc: Global,
+    src: u32,
+    targets: &[u32],
+    rows: &[&[u32]],
+) -> Result<Fan, NoMemory> {
+    let targets = List::from_vec(Vec::from_slice(alloc, targets)?);
+    let mut fan = Fan::new(alloc, src, targets, rows.len())?;
+    for row in rows {
+        assert!(rt; row.len() == fan.targets().len());
+        assert!(rt; row.iter().all(|&entry| entry < 1 << 16));
+        fan.push_row(row)?;
+    }
+    Ok(fan)
+}
+
+/// Three processes with three, two and one events. From process 0 there is a fan to both others and
+/// one to process 1 alone.
+fn three_fans(rt: &impl Abort, alloc: Global) -> Result<System, NoMemory> {
+    let shape = Shape::new(alloc, &[3, 2, 1])?;
+    let mut fans = List::new(alloc);
+    let rows: [&[u32]; 5] = [&[0, 0], &[1, 0], &[1, 1], &[2, 1], &[3, 2]];
+    fans.push(fan(rt, alloc, 0, &[1, 2], &rows)?)?;
+    let rows: [&[u32]; 4] = [&[0], &[2], &[3], &[4]];
+    fans.push(fan(rt, alloc, 1, &[0], &rows)?)?;
+    let rows: [&[u32]; 5] = [&[0], &[0], &[2], &[2], &[3]];
+    fans.push(fan(rt, alloc, 0, &[1], &rows)?)?;
+    let pulls = pulls_of(alloc, fans.as_slice())?;
+    assert!(rt; all_fit(pulls.as_slice(), &shape));
+    assert!(rt; pulls.len() == 4);
+    System::of_fans(alloc, &shape, fans)
+}
+
+/// What pull `k` asks of its target where its source is `x`.
+fn pulled_at<L: Ledger>(rt: &impl Abort, blank: Blank, system: &System, k: u32, x: u64) -> u64
+    requires name { blank.name ≡ L.name }
+    requires parts { blank.parts ≡ L.parts }
+    requires some { 0 < blank.parts }
+{
+    assert!(rt; k < system.pulls());
+    let (source, _) = system.ends(k);
+    assert!(rt; x <= system.shape().len_of(source) as u64 + 1);
+    system.pull(k, x, &mut Steps::<L>::new(blank))
+}
+
+#[test]
+fn pulls_of_fans_are_numbered_by_fan_and_target(rt: HostRuntime) -> Result<(), Fail> {
+    let system = three_fans(&rt, rt.alloc())?;
+    assert!(rt; system.pulls() == 4);
+    assert_eq!(rt; system.ends(1), (0, 2));
+    assert_eq!(rt; system.ends(2), (1, 0));
+    for (k, x, asked) in [(0, 4, 3), (1, 3, 1), (2, 1, 2), (3, 2, 2), (3, 1, 0)] {
+        assert_eq!(rt;
+            pulled_at::<Brand>(&rt, Blank::new(1), &system, k, x),
+            asked
+        );
+    }
+    Ok(())
+}
+
+#[test]
+fn asks_are_the_most_of_each_fan(rt: HostRuntime) -> Result<(), Fail> {
+    let system = three_fans(&rt, rt.alloc())?;
+    for (process, x, target, asked) in [
+        (0, 2, 1, 2),
+        (0, 2, 2, 1),
+        (0, 4, 1, 3),
+        (1, 2, 0, 3),
+        (2, 1, 1, 0),
+    ] {
+        assert_eq!(rt;
+            asked_at::<Brand>(&rt, Blank::new(1), &system, process, x, target),
+            asked
+        );
+    }
+    Ok(())
+}
+
+#[test]
+fn rows_grow_with_their_shape(rt: HostRuntime) -> Result<(), Fail> {
+    let mut old = Rows::new(rt.alloc(), &Shape::new(rt.alloc(), &[1, 1])?)?;
+    assert!(rt; old.shape().procs() == 2);
+    assert!(rt; old.shape().events() == 2);
+    old.raise(0, 1, 1);
+    old.raise(2, 0, 1);
+    let shape = Shape::new(rt.alloc(), &[2, 1])?;
+    assert!(rt; old.shape().len_of(0) == 1 && old.shape().len_of(1) == 1);
+    let rows = Rows::grown(rt.alloc(), &old, &shape)?;
+    assert_eq!(rt; rows.as_words(), [0, 1, 1, 0, 2, 0, 1, 1].as_slice());
+    assert!(rt; rows.shape().events() == 3);
+    assert_eq!(rt; rows.row(3), [1, 1].as_slice());
+    Ok(())
+}
+
+#[test]
+fn rows_begin_at_their_starts(rt: HostRuntime) -> Result<(), Fail> {
+    let shape = Shape::new(rt.alloc(), &[3, 2])?;
+    let mut rows = Rows::new(rt.alloc(), &shape)?;
+    assert_eq!(rt;
+        rows.as_words(),
+        [0, 0, 1, 0, 2, 0, 3, 0, 0, 1, 0, 2].as_slice()
+    );
+    assert!(rt; rows.shape().procs() == 2);
+    assert!(rt; rows.shape().events() == 5);
+    rows.raise(1, 1, 2);
+    rows.raise(1, 0, 0);
+    assert_eq!(rt; rows.word(1, 1), 2);
+    assert_eq!(rt; rows.word(1, 0), 1);
+    Ok(())
+}
