@@ -14,7 +14,7 @@ fn pull(alloc: Global, src: u32, dst: u32, table: &[u32]) -> Result<Pull, NoMemo
 
 /// The pulls of the order of a run of two processes with three and two events, and of the predicate
 /// that the channel is empty.
-#[tactic(auto, using(crate::proofs::Raising::starts_bounds))]
+#[tactic(auto, using(raise_machine::proofs::Raising::starts_bounds))]
 fn empty_channel(rt: &impl Abort, alloc: Global) -> Result<Machine, NoMemory> {
     let shape = Shape::new(alloc, &[3, 2])?;
     let mut pulls = List::new(alloc);
