@@ -1,8 +1,8 @@
 ghost use Rattle.std.specs.Prelude.{◌≡◌, ◌<◌, ◌≤◌, IfOk, ◌∷◌, []};
 
+use crate::systems::{empty_channel, order_and, pull, table_of};
 use bound_table::{BoundTable, Seat};
-use pota_base::{List, NoMemory, Shape, Steps};
-use pull_system::{Pull, Rows, System, all_fit};
+use pota_base::{NoMemory, Steps};
 use std::alloc::Global;
 use std::marker::Brand;
 use std::process::Abort;
@@ -10,34 +10,11 @@ use std::sync::ledger::{Blank, Ledger};
 use std::test::Fail;
 use std::thread::join;
 
-fn pull(alloc: Global, src: u32, dst: u32, table: &[u32]) -> Result<Pull, NoMemory> {
-    let table = List::from_vec(Vec::from_slice(alloc, table)?);
-    Ok(Pull { src, dst, table })
-}
-
-/// The table of the order of a run of two processes with three and two events, and of one pull
-/// more.
-#[tactic(auto, using(raise_machine::proofs::Raising::starts_bounds))]
-fn order_and(rt: &impl Abort, alloc: Global, more: Pull) -> Result<(BoundTable, Seat), NoMemory>
+fn empty_table(rt: &impl Abort, alloc: Global) -> Result<(BoundTable, Seat), NoMemory>
     ensures seat { IfOk result (λ pair. pair.1.table ≡ pair.0) }
     ensures lens { IfOk result (λ pair. pair.0.system.lens ≡ 3 ∷ 2 ∷ []) }
 {
-    let shape = Shape::new(alloc, &[3, 2])?;
-    let mut pulls = List::new(alloc);
-    pulls.push(pull(alloc, 0, 1, &[0, 0, 0, 2, 2])?)?;
-    pulls.push(pull(alloc, 1, 0, &[0, 1, 1, 1])?)?;
-    pulls.push(more)?;
-    assert!(rt; all_fit(pulls.as_slice(), &shape));
-    assert!(rt; pulls.len() == 3);
-    let floor = Rows::new(alloc, &shape)?;
-    BoundTable::new(alloc, System::new(alloc, &shape, pulls)?, &floor)
-}
-
-fn empty_channel(rt: &impl Abort, alloc: Global) -> Result<(BoundTable, Seat), NoMemory>
-    ensures seat { IfOk result (λ pair. pair.1.table ≡ pair.0) }
-    ensures lens { IfOk result (λ pair. pair.0.system.lens ≡ 3 ∷ 2 ∷ []) }
-{
-    order_and(rt, alloc, pull(alloc, 0, 1, &[0, 1, 1, 1, 1])?)
+    table_of(alloc, empty_channel(rt, alloc)?)
 }
 
 fn settle_row<L: Ledger>(
@@ -80,7 +57,7 @@ fn looked_at(rt: &impl Abort, table: &BoundTable, seat: &mut Seat, row: u32) -> 
 
 #[test]
 fn rows_settle_to_their_least_cuts(rt: HostRuntime) -> Result<(), Fail> {
-    let (table, mut seat) = empty_channel(&rt, rt.alloc())?;
+    let (table, mut seat) = empty_table(&rt, rt.alloc())?;
     assert_eq!(rt; settled(&rt, &table, &mut seat, 0), [0, 0]);
     assert_eq!(rt; settled(&rt, &table, &mut seat, 1), [1, 1]);
     assert_eq!(rt; settled(&rt, &table, &mut seat, 3), [3, 2]);
@@ -90,7 +67,8 @@ fn rows_settle_to_their_least_cuts(rt: HostRuntime) -> Result<(), Fail> {
 
 #[test]
 fn rows_without_a_cut_pass_the_length(rt: HostRuntime) -> Result<(), Fail> {
-    let (table, mut seat) = order_and(&rt, rt.alloc(), pull(rt.alloc(), 0, 0, &[0, 4, 4, 4, 4])?)?;
+    let system = order_and(&rt, rt.alloc(), pull(rt.alloc(), 0, 0, &[0, 4, 4, 4, 4])?)?;
+    let (table, mut seat) = table_of(rt.alloc(), system)?;
     assert_eq!(rt; settled(&rt, &table, &mut seat, 1), [4, 2]);
     assert_eq!(rt; settled(&rt, &table, &mut seat, 4), [4, 2]);
     Ok(())
@@ -134,7 +112,7 @@ fn call(table: &BoundTable, seat: Seat) -> Caller
 
 #[test]
 fn two_callers_settle_and_lend_the_same_rows(rt: HostRuntime) -> Result<(), Fail> {
-    let (table, mut first) = empty_channel(&rt, rt.alloc())?;
+    let (table, mut first) = empty_table(&rt, rt.alloc())?;
     let second = table.split(&mut first);
     let (first, second) = join(&rt, || call(&table, first), || call(&table, second));
     assert_eq!(rt; first.rows, [[0, 0], [1, 1], [3, 2], [2, 1]]);
@@ -147,7 +125,7 @@ fn two_callers_settle_and_lend_the_same_rows(rt: HostRuntime) -> Result<(), Fail
 
 #[test]
 fn a_process_is_claimed_by_one_seat(rt: HostRuntime) -> Result<(), Fail> {
-    let (table, mut first) = empty_channel(&rt, rt.alloc())?;
+    let (table, mut first) = empty_table(&rt, rt.alloc())?;
     let mut second = table.split(&mut first);
     assert!(rt; table.system().shape().procs() == 2);
     assert_eq!(rt; table.claim(&mut first, 0), true);

@@ -1,30 +1,14 @@
 ghost use Rattle.std.specs.Prelude.{◌≡◌, ◌<◌};
 
+use crate::systems::{self, order_and, pull};
 use least_cut::least;
-use pota_base::{List, NoMemory, Shape, Steps};
-use pull_system::{Pull, System, all_fit};
+use pota_base::Steps;
+use pull_system::System;
 use std::alloc::Global;
 use std::marker::Brand;
 use std::process::Abort;
 use std::sync::ledger::{Blank, Ledger};
 use std::test::Fail;
-
-fn pull(alloc: Global, src: u32, dst: u32, table: &[u32]) -> Result<Pull, NoMemory> {
-    let table = List::from_vec(Vec::from_slice(alloc, table)?);
-    Ok(Pull { src, dst, table })
-}
-
-/// The pulls of the order of a run of two processes with three and two events, and one more pull.
-fn order_and(rt: &impl Abort, alloc: Global, more: Pull) -> Result<System, NoMemory> {
-    let shape = Shape::new(alloc, &[3, 2])?;
-    let mut pulls = List::new(alloc);
-    pulls.push(pull(alloc, 0, 1, &[0, 0, 0, 2, 2])?)?;
-    pulls.push(pull(alloc, 1, 0, &[0, 1, 1, 1])?)?;
-    pulls.push(more)?;
-    assert!(rt; all_fit(pulls.as_slice(), &shape));
-    assert!(rt; pulls.len() == 3);
-    System::new(alloc, &shape, pulls)
-}
 
 fn least_from<L: Ledger>(
     rt: &impl Abort,
@@ -43,7 +27,7 @@ fn least_from<L: Ledger>(
 
 #[test]
 fn empty_channel(rt: HostRuntime) -> Result<(), Fail> {
-    let system = order_and(&rt, rt.alloc(), pull(rt.alloc(), 0, 1, &[0, 1, 1, 1, 1])?)?;
+    let system = systems::empty_channel(&rt, rt.alloc())?;
     for (start, end) in [
         ([0, 0], [0, 0]),
         ([1, 0], [1, 1]),

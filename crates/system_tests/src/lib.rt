@@ -15,4 +15,6 @@ mod machine;
 #[cfg(test)]
 mod pulls;
 #[cfg(test)]
+mod systems;
+#[cfg(test)]
 mod workers;

@@ -1,31 +1,14 @@
 ghost use Rattle.std.specs.Prelude.{◌≡◌, ◌<◌, ◌^◌, All, length};
 ghost use Rattle.pull_system.specs.System.{IsPull};
 
+use crate::systems::{empty_channel, pull};
 use pota_base::{List, NoMemory, Shape, Steps};
-use pull_system::{Fan, Pull, Rows, System, all_fit, pulls_of};
+use pull_system::{Fan, Rows, System, all_fit, pulls_of};
 use std::alloc::Global;
 use std::marker::Brand;
 use std::process::Abort;
 use std::sync::ledger::{Blank, Ledger};
 use std::test::Fail;
-
-fn pull(alloc: Global, src: u32, dst: u32, table: &[u32]) -> Result<Pull, NoMemory> {
-    let table = List::from_vec(Vec::from_slice(alloc, table)?);
-    Ok(Pull { src, dst, table })
-}
-
-/// The pulls of the order of a run of two processes with three and two events, and of the predicate
-/// that the channel is empty.
-fn empty_channel(rt: &impl Abort, alloc: Global) -> Result<System, NoMemory> {
-    let shape = Shape::new(alloc, &[3, 2])?;
-    let mut pulls = List::new(alloc);
-    pulls.push(pull(alloc, 0, 1, &[0, 0, 0, 2, 2])?)?;
-    pulls.push(pull(alloc, 1, 0, &[0, 1, 1, 1])?)?;
-    pulls.push(pull(alloc, 0, 1, &[0, 1, 1, 1, 1])?)?;
-    assert!(rt; all_fit(pulls.as_slice(), &shape));
-    assert!(rt; pulls.len() == 3);
-    System::new(alloc, &shape, pulls)
-}
 
 fn closed_at<L: Ledger>(rt: &impl Abort, blank: Blank, system: &System, vector: &[u64]) -> bool
     requires name { blank.name ≡ L.name }

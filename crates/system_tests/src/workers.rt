@@ -1,8 +1,8 @@
-ghost use Rattle.std.specs.Prelude.{◌≡◌, ◌<◌, ◌≤◌, IfOk};
+ghost use Rattle.std.specs.Prelude.{◌≡◌, ◌<◌, ◌≤◌};
 
-use bound_table::{BoundTable, Seat};
+use crate::systems::{empty_channel, order_and, pull, table_of};
 use pota_base::{FreeGate, Gate, List, NoMemory, Shape, Steps};
-use pull_system::{Pull, Rows, System, all_fit};
+use pull_system::{System, all_fit};
 use slice_workers::{Settled, settle_all};
 use std::alloc::Global;
 use std::marker::Brand;
@@ -12,58 +12,31 @@ use std::sync::ledger::{Blank, Ledger};
 use std::test::Fail;
 use std::thread::{Threads, yield_now};
 
-fn pull(alloc: Global, src: u32, dst: u32, table: &[u32]) -> Result<Pull, NoMemory> {
-    let table = List::from_vec(Vec::from_slice(alloc, table)?);
-    Ok(Pull { src, dst, table })
-}
-
-/// The table of the order of a run of two processes with three and two events, and of one pull
-/// more.
-#[tactic(auto, using(raise_machine::proofs::Raising::starts_bounds))]
-fn order_and(rt: &impl Abort, alloc: Global, more: Pull) -> Result<(BoundTable, Seat), NoMemory>
-    ensures { IfOk result (λ pair. pair.1.table ≡ pair.0) }
-{
-    let shape = Shape::new(alloc, &[3, 2])?;
-    let mut pulls = List::new(alloc);
-    pulls.push(pull(alloc, 0, 1, &[0, 0, 0, 2, 2])?)?;
-    pulls.push(pull(alloc, 1, 0, &[0, 1, 1, 1])?)?;
-    pulls.push(more)?;
-    assert!(rt; all_fit(pulls.as_slice(), &shape));
-    assert!(rt; pulls.len() == 3);
-    let floor = Rows::new(alloc, &shape)?;
-    BoundTable::new(alloc, System::new(alloc, &shape, pulls)?, &floor)
-}
-
-/// The table of one process with two events, of which only the second may end a cut.
-#[tactic(auto, using(raise_machine::proofs::Raising::starts_bounds))]
-fn one_process(rt: &impl Abort, alloc: Global) -> Result<(BoundTable, Seat), NoMemory>
-    ensures { IfOk result (λ pair. pair.1.table ≡ pair.0) }
-{
+/// The system of one process with two events, of which only the second may end a cut.
+fn one_process(rt: &impl Abort, alloc: Global) -> Result<System, NoMemory> {
     let shape = Shape::new(alloc, &[2])?;
     let mut pulls = List::new(alloc);
     pulls.push(pull(alloc, 0, 0, &[0, 2, 2, 3])?)?;
     assert!(rt; all_fit(pulls.as_slice(), &shape));
     assert!(rt; pulls.len() == 1);
-    let floor = Rows::new(alloc, &shape)?;
-    BoundTable::new(alloc, System::new(alloc, &shape, pulls)?, &floor)
+    System::new(alloc, &shape, pulls)
 }
 
 fn settle_counted<R: Threads + Sync, G: Gate, L: Ledger>(
     rt: &R,
     alloc: Global,
     blank: Blank,
-    pair: (BoundTable, Seat),
+    system: System,
     workers: u32,
     gate: &G,
 ) -> Result<Settled, NoMemory>
     requires name { blank.name ≡ L.name }
     requires parts { blank.parts ≡ L.parts }
     requires count { 0 < blank.parts }
-    requires fits { pair.1.table ≡ pair.0 }
     requires some { 1 ≤ workers }
     requires few { workers ≤ 16 }
 {
-    let (table, mut seat) = pair;
+    let (table, mut seat) = table_of(alloc, system)?;
     let mut steps = Steps::<L>::new(blank);
     settle_all(rt, alloc, &table, &mut seat, workers, gate, &mut steps)
 }
@@ -71,15 +44,14 @@ fn settle_counted<R: Threads + Sync, G: Gate, L: Ledger>(
 fn settled<R: Threads + Sync, G: Gate>(
     rt: &R,
     alloc: Global,
-    pair: (BoundTable, Seat),
+    system: System,
     workers: u32,
     gate: &G,
 ) -> Result<Settled, NoMemory>
-    requires fits { pair.1.table ≡ pair.0 }
     requires some { 1 ≤ workers }
     requires few { workers ≤ 16 }
 {
-    settle_counted::<R, G, Brand>(rt, alloc, Blank::new(1), pair, workers, gate)
+    settle_counted::<R, G, Brand>(rt, alloc, Blank::new(1), system, workers, gate)
 }
 
 #[test]
@@ -87,8 +59,8 @@ fn any_number_of_workers_gives_these_rows(rt: HostRuntime) -> Result<(), Fail> {
     let alloc = rt.alloc();
     for workers in [1, 2, 3, 16] {
         assert!(rt; 1 <= workers && workers <= 16);
-        let table = order_and(&rt, alloc, pull(alloc, 0, 1, &[0, 1, 1, 1, 1])?)?;
-        let rows = settled(&rt, alloc, table, workers, &FreeGate)?;
+        let system = empty_channel(&rt, alloc)?;
+        let rows = settled(&rt, alloc, system, workers, &FreeGate)?;
         assert_eq!(rt;
             rows.rows().as_words(),
             [0, 0, 1, 1, 2, 1, 3, 2, 1, 1, 1, 2].as_slice()
@@ -102,8 +74,8 @@ fn rows_without_cuts(rt: HostRuntime) -> Result<(), Fail> {
     let alloc = rt.alloc();
     for workers in [1, 2, 3, 16] {
         assert!(rt; 1 <= workers && workers <= 16);
-        let table = order_and(&rt, alloc, pull(alloc, 0, 0, &[0, 4, 4, 4, 4])?)?;
-        let rows = settled(&rt, alloc, table, workers, &FreeGate)?;
+        let system = order_and(&rt, alloc, pull(alloc, 0, 0, &[0, 4, 4, 4, 4])?)?;
+        let rows = settled(&rt, alloc, system, workers, &FreeGate)?;
         assert_eq!(rt;
             rows.rows().as_words(),
             [0, 0, 4, 2, 4, 2, 4, 2, 4, 2, 4, 2].as_slice()
@@ -164,8 +136,7 @@ fn workers_are_there_at_the_same_time(rt: HostRuntime) -> Result<(), Fail> {
         second: AtomicBool::new(false),
         missed: AtomicBool::new(false),
     };
-    let table = order_and(&rt, alloc, pull(alloc, 0, 1, &[0, 1, 1, 1, 1])?)?;
-    let _rows = settled(&rt, alloc, table, 2, &gate)?;
+    let _rows = settled(&rt, alloc, empty_channel(&rt, alloc)?, 2, &gate)?;
     let order = Ordering::SeqCst;
     assert!(rt; gate.first.load(order) && gate.second.load(order));
     assert!(rt; !gate.missed.load(order));
