@@ -1,103 +1,129 @@
--- Rows that are raised to what one target after another, one value after another and one fan after another asks.
-use Rattle.std.proofs.Common.{◌≡◌, ℕ, zero, suc, ◌+◌, ◌-◌, ◌*◌, ◌<◌, ◌≤◌, ◌⊎◌, inl, inr, List, [], ◌++◌, length, get_or, set, max, take, drop, replicate, refl, arith, sym, ap, ◌∙◌, subst, length-append, get_or-set_same}
+-- Rows that are raised to what one value after another, one run of targets after another and one fan after another asks.
+use Rattle.std.proofs.Common.{◌≡◌, ℕ, zero, suc, ◌+◌, ◌-◌, ◌*◌, ◌<◌, ◌≤◌, ◌⊎◌, inl, inr, List, [], ◌++◌, length, get_or, max, take, drop, replicate, refl, arith, sym, ap, ◌∙◌, subst, length-append}
 use Rattle.std.specs.Prelude.{slice_index}
-use Rattle.std.proofs.lemmas.List.{length-set, length-replicate, get_or-append-add}
+use Rattle.std.proofs.lemmas.List.{length-take, length-drop, length-replicate, get_or-append-add, get_or-append_right, get_or-take, get_or-drop}
 use Rattle.std.proofs.lemmas.List.FromFn.{get_or-map-range_with_len, length-map-range_with_len}
-use Rattle.std.proofs.lemmas.Nat.{same_from_place}
-use Rattle.std.proofs.lemmas.Bool.{cases_eq}
+use Rattle.std.proofs.lemmas.Nat.{mul-add-lt, same_from_place}
+use borrow.Rule.Slice.PartMut.{put_mid, same_len_mid}
 use Rattle.std.proofs.Math.ListN.{get_or-append}
 use Rattle.std.proofs.Math.Seq.{take-append_seam}
 use Rattle.pull_system.specs.declared.pull.Pull.{Pull}
 use Rattle.pull_system.specs.System.{no_pull}
 use Rattle.pull_system.specs.Fans.{FanView, entry_of, pull_of_fan, pulls_of_fan}
-use Rattle.pull_system.specs.Asks.{IsAskedBy, AreAskRows, IsAskedAt, IsRaised, AreRaised}
-use Rattle.pull_system.proofs.Climbing.{set_case}
+use Rattle.pull_system.specs.Asks.{IsAskedBy, AreAskRows, IsRun, IsAskedIn, AreRaisedIn, AreRaised}
+use Rattle.pull_system.specs.Vector.{IsMaximum}
 
 within_one : (i n : ℕ) → i < n + 1 → (i < n) ⊎ (i ≡ n)
 within_one i n h = grind arith
 
+lt_or_le : (i n : ℕ) → (i < n) ⊎ (n ≤ i)
+lt_or_le i n = grind arith
+
 max_case : (a b : ℕ) → (max a b ≡ a) ⊎ (max a b ≡ b)
 max_case a b = grind arith
 
-keep_at : (now new : List ℕ) (place value i : ℕ) → new ≡ set now place value → (i ≡ place → ⊥) → get_or new i 0 ≡ get_or now i 0
-keep_at now new place value i same other =
-    ap (λ xs. get_or xs i 0) same ∙ elim (set_case now place value i 0) [ inl e ↦ e | inr e ↦ absurd (other e.0) ]
+-- ---- a run at one value
 
--- ---- one target after another
+-- the targets of a run are below the number of processes, so its piece stays within its row
+pub run_fits : (targets : List ℕ) (first end procs x values room : ℕ) → IsRun targets first end → ((i : ℕ) → i < length targets → get_or targets i 0 < procs) → x < values → values * procs ≤ room
+    → x * procs + get_or targets first 0 + (end - first) ≤ room
+run_fits targets first end procs x values room run few below fits =
+    let last : first + (end - 1 - first) < end = omega (arith, run.some) in
+    let there : get_or targets (first + (end - 1 - first)) 0 < procs = few (first + (end - 1 - first)) (omega (arith, last, run.within)) in
+    omega (arith, run.some, run.each (end - 1 - first) last, mul-add-lt x procs (get_or targets (first + (end - 1 - first)) 0) values below there, fits)
 
-pub raised_none : (begin : ℕ) (targets asked rows : List ℕ) → IsRaised begin targets asked 0 rows rows
-raised_none begin targets asked rows = record { size = refl; keeps = λ place. omega arith; covers = λ i below. absurd (omega arith); asked = λ place. inl refl }
+-- a piece of the row that begins there is raised to what is asked of it
+pub record PieceRaised (begin : ℕ) (asked now new : List ℕ) : Type 0 where
+  pub size : length new ≡ length now
+  pub inside : (i : ℕ) → i < length asked → get_or new (begin + i) 0 ≡ max (get_or now (begin + i) 0) (get_or asked i 0)
+  pub outside : (place : ℕ) → (place < begin) ⊎ (begin + length asked ≤ place) → get_or new place 0 ≡ get_or now place 0
 
-asked_later : (begin : ℕ) (targets asked : List ℕ) (count place m n : ℕ) → n ≡ m → IsAskedAt begin targets asked count place m → IsAskedAt begin targets asked (count + 1) place n
-asked_later begin targets asked count place m n same is = record { index = is.index; below = omega (arith, is.below); at = is.at; asks = is.asks ∙ sym same }
+-- the piece was lent, raised and put back
+pub piece_raised : (begin count : ℕ) (asked now raised : List ℕ) → count ≡ length asked → begin + length asked ≤ length now → IsMaximum (take count (drop begin now)) asked raised → PieceRaised begin asked now (put_mid begin count now raised)
+piece_raised begin count asked now raised same room is = record { size = same_len_mid begin count now raised is.size; inside = inside; outside = outside }
+  where
+    front : length (take begin now) ≡ begin
+    front = omega (arith, length-take begin now)
 
-pub raised_next : (begin : ℕ) (targets asked : List ℕ) (count place : ℕ) (before now new : List ℕ) → IsRaised begin targets asked count before now → place ≡ begin + get_or targets count 0 → place < length now
-    → new ≡ set now place (max (get_or now place 0) (get_or asked count 0)) → IsRaised begin targets asked (count + 1) before new
-raised_next begin targets asked count place before now new so_far is room same = record {
-  size = ap length same ∙ length-set now place value ∙ so_far.size;
-  keeps = λ p. omega (arith, so_far.keeps p, grows p);
-  covers = λ i below. elim (within_one i count below) [
-    | inl less ↦ omega (arith, so_far.covers i less, grows (begin + get_or targets i 0))
+    whole : length raised ≡ count
+    whole = omega (arith, is.size, length-take count (drop begin now), length-drop begin now)
+
+    inside : (i : ℕ) → i < length asked → get_or (take begin now ++ (raised ++ drop count (drop begin now))) (begin + i) 0 ≡ max (get_or now (begin + i) 0) (get_or asked i 0)
+    inside i there =
+        get_or-append_right (take begin now) (raised ++ drop count (drop begin now)) begin (begin + i) 0 front (omega arith)
+        ∙ ap (λ (j : ℕ). get_or (raised ++ drop count (drop begin now)) j 0) (let back : begin + i - begin ≡ i = omega arith in back)
+        ∙ get_or-append raised (drop count (drop begin now)) 0 i (omega (arith, there, whole, same))
+        ∙ is.each i
+        ∙ ap (λ (n : ℕ). max n (get_or asked i 0)) (get_or-take count (drop begin now) i 0 (omega (arith, there, same)) ∙ get_or-drop begin now i 0)
+
+    outside : (place : ℕ) → (place < begin) ⊎ (begin + length asked ≤ place) → get_or (take begin now ++ (raised ++ drop count (drop begin now))) place 0 ≡ get_or now place 0
+    outside place (inl less) = get_or-append (take begin now) (raised ++ drop count (drop begin now)) 0 place (omega (arith, less, front)) ∙ get_or-take begin now place 0 less
+    outside place (inr past) =
+        get_or-append_right (take begin now) (raised ++ drop count (drop begin now)) begin place 0 front (omega (arith, past))
+        ∙ get_or-append_right raised (drop count (drop begin now)) count (place - begin) 0 whole (omega (arith, past, same))
+        ∙ get_or-drop count (drop begin now) (place - begin - count) 0
+        ∙ get_or-drop begin now (count + (place - begin - count)) 0
+        ∙ ap (λ (p : ℕ). get_or now p 0) (let back : begin + (count + (place - begin - count)) ≡ place = omega (arith, past, same) in back)
+
+in_or_out : (begin n place : ℕ) → ((place < begin) ⊎ (begin + n ≤ place)) ⊎ ((place - begin < n) × (begin + (place - begin) ≡ place))
+in_or_out begin n place = grind arith
+
+piece_grows : (begin : ℕ) (asked now new : List ℕ) → PieceRaised begin asked now new → (place : ℕ) → get_or now place 0 ≤ get_or new place 0
+piece_grows begin asked now new piece place = elim (in_or_out begin (length asked) place) [
+  | inl out ↦ omega (arith, piece.outside place out)
+  | inr at ↦ let P : ℕ → Type 0 = λ p. get_or now p 0 ≤ get_or new p 0 in subst P at.1 (omega (arith, piece.inside (place - begin) at.0))
+]
+
+asked_later : (fan : FanView) (procs first end x place m n : ℕ) → n ≡ m → IsAskedIn fan procs first end x place m → IsAskedIn fan procs first end (x + 1) place n
+asked_later fan procs first end x place m n same by = record { x = by.x; index = by.index; value = omega (arith, by.value); from = by.from; below = by.below; at = by.at; asks = by.asks ∙ sym same }
+
+pub raised_in_next : (fan : FanView) (procs first end x begin : ℕ) (asked before now new : List ℕ) → IsRun fan.targets first end → AreRaisedIn fan procs first end x before now → PieceRaised begin asked now new
+    → begin ≡ x * procs + get_or fan.targets first 0 → first + length asked ≡ end → ((i : ℕ) → i < length asked → get_or asked i 0 ≡ entry_of fan (first + i) x) → AreRaisedIn fan procs first end (x + 1) before new
+raised_in_next fan procs first end x begin asked before now new run so_far piece starts size is = record {
+  size = piece.size ∙ so_far.size;
+  keeps = λ place. omega (arith, so_far.keeps place, grows place);
+  covers = λ y index below from until. elim (within_one y x below) [
+    | inl less ↦ omega (arith, so_far.covers y index less from until, grows (y * procs + get_or fan.targets index 0))
     | inr last ↦
-        let P : ℕ → Type 0 = λ j. get_or asked j 0 ≤ get_or new (begin + get_or targets j 0) 0 in
-        subst P (sym last) (let Q : ℕ → Type 0 = λ p. get_or asked count 0 ≤ get_or new p 0 in subst Q is (omega (arith, here)))
+        let P : ℕ → Type 0 = λ z. entry_of fan index z ≤ get_or new (z * procs + get_or fan.targets index 0) 0 in
+        let Q : ℕ → Type 0 = λ j. entry_of fan j x ≤ get_or new (x * procs + get_or fan.targets j 0) 0 in
+        subst P (sym last) (let same : first + (index - first) ≡ index = omega arith in subst Q same (covered (index - first) (omega (arith, size, from, until))))
   ];
-  asked = λ p. elim (cases_eq p place) [
-    | inl at ↦
-        let P : ℕ → Type 0 = λ q. (get_or new q 0 ≡ get_or before q 0) ⊎ IsAskedAt begin targets asked (count + 1) q (get_or new q 0) in
-        subst P (sym at) (raised_here (max_case (get_or now place 0) (get_or asked count 0)))
-    | inr other ↦ along p (keep p other)
+  asked = λ place. elim (in_or_out begin (length asked) place) [
+    | inl out ↦ along place (piece.outside place out)
+    | inr at ↦
+        let P : ℕ → Type 0 = λ p. (get_or new p 0 ≡ get_or before p 0) ⊎ IsAskedIn fan procs first end (x + 1) p (get_or new p 0) in
+        subst P at.1 (raised_at (place - begin) at.0 (max_case (get_or now (begin + (place - begin)) 0) (get_or asked (place - begin) 0)))
   ];
 }
   where
-    value : ℕ
-    value = max (get_or now place 0) (get_or asked count 0)
+    grows : (place : ℕ) → get_or now place 0 ≤ get_or new place 0
+    grows place = piece_grows begin asked now new piece place
 
-    here : get_or new place 0 ≡ max (get_or now place 0) (get_or asked count 0)
-    here = ap (λ xs. get_or xs place 0) same ∙ get_or-set_same now place value 0 room
+    -- where the run asks at this value
+    there : (i : ℕ) → i < length asked → x * procs + get_or fan.targets (first + i) 0 ≡ begin + i
+    there i inside = omega (arith, starts, run.each i (omega (arith, size, inside)))
 
-    keep : (p : ℕ) → (p ≡ place → ⊥) → get_or new p 0 ≡ get_or now p 0
-    keep p other = keep_at now new place value p same other
+    covered : (i : ℕ) → i < length asked → entry_of fan (first + i) x ≤ get_or new (x * procs + get_or fan.targets (first + i) 0) 0
+    covered i inside =
+        let P : ℕ → Type 0 = λ p. entry_of fan (first + i) x ≤ get_or new p 0 in
+        subst P (sym (there i inside)) (omega (arith, is i inside, piece.inside i inside))
 
-    grows : (p : ℕ) → get_or now p 0 ≤ get_or new p 0
-    grows p = elim (cases_eq p place) [
-      | inl at ↦ let P : ℕ → Type 0 = λ q. get_or now q 0 ≤ get_or new q 0 in subst P (sym at) (omega (arith, here))
-      | inr other ↦ omega (arith, keep p other)
-    ]
+    along : (place : ℕ) → get_or new place 0 ≡ get_or now place 0 → (get_or new place 0 ≡ get_or before place 0) ⊎ IsAskedIn fan procs first end (x + 1) place (get_or new place 0)
+    along place same = elim (so_far.asked place) [ inl was ↦ inl (same ∙ was) | inr by ↦ inr (asked_later fan procs first end x place _ _ same by) ]
 
-    along : (p : ℕ) → get_or new p 0 ≡ get_or now p 0 → (get_or new p 0 ≡ get_or before p 0) ⊎ IsAskedAt begin targets asked (count + 1) p (get_or new p 0)
-    along p e = elim (so_far.asked p) [ inl was ↦ inl (e ∙ was) | inr by ↦ inr (asked_later begin targets asked count p _ _ e by) ]
-
-    raised_here : (max (get_or now place 0) (get_or asked count 0) ≡ get_or now place 0) ⊎ (max (get_or now place 0) (get_or asked count 0) ≡ get_or asked count 0)
-        → (get_or new place 0 ≡ get_or before place 0) ⊎ IsAskedAt begin targets asked (count + 1) place (get_or new place 0)
-    raised_here (inl as_before) = along place (here ∙ as_before)
-    raised_here (inr by_this) = inr record { index = count; below = omega arith; at = sym is; asks = sym (here ∙ by_this) }
-
--- ---- one value after another
-
-pub all_raised_none : (fan : FanView) (procs : ℕ) (rows : List ℕ) → AreRaised fan procs 0 rows rows
-all_raised_none fan procs rows = record { size = refl; keeps = λ place. omega arith; covers = λ x index below. absurd (omega arith); asked = λ place. inl refl }
-
-pub all_raised_next : (fan : FanView) (procs x : ℕ) (asked before now new : List ℕ) → AreRaised fan procs x before now → IsRaised (x * procs) fan.targets asked (length fan.targets) now new
-    → ((i : ℕ) → i < length fan.targets → get_or asked i 0 ≡ entry_of fan i x) → AreRaised fan procs (x + 1) before new
-all_raised_next fan procs x asked before now new so_far row is = record {
-  size = row.size ∙ so_far.size;
-  keeps = λ place. omega (arith, so_far.keeps place, row.keeps place);
-  covers = λ y index below target. elim (within_one y x below) [
-    | inl less ↦ omega (arith, so_far.covers y index less target, row.keeps (y * procs + get_or fan.targets index 0))
-    | inr last ↦
-        let P : ℕ → Type 0 = λ z. entry_of fan index z ≤ get_or new (z * procs + get_or fan.targets index 0) 0 in
-        subst P (sym last) (omega (arith, row.covers index target, is index target))
-  ];
-  asked = λ place. elim (row.asked place) [
-    | inl as_before ↦
-        elim (so_far.asked place) [
-          | inl was ↦ inl (as_before ∙ was)
-          | inr by ↦ inr record { x = by.x; index = by.index; value = omega (arith, by.value); target = by.target; at = by.at; asks = by.asks ∙ sym as_before }
-        ]
-    | inr by ↦ inr record { x = x; index = by.index; value = omega arith; target = by.below; at = by.at; asks = sym (is by.index by.below) ∙ by.asks }
-  ];
-}
+    raised_at : (i : ℕ) → i < length asked → (max (get_or now (begin + i) 0) (get_or asked i 0) ≡ get_or now (begin + i) 0) ⊎ (max (get_or now (begin + i) 0) (get_or asked i 0) ≡ get_or asked i 0)
+        → (get_or new (begin + i) 0 ≡ get_or before (begin + i) 0) ⊎ IsAskedIn fan procs first end (x + 1) (begin + i) (get_or new (begin + i) 0)
+    raised_at i inside (inl as_before) = along (begin + i) (piece.inside i inside ∙ as_before)
+    raised_at i inside (inr by_this) = inr record {
+      x = x;
+      index = first + i;
+      value = omega arith;
+      from = omega arith;
+      below = omega (arith, size, inside);
+      at = there i inside;
+      asks = sym (is i inside) ∙ sym (piece.inside i inside ∙ by_this);
+    }
 
 -- ---- one fan after another
 
@@ -117,9 +143,6 @@ ask_rows_none lens process values rows same = record {
 pub data JoinedAt (pulls : List Pull) (fan : FanView) (k : ℕ) : Type 0 where
   Before : k < length pulls → get_or (pulls ++ pulls_of_fan fan) k no_pull ≡ get_or pulls k no_pull → JoinedAt pulls fan k
   Of : (i : ℕ) → i < length fan.targets → get_or (pulls ++ pulls_of_fan fan) k no_pull ≡ pull_of_fan fan i → JoinedAt pulls fan k
-
-lt_or_le : (i n : ℕ) → (i < n) ⊎ (n ≤ i)
-lt_or_le i n = grind arith
 
 pub length-pulls_of_fan : (fan : FanView) → length (pulls_of_fan fan) ≡ length fan.targets
 length-pulls_of_fan fan = length-map-range_with_len (pull_of_fan fan) 0 (length fan.targets)

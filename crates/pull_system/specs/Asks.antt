@@ -1,6 +1,6 @@
 -- Rows of asks: for one value of a source, the most that any of its pulls asks of each process.
-use Rattle.std.specs.Prelude.{◌≡◌, ◌⊎◌, ℕ, ◌+◌, ◌*◌, ◌<◌, ◌≤◌, List, [], length, slice_index}
-use Rattle.std.specs.Prelude.{slice_index_or}
+use Rattle.std.specs.Prelude.{◌≡◌, ◌≢◌, ◌⊎◌, ℕ, ◌+◌, ◌*◌, ◌<◌, ◌≤◌, List, [], length}
+use Rattle.std.specs.Prelude.{slice_index, slice_index_or}
 use Rattle.pull_system.specs.System.{SystemView, source_of, target_of, ask}
 use Rattle.pull_system.specs.Fans.{FanView, entry_of}
 
@@ -37,23 +37,37 @@ pub record AreAllAsks (system : SystemView) (asks : List (List ℕ)) : Type 0 wh
       → AreAskRows system process (slice_index system.lens process + 2)
       (slice_index_or asks process [])
 
--- one of the first targets of a row that begins there is at this place, and is asked this number
-pub record IsAskedAt (begin : ℕ) (targets row : List ℕ) (count place number : ℕ) : Type 0 where
-  pub index : ℕ
-  pub below : index < count
-  pub at : begin + slice_index targets index ≡ place
-  pub asks : slice_index row index ≡ number
+-- a run: targets from the first index to the end, each one more than the one before. The target at
+-- the end, if there is one, is not.
+pub record IsRun (targets : List ℕ) (first end : ℕ) : Type 0 where
+  pub some : first < end
+  pub within : end ≤ length targets
+  pub each : (i : ℕ) → first + i < end
+      → slice_index targets (first + i) ≡ slice_index targets first + i
+  pub stops : (i : ℕ) → first + i ≡ end → end < length targets
+      → slice_index targets end ≢ slice_index targets first + i
 
--- At each place there is at least what was there before and what is asked of the first targets of
--- the row that begins there, and there is one of these.
-pub record IsRaised (begin : ℕ) (targets row : List ℕ) (count : ℕ) (before now : List ℕ) : Type 0
+-- a pull of the fan to one of the targets from the first index to the end asks this number of the
+-- process at this place of the rows of the first values
+pub record IsAskedIn (fan : FanView) (procs first end values place number : ℕ) : Type 0 where
+  pub x : ℕ
+  pub index : ℕ
+  pub value : x < values
+  pub from : first ≤ index
+  pub below : index < end
+  pub at : x * procs + slice_index fan.targets index ≡ place
+  pub asks : entry_of fan index x ≡ number
+
+-- At each place there is at least what was there before and what the pulls of the fan to the
+-- targets from the first index to the end ask there at the first values, and there is one of these.
+pub record AreRaisedIn (fan : FanView) (procs first end values : ℕ) (before now : List ℕ) : Type 0
   where
     pub size : length now ≡ length before
     pub keeps : (place : ℕ) → slice_index before place ≤ slice_index now place
-    pub covers : (i : ℕ) → i < count
-        → slice_index row i ≤ slice_index now (begin + slice_index targets i)
+    pub covers : (x index : ℕ) → x < values → first ≤ index → index < end
+        → entry_of fan index x ≤ slice_index now (x * procs + slice_index fan.targets index)
     pub asked : (place : ℕ) → (slice_index now place ≡ slice_index before place)
-        ⊎ IsAskedAt begin targets row count place (slice_index now place)
+        ⊎ IsAskedIn fan procs first end values place (slice_index now place)
 
 -- a pull of the fan asks this number of the process at this place of the rows of the first values
 pub record IsAskedOf (fan : FanView) (procs values place number : ℕ) : Type 0 where

@@ -2,7 +2,8 @@
 ghost use Rattle.std.specs.Prelude.{◌≡◌, ℕ, ◌+◌, ◌*◌, ◌^◌, ◌<◌, ◌≤◌, [], ◌∷◌, ◌++◌, length};
 ghost use Rattle.std.specs.Prelude.{replicate, slice_index, slice_range, get_or, IfOk, OnOk, OnErr};
 ghost use Rattle.pull_system.specs.Fans.{HasRow, entry_of, pulls_of_fan, pulls_of_fans};
-ghost use Rattle.pull_system.specs.Asks.{IsRaised, AreRaised};
+ghost use Rattle.pull_system.specs.Asks.{IsRun, AreRaisedIn, AreRaised};
+ghost use Rattle.pull_system.specs.Vector.{IsMaximum};
 
 use crate::pull::Pull;
 use pota_base::{List, NoMemory};
@@ -120,10 +121,32 @@ impl Fan {
         requires room { values * procs ≤ length rows.old }
         ensures { AreRaised self.now procs values rows.old rows.new }
     {
+        let targets = self.targets.as_slice();
+        let mut first = 0;
+        while first < targets.len() {
+            let end = run_end(targets, first);
+            self.raise_run(first, end, values, procs, rows);
+            first = end;
+        }
+    }
+
+    /// Raises these rows to what the pulls to the targets of one run ask there: at each value one
+    /// piece of the row to one piece of the entries, without a place to look up for each target.
+    fn raise_run(&self, first: usize, end: usize, values: usize, procs: usize, rows: &mut [u16])
+        requires run { IsRun self.now.targets first end }
+        requires values { (i : ℕ) → i < length self.now.targets
+            → length (get_or self.now.tables i []) ≡ values }
+        requires targets { (i : ℕ) → i < length self.now.targets
+            → slice_index self.now.targets i < procs }
+        requires room { values * procs ≤ length rows.old }
+        ensures { AreRaisedIn self.now procs first end values rows.old rows.new }
+    {
         let width = self.targets.len();
+        let target = self.targets.as_slice()[first] as usize;
         for x in 0..values {
-            let asked = row_of(self.entries.as_slice(), x, width);
-            raise_row(x * procs, self.targets.as_slice(), asked, rows);
+            let asked = &row_of(self.entries.as_slice(), x, width)[first..end];
+            let begin = x * procs + target;
+            raise_each(&mut rows[begin..begin + asked.len()], asked);
         }
     }
 
@@ -173,16 +196,26 @@ pub(crate) fn row_of(rows: &[u16], x: usize, size: usize) -> &[u16]
     &rows[x * size..x * size + size]
 }
 
-/// Raises the entries of the row that begins there to what is asked of these targets.
-fn raise_row(begin: usize, targets: &[u32], asked: &[u16], rows: &mut [u16])
-    requires size { length asked.now ≡ length targets.now }
-    requires room { (i : ℕ) → i < length targets.now
-        → begin + slice_index targets.now i < length rows.old }
-    ensures { IsRaised begin targets.now asked.now (length targets.now) rows.old rows.new }
+/// The index behind the run of consecutive targets that begins at this one.
+fn run_end(targets: &[u32], first: usize) -> usize
+    requires { first < length targets.now }
+    ensures { IsRun targets.now first result }
 {
-    for (i, &target) in targets.iter().enumerate() {
-        let place = begin + target as usize;
-        rows[place] = rows[place].max(asked[i]);
+    for i in first + 1..targets.len() {
+        if targets[i] as usize != targets[first] as usize + (i - first) {
+            return i;
+        }
+    }
+    targets.len()
+}
+
+/// Raises each word to what is asked of it.
+fn raise_each(row: &mut [u16], asked: &[u16])
+    requires { length asked.now ≡ length row.old }
+    ensures { IsMaximum row.old asked.now row.new }
+{
+    for i in 0..asked.len() {
+        row[i] = row[i].max(asked[i]);
     }
 }
 
