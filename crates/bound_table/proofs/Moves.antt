@@ -1,5 +1,5 @@
 -- Each step keeps the rule.
-use Rattle.std.proofs.Common.{◌≡◌, ℕ, zero, suc, ◌+◌, ◌<◌, ◌≤◌, inl, inr, List, [], ◌∷◌, true, false, length, get_or, set, sum, take, max, refl, arith, sym, ap, ◌∙◌, subst}
+use Rattle.std.proofs.Common.{◌≡◌, ℕ, zero, suc, ◌+◌, ◌^◌, ◌<◌, ◌≤◌, inl, inr, List, [], ◌∷◌, true, false, length, get_or, set, sum, take, max, refl, arith, sym, ap, ◌∙◌, subst}
 use Rattle.std.proofs.lemmas.List.{length-set, get_or-take, take_all}
 use Rattle.std.proofs.Math.Seq.{take-set-lt}
 use mathlib.Core.Option.{some, none, some-injective, some-ne-none}
@@ -184,6 +184,10 @@ starts_kept system floor bounds =
 -- a shape has a word
 pub some_words : (lens : List ℕ) → IsShape lens → 0 < word_count lens
 some_words lens shape = omega (arith, shape.some, mul-le-mul_left (sum lens + 1) (shape.some))
+
+-- the places of its words fit in 64 bits
+pub few_words : (lens : List ℕ) → IsShape lens → word_count lens < 2 ^ 64
+few_words lens shape = omega (arith, shape.events, mul-le-mul_left (sum lens + 1) shape.few)
 
 pub together_sound : (v w : Known) → v.system ≡ w.system → IsSound v → IsSound w → IsSound (together v w)
 together_sound v w one sound_v sound_w = record {

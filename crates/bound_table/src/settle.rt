@@ -163,12 +163,15 @@ impl BoundTable {
         if excess(lent, vector) == 0 {
             return;
         }
-        for process in 0..self.system().shape().procs() {
+        let begin = self.begin(row);
+        let procs = self.system().shape().procs();
+        for process in 0..procs {
             let (found, y) = (
                 vector[process as usize] as u64,
                 lent[process as usize] as u64,
             );
-            let became = self.raise_by_lend(seat, before, row, process, found, y);
+            let word = begin + process as usize;
+            let became = self.raise_by_lend(seat, before, row, process, word, found, y);
             vector[process as usize] = became as u16;
         }
     }

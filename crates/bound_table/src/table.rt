@@ -1,5 +1,5 @@
 ghost use Rattle.std.specs.Prelude.{◌≡◌, ◌≢◌, ℕ, ◌+◌, ◌*◌, ◌<◌, ◌≤◌, List, [], ◌∷◌, ◌++◌, true};
-ghost use Rattle.std.specs.Prelude.{false, length, sum, slice_index, slice_set, IfOk};
+ghost use Rattle.std.specs.Prelude.{false, length, sum, take, slice_index, slice_set, IfOk};
 ghost use Rattle.pull_system.specs.Vector.{IsWithin, IsMaximum};
 ghost use Rattle.pull_system.specs.System.{IsSystem};
 ghost use Rattle.pull_system.specs.Rows.{place_of};
@@ -20,6 +20,9 @@ use pull_system::{Rows, System};
 use std::alloc::Global;
 use std::marker::Model;
 use std::snapshot::Snapshot;
+
+/// How many words are read before they are appended.
+const PIECE: usize = 128;
 
 /// One word per row and process, shared by callers that hold a seat each. Contracts see its system,
 /// and which table it is.
@@ -174,8 +177,10 @@ impl BoundTable {
         ensures follows { Follows self.now.system row seat.old.floor seat.new.floor into.new }
     {
         seat.bounds();
-        for process in 0..self.system.shape().procs() {
-            into[process as usize] = self.load(seat, self.place(row, process)) as u16;
+        let begin = self.begin(row);
+        let procs = self.system.shape().procs() as usize;
+        for process in 0..procs {
+            into[process] = self.load(seat, begin + process) as u16;
         }
     }
 
@@ -200,10 +205,14 @@ impl BoundTable {
         ensures bounds { AreBounds self.now.system seat.new.floor }
     {
         seat.bounds();
-        for process in 0..self.system.shape().procs() {
-            let y = self.load(seat, self.place(from_row, process));
-            let found = self.load(seat, self.place(to_row, process));
-            let _raised = self.raise_by_lend(seat, from_row, to_row, process, found, y);
+        let from = self.begin(from_row);
+        let to = self.begin(to_row);
+        let procs = self.system.shape().procs();
+        for process in 0..procs {
+            let y = self.load(seat, from + process as usize);
+            let word = to + process as usize;
+            let found = self.load(seat, word);
+            let _raised = self.raise_by_lend(seat, from_row, to_row, process, word, found, y);
         }
     }
 
@@ -219,11 +228,60 @@ impl BoundTable {
         seat.bounds();
         let shape = self.system.shape();
         let count = (shape.events() as usize + 1) * shape.procs() as usize;
-        let mut words = Vec::with_capacity(alloc, count)?;
-        for word in 0..count {
-            words.push(self.load(seat, word))?;
-        }
+        let words = self.load_first(alloc, seat, count)?;
         Rows::from_words(alloc, shape, words)
+    }
+
+    /// Reads the first words, which become the seat's floors for them.
+    // A piece is read into the cache and then appended at once. Pushed one by one, each word would
+    // take a test for room and one for the error.
+    fn load_first(&self, alloc: Global, seat: &mut Seat, count: usize) -> Result<Vec<u64>, NoMemory>
+        requires fits { seat.old.table ≡ self.now }
+        requires count { count ≤ word_count self.now.system.lens }
+        ensures keeps { KeepsClaims seat.old seat.new }
+        ensures words { IfOk result (λ words. words.items ≡ take count seat.new.floor) }
+        ensures rises { IsWithin seat.old.floor seat.new.floor }
+        ensures bounds { AreBounds self.now.system seat.new.floor }
+    {
+        seat.bounds();
+        let mut words = Vec::with_capacity(alloc, count)?;
+        let mut piece = [0; PIECE];
+        while words.len() < count {
+            let first = words.len();
+            let piece = &mut piece[..(count - first).min(PIECE)];
+            self.load_from(seat, first, piece);
+            words.extend_from_slice(piece)?;
+        }
+        Ok(words)
+    }
+
+    /// Reads the words from the first on into `into`. They become the seat's floors for them.
+    fn load_from(&self, seat: &mut Seat, first: usize, into: &mut [u64])
+        requires fits { seat.old.table ≡ self.now }
+        requires words { first + length into.old ≤ word_count self.now.system.lens }
+        ensures keeps { KeepsClaims seat.old seat.new }
+        ensures read { (i : ℕ) → i < length into.new
+            → slice_index into.new i ≡ slice_index seat.new.floor (first + i) }
+        ensures before { (word : ℕ) → word < first
+            → slice_index seat.new.floor word ≡ slice_index seat.old.floor word }
+        ensures rises { IsWithin seat.old.floor seat.new.floor }
+        ensures bounds { AreBounds self.now.system seat.new.floor }
+    {
+        let _ = &self.system;
+        seat.bounds();
+        for i in 0..into.len() {
+            into[i] = self.load(seat, first + i);
+        }
+    }
+
+    /// Where the words of a row begin among the words.
+    pub(crate) fn begin(&self, row: u32) -> usize
+        requires { row ≤ sum self.now.system.lens }
+        ensures place { result ≡ place_of self.now.system.lens row 0 }
+        ensures there { result + length self.now.system.lens ≤ word_count self.now.system.lens }
+        ensures system { IsSystem self.now.system }
+    {
+        row as usize * self.system.shape().procs() as usize
     }
 
     /// Where the word of a process in a row stands among the words.
@@ -234,7 +292,7 @@ impl BoundTable {
         ensures there { result < word_count self.now.system.lens }
         ensures system { IsSystem self.now.system }
     {
-        row as usize * self.system.shape().procs() as usize + process as usize
+        self.begin(row) + process as usize
     }
 
     /// Reads one word, which becomes the seat's floor for it.
@@ -272,16 +330,19 @@ impl BoundTable {
     /// The machine's step of lending: the word of `to_row` becomes at least `y`, which the seat's
     /// floor for `from_row` has reached. It gives what the word became, which is the seat's floor
     /// for it. Where `found`, the floor for it so far, is as high already, nothing is raised.
+    /// `word` is its place among the words.
     pub(crate) fn raise_by_lend(
         &self,
         seat: &mut Seat,
         from_row: u32,
         to_row: u32,
         process: u32,
+        word: usize,
         found: u64,
         y: u64,
     ) -> u64
         requires fits { seat.old.table ≡ self.now }
+        requires word { word ≡ place_of self.now.system.lens to_row process }
         requires found { found ≡ word_at self.now.system.lens seat.old.floor to_row process }
         requires step { is_allowed self.now.system seat.old.floor (Lend to_row from_row process y)
             ≡ true }
@@ -293,7 +354,6 @@ impl BoundTable {
         if y <= found {
             return found;
         }
-        let word = self.place(to_row, process);
         let was = self
             .table
             .shared

@@ -5,17 +5,33 @@ use Rattle.pull_system.specs.Rows.{place_of}
 use Rattle.bound_table.specs.Asking.{IsRaised}
 use Rattle.bound_table.proofs.Allowed.{lend_allowed}
 use Rattle.bound_table.proofs.Floors.{within_trans}
+use Rattle.bound_table.proofs.Moves.{few_words}
 use Rattle.bound_table.proofs.Lends.{has_start_more, LendsAt, lends_within, lends_others, lends_next}
 use Rattle.bound_table.proofs.Seeing.{read_raised, raised_at, raised_twice, raised_within_floor}
 use Rattle.bound_table.proofs.Claiming.{keeps_trans}
 use Rattle.bound_table.proofs.table.BoundTable.lend.Goals as goal
+
+pub overflow_add-word : goal.overflow_add-word
+overflow_add-word c =
+    let system : SystemView = c.args.self.now.system in
+    let there : c.loop-process.process < length system.lens = search rules in
+    omega (arith, there, c.begin-to.ensures.there, few_words system.lens c.begin-to.ensures.system.shape)
+
+pub load-found-requires-clause-word : goal.load-found-requires-clause-word
+load-found-requires-clause-word c =
+    let there : c.loop-process.process < length c.args.self.now.system.lens = search rules in
+    omega (arith, there, c.begin-to.ensures.there)
+
+pub raise_by_lend-raised-requires-clause-word : goal.raise_by_lend-raised-requires-clause-word
+raise_by_lend-raised-requires-clause-word c =
+    omega (arith, c.begin-to.ensures.place)
 
 pub raise_by_lend-raised-requires-clause-found : goal.raise_by_lend-raised-requires-clause-found
 raise_by_lend-raised-requires-clause-found c =
     let system : SystemView = c.args.self.now.system in
     let process : ℕ = c.loop-process.process in
     let there : process < length system.lens = search rules in
-    let found : IsRaised system c.load-y.new.seat.floor c.load-found.new.seat.floor c.args.to_row process 0 c.load-found.result = read_raised system _ _ c.args.to_row process _ 0 _ c.place-in-loop-process.ensures.place c.load-found.ensures.floor c.load-found.ensures.rises (omega arith) c.load-found.ensures.bounds in
+    let found : IsRaised system c.load-y.new.seat.floor c.load-found.new.seat.floor c.args.to_row process 0 c.load-found.result = read_raised system _ _ c.args.to_row process _ 0 _ (omega (arith, c.begin-to.ensures.place)) c.load-found.ensures.floor c.load-found.ensures.rises (omega arith) c.load-found.ensures.bounds in
     sym (raised_at system _ _ c.args.to_row process _ _ c.requires.to_row there found)
 
 pub raise_by_lend-raised-requires-clause-step : goal.raise_by_lend-raised-requires-clause-step
@@ -24,8 +40,8 @@ raise_by_lend-raised-requires-clause-step c =
     let inv = c.loop-process.invariant in
     let process : ℕ = c.loop-process.process in
     let there : process < length system.lens = search rules in
-    let read : IsRaised system c.loop-process.seat.floor c.load-y.new.seat.floor c.args.from_row process 0 c.load-y.result = read_raised system _ _ c.args.from_row process _ 0 _ c.place.ensures.place c.load-y.ensures.floor c.load-y.ensures.rises (omega arith) c.load-y.ensures.bounds in
-    let found : IsRaised system c.load-y.new.seat.floor c.load-found.new.seat.floor c.args.to_row process 0 c.load-found.result = read_raised system _ _ c.args.to_row process _ 0 _ c.place-in-loop-process.ensures.place c.load-found.ensures.floor c.load-found.ensures.rises (omega arith) c.load-found.ensures.bounds in
+    let read : IsRaised system c.loop-process.seat.floor c.load-y.new.seat.floor c.args.from_row process 0 c.load-y.result = read_raised system _ _ c.args.from_row process _ 0 _ (omega (arith, c.begin-from.ensures.place)) c.load-y.ensures.floor c.load-y.ensures.rises (omega arith) c.load-y.ensures.bounds in
+    let found : IsRaised system c.load-y.new.seat.floor c.load-found.new.seat.floor c.args.to_row process 0 c.load-found.result = read_raised system _ _ c.args.to_row process _ 0 _ (omega (arith, c.begin-to.ensures.place)) c.load-found.ensures.floor c.load-found.ensures.rises (omega arith) c.load-found.ensures.bounds in
     let within : IsWithin c.load-y.new.seat.floor c.load-found.new.seat.floor = raised_within_floor system _ _ c.args.to_row process _ _ found in
     lend_allowed system c.load-found.new.seat.floor c.args.to_row c.args.from_row process c.load-y.result c.requires.to_row c.requires.from_row there
     (omega (arith, raised_at system _ _ c.args.from_row process _ _ c.requires.from_row there read, within.each (place_of system.lens c.args.from_row process)))
@@ -37,8 +53,8 @@ loop-process-preserved c =
     let inv = c.loop-process.invariant in
     let process : ℕ = c.loop-process.process in
     let there : process < length system.lens = search rules in
-    let read : IsRaised system c.loop-process.seat.floor c.load-y.new.seat.floor c.args.from_row process 0 c.load-y.result = read_raised system _ _ c.args.from_row process _ 0 _ c.place.ensures.place c.load-y.ensures.floor c.load-y.ensures.rises (omega arith) c.load-y.ensures.bounds in
-    let found : IsRaised system c.load-y.new.seat.floor c.load-found.new.seat.floor c.args.to_row process 0 c.load-found.result = read_raised system _ _ c.args.to_row process _ 0 _ c.place-in-loop-process.ensures.place c.load-found.ensures.floor c.load-found.ensures.rises (omega arith) c.load-found.ensures.bounds in
+    let read : IsRaised system c.loop-process.seat.floor c.load-y.new.seat.floor c.args.from_row process 0 c.load-y.result = read_raised system _ _ c.args.from_row process _ 0 _ (omega (arith, c.begin-from.ensures.place)) c.load-y.ensures.floor c.load-y.ensures.rises (omega arith) c.load-y.ensures.bounds in
+    let found : IsRaised system c.load-y.new.seat.floor c.load-found.new.seat.floor c.args.to_row process 0 c.load-found.result = read_raised system _ _ c.args.to_row process _ 0 _ (omega (arith, c.begin-to.ensures.place)) c.load-found.ensures.floor c.load-found.ensures.rises (omega arith) c.load-found.ensures.bounds in
     let lent = raised_twice system _ _ _ c.args.to_row process _ _ _ _ c.requires.to_row there found c.raise_by_lend-raised.ensures.raised in
     let at : LendsAt system.lens c.loop-process.seat.floor c.load-y.new.seat.floor c.raise_by_lend-raised.new.seat.floor c.args.from_row c.args.to_row process c.load-y.result c.raise_by_lend-raised.result = record {
       from_there = c.requires.from_row;

@@ -2,6 +2,7 @@ use Rattle.std.proofs.Common.{rules, arith, ap, ◌≡◌, ◌≤◌, ◌<◌, �
 use Rattle.pull_system.specs.System.{SystemView}
 use Rattle.pull_system.specs.Rows.{place_of}
 use Rattle.bound_table.proofs.Allowed.{lend_allowed}
+use Rattle.bound_table.proofs.Moves.{few_words}
 use Rattle.bound_table.proofs.Lends.{has_start_more}
 use Rattle.bound_table.proofs.Seeing.{follows_raised, raised_small, raised_within_floor, put_next, within_first}
 use Rattle.bound_table.proofs.Claiming.{keeps_refl, keeps_trans}
@@ -15,6 +16,12 @@ loop-process-init c = record {
   follows = c.requires.follows;
   reaches = λ p below. absurd (omega arith);
 }
+
+pub overflow_add-word : goal.overflow_add-word
+overflow_add-word c =
+    let system : SystemView = c.args.self.now.system in
+    let there : c.loop-process.process < length system.lens = search rules in
+    omega (arith, there, c.begin-begin.ensures.there, few_words system.lens c.requires.system.shape)
 
 pub raise_by_lend-became-requires-clause-found : goal.raise_by_lend-became-requires-clause-found
 raise_by_lend-became-requires-clause-found c =
@@ -50,5 +57,5 @@ loop-process-preserved c =
 
 pub returns-clause-reaches : goal.returns-clause-reaches
 returns-clause-reaches c =
-    let end : c.procs-process-end.result ≡ length c.args.self.now.system.lens = c.procs-process-end.ensures.count ∙ ap length (c.shape.ensures.shape ∙ ap (λ s. s.lens) c.system.ensures) in
+    let end : c.procs-procs.result ≡ length c.args.self.now.system.lens = c.procs-procs.ensures.count ∙ ap length (c.shape.ensures.shape ∙ ap (λ s. s.lens) c.system.ensures) in
     within_first _ _ c.loop-process.process (omega (arith, c.requires.size)) c.loop-process.invariant.reaches

@@ -14,8 +14,8 @@ overflow_cast-into c =
     let system : SystemView = c.args.self.now.system in
     let process : ℕ = c.loop-process.process in
     let there : process < length system.lens = search rules in
-    let read = read_raised system c.loop-process.seat.floor c.load.new.seat.floor c.args.row process c.place.result 0 c.load.result c.place.ensures.place c.load.ensures.floor c.load.ensures.rises (omega arith) c.load.ensures.bounds in
-    omega (arith, raised_small system c.place.ensures.system _ _ c.args.row process _ _ c.requires.row there read)
+    let read = read_raised system c.loop-process.seat.floor c.load.new.seat.floor c.args.row process (c.begin-begin.result + process) 0 c.load.result (omega (arith, c.begin-begin.ensures.place)) c.load.ensures.floor c.load.ensures.rises (omega arith) c.load.ensures.bounds in
+    omega (arith, raised_small system c.begin-begin.ensures.system _ _ c.args.row process _ _ c.requires.row there read)
 
 pub loop-process-preserved : goal.loop-process-preserved
 loop-process-preserved c = record {
