@@ -1,65 +1,15 @@
-ghost use Rattle.std.specs.Prelude.{◌≡◌, ℕ, ◌+◌, ◌<◌, ◌≤◌, length, IfOk, IfSome, IsTrue, OnOk};
+ghost use Rattle.std.specs.Prelude.{◌≡◌, ◌≤◌, length, IfOk, IfSome, IsTrue};
 ghost use Rattle.std.specs.List.{AllByRecursion};
-ghost use Rattle.event_log.specs.LogText.{KindWithin};
 ghost use Rattle.vector_clock.specs.Events.{CanBeChecked, EventFits};
 
+use crate::events::a_message;
 use causal_order::Order;
 use cut_lattice::Cut;
-use event_log::{Event, Header, Kind, Log, LogCode, LogFault, Name};
+use event_log::{Event, Header, Log, LogCode, LogFault, Name};
 use pota_base::{EventId, List, NoMemory, Refused};
 use std::alloc::Global;
 use std::test::Fail;
 use vector_clock::{Clocks, check};
-
-// Puts an event without assignments behind those of a batch.
-fn add(
-    alloc: Global,
-    batch: &mut List<Event>,
-    process: u32,
-    line: u32,
-    clock: &[u32],
-    kind: Kind,
-) -> Result<(), NoMemory>
-    requires process { process < length clock.now }
-    requires peer { KindWithin (length clock.now) kind }
-    ensures fits { OnOk result (AllByRecursion (EventFits (length clock.now)) batch.old
-        → AllByRecursion (EventFits (length clock.now)) batch.new) }
-    ensures len { OnOk result (length batch.new ≡ length batch.old + 1) }
-{
-    let clock = List::from_vec(Vec::from_slice(alloc, clock)?);
-    batch.push(Event {
-        process,
-        line,
-        clock,
-        kind,
-        assigns: List::new(alloc),
-    })
-}
-
-// `ev P 1,0 send Q 1`, and `ev Q n,1 recv P 1`.
-fn a_message(alloc: Global, n: u32) -> Result<List<Event>, NoMemory>
-    ensures fits { IfOk result (λ batch. AllByRecursion (EventFits 2) batch) }
-    ensures len { IfOk result (λ batch. length batch ≤ 2) }
-{
-    let mut batch = List::new(alloc);
-    add(
-        alloc,
-        &mut batch,
-        0,
-        3,
-        &[1, 0],
-        Kind::Send { to: 1, id: 1 },
-    )?;
-    add(
-        alloc,
-        &mut batch,
-        1,
-        4,
-        &[n, 1],
-        Kind::Receive { sender: 0, id: 1 },
-    )?;
-    Ok(batch)
-}
 
 fn log_of(alloc: Global, batch: List<Event>) -> Result<Option<Log>, NoMemory>
     requires fits { AllByRecursion (EventFits 2) batch }

@@ -7,6 +7,8 @@
 #[cfg(test)]
 mod clocks;
 #[cfg(test)]
+mod events;
+#[cfg(test)]
 mod growth;
 #[cfg(test)]
 mod logs;

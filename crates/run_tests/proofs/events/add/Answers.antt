@@ -6,7 +6,7 @@ use Rattle.event_log.specs.declared.log.Assign.{Assign}
 use Rattle.vector_clock.specs.Events.{EventFits}
 use Rattle.vector_clock.proofs.BatchLaws.{fits_more}
 use Rattle.trace_growth.proofs.Batches.{known_more}
-use Rattle.run_tests.proofs.growth.add.Goals as goal
+use Rattle.run_tests.proofs.events.add.Goals as goal
 
 pub returns-clause-fits : goal.returns-clause-fits
 returns-clause-fits c =
