@@ -4,3 +4,4 @@ pub mod Readings
 pub mod Logs
 pub mod Orders
 pub mod Texts
+pub mod TextThere

@@ -40,7 +40,9 @@ use Rattle.pota_top.specs.Asking.{Handing, handing_of, asked_by, asked}
 use Rattle.pota_top.specs.Checking.{AreTexts, HasPartOf, HasFrontOf}
 use Rattle.pota_top.specs.Reading.{due_in, TellsDue, StopsAt, IsVerdictOn, ChecksTo, HasChecked}
 use Rattle.pota_top.specs.Benching.{IsSummary, missing_name, IsBenchOf, BenchStops, BenchesTo, HasMade}
-use Rattle.pota_top.specs.Run.{IsTold, IsTrueAtStart, HasVerdict, IsRefused, HasPart, IsBenched, HasBenched, IsWholeDue, sizes_of, made_by, Answer, Ran}
+use Rattle.run_report.proofs.Telling.{told_denotes, told_kinds}
+use Rattle.pota_top.proofs.Clauses.{not_both}
+use Rattle.pota_top.specs.Run.{AllTell, IsTold, IsTrueAtStart, HasVerdict, IsRefused, HasPart, IsBenched, HasBenched, IsWholeDue, sizes_of, made_by, Answer, Ran}
 
 -- ---- a formula that is stated is asked
 
@@ -52,6 +54,18 @@ stated_asked s slice witness names watches text is =
 both_halves : (xs ys : List Prefix) → AllByRecursion IsOrdered (xs ++ ys) → AllByRecursion IsOrdered xs
 both_halves [] ys h = tt
 both_halves (x ∷ xs) ys h = (h.0, both_halves xs ys h.1)
+
+-- each report on logs whose clocks are an order tells of the run
+all_tell : (q : Asked) (watches : Watches) → IsOfClass q.formula → (logs : List Prefix) → AllByRecursion IsOrdered logs → AllTell q watches logs
+all_tell q watches class [] ordered = tt
+all_tell q watches class (log ∷ logs) ordered = (
+  λ report is. record {
+    ordered = ordered.0;
+    denotes = told_denotes q log.header log.batches watches ordered.0 report is;
+    kinds = told_kinds q log.header log.batches watches class ordered.0 report is;
+  },
+  all_tell q watches class logs ordered.1,
+)
 
 nothing_front : (text : List ℕ) → IsPrefix [] text
 nothing_front text = (text, refl)
@@ -75,6 +89,13 @@ module _ {X : Type 0} {P : X → Type 0} (says : Says X P) (s : Stated) (shown :
       → AreReports (asked_by s.formula.tree shown) (watches_of says handed) logs text
   texts_asked logs text h = subst (λ (q : Asked). AreReports q (watches_of says handed) logs text) same h
 
+  class_asked : IsOfClass (asked_by s.formula.tree shown).formula
+  class_asked = (of_the_class (node_of s.formula.tree)).0 is.classed.free
+
+  due_tell : (ended : Bool) (bytes : List ℕ) → AllTell (asked_by s.formula.tree shown) (watches_of says handed) (reported each (due_in aim ended bytes))
+  due_tell ended bytes =
+      all_tell (asked_by s.formula.tree shown) (watches_of says handed) class_asked (reported each (due_in aim ended bytes)) (all_ordered (unknown_name aim.node (names_of handed)) each ended bytes)
+
   abbrev told_of : (ended : Bool) (bytes text : List ℕ) (n : ℕ) → n ≡ (due_in aim ended bytes).batches
       → AreTexts aim (reported each (due_in aim ended bytes)) text → IsTold on words ended bytes text n
   told_of ended bytes text n count texts = record {
@@ -82,6 +103,7 @@ module _ {X : Type 0} {P : X → Type 0} (says : Says X P) (s : Stated) (shown :
     shown = shown;
     asks = asks;
     text = texts_asked (reported each (due_in aim ended bytes)) text texts;
+    telling = due_tell ended bytes;
     count = count;
   }
 
@@ -97,6 +119,7 @@ module _ {X : Type 0} {P : X → Type 0} (says : Says X P) (s : Stated) (shown :
     log = h.log;
     behind = h.behind;
     due_are = h.are;
+    telling = subst (AllTell (asked_by s.formula.tree shown) (watches_of says handed)) h.are (due_tell ended bytes);
     text = h.whole;
     texts = texts_asked h.before h.whole h.texts;
     report = h.report;
@@ -121,8 +144,7 @@ module _ {X : Type 0} {P : X → Type 0} (says : Says X P) (s : Stated) (shown :
       grown.1 ∙ ap (λ (ps : List Prefix). ps ++ grown.0) h.are ∙ append_assoc h.front h.rest grown.0 in
       let parts = reports_split q watches h.front (h.rest ++ grown.0) whole (subst (λ (ps : List Prefix). AreReports q watches ps whole) logs due_is.2) in
       let ordered = both_halves h.front (h.rest ++ grown.0) (subst (AllByRecursion IsOrdered) logs (all_ordered (unknown_name aim.node (names_of handed)) each ended all)) in
-      let class : IsOfClass q.formula = (of_the_class (node_of s.formula.tree)).0 is.classed.free in
-      let one = one_text q watches class h.front ordered parts.0 text parts.2 (texts_asked h.front text h.texts) in
+      let one = one_text q watches class_asked h.front ordered parts.0 text parts.2 (texts_asked h.front text h.texts) in
       ((parts.1, parts.4 ∙ ap (λ (t : List ℕ). t ++ parts.1) one), omega (arith, h.count))
 
   module _ (left : Option (List ℕ)) (lf lf' of of' : ℕ) (read written : List ℕ) where
@@ -142,7 +164,12 @@ module _ {X : Type 0} {P : X → Type 0} (says : Says X P) (s : Stated) (shown :
     stop_answer (fault.Log x) n h = (x, refused_by (refusal.Log x) (fault.Log x) n (record { status = status.Log; batches = n; fault = Some (fault.Log x) }) refl refl h.0 h.1 h.2)
     stop_answer fault.Read n h = (record { told = told_of false read written n h.0.count h.0.texts; free = h.0.fault; fault = refl }, h.1)
     stop_answer fault.Write n h = (inl (has_part left h.0 read written n h.1 h.2), refl, h.3)
-    stop_answer fault.Memory n h = record { front = front_of read written n h; fault = refl }
+    stop_answer fault.Memory n h = record {
+      front = front_of read written n h;
+      unread = λ t sizes k. absurd (not_both words shown sizes s.formula.tree t asks k);
+      unnamed = λ t sizes f k. absurd (not_both words shown sizes s.formula.tree t asks k);
+      fault = refl;
+    }
     stop_answer fault.Usage n h = absurd h
 
     verdict_of : (b : Bool) (v : Verdict) → v.truth ≡ b → IsAtEnd left → IsVerdictOn aim each read written v
@@ -234,6 +261,8 @@ module _ {X : Type 0} {P : X → Type 0} (says : Says X P) (s : Stated) (sizes :
     )
     bench_stop fault.Memory n h = record {
       front = λ text batches w. (subst (λ (t : List ℕ). IsPrefix t text) (sym h.0) (nothing_front text), let none = h.1 in omega (arith, none));
+      unread = λ t sizes k. refl;
+      unnamed = λ t sizes f k lacks. h;
       fault = refl;
     }
     bench_stop fault.Usage n h = absurd h
@@ -282,7 +311,12 @@ ran_short left held lf of on words stop is = subst (λ (x : Stop). Ran left left
   wrote = Appends-nil held;
   log_later = omega arith;
   out_later = omega arith;
-  answer = record { front = λ text batches w. (nothing_front text, omega arith); fault = refl };
+  answer = record {
+    front = λ text batches w. (nothing_front text, omega arith);
+    unread = λ t sizes k. refl;
+    unnamed = λ t sizes f k lacks. (refl, refl);
+    fault = refl;
+  };
 })
 
 misasked_answer : (words : List (List ℕ)) (left : Option (List ℕ)) (lf of : ℕ) (on : Handing) (f : QuestionFault) → IsQuestionFault words f

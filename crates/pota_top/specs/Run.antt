@@ -2,9 +2,13 @@
 use Rattle.std.specs.Prelude.{◌≡◌, ℕ, ◌≤◌, ◌⊎◌, ◌↔◌, Bool, true, false, List, [], ◌∷◌, ◌++◌, Option}
 use Rattle.std.specs.Prelude.{Some, None, if◌then◌else◌}
 use Rattle.std.specs.Io.KnownBytes.{Appends, Consumes, IsAtEnd}
-use Rattle.run_model.specs.Cut.{initial}
+use Rattle.std.specs.List.{AllByRecursion}
+use Rattle.run_model.specs.Cut.{Cut, initial}
 use Rattle.run_model.specs.Run.{Watches, run_of, clocks_of}
+use Rattle.run_model.specs.Consistent.{IsOrder}
 use Rattle.run_model.specs.Meaning.{Sat}
+use Rattle.run_model.specs.Class.{Shown as ShownFor}
+use Rattle.run_model.specs.Slice.{DenotedBy}
 use Rattle.pota_base.specs.Outside.{Rose, IsPrefix}
 use Rattle.pota_base.specs.declared.status.Status.{Status}
 use Rattle.pota_base.specs.declared.status.Status.TheVariants as status
@@ -19,8 +23,10 @@ use Rattle.run_request.specs.declared.question.QuestionFault.{QuestionFault}
 use Rattle.run_request.specs.declared.question.QuestionFault.TheVariants as question
 use Rattle.run_request.specs.Questions.{IsQuestionFault, AsksFor}
 use Rattle.report.specs.declared.report.Report.{Report}
+use Rattle.report.specs.declared.report.SliceText.{SliceText}
 use Rattle.report.specs.Spelling.{report_text}
-use Rattle.run_report.specs.Reports.{trace_so_far, IsReportOf, counted}
+use Rattle.run_report.specs.Reports.{Asked, trace_so_far, text_seen, IsReportOf, counted}
+use Rattle.run_report.specs.Witnesses.{IsShownFor}
 use Rattle.run_report.specs.Benches.{IsSummaryOf}
 use Rattle.run_report.specs.Benches as bench
 use Rattle.log_judgement.specs.declared.refusal.Refusal.{Refusal}
@@ -36,6 +42,26 @@ use Rattle.pota_top.specs.declared.outcome.Outcome.{Outcome}
 use Rattle.pota_top.specs.Outcome.{status_of, fault_of_question, fault_of_refusal}
 use Rattle.pota_top.specs.Asking.{Handing, asked, asked_by, due_of}
 
+-- ---- what a report tells of the run
+
+-- The clocks of the run are an order. The text of the report's slice denotes the set of consistent
+-- cuts that is shown, and each of its witnesses is the canonical one of a part, and of its kind.
+pub record TellsOfRun (q : Asked) (watches : Watches) (log : Prefix) (report : Report) : Type 0
+    where
+  pub ordered : IsOrder (clocks_of (trace_so_far log.header log.batches))
+  pub denotes : (text : SliceText) → report.slice ≡ Some text → (c : Cut)
+      → ShownFor (run_of (trace_so_far log.header log.batches) watches) q.formula c
+      ↔ DenotedBy (clocks_of (trace_so_far log.header log.batches)) (text_seen text) c
+  pub kinds : AllByRecursion
+      (IsShownFor (run_of (trace_so_far log.header log.batches) watches) q.formula)
+      report.witnesses
+
+-- each report on each of these logs does
+abbrev pub AllTell : Asked → Watches → List Prefix → Type 0
+AllTell q watches logs = AllByRecursion
+    (λ (log : Prefix). (report : Report) → IsReportOf q log.header log.batches watches report
+    → TellsOfRun q watches log report) logs
+
 -- ---- a log that is checked
 
 -- the words ask for a check, these bytes were read, the text that is due of them was written, and
@@ -47,6 +73,8 @@ pub record IsTold (on : Handing) (words : List (List ℕ)) (ended : Bool) (read 
   pub asks : AsksFor words (task.Check shown) tree
   pub text : IsDueText (asked_by tree shown) on.watches shown.each_batch
       (due_of on.names tree ended read) written
+  pub telling : AllTell (asked_by tree shown) on.watches
+      (reported shown.each_batch (due_of on.names tree ended read))
   pub count : batches ≡ (due_of on.names tree ended read).batches
 
 -- the formula is true at the initial cut of the run of this log
@@ -95,6 +123,7 @@ pub record HasPart (left : Option (List ℕ)) (on : Handing) (words : List (List
   pub behind : List Prefix
   pub due_are : reported shown.each_batch (due_of on.names tree ended read)
       ≡ before ++ log ∷ behind
+  pub telling : AllTell (asked_by tree shown) on.watches (before ++ log ∷ behind)
   pub text : List ℕ
   pub texts : AreReports (asked_by tree shown) on.watches before text
   pub report : Report
@@ -176,11 +205,16 @@ pub record IsWholeDue (on : Handing) (words : List (List ℕ)) (read text : List
   pub benched : (t : Tree) (sizes : Sizes) → AsksFor words (task.Bench sizes) t
       → (verdict : Bool) × IsBenched on words text verdict × (batches ≡ 1)
 
--- memory ran out; what was written is the front of each text that may be due
+-- Memory ran out; what was written is the front of each text that may be due. Nothing is read for a
+-- bench, and nothing is written where the log that is made lacks a name.
 pub record IsOutOfMemory (on : Handing) (words : List (List ℕ)) (read written : List ℕ)
     (o : Outcome) : Type 0 where
   pub front : (text : List ℕ) (batches : ℕ) → IsWholeDue on words read text batches
       → IsPrefix written text × (o.batches ≤ batches)
+  pub unread : (t : Tree) (sizes : Sizes) → AsksFor words (task.Bench sizes) t → read ≡ []
+  pub unnamed : (t : Tree) (sizes : Sizes) (f : FormulaFault) → AsksFor words (task.Bench sizes) t
+      → unknown_name (node_of t) on.names (made_by sizes).header ≡ Some f
+      → (written ≡ []) × (o.batches ≡ 0)
   pub fault : o.fault ≡ Some fault.Memory
 
 -- What a status says, by what the source has left, the counts of faults before and after, the

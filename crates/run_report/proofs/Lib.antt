@@ -1,1 +1,4 @@
 pub mod OneReport
+pub mod Numbers
+pub mod ReportThere
+pub mod Telling
