@@ -2,7 +2,7 @@
 
 ghost use Rattle.std.specs.Prelude.{◌≡◌, ℕ, List, None};
 ghost use Rattle.event_log.specs.declared.log.Log.{Log};
-ghost use Rattle.event_log.specs.LogText.{log_text, log_items};
+ghost use Rattle.event_log.specs.LogText.{log_text, log_items, lined};
 ghost use Rattle.event_log.specs.Faults.{items, items_in};
 ghost use Rattle.event_log.specs.FittingItems.{FitFirst};
 ghost use Rattle.event_log.specs.Laws.{IsLog, IsWellFormed, IsTextOf};
@@ -10,7 +10,7 @@ ghost use Rattle.event_log.specs.Laws.{IsLog, IsWellFormed, IsTextOf};
 /// The text of a log has no fault, and reading it gives the items of the log.
 pub fn a_log_reads_back()
     ensures { (log : Log) → IsLog log
-        → IsWellFormed (log_text log) × (items_in (log_text log) ≡ log_items log) }
+        → IsWellFormed (log_text log) × (items_in (log_text log) ≡ log_items (lined log)) }
 {}
 
 /// A text without a fault is the text of a log, whose items reading it gives, and which can be

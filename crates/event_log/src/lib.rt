@@ -28,7 +28,7 @@ mod split;
 mod states;
 mod writing;
 
-pub use copies::names_of;
+pub use copies::{Copies, copy_of, names_of, var_lines_of};
 pub use counting::{MANY_EVENTS, count_events};
 pub use history::History;
 pub use item::{Fed, Item, LogCode, LogFault};
