@@ -5,7 +5,6 @@ use Rattle.run_model.specs.Run as run
 use Rattle.run_model.specs.Consistent.{IsOrder}
 use Rattle.event_log.specs.declared.log.Event.{Event}
 use Rattle.event_log.specs.declared.log.Log.{Log}
-use Rattle.event_log.specs.LogText.{LogFits}
 use Rattle.event_log.specs.States.{StatesView, with_batches, trace_of, trace_of_log}
 use Rattle.vector_clock.specs.Events.{AllFit, no_events, clocks_of}
 use Rattle.vector_clock.specs.Faults.{has_wrong_own, goes_back, is_open, is_loop, batches_fault}
@@ -21,7 +20,10 @@ NoFaultIsAnOrder = (procs : ℕ) (batches : List (List Event)) → AllFit procs 
 
 -- a log without a fault is a run, whose receipts have their sends
 abbrev pub NoFaultIsARun : Type 0
-NoFaultIsARun = (log : Log) → LogFits log → log_fault log ≡ None → IsLoggedRun (trace_of_log log)
+NoFaultIsARun =
+    (log : Log) → length log.header.vars ≡ length log.header.procs
+    → AllFit (length log.header.procs) log.batches → log_fault log ≡ None
+    → IsLoggedRun (trace_of_log log)
 
 -- and so are events that came batch after batch without a fault, with a list of variables for each
 -- process
