@@ -39,6 +39,7 @@ all_openings (suc n) = (opening_fits, all_openings n)
 
 header_fits : (procs : ℕ) → 1 ≤ procs → procs ≤ 32 → HeaderFits (header_of procs)
 header_fits procs some few = record {
+  version = inl refl;
   procs = record {
     some = omega (arith, length-names 0 procs);
     few = omega (arith, length-names 0 procs);
@@ -82,6 +83,10 @@ module _ (procs : ℕ) (some : 1 ≤ procs) (few : procs ≤ 32) where
   pub vars_at : (i : ℕ) → i < procs → variables_at h.vars i ≡ opening
   vars_at i lt = get_or-replicate procs i opening [] lt
 
+  -- a clock has a count for each process
+  pub event_width : (before : Events) (k w : ℕ) (ps : Processes) → IsMadeWell procs before k (made procs k w ps) → length (made procs k w ps).event.clock ≡ procs
+  event_width before k w ps well = well.past.shaped ∙ length-clocks_of (with_event before (made procs k w ps).event) ∙ well.goes.tables
+
   pub event_fits : (before : Events) (k w : ℕ) (ps : Processes) → k < 50000 → IsMadeWell procs before k (made procs k w ps) → EventFits h (made procs k w ps).event
   event_fits before k w ps limit well =
       let e = (made procs k w ps).event in
@@ -89,7 +94,7 @@ module _ (procs : ℕ) (some : 1 ≤ procs) (few : procs ≤ 32) where
       let fit = assigns_fit k e.assigns limit well.assigns in
       record {
         process = omega (arith, well.there, length-names 0 procs);
-        width = well.past.shaped ∙ length-clocks_of after ∙ well.goes.tables ∙ sym (length-names 0 procs);
+        width = inl (event_width before k w ps well ∙ sym (length-names 0 procs));
         clock = all_low e.clock (k + 1) (omega arith) (λ j. omega (arith, well.past.within j, count-lengths (clocks_of after) j, own_count after j, well.goes.few j));
         kind = subst (λ n. KindFits n e.process e.kind) (sym (length-names 0 procs)) (well.kind limit);
         few = fit.0;

@@ -1,5 +1,5 @@
 -- Batches without a fault: their clocks are those of an order.
-use Rattle.std.proofs.Common.{◌≡◌, ℕ, ◌+◌, List, [], ◌∷◌, ◌++◌, length, map, get_or, refl, sym, ap, ◌∙◌, subst, arith}
+use Rattle.std.proofs.Common.{◌≡◌, ℕ, ◌+◌, List, [], ◌∷◌, ◌++◌, length, map, get_or, refl, sym, ap, ◌∙◌, subst, arith, inl, inr}
 use Rattle.std.specs.Prelude.{None}
 use Rattle.std.specs.List.{AllByRecursion}
 use Rattle.std.proofs.lemmas.List.{length-replicate, length-set}
@@ -8,7 +8,7 @@ use Rattle.event_log.specs.declared.log.Log.{Log}
 use Rattle.event_log.specs.declared.log.Binding.{Binding}
 use Rattle.event_log.specs.declared.item.LogCode.{LogCode}
 use Rattle.event_log.specs.States.{with_event, with_batch, with_batches, event_of, processes_of}
-use Rattle.event_log.specs.LogText.{LogFits, EventsFit, BatchesFit, KindWithin, KindFits}
+use Rattle.event_log.specs.LogText.{LogFits, EventsFit, BatchesFit, KindWithin, KindFits, ClockStands}
 use Rattle.event_log.specs.declared.log.Header.{Header}
 use Rattle.event_log.specs.declared.log.Kind.{Kind}
 use Rattle.event_log.specs.declared.log.Kind.TheVariants as kind
@@ -100,22 +100,28 @@ peer_within procs process kind.Internal h = tt
 peer_within procs process (kind.Send to id) h = h.0
 peer_within procs process (kind.Receive sender id) h = h.0
 
-batch_fits : (h : Header) (line : ℕ) (batch : List Event) → EventsFit h line batch → AllByRecursion (EventFits (length h.procs)) batch
-batch_fits h line [] fits = tt
-batch_fits h line (e ∷ batch) fits =
+-- in version 1 no clock is left out
+written_width : (procs : ℕ) (version : ℕ) (clock : List ℕ) → version ≡ 1 → ClockStands version procs clock → length clock ≡ procs
+written_width procs version clock first (inl width) = width
+written_width procs version clock first (inr out) = absurd (omega (arith, first, out.0))
+
+batch_fits : (h : Header) (line : ℕ) (batch : List Event) → h.version ≡ 1 → EventsFit h line batch → AllByRecursion (EventFits (length h.procs)) batch
+batch_fits h line [] first fits = tt
+batch_fits h line (e ∷ batch) first fits =
     let e_fits = fits.0.0 in
-    (record { clock = record { process = e_fits.process; width = e_fits.width }; peer = peer_within (length h.procs) e.process e.kind e_fits.kind }, batch_fits h (line + 1) batch fits.1)
+    let width = written_width (length h.procs) h.version e.clock first e_fits.width in
+    (record { clock = record { process = e_fits.process; width = width }; peer = peer_within (length h.procs) e.process e.kind e_fits.kind }, batch_fits h (line + 1) batch first fits.1)
 
-pub all_fit : (h : Header) (line : ℕ) (batches : List (List Event)) → BatchesFit h line batches → AllFit (length h.procs) batches
-all_fit h line [] fits = tt
-all_fit h line (b ∷ batches) fits = (batch_fits h line b fits.0, all_fit h (line + length b + 1) batches fits.1)
+pub all_fit : (h : Header) (line : ℕ) (batches : List (List Event)) → h.version ≡ 1 → BatchesFit h line batches → AllFit (length h.procs) batches
+all_fit h line [] first fits = tt
+all_fit h line (b ∷ batches) first fits = (batch_fits h line b first fits.0, all_fit h (line + length b + 1) batches first fits.1)
 
--- a log that has a text can be checked
-pub text_can_be_checked : (log : Log) → LogFits log → CanBeChecked log
-text_can_be_checked log fits = record {
+-- a log of version 1 that has a text can be checked
+pub text_can_be_checked : (log : Log) → log.header.version ≡ 1 → LogFits log → CanBeChecked log
+text_can_be_checked log first fits = record {
   some = fits.header.procs.some;
   few = fits.header.procs.few;
-  each = all_fit log.header _ log.batches fits.batches;
+  each = all_fit log.header _ log.batches first fits.batches;
   events = fits.few;
 }
 

@@ -17,3 +17,7 @@ pub mod Admitting
 pub mod MessageIds
 pub mod Delivered
 pub mod Receipts
+pub mod FilledBatches
+pub mod OneClock
+pub mod ClockOf
+pub mod FilledLogs

@@ -25,6 +25,6 @@ mod places;
 
 pub use clocks::{Clocks, check};
 pub use laws::{
-    faultless_is_a_run, no_fault_is_a_run, no_fault_is_an_order, only_new_names_count,
-    worked_faults,
+    each_has_one_clock, faultless_is_a_run, no_fault_is_a_run, no_fault_is_an_order,
+    only_new_names_count, worked_clocks, worked_faults, written_clocks_stay,
 };
