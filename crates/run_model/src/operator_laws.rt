@@ -1,5 +1,5 @@
-// Laws of EF, AG, EG and EX over a closed set of cuts (Sen and Garg): what they make is closed, and has
-// a slice made from the set's slice.
+// Laws of EF, AG, EG and EX over a closed set of cuts (Sen and Garg): what they make is closed, and
+// what EF, AG and EG make has a slice made from the set's slice.
 ghost use Rattle.std.specs.Prelude.{◌≡◌, ℕ, ◌<◌, ◌≤◌, ◌↔◌};
 ghost use Rattle.run_model.specs.Cut.{Cut, Clocks, count, IsWithin, lengths};
 ghost use Rattle.run_model.specs.Consistent.{IsOrder, IsEvent, IsConsistent};

@@ -6,16 +6,17 @@ ghost use Rattle.run_model.specs.Run.{clocks_of};
 ghost use Rattle.run_model.specs.Consistent.{IsConsistent};
 ghost use Rattle.run_model.specs.Meaning.{IsRun};
 ghost use Rattle.run_model.specs.Class.{is_conjunctive, is_disjunctive, IsOfClass};
-ghost use Rattle.run_model.specs.Formula.{Equal, Less, LessOrEqual, GreaterOrEqual, Truth, Watched};
-ghost use Rattle.run_model.specs.Formula.{InTransit, Empty, Difference, Not, Temporal, Next, Ef, Ag};
-ghost use Rattle.run_model.specs.Formula.{Eg, Af};
+ghost use Rattle.run_model.specs.Formula.{Equal, Less, LessOrEqual, GreaterOrEqual, Truth};
+ghost use Rattle.run_model.specs.Formula.{Watched, InTransit, Empty, Difference, Not, Temporal};
+ghost use Rattle.run_model.specs.Formula.{Next, Ef, Ag, Eg, Af};
 ghost use Rattle.run_model.specs.Worked.{p, q, x, y, cut, five_events, two_events};
 ghost use Rattle.run_model.specs.Worked.{first_two_events, no_events, x_is, x_is_not, x_at_most};
 ghost use Rattle.run_model.specs.Worked.{y_is, x_less_y, both, one_of};
 ghost use Rattle.run_model.specs.Worked.{edge, at, path_to, run_with_watch, HasVerdict, HasSlice};
 ghost use Rattle.run_model.specs.Worked.{HasNoSlice, HasWitness};
-ghost use Rattle.run_model.specs.Witness.{ExistsFinally, AlwaysGlobally, ExistsGlobally, ExistsNext};
-ghost use Rattle.run_model.specs.Witness.{Reach, Against, Always, StuckFinish, StuckPair, Nothing};
+ghost use Rattle.run_model.specs.Witness.{ExistsFinally, AlwaysGlobally, ExistsGlobally};
+ghost use Rattle.run_model.specs.Witness.{ExistsNext, Reach, Against, Always, StuckFinish};
+ghost use Rattle.run_model.specs.Witness.{StuckPair, Nothing};
 
 /// The clocks of the examples are those of orders, so there are runs.
 pub fn examples_are_runs()
