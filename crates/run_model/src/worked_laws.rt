@@ -216,6 +216,6 @@ pub fn formulas_of_the_class()
     ensures next_event { IsOfClass (Next p (x_is 1)) }
     ensures negated_next_event { IsFalse (is_disjunctive true (Not (Next p (x_is 1)))) }
     ensures difference { IsOfClass (Not (x_less_y Less 1)) }
-    ensures own_difference { IsFalse (is_disjunctive true (Difference p x p y LessOrEqual (pos 1))) }
+    ensures within_one { IsFalse (is_disjunctive true (Difference p x p y LessOrEqual (pos 1))) }
     ensures negated_difference { IsFalse (is_disjunctive true (Not (x_less_y Equal 1))) }
 {}

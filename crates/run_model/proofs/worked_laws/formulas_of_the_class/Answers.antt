@@ -43,9 +43,9 @@ pub returns-clause-difference : goal.returns-clause-difference
 unfolding clock lengths initial min_cut max_cut assigned state_from states_from in_transit total holds edges_of is_conjunctive is_disjunctive is_plain processes
 returns-clause-difference c = refl
 
-pub returns-clause-own_difference : goal.returns-clause-own_difference
+pub returns-clause-within_one : goal.returns-clause-within_one
 unfolding clock lengths initial min_cut max_cut assigned state_from states_from in_transit total holds edges_of is_conjunctive is_disjunctive is_plain processes
-returns-clause-own_difference c = refl
+returns-clause-within_one c = refl
 
 pub returns-clause-negated_difference : goal.returns-clause-negated_difference
 unfolding clock lengths initial min_cut max_cut assigned state_from states_from in_transit total holds edges_of is_conjunctive is_disjunctive is_plain processes
