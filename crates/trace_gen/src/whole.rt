@@ -4,6 +4,7 @@ ghost use Rattle.std.specs.Prelude.{replicate};
 ghost use Rattle.event_log.specs.Laws.{IsLog};
 ghost use Rattle.event_log.specs.LogText.{HasVarLines};
 ghost use Rattle.vector_clock.specs.Faults.{log_fault};
+ghost use Rattle.vector_clock.specs.Filled.{filled_log};
 ghost use Rattle.trace_gen.specs.Generated.{at_rest, generated, generated_events, header_of};
 ghost use Rattle.trace_gen.specs.Generated.{name_of, names_from, opening};
 
@@ -127,7 +128,7 @@ pub fn generate(alloc: Global, seed: u64, procs: u32, events: u32) -> Result<Log
     ensures log { IfOk result (λ log. log ≡ generated seed procs events) }
     ensures text { IfOk result IsLog }
     ensures lines { IfOk result (λ log. HasVarLines log.header) }
-    ensures clean { IfOk result (λ log. log_fault log ≡ None) }
+    ensures clean { IfOk result (λ log. log_fault (filled_log log) ≡ None) }
 {
     make_log(alloc, seed, procs, events)
 }

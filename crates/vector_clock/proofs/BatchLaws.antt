@@ -8,6 +8,7 @@ use Rattle.event_log.specs.declared.log.Log.{Log}
 use Rattle.event_log.specs.declared.log.Binding.{Binding}
 use Rattle.event_log.specs.declared.item.LogCode.{LogCode}
 use Rattle.event_log.specs.States.{with_event, with_batch, with_batches, event_of, processes_of}
+use Rattle.event_log.specs.LogText as log_text
 use Rattle.event_log.specs.LogText.{LogFits, EventsFit, BatchesFit, KindWithin, KindFits, ClockStands}
 use Rattle.event_log.specs.declared.log.Header.{Header}
 use Rattle.event_log.specs.declared.log.Kind.{Kind}
@@ -18,7 +19,7 @@ use Rattle.run_model.specs.Consistent.{IsOrder}
 use Rattle.causal_order.specs.Growth.{HasClock, HasGrown, with_row, with_clocks}
 use Rattle.causal_order.proofs.Growing.{grown_none}
 use Rattle.causal_order.proofs.Orders.{no_events_order}
-use Rattle.vector_clock.specs.Events.{Events, EventFits, AllFit, CanBeChecked, clocks_of, place, no_events}
+use Rattle.vector_clock.specs.Events.{Events, EventFits, EventStands, AllFit, AllStand, CanBeChecked, clocks_of, place, no_events}
 use Rattle.vector_clock.specs.Faults.{clock_fault, message_fault, event_fault, at_line, fault_from, batch_fault, batches_fault}
 use Rattle.vector_clock.proofs.SoundOrders.{AllSound, sound_order, order_sound, sound_along}
 use Rattle.vector_clock.proofs.Growth.{length-clocks_of, own_count, clocks_one, clocks_more, clocks_none, length-with_batch, fits_have_clocks, grown_with, next_clock, sound_more}
@@ -116,12 +117,35 @@ pub all_fit : (h : Header) (line : ℕ) (batches : List (List Event)) → h.vers
 all_fit h line [] first fits = tt
 all_fit h line (b ∷ batches) first fits = (batch_fits h line b first fits.0, all_fit h (line + length b + 1) batches first fits.1)
 
--- a log of version 1 that has a text can be checked
-pub text_can_be_checked : (log : Log) → log.header.version ≡ 1 → LogFits log → CanBeChecked log
-text_can_be_checked log first fits = record {
+-- an event that a log's text may have stands, be its clock left out or not
+pub event_stands : (h : Header) (e : Event) → log_text.EventFits h e → EventStands (length h.procs) e
+event_stands h e fits = record {
+  process = fits.process;
+  width = elim fits.width [
+    | inl width ↦ inl width
+    | inr out ↦ inr out.1
+  ];
+  peer = peer_within (length h.procs) e.process e.kind fits.kind;
+}
+
+pub events_stand : (h : Header) (es : List Event) → AllByRecursion (log_text.EventFits h) es → AllByRecursion (EventStands (length h.procs)) es
+events_stand h [] fits = tt
+events_stand h (e ∷ es) fits = (event_stands h e fits.0, events_stand h es fits.1)
+
+numbered_stand : (h : Header) (line : ℕ) (es : List Event) → EventsFit h line es → AllByRecursion (EventStands (length h.procs)) es
+numbered_stand h line [] fits = tt
+numbered_stand h line (e ∷ es) fits = (event_stands h e fits.0.0, numbered_stand h (line + 1) es fits.1)
+
+pub all_stand : (h : Header) (line : ℕ) (batches : List (List Event)) → BatchesFit h line batches → AllStand (length h.procs) batches
+all_stand h line [] fits = tt
+all_stand h line (b ∷ batches) fits = (numbered_stand h line b fits.0, all_stand h (line + length b + 1) batches fits.1)
+
+-- a log that has a text can be checked
+pub text_can_be_checked : (log : Log) → LogFits log → CanBeChecked log
+text_can_be_checked log fits = record {
   some = fits.header.procs.some;
   few = fits.header.procs.few;
-  each = all_fit log.header _ log.batches first fits.batches;
+  each = all_stand log.header _ log.batches fits.batches;
   events = fits.few;
 }
 

@@ -13,11 +13,11 @@ pub mod MessageLaws
 pub mod Noting
 pub mod Counting
 pub mod Judged
+pub mod FilledBatches
 pub mod Admitting
 pub mod MessageIds
 pub mod Delivered
 pub mod Receipts
-pub mod FilledBatches
 pub mod OneClock
 pub mod ClockOf
 pub mod FilledLogs

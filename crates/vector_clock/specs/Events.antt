@@ -74,9 +74,10 @@ abbrev pub AllStand : ℕ → List (List Event) → Type 0
 AllStand procs batches =
     AllByRecursion (λ (batch : List Event). AllByRecursion (EventStands procs) batch) batches
 
--- a log of 1 to 32 processes and at most 50,000 events, each of which has its place
+-- a log of 1 to 32 processes and at most 50,000 events, each of which has its place, its clock left
+-- out or not
 pub record CanBeChecked (log : Log) : Type 0 where
   pub some : 1 ≤ length log.header.procs
   pub few : length log.header.procs ≤ 32
-  pub each : AllFit (length log.header.procs) log.batches
+  pub each : AllStand (length log.header.procs) log.batches
   pub events : event_count log.batches ≤ 50000

@@ -2,16 +2,16 @@
 ghost use Rattle.std.specs.Prelude.{◌≡◌, ℕ, ◌+◌, ◌<◌, ◌≤◌, Some, None, length, sum, IfOk, OnOk};
 ghost use Rattle.std.specs.Prelude.{OnErr};
 ghost use Rattle.run_model.specs.Cut.{lengths};
-ghost use Rattle.event_log.specs.States.{with_batch, with_batches};
-ghost use Rattle.vector_clock.specs.Events.{Events, BatchFits, CanBeChecked, no_events, clocks_of};
+ghost use Rattle.event_log.specs.States.{with_batch};
+ghost use Rattle.vector_clock.specs.Events.{Events, BatchFits, no_events, clocks_of};
 ghost use Rattle.vector_clock.specs.Events.{raised};
-ghost use Rattle.vector_clock.specs.Faults.{batch_fault, log_fault};
+ghost use Rattle.vector_clock.specs.Faults.{batch_fault};
 ghost use Rattle.vector_clock.specs.Admitted.{HasAdmitted, HasMessages, IfFault};
 
 use crate::judging::{first_fault, set_counts};
 use crate::messages::Messages;
 use causal_order::Order;
-use event_log::{Event, Log, LogFault};
+use event_log::{Event, LogFault};
 use pota_base::{NoMemory, Refused};
 use std::alloc::Global;
 
@@ -130,22 +130,4 @@ impl Clocks {
         } = self;
         order
     }
-}
-
-/// Checks the batches of a log in turn, and gives the order of its events. A fault is the first
-/// one.
-pub fn check(alloc: Global, log: &Log) -> Result<Order, Refused<LogFault>>
-    requires { CanBeChecked log.now }
-    ensures ok { IfOk result (λ order. (log_fault log.now ≡ None) × (order
-        ≡ clocks_of (with_batches (no_events (length log.now.header.procs)) log.now.batches))) }
-    ensures fault { IfFault result (λ fault. log_fault log.now ≡ Some fault) }
-{
-    let mut clocks = Clocks::new(alloc, log.header.procs.len() as u32)?;
-    for batch in log.batches.as_slice() {
-        match clocks.admit(batch.as_slice()) {
-            Ok(()) => {}
-            Err(refused) => return Err(refused),
-        }
-    }
-    Ok(clocks.into_order())
 }
