@@ -16,11 +16,13 @@
 mod batch_clocks;
 mod beyond;
 mod clocks;
+mod counts;
 mod joined;
 mod judging;
 mod laws;
 mod message;
 mod messages;
+mod nodes;
 mod places;
 
 pub use clocks::{Clocks, check};
