@@ -47,9 +47,12 @@ impl Clocks {
         })
     }
 
-    /// The events of a batch behind those that were admitted, with the clocks that it leaves out: of
-    /// each process the greatest count that a clock gives which the event looks back on, through the
-    /// events before it and the first sends of what is received. It copies the batch.
+    /// The events of a batch behind those that were admitted, with the clocks that it leaves out.
+    ///
+    /// An event without a clock looks back on the event before it on its process and on the first
+    /// send of what it receives, and on what these look back on if they have no clock either. Its
+    /// count of a process is the greatest count of the written clocks that it looks back on, or
+    /// the place of an event of that process without one. Written clocks stay. It copies the batch.
     ///
     /// It takes time as its clocks have counts, whatever the order of its events, and a look-up in
     /// an ordered map for each message.

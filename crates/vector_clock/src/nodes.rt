@@ -1,5 +1,6 @@
 //! The events of a batch as the nodes of a graph, and what those without a clock look back on.
-ghost use Rattle.std.specs.Prelude.{◌≡◌, ◌+◌, ◌<◌, ◌≤◌, List as ListOf, length, map, sum, IfOk, OnOk};
+ghost use Rattle.std.specs.Prelude.{◌≡◌, ◌+◌, ◌<◌, ◌≤◌, List as ListOf, length, map, sum, IfOk};
+ghost use Rattle.std.specs.Prelude.{OnOk};
 ghost use Rattle.std.specs.List.{AllByRecursion};
 ghost use Rattle.std.specs.Option.{option_map};
 ghost use Rattle.vector_clock.specs.declared.nodes.Target.TheVariants.{InBatch};
