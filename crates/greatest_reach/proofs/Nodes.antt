@@ -1,22 +1,21 @@
 -- Items that are the nodes of a graph, or lie one link behind one.
 use Rattle.std.proofs.Common.{◌≡◌, ◌⊎◌, ℕ, ◌<◌, ◌≤◌, List, length, refl, subst, arith, inl, inr}
-use Rattle.greatest_reach.specs.declared.reach.Start.{Start}
 use Rattle.greatest_reach.specs.Back.{Back, itself, further, IsGreatest}
-use Rattle.greatest_reach.specs.Graph.{Reads, Starts}
+use Rattle.greatest_reach.specs.Graph.{Reads}
 use Rattle.greatest_reach.proofs.Backs.{back_on}
 
 -- the graph has the links turned round: a node reads what it links to where that is a node, and
 -- else the number of what it links to starts at it
-pub record IsTurned {N : Type 0} (Link : N → N → Type 0) (Gives : N → ℕ → Type 0) (readers : List (List ℕ)) (starts : List Start) (item : ℕ → N) (End : N → Type 0) : Type 0 where
+pub record IsTurned {N : Type 0} (Link : N → N → Type 0) (Gives : N → ℕ → Type 0) (readers : List (List ℕ)) (Begins : ℕ → ℕ → Type 0) (item : ℕ → N) (End : N → Type 0) : Type 0 where
   pub reads : (x y : ℕ) → Reads readers x y → Link (item x) (item y)
-  pub starts_at : (x n : ℕ) → Starts starts x n → (y : N) × Back Link (item x) y × Gives y n
+  pub starts_at : (x n : ℕ) → Begins x n → (y : N) × Back Link (item x) y × Gives y n
   pub links : (x : ℕ) → x < length readers → (y : N) → Link (item x) y
       → ((k : ℕ) × (k < length readers) × (y ≡ item k) × Reads readers x k)
-      ⊎ (End y × ((n : ℕ) → Gives y n → (n ≡ 0) ⊎ Starts starts x n))
-  pub gives : (x : ℕ) → x < length readers → (n : ℕ) → Gives (item x) n → (n ≡ 0) ⊎ Starts starts x n
+      ⊎ (End y × ((n : ℕ) → Gives y n → (n ≡ 0) ⊎ Begins x n))
+  pub gives : (x : ℕ) → x < length readers → (n : ℕ) → Gives (item x) n → (n ≡ 0) ⊎ Begins x n
   pub ends : (x y : N) → End x → Link x y → ⊥
 
-module _ {N : Type 0} (Link : N → N → Type 0) (Gives : N → ℕ → Type 0) (readers : List (List ℕ)) (starts : List Start) (item : ℕ → N) (End : N → Type 0) (t : IsTurned Link Gives readers starts item End) where
+module _ {N : Type 0} (Link : N → N → Type 0) (Gives : N → ℕ → Type 0) (readers : List (List ℕ)) (Begins : ℕ → ℕ → Type 0) (item : ℕ → N) (End : N → Type 0) (t : IsTurned Link Gives readers Begins item End) where
   to_items : (e x : ℕ) → Back (Reads readers) e x → Back Link (item e) (item x)
   to_items e x itself = itself
   to_items e x (further {x = m} b r) = further (to_items e m b) (t.reads m x r)
@@ -25,7 +24,7 @@ module _ {N : Type 0} (Link : N → N → Type 0) (Gives : N → ℕ → Type 0)
   abbrev IsBehind : ℕ → N → Type 0
   IsBehind e y =
       ((x : ℕ) × (x < length readers) × (y ≡ item x) × Back (Reads readers) e x)
-      ⊎ (End y × ((x : ℕ) × Back (Reads readers) e x × ((n : ℕ) → Gives y n → (n ≡ 0) ⊎ Starts starts x n)))
+      ⊎ (End y × ((x : ℕ) × Back (Reads readers) e x × ((n : ℕ) → Gives y n → (n ≡ 0) ⊎ Begins x n)))
 
   behind : (e : ℕ) → e < length readers → (y : N) → Back Link (item e) y → IsBehind e y
   behind e lt y itself = inl (e, lt, refl, itself)
@@ -39,10 +38,10 @@ module _ {N : Type 0} (Link : N → N → Type 0) (Gives : N → ℕ → Type 0)
         ]
   ]
 
-  pub item_greatest : (e value : ℕ) → e < length readers → IsGreatest (Reads readers) (Starts starts) e value → IsGreatest Link Gives (item e) value
+  pub item_greatest : (e value : ℕ) → e < length readers → IsGreatest (Reads readers) Begins e value → IsGreatest Link Gives (item e) value
   item_greatest e value lt is = record { above = above; reached = reached }
     where
-      low : (x n : ℕ) → Back (Reads readers) e x → (n ≡ 0) ⊎ Starts starts x n → n ≤ value
+      low : (x n : ℕ) → Back (Reads readers) e x → (n ≡ 0) ⊎ Begins x n → n ≤ value
       low x n b (inl none) = omega (arith, none)
       low x n b (inr there) = is.above x b n there
 

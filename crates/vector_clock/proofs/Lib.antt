@@ -21,3 +21,8 @@ pub mod Receipts
 pub mod OneClock
 pub mod ClockOf
 pub mod FilledLogs
+pub mod Looks
+pub mod Readers
+pub mod CountLaws
+pub mod Turned
+pub mod FillLaws

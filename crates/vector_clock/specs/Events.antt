@@ -1,5 +1,6 @@
 -- The events of a log by process, and their vector clocks.
-use Rattle.std.specs.Prelude.{ℕ, zero, suc, ◌≡◌, ◌+◌, ◌<◌, ◌≤◌, ◌⊎◌, Bool, false, ◌||◌, nat_lt, List, [], ◌∷◌}
+use Rattle.std.specs.Prelude.{ℕ, zero, suc, ◌≡◌, ◌+◌, ◌<◌, ◌≤◌, ◌⊎◌, Bool, false, ◌||◌, nat_lt}
+use Rattle.std.specs.Prelude.{List, [], ◌∷◌}
 use Rattle.std.specs.Prelude.{length, map, get_or, set, replicate}
 use Rattle.std.specs.List.{AllByRecursion}
 use Rattle.run_model.specs.Cut.{Cut, Clocks, count}

@@ -1,5 +1,6 @@
 -- The clock of an event, where its text leaves it out too.
-use Rattle.std.specs.Prelude.{◌≡◌, ℕ, ◌+◌, ◌-◌, ◌<◌, ◌≤◌, ◌⊎◌, nat_le, List, [], ◌∷◌, length, get_or}
+use Rattle.std.specs.Prelude.{◌≡◌, ℕ, ◌+◌, ◌-◌, ◌<◌, ◌≤◌, ◌⊎◌, nat_le, List, [], ◌∷◌, length}
+use Rattle.std.specs.Prelude.{get_or}
 use Rattle.std.specs.Prelude.{Some, if◌then◌else◌}
 use Rattle.run_model.specs.Cut.{Cut, count}
 use Rattle.event_log.specs.declared.log.Kind.TheVariants as kind

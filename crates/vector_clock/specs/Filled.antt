@@ -71,7 +71,9 @@ clock_of events x =
 abbrev pub filled_event : Events → Events → Event → Event
 filled_event all before e =
     if is_left_out e
-    then record e { clock = clock_of all (record { process = e.process; position = place before e }) }
+    then record e {
+      clock = clock_of all (record { process = e.process; position = place before e });
+    }
     else e
 
 -- each of these events, which stand behind those before

@@ -7,7 +7,8 @@ use Rattle.run_model.specs.Consistent.{IsOrder}
 use Rattle.event_log.specs.declared.log.Event.{Event}
 use Rattle.event_log.specs.declared.log.Log.{Log}
 use Rattle.event_log.specs.States.{StatesView, with_batches, trace_of, trace_of_log}
-use Rattle.vector_clock.specs.Events.{Events, EventFits, AllFit, no_events, clocks_of, EventStands, AllStand}
+use Rattle.vector_clock.specs.Events.{Events, EventFits, AllFit, no_events, clocks_of, EventStands}
+use Rattle.vector_clock.specs.Events.{AllStand}
 use Rattle.vector_clock.specs.Faults.{has_wrong_own, goes_back, is_open, is_loop, batches_fault}
 use Rattle.vector_clock.specs.Faults.{log_fault}
 use Rattle.vector_clock.specs.Faultless.{AreFaultless, IsLoggedRun}

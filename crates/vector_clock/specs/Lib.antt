@@ -3,6 +3,7 @@ pub mod Messages
 pub mod Faults
 pub mod Fill
 pub mod Filled
+pub mod Nodes
 pub mod Worked
 pub mod WorkedFills
 pub mod Sound

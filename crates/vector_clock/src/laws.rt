@@ -22,8 +22,8 @@ pub fn no_fault_is_an_order()
     ensures { NoFaultIsAnOrder }
 {}
 
-/// A log that has no fault once its clocks are filled in is a run. No channel of it has more receipts than sends at a consistent
-/// cut.
+/// A log that has no fault once its clocks are filled in is a run. No channel of it has more
+/// receipts than sends at a consistent cut.
 pub fn no_fault_is_a_run()
     ensures { NoFaultIsARun }
 {}

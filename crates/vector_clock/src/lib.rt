@@ -20,13 +20,14 @@
 mod batch_clocks;
 mod beyond;
 mod clocks;
-mod fill;
+mod counts;
 mod joined;
 mod judging;
 mod laws;
 mod left_out;
 mod message;
 mod messages;
+mod nodes;
 mod places;
 
 pub use clocks::Clocks;
