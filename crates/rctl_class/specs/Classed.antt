@@ -24,10 +24,12 @@ operated (model.Comparison process variable relation side) = None
 operated (model.Watched process watch) = None
 operated (model.InTransit sender receiver relation k) = None
 operated (model.Empty sender receiver) = None
+operated (model.Difference left_process left right_process right relation k) = None
 operated (model.Not f) = None
 operated (model.And fs) = None
 operated (model.Or fs) = None
 operated (model.Temporal operator f) = Some (operator, f)
+operated (model.Next process f) = None
 operated (model.Until all left right) = None
 
 -- the same operator over operands that mean the same, or no operator
