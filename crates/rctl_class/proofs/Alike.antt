@@ -30,7 +30,7 @@ use Rattle.rctl_class.specs.Faults.{first_fault, first_of, operator_fault}
 use Rattle.rctl_class.specs.NamedParts.{Piece, name_on, side_formula, expr_formula, expr_formulas, part_formula, part_formulas, pieces}
 use Rattle.rctl_class.specs.Walk as walk
 use Rattle.rctl_class.specs.Walk.{first_place, is_on, is_over, all_over, side_from, expr_from, exprs_from, local_part, bounds, next_count, parts_from, disjuncts_from}
-use Rattle.rctl_class.specs.Classed.{MeanTheSame, operated, OperateTheSame, Alike, PartsAlike, EachAlike, disjunct_formulas}
+use Rattle.rctl_class.specs.Classed.{MeanTheSame, Head, operated, OperateTheSame, Alike, PartsAlike, EachAlike, disjunct_formulas}
 use Rattle.rctl_class.proofs.Locals.{option_name, over_is_local, local_parts, local_disjuncts}
 
 -- ---- what is alike
@@ -38,7 +38,7 @@ use Rattle.rctl_class.proofs.Locals.{option_name, over_is_local, local_parts, lo
 same_meaning : (f : Formula) → MeanTheSame f f
 same_meaning f r order c k = (λ h. h, λ h. h)
 
-same_operator : (o : Option (model.Operator × Formula)) → OperateTheSame o o
+same_operator : (o : Option (Head × Formula)) → OperateTheSame o o
 same_operator None = tt
 same_operator (Some o) = (refl, same_meaning o.1)
 

@@ -1,7 +1,7 @@
 -- What the disjuncts of a formula of the class are.
 use Rattle.std.specs.Prelude.{◌≡◌, ◌↔◌, true, false, List, [], ◌∷◌, map, Option, None, Some, ⊤}
 use Rattle.run_model.specs.Cut.{Cut}
-use Rattle.run_model.specs.Run.{Run}
+use Rattle.run_model.specs.Run.{Name, Run}
 use Rattle.run_model.specs.Formula as model
 use Rattle.run_model.specs.Formula.{Formula}
 use Rattle.run_model.specs.Consistent.{IsOrder, IsConsistent}
@@ -17,8 +17,13 @@ abbrev pub MeanTheSame : Formula → Formula → Type 0
 MeanTheSame f g =
     (r : Run) → IsOrder r.clocks → (c : Cut) → IsConsistent r.clocks c → Sat r f c ↔ Sat r g c
 
--- the operator that stands at the head of a formula, with its operand
-abbrev pub operated : Formula → Option (model.Operator × Formula)
+-- what stands before an operand: an operator, or the next event of a process
+pub data Head : Type 0 where
+  under : (operator : model.Operator) → Head
+  behind : (process : Name) → Head
+
+-- what stands at the head of a formula, with its operand
+abbrev pub operated : Formula → Option (Head × Formula)
 operated (model.Truth b) = None
 operated (model.Comparison process variable relation side) = None
 operated (model.Watched process watch) = None
@@ -28,13 +33,12 @@ operated (model.Difference left_process left right_process right relation k) = N
 operated (model.Not f) = None
 operated (model.And fs) = None
 operated (model.Or fs) = None
-operated (model.Temporal operator f) = Some (operator, f)
-operated (model.Next process f) = None
+operated (model.Temporal operator f) = Some (under operator, f)
+operated (model.Next process f) = Some (behind process, f)
 operated (model.Until all left right) = None
 
--- the same operator over operands that mean the same, or no operator
-abbrev pub OperateTheSame : Option (model.Operator × Formula) → Option (model.Operator × Formula)
-    → Type 0
+-- the same head over operands that mean the same, or none
+abbrev pub OperateTheSame : Option (Head × Formula) → Option (Head × Formula) → Type 0
 OperateTheSame None None = ⊤
 OperateTheSame None (Some o) = ⊥
 OperateTheSame (Some o) None = ⊥
