@@ -30,7 +30,7 @@ use Rattle.rctl_class.specs.Faults.{first_fault, first_of, operator_fault}
 use Rattle.rctl_class.specs.NamedParts.{Piece, name_on, side_formula, expr_formula, expr_formulas, part_formula, part_formulas, pieces}
 use Rattle.rctl_class.specs.Walk as walk
 use Rattle.rctl_class.specs.Walk.{first_place, is_on, is_over, all_over, side_from, expr_from, exprs_from, local_part, bounds, next_count, parts_from, disjuncts_from}
-use Rattle.rctl_class.specs.Classed.{MeanTheSame, Head, operated, OperateTheSame, Alike, PartsAlike, EachAlike, disjunct_formulas}
+use Rattle.rctl_class.specs.Classed.{MeanTheSame, Head, bare, operated, stepped, head_of, HaveOneHead, Alike, PartsAlike, EachAlike, disjunct_formulas}
 use Rattle.rctl_class.proofs.Locals.{option_name, over_is_local, local_parts, local_disjuncts}
 
 -- ---- what is alike
@@ -38,12 +38,13 @@ use Rattle.rctl_class.proofs.Locals.{option_name, over_is_local, local_parts, lo
 same_meaning : (f : Formula) → MeanTheSame f f
 same_meaning f r order c k = (λ h. h, λ h. h)
 
-same_operator : (o : Option (Head × Formula)) → OperateTheSame o o
-same_operator None = tt
-same_operator (Some o) = (refl, same_meaning o.1)
+one_head : (h : Head) → HaveOneHead h h
+one_head bare = tt
+one_head (operated o f) = (refl, same_meaning f)
+one_head (stepped p f) = (refl, same_meaning f)
 
 alike_itself : (f : Formula) → Alike f f
-alike_itself f = record { operator = same_operator (operated f); meaning = same_meaning f }
+alike_itself f = record { head = one_head (head_of f); meaning = same_meaning f }
 
 parts_alike_themselves : (fs : List Formula) → PartsAlike fs fs
 parts_alike_themselves [] = tt
@@ -268,7 +269,7 @@ mutual
   parts_alike true (under o n at) fits free =
       let both = none_both (operator_fault true o at) (first_fault true true n) free in
       let same = operand_means (parts_from true n) (formula_of n) (parts_alike true n fits both.1) in
-      (record { operator = (refl, same); meaning = operated_alike o _ (formula_of n) same }, tt)
+      (record { head = (refl, same); meaning = operated_alike o _ (formula_of n) same }, tt)
   parts_alike false (under o n at) fits free = absurd (not_negative o at (none_both (operator_fault false o at) (first_fault true true n) free).0)
   parts_alike sign (stepping process n at) fits free = absurd (cc)
   parts_alike sign (until_of all left right at) fits free = absurd (cc)
