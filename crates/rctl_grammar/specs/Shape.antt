@@ -145,6 +145,15 @@ relation_of compare.Le = model.LessOrEqual
 relation_of compare.Gt = model.Greater
 relation_of compare.Ge = model.GreaterOrEqual
 
+-- no tree has the operator of a process's number, and it is none that is analysed
+abbrev pub model_operator : Operator → model.Operator
+model_operator operator.Ef = model.Ef
+model_operator operator.Ag = model.Ag
+model_operator operator.Eg = model.Eg
+model_operator (operator.Ex process) = model.Ax
+model_operator operator.Af = model.Af
+model_operator operator.Ax = model.Ax
+
 abbrev pub model_side : PlainSide → model.Side
 model_side (number value) = model.Number value
 model_side (variable process name) = model.Variable process name
