@@ -28,6 +28,7 @@ use Rattle.log_judgement.proofs.Dues.{due_grows}
 use Rattle.log_judgement.proofs.Orders.{IsOrdered, all_ordered}
 use Rattle.log_judgement.proofs.Readings.{log_is_read}
 use Rattle.log_judgement.proofs.Texts.{reports_split, one_text}
+use Rattle.log_check.proofs.Decided.{stated_kept, each_kept}
 use Rattle.log_check.specs.Aims.{Says, Aim, asked_of, aim_of, names_of, watches_of, rules_of, unknown_name}
 use Rattle.watch.specs.declared.predicate.Handed.{Handed}
 use Rattle.pota_top.specs.declared.outcome.Fault.{Fault}
@@ -121,8 +122,9 @@ module _ {X : Type 0} {P : X → Type 0} (says : Says X P) (s : Stated) (shown :
       grown.1 ∙ ap (λ (ps : List Prefix). ps ++ grown.0) h.are ∙ append_assoc h.front h.rest grown.0 in
       let parts = reports_split q watches h.front (h.rest ++ grown.0) whole (subst (λ (ps : List Prefix). AreReports q watches ps whole) logs due_is.2) in
       let ordered = both_halves h.front (h.rest ++ grown.0) (subst (AllByRecursion IsOrdered) logs (all_ordered (unknown_name aim.node (names_of handed)) each ended all)) in
-      let class : IsOfClass q.formula = (of_the_class (node_of s.formula.tree)).0 is.classed.free in
-      let one = one_text q watches class h.front ordered parts.0 text parts.2 (texts_asked h.front text h.texts) in
+      let class : IsOfClass q.formula = ((of_the_class (node_of s.formula.tree)).0 is.classed.free).0 in
+      let kept = each_kept q watches (stated_kept formula s is) h.front in
+      let one = one_text q watches class h.front ordered kept parts.0 text parts.2 (texts_asked h.front text h.texts) in
       ((parts.1, parts.4 ∙ ap (λ (t : List ℕ). t ++ parts.1) one), omega (arith, h.count))
 
   module _ (left : Option (List ℕ)) (lf lf' of of' : ℕ) (read written : List ℕ) where

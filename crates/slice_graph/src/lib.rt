@@ -28,5 +28,6 @@ pub use edges::Edge;
 pub use laws::{least_or_none, order_grows, systems_of_an_order};
 pub use order_pulls_of::{order_fans, order_pulls};
 pub use slice::Slice;
+pub use slice_pulls::all_processes;
 pub use starting::order_rows;
 pub use table::CutTable;

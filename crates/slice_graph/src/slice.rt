@@ -159,7 +159,7 @@ impl Slice {
     }
 
     /// The words of a row without a cut: each is one more than the process's length.
-    pub(crate) fn absent(&self) -> &[u32]
+    pub fn absent(&self) -> &[u32]
         ensures { result.now ≡ past_ends self.now.lens }
     {
         self.table.absent()
