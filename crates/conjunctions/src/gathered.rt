@@ -11,7 +11,7 @@ ghost use Rattle.conjunctions.specs.Beginning.{FloorFits};
 
 use causal_order::Order;
 use pota_base::{List, NoMemory, Shape};
-use pull_system::{Fan, Pull, Rows};
+use pull_system::{Fan, Floor, Pull};
 use slice_graph::{Slice, order_fans};
 use std::alloc::Global;
 use std::marker::Model;
@@ -22,7 +22,7 @@ use std::marker::Model;
 pub struct Gathered {
     fans: List<Fan>,
     /// The rows of the first temporal part's slice, from which the conjunction may begin.
-    floor: Option<Rows>,
+    floor: Option<Floor>,
 }
 
 impl Model for Gathered {
@@ -98,7 +98,7 @@ impl Gathered {
     }
 
     /// The fans, and the floor.
-    pub fn into_fans(self) -> (List<Fan>, Option<Rows>)
+    pub fn into_fans(self) -> (List<Fan>, Option<Floor>)
         ensures pulls { pulls_of_fans result.0 ≡ self.pulls }
         ensures floor { result.1 ≡ self.floor }
     {

@@ -12,10 +12,10 @@ ghost use Rattle.conjunctions.specs.Settling.{IsFloorOf, CanBegin, SettlesOne};
 
 use crate::gathered::Gathered;
 use crate::round::Round;
-use bound_table::BoundTable;
+use bound_table::{BoundTable, widened};
 use causal_order::Order;
 use pota_base::{Gate, NoMemory, Steps};
-use pull_system::{Rows, System};
+use pull_system::{Floor, Rows, System};
 use rctl_parts::Part;
 use slice_graph::{Slice, order_rows};
 use slice_workers::{Settled, settle_all};
@@ -48,27 +48,34 @@ pub fn are_atoms(parts: &[Part]) -> bool
 
 /// The rows from which a conjunction of atoms begins: its rows of before, grown, and where there
 /// are none the clocks of the events.
-fn floor_of_atoms(alloc: Global, order: &Order, before: Option<Settled>) -> Result<Rows, NoMemory>
+fn floor_of_atoms(alloc: Global, order: &Order, before: Option<Settled>) -> Result<Floor, NoMemory>
     requires { IsFloorOf (lengths order.now) true before }
     ensures lens { IfOk result (λ rows. rows.lens ≡ lengths order.now) }
     ensures begins { IfOk result (λ rows. BeginsAtoms order.now before rows.words) }
 {
     match before {
-        Some(settled) => Rows::grown(alloc, settled.rows(), order.shape()),
+        Some(settled) => {
+            let rows = Rows::grown(alloc, settled.rows(), order.shape())?;
+            drop(settled);
+            widened(alloc, &rows)
+        }
         None => order_rows(alloc, order),
     }
 }
 
 /// The rows from which another conjunction begins: those that were gathered, and where there are
 /// none each at its start.
-fn floor_of_others(alloc: Global, order: &Order, gathered: Option<Rows>) -> Result<Rows, NoMemory>
+fn floor_of_others(alloc: Global, order: &Order, gathered: Option<Floor>) -> Result<Floor, NoMemory>
     requires { IfSome gathered (λ rows. rows.lens ≡ lengths order.now) }
     ensures lens { IfOk result (λ rows. rows.lens ≡ lengths order.now) }
     ensures begins { IfOk result (λ rows. BeginsOthers (lengths order.now) gathered rows.words) }
 {
     match gathered {
         Some(rows) => Ok(rows),
-        None => Rows::new(alloc, order.shape()),
+        None => {
+            let rows = Rows::new(alloc, order.shape())?;
+            widened(alloc, &rows)
+        }
     }
 }
 
@@ -79,8 +86,8 @@ fn floor_of(
     order: &Order,
     keeps: bool,
     before: Option<Settled>,
-    gathered: Option<Rows>,
-) -> Result<Rows, NoMemory>
+    gathered: Option<Floor>,
+) -> Result<Floor, NoMemory>
     requires before { IsFloorOf (lengths order.now) keeps before }
     requires gathered { IfSome gathered (λ rows. rows.lens ≡ lengths order.now) }
     ensures lens { IfOk result (λ rows. rows.lens ≡ lengths order.now) }
@@ -124,8 +131,7 @@ pub fn settle_gathered<R: Threads + Sync, G: Gate, L: Ledger>(
     let (fans, floor) = gathered.into_fans();
     let system = System::of_fans(alloc, order.shape(), fans)?;
     let floor = floor_of(alloc, order, keeps, round.next(), floor)?;
-    let (table, mut seat) = BoundTable::new(alloc, system, &floor)?;
-    drop(floor);
+    let (table, mut seat) = BoundTable::begun(alloc, system, floor)?;
     let settled = settle_all(rt, alloc, &table, &mut seat, workers, gate, steps)?;
     drop(table.close(seat));
     let slice = Slice::from_rows(alloc, order, settled.rows())?;

@@ -10,6 +10,7 @@
 
 mod asks;
 mod fan;
+mod floor;
 mod laws;
 mod places;
 mod pull;
@@ -18,6 +19,7 @@ mod rows;
 mod system;
 
 pub use fan::{Fan, pulls_of};
+pub use floor::Floor;
 pub use laws::{
     closed_lists, closed_vectors, first_numbers, growing_systems, least_vectors, row_starts,
 };

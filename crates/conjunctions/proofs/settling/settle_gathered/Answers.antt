@@ -24,8 +24,8 @@ pub floor_of-requires-clause-gathered : goal.floor_of-requires-clause-gathered
 floor_of-requires-clause-gathered g c =
     subst (λ (found : Option RowsView). IfSome found (λ rows. rows.lens ≡ lengths c.args.order.now)) (sym c.into_fans-fans.ensures.floor) (IfSome_then c.args.gathered.floor c.requires.floor (λ rows may. may.shape))
 
-pub new-requires-clause-bounds : goal.new-requires-clause-bounds
-new-requires-clause-bounds g c =
+pub begun-requires-clause-bounds : goal.begun-requires-clause-bounds
+begun-requires-clause-bounds g c =
     let o = c.args.order.now in
     let before = first_of c.args.round.now.before in
     let system : SystemView = record { lens = lengths o; pulls = c.args.gathered.pulls } in
