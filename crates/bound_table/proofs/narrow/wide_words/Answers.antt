@@ -1,4 +1,4 @@
-use Rattle.std.proofs.Common.{rules, arith, refl, ◌∙◌, ap, length}
+use Rattle.std.proofs.Common.{arith, refl, ◌∙◌, ap, length}
 use Rattle.std.proofs.lemmas.List.{take_all, length-take-le}
 use Rattle.bound_table.proofs.Reading.{read_more, read_whole, range_at}
 use Rattle.bound_table.proofs.narrow.wide_words.Goals as goal
