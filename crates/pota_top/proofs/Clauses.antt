@@ -57,7 +57,7 @@ benches_one words a b t u h k =
     let e : task.Bench a ≡ task.Bench b = same.0 in
     (cc, same.1)
 
-not_both : (words : List (List ℕ)) (a : Shown) (b : Sizes) (t u : Tree) → AsksFor words (task.Check a) t → AsksFor words (task.Bench b) u → ⊥
+pub not_both : (words : List (List ℕ)) (a : Shown) (b : Sizes) (t u : Tree) → AsksFor words (task.Check a) t → AsksFor words (task.Bench b) u → ⊥
 not_both words a b t u h k =
     let same = asks_one words (task.Check a) (task.Bench b) t u h k in
     let e : task.Check a ≡ task.Bench b = same.0 in

@@ -41,6 +41,7 @@ use Rattle.pota_top.specs.Asking.{Handing, handing_of, asked_by, asked}
 use Rattle.pota_top.specs.Checking.{AreTexts, HasPartOf, HasFrontOf}
 use Rattle.pota_top.specs.Reading.{due_in, TellsDue, StopsAt, IsVerdictOn, ChecksTo, HasChecked}
 use Rattle.pota_top.specs.Benching.{IsSummary, missing_name, IsBenchOf, BenchStops, BenchesTo, HasMade}
+use Rattle.pota_top.proofs.Clauses.{not_both}
 use Rattle.pota_top.specs.Run.{IsTold, IsTrueAtStart, HasVerdict, IsRefused, HasPart, IsBenched, HasBenched, IsWholeDue, sizes_of, made_by, Answer, Ran}
 
 -- ---- a formula that is stated is asked
@@ -144,7 +145,12 @@ module _ {X : Type 0} {P : X → Type 0} (says : Says X P) (s : Stated) (shown :
     stop_answer (fault.Log x) n h = (x, refused_by (refusal.Log x) (fault.Log x) n (record { status = status.Log; batches = n; fault = Some (fault.Log x) }) refl refl h.0 h.1 h.2)
     stop_answer fault.Read n h = (record { told = told_of false read written n h.0.count h.0.texts; free = h.0.fault; fault = refl }, h.1)
     stop_answer fault.Write n h = (inl (has_part left h.0 read written n h.1 h.2), refl, h.3)
-    stop_answer fault.Memory n h = record { front = front_of read written n h; fault = refl }
+    stop_answer fault.Memory n h = record {
+      front = front_of read written n h;
+      unread = λ t sizes k. absurd (not_both words shown sizes s.formula.tree t asks k);
+      unnamed = λ t sizes f k. absurd (not_both words shown sizes s.formula.tree t asks k);
+      fault = refl;
+    }
     stop_answer fault.Usage n h = absurd h
 
     verdict_of : (b : Bool) (v : Verdict) → v.truth ≡ b → IsAtEnd left → IsVerdictOn aim each read written v
@@ -236,6 +242,8 @@ module _ {X : Type 0} {P : X → Type 0} (says : Says X P) (s : Stated) (sizes :
     )
     bench_stop fault.Memory n h = record {
       front = λ text batches w. (subst (λ (t : List ℕ). IsPrefix t text) (sym h.0) (nothing_front text), let none = h.1 in omega (arith, none));
+      unread = λ t sizes k. refl;
+      unnamed = λ t sizes f k lacks. h;
       fault = refl;
     }
     bench_stop fault.Usage n h = absurd h
@@ -284,7 +292,12 @@ ran_short left held lf of on words stop is = subst (λ (x : Stop). Ran left left
   wrote = Appends-nil held;
   log_later = omega arith;
   out_later = omega arith;
-  answer = record { front = λ text batches w. (nothing_front text, omega arith); fault = refl };
+  answer = record {
+    front = λ text batches w. (nothing_front text, omega arith);
+    unread = λ t sizes k. refl;
+    unnamed = λ t sizes f k lacks. (refl, refl);
+    fault = refl;
+  };
 })
 
 misasked_answer : (words : List (List ℕ)) (left : Option (List ℕ)) (lf of : ℕ) (on : Handing) (f : QuestionFault) → IsQuestionFault words f

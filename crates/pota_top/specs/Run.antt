@@ -176,11 +176,16 @@ pub record IsWholeDue (on : Handing) (words : List (List ℕ)) (read text : List
   pub benched : (t : Tree) (sizes : Sizes) → AsksFor words (task.Bench sizes) t
       → (verdict : Bool) × IsBenched on words text verdict × (batches ≡ 1)
 
--- memory ran out; what was written is the front of each text that may be due
+-- Memory ran out; what was written is the front of each text that may be due. Nothing is read for a
+-- bench, and nothing is written where the log that is made lacks a name.
 pub record IsOutOfMemory (on : Handing) (words : List (List ℕ)) (read written : List ℕ)
     (o : Outcome) : Type 0 where
   pub front : (text : List ℕ) (batches : ℕ) → IsWholeDue on words read text batches
       → IsPrefix written text × (o.batches ≤ batches)
+  pub unread : (t : Tree) (sizes : Sizes) → AsksFor words (task.Bench sizes) t → read ≡ []
+  pub unnamed : (t : Tree) (sizes : Sizes) (f : FormulaFault) → AsksFor words (task.Bench sizes) t
+      → unknown_name (node_of t) on.names (made_by sizes).header ≡ Some f
+      → (written ≡ []) × (o.batches ≡ 0)
   pub fault : o.fault ≡ Some fault.Memory
 
 -- What a status says, by what the source has left, the counts of faults before and after, the

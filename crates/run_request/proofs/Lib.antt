@@ -1,1 +1,2 @@
 pub mod OneQuestion
+pub mod SomeQuestion
