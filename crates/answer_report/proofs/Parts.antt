@@ -23,7 +23,8 @@ use Rattle.rctl_parts.specs.Pieces as piece
 use Rattle.rctl_parts.specs.Pieces.{Atom, Piece, Pieces, atom, temporal, pieces, listed}
 use Rattle.rctl_parts.specs.Spelled.{Names, formula_in, atom_formula, formula_of, formulas_of}
 use Rattle.rctl_parts.proofs.Spelling.{pieces-listed}
-use Rattle.rctl_class.specs.Classed.{MeanTheSame, operated, OperateTheSame, Alike}
+use Rattle.rctl_class.specs.Classed as class
+use Rattle.rctl_class.specs.Classed.{MeanTheSame, Head, head_of, HaveOneHead, Alike}
 use Rattle.slice_graph.specs.Views.{SliceView, slice_of}
 use Rattle.slice_graph.specs.Fitting.{FitsOrder}
 use Rattle.conjunctions.specs.declared.observed.Observed.{Observed}
@@ -80,7 +81,7 @@ operands_fit seen (p ∷ places) (a ∷ parts) h = (operand_fits seen p.piece a.
 
 -- ---- the witness of a part
 
-no_operator_in : (variables watches : List Name) (process : Name) (e : Expr) → operated (formula_in variables watches process e) ≡ None
+no_operator_in : (variables watches : List Name) (process : Name) (e : Expr) → head_of (formula_in variables watches process e) ≡ class.bare
 no_operator_in variables watches process (expr.truth value) = refl
 no_operator_in variables watches process (expr.comparison left compare right) = refl
 no_operator_in variables watches process (expr.watch number) = refl
@@ -88,7 +89,7 @@ no_operator_in variables watches process (expr.negation e) = refl
 no_operator_in variables watches process (expr.conjunction es) = refl
 no_operator_in variables watches process (expr.disjunction es) = refl
 
-no_operator_at : (names : Names) (a : Atom) → operated (atom_formula names a) ≡ None
+no_operator_at : (names : Names) (a : Atom) → head_of (atom_formula names a) ≡ class.bare
 no_operator_at names (piece.local None e) = no_operator_in [] [] [] e
 no_operator_at names (piece.local (Some p) e) = no_operator_in _ _ _ e
 no_operator_at names (piece.at_most p q k) = refl
@@ -96,16 +97,18 @@ no_operator_at names (piece.at_least p q k) = refl
 no_operator_at names piece.never = refl
 
 -- a formula without an operator at its head gets none
-none_of : (r : Run) (f : Formula) (w : witness.Witness) → OperateTheSame None (operated f) → w ≡ witness.Nothing → IsWitnessOf r f w
+none_of : (r : Run) (f : Formula) (w : witness.Witness) → HaveOneHead class.bare (head_of f) → w ≡ witness.Nothing → IsWitnessOf r f w
 none_of r (model.Truth b) w h e = e
 none_of r (model.Comparison process variable relation side) w h e = e
 none_of r (model.Watched process watch) w h e = e
 none_of r (model.InTransit sender receiver relation k) w h e = e
 none_of r (model.Empty sender receiver) w h e = e
+none_of r (model.Difference left_process left right_process right relation k) w h e = e
 none_of r (model.Not f) w h e = e
 none_of r (model.And fs) w h e = e
 none_of r (model.Or fs) w h e = e
 none_of r (model.Temporal op f) w h e = absurd h
+none_of r (model.Next process f) w h e = absurd h
 none_of r (model.Until all left right) w h e = e
 
 -- the witness by a slice that stands for the family of an operand
@@ -114,7 +117,7 @@ by_slice : (r : Run) (op : Operator) (s : SliceView) (f : Formula) (w : witness.
 by_slice r operator.Ef s f w stands h = (slice_of s, stands, h)
 by_slice r operator.Ag s f w stands h = (slice_of s, stands, h)
 by_slice r operator.Eg s f w stands h = (slice_of s, stands, h)
-by_slice r operator.Ex s f w stands h = h
+by_slice r (operator.Ex process) s f w stands h = h
 by_slice r operator.Af s f w stands h = h
 by_slice r operator.Ax s f w stands h = h
 
@@ -137,19 +140,21 @@ operand_stands seen reading order are s ps is f means =
 
 -- of a formula with the same operator over an operand that means the same
 of_temporal : (seen : Observed) (reading : Reading) → IsOrder (clocks_seen seen) → AreAnswers seen reading → (op : Operator) (s : SliceView) (ps : Pieces) → IsSliceOf seen s (listed ps) → (f : Formula)
-    → OperateTheSame (Some (model_operator op, model.And (formulas_of (names_seen seen reading) ps))) (operated f)
+    → HaveOneHead (class.operated (model_operator op) (model.And (formulas_of (names_seen seen reading) ps))) (head_of f)
     → (w : witness.Witness) → IsGivenFor (clocks_seen seen) (Some op) (Some s) w → IsWitnessOf (run_seen seen reading) f w
 of_temporal seen reading order are op s ps is (model.Truth b) h w k = absurd h
 of_temporal seen reading order are op s ps is (model.Comparison process variable relation side) h w k = absurd h
 of_temporal seen reading order are op s ps is (model.Watched process watch) h w k = absurd h
 of_temporal seen reading order are op s ps is (model.InTransit sender receiver relation n) h w k = absurd h
 of_temporal seen reading order are op s ps is (model.Empty sender receiver) h w k = absurd h
+of_temporal seen reading order are op s ps is (model.Difference left_process left right_process right relation n) h w k = absurd h
 of_temporal seen reading order are op s ps is (model.Not f) h w k = absurd h
 of_temporal seen reading order are op s ps is (model.And fs) h w k = absurd h
 of_temporal seen reading order are op s ps is (model.Or fs) h w k = absurd h
 of_temporal seen reading order are op s ps is (model.Temporal o f) h w k =
     let P : model.Operator → Type 0 = λ m. IsWitnessOf (run_seen seen reading) (model.Temporal m f) w in
     subst P h.0 (by_slice (run_seen seen reading) op s f w (operand_stands seen reading order are s ps is f h.1) k)
+of_temporal seen reading order are op s ps is (model.Next process f) h w k = absurd h
 of_temporal seen reading order are op s ps is (model.Until all left right) h w k = absurd h
 
 -- the witness that is given for a part is that of each formula that the part stands for
@@ -158,10 +163,10 @@ pub given_is : (seen : Observed) (reading : Reading) → IsOrder (clocks_seen se
     → (w : witness.Witness) → IsGivenFor (clocks_seen seen) o s w → IsWitnessOf (run_seen seen reading) f w
 given_is seen reading order are (atom a) o s h f alike w k =
     let nothing : w ≡ witness.Nothing = subst (λ (op : Option Operator). IsGivenFor (clocks_seen seen) op s w) h.0 k in
-    none_of (run_seen seen reading) f w (subst (λ (o : Option (model.Operator × Formula)). OperateTheSame o (operated f)) (no_operator_at (names_seen seen reading) a) alike.operator) nothing
+    none_of (run_seen seen reading) f w (subst (λ (h : Head). HaveOneHead h (head_of f)) (no_operator_at (names_seen seen reading) a) alike.head) nothing
 given_is seen reading order are (temporal op ps) o None h f alike w k = absurd h
 given_is seen reading order are (temporal op ps) o (Some s) h f alike w k =
-    of_temporal seen reading order are op s ps h.1 f alike.operator w (subst (λ (op : Option Operator). IsGivenFor (clocks_seen seen) op (Some s) w) h.0 k)
+    of_temporal seen reading order are op s ps h.1 f alike.head w (subst (λ (op : Option Operator). IsGivenFor (clocks_seen seen) op (Some s) w) h.0 k)
 
 -- ---- the truth of a part
 

@@ -40,7 +40,7 @@ says seen trace answer wanted text report made reading q asked = record {
   formula = made.formula ∙ sym asked.text_is;
   verdict = (λ h. truth.0 (sym made.verdict ∙ h), λ h. made.verdict ∙ truth.1 h);
   slice = subst (λ (b : Bool). IsSliceShown b r q.formula report.slice) (sym asked.slice)
-      (slice_shown seen reading run asked.watches asked.pieces answer asked.answered q.formula asked.meaning wanted.slice report.slice made.slice);
+      (slice_shown seen reading run asked.watches asked.pieces answer asked.answered q.formula asked.meaning asked.kept wanted.slice report.slice made.slice);
   witnesses = λ on. subst (λ (b : Bool). AreWitnesses r q.formula b report.witnesses) (sym made.verdict) (by answer.truth refl (made.witnesses (sym asked.witness ∙ on)));
   unasked = λ off. made.unwanted (sym asked.witness ∙ off);
 }

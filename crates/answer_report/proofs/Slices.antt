@@ -9,7 +9,7 @@ use Rattle.run_model.specs.Sublattice.{Smallest, given}
 use Rattle.run_model.specs.Slice as model
 use Rattle.run_model.specs.Slice.{Cuts, StandsFor, IsLeastOf, IsPrintedAs, IsTextOf}
 use Rattle.run_model.specs.Meaning.{IsRun, Sat, Family}
-use Rattle.run_model.specs.Class.{disjuncts, Shown}
+use Rattle.run_model.specs.Class.{disjuncts, IsKeptFor, Shown}
 use Rattle.run_model.proofs.DisjunctLemmas.{disjuncts_mean}
 use Rattle.run_model.proofs.JoinLemmas.{smallest_closed, smallest_wider}
 use Rattle.run_model.proofs.ShownLemmas.{shown_smallest}
@@ -59,10 +59,10 @@ same_truth seen reading order ds f alike c k =
 
 -- the cuts of the answer's slice are those that are shown
 cuts_shown : (seen : Observed) (reading : Reading) → IsRun (run_seen seen reading) → AreAnswers seen reading → (ds : List (List Piece)) (answer : Answer) → IsAnswer seen ds answer
-    → (f : Formula) → EachAlike (part_formulas (names_seen seen reading) ds) (disjuncts true f) → (c : Cut) → Cuts (clocks_seen seen) (slice_of answer.slice) c ↔ Shown (run_seen seen reading) f c
-cuts_shown seen reading run are ds answer is f alike c =
+    → (f : Formula) → EachAlike (part_formulas (names_seen seen reading) ds) (disjuncts true f) → IsKeptFor (run_seen seen reading) f → (c : Cut) → Cuts (clocks_seen seen) (slice_of answer.slice) c ↔ Shown (run_seen seen reading) f c
+cuts_shown seen reading run are ds answer is f alike kept c =
     let exact = exact_slice o spelled (smallest_closed o run.order (Family r g) (λ d m. m.0)) (slice_of answer.slice) (is.stands reading are) c in
-    let shown = shown_smallest r run f c in (
+    let shown = shown_smallest r run f kept c in (
       λ h. shown.1 (smallest_wider (Family r g) (Family r f) (λ d m. given (m.0, (same d m.0).0 m.1)) c (exact.1 h)),
       λ h. exact.0 (smallest_wider (Family r f) (Family r g) (λ d m. given (m.0, (same d m.0).1 m.1)) c (shown.0 h)),
     )
@@ -83,9 +83,9 @@ cuts_shown seen reading run are ds answer is f alike c =
     same = same_truth seen reading run.order ds f alike
 
 pub slice_shown : (seen : Observed) (reading : Reading) → IsRun (run_seen seen reading) → AreAnswers seen reading → (ds : List (List Piece)) (answer : Answer) → IsAnswer seen ds answer
-    → (f : Formula) → EachAlike (part_formulas (names_seen seen reading) ds) (disjuncts true f) → (wanted : Bool) (text : Option SliceText)
+    → (f : Formula) → EachAlike (part_formulas (names_seen seen reading) ds) (disjuncts true f) → IsKeptFor (run_seen seen reading) f → (wanted : Bool) (text : Option SliceText)
     → IsSliceTold wanted (clocks_seen seen) answer.slice text → IsSliceShown wanted (run_seen seen reading) f text
-slice_shown seen reading run are ds answer is f alike true (Some text) h =
-    text_same (clocks_seen seen) (Cuts (clocks_seen seen) (slice_of answer.slice)) (Shown (run_seen seen reading) f) (cuts_shown seen reading run are ds answer is f alike) (text_seen text) h
-slice_shown seen reading run are ds answer is f alike true None h = absurd h
-slice_shown seen reading run are ds answer is f alike false text h = h
+slice_shown seen reading run are ds answer is f alike kept true (Some text) h =
+    text_same (clocks_seen seen) (Cuts (clocks_seen seen) (slice_of answer.slice)) (Shown (run_seen seen reading) f) (cuts_shown seen reading run are ds answer is f alike kept) (text_seen text) h
+slice_shown seen reading run are ds answer is f alike kept true None h = absurd h
+slice_shown seen reading run are ds answer is f alike kept false text h = h

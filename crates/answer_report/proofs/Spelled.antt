@@ -11,7 +11,7 @@ use Rattle.run_model.specs.Slice as model
 use Rattle.run_model.specs.Slice.{Slice, Cuts, StandsFor, IsLeastOf, IsPrintedAs, cut_of, previous, edge_into, edges_of}
 use Rattle.run_model.specs.Witness as W
 use Rattle.run_model.specs.Witness.{WitnessOperator, Place, PathTo, IsPlace, FirstSteps, IsCanonical}
-use Rattle.run_model.proofs.Counts.{length-lengths, with_next_same}
+use Rattle.run_model.proofs.Counts.{length-lengths, length-initial, with_next_same}
 use Rattle.run_model.proofs.EdgeLemmas.{all_flat}
 use Rattle.run_model.proofs.Orders.{initial_consistent}
 use Rattle.pota_base.specs.declared.shape.EventId.{EventId}
@@ -141,6 +141,10 @@ canonical_there o s _ _ (W.IsCanonical.stays {path = p} goal steps) = path_there
 canonical_there o s _ _ (W.IsCanonical.false_at_start start) = tt
 canonical_there o s _ _ (W.IsCanonical.false_at_finish start finish) = tt
 canonical_there o s _ _ (W.IsCanonical.come_together {first = e} {other = f} start finish first other) = (first.there, other.there)
+canonical_there o s _ _ (W.IsCanonical.reaches_next {process = i} first) =
+    let event : 1 ≤ count (lengths o) i = omega (arith, first.1.consistent.within i, with_next_same (initial o) i (omega (arith, first.0, length-initial o))) in
+    (first.1.consistent, ((omega arith, event), tt))
+canonical_there o s _ _ (W.IsCanonical.never_next none) = tt
 
 steps_fit : (o : Clocks) (es : List EventId) → PlacesThere o (places_of es) → AllByRecursion (HasEvent (lengths o)) es
 steps_fit o [] h = tt

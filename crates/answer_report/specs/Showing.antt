@@ -28,7 +28,7 @@ abbrev pub explained : Operator → Option WitnessOperator
 explained operator.Ef = Some ExistsFinally
 explained operator.Ag = Some AlwaysGlobally
 explained operator.Eg = Some ExistsGlobally
-explained operator.Ex = None
+explained (operator.Ex process) = None
 explained operator.Af = None
 explained operator.Ax = None
 

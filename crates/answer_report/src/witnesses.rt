@@ -32,7 +32,7 @@ fn witness_of(alloc: Global, order: &Order, part: &PartAnswer) -> Result<Witness
         Operator::Ef => explain(alloc, order, Explained::ExistsFinally, operand),
         Operator::Ag => explain(alloc, order, Explained::AlwaysGlobally, operand),
         Operator::Eg => explain(alloc, order, Explained::ExistsGlobally, operand),
-        Operator::Ex | Operator::Af | Operator::Ax => Ok(Witness::Nothing),
+        Operator::Ex(_) | Operator::Af | Operator::Ax => Ok(Witness::Nothing),
     }
 }
 

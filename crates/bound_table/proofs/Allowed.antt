@@ -7,6 +7,7 @@ use Rattle.pull_system.specs.Rows.{place_of}
 use Rattle.raise_machine.specs.declared.step.Step.TheVariants.{Pull, Lend}
 use Rattle.raise_machine.specs.Bounds.{AreBounds, IsBound, word_at, has_start}
 use Rattle.raise_machine.specs.Machine.{is_word, is_allowed}
+use Rattle.bound_table.specs.Rule.{IsMachineStep}
 use Rattle.raise_machine.proofs.Raising.{both, pull_bound, lend_bound, has_start-true}
 
 both_true : (a b : Bool) → a ≡ true → b ≡ true → (a && b) ≡ true
@@ -69,3 +70,12 @@ bounds_along s t v w same_system same_words bounds =
 
 pub system_along : (s t : SystemView) → s ≡ t → IsSystem s → IsSystem t
 system_along s t same is = let P : SystemView → Type 0 = IsSystem in subst P same is
+
+-- a step of the machine at equal systems, floors, words and numbers
+pub step_along : (s t : SystemView) (v w : List ℕ) (p q m n : ℕ) → s ≡ t → v ≡ w → p ≡ q → m ≡ n → IsMachineStep s v p m → IsMachineStep t w q n
+step_along s t v w p q m n same_system same_floor same_place same_number step =
+    let P : SystemView → Type 0 = λ x. IsMachineStep x v p m in
+    let Q : List ℕ → Type 0 = λ x. IsMachineStep t x p m in
+    let R : ℕ → Type 0 = λ x. IsMachineStep t w x m in
+    let S : ℕ → Type 0 = λ x. IsMachineStep t w q x in
+    subst S same_number (subst R same_place (subst Q same_floor (subst P same_system step)))

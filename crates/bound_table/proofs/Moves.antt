@@ -15,7 +15,7 @@ use Rattle.raise_machine.specs.Bounds.{IsBound, AreBounds}
 use Rattle.raise_machine.proofs.Raising.{bounds_set, bound_max, bound_less}
 use Rattle.bound_table.specs.declared.seat.Known.{Known}
 use Rattle.bound_table.specs.Kept.{larger}
-use Rattle.bound_table.specs.Rule.{word_count, Fits, IsKept, Kept, IsSound, with_floor, opened, nobody, together, Looked, Lifted}
+use Rattle.bound_table.specs.Rule.{word_count, Fits, IsKept, Kept, IsSound, with_floor, opened, nobody, together, Looked, IsMachineStep, Lifted}
 
 -- a list with one number put in a place, and another in the same place of a list above it
 pub set_both : (xs ys : List ℕ) (i m n : ℕ) → IsWithin xs ys → m ≤ n → length xs ≡ length ys → (j : ℕ) → get_or (set xs i m) j 0 ≤ get_or (set ys i n) j 0
@@ -101,9 +101,9 @@ looks system slots id me i one sound there s kept homes here fits =
     )
 
 -- a raise to a bound keeps the rule
-pub lifts : (system : SystemView) (slots id : ℕ) (me : Me (Unit {0}) Known) (i value : ℕ) → me.0.system ≡ system → IsSound me.0 → i < word_count system.lens → IsBound system i value
+pub lifts : (system : SystemView) (slots id : ℕ) (me : Me (Unit {0}) Known) (i value : ℕ) → me.0.system ≡ system → IsSound me.0 → i < word_count system.lens → IsMachineStep me.0.system me.0.floor i value → IsBound system i value
     → Allows (Kept system) slots id me i (λ n. max n value) (Lifted (step slots i value 0 none) me)
-lifts system slots id me i value one sound there asked s kept homes here fits =
+lifts system slots id me i value one sound there machine asked s kept homes here fits =
     let n = max (get_or s.words i 0) value in
     let more : get_or me.0.floor i 0 ≤ n = omega (arith, below_word system s id me.0 i kept here sound.live there) in
     let bound = bound_max system i (get_or s.words i 0) value (word_bound system s i kept there) asked in (
@@ -111,7 +111,7 @@ lifts system slots id me i value one sound there asked s kept homes here fits =
       keeps,
       tt,
       steps_table system s id me.0 i n kept here sound.live there (omega arith) bound,
-      record { view = refl; slots = refl; rises = more; sound = stays_sound system me.0 i n one sound more bound },
+      record { machine = machine; view = refl; slots = refl; rises = more; sound = stays_sound system me.0 i n one sound more bound },
     )
 
 -- a second seat that knows the same keeps the rule

@@ -1,6 +1,6 @@
 -- The words of all rows, read piece by piece.
-use Rattle.std.proofs.Common.{◌≡◌, ◌≢◌, ℕ, ◌+◌, ◌-◌, ◌<◌, ◌≤◌, inl, inr, List, ◌++◌, length, get_or, set, take, arith, sym, ap, ◌∙◌, get_or-set_same, length-append}
-use Rattle.std.proofs.lemmas.List.{get_or-set_other, get_or-append-add, get_or-take, length-take-le, ext_get_or}
+use Rattle.std.proofs.Common.{◌≡◌, ◌≢◌, ℕ, ◌+◌, ◌-◌, ◌<◌, ◌≤◌, inl, inr, List, ◌++◌, length, get_or, set, take, drop, slice_range, arith, sym, ap, ◌∙◌, get_or-set_same, length-append}
+use Rattle.std.proofs.lemmas.List.{get_or-set_other, get_or-append-add, get_or-take, get_or-drop, length-take, length-take-le, ext_get_or}
 use Rattle.std.proofs.Math.ListN.{get_or-append}
 use Rattle.pull_system.proofs.Climbing.{lt_or_le}
 use Rattle.bound_table.proofs.Seeing.{put_next}
@@ -38,3 +38,8 @@ read_more first old new words piece now end read before here more = record {
 pub read_whole : (count : ℕ) (floor words : List ℕ) → AreRead floor words → length words ≡ count → count ≤ length floor → words ≡ take count floor
 read_whole count floor words read size few =
     ext_get_or 0 words (take count floor) (size ∙ sym (length-take-le count floor few)) (λ i below. read.each i below ∙ sym (get_or-take count floor i 0 (omega (arith, below, size))))
+
+-- a piece of a list, number by number
+pub range_at : (xs piece : List ℕ) (first last : ℕ) → piece ≡ slice_range xs first last → (i : ℕ) → i < length piece → get_or piece i 0 ≡ get_or xs (first + i) 0
+range_at xs piece first last same i below =
+    ap (λ ys. get_or ys i 0) same ∙ get_or-take (last - first) (drop first xs) i 0 (omega (arith, below, ap length same, length-take (last - first) (drop first xs))) ∙ get_or-drop first xs i 0

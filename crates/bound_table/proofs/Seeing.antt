@@ -1,7 +1,8 @@
 -- Which pulls hold by the values at which they were looked up last, while a row rises.
-use Rattle.std.proofs.Common.{◌≡◌, ℕ, zero, suc, ◌+◌, ◌*◌, ◌^◌, ◌<◌, ◌≤◌, ◌⊎◌, inl, inr, List, [], ◌∷◌, length, get_or, set, sum, refl, arith, sym, ap, ◌∙◌, subst, get_or-set_same}
+use Rattle.std.proofs.Common.{◌≡◌, ℕ, zero, suc, ◌+◌, ◌*◌, ◌/◌, ◌%◌, ◌^◌, ◌<◌, ◌≤◌, ◌⊎◌, inl, inr, List, [], ◌∷◌, length, get_or, set, sum, refl, arith, sym, ap, ◌∙◌, subst, get_or-set_same}
 use Rattle.std.proofs.lemmas.List.{length-set, get_or_past, ext_get_or}
-use Rattle.std.proofs.Math.Nat.{mul-le-mul_left}
+use Rattle.std.proofs.Math.Nat.{mul-le-mul_left, mod-lt}
+use Rattle.std.proofs.lemmas.Nat.{div-add-mod'}
 use Rattle.pull_system.specs.Vector.{IsWithin, IsVector}
 use Rattle.pull_system.specs.declared.pull.Pull.{Pull}
 use Rattle.pull_system.specs.System.{SystemView, IsSystem, IsPull, IsClosed, HoldsPull, source_of, target_of, ask, pull_at, numbers_from}
@@ -22,6 +23,17 @@ use Rattle.bound_table.proofs.Floors.{place_there, within_one, follows_trans, fo
 -- a word is small enough for 16 bits
 pub word_small : (system : SystemView) → IsSystem system → (floor : List ℕ) → AreBounds system floor → (row process : ℕ) → process < length system.lens → word_at system.lens floor row process < 2 ^ 16
 word_small system is floor bounds row process there = omega (arith, word_in_range system is floor bounds row process there, component_le system.lens process, is.shape.events)
+
+-- so is the word at each place
+pub place_small : (system : SystemView) → IsSystem system → (floor : List ℕ) → AreBounds system floor → (place : ℕ) → get_or floor place 0 < 2 ^ 16
+place_small system is floor bounds place =
+    let n : ℕ = length system.lens in
+    omega (arith, word_small system is floor bounds (place / n) (place % n) (mod-lt place (omega (arith, is.shape.some))), ap (λ k. get_or floor k 0) (div-add-mod' place n))
+
+-- what was read at a place is small
+pub read_small : (system : SystemView) → IsSystem system → (old new : List ℕ) (place x : ℕ) → AreBounds system new → new ≡ set old place x → place < length old → x < 2 ^ 16
+read_small system is old new place x bounds same there =
+    omega (arith, place_small system is new bounds place, ap (λ xs. get_or xs place 0) same, get_or-set_same old place x 0 there)
 
 -- what a word became is the floor for it
 pub raised_at : (system : SystemView) (old new : List ℕ) (row process number became : ℕ) → row ≤ sum system.lens → process < length system.lens → IsRaised system old new row process number became → word_at system.lens new row process ≡ became

@@ -6,13 +6,15 @@ use mathlib.Core.Option.{some}
 use lib.ListN.{get_elem?}
 use Rattle.atomic_table.specs.Table.{State, Me, Step}
 use Rattle.pull_system.specs.Vector.{IsWithin}
-use Rattle.pull_system.specs.Rows.{starts}
-use Rattle.pull_system.specs.System.{SystemView}
+use Rattle.pull_system.specs.Rows.{starts, place_of}
+use Rattle.pull_system.specs.System.{SystemView, target_of, ask}
+use Rattle.raise_machine.specs.declared.step.Step.TheVariants.{Pull, Lend}
 use Rattle.raise_machine.specs.Bounds.{AreBounds}
+use Rattle.raise_machine.specs.Machine.{is_allowed}
 use Rattle.bound_table.specs.declared.seat.Known.{Known}
 use Rattle.bound_table.specs.Kept.{larger}
 
--- the words that are bounds: one per row and process. Others may stand behind them.
+-- the words that are bounds: one per row and process
 abbrev pub word_count : List ℕ → ℕ
 word_count lens = (sum lens + 1) * length lens
 
@@ -61,9 +63,21 @@ pub record Looked (st : Step (Unit {0})) (me : Me (Unit {0}) Known) (found : ℕ
   pub rises : slice_index me.0.floor st.word ≤ found
   pub sound : IsSound now.0
 
--- a word became its maximum with the number, and its floor is that
+-- to raise the word to the number is a step of the raise machine: a pull or a lend that the floors
+-- show to be allowed
+pub data IsMachineStep (system : SystemView) (floor : List ℕ) (word number : ℕ) : Type 0 where
+  pulled : (row k x : ℕ) → is_allowed system floor (Pull row k x) ≡ true
+      → place_of system.lens row (target_of system k) ≡ word → ask system k x ≡ number
+      → IsMachineStep system floor word number
+  lent : (to_row from_row process y : ℕ)
+      → is_allowed system floor (Lend to_row from_row process y) ≡ true
+      → place_of system.lens to_row process ≡ word → y ≡ number
+      → IsMachineStep system floor word number
+
+-- a word became its maximum with the number, by a step of the raise machine, and its floor is that
 pub record Lifted (st : Step (Unit {0})) (me : Me (Unit {0}) Known) (found : ℕ)
     (now : Me (Unit {0}) Known) : Type 0 where
+  pub machine : IsMachineStep me.0.system me.0.floor st.word st.first
   pub view : now.0 ≡ with_floor me.0 (slice_set me.0.floor st.word (max found st.first))
   pub slots : now.1 ≡ me.1
   pub rises : slice_index me.0.floor st.word ≤ max found st.first

@@ -13,5 +13,6 @@ mod seat;
 mod settle;
 mod table;
 
+pub use narrow::widened;
 pub use seat::Seat;
 pub use table::BoundTable;

@@ -3,7 +3,7 @@ ghost use Rattle.bound_table.specs.Rule.{Kept, opened, nobody, together, Looked,
 
 use atomic_table::{Join, Play, Split, TableRule};
 use process_claims::Claimer;
-use pull_system::{Rows, System};
+use pull_system::{Floor, System};
 use std::collections::LinkedList;
 use std::marker::Model;
 use std::snapshot::Snapshot;
@@ -12,7 +12,7 @@ use std::snapshot::Snapshot;
 #[derive(Drop)]
 pub(crate) struct Key {
     pub(crate) system: Snapshot<System>,
-    pub(crate) floor: Snapshot<Rows>,
+    pub(crate) floor: Snapshot<Floor>,
 }
 
 /// What a seat knows: the system, and a floor for each word. No value of it is made.

@@ -11,12 +11,12 @@ ghost use Rattle.bound_table.specs.Kept.{Follows};
 ghost use Rattle.bound_table.specs.Rule.{word_count};
 ghost use Rattle.bound_table.specs.Views.{KeepsClaims};
 
-use crate::narrow::widen;
+use crate::narrow::{widen, widened};
 use crate::seat::{Bounded, Key, Known, Lifts, Looks, Meets, Seat, Twins};
 use atomic_table::Table;
 use pota_base::NoMemory;
 use process_claims::Claims;
-use pull_system::{Rows, System};
+use pull_system::{Floor, Rows, System};
 use std::alloc::Global;
 use std::marker::Model;
 use std::snapshot::Snapshot;
@@ -66,11 +66,28 @@ impl BoundTable {
         ensures seat { IfOk result (λ pair. pair.1
             ≡ record { table = pair.0; floor = floor.now.words; claims = []; marks = [] }) }
     {
+        let floor = widened(alloc, floor)?;
+        BoundTable::begun(alloc, system, floor)
+    }
+
+    /// The table as `new` gives it, whose words are copied from the floor as it stands.
+    pub fn begun(
+        alloc: Global,
+        system: System,
+        floor: Floor,
+    ) -> Result<(BoundTable, Seat), NoMemory>
+        requires lens { floor.lens ≡ system.lens }
+        requires bounds { AreBounds system floor.words }
+        ensures system { IfOk result (λ pair. pair.0.system ≡ system) }
+        ensures seat { IfOk result (λ pair. pair.1
+            ≡ record { table = pair.0; floor = floor.words; claims = []; marks = [] }) }
+    {
         let key = Key {
             system: Snapshot::of(&system),
-            floor: Snapshot::of(floor),
+            floor: Snapshot::of(&floor),
         };
         let (table, token) = Table::of_words(alloc, floor.as_words(), &key)?;
+        drop(floor);
         let (claims, claimer) = Claims::new(alloc, system.shape().procs())?;
         let table = BoundTable {
             table,
@@ -235,7 +252,7 @@ impl BoundTable {
     /// Reads the first words, which become the seat's floors for them.
     // A piece is read into the cache and then appended at once. Pushed one by one, each word would
     // take a test for room and one for the error.
-    fn load_first(&self, alloc: Global, seat: &mut Seat, count: usize) -> Result<Vec<u64>, NoMemory>
+    fn load_first(&self, alloc: Global, seat: &mut Seat, count: usize) -> Result<Vec<u16>, NoMemory>
         requires fits { seat.old.table ≡ self.now }
         requires count { count ≤ word_count self.now.system.lens }
         ensures keeps { KeepsClaims seat.old seat.new }
@@ -256,7 +273,7 @@ impl BoundTable {
     }
 
     /// Reads the words from the first on into `into`. They become the seat's floors for them.
-    fn load_from(&self, seat: &mut Seat, first: usize, into: &mut [u64])
+    fn load_from(&self, seat: &mut Seat, first: usize, into: &mut [u16])
         requires fits { seat.old.table ≡ self.now }
         requires words { first + length into.old ≤ word_count self.now.system.lens }
         ensures keeps { KeepsClaims seat.old seat.new }
@@ -267,10 +284,10 @@ impl BoundTable {
         ensures rises { IsWithin seat.old.floor seat.new.floor }
         ensures bounds { AreBounds self.now.system seat.new.floor }
     {
-        let _ = &self.system;
+        let _shape = self.system.shape();
         seat.bounds();
         for i in 0..into.len() {
-            into[i] = self.load(seat, first + i);
+            into[i] = self.load(seat, first + i) as u16;
         }
     }
 

@@ -3,8 +3,8 @@ use Rattle.std.proofs.Common.{◌≡◌, ℕ, zero, suc, ◌+◌, ◌-◌, ◌<�
 use Rattle.std.proofs.lemmas.Bool.{le-leb, leb-true}
 use Rattle.event_log.specs.declared.log.Event.{Event}
 use Rattle.event_log.specs.States.{StatesView}
-use Rattle.pull_system.specs.Growth.{PullGrows}
-use Rattle.pull_system.proofs.PullLists.{first_grows}
+use Rattle.pull_system.specs.Growth.{PullGrows, PullStays}
+use Rattle.pull_system.proofs.PullLists.{first_grows, first_passes, first_least}
 use Rattle.channel_preds.specs.declared.counted.Counted.{Counted}
 use Rattle.channel_preds.specs.Channels.{AreCounts, count_of, counts_of, lead_at, events_at, sends_to, receipts_from, channel_of, at_most_pull, at_least_pull}
 use Rattle.channel_preds.specs.Truth.{HasMoreEvents, lens_of}
@@ -80,3 +80,45 @@ at_least_grows before after p q k more =
     (counts_front receipts (events_at before q) (events_at after q) (more.each q).0 (more.each q).1)
     (counts_front sends (events_at before p) (events_at after p) (more.each p).0 (more.each p).1)
     (counts_size receipts before q) (counts_size receipts after q)
+
+-- ---- pulls that stay
+
+positions_stay : (old : List ℕ) (p q : ℕ) (leads leads' : List ℕ) (more : ℕ) (follows follows' : List ℕ) (extra : ℕ)
+    → IsFront leads leads' → IsFront follows follows' → length leads ≡ get_or old p 0 + 1 → length follows ≡ get_or old q 0 + 1
+    → PullStays old (positions_pull p q leads more follows extra) (positions_pull p q leads' more follows' extra)
+positions_stay old p q leads leads' more follows follows' extra front back size follow_size = record {
+  asks = λ x le asked.
+      let at_old = entry_at leads more follows extra x (omega (arith, le)) in
+      let here : min x (length leads - 1) ≡ x = omega (arith, le) in
+      let there : min x (length leads' - 1) ≡ x = omega (arith, le, front.shorter) in
+      let same : lead_at leads x ≡ lead_at leads' x =
+      ap (λ i. get_or leads i 0) here ∙ front.same x (omega (arith, le)) ∙ ap (λ i. get_or leads' i 0) (sym there) in
+      let y : ℕ = entry leads more follows extra x in
+      let found : y < length follows = omega (arith, at_old, asked) in
+      let has = first_passes (reached follows extra (lead_at leads x + more)) (length follows) found in
+      let least = first_least (reached follows' extra (lead_at leads' x + more)) (length follows') y (omega (arith, back.shorter))
+      (le-leb _ _ (omega (arith, leb-true _ _ has, back.same y found, same))) in
+      omega (arith, at_old, entry_at leads' more follows' extra x (omega (arith, front.shorter, le)), least);
+}
+
+pub at_most_stays : (before after : StatesView) (p q k : ℕ) → HasMoreEvents before after
+    → PullStays (lens_of before) (at_most_pull (channel_of before p q) k) (at_most_pull (channel_of after p q) k)
+at_most_stays before after p q k more =
+    let sends = sends_to p q in
+    let receipts = receipts_from p q in
+    positions_stay (lens_of before) p q (counts_of sends (events_at before p)) (counts_of sends (events_at after p)) 0
+    (counts_of receipts (events_at before q)) (counts_of receipts (events_at after q)) k
+    (counts_front sends (events_at before p) (events_at after p) (more.each p).0 (more.each p).1)
+    (counts_front receipts (events_at before q) (events_at after q) (more.each q).0 (more.each q).1)
+    (counts_size sends before p) (counts_size receipts before q)
+
+pub at_least_stays : (before after : StatesView) (p q k : ℕ) → HasMoreEvents before after
+    → PullStays (lens_of before) (at_least_pull (channel_of before p q) k) (at_least_pull (channel_of after p q) k)
+at_least_stays before after p q k more =
+    let sends = sends_to p q in
+    let receipts = receipts_from p q in
+    positions_stay (lens_of before) q p (counts_of receipts (events_at before q)) (counts_of receipts (events_at after q)) k
+    (counts_of sends (events_at before p)) (counts_of sends (events_at after p)) 0
+    (counts_front receipts (events_at before q) (events_at after q) (more.each q).0 (more.each q).1)
+    (counts_front sends (events_at before p) (events_at after p) (more.each p).0 (more.each p).1)
+    (counts_size receipts before q) (counts_size sends before p)

@@ -13,6 +13,7 @@ fn outside_word(outside: Outside) -> &'static str {
         Outside::Ax => "outside-ax",
         Outside::Eu => "outside-eu",
         Outside::Au => "outside-au",
+        Outside::Difference => "outside-difference",
     }
 }
 

@@ -27,7 +27,7 @@ use Rattle.conjunctions.specs.Counting.{rooms_of, first_of}
 use Rattle.conjunctions.specs.Rounds.{RoundView}
 use Rattle.conjunctions.specs.Systems.{AddsPulls, first_pulls, pulls_of_parts}
 use Rattle.conjunctions.specs.Beginning.{BeginsWithOrder}
-use Rattle.conjunctions.specs.Settling.{CanBegin, AreFloors, SettlesOne}
+use Rattle.conjunctions.specs.Settling.{CanBegin, CutsStay, AreFloors, SettlesOne}
 use Rattle.conjunctions.proofs.Settled.{AreFirstPulls, few_pulls, has_order}
 use Rattle.conjunctions.proofs.Adding.{closed_none}
 use Rattle.conjunctions.proofs.Atoms.{lens_same}
@@ -99,15 +99,20 @@ begins_with_order seen pulls ps adds order is keeps keeps_is kept =
 -- the rows of before of the conjunction itself
 pub can_begin : (seen : Observed) (before : List RowsView) (pulls : List Pull) (ps : List Piece) → AddsPulls seen (first_pulls (clocks_seen seen) (all_atoms ps)) pulls ps → AreFloors seen before (ps ∷ [])
     → CanBegin (record { lens = lens_seen seen; pulls = pulls }) (all_atoms ps) (first_of before)
-can_begin seen [] pulls ps adds floors = record { fell = record { fell = λ rows keeps is. absurd (cc) }; floor = λ rows keeps is. absurd (cc) }
+can_begin seen [] pulls ps adds floors = record { fell = record { fell = λ rows keeps is. absurd (cc) }; floor = λ rows keeps is. absurd (cc); stays = λ rows keeps is. absurd (cc) }
 can_begin seen (rows ∷ before) pulls ps adds floors = record {
   fell = record { fell = λ found keeps is. subst (λ (r : RowsView). DidNotFall r.lens (lens_seen seen)) (same found is) floors.0.fell };
   floor = λ found keeps is.
-      let own : pulls ≡ pulls_of_order (clocks_seen seen) ++ pulls_of_parts seen ps = adds.is ∙ ap (λ b. first_pulls (clocks_seen seen) b ++ adds.added) keeps ∙ ap (λ list. pulls_of_order (clocks_seen seen) ++ list) (adds.own keeps) in
       let P : List Pull → RowsView → Type 0 = λ list r. AreBounds (record { lens = lens_seen seen; pulls = list }) (grown_words (lens_seen seen) r) in
-      subst (λ (r : RowsView). P pulls r) (same found is) (subst (λ (list : List Pull). P list rows) (sym own) (floors.0.floor keeps));
+      subst (λ (r : RowsView). P pulls r) (same found is) (subst (λ (list : List Pull). P list rows) (sym (own keeps)) (floors.0.floor keeps));
+  stays = λ found keeps is.
+      let P : List Pull → RowsView → Type 0 = λ list r. CutsStay (record { lens = lens_seen seen; pulls = list }) r in
+      subst (λ (r : RowsView). P pulls r) (same found is) (subst (λ (list : List Pull). P list rows) (sym (own keeps)) (floors.0.stays keeps));
 }
   where
+    own : all_atoms ps ≡ true → pulls ≡ pulls_of_order (clocks_seen seen) ++ pulls_of_parts seen ps
+    own keeps = adds.is ∙ ap (λ b. first_pulls (clocks_seen seen) b ++ adds.added) keeps ∙ ap (λ list. pulls_of_order (clocks_seen seen) ++ list) (adds.own keeps)
+
     same : (found : RowsView) → first_of (rows ∷ before) ≡ Some found → rows ≡ found
     same found is = cc
 

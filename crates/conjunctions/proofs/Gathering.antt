@@ -1,5 +1,5 @@
 -- The parts of a conjunction, one after the other.
-use Rattle.std.proofs.Common.{◌≡◌, ℕ, suc, zero, ◌+◌, ◌<◌, ◌≤◌, List, [], ◌∷◌, ◌++◌, length, take, drop, get_or, flat_map, Option, None, sym, ◌∙◌, ap, subst, arith, append_assoc, append-nil, add-one}
+use Rattle.std.proofs.Common.{◌≡◌, ℕ, suc, zero, ◌+◌, ◌<◌, ◌≤◌, true, false, List, [], ◌∷◌, ◌++◌, length, take, drop, get_or, flat_map, Option, None, sym, ◌∙◌, ap, subst, arith, append_assoc, append-nil, add-one}
 use Rattle.std.specs.Prelude.{IfSome}
 use Rattle.std.proofs.lemmas.List.{length-map, length-take-le}
 use Rattle.std.proofs.lemmas.Grind.{flat_map-append}
@@ -29,10 +29,13 @@ pub record PartsAdded (seen : Observed) (workers disjunct : ℕ) (round now : Ro
   pub told : AddsAnswers seen answers answers_now (places_from disjunct 1 ps)
 
 pub added_none : (seen : Observed) (workers disjunct : ℕ) (round : RoundView) (steps : ℕ) (answers : List PartAnswer) (begun : List Pull) (gathered : GatheredView) → gathered.pulls ≡ begun → gathered.floor ≡ None
-    → PartsAdded seen workers disjunct round round steps steps answers answers begun gathered []
-added_none seen workers disjunct round steps answers begun gathered is none = record {
+    → gathered.alone ≡ false → PartsAdded seen workers disjunct round round steps steps answers answers begun gathered []
+added_none seen workers disjunct round steps answers begun gathered is none alone = record {
   adds = subst (λ (list : List Pull). AddsPulls seen begun list []) (sym is) (adds_none seen begun);
-  floor = subst (λ (f : Option RowsView). IfSome f (MayBeginFrom (lens_seen seen) gathered.pulls)) (sym none) tt;
+  floor = record {
+    begins = subst (λ (f : Option RowsView). IfSome f (MayBeginFrom (lens_seen seen) gathered.pulls)) (sym none) tt;
+    least = λ found. absurd (let e : false ≡ true = sym alone ∙ found in cc);
+  };
   settles = settles_none seen workers round steps;
   told = answers_none seen answers;
 }

@@ -1,5 +1,5 @@
 -- Rows of conjunctions of atoms may be begun from by those of a later trace.
-use Rattle.std.proofs.Common.{◌≡◌, ℕ, suc, zero, ◌+◌, ◌<◌, ◌≤◌, Bool, true, false, List, [], ◌∷◌, ◌++◌, length, get_or, flat_map, Option, Some, None, refl, sym, ◌∙◌, ap, subst, arith, length-append}
+use Rattle.std.proofs.Common.{◌≡◌, ℕ, suc, zero, ◌+◌, ◌<◌, ◌≤◌, Bool, true, false, List, [], ◌∷◌, ◌++◌, length, get_or, sum, take, flat_map, Option, Some, None, refl, sym, ◌∙◌, ap, subst, arith, length-append}
 use Rattle.std.specs.Prelude.{slice_index_or}
 use Rattle.std.proofs.lemmas.List.Concat.{flat_map-cons}
 use Rattle.run_model.specs.Cut.{Clocks, lengths}
@@ -7,9 +7,11 @@ use Rattle.run_model.proofs.Counts.{length-lengths}
 use Rattle.trace_growth.specs.Growing.{IsTrace}
 use Rattle.pull_system.specs.declared.pull.Pull.{Pull}
 use Rattle.pull_system.specs.System.{SystemView, no_pull}
-use Rattle.pull_system.specs.Rows.{RowsView}
+use Rattle.pull_system.specs.Vector.{IsWithin}
+use Rattle.pull_system.specs.Rows.{RowsView, row_at}
 use Rattle.pull_system.specs.Growth.{DidNotFall, PullGrows, Grows}
 use Rattle.raise_machine.proofs.Raising.{grown_bounds}
+use Rattle.slice_workers.proofs.Firsts.{first_final}
 use Rattle.slice_graph.specs.PullLists.{pulls_of_order}
 use Rattle.slice_graph.proofs.OrderGrowing.{lengths_grow, order_count, order_each}
 use Rattle.rctl_parts.specs.Pieces.{Atom, Piece, Pieces, none, more, listed, atom, temporal, local, at_most, at_least, never}
@@ -25,6 +27,7 @@ use Rattle.conjunctions.specs.Numbering.{within, within_operand, conjunctions_in
 use Rattle.conjunctions.specs.Systems.{pulls_of_atom, pulls_of_part, pulls_of_parts, system_of}
 use Rattle.conjunctions.specs.Settling.{IsSettled, AreSettled, IsFloor, AreFloors, IsLater}
 use Rattle.conjunctions.proofs.Atoms.{lens_same, there, fits_process}
+use Rattle.conjunctions.proofs.Staying.{has_grown_at, OrderStays, system_stays, orders_stay}
 use Rattle.conjunctions.proofs.Ending.{is_order}
 
 -- as many pulls, and each asks for no less
@@ -75,25 +78,36 @@ parts_grow before after grows (p ∷ ps) fits =
     grow_on (lens_seen before) (lens_seen after) (pulls_of_part before p) (pulls_of_part after p) (pulls_of_parts before ps) (pulls_of_parts after ps)
     (part_grows before after grows p fits.0) (parts_grow before after grows ps fits.1)
 
-system_grows : (before after : Observed) → OrderGrows before after → (ps : List Piece) → EachFits (scope_seen before) ps → Grows (system_of before ps) (system_of after ps)
+pub system_grows : (before after : Observed) → OrderGrows before after → (ps : List Piece) → EachFits (scope_seen before) ps → Grows (system_of before ps) (system_of after ps)
 system_grows before after grows ps fits =
     let all = grow_on (lens_seen before) (lens_seen after) (pulls_of_order (clocks_seen before)) (pulls_of_order (clocks_seen after)) (pulls_of_parts before ps) (pulls_of_parts after ps)
     grows.order (parts_grow before after grows ps fits) in
     record { fell = grows.fell; count = all.count; each = all.each }
 
-kept_floor : (before after : Observed) → OrderGrows before after → (ps : List Piece) (rows : RowsView) → EachFits (scope_seen before) ps → IsSettled before ps rows → IsFloor after ps rows
-kept_floor before after grows ps rows fits settled = record {
-  fell = subst (λ (lens : List ℕ). DidNotFall lens (lens_seen after)) (sym settled.lens) grows.fell;
+-- of two runs, the later asks for no less, and for no more where what was there met it
+record RunGrows (before after : Observed) : Type 0 where
+  grows : OrderGrows before after
+  stays : OrderStays before after
+
+kept_floor : (before after : Observed) → RunGrows before after → (ps : List Piece) (rows : RowsView) → EachFits (scope_seen before) ps → IsSettled before ps rows → IsFloor after ps rows
+kept_floor before after run ps rows fits settled = record {
+  fell = subst (λ (lens : List ℕ). DidNotFall lens (lens_seen after)) (sym settled.lens) run.grows.fell;
   floor = λ atoms.
-      grown_bounds (system_of before ps) (system_of after ps) (settled.system atoms) (system_grows before after grows ps fits) rows settled.lens (settled.least atoms);
+      grown_bounds (system_of before ps) (system_of after ps) (settled.system atoms) (system_grows before after run.grows ps fits) rows settled.lens (settled.least atoms);
+  stays = λ atoms. record {
+    each = λ process count there some few within.
+        first_final (system_of before ps) (system_of after ps) (settled.system atoms) (system_grows before after run.grows ps fits) (system_stays before after run.stays ps fits) rows settled.lens
+        (settled.least atoms) process count (omega (arith, there, run.grows.fell.count)) some (omega (arith, few, ap (λ (lens : List ℕ). get_or lens process 0) settled.lens))
+        (subst (λ (lens : List ℕ). IsWithin (row_at lens rows.words (sum (take process lens) + count)) lens) settled.lens within);
+  };
 }
 
-kept_floors : (before after : Observed) → OrderGrows before after → (cs : List (List Piece)) (rows : List RowsView) → AllFit (scope_seen before) cs → AreSettled before cs rows
+kept_floors : (before after : Observed) → RunGrows before after → (cs : List (List Piece)) (rows : List RowsView) → AllFit (scope_seen before) cs → AreSettled before cs rows
     → AreFloors after rows cs
-kept_floors before after grows [] [] fits h = tt
-kept_floors before after grows [] (r ∷ rows) fits h = tt
-kept_floors before after grows (c ∷ cs) [] fits h = tt
-kept_floors before after grows (c ∷ cs) (r ∷ rows) fits h = (kept_floor before after grows c r fits.0 h.0, kept_floors before after grows cs rows fits.1 h.1)
+kept_floors before after run [] [] fits h = tt
+kept_floors before after run [] (r ∷ rows) fits h = tt
+kept_floors before after run (c ∷ cs) [] fits h = tt
+kept_floors before after run (c ∷ cs) (r ∷ rows) fits h = (kept_floor before after run c r fits.0 h.0, kept_floors before after run cs rows fits.1 h.1)
 
 -- ---- each conjunction is made for what the formula is made for
 
@@ -136,18 +150,6 @@ longer_first before after later =
     let more = later.events.each 0 in
     omega (arith, lens-get_or before.trace.states.events 0, lens-get_or after.trace.states.events 0, ap length more.1, length-append (get_or before.trace.states.events 0 []) more.0)
 
-has_grown_at : (before after : Observed) → IsTrace before.trace.states → IsTrace after.trace.states → AreFull before → IsLater before after → (p : ℕ) → p < length before.trace.states.events
-    → HasGrownAt before.trace.states after.trace.states before.watch_process before.watch_rows after.watch_rows p
-has_grown_at before after old new full later p there = record {
-  old = old.whole;
-  new = new.whole;
-  there = there;
-  header = later.header;
-  events = later.events.each p;
-  full = full.each p;
-  rows = λ w on. later.rows w p on;
-}
-
 atoms_grow : (before after : Observed) → IsTrace before.trace.states → IsTrace after.trace.states → AreFull before → IsLater before after → (a : Atom) → AtomFits (scope_seen before) a
     → PullsGrow (lens_of before.trace.states) (lens_of after.trace.states) (pulls_of_atom before a) (pulls_of_atom after a)
 atoms_grow before after old new full later (local None e) fits = never_grow (lens_of before.trace.states) (lens_of after.trace.states) (longer_first before after later) (constant_truth e)
@@ -161,7 +163,7 @@ atoms_grow before after old new full later (at_least p q k) fits =
     grow_one (lens_of before.trace.states) (lens_of after.trace.states) _ _ (at_least_grows before.trace.states after.trace.states p q k later.events)
 atoms_grow before after old new full later never fits = never_grow (lens_of before.trace.states) (lens_of after.trace.states) (longer_first before after later) false
 
-order_grows : (before after : Observed) → IsTrace before.trace.states → IsTrace after.trace.states → AreFull before → IsLater before after → OrderGrows before after
+pub order_grows : (before after : Observed) → IsTrace before.trace.states → IsTrace after.trace.states → AreFull before → IsLater before after → OrderGrows before after
 order_grows before after old new full later = record {
   fell = record {
     count = length-lengths (clocks_seen before) ∙ sym later.clocks.count ∙ sym (length-lengths (clocks_seen after));
@@ -180,4 +182,4 @@ order_grows before after old new full later = record {
 pub settled_are_floors : (before after : Observed) (ds : List (List Piece)) (rows : List RowsView) → IsTrace before.trace.states → IsTrace after.trace.states → AreFull before → IsLater before after
     → AllFit (scope_seen before) ds → AreSettled before (all_conjunctions ds) rows → AreFloors after rows (all_conjunctions ds)
 settled_are_floors before after ds rows old new full later fits settled =
-    kept_floors before after (order_grows before after old new full later) (all_conjunctions ds) rows (conjunctions_fit (scope_seen before) ds fits) settled
+    kept_floors before after (record { grows = order_grows before after old new full later; stays = orders_stay before after old new full later }) (all_conjunctions ds) rows (conjunctions_fit (scope_seen before) ds fits) settled

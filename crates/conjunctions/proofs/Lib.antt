@@ -2,7 +2,10 @@ mod InTurn
 mod Adding
 mod LeastCuts
 mod Settled
+mod Staying
 mod Later
+mod FinalRows
+mod Finals
 mod Operators
 mod Joining
 mod Atoms

@@ -120,7 +120,7 @@ operator_means seen o ps operand analysed is reading are c = by_operator o analy
       staying_same (clocks_seen seen) (Cuts (clocks_seen seen) (slice_of operand)) (Sat (run_seen seen reading) (conjunction_of (names_seen seen reading) ps)) to c,
       staying_same (clocks_seen seen) (Sat (run_seen seen reading) (conjunction_of (names_seen seen reading) ps)) (Cuts (clocks_seen seen) (slice_of operand)) from c,
     )
-    by_operator operator.Ex h = absurd (cc)
+    by_operator (operator.Ex process) h = absurd (cc)
     by_operator operator.Af h = absurd (cc)
     by_operator operator.Ax h = absurd (cc)
 

@@ -37,7 +37,7 @@ pub floor_bounds : (o : Clocks) (gathered : GatheredView) (keeps : Bool) (before
     → (keeps ≡ true → BeginsWithOrder o gathered.pulls) → FloorFits (lengths o) gathered → (keeps ≡ true → BeginsAtoms o before words)
     → (keeps ≡ false → BeginsOthers (lengths o) gathered.floor words) → AreBounds (record { lens = lengths o; pulls = gathered.pulls }) words
 floor_bounds o gathered true before words can first fits atoms others = atoms_bounds o gathered.pulls before words can (first refl) (atoms refl)
-floor_bounds o gathered false before words can first fits atoms others = others_bounds (lengths o) gathered.pulls gathered.floor words fits (others refl)
+floor_bounds o gathered false before words can first fits atoms others = others_bounds (lengths o) gathered.pulls gathered.floor words fits.begins (others refl)
 
 -- the two bounds of one worker are the steps that a conjunction may take
 pub steps_within : (pulls s t : ℕ) (keeps : Bool) (lens floor : List ℕ) (before : Option RowsView) (rows : RowsView)

@@ -9,6 +9,6 @@ abbrev pub Operated : Operator → Clocks → (Cut → Type 0) → Cut → Type 
 Operated operator.Ef o A = SomeTime o A
 Operated operator.Ag o A = EachTime o A
 Operated operator.Eg o A = Staying o A
-Operated operator.Ex o A = λ c. ⊥
+Operated (operator.Ex process) o A = λ c. ⊥
 Operated operator.Af o A = λ c. ⊥
 Operated operator.Ax o A = λ c. ⊥

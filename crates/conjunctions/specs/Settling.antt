@@ -1,7 +1,7 @@
 -- The rows of conjunctions: what each of them has to be, and what a call of the recursion leaves of
 -- the lists of rows.
 use Rattle.std.specs.Prelude.{◌≡◌, ℕ, ◌+◌, ◌<◌, ◌≤◌, ◌↔◌, Bool, true, List, [], ◌∷◌, ◌++◌, length}
-use Rattle.std.specs.Prelude.{drop, sum, slice_index, get_or, Option, Some, None}
+use Rattle.std.specs.Prelude.{drop, sum, take, slice_index, get_or, Option, Some, None}
 use Rattle.run_model.specs.Cut.{Cut, Clocks, IsWithin, lengths}
 use Rattle.run_model.specs.Consistent.{IsConsistent}
 use Rattle.run_model.specs.Slice.{Cuts}
@@ -12,7 +12,9 @@ use Rattle.slice_graph.specs.Views.{SliceView, slice_of}
 use Rattle.slice_graph.specs.Fitting.{FitsOrder}
 use Rattle.pull_system.specs.Rows.{RowsView, AreLeastRows, start_of, row_at}
 use Rattle.pull_system.specs.Growth.{DidNotFall, grown_words}
+use Rattle.pull_system.specs.Vector.{IsWithin as IsVectorWithin}
 use Rattle.raise_machine.specs.Bounds.{AreBounds}
+use Rattle.slice_workers.specs.Reaching.{ReachesFirst}
 use Rattle.rctl_parts.specs.Pieces.{Piece}
 use Rattle.conjunctions.specs.declared.observed.Observed.{Observed}
 use Rattle.causal_order.specs.Growth.{HasGrown}
@@ -57,11 +59,20 @@ AreSettled seen [] (rows ∷ more) = ⊥
 AreSettled seen (ps ∷ rest) [] = ⊥
 AreSettled seen (ps ∷ rest) (rows ∷ more) = IsSettled seen ps rows × AreSettled seen rest more
 
--- a conjunction of atoms may begin from these rows, grown
+-- where the row of a process's event lies within the lengths, the rows of its first events up to
+-- that one, grown, are the least of the system already
+pub record CutsStay (system : SystemView) (rows : RowsView) : Type 0 where
+  pub each : (process count : ℕ) → process < length system.lens → 1 ≤ count
+      → count ≤ slice_index rows.lens process
+      → IsVectorWithin (row_at rows.lens rows.words (sum (take process rows.lens) + count)) rows.lens
+      → ReachesFirst system process count (grown_words system.lens rows)
+
+-- a conjunction of atoms may begin from these rows, grown, and those with a cut are final
 pub record IsFloor (seen : Observed) (ps : List Piece) (rows : RowsView) : Type 0 where
   pub fell : DidNotFall rows.lens (lens_seen seen)
   pub floor : all_atoms ps ≡ true → AreBounds (system_of seen ps)
       (grown_words (lens_seen seen) rows)
+  pub stays : all_atoms ps ≡ true → CutsStay (system_of seen ps) rows
 
 -- where there are rows from before, each conjunction may begin from its own
 abbrev pub AreFloors : Observed → List RowsView → List (List Piece) → Type 0
@@ -109,8 +120,9 @@ pub record IsLater (before after : Observed) : Type 0 where
 pub record IsFloorOf (lens : List ℕ) (keeps : Bool) (before : Option RowsView) : Type 0 where
   pub fell : (rows : RowsView) → keeps ≡ true → before ≡ Some rows → DidNotFall rows.lens lens
 
--- and a table of the system may begin from them, grown
+-- and a table of the system may begin from them, grown, where those with a cut are final
 pub record CanBegin (system : SystemView) (keeps : Bool) (before : Option RowsView) : Type 0 where
   pub fell : IsFloorOf system.lens keeps before
   pub floor : (rows : RowsView) → keeps ≡ true → before ≡ Some rows
       → AreBounds system (grown_words system.lens rows)
+  pub stays : (rows : RowsView) → keeps ≡ true → before ≡ Some rows → CutsStay system rows

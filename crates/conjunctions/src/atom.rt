@@ -103,6 +103,7 @@ pub fn add_atom(
     ensures pulls { OnOk result
         (AddsPulls seen.now gathered.old.pulls gathered.new.pulls (piece_of part.now ∷ [])) }
     ensures floor { gathered.new.floor ≡ gathered.old.floor }
+    ensures alone { OnOk result (gathered.new.alone ≡ false) }
     ensures truth { IfOk result (HoldsAtFirst seen.now (piece_of part.now)) }
 {
     let found = atom_pulls(alloc, seen, part)?;

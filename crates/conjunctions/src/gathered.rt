@@ -1,5 +1,5 @@
 //! What the parts of a conjunction ask of its cuts.
-ghost use Rattle.std.specs.Prelude.{◌≡◌, ◌++◌, None, All, IfOk, OnOk};
+ghost use Rattle.std.specs.Prelude.{◌≡◌, ◌++◌, [], None, false, All, IfOk, OnOk, true};
 ghost use Rattle.run_model.specs.Cut.{Clocks, lengths};
 ghost use Rattle.pull_system.specs.System.{IsPull};
 ghost use Rattle.pull_system.specs.Fans.{pulls_of_fans};
@@ -11,18 +11,20 @@ ghost use Rattle.conjunctions.specs.Beginning.{FloorFits};
 
 use causal_order::Order;
 use pota_base::{List, NoMemory, Shape};
-use pull_system::{Fan, Pull, Rows};
+use pull_system::{Fan, Floor, Pull};
 use slice_graph::{Slice, order_fans};
 use std::alloc::Global;
 use std::marker::Model;
 
-/// What the parts so far ask of cuts. Contracts see the pulls of the fans, one after the other, and
-/// the floor.
+/// What the parts so far ask of cuts. Contracts see the pulls of the fans, one after the other, the
+/// floor, and whether one temporal part asks alone.
 #[derive(Debug, Drop)]
 pub struct Gathered {
     fans: List<Fan>,
     /// The rows of the first temporal part's slice, from which the conjunction may begin.
-    floor: Option<Rows>,
+    floor: Option<Floor>,
+    /// Whether that part asks alone, so that these rows are the least already.
+    alone: bool,
 }
 
 impl Model for Gathered {
@@ -34,6 +36,7 @@ impl Model for Gathered {
     ghost view = { λ gathered. record {
       pulls = pulls_of_fans gathered.fans;
       floor = gathered.floor;
+      alone = gathered.alone;
     } };
 }
 
@@ -43,13 +46,18 @@ impl Gathered {
     pub fn new(alloc: Global, order: &Order, atoms: bool) -> Result<Gathered, NoMemory>
         ensures pulls { IfOk result (λ gathered. gathered.pulls ≡ first_pulls order.now atoms) }
         ensures floor { IfOk result (λ gathered. gathered.floor ≡ None) }
+        ensures alone { IfOk result (λ gathered. gathered.alone ≡ false) }
     {
         let fans = if atoms {
             order_fans(alloc, order)?
         } else {
             List::new(alloc)
         };
-        Ok(Gathered { fans, floor: None })
+        Ok(Gathered {
+            fans,
+            floor: None,
+            alone: false,
+        })
     }
 
     /// Puts pulls behind the others.
@@ -62,8 +70,10 @@ impl Gathered {
         requires { All (IsPull shape.now) added.now }
         ensures pulls { OnOk result (self.new.pulls ≡ self.old.pulls ++ added.now) }
         ensures floor { self.new.floor ≡ self.old.floor }
+        ensures alone { self.new.alone ≡ false }
     {
         let _procs = shape.procs();
+        self.alone = false;
         for pull in added {
             self.fans.push(Fan::of_pull(alloc, pull)?)?;
         }
@@ -71,7 +81,7 @@ impl Gathered {
     }
 
     /// Puts the pulls of a temporal part's slice behind the others, and keeps the rows of the first
-    /// such slice.
+    /// such slice. Where nothing was asked before, the part asks alone.
     pub fn add_slice(&mut self, alloc: Global, slice: &Slice) -> Result<(), NoMemory>
         ensures pulls { OnOk result (self.new.pulls ≡ self.old.pulls ++ pulls_of_slice slice.now) }
         ensures floor { (o : Clocks) → FitsOrder o slice.now → FloorFits (lengths o) self.old
@@ -79,7 +89,9 @@ impl Gathered {
         ensures rows { AreRows slice.now }
     {
         let _shape = slice.shape();
+        let alone = self.asks_nothing();
         self.add_fans(slice.fans(alloc)?)?;
+        self.alone = alone;
         if self.floor.is_none() {
             self.floor = Some(slice.rows(alloc)?);
         }
@@ -97,12 +109,27 @@ impl Gathered {
         Ok(())
     }
 
+    /// Whether no part has asked yet.
+    fn asks_nothing(&self) -> bool
+        ensures pulls { result ≡ true → self.now.pulls ≡ [] }
+        ensures floor { result ≡ true → self.now.floor ≡ None }
+    {
+        self.floor.is_none() && self.fans.is_empty()
+    }
+
+    /// Whether one temporal part asks alone.
+    pub fn is_alone(&self) -> bool
+        ensures { result ≡ self.now.alone }
+    {
+        self.alone
+    }
+
     /// The fans, and the floor.
-    pub fn into_fans(self) -> (List<Fan>, Option<Rows>)
+    pub fn into_fans(self) -> (List<Fan>, Option<Floor>)
         ensures pulls { pulls_of_fans result.0 ≡ self.pulls }
         ensures floor { result.1 ≡ self.floor }
     {
-        let Gathered { fans, floor } = self;
+        let Gathered { fans, floor, .. } = self;
         (fans, floor)
     }
 }

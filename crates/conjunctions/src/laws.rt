@@ -1,14 +1,17 @@
 //! Laws on answers and on kept rows. The functions do nothing.
-ghost use Rattle.std.specs.Prelude.{◌≡◌, List};
+ghost use Rattle.std.specs.Prelude.{◌≡◌, ℕ, ◌≤◌, true, List, sum, Some};
 ghost use Rattle.trace_growth.specs.Growing.{IsTrace};
-ghost use Rattle.pull_system.specs.Rows.{RowsView};
+ghost use Rattle.pull_system.specs.Vector.{IsWithin};
+ghost use Rattle.pull_system.specs.Rows.{RowsView, IsLeast, row_at};
+ghost use Rattle.pull_system.specs.Growth.{old_row, grown_words};
 ghost use Rattle.rctl_parts.specs.Pieces.{Piece};
-ghost use Rattle.rctl_parts.specs.MadeFor.{AllFit};
+ghost use Rattle.rctl_parts.specs.MadeFor.{AllFit, EachFits};
 ghost use Rattle.conjunctions.specs.declared.observed.Observed.{Observed};
 ghost use Rattle.conjunctions.specs.declared.answer.Answer.{Answer};
-ghost use Rattle.conjunctions.specs.Observing.{AreFull, scope_seen};
-ghost use Rattle.conjunctions.specs.Numbering.{all_conjunctions};
-ghost use Rattle.conjunctions.specs.Settling.{AreSettled, AreFloors, IsLater};
+ghost use Rattle.conjunctions.specs.Observing.{AreFull, scope_seen, lens_seen};
+ghost use Rattle.conjunctions.specs.Numbering.{all_conjunctions, all_atoms};
+ghost use Rattle.conjunctions.specs.Systems.{system_of};
+ghost use Rattle.conjunctions.specs.Settling.{AreSettled, IsSettled, AreFloors, IsLater};
 ghost use Rattle.conjunctions.specs.Answering.{IsAnswer};
 
 /// What was observed has one answer, whatever rows it began from, by however many workers it was
@@ -28,4 +31,25 @@ pub fn settled_rows_are_kept()
         → IsLater before after → AllFit (scope_seen before) ds
         → AreSettled before (all_conjunctions ds) rows
         → AreFloors after rows (all_conjunctions ds) }
+{}
+
+/// A row of a conjunction of atoms that lies within the lengths is the same row after any later
+/// batch, and so is least where it stands among the grown rows.
+pub fn rows_with_a_cut_are_final()
+    ensures same { (before after : Observed) (ps : List Piece) (old new : RowsView)
+        → IsTrace before.trace.states → IsTrace after.trace.states → AreFull before
+        → IsLater before after → EachFits (scope_seen before) ps → all_atoms ps ≡ true
+        → IsSettled before ps old → IsSettled after ps new
+        → (row kept : ℕ) → row ≤ sum new.lens → old_row old.lens new.lens row ≡ Some kept
+        → IsWithin (row_at old.lens old.words kept) old.lens
+        → row_at new.lens new.words row ≡ row_at old.lens old.words kept }
+    ensures floor { (before after : Observed) (ps : List Piece) (old : RowsView)
+        → IsTrace before.trace.states → IsTrace after.trace.states → AreFull before
+        → IsLater before after → EachFits (scope_seen before) ps → all_atoms ps ≡ true
+        → IsSettled before ps old
+        → (row kept : ℕ) → row ≤ sum (lens_seen after)
+        → old_row old.lens (lens_seen after) row ≡ Some kept
+        → IsWithin (row_at old.lens old.words kept) old.lens
+        → IsLeast (system_of after ps) row
+        (row_at (lens_seen after) (grown_words (lens_seen after) old) row) }
 {}

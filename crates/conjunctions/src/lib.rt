@@ -18,6 +18,7 @@ mod answer;
 mod atom;
 mod conjunction;
 mod disjuncts;
+mod floors;
 mod gathered;
 mod laws;
 mod observed;
@@ -27,6 +28,6 @@ mod settling;
 
 pub use answer::{Answer, PartAnswer};
 pub use disjuncts::answer_all;
-pub use laws::{one_answer, settled_rows_are_kept};
+pub use laws::{one_answer, rows_with_a_cut_are_final, settled_rows_are_kept};
 pub use observed::Observed;
 pub use round::Round;

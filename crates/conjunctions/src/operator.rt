@@ -34,6 +34,6 @@ pub fn operate(
         Operator::Ef => ef(alloc, order, operand),
         Operator::Ag => ag(alloc, order, operand),
         Operator::Eg => eg(alloc, order, operand),
-        Operator::Ex | Operator::Af | Operator::Ax => unreachable!(),
+        Operator::Ex(_) | Operator::Af | Operator::Ax => unreachable!(),
     }
 }

@@ -1,24 +1,24 @@
 //! The rows of one conjunction, and its slice.
-ghost use Rattle.std.specs.Prelude.{◌≡◌, ◌^◌, ◌<◌, ◌≤◌, true, false, length, All, IfOk, IfSome};
+ghost use Rattle.std.specs.Prelude.{◌≡◌, ◌^◌, ◌<◌, ◌≤◌, true, length, All, IfOk};
 ghost use Rattle.run_model.specs.Cut.{lengths};
 ghost use Rattle.pull_system.specs.System.{IsPull};
 ghost use Rattle.slice_graph.specs.Fitting.{HasOrder};
 ghost use Rattle.rctl_parts.specs.Pieces.{piece_of, pieces_of};
 ghost use Rattle.conjunctions.specs.Counting.{first_of};
 ghost use Rattle.conjunctions.specs.Numbering.{is_atom, all_atoms};
-ghost use Rattle.conjunctions.specs.Beginning.{BeginsWithOrder, BeginsAtoms, BeginsOthers};
-ghost use Rattle.conjunctions.specs.Beginning.{FloorFits};
-ghost use Rattle.conjunctions.specs.Settling.{IsFloorOf, CanBegin, SettlesOne};
+ghost use Rattle.conjunctions.specs.Beginning.{BeginsWithOrder, FloorFits};
+ghost use Rattle.conjunctions.specs.Settling.{CanBegin, SettlesOne};
 
+use crate::floors::{Beginning, beginning_of};
 use crate::gathered::Gathered;
 use crate::round::Round;
 use bound_table::BoundTable;
 use causal_order::Order;
 use pota_base::{Gate, NoMemory, Steps};
-use pull_system::{Rows, System};
+use pull_system::System;
 use rctl_parts::Part;
-use slice_graph::{Slice, order_rows};
-use slice_workers::{Settled, settle_all};
+use slice_graph::Slice;
+use slice_workers::settle_behind;
 use std::alloc::Global;
 use std::sync::ledger::Ledger;
 use std::thread::Threads;
@@ -46,57 +46,8 @@ pub fn are_atoms(parts: &[Part]) -> bool
     true
 }
 
-/// The rows from which a conjunction of atoms begins: its rows of before, grown, and where there
-/// are none the clocks of the events.
-fn floor_of_atoms(alloc: Global, order: &Order, before: Option<Settled>) -> Result<Rows, NoMemory>
-    requires { IsFloorOf (lengths order.now) true before }
-    ensures lens { IfOk result (λ rows. rows.lens ≡ lengths order.now) }
-    ensures begins { IfOk result (λ rows. BeginsAtoms order.now before rows.words) }
-{
-    match before {
-        Some(settled) => Rows::grown(alloc, settled.rows(), order.shape()),
-        None => order_rows(alloc, order),
-    }
-}
-
-/// The rows from which another conjunction begins: those that were gathered, and where there are
-/// none each at its start.
-fn floor_of_others(alloc: Global, order: &Order, gathered: Option<Rows>) -> Result<Rows, NoMemory>
-    requires { IfSome gathered (λ rows. rows.lens ≡ lengths order.now) }
-    ensures lens { IfOk result (λ rows. rows.lens ≡ lengths order.now) }
-    ensures begins { IfOk result (λ rows. BeginsOthers (lengths order.now) gathered rows.words) }
-{
-    match gathered {
-        Some(rows) => Ok(rows),
-        None => Rows::new(alloc, order.shape()),
-    }
-}
-
-/// The rows from which a conjunction begins: where it keeps its rows, as one of atoms, and else
-/// from those that were gathered.
-fn floor_of(
-    alloc: Global,
-    order: &Order,
-    keeps: bool,
-    before: Option<Settled>,
-    gathered: Option<Rows>,
-) -> Result<Rows, NoMemory>
-    requires before { IsFloorOf (lengths order.now) keeps before }
-    requires gathered { IfSome gathered (λ rows. rows.lens ≡ lengths order.now) }
-    ensures lens { IfOk result (λ rows. rows.lens ≡ lengths order.now) }
-    ensures atoms { keeps ≡ true → IfOk result (λ rows. BeginsAtoms order.now before rows.words) }
-    ensures others { keeps ≡ false → IfOk result
-        (λ rows. BeginsOthers (lengths order.now) gathered rows.words) }
-{
-    if keeps {
-        floor_of_atoms(alloc, order, before)
-    } else {
-        floor_of_others(alloc, order, gathered)
-    }
-}
-
 /// Settles the rows of the conjunction that has what was gathered, from its rows of before where
-/// they are kept, and gives its slice.
+/// they are kept, and gives its slice. Rows that are final where it begins are not settled again.
 pub fn settle_gathered<R: Threads + Sync, G: Gate, L: Ledger>(
     rt: &R,
     alloc: Global,
@@ -121,12 +72,14 @@ pub fn settle_gathered<R: Threads + Sync, G: Gate, L: Ledger>(
     ensures { IfOk result (SettlesOne order.now gathered.pulls keeps workers round.old round.new
         steps.old steps.new) }
 {
+    let alone = gathered.is_alone();
     let (fans, floor) = gathered.into_fans();
     let system = System::of_fans(alloc, order.shape(), fans)?;
-    let floor = floor_of(alloc, order, keeps, round.next(), floor)?;
-    let (table, mut seat) = BoundTable::new(alloc, system, &floor)?;
-    drop(floor);
-    let settled = settle_all(rt, alloc, &table, &mut seat, workers, gate, steps)?;
+    let begins = beginning_of(alloc, order, keeps, round.next(), floor, alone)?;
+    let Beginning { floor, finals } = begins;
+    let (table, mut seat) = BoundTable::begun(alloc, system, floor)?;
+    let finals = &finals[..order.shape().procs() as usize];
+    let settled = settle_behind(rt, alloc, &table, &mut seat, finals, workers, gate, steps)?;
     drop(table.close(seat));
     let slice = Slice::from_rows(alloc, order, settled.rows())?;
     round.keep(settled)?;

@@ -11,7 +11,7 @@ use Rattle.event_log.specs.declared.log.Header.{Header}
 use Rattle.event_log.specs.declared.log.Event.{Event}
 use Rattle.std.specs.List.{AllByRecursion}
 use Rattle.event_log.specs.declared.log.Log.{Log}
-use Rattle.event_log.specs.Before.{Line, heading}
+use Rattle.event_log.specs.Before.{Line, heading_of}
 use Rattle.event_log.specs.LogText.{values_of, named, named_values, line_of, vars_lines, event_lines, closing_line, batch_lines, text_of, log_text, EventFits, EventsFit, BatchesFit}
 
 pub names_text-append : (xs ys : List Name) → names_text (xs ++ ys) ≡ names_text xs ++ names_text ys
@@ -67,14 +67,14 @@ batches_each h line (b ∷ rest) fits = (each line b fits.0, batches_each h (lin
     each line [] fits = tt
     each line (e ∷ es) fits = (fits.0.0, each (line + 1) es fits.1)
 
-pub log_put : (log : Log) (t1 t2 t3 t4 t5 : List ℕ) → t1 ≡ heading ++ 10 ∷ 112 ∷ 114 ∷ 111 ∷ 99 ∷ 115 ∷ [] → t2 ≡ t1 ++ names_text log.header.procs → t3 ≡ t2 ++ 10 ∷ [] → t4 ≡ t3 ++ text_of (vars_lines log.header.procs log.header.vars)
+pub log_put : (log : Log) (t1 t2 t3 t4 t5 : List ℕ) → t1 ≡ heading_of log.header.version ++ 10 ∷ 112 ∷ 114 ∷ 111 ∷ 99 ∷ 115 ∷ [] → t2 ≡ t1 ++ names_text log.header.procs → t3 ≡ t2 ++ 10 ∷ [] → t4 ≡ t3 ++ text_of (vars_lines log.header.procs log.header.vars)
     → t5 ≡ t4 ++ text_of (batch_lines log.header log.batches) → t5 ≡ log_text log
 log_put log t1 t2 t3 t4 t5 a b c d e =
     let vars = text_of (vars_lines log.header.procs log.header.vars) in
     let rest = text_of (batch_lines log.header log.batches) in
     let names = names_text log.header.procs in
     let front : ((names ++ 10 ∷ []) ++ vars) ++ rest ≡ names ++ 10 ∷ (vars ++ rest) = append_assoc (names ++ 10 ∷ []) vars rest ∙ append_assoc names (10 ∷ []) (vars ++ rest) in
-    rw (e, d, c, b, a) (ap (λ (t : List ℕ). heading ++ 10 ∷ 112 ∷ 114 ∷ 111 ∷ 99 ∷ 115 ∷ t) (front ∙ ap (λ (t : List ℕ). names ++ 10 ∷ t) (sym (text_of-append (vars_lines log.header.procs log.header.vars) (batch_lines log.header log.batches)))))
+    rw (e, d, c, b, a) (ap (λ (t : List ℕ). heading_of log.header.version ++ 10 ∷ 112 ∷ 114 ∷ 111 ∷ 99 ∷ 115 ∷ t) (front ∙ ap (λ (t : List ℕ). names ++ 10 ∷ t) (sym (text_of-append (vars_lines log.header.procs log.header.vars) (batch_lines log.header log.batches)))))
 
 -- ---- batches
 

@@ -19,23 +19,23 @@ use Rattle.event_log.specs.declared.log.Header.{Header}
 use Rattle.event_log.specs.declared.log.Event.{Event}
 use Rattle.event_log.specs.declared.log.Log.{Log}
 use Rattle.event_log.specs.Numbers.{variables_at, event_named}
-use Rattle.event_log.specs.Before.{Line, heading, names, filled, variables, events, begins_event, is_header_over, is_ended, header_of, Told, gives, refuses, event_told, body_told, told, AreFine, items_of}
-use Rattle.event_log.specs.LogText.{line_of, vars_lines, header_lines, event_lines, closing_line, batch_lines, lines_of, event_items, closing_item, batch_items, log_items, BindingsFit, HeaderFits, EventFits, EventsFit, BatchesFit, event_count, LogFits, onto}
+use Rattle.event_log.specs.Before.{Line, heading_of, version, names, filled, variables, events, begins_event, is_header_over, is_ended, header_of, Told, gives, refuses, event_told, body_told, told, AreFine, items_of}
+use Rattle.event_log.specs.LogText.{line_of, vars_lines, header_lines, event_lines, closing_line, batch_lines, lines_of, event_items, closing_item, batch_items, log_items, BindingsFit, HeaderFits, EventFits, EventsFit, BatchesFit, event_count, LogFits, HasVarLines, onto}
 use Rattle.event_log.proofs.Lists.{onto-push, length-onto, all_append}
 use Rattle.event_log.proofs.EventLaws.{SameVariables, event_takes}
 use Rattle.event_log.proofs.LineSteps.{told-ended, told-first, told-body, over_long, over_long_more, event_begins, or_false}
-use Rattle.event_log.proofs.ReadLaws.{HeaderRead, header_read, no_variables_fit, vars_lines-filled, length-filled, items-next, fine_next, open_next, names-next, variables-stay, events-next, behind_parts, ended-next}
+use Rattle.event_log.proofs.ReadLaws.{HeaderRead, header_read, no_variables_fit, vars_lines-filled, length-filled, items-next, fine_next, open_next, names-next, variables-stay, events-next, behind_parts, ended-next, version-next}
 
 -- ---- what a line behind the header may be
 
-data BodyIs (procs : List Name) (vars : List (List Binding)) (number count : ℕ) (line : Line) (t : Told) : Type 0 where
-  a_batch : line ≡ batch_line → t ≡ gives (item.BatchEnd ∷ []) → BodyIs procs vars number count line t
-  an_end : line ≡ end_line → t ≡ gives (item.End ∷ []) → BodyIs procs vars number count line t
-  an_event : (d : EventLine) (e : Event) → event_in line ≡ Some d → event_named procs vars number count d ≡ Ok e → t ≡ gives (item.Event e ∷ []) → BodyIs procs vars number count line t
-  a_fault : (c : LogCode) → t ≡ refuses c → BodyIs procs vars number count line t
+data BodyIs (n : ℕ) (procs : List Name) (vars : List (List Binding)) (number count : ℕ) (line : Line) (t : Told) : Type 0 where
+  a_batch : line ≡ batch_line → t ≡ gives (item.BatchEnd ∷ []) → BodyIs n procs vars number count line t
+  an_end : line ≡ end_line → t ≡ gives (item.End ∷ []) → BodyIs n procs vars number count line t
+  an_event : (d : EventLine) (e : Event) → event_in line ≡ Some d → event_named n procs vars number count d ≡ Ok e → t ≡ gives (item.Event e ∷ []) → BodyIs n procs vars number count line t
+  a_fault : (c : LogCode) → t ≡ refuses c → BodyIs n procs vars number count line t
 
-body_is : (procs : List Name) (vars : List (List Binding)) (number count : ℕ) (line : Line) → BodyIs procs vars number count line (body_told procs vars number count line)
-body_is procs vars number count line = elim (cases_Bool (bytes_eq line batch_line)) [
+body_is : (n : ℕ) (procs : List Name) (vars : List (List Binding)) (number count : ℕ) (line : Line) → BodyIs n procs vars number count line (body_told n procs vars number count line)
+body_is n procs vars number count line = elim (cases_Bool (bytes_eq line batch_line)) [
   | inl batch ↦ a_batch ((bytes_eq-Decides line batch_line).0 batch) (rw batch refl)
   | inr other ↦ elim (cases_Bool (bytes_eq line end_line)) [
     | inl end ↦ an_end ((bytes_eq-Decides line end_line).0 end) (rw (other, end) refl)
@@ -44,15 +44,15 @@ body_is procs vars number count line = elim (cases_Bool (bytes_eq line batch_lin
 ]
   where
     t : Told
-    t = body_told procs vars number count line
+    t = body_told n procs vars number count line
 
-    judged : (d : EventLine) → event_in line ≡ Some d → (r : Result Event LogCode) → event_named procs vars number count d ≡ r → t ≡ event_told r → BodyIs procs vars number count line t
+    judged : (d : EventLine) → event_in line ≡ Some d → (r : Result Event LogCode) → event_named n procs vars number count d ≡ r → t ≡ event_told r → BodyIs n procs vars number count line t
     judged d is (Ok e) named says = an_event d e is named says
     judged d is (Err c) named says = a_fault c says
 
-    read : (o : Option EventLine) → event_in line ≡ o → t ≡ choose o (λ d. event_told (event_named procs vars number count d)) (refuses code.BadLine) → BodyIs procs vars number count line t
+    read : (o : Option EventLine) → event_in line ≡ o → t ≡ choose o (λ d. event_told (event_named n procs vars number count d)) (refuses code.BadLine) → BodyIs n procs vars number count line t
     read None is says = a_fault code.BadLine says
-    read (Some d) is says = judged d is (event_named procs vars number count d) refl says
+    read (Some d) is says = judged d is (event_named n procs vars number count d) refl says
 
 -- ---- batches that are still open
 
@@ -185,7 +185,7 @@ header_opens older r =
     record {
       done = [];
       current = [];
-      lines_are = r.lines_are ∙ ap (λ (ls : List Line). onto ls []) (ap (λ (ls : List Line). heading ∷ procs_line (names older) ∷ ls) (sym same) ∙ sym (append-nil (header_lines (header_of older))));
+      lines_are = r.lines_are ∙ ap (λ (ls : List Line). onto ls []) (ap (λ (ls : List Line). heading_of (version older) ∷ procs_line (names older) ∷ ls) (sym same) ∙ sym (append-nil (header_lines (header_of older))));
       fit = (tt, tt);
       items_are = refl;
       count_is = r.events_are;
@@ -194,6 +194,7 @@ header_opens older r =
 
 header_fits : (older : List Line) → HeaderRead older → HeaderFits (header_of older)
 header_fits older r = record {
+  version = r.version_fits;
   procs = r.procs_fit;
   all = length-filled (variables older) (length (names older)) r.few;
   vars = all_append BindingsFit (variables older) (replicate (length (names older) - length (variables older)) []) r.vars_fit (no_variables_fit (length (names older) - length (variables older)));
@@ -222,7 +223,7 @@ pub record BodyRead (older : List Line) : Type 0 where
 
 -- a line behind the header keeps the header
 header_stays : (line : Line) (older : List Line) → 2 ≤ length older → (is_header_over older || not (begins_vars line)) ≡ true → header_of (line ∷ older) ≡ header_of older
-header_stays line older long behind = rw (names-next line older long, variables-stay line older long behind) refl
+header_stays line older long behind = rw (version-next line older long, names-next line older long, variables-stay line older long behind) refl
 
 -- one line more behind the header
 record OneMore (h : Header) (line : Line) (older : List Line) (given : List Item) (t : Told) : Type 0 where
@@ -234,7 +235,7 @@ ends_nothing : {P : Type 0} (line : Line) → line ≡ end_line → bytes_eq lin
 ends_nothing line is other = absurd (true≢false (sym ((bytes_eq-Decides line end_line).1 is) ∙ other))
 
 one_more : (line : Line) (older : List Line) (given : List Item) → 2 ≤ length older → HeaderFits (header_of older) → OpenRead (header_of older) older given → bytes_eq line end_line ≡ false
-    → (t : Told) → BodyIs (names older) (variables older) (length older + 1) (events older) line t → t.fault ≡ None → OneMore (header_of older) line older given t
+    → (t : Told) → BodyIs (version older) (names older) (variables older) (length older + 1) (events older) line t → t.fault ≡ None → OneMore (header_of older) line older given t
 unfolding text_at
 one_more line older given long header r not_end t (a_batch is says) none =
     let begins : begins_event line ≡ false = subst (λ (l : Line). begins_event l ≡ false) (sym is) refl in
@@ -249,7 +250,7 @@ one_more line older given long header r not_end t (an_event d e read named says)
 one_more line older given long header r not_end t (a_fault c says) none = absurd (none-some c (sym none ∙ ap (λ (x : Told). x.fault) says))
 
 -- a line behind the header's first one
-next_read : (line : Line) (older : List Line) → 2 ≤ length older → (is_header_over older || not (begins_vars line)) ≡ true → bytes_eq line end_line ≡ false → (t : Told) → BodyIs (names older) (variables older) (length older + 1) (events older) line t → t.fault ≡ None
+next_read : (line : Line) (older : List Line) → 2 ≤ length older → (is_header_over older || not (begins_vars line)) ≡ true → bytes_eq line end_line ≡ false → (t : Told) → BodyIs (version older) (names older) (variables older) (length older + 1) (events older) line t → t.fault ≡ None
     → (given : List Item) → HeaderFits (header_of older) → OpenRead (header_of older) older given → items_of older ++ (told older line).items ≡ item.Header (header_of older) ∷ (given ++ t.items) → BodyRead (line ∷ older)
 next_read line older long behind not_end t is none given header r items =
     let m = one_more line older given long header r not_end t is none in
@@ -263,7 +264,7 @@ next_read line older long behind not_end t is none given header r items =
 
 module _ (line : Line) (older : List Line) (long : 2 ≤ length older) (fine : AreFine (line ∷ older)) (open_ : is_ended older ≡ false) (not_end : bytes_eq line end_line ≡ false) where
   abbrev body : Told
-  body = body_told (names older) (variables older) (length older + 1) (events older) line
+  body = body_told (version older) (names older) (variables older) (length older + 1) (events older) line
 
   body_first : is_header_over older ≡ false → begins_vars line ≡ false → BodyRead (line ∷ older)
   body_first over begins =
@@ -272,7 +273,7 @@ module _ (line : Line) (older : List Line) (long : 2 ≤ length older) (fine : A
       let value = told-first older line open_ long over begins body refl in
       let none : body.fault ≡ None = sym (ap (λ (t : Told). t.fault) value) ∙ f.0 in
       let items : items_of older ++ (told older line).items ≡ item.Header (header_of older) ∷ body.items = rw h.items_are (ap (λ (t : Told). t.items) value) in
-      next_read line older long (rw (over, begins) refl) not_end body (body_is (names older) (variables older) (length older + 1) (events older) line) none [] (header_fits older h) (header_opens older h) items
+      next_read line older long (rw (over, begins) refl) not_end body (body_is (version older) (names older) (variables older) (length older + 1) (events older) line) none [] (header_fits older h) (header_opens older h) items
 
   body_later : is_header_over older ≡ true → BodyRead older → BodyRead (line ∷ older)
   body_later over b =
@@ -280,7 +281,7 @@ module _ (line : Line) (older : List Line) (long : 2 ≤ length older) (fine : A
       let value = told-body older line open_ long over in
       let none : body.fault ≡ None = sym (ap (λ (t : Told). t.fault) value) ∙ f.0 in
       let items : items_of older ++ (told older line).items ≡ item.Header (header_of older) ∷ (b.given ++ body.items) = rw b.items_are (ap (λ (t : Told). item.Header (header_of older) ∷ (b.given ++ t.items)) value) in
-      next_read line older long (rw over refl) not_end body (body_is (names older) (variables older) (length older + 1) (events older) line) none b.given b.header b.opened items
+      next_read line older long (rw over refl) not_end body (body_is (version older) (names older) (variables older) (length older + 1) (events older) line) none b.given b.header b.opened items
 
 pub body_read : (older : List Line) → AreFine older → is_header_over older ≡ true → is_ended older ≡ false → BodyRead older
 body_read [] fine over open_ = absurd (omega (arith, over_long [] over))
@@ -303,6 +304,7 @@ body_read (line ∷ older) fine over open_ = elim (cases_lt (length older) 2) [
 pub record LogRead (older : List Line) : Type 0 where
   pub log : Log
   pub fits : LogFits log
+  pub lined : HasVarLines log.header
   pub lines_are : older ≡ onto (lines_of log) []
   pub items_are : items_of older ≡ log_items log
 
@@ -311,17 +313,18 @@ log_closed line older given is header r items =
     let batches = r.done ++ r.current ∷ [] in
     record {
       log = record { header = header_of older; batches = batches };
+      lined = refl;
       fits = record { header = header; some = omega (arith, length-append r.done (r.current ∷ [])); batches = r.fit; few = omega (arith, r.count_is, r.few) };
       lines_are = pushed (header_of older) older given r line (batch_lines (header_of older) batches) (open_lines-end (header_of older) r.done r.current ∙ ap (λ (l : Line). open_lines (header_of older) r.done r.current ++ l ∷ []) (sym is));
       items_are = items-next line older ∙ items ∙ ap (λ (xs : List Item). item.Header (header_of older) ∷ (xs ++ item.End ∷ [])) r.items_are ∙ ap (λ (xs : List Item). item.Header (header_of older) ∷ xs) (sym (open_items-end r.done r.current));
     }
 
-end_gives : (procs : List Name) (vars : List (List Binding)) (number count : ℕ) (line : Line) → line ≡ end_line → body_told procs vars number count line ≡ gives (item.End ∷ [])
-end_gives procs vars number count line is = subst (λ (l : Line). body_told procs vars number count l ≡ gives (item.End ∷ [])) (sym is) refl
+end_gives : (n : ℕ) (procs : List Name) (vars : List (List Binding)) (number count : ℕ) (line : Line) → line ≡ end_line → body_told n procs vars number count line ≡ gives (item.End ∷ [])
+end_gives n procs vars number count line is = subst (λ (l : Line). body_told n procs vars number count l ≡ gives (item.End ∷ [])) (sym is) refl
 
 module _ (line : Line) (older : List Line) (long : 2 ≤ length older) (fine : AreFine older) (open_ : is_ended older ≡ false) (is : line ≡ end_line) where
-  gives_end : body_told (names older) (variables older) (length older + 1) (events older) line ≡ gives (item.End ∷ [])
-  gives_end = end_gives (names older) (variables older) (length older + 1) (events older) line is
+  gives_end : body_told (version older) (names older) (variables older) (length older + 1) (events older) line ≡ gives (item.End ∷ [])
+  gives_end = end_gives (version older) (names older) (variables older) (length older + 1) (events older) line is
 
   end_first : is_header_over older ≡ false → LogRead (line ∷ older)
   unfolding text_at

@@ -1,6 +1,6 @@
 -- How the first fault and the items follow the bytes.
 use Rattle.std.proofs.Common.{◌≡◌, ℕ, ◌+◌, ◌<◌, ◌≤◌, Bool, true, false, Option, Some, None, List, [], ◌∷◌, ◌++◌, length, refl, sym, ap, ◌∙◌, arith, inl, inr}
-use Rattle.std.specs.Prelude.{◌==◌, nat_lt, nat_le, not, ◌&&◌, slice_index}
+use Rattle.std.specs.Prelude.{◌==◌, nat_lt, nat_le, not, ◌&&◌}
 use Rattle.std.specs.Option.{option_map}
 use Rattle.std.proofs.lemmas.Bool.{cases_Bool, cases_lt, le-leb, lt-leb, le-ltb, true≢false}
 use Rattle.std.proofs.lemmas.List.{append-nil, length_push}
@@ -13,7 +13,7 @@ use Rattle.event_log.specs.declared.item.Item.{Item}
 use Rattle.event_log.specs.Before.{is_ended, AreFine, items_of, Told, gives, refuses, told}
 use Rattle.event_log.specs.LogText.{onto}
 use Rattle.event_log.specs.Moments.{IsPlainByte, HasNoFeed, line_now, lines}
-use Rattle.event_log.specs.Faults.{heading_line, byte_fault, feed_told, moment_told, placed, first_fault, items}
+use Rattle.event_log.specs.Faults.{is_heading_byte, byte_fault, feed_told, moment_told, placed, first_fault, items}
 use Rattle.event_log.proofs.ReadLaws.{items-next, fine_again}
 use Rattle.event_log.proofs.Texts.{line_now-plain, lines-plain}
 
@@ -130,7 +130,7 @@ ended_byte : (total width b : ℕ) → byte_fault total true width b ≡ None �
 unfolding byte_fault
 ended_byte total width b h = elim (cases_Bool (nat_le 67108864 total)) [
   | inl full ↦ none-some code.LogTooLong (sym (rw full at h))
-  | inr room ↦ elim (cases_Bool (nat_lt total 11 && not (b == slice_index heading_line total))) [
+  | inr room ↦ elim (cases_Bool (nat_lt total 11 && not (is_heading_byte total b))) [
     | inl bad ↦ none-some code.BadHeader (sym (rw (room, bad) at h))
     | inr good ↦ none-some code.Trailing (sym (rw (room, good) at h))
   ]

@@ -17,7 +17,7 @@ use Rattle.event_log.specs.declared.log.Binding.{Binding}
 use Rattle.event_log.specs.declared.log.Header.{Header}
 use Rattle.event_log.specs.declared.log.Event.{Event}
 use Rattle.event_log.specs.declared.log.Log.{Log}
-use Rattle.event_log.specs.Before.{Line, names, variables, events, is_header_over, is_ended, header_of, Told, gives, refuses, requires, event_told, vars_placed, body_told, told, AreFine, items_of}
+use Rattle.event_log.specs.Before.{Line, version, names, variables, events, is_header_over, is_ended, header_of, Told, gives, refuses, requires, event_told, vars_placed, body_told, told, AreFine, items_of}
 use Rattle.event_log.specs.LogText.{EventsFit, BatchesFit, LogFits, event_count, event_items, closing_item, batch_items, log_items}
 use Rattle.event_log.specs.Moments.{line_now, lines}
 use Rattle.event_log.specs.Faults.{byte_fault, feed_told, moment_told, first_fault, items}
@@ -95,8 +95,8 @@ quiet_placed : (vars : List (List Binding)) (o : Option ℕ) → Quiet (vars_pla
 quiet_placed vars None c h = refl
 quiet_placed vars (Some p) c h = none_required code.BadLine (nat_le (length vars) p)
 
-quiet_body : (procs : List Name) (vars : List (List Binding)) (number count : ℕ) (line : Line) → Quiet (body_told procs vars number count line)
-quiet_body procs vars number count line =
+quiet_body : (n : ℕ) (procs : List Name) (vars : List (List Binding)) (number count : ℕ) (line : Line) → Quiet (body_told n procs vars number count line)
+quiet_body n procs vars number count line =
     quiet_if (bytes_eq line batch_line) _ _ (quiet_gives (item.BatchEnd ∷ []))
     (quiet_if (bytes_eq line end_line) _ _ (quiet_gives (item.End ∷ [])) (quiet_choose (event_in line) _ _ (λ e. quiet_event _) (quiet_refuses code.BadLine)))
 
@@ -134,7 +134,7 @@ module _ (older : List Line) (fine : AreFine older) (open_ : is_ended older ≡ 
   unfolding end_told
   line_front line true begins over is c h =
       let value = told-body older line open_ long over in
-      let none : (told older line).items ≡ [] = ap (λ (t : Told). t.items) value ∙ quiet_body (names older) (variables older) (length older + 1) (events older) line c (sym (ap (λ (t : Told). t.fault) value) ∙ h) in
+      let none : (told older line).items ≡ [] = ap (λ (t : Told). t.items) value ∙ quiet_body (version older) (names older) (variables older) (length older + 1) (events older) line c (sym (ap (λ (t : Told). t.fault) value) ∙ h) in
       ((told older end_line).items, rw none refl)
   line_front line false true over is c h =
       let value = told-vars older line open_ long over is in
@@ -143,9 +143,9 @@ module _ (older : List Line) (fine : AreFine older) (open_ : is_ended older ≡ 
       c (sym (ap (λ (t : Told). t.fault) value) ∙ h) in
       ((told older end_line).items, rw none refl)
   line_front line false false over is c h =
-      let body = body_told (names older) (variables older) (length older + 1) (events older) line in
+      let body = body_told (version older) (names older) (variables older) (length older + 1) (events older) line in
       let value = told-first older line open_ long over is body refl in
-      let none : body.items ≡ [] = quiet_body (names older) (variables older) (length older + 1) (events older) line c (sym (ap (λ (t : Told). t.fault) value) ∙ h) in
+      let none : body.items ≡ [] = quiet_body (version older) (names older) (variables older) (length older + 1) (events older) line c (sym (ap (λ (t : Told). t.fault) value) ∙ h) in
       let given : (told older line).items ≡ item.Header (header_of older) ∷ [] = ap (λ (t : Told). t.items) value ∙ ap (λ (xs : List Item). item.Header (header_of older) ∷ xs) none in
       (item.End ∷ [], ap (λ (t : Told). t.items) (end_is false over) ∙ rw given refl)
 

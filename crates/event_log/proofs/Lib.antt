@@ -13,6 +13,7 @@ pub mod Lists
 pub mod NameLaws
 pub mod NameNumbers
 pub mod Narrow
+pub mod NotedLines
 pub mod NumberSteps
 pub mod Plain
 pub mod ReadLaws

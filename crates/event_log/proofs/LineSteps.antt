@@ -23,8 +23,8 @@ use Rattle.event_log.specs.declared.line_reader.LineTold.{LineTold}
 use Rattle.event_log.specs.declared.line_reader.Stage.{Stage}
 use Rattle.event_log.specs.declared.line_reader.Stage.TheVariants as stage
 use Rattle.event_log.specs.Numbers.{event_named}
-use Rattle.event_log.specs.Before.{Line, filled, names, variables, variables_after, events, begins_event, is_header_over, is_ended, header_of, Told, gives, refuses, heading_told, procs_told, vars_told, event_told, body_told, told}
-use Rattle.event_log.specs.Lines.{JudgedAs, told_of, header_items, StageIs, HasReadLines, events_after, stage_after, CountsLine, TakesProcs, TakesVars, Passes, TakesLine}
+use Rattle.event_log.specs.Before.{Line, filled, version, names, variables, variables_after, events, begins_event, is_header_over, is_ended, headed, header_of, Told, gives, refuses, heading_told, procs_told, vars_told, event_told, body_told, told}
+use Rattle.event_log.specs.Lines.{JudgedAs, told_of, header_items, StageIs, HasReadLines, events_after, stage_after, TakesHeading, TakesProcs, TakesVars, Passes, TakesLine}
 
 -- ---- what a line gives, by the stage
 
@@ -53,12 +53,12 @@ module _ (older : List Line) (line : Line) where
       unfolding told
       told-vars over begins = rw (open_, nonzero, nonone, over, begins) refl
 
-      pub told-first : is_header_over older ≡ false → begins_vars line ≡ false → (body : Told) → body_told (names older) (variables older) (length older + 1) (events older) line ≡ body
+      pub told-first : is_header_over older ≡ false → begins_vars line ≡ false → (body : Told) → body_told (version older) (names older) (variables older) (length older + 1) (events older) line ≡ body
           → told older line ≡ record { items = item.Header (header_of older) ∷ body.items; fault = body.fault }
       unfolding told
       told-first over begins body e = rw (open_, nonzero, nonone, over, begins, e) refl
 
-      pub told-body : is_header_over older ≡ true → told older line ≡ body_told (names older) (variables older) (length older + 1) (events older) line
+      pub told-body : is_header_over older ≡ true → told older line ≡ body_told (version older) (names older) (variables older) (length older + 1) (events older) line
       unfolding told
       told-body over = rw (open_, nonzero, nonone, over) refl
 
@@ -80,14 +80,15 @@ on_ok (Err e) P p ok = absurd cc
 
 -- ---- the lines with one more
 
-pub heading_next : (old new : LineReader) (line : Line) (older : List Line) → HasReadLines old older → old.stage ≡ stage.Header → old.lines ≡ 0 → CountsLine old new → HasReadLines new (line ∷ older)
-unfolding names variables events is_header_over is_ended
+pub heading_next : (old new : LineReader) (line : Line) (older : List Line) → HasReadLines old older → old.stage ≡ stage.Header → old.lines ≡ 0 → TakesHeading old new line → HasReadLines new (line ∷ older)
+unfolding version names variables events is_header_over is_ended
 heading_next old new line older has at none counts =
     let len : length older ≡ 0 = omega (arith, has.lines_are) in
     let is = subst (λ (s : Stage). StageIs s older) at has.stage_is in
     let kept : new.stage ≡ stage.Header = counts.stage_is ∙ at in
     record {
       lines_are = omega (arith, has.lines_are, counts.lines_are);
+      version_is = rw len counts.version_is;
       procs_are = rw len (counts.procs_are ∙ has.procs_are);
       variables_are = rw len (counts.variables_are ∙ has.variables_are);
       events_are = rw len (counts.events_are ∙ has.events_are);
@@ -95,13 +96,14 @@ heading_next old new line older has at none counts =
     }
 
 pub procs_next : (old new : LineReader) (line : Line) (older : List Line) → HasReadLines old older → old.stage ≡ stage.Header → old.lines ≡ 1 → TakesProcs old new line → HasReadLines new (line ∷ older)
-unfolding names variables events is_header_over is_ended
+unfolding version names variables events is_header_over is_ended
 procs_next old new line older has at one takes =
     let len : length older ≡ 1 = omega (arith, has.lines_are) in
     let is = subst (λ (s : Stage). StageIs s older) at has.stage_is in
     let kept : new.stage ≡ stage.Header = takes.stage_is ∙ at in
     record {
       lines_are = omega (arith, has.lines_are, takes.lines_are);
+      version_is = rw len (takes.version_is ∙ has.version_is);
       procs_are = rw len takes.procs_are;
       variables_are = rw len (takes.variables_are ∙ has.variables_are);
       events_are = rw len (takes.events_are ∙ has.events_are);
@@ -124,16 +126,18 @@ vars_no_other (b ∷ bs) h = elim (cases_Bool (b == 118)) [
 ]
 
 pub vars_next : (old new : LineReader) (line : Line) (older : List Line) → HasReadLines old older → old.stage ≡ stage.Header → 2 ≤ old.lines → begins_vars line ≡ true → TakesVars old new line → HasReadLines new (line ∷ older)
-unfolding names variables events is_header_over is_ended
+unfolding version names variables events is_header_over is_ended
 vars_next old new line older has at long begins takes =
     let two : nat_le 2 (length older) ≡ true = le-leb 2 (length older) (omega (arith, has.lines_are)) in
     let other : (length older == 1) ≡ false = ne_eqb (length older) 1 (λ e. absurd (omega (arith, e, has.lines_are))) in
+    let some : (length older == 0) ≡ false = ne_eqb (length older) 0 (λ e. absurd (omega (arith, e, has.lines_are))) in
     let is = subst (λ (s : Stage). StageIs s older) at has.stage_is in
     let no_other = vars_no_other line begins in
     let kept : new.stage ≡ stage.Header = takes.stage_is ∙ at in
     let added : new.variables ≡ variables_after (names older) (variables older) line = rw (← has.procs_are, ← has.variables_are) takes.variables_are in
     record {
       lines_are = omega (arith, has.lines_are, takes.lines_are);
+      version_is = rw some (takes.version_is ∙ has.version_is);
       procs_are = rw other (takes.procs_are ∙ has.procs_are);
       variables_are = rw (two, is.0, begins) added;
       events_are = rw (two, no_other.event) (takes.events_are ∙ has.events_are);
@@ -182,9 +186,9 @@ event_says line named (Some d) i is ended e = named_says (named d) e
     named_says (Ok event) g = subst (BodySays line) (gives_same (item.Event event) i g) (record { event = event_begins line d is; ended = ended })
     named_says (Err c) g = refuses_nothing c (i ∷ []) g
 
-pub body_says : (procs : List Name) (vars : List (List Binding)) (number count : ℕ) (line : Line) (i : Item) → body_told procs vars number count line ≡ gives (i ∷ []) → BodySays line i
+pub body_says : (version : ℕ) (procs : List Name) (vars : List (List Binding)) (number count : ℕ) (line : Line) (i : Item) → body_told version procs vars number count line ≡ gives (i ∷ []) → BodySays line i
 unfolding text_at
-body_says procs vars number count line i e = elim (cases_Bool (bytes_eq line batch_line)) [
+body_says version procs vars number count line i e = elim (cases_Bool (bytes_eq line batch_line)) [
   | inl batch ↦
       let same : line ≡ batch_line = (bytes_eq-Decides line batch_line).0 batch in
       let says : BodySays batch_line item.BatchEnd = record { event = refl; ended = refl } in
@@ -194,7 +198,7 @@ body_says procs vars number count line i e = elim (cases_Bool (bytes_eq line bat
         let same : line ≡ end_line = (bytes_eq-Decides line end_line).0 end in
         let says : BodySays end_line item.End = record { event = refl; ended = refl } in
         subst (BodySays line) (gives_same item.End i (rw (other, end) at e)) (subst (λ (l : Line). BodySays l item.End) (sym same) says)
-    | inr more ↦ event_says line (event_named procs vars number count) (event_in line) i refl more (rw (other, more) at e)
+    | inr more ↦ event_says line (event_named version procs vars number count) (event_in line) i refl more (rw (other, more) at e)
   ]
 ]
 
@@ -225,17 +229,19 @@ or_false false = refl
 
 -- one line more, behind the header
 pub body_next : (old new : LineReader) (line : Line) (older : List Line) (i : Item) → HasReadLines old older → 2 ≤ length older → is_ended older ≡ false → (is_header_over older || not (begins_vars line)) ≡ true
-    → body_told old.procs old.variables (old.lines + 1) old.events line ≡ gives (i ∷ []) → Passes old new i → HasReadLines new (line ∷ older)
-unfolding names variables events is_header_over is_ended
+    → body_told old.version old.procs old.variables (old.lines + 1) old.events line ≡ gives (i ∷ []) → Passes old new i → HasReadLines new (line ∷ older)
+unfolding version names variables events is_header_over is_ended
 body_next old new line older i has long open_ behind gave passes =
-    let says = body_says old.procs old.variables (old.lines + 1) old.events line i gave in
+    let says = body_says old.version old.procs old.variables (old.lines + 1) old.events line i gave in
     let two : nat_le 2 (length older) ≡ true = le-leb 2 (length older) long in
     let other : (length older == 1) ≡ false = ne_eqb (length older) 1 (λ e. absurd (omega (arith, e))) in
+    let some : (length older == 0) ≡ false = ne_eqb (length older) 0 (λ e. absurd (omega (arith, e))) in
     let out : (not (is_header_over older) && begins_vars line) ≡ false = grind arith in
     let over : (not (begins_vars line) || is_header_over older) ≡ true = grind arith in
     let at = stage_follows i true true (line ∷ older) (rw two over) (rw (two, open_) (or_false (bytes_eq line end_line) ∙ says.ended)) in
     record {
       lines_are = omega (arith, has.lines_are, passes.lines_are);
+      version_is = rw some (passes.version_is ∙ has.version_is);
       procs_are = rw other (passes.procs_are ∙ has.procs_are);
       variables_are = rw (two, out) (passes.variables_are ∙ has.variables_are);
       events_are = rw two (passes.events_are ∙ ap (events_after i) has.events_are ∙ counts_event (begins_event line) i (events older) says.event);
@@ -246,7 +252,7 @@ body_next old new line older i has long open_ behind gave passes =
 
 pub heading_takes : (old new : LineReader) (line : Line) (answer : Result LineTold NoMemory) (judged : Result (Option Item) (Refused LogCode)) → old.stage ≡ stage.Header → old.lines ≡ 0
     → IfOk answer (λ t. (told : Told) → JudgedAs judged told → told_of t ≡ record { items = told.items; fault = told.fault }) → IfOk answer (λ t. t.fault ≡ None → IsOk judged)
-    → JudgedAs judged (heading_told line) → OnOk judged (CountsLine old new) → IfOk answer (λ t. TakesLine old line t new)
+    → JudgedAs judged (heading_told line) → OnOk judged (TakesHeading old new line) → IfOk answer (λ t. TakesLine old line t new)
 heading_takes old new line answer judged at none says ok is counts =
     judged_takes old new line answer None judged (heading_told line) says ok is
     (λ older has.
@@ -276,10 +282,10 @@ vars_takes old new line answer judged at long begins says ok is takes =
 
 -- the body of a log as the reader judges it
 abbrev pub own_body : LineReader → Line → Told
-own_body r line = body_told r.procs r.variables (r.lines + 1) r.events line
+own_body r line = body_told r.version r.procs r.variables (r.lines + 1) r.events line
 
-own_body_is : (r : LineReader) (line : Line) (older : List Line) → HasReadLines r older → body_told (names older) (variables older) (length older + 1) (events older) line ≡ own_body r line
-own_body_is r line older has = rw (has.procs_are, has.variables_are, has.lines_are, has.events_are) refl
+own_body_is : (r : LineReader) (line : Line) (older : List Line) → HasReadLines r older → body_told (version older) (names older) (variables older) (length older + 1) (events older) line ≡ own_body r line
+own_body_is r line older has = rw (has.version_is, has.procs_are, has.variables_are, has.lines_are, has.events_are) refl
 
 body_passes : (old new : LineReader) (line : Line) (judged : Result (Option Item) (Refused LogCode)) (older : List Line) → HasReadLines old older → 2 ≤ length older → is_ended older ≡ false → (is_header_over older || not (begins_vars line)) ≡ true
     → JudgedAs judged (own_body old line) → IfOk judged (λ i. IsSomeAnd i (Passes old new)) → IsOk judged → HasReadLines new (line ∷ older)
@@ -288,14 +294,14 @@ body_passes old new line (Ok None) older has long open_ behind is passes fine = 
 body_passes old new line (Err e) older has long open_ behind is passes fine = absurd cc
 
 pub first_takes : (old new : LineReader) (line : Line) (answer : Result LineTold NoMemory) (header : Header) (judged : Result (Option Item) (Refused LogCode)) → old.stage ≡ stage.Header → 2 ≤ old.lines → begins_vars line ≡ false
-    → header ≡ record { procs = old.procs; vars = filled old.variables (length old.procs) }
+    → header ≡ headed old.version old.procs (filled old.variables (length old.procs))
     → IfOk answer (λ t. (told : Told) → JudgedAs judged told → told_of t ≡ record { items = item.Header header ∷ told.items; fault = told.fault }) → IfOk answer (λ t. t.fault ≡ None → IsOk judged)
     → JudgedAs judged (own_body old line) → IfOk judged (λ i. IsSomeAnd i (Passes old new)) → IfOk answer (λ t. TakesLine old line t new)
 first_takes old new line answer header judged at long begins made says ok is passes =
     judged_takes old new line answer (Some header) judged (own_body old line) says ok is
     (λ older has.
     let stage_is = subst (λ (s : Stage). StageIs s older) at has.stage_is in
-    let same : header_of older ≡ header = rw (← has.procs_are, ← has.variables_are) (sym made) in
+    let same : header_of older ≡ header = rw (← has.version_is, ← has.procs_are, ← has.variables_are) (sym made) in
     told-first older line stage_is.1 (omega (arith, has.lines_are)) stage_is.0 begins (own_body old line) (own_body_is old line older has) ∙ rw same refl)
     (λ older has fine.
     let stage_is = subst (λ (s : Stage). StageIs s older) at has.stage_is in

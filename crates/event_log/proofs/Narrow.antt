@@ -7,7 +7,7 @@ use Rattle.std.specs.Fmt.{decimal, signed_decimal}
 use Rattle.std.proofs.lemmas.Int.{ints}
 use Rattle.std.proofs.lemmas.Fmt.{length-decimal-le}
 use Rattle.log_lines.specs.Names.{Name, is_name}
-use Rattle.log_lines.specs.Spelling.{NamedValue, ValueFits, Action, Internal, Send, Receive, ActionFits, EventLine, EventLineFits, VarsLine, VarsLineFits, names_text, values_text, clock_rest, clock_text, action_text, vars_line, event_line}
+use Rattle.log_lines.specs.Spelling.{NamedValue, ValueFits, Action, Internal, Send, Receive, ActionFits, EventLine, EventLineFits, VarsLine, VarsLineFits, names_text, values_text, clock_rest, clock_text, event_clock_text, action_text, vars_line, event_line}
 use Rattle.log_lines.proofs.WordLaws.{name_parts}
 use Rattle.event_log.specs.declared.log.Binding.{Binding}
 use Rattle.event_log.specs.declared.log.Header.{Header}
@@ -16,7 +16,7 @@ use Rattle.event_log.specs.declared.log.Log.{Log}
 use Rattle.event_log.specs.Before.{Line}
 use Rattle.event_log.specs.LogText.{values_of, line_of, vars_lines, header_lines, event_lines, closing_line, batch_lines, lines_of, BindingsFit, HeaderFits, EventsFit, BatchesFit, LogFits}
 use Rattle.event_log.proofs.Lists.{all_append}
-use Rattle.event_log.proofs.EventLaws.{line_fits}
+use Rattle.event_log.proofs.EventLaws.{line_fits, clock_few}
 use Rattle.event_log.proofs.WriteLaws.{vars_fit}
 
 abbrev pub IsNarrow : Line → Type 0
@@ -46,6 +46,10 @@ clock_narrow : (ns : List ℕ) → AllByRecursion (λ n. n < 2 ^ 32) ns → leng
 clock_narrow [] fits = omega arith
 clock_narrow (n ∷ ns) fits = omega (arith, length-append (decimal n) (clock_rest ns), length-decimal-le 10 n (omega arith) (omega (arith, fits.0)) (omega (arith, fits.0)), clock_rest_narrow ns fits.1)
 
+event_clock_narrow : (ns : List ℕ) → AllByRecursion (λ n. n < 2 ^ 32) ns → length (event_clock_text ns) ≤ 11 * length ns + 1
+event_clock_narrow [] fits = omega arith
+event_clock_narrow (n ∷ ns) fits = omega (arith, clock_narrow (n ∷ ns) fits)
+
 action_narrow : (a : Action) → ActionFits a → length (action_text a) ≤ 90
 action_narrow Internal fits = omega arith
 action_narrow (Send to id) fits = omega (arith, length-append to (32 ∷ decimal id), (name_parts to fits.0).few, length-decimal-le 20 id (omega arith) (omega (arith, fits.1)) fits.1)
@@ -56,11 +60,11 @@ event_narrow e fits few =
     let rest = action_text e.action ++ values_text e.assigns in
     omega (
       arith,
-      length-append e.actor (32 ∷ (clock_text e.clock ++ 32 ∷ rest)),
-      length-append (clock_text e.clock) (32 ∷ rest),
+      length-append e.actor (32 ∷ (event_clock_text e.clock ++ 32 ∷ rest)),
+      length-append (event_clock_text e.clock) (32 ∷ rest),
       length-append (action_text e.action) (values_text e.assigns),
       (name_parts e.actor fits.actor).few,
-      clock_narrow e.clock fits.clock.each,
+      event_clock_narrow e.clock fits.clock,
       action_narrow e.action fits.action,
       values_narrow e.assigns fits.assigns.each,
       fits.assigns.few,
@@ -81,7 +85,7 @@ header_narrow h fits = (omega arith, (omega (arith, names_narrow h.procs fits.pr
 
 events_narrow : (h : Header) (line : ℕ) (es : List Event) → HeaderFits h → EventsFit h line es → AllByRecursion IsNarrow (event_lines h es)
 events_narrow h line [] header fits = tt
-events_narrow h line (e ∷ es) header fits = (event_narrow (line_of h e) (line_fits h e header fits.0.0) (omega (arith, fits.0.0.width, header.procs.few)), events_narrow h (line + 1) es header fits.1)
+events_narrow h line (e ∷ es) header fits = (event_narrow (line_of h e) (line_fits h e header fits.0.0) (omega (arith, clock_few h e fits.0.0, header.procs.few)), events_narrow h (line + 1) es header fits.1)
 
 closing_narrow : (rest : List (List Event)) → IsNarrow (closing_line rest)
 closing_narrow [] = omega arith

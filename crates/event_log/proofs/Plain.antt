@@ -1,5 +1,5 @@
 -- No line of a log holds a line feed.
-use Rattle.std.proofs.Common.{◌≡◌, ℕ, ℤ, pos, negsuc, suc, ◌+◌, ◌%◌, ◌^◌, ◌<◌, true, false, List, [], ◌∷◌, ◌++◌, length, refl, arith}
+use Rattle.std.proofs.Common.{◌≡◌, ℕ, ℤ, pos, negsuc, suc, ◌+◌, ◌%◌, ◌^◌, ◌<◌, true, false, List, [], ◌∷◌, ◌++◌, length, refl, sym, subst, arith, inl, inr}
 use Rattle.std.specs.Prelude.{◌==◌, FitsSigned}
 use Rattle.std.specs.Int.{w64}
 use Rattle.std.specs.List.{AllByRecursion, list_all}
@@ -9,7 +9,7 @@ use Rattle.std.proofs.lemmas.Bool.{ne_eqb, and_parts}
 use Rattle.std.proofs.lemmas.Bool.Decides.{nat_tests}
 use Rattle.std.proofs.lemmas.Fmt.{decimal_by_steps}
 use Rattle.log_lines.specs.Names.{Name, is_name, is_name_byte}
-use Rattle.log_lines.specs.Spelling.{NamedValue, ValueFits, Action, Internal, Send, Receive, ActionFits, EventLine, EventLineFits, VarsLine, VarsLineFits, names_text, values_text, clock_rest, clock_text, action_text, vars_line, event_line}
+use Rattle.log_lines.specs.Spelling.{NamedValue, ValueFits, Action, Internal, Send, Receive, ActionFits, EventLine, EventLineFits, VarsLine, VarsLineFits, names_text, values_text, clock_rest, clock_text, event_clock_text, action_text, vars_line, event_line}
 use Rattle.log_lines.proofs.WordLaws.{name_parts}
 use Rattle.event_log.specs.declared.log.Binding.{Binding}
 use Rattle.event_log.specs.declared.log.Header.{Header}
@@ -18,6 +18,7 @@ use Rattle.event_log.specs.declared.log.Log.{Log}
 use Rattle.event_log.specs.LogText.{values_of, line_of, vars_lines, header_lines, event_lines, closing_line, batch_lines, lines_of, BindingsFit, HeaderFits, EventsFit, BatchesFit, LogFits}
 use Rattle.event_log.proofs.Lists.{all_append}
 use Rattle.event_log.proofs.EventLaws.{line_fits}
+use Rattle.event_log.specs.Before.{heading_of, IsVersion}
 use Rattle.event_log.specs.Moments.{IsPlainByte, HasNoFeed}
 use Rattle.event_log.proofs.WriteLaws.{vars_fit}
 
@@ -58,6 +59,10 @@ pub clock_plain : (ns : List ℕ) → AllByRecursion (λ n. n < 2 ^ 32) ns → H
 clock_plain [] fits = tt
 clock_plain (n ∷ ns) fits = all_append IsPlainByte (decimal n) (clock_rest ns) (decimal_plain n (omega (arith, fits.0))) (clock_rest_plain ns fits.1)
 
+event_clock_plain : (ns : List ℕ) → AllByRecursion (λ n. n < 2 ^ 32) ns → HasNoFeed (event_clock_text ns)
+event_clock_plain [] fits = (refl, tt)
+event_clock_plain (n ∷ ns) fits = clock_plain (n ∷ ns) fits
+
 action_plain : (a : Action) → ActionFits a → HasNoFeed (action_text a)
 action_plain Internal fits = (refl, (refl, (refl, tt)))
 action_plain (Send to id) fits = (refl, (refl, (refl, (refl, (refl, all_append IsPlainByte to (32 ∷ decimal id) (name_plain to fits.0) (refl, decimal_plain id fits.1))))))
@@ -70,9 +75,9 @@ event_plain e fits = (
     refl,
     (
       refl,
-      all_append IsPlainByte e.actor (32 ∷ (clock_text e.clock ++ 32 ∷ (action_text e.action ++ values_text e.assigns))) (name_plain e.actor fits.actor) (
+      all_append IsPlainByte e.actor (32 ∷ (event_clock_text e.clock ++ 32 ∷ (action_text e.action ++ values_text e.assigns))) (name_plain e.actor fits.actor) (
         refl,
-        all_append IsPlainByte (clock_text e.clock) (32 ∷ (action_text e.action ++ values_text e.assigns)) (clock_plain e.clock fits.clock.each)
+        all_append IsPlainByte (event_clock_text e.clock) (32 ∷ (action_text e.action ++ values_text e.assigns)) (event_clock_plain e.clock fits.clock)
             (refl, all_append IsPlainByte (action_text e.action) (values_text e.assigns) (action_plain e.action fits.action) (values_plain e.assigns fits.assigns.each)),
       ),
     ),
@@ -88,8 +93,12 @@ vars_lines_plain [] (v ∷ vars) names fits = tt
 vars_lines_plain (p ∷ procs) ([] ∷ vars) names fits = vars_lines_plain procs vars names.1 fits.1
 vars_lines_plain (p ∷ procs) ((b ∷ bs) ∷ vars) names fits = (vars_plain (record { process = p; variables = values_of (b ∷ bs) }) (vars_fit p b bs names.0 fits.0), vars_lines_plain procs vars names.1 fits.1)
 
+heading_plain : (n : ℕ) → IsVersion n → HasNoFeed (heading_of n)
+heading_plain n (inl one) = subst (λ (k : ℕ). HasNoFeed (heading_of k)) (sym one) (refl, (refl, (refl, (refl, (refl, (refl, (refl, (refl, (refl, (refl, tt))))))))))
+heading_plain n (inr two) = subst (λ (k : ℕ). HasNoFeed (heading_of k)) (sym two) (refl, (refl, (refl, (refl, (refl, (refl, (refl, (refl, (refl, (refl, tt))))))))))
+
 header_plain : (h : Header) → HeaderFits h → AllByRecursion HasNoFeed (header_lines h)
-header_plain h fits = ((refl, (refl, (refl, (refl, (refl, (refl, (refl, (refl, (refl, (refl, tt)))))))))), ((refl, (refl, (refl, (refl, (refl, names_plain h.procs fits.procs.each))))), vars_lines_plain h.procs h.vars fits.procs.each fits.vars))
+header_plain h fits = (heading_plain h.version fits.version, ((refl, (refl, (refl, (refl, (refl, names_plain h.procs fits.procs.each))))), vars_lines_plain h.procs h.vars fits.procs.each fits.vars))
 
 events_plain : (h : Header) (line : ℕ) (es : List Event) → HeaderFits h → EventsFit h line es → AllByRecursion HasNoFeed (event_lines h es)
 events_plain h line [] header fits = tt

@@ -5,7 +5,7 @@ use Rattle.std.specs.List.{AllByRecursion}
 use Rattle.std.specs.Str.{bytes_eq}
 use Rattle.std.proofs.lemmas.Bool.{cases_Bool, ne_eqb, le-leb, leb-true, or_parts, not-false}
 use Rattle.std.proofs.lemmas.List.{append-nil, length-map, length-append, length-replicate}
-use Rattle.std.proofs.lemmas.Option.{none-some}
+use Rattle.std.proofs.lemmas.Option.{none-some, same_Some}
 use Rattle.std.proofs.lemmas.Slice.Eq.{bytes_eq-Decides}
 use Rattle.log_lines.specs.Names.{Name, place_of}
 use Rattle.log_lines.specs.Spelling.{NamedValue, VarsLine, vars_line, ValueFits, ValuesFit, ProcsFit, procs_line, end_line, names_of}
@@ -16,7 +16,7 @@ use Rattle.event_log.specs.declared.item.LogCode.TheVariants as code
 use Rattle.event_log.specs.declared.item.Item.{Item}
 use Rattle.event_log.specs.declared.log.Binding.{Binding}
 use Rattle.event_log.specs.Numbers.{binding_names}
-use Rattle.event_log.specs.Before.{Line, heading, names, filled, bindings_of, variables, variables_after, events, begins_event, is_header_over, is_ended, Told, gives, refuses, requires, heading_told, procs_told, vars_placed, vars_told, told, AreFine, items_of}
+use Rattle.event_log.specs.Before.{Line, heading_of, IsVersion, version_in, version, names, filled, bindings_of, headed, variables, variables_after, events, begins_event, is_header_over, is_ended, Told, gives, refuses, requires, heading_told, procs_told, vars_placed, vars_told, told, AreFine, items_of}
 use Rattle.event_log.specs.LogText.{name_at, values_of, vars_lines, header_lines, BindingFits, BindingsFit, onto}
 use Rattle.event_log.proofs.Lists.{onto-push, all_push, all_append}
 use Rattle.event_log.proofs.NameLaws.{place_some}
@@ -102,33 +102,51 @@ vars_judged procs vars line h = read (vars_in line) refl h
 -- ---- the header
 
 pub record HeaderRead (older : List Line) : Type 0 where
-  pub lines_are : older ≡ onto (header_lines (record { procs = names older; vars = variables older })) []
+  pub lines_are : older ≡ onto (header_lines (headed (version older) (names older) (variables older))) []
+  pub version_fits : IsVersion (version older)
   pub procs_fit : ProcsFit (names older)
   pub few : length (variables older) ≤ length (names older)
   pub vars_fit : AllByRecursion BindingsFit (variables older)
   pub items_are : items_of older ≡ []
   pub events_are : events older ≡ 0
 
-first_lines : (first second : Line) (procs ns : List Name) → first ≡ heading → second ≡ procs_line ns → procs ≡ ns → second ∷ first ∷ [] ≡ onto (header_lines (record { procs = procs; vars = [] })) []
-first_lines first second procs ns a b c = rw (a, b, c) refl
+-- the first line of a version, and the version that a first line names
+pub version_is : (line : Line) (n : ℕ) → version_in line ≡ Some n → (line ≡ heading_of n) × IsVersion n
+version_is line n h = elim (cases_Bool (bytes_eq line (heading_of 1))) [
+  | inl one ↦ subst (λ (k : ℕ). (line ≡ heading_of k) × IsVersion k) (same_Some _ _ (rw one at h)) ((bytes_eq-Decides line (heading_of 1)).0 one, inl refl)
+  | inr other ↦ elim (cases_Bool (bytes_eq line (heading_of 2))) [
+    | inl two ↦ subst (λ (k : ℕ). (line ≡ heading_of k) × IsVersion k) (same_Some _ _ (rw (other, two) at h)) ((bytes_eq-Decides line (heading_of 2)).0 two, inr refl)
+    | inr none ↦ absurd (none-some n (rw (other, none) at h))
+  ]
+]
+
+pub version_again : (n : ℕ) → IsVersion n → version_in (heading_of n) ≡ Some n
+version_again n (inl one) = subst (λ (k : ℕ). version_in (heading_of k) ≡ Some k) (sym one) refl
+version_again n (inr two) = subst (λ (k : ℕ). version_in (heading_of k) ≡ Some k) (sym two) refl
+
+first_lines : (n : ℕ) (first second : Line) (procs ns : List Name) → first ≡ heading_of n → second ≡ procs_line ns → procs ≡ ns → second ∷ first ∷ [] ≡ onto (header_lines (headed n procs [])) []
+first_lines n first second procs ns a b c = rw (a, b, c) refl
 
 requires_items : (c : LogCode) (test : Bool) (t : Told) → t ≡ requires c test → t.fault ≡ None → t.items ≡ []
 requires_items c true t e none = ap (λ (x : Told). x.items) e
 requires_items c false t e none = absurd (none-some c (sym none ∙ ap (λ (x : Told). x.fault) e))
 
 two_lines_read : (first second : Line) → AreFine (second ∷ first ∷ []) → HeaderRead (second ∷ first ∷ [])
-unfolding AreFine items_of names variables events is_ended is_header_over
+unfolding AreFine items_of version names variables events is_ended is_header_over
 two_lines_read first second fine =
     let heading_fine : (heading_told first).fault ≡ None = sym (ap (λ (t : Told). t.fault) (told-heading [] first refl refl)) ∙ fine.1.0 in
-    let first_is : first ≡ heading = (bytes_eq-Decides first heading).0 (requires_true code.BadHeader (bytes_eq first heading) heading_fine) in
+    let named = some_value (version_in first) (requires_true code.BadHeader (is_some (version_in first)) heading_fine) in
+    let first_is = version_is first named.0 named.1 in
+    let version_now : unwrap_or (version_in first) 1 ≡ named.0 = ap (λ (o : Option ℕ). unwrap_or o 1) named.1 in
     let procs_fine : (procs_told second).fault ≡ None = sym (ap (λ (t : Told). t.fault) (told-procs (first ∷ []) second refl refl)) ∙ fine.0 in
     let read = some_value (procs_in second) (requires_true code.BadProcs (is_some (procs_in second)) procs_fine) in
     let taken = procs_take second read.0 read.1 in
     let names_are : unwrap_or (procs_in second) [] ≡ read.0 = ap (λ (o : Option (List Name)). unwrap_or o []) read.1 in
-    let first_told : (told [] first).items ≡ [] = requires_items code.BadHeader (bytes_eq first heading) (told [] first) (told-heading [] first refl refl) fine.1.0 in
+    let first_told : (told [] first).items ≡ [] = requires_items code.BadHeader (is_some (version_in first)) (told [] first) (told-heading [] first refl refl) fine.1.0 in
     let second_told : (told (first ∷ []) second).items ≡ [] = requires_items code.BadProcs (is_some (procs_in second)) (told (first ∷ []) second) (told-procs (first ∷ []) second refl refl) fine.0 in
     record {
-      lines_are = first_lines first second (unwrap_or (procs_in second) []) read.0 first_is taken.text names_are;
+      lines_are = first_lines (unwrap_or (version_in first) 1) first second (unwrap_or (procs_in second) []) read.0 (first_is.0 ∙ ap heading_of (sym version_now)) taken.text names_are;
+      version_fits = subst IsVersion (sym version_now) first_is.1;
       procs_fit = subst ProcsFit (sym names_are) taken.fits;
       few = omega arith;
       vars_fit = tt;
@@ -137,23 +155,23 @@ two_lines_read first second fine =
     }
 
 -- one `vars` line more
-vars_text : (procs : List Name) (vars : List (List Binding)) (rest : List Line) (line : Line) (v : VarsLine) (place : ℕ)
-    → rest ≡ onto (header_lines (record { procs = procs; vars = vars })) [] → line ≡ vars_line v → 0 < length v.variables → length vars ≤ place → place < length procs → name_at procs place ≡ v.process
-    → line ∷ rest ≡ onto (header_lines (record { procs = procs; vars = filled vars place ++ bindings_of v.variables ∷ [] })) []
-vars_text procs vars rest line v place rest_is line_is some after within name_is = go (bindings_of v.variables) refl
+vars_text : (n : ℕ) (procs : List Name) (vars : List (List Binding)) (rest : List Line) (line : Line) (v : VarsLine) (place : ℕ)
+    → rest ≡ onto (header_lines (headed n procs vars)) [] → line ≡ vars_line v → 0 < length v.variables → length vars ≤ place → place < length procs → name_at procs place ≡ v.process
+    → line ∷ rest ≡ onto (header_lines (headed n procs (filled vars place ++ bindings_of v.variables ∷ []))) []
+vars_text n procs vars rest line v place rest_is line_is some after within name_is = go (bindings_of v.variables) refl
   where
     at : length vars + (place - length vars) ≡ place
     at = omega arith
 
-    go : (bs : List Binding) → bindings_of v.variables ≡ bs → line ∷ rest ≡ onto (header_lines (record { procs = procs; vars = filled vars place ++ bs ∷ [] })) []
+    go : (bs : List Binding) → bindings_of v.variables ≡ bs → line ∷ rest ≡ onto (header_lines (headed n procs (filled vars place ++ bs ∷ []))) []
     go [] e = absurd (omega (arith, some, ap length e, length-map {B = Binding} v.variables (λ (x : NamedValue). record { name = x.name; value = x.value })))
     go (b ∷ bs) e =
         let values_are : values_of (b ∷ bs) ≡ v.variables = ap values_of (sym e) ∙ values_back v.variables in
         let spelled : vars_line (record { process = name_at procs (length vars + (place - length vars)); variables = values_of (b ∷ bs) }) ≡ line =
-        ap (λ (p : ℕ). vars_line (record { process = name_at procs p; variables = values_of (b ∷ bs) })) at ∙ ap (λ (n : Name). vars_line (record { process = n; variables = values_of (b ∷ bs) })) name_is ∙ ap (λ (xs : List NamedValue). vars_line (record { process = v.process; variables = xs })) values_are ∙ sym line_is in
+        ap (λ (p : ℕ). vars_line (record { process = name_at procs p; variables = values_of (b ∷ bs) })) at ∙ ap (λ (p : Name). vars_line (record { process = p; variables = values_of (b ∷ bs) })) name_is ∙ ap (λ (xs : List NamedValue). vars_line (record { process = v.process; variables = xs })) values_are ∙ sym line_is in
         let more : vars_lines procs (filled vars place ++ (b ∷ bs) ∷ []) ≡ vars_lines procs vars ++ line ∷ [] =
         vars_lines-push procs vars (place - length vars) b bs (omega (arith, at, within)) ∙ ap (λ (l : Line). vars_lines procs vars ++ l ∷ []) spelled in
-        ap (λ (ls : List Line). line ∷ ls) rest_is ∙ sym (onto-push (header_lines (record { procs = procs; vars = vars })) line []) ∙ ap (λ (ls : List Line). onto (heading ∷ procs_line procs ∷ ls) []) (sym more)
+        ap (λ (ls : List Line). line ∷ ls) rest_is ∙ sym (onto-push (header_lines (headed n procs vars)) line []) ∙ ap (λ (ls : List Line). onto (heading_of n ∷ procs_line procs ∷ ls) []) (sym more)
 
 vars_after_is : (procs : List Name) (vars : List (List Binding)) (line : Line) (j : VarsJudged procs vars line) → variables_after procs vars line ≡ filled vars j.place ++ bindings_of j.v.variables ∷ []
 vars_after_is procs vars line j = rw (j.read, j.found) refl
@@ -161,21 +179,21 @@ vars_after_is procs vars line j = rw (j.read, j.found) refl
 vars_quiet : (procs : List Name) (vars : List (List Binding)) (line : Line) (j : VarsJudged procs vars line) → vars_told procs vars line ≡ gives []
 vars_quiet procs vars line j = rw (j.read, j.found, le-leb (length vars) j.place j.after) refl
 
-record OneVarsMore (procs : List Name) (vars : List (List Binding)) (rest : List Line) (line : Line) (new : List (List Binding)) : Type 0 where
-  lines_are : line ∷ rest ≡ onto (header_lines (record { procs = procs; vars = new })) []
+record OneVarsMore (n : ℕ) (procs : List Name) (vars : List (List Binding)) (rest : List Line) (line : Line) (new : List (List Binding)) : Type 0 where
+  lines_are : line ∷ rest ≡ onto (header_lines (headed n procs new)) []
   few : length new ≤ length procs
   vars_fit : AllByRecursion BindingsFit new
 
 pub length-filled : (vars : List (List Binding)) (k : ℕ) → length vars ≤ k → length (filled vars k) ≡ k
 length-filled vars k le = omega (arith, le, length-append vars (replicate (k - length vars) []), length-replicate (k - length vars) (let none : List Binding = [] in none))
 
-one_vars_more : (procs : List Name) (vars : List (List Binding)) (rest : List Line) (line : Line) → rest ≡ onto (header_lines (record { procs = procs; vars = vars })) [] → AllByRecursion BindingsFit vars
-    → (j : VarsJudged procs vars line) → OneVarsMore procs vars rest line (filled vars j.place ++ bindings_of j.v.variables ∷ [])
-one_vars_more procs vars rest line rest_is fits j =
+one_vars_more : (n : ℕ) (procs : List Name) (vars : List (List Binding)) (rest : List Line) (line : Line) → rest ≡ onto (header_lines (headed n procs vars)) [] → AllByRecursion BindingsFit vars
+    → (j : VarsJudged procs vars line) → OneVarsMore n procs vars rest line (filled vars j.place ++ bindings_of j.v.variables ∷ [])
+one_vars_more n procs vars rest line rest_is fits j =
     let taken = vars_take line j.v j.read in
     let p = place_some procs j.v.process j.place j.found in
     record {
-      lines_are = vars_text procs vars rest line j.v j.place rest_is taken.text taken.fits.some j.after p.0 p.1;
+      lines_are = vars_text n procs vars rest line j.v j.place rest_is taken.text taken.fits.some j.after p.0 p.1;
       few = omega (arith, p.0, length-append (filled vars j.place) (bindings_of j.v.variables ∷ []), length-filled vars j.place j.after);
       vars_fit = all_push BindingsFit (filled vars j.place) (bindings_of j.v.variables) (all_append BindingsFit vars (replicate (j.place - length vars) []) fits (no_variables_fit (j.place - length vars))) (bindings_fit j.v.variables taken.fits.variables);
     }
@@ -198,6 +216,10 @@ module _ (line : Line) (older : List Line) where
   module _ (long : 2 ≤ length older) where
     two : nat_le 2 (length older) ≡ true
     two = le-leb 2 (length older) long
+
+    pub version-next : version (line ∷ older) ≡ version older
+    unfolding version
+    version-next = let some : (length older == 0) ≡ false = ne_eqb (length older) 0 (λ e. absurd (omega (arith, e))) in rw some refl
 
     pub names-next : names (line ∷ older) ≡ names older
     unfolding names
@@ -233,10 +255,11 @@ module _ (line : Line) (older : List Line) where
     unfolding is_ended
     ended-next open_ = rw (two, open_) (or_false (bytes_eq line end_line))
 
-vars_made : (line : Line) (older : List Line) (new : List (List Binding)) → HeaderRead older → names (line ∷ older) ≡ names older → variables (line ∷ older) ≡ new → items_of (line ∷ older) ≡ items_of older → events (line ∷ older) ≡ events older
-    → OneVarsMore (names older) (variables older) older line new → HeaderRead (line ∷ older)
-vars_made line older new h named added items_same events_same more = record {
-  lines_are = rw (named, added) more.lines_are;
+vars_made : (line : Line) (older : List Line) (new : List (List Binding)) → HeaderRead older → version (line ∷ older) ≡ version older → names (line ∷ older) ≡ names older → variables (line ∷ older) ≡ new → items_of (line ∷ older) ≡ items_of older → events (line ∷ older) ≡ events older
+    → OneVarsMore (version older) (names older) (variables older) older line new → HeaderRead (line ∷ older)
+vars_made line older new h versioned named added items_same events_same more = record {
+  lines_are = rw (versioned, named, added) more.lines_are;
+  version_fits = rw versioned h.version_fits;
   procs_fit = rw named h.procs_fit;
   few = rw (named, added) more.few;
   vars_fit = rw added more.vars_fit;
@@ -255,11 +278,11 @@ vars_read line older long fine over open_ before =
     let j = vars_judged (names older) (variables older) line (sym (ap (λ (t : Told). t.fault) value) ∙ f.0) in
     let quiet : (told older line).items ≡ [] = ap (λ (t : Told). t.items) (value ∙ vars_quiet (names older) (variables older) line j) in
     let no_event = (vars_no_other line parts.0).event in
-    vars_made line older (filled (variables older) j.place ++ bindings_of j.v.variables ∷ []) h (names-next line older long)
+    vars_made line older (filled (variables older) j.place ++ bindings_of j.v.variables ∷ []) h (version-next line older long) (names-next line older long)
     (variables-added line older long parts.1 parts.0 ∙ vars_after_is (names older) (variables older) line j)
     (items-next line older ∙ ap (λ (xs : List Item). items_of older ++ xs) quiet ∙ append-nil (items_of older))
     (events-next line older long ∙ ap (λ (b : Bool). cond b (events older + 1) (events older)) no_event)
-    (one_vars_more (names older) (variables older) older line h.lines_are h.vars_fit j)
+    (one_vars_more (version older) (names older) (variables older) older line h.lines_are h.vars_fit j)
 
 pub header_read : (older : List Line) → AreFine older → 2 ≤ length older → is_header_over older ≡ false → is_ended older ≡ false → HeaderRead older
 header_read [] fine long over open_ = absurd (omega arith)

@@ -7,7 +7,7 @@ use Rattle.std.proofs.lemmas.List.{append-nil}
 use Rattle.event_log.specs.Before.{Line, AreFine, is_ended, items_of}
 use Rattle.event_log.specs.Moments.{HasNoFeed, line_now, lines, IsText}
 use Rattle.event_log.specs.declared.log.Log.{Log}
-use Rattle.event_log.specs.LogText.{text_of, lines_of, log_text, log_items, LogFits, onto}
+use Rattle.event_log.specs.LogText.{text_of, lines_of, log_text, log_items, LogFits, HasVarLines, lined, onto}
 use Rattle.event_log.proofs.Lists.{onto-append, all_onto}
 use Rattle.event_log.proofs.ReadLaws.{fine_next}
 use Rattle.event_log.proofs.BodyLaws.{log_read}
@@ -82,6 +82,7 @@ nothing_before bytes = refl
 pub record TextRead (bytes : List ℕ) : Type 0 where
   pub log : Log
   pub fits : LogFits log
+  pub lined : HasVarLines log.header
   pub text_is : bytes ≡ log_text log
   pub items_are : items_of (lines (onto bytes [])) ≡ log_items log
 
@@ -91,10 +92,10 @@ text_read bytes is =
     let r = log_read (lines (onto bytes [])) is.fine is.ended in
     let past : onto bytes [] ≡ feeds (lines (onto bytes [])) = past_whole (onto bytes []) ∙ ap (λ (l : Line). onto l (feeds (lines (onto bytes [])))) is.whole in
     let same : onto bytes [] ≡ onto (log_text r.log) [] = past ∙ ap feeds r.lines_are ∙ feeds-onto (lines_of r.log) [] ∙ nothing_before (log_text r.log) in
-    record { log = r.log; fits = r.fits; text_is = onto_same bytes (log_text r.log) same; items_are = r.items_are }
+    record { log = r.log; fits = r.fits; lined = r.lined; text_is = onto_same bytes (log_text r.log) same; items_are = r.items_are }
 
 -- the text of a log is one of lines without a fault
-pub text_again : (log : Log) → LogFits log → AllByRecursion HasNoFeed (lines_of log) → IsText (onto (log_text log) []) × (items_of (lines (onto (log_text log) [])) ≡ log_items log)
+pub text_again : (log : Log) → LogFits log → AllByRecursion HasNoFeed (lines_of log) → IsText (onto (log_text log) []) × (items_of (lines (onto (log_text log) [])) ≡ log_items (lined log))
 text_again log fits plain =
     let a = log_again log fits in
     let past : onto (log_text log) [] ≡ feeds (onto (lines_of log) []) = sym (feeds-onto (lines_of log) [] ∙ nothing_before (log_text log)) in

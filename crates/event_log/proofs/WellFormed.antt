@@ -1,6 +1,6 @@
 -- Texts without a fault, and logs.
 use Rattle.std.proofs.Common.{◌≡◌, ℕ, ◌+◌, ◌<◌, ◌≤◌, Bool, true, false, cond, Option, Some, None, List, [], ◌∷◌, ◌++◌, length, refl, sym, ap, subst, ◌∙◌, arith, inl, inr}
-use Rattle.std.specs.Prelude.{◌==◌, nat_lt, nat_le, not, ◌&&◌, slice_index, ◌⊎◌}
+use Rattle.std.specs.Prelude.{◌==◌, nat_lt, nat_le, not, ◌&&◌, ◌⊎◌}
 use Rattle.std.specs.Option.{option_map}
 use Rattle.std.specs.List.{AllByRecursion}
 use Rattle.std.proofs.lemmas.Bool.{cases_Bool, cases_lt, lt-leb, lt-ltb, le-ltb}
@@ -12,10 +12,10 @@ use Rattle.event_log.specs.declared.item.LogCode.TheVariants as code
 use Rattle.event_log.specs.declared.item.LogFault.{LogFault}
 use Rattle.event_log.specs.declared.item.Item.{Item}
 use Rattle.event_log.specs.declared.log.Log.{Log}
-use Rattle.event_log.specs.Before.{Line, is_ended, AreFine, items_of, Told, refuses}
-use Rattle.event_log.specs.LogText.{onto, log_text, log_items}
+use Rattle.event_log.specs.Before.{Line, IsVersion, is_ended, AreFine, items_of, Told, refuses}
+use Rattle.event_log.specs.LogText.{onto, log_text, log_items, lined}
 use Rattle.event_log.specs.Moments.{line_now, lines}
-use Rattle.event_log.specs.Faults.{heading_line, byte_fault, feed_told, moment_told, placed, first_fault, items, end_fault, items_in}
+use Rattle.event_log.specs.Faults.{heading_line, is_heading_byte, byte_fault, feed_told, moment_told, placed, first_fault, items, end_fault, items_in}
 use Rattle.event_log.specs.Laws.{IsLog, IsWellFormed, IsTextOf}
 use Rattle.event_log.proofs.LineSteps.{told-ended}
 use Rattle.event_log.proofs.ReadLaws.{items-next, fine_next}
@@ -43,23 +43,28 @@ fault_free_log bytes h =
     let f = fault_free (onto bytes []) e.0 in
     let r = text_read bytes (record { fine = f.fine; ended = e.1; whole = f.end_now e.1 }) in
     let small : length (log_text r.log) ≤ 67108864 = omega (arith, free_small (onto bytes []) e.0, length-onto bytes [], ap length r.text_is) in
-    (r.log, record { log_is = record { fits = r.fits; small = small }; text_is = r.text_is; items_are = f.items_are ∙ r.items_are })
+    (r.log, record { log_is = record { fits = r.fits; small = small }; lines_are = r.lined; text_is = r.text_is; items_are = f.items_are ∙ r.items_are })
 
 -- ---- the text of a log has no fault
 
 -- the first bytes are those of the heading
 HeadingFine : List ℕ → Type 0
 HeadingFine [] = Unit {0}
-HeadingFine (b ∷ past) = (length past < 11 → (b == slice_index heading_line (length past)) ≡ true) × HeadingFine past
+HeadingFine (b ∷ past) = (length past < 11 → is_heading_byte (length past) b ≡ true) × HeadingFine past
 
 heading_later : (bytes past : List ℕ) → HeadingFine past → 11 ≤ length past → HeadingFine (onto bytes past)
 unfolding HeadingFine
 heading_later [] past fine long = fine
 heading_later (b ∷ bytes) past fine long = heading_later bytes (b ∷ past) (λ short. absurd (omega arith), fine) (omega arith)
 
-heading_fine : (rest : List ℕ) → HeadingFine (onto (heading_line ++ rest) [])
+-- the line of either version
+heading_begins : (n : ℕ) → IsVersion n → HeadingFine (onto (heading_line n) [])
 unfolding HeadingFine
-heading_fine rest = heading_later rest (onto heading_line []) ((λ _. refl), ((λ _. refl), ((λ _. refl), ((λ _. refl), ((λ _. refl), ((λ _. refl), ((λ _. refl), ((λ _. refl), ((λ _. refl), ((λ _. refl), ((λ _. refl), tt))))))))))) (omega arith)
+heading_begins n (inl one) = subst (λ (k : ℕ). HeadingFine (onto (heading_line k) [])) (sym one) ((λ _. refl), ((λ _. refl), ((λ _. refl), ((λ _. refl), ((λ _. refl), ((λ _. refl), ((λ _. refl), ((λ _. refl), ((λ _. refl), ((λ _. refl), ((λ _. refl), tt)))))))))))
+heading_begins n (inr two) = subst (λ (k : ℕ). HeadingFine (onto (heading_line k) [])) (sym two) ((λ _. refl), ((λ _. refl), ((λ _. refl), ((λ _. refl), ((λ _. refl), ((λ _. refl), ((λ _. refl), ((λ _. refl), ((λ _. refl), ((λ _. refl), ((λ _. refl), tt)))))))))))
+
+heading_fine : (n : ℕ) → IsVersion n → (rest : List ℕ) → HeadingFine (onto (heading_line n ++ rest) [])
+heading_fine n versioned rest = heading_later rest (onto (heading_line n) []) (heading_begins n versioned) (omega arith)
 
 -- what a text needs to have no fault, beside what its lines need
 record HasRoom (past : List ℕ) : Type 0 where
@@ -74,10 +79,10 @@ record ReadsFree (past : List ℕ) : Type 0 where
   fault_is : first_fault past ≡ None
   items_are : items past ≡ items_of (lines past)
 
-byte_free : (total width b : ℕ) → total < 67108864 → (total < 11 → (b == slice_index heading_line total) ≡ true) → (b == 10) ≡ true ⊎ (width < 4096) → byte_fault total false width b ≡ None
+byte_free : (total width b : ℕ) → total < 67108864 → (total < 11 → is_heading_byte total b ≡ true) → (b == 10) ≡ true ⊎ (width < 4096) → byte_fault total false width b ≡ None
 unfolding byte_fault
 byte_free total width b room heading narrow =
-    let started : (nat_lt total 11 && not (b == slice_index heading_line total)) ≡ false = elim (cases_lt total 11) [
+    let started : (nat_lt total 11 && not (is_heading_byte total b)) ≡ false = elim (cases_lt total 11) [
       | inl early ↦ rw (lt-ltb total 11 early, heading early) refl
       | inr late ↦ rw (le-ltb total 11 late) refl
     ] in
@@ -180,10 +185,10 @@ reads_free (b ∷ past) r =
     }
 
 -- the text begins with the heading
-text_heading : (log : Log) → (rest : List ℕ) × (log_text log ≡ heading_line ++ rest)
+text_heading : (log : Log) → (rest : List ℕ) × (log_text log ≡ heading_line log.header.version ++ rest)
 text_heading log = (_, refl)
 
-pub log_fault_free : (log : Log) → IsLog log → AllByRecursion (λ (l : Line). length l ≤ 4096) (lines (onto (log_text log) [])) → IsWellFormed (log_text log) × (items_in (log_text log) ≡ log_items log)
+pub log_fault_free : (log : Log) → IsLog log → AllByRecursion (λ (l : Line). length l ≤ 4096) (lines (onto (log_text log) [])) → IsWellFormed (log_text log) × (items_in (log_text log) ≡ log_items (lined log))
 log_fault_free log is narrow =
     let again = text_again log is.fits (log_plain log is.fits) in
     let past = onto (log_text log) [] in
@@ -194,7 +199,7 @@ log_fault_free log is narrow =
       narrow = narrow;
       narrow_now = rw again.0.whole (omega arith);
       small = omega (arith, is.small, length-onto (log_text log) []);
-      heading = subst (λ (bytes : List ℕ). HeadingFine (onto bytes [])) (sym h.1) (heading_fine h.0);
+      heading = subst (λ (bytes : List ℕ). HeadingFine (onto bytes [])) (sym h.1) (heading_fine log.header.version is.fits.header.version h.0);
     } in
     let free = reads_free past room in
     (ap (λ (o : Option LogFault). choose o (λ f. Some f) (cond (is_ended (lines past)) None (Some (placed past code.Truncated)))) free.fault_is ∙ rw again.0.ended refl, free.items_are ∙ again.1)

@@ -16,42 +16,45 @@ use Rattle.event_log.specs.declared.log.Header.{Header}
 use Rattle.event_log.specs.declared.log.Event.{Event}
 use Rattle.event_log.specs.declared.log.Log.{Log}
 use Rattle.event_log.specs.Numbers.{binding_names, event_named}
-use Rattle.event_log.specs.Before.{Line, heading, names, filled, bindings_of, variables, events, is_header_over, is_ended, header_of, Told, gives, refuses, vars_told, event_told, body_told, told, AreFine, items_of}
-use Rattle.event_log.specs.LogText.{name_at, values_of, line_of, vars_lines, header_lines, event_lines, batch_lines, lines_of, event_items, batch_items, log_items, BindingFits, BindingsFit, HeaderFits, EventFits, EventsFit, BatchesFit, event_count, LogFits, onto}
+use Rattle.event_log.specs.Before.{Line, heading_of, IsVersion, version, names, filled, bindings_of, variables, events, is_header_over, is_ended, headed, header_of, Told, gives, refuses, vars_told, event_told, body_told, told, AreFine, items_of}
+use Rattle.event_log.specs.LogText.{name_at, values_of, line_of, vars_lines, header_lines, event_lines, closing_line, batch_lines, lines_of, event_items, batch_items, log_items, BindingFits, BindingsFit, HeaderFits, EventFits, EventsFit, BatchesFit, event_count, LogFits, HasVarLines, lined, onto}
 use Rattle.event_log.proofs.Lists.{onto-append, onto-push, length-onto}
 use Rattle.event_log.proofs.NameLaws.{place_again}
 use Rattle.event_log.proofs.EventLaws.{SameVariables, event_again, line_fits}
 use Rattle.event_log.proofs.NumberSteps.{filled-done}
 use Rattle.event_log.proofs.LineSteps.{told-heading, told-procs, told-vars, told-first, told-body, vars_no_other, body_says, is_end_item, events_after_is}
-use Rattle.event_log.proofs.ReadLaws.{items-next, names-next, variables-added, variables-stay, events-next, ended-next, over_again, over_now, fine_again, bindings_back}
+use Rattle.event_log.proofs.ReadLaws.{version_again, items-next, version-next, names-next, variables-added, variables-stay, events-next, ended-next, over_again, over_now, fine_again, bindings_back}
 use Rattle.event_log.specs.Lines.{events_after}
 use Rattle.event_log.proofs.BodyLaws.{filled_same}
 
 -- ---- the header
 
 -- the header's lines up to those of the processes whose variables are given
-record HeaderReady (procs : List Name) (given : List (List Binding)) (older : List Line) : Type 0 where
+record HeaderReady (n : ℕ) (procs : List Name) (given : List (List Binding)) (older : List Line) : Type 0 where
   fine : AreFine older
   long : 2 ≤ length older
   open_ : is_ended older ≡ false
   over : is_header_over older ≡ false
+  version_is : version older ≡ n
   names_are : names older ≡ procs
   few : length (variables older) ≤ length given
   vars_are : filled (variables older) (length given) ≡ given
   items_are : items_of older ≡ []
   events_are : events older ≡ 0
 
-heading_ready : (procs : List Name) → ProcsFit procs → HeaderReady procs [] (procs_line procs ∷ heading ∷ [])
-unfolding AreFine items_of names variables events is_ended is_header_over
-heading_ready procs fits =
+heading_ready : (n : ℕ) (procs : List Name) → IsVersion n → ProcsFit procs → HeaderReady n procs [] (procs_line procs ∷ heading_of n ∷ [])
+unfolding AreFine items_of version names variables events is_ended is_header_over
+heading_ready n procs versioned fits =
     let read = procs_again procs fits in
-    let first : told [] heading ≡ gives [] = told-heading [] heading refl refl in
-    let second : told (heading ∷ []) (procs_line procs) ≡ gives [] = told-procs (heading ∷ []) (procs_line procs) refl refl ∙ rw read refl in
+    let named = version_again n versioned in
+    let first : told [] (heading_of n) ≡ gives [] = told-heading [] (heading_of n) refl refl ∙ rw named refl in
+    let second : told (heading_of n ∷ []) (procs_line procs) ≡ gives [] = told-procs (heading_of n ∷ []) (procs_line procs) refl refl ∙ rw read refl in
     record {
       fine = (ap (λ (t : Told). t.fault) second, (ap (λ (t : Told). t.fault) first, tt));
       long = omega arith;
       open_ = refl;
       over = refl;
+      version_is = rw named refl;
       names_are = rw read refl;
       few = omega arith;
       vars_are = refl;
@@ -60,8 +63,8 @@ heading_ready procs fits =
     }
 
 -- a process without variables more
-none_ready : (procs : List Name) (given : List (List Binding)) (older : List Line) → HeaderReady procs given older → HeaderReady procs (given ++ [] ∷ []) older
-none_ready procs given older r =
+none_ready : (n : ℕ) (procs : List Name) (given : List (List Binding)) (older : List Line) → HeaderReady n procs given older → HeaderReady n procs (given ++ [] ∷ []) older
+none_ready n procs given older r =
     let len : length (given ++ [] ∷ []) ≡ length given + 1 = length_push given [] in
     let k = length given - length (variables older) in
     let more : length given + 1 - length (variables older) ≡ k + 1 = omega (arith, r.few) in
@@ -72,6 +75,7 @@ none_ready procs given older r =
       long = r.long;
       open_ = r.open_;
       over = r.over;
+      version_is = r.version_is;
       names_are = r.names_are;
       few = omega (arith, r.few, len);
       vars_are = rw len grown;
@@ -95,10 +99,10 @@ vars_fit process b bs name fits = record {
 }
 
 -- one `vars` line more
-vars_ready : (procs : List Name) (given : List (List Binding)) (older : List Line) (process : Name) (b : Binding) (bs : List Binding) → HeaderReady procs given older → place_of procs process ≡ Some (length given) → is_name process ≡ true → BindingsFit (b ∷ bs)
-    → HeaderReady procs (given ++ (b ∷ bs) ∷ []) (vars_line (record { process = process; variables = values_of (b ∷ bs) }) ∷ older)
+vars_ready : (n : ℕ) (procs : List Name) (given : List (List Binding)) (older : List Line) (process : Name) (b : Binding) (bs : List Binding) → HeaderReady n procs given older → place_of procs process ≡ Some (length given) → is_name process ≡ true → BindingsFit (b ∷ bs)
+    → HeaderReady n procs (given ++ (b ∷ bs) ∷ []) (vars_line (record { process = process; variables = values_of (b ∷ bs) }) ∷ older)
 unfolding text_at
-vars_ready procs given older process b bs r place name fits =
+vars_ready n procs given older process b bs r place name fits =
     let v : VarsLine = record { process = process; variables = values_of (b ∷ bs) } in
     let line = vars_line v in
     let read = vars_again v (vars_fit process b bs name fits) in
@@ -115,6 +119,7 @@ vars_ready procs given older process b bs r place name fits =
       long = omega (arith, r.long);
       open_ = ended-next line older r.long r.open_ ∙ no_other.ended;
       over = over_again line older begins r.over;
+      version_is = version-next line older r.long ∙ r.version_is;
       names_are = names-next line older r.long ∙ r.names_are;
       few = omega (arith, ap length added);
       vars_are = rw added (filled-done (given ++ (b ∷ bs) ∷ []) (length (given ++ (b ∷ bs) ∷ [])) (omega arith));
@@ -122,26 +127,26 @@ vars_ready procs given older process b bs r place name fits =
       events_are = events-next line older r.long ∙ ap (λ (x : Bool). cond x (events older + 1) (events older)) no_other.event ∙ r.events_are;
     }
 
-header_ready : (before procs : List Name) (given vars : List (List Binding)) (older : List Line) → length before ≡ length given → length vars ≤ length procs → are_distinct (before ++ procs) ≡ true → AllByRecursion (λ n. is_name n ≡ true) procs → AllByRecursion BindingsFit vars
-    → HeaderReady (before ++ procs) given older → HeaderReady (before ++ procs) (given ++ vars) (onto (vars_lines procs vars) older)
-header_ready before procs given [] older len few distinct names fits r = subst (λ (g : List (List Binding)). HeaderReady (before ++ procs) g older) (sym (append-nil given)) r
-header_ready before [] given (v ∷ vars) older len few distinct names fits r = absurd (omega arith)
-header_ready before (p ∷ procs) given ([] ∷ vars) older len few distinct names fits r =
+header_ready : (n : ℕ) (before procs : List Name) (given vars : List (List Binding)) (older : List Line) → length before ≡ length given → length vars ≤ length procs → are_distinct (before ++ procs) ≡ true → AllByRecursion (λ n. is_name n ≡ true) procs → AllByRecursion BindingsFit vars
+    → HeaderReady n (before ++ procs) given older → HeaderReady n (before ++ procs) (given ++ vars) (onto (vars_lines procs vars) older)
+header_ready n before procs given [] older len few distinct names fits r = subst (λ (g : List (List Binding)). HeaderReady n (before ++ procs) g older) (sym (append-nil given)) r
+header_ready n before [] given (v ∷ vars) older len few distinct names fits r = absurd (omega arith)
+header_ready n before (p ∷ procs) given ([] ∷ vars) older len few distinct names fits r =
     let all : (before ++ p ∷ []) ++ procs ≡ before ++ p ∷ procs = append_assoc before (p ∷ []) procs in
     let longer : length (before ++ p ∷ []) ≡ length (given ++ [] ∷ []) = omega (arith, len, length_push before p, length_push given (let none : List Binding = [] in none)) in
-    let here = none_ready (before ++ p ∷ procs) given older r in
-    let rest = header_ready (before ++ p ∷ []) procs (given ++ [] ∷ []) vars older longer (omega arith) (subst (λ (ns : List Name). are_distinct ns ≡ true) (sym all) distinct) names.1 fits.1 (subst (λ (ns : List Name). HeaderReady ns (given ++ [] ∷ []) older) (sym all) here) in
-    subst (λ (ns : List Name). HeaderReady ns (given ++ [] ∷ vars) (onto (vars_lines procs vars) older)) all (subst (λ (g : List (List Binding)). HeaderReady ((before ++ p ∷ []) ++ procs) g (onto (vars_lines procs vars) older)) (append_assoc given ([] ∷ []) vars) rest)
-header_ready before (p ∷ procs) given ((b ∷ bs) ∷ vars) older len few distinct names fits r =
+    let here = none_ready n (before ++ p ∷ procs) given older r in
+    let rest = header_ready n (before ++ p ∷ []) procs (given ++ [] ∷ []) vars older longer (omega arith) (subst (λ (ns : List Name). are_distinct ns ≡ true) (sym all) distinct) names.1 fits.1 (subst (λ (ns : List Name). HeaderReady n ns (given ++ [] ∷ []) older) (sym all) here) in
+    subst (λ (ns : List Name). HeaderReady n ns (given ++ [] ∷ vars) (onto (vars_lines procs vars) older)) all (subst (λ (g : List (List Binding)). HeaderReady n ((before ++ p ∷ []) ++ procs) g (onto (vars_lines procs vars) older)) (append_assoc given ([] ∷ []) vars) rest)
+header_ready n before (p ∷ procs) given ((b ∷ bs) ∷ vars) older len few distinct names fits r =
     let all : (before ++ p ∷ []) ++ procs ≡ before ++ p ∷ procs = append_assoc before (p ∷ []) procs in
     let longer : length (before ++ p ∷ []) ≡ length (given ++ (b ∷ bs) ∷ []) = omega (arith, len, length_push before p, length_push given (b ∷ bs)) in
     let at : name_at (before ++ p ∷ procs) (length given) ≡ p = get_or_at before p procs [] (length given) len in
     let within : length given < length (before ++ p ∷ procs) = omega (arith, len, length-append before (p ∷ procs)) in
     let place : place_of (before ++ p ∷ procs) p ≡ Some (length given) = ap (place_of (before ++ p ∷ procs)) (sym at) ∙ place_again (before ++ p ∷ procs) (length given) distinct within in
-    let here = vars_ready (before ++ p ∷ procs) given older p b bs r place names.0 fits.0 in
+    let here = vars_ready n (before ++ p ∷ procs) given older p b bs r place names.0 fits.0 in
     let line = vars_line (record { process = p; variables = values_of (b ∷ bs) }) in
-    let rest = header_ready (before ++ p ∷ []) procs (given ++ (b ∷ bs) ∷ []) vars (line ∷ older) longer (omega arith) (subst (λ (ns : List Name). are_distinct ns ≡ true) (sym all) distinct) names.1 fits.1 (subst (λ (ns : List Name). HeaderReady ns (given ++ (b ∷ bs) ∷ []) (line ∷ older)) (sym all) here) in
-    subst (λ (ns : List Name). HeaderReady ns (given ++ (b ∷ bs) ∷ vars) (onto (vars_lines procs vars) (line ∷ older))) all (subst (λ (g : List (List Binding)). HeaderReady ((before ++ p ∷ []) ++ procs) g (onto (vars_lines procs vars) (line ∷ older))) (append_assoc given ((b ∷ bs) ∷ []) vars) rest)
+    let rest = header_ready n (before ++ p ∷ []) procs (given ++ (b ∷ bs) ∷ []) vars (line ∷ older) longer (omega arith) (subst (λ (ns : List Name). are_distinct ns ≡ true) (sym all) distinct) names.1 fits.1 (subst (λ (ns : List Name). HeaderReady n ns (given ++ (b ∷ bs) ∷ []) (line ∷ older)) (sym all) here) in
+    subst (λ (ns : List Name). HeaderReady n ns (given ++ (b ∷ bs) ∷ vars) (onto (vars_lines procs vars) (line ∷ older))) all (subst (λ (g : List (List Binding)). HeaderReady n ((before ++ p ∷ []) ++ procs) g (onto (vars_lines procs vars) (line ∷ older))) (append_assoc given ((b ∷ bs) ∷ []) vars) rest)
 
 -- ---- behind the header
 
@@ -154,13 +159,14 @@ record BodyReady (h : Header) (count : ℕ) (given : List Item) (older : List Li
   fine : AreFine older
   long : 2 ≤ length older
   open_ : is_ended older ≡ false
+  version_is : version older ≡ h.version
   procs_are : names older ≡ h.procs
   same : SameVariables h.vars (variables older)
   header_is : header_of older ≡ h
   items_are : items_of older ++ header_left older ≡ item.Header h ∷ given
   events_are : events older ≡ count
 
-told_behind : (line : Line) (older : List Line) → is_ended older ≡ false → 2 ≤ length older → begins_vars line ≡ false → (body : Told) → body_told (names older) (variables older) (length older + 1) (events older) line ≡ body
+told_behind : (line : Line) (older : List Line) → is_ended older ≡ false → 2 ≤ length older → begins_vars line ≡ false → (body : Told) → body_told (version older) (names older) (variables older) (length older + 1) (events older) line ≡ body
     → told older line ≡ record { items = header_left older ++ body.items; fault = body.fault }
 told_behind line older open_ long begins body e = elim (cases_Bool (is_header_over older)) [
   | inl over ↦ told-body older line open_ long over ∙ e ∙ rw over refl
@@ -175,7 +181,7 @@ behind line older begins = rw begins (or_true (is_header_over older))
     or_true false = refl
 
 module _ (h : Header) (count : ℕ) (given : List Item) (older : List Line) (r : BodyReady h count given older) (line : Line) (i : Item) (begins : begins_vars line ≡ false)
-    (gave : body_told (names older) (variables older) (length older + 1) (events older) line ≡ gives (i ∷ [])) where
+    (gave : body_told (version older) (names older) (variables older) (length older + 1) (events older) line ≡ gives (i ∷ [])) where
   value : told older line ≡ record { items = header_left older ++ i ∷ []; fault = None }
   value = told_behind line older r.open_ r.long begins (gives (i ∷ [])) gave
 
@@ -187,17 +193,19 @@ module _ (h : Header) (count : ℕ) (given : List Item) (older : List Line) (r :
 
   line_ready : is_end_item i ≡ false → BodyReady h (events_after i count) (given ++ i ∷ []) (line ∷ older)
   line_ready not_end =
-      let says = body_says (names older) (variables older) (length older + 1) (events older) line i gave in
+      let says = body_says (version older) (names older) (variables older) (length older + 1) (events older) line i gave in
       let stays : variables (line ∷ older) ≡ variables older = variables-stay line older r.long (behind line older begins) in
+      let versioned : version (line ∷ older) ≡ version older = version-next line older r.long in
       let named : names (line ∷ older) ≡ names older = names-next line older r.long in
       let over : is_header_over (line ∷ older) ≡ true = over_now line older r.long begins in
       record {
         fine = still_fine;
         long = omega (arith, r.long);
         open_ = ended-next line older r.long r.open_ ∙ says.ended ∙ not_end;
+        version_is = versioned ∙ r.version_is;
         procs_are = named ∙ r.procs_are;
         same = rw stays r.same;
-        header_is = rw (named, stays) r.header_is;
+        header_is = rw (versioned, named, stays) r.header_is;
         items_are = rw over (append-nil (items_of (line ∷ older)) ∙ items_more);
         events_are = events-next line older r.long ∙ events_after_is line i (events older) says.event ∙ ap (events_after i) r.events_are;
       }
@@ -210,8 +218,8 @@ event_ready h count given older e header r fits at few =
     let line = event_line (line_of h e) in
     let read : event_in line ≡ Some (line_of h e) = line_again (line_of h e) (line_fits h e header fits) in
     let few_now : events older < 50000 = omega (arith, r.events_are, few) in
-    let judged : event_named (names older) (variables older) (length older + 1) (events older) (line_of h e) ≡ Ok e = rw (r.procs_are, ← at) (event_again h (variables older) (events older) e header r.same fits few_now) in
-    let gave : body_told (names older) (variables older) (length older + 1) (events older) line ≡ gives (item.Event e ∷ []) = ap (λ (o : Option EventLine). choose o (λ d. event_told (event_named (names older) (variables older) (length older + 1) (events older) d)) (refuses code.BadLine)) read ∙ ap event_told judged in
+    let judged : event_named (version older) (names older) (variables older) (length older + 1) (events older) (line_of h e) ≡ Ok e = rw (r.version_is, r.procs_are, ← at) (event_again h (variables older) (events older) e header r.same fits few_now) in
+    let gave : body_told (version older) (names older) (variables older) (length older + 1) (events older) line ≡ gives (item.Event e ∷ []) = ap (λ (o : Option EventLine). choose o (λ d. event_told (event_named (version older) (names older) (variables older) (length older + 1) (events older) d)) (refuses code.BadLine)) read ∙ ap event_told judged in
     line_ready h count given older r line (item.Event e) refl gave refl
 
 events_ready : (h : Header) (count : ℕ) (given : List Item) (older : List Line) (es : List Event) → HeaderFits h → BodyReady h count given older → EventsFit h (length older + 1) es → count + length es ≤ 50000
@@ -263,14 +271,15 @@ batches_ready h count given older b (c ∷ rest) header r fits few =
     (subst (λ (xs : List Item). AreLinesOf (item.Header h ∷ xs) (onto (batch_lines h (c ∷ rest)) (batch_line ∷ onto (event_lines h b) older))) items others)
 
 -- the header's lines are before those of the body
-body_begins : (h : Header) (older : List Line) → length h.vars ≡ length h.procs → HeaderReady h.procs h.vars older → BodyReady h 0 [] older
-body_begins h older all r =
+body_begins : (h : Header) (older : List Line) → HasVarLines h → length h.vars ≡ length h.procs → HeaderReady h.version h.procs h.vars older → BodyReady h 0 [] older
+body_begins h older lined all r =
     let filled_is : filled (variables older) (length (names older)) ≡ h.vars = rw (r.names_are, ← all) r.vars_are in
-    let header_is : header_of older ≡ h = rw (r.names_are, ← all, r.vars_are) refl in
+    let header_is : header_of older ≡ h = rw (r.version_is, r.names_are, ← all, r.vars_are, ← lined) refl in
     record {
       fine = r.fine;
       long = r.long;
       open_ = r.open_;
+      version_is = r.version_is;
       procs_are = r.names_are;
       same = rw (← filled_is) (filled_same (variables older) (length (names older)));
       header_is = header_is;
@@ -278,20 +287,20 @@ body_begins h older all r =
       events_are = r.events_are;
     }
 
-pub log_again : (log : Log) → LogFits log → AreLinesOf (log_items log) (onto (lines_of log) [])
-log_again log fits = go log.batches refl
+lined_again : (log : Log) → HasVarLines log.header → LogFits log → AreLinesOf (log_items log) (onto (lines_of log) [])
+lined_again log lined fits = go log.batches refl
   where
     h : Header
     h = log.header
 
     start : List Line
-    start = onto (vars_lines h.procs h.vars) (procs_line h.procs ∷ heading ∷ [])
+    start = onto (vars_lines h.procs h.vars) (procs_line h.procs ∷ heading_of h.version ∷ [])
 
     ready : BodyReady h 0 [] start
-    ready = body_begins h start fits.header.all (header_ready [] h.procs [] h.vars (procs_line h.procs ∷ heading ∷ []) refl (omega (arith, fits.header.all)) fits.header.procs.distinct fits.header.procs.each fits.header.vars (heading_ready h.procs fits.header.procs))
+    ready = body_begins h start lined fits.header.all (header_ready h.version [] h.procs [] h.vars (procs_line h.procs ∷ heading_of h.version ∷ []) refl (omega (arith, fits.header.all)) fits.header.procs.distinct fits.header.procs.each fits.header.vars (heading_ready h.version h.procs fits.header.version fits.header.procs))
 
     at : length (header_lines h) + 1 ≡ length start + 1
-    at = omega (arith, length-onto (vars_lines h.procs h.vars) (procs_line h.procs ∷ heading ∷ []))
+    at = omega (arith, length-onto (vars_lines h.procs h.vars) (procs_line h.procs ∷ heading_of h.version ∷ []))
 
     go : (bs : List (List Event)) → log.batches ≡ bs → AreLinesOf (log_items log) (onto (lines_of log) [])
     go [] e = absurd (omega (arith, fits.some, ap length e))
@@ -301,3 +310,34 @@ log_again log fits = go log.batches refl
         let read = batches_ready h 0 [] start b rest fits.header ready (subst (λ (n : ℕ). BatchesFit h n (b ∷ rest)) at fit) (omega (arith, few)) in
         subst (λ (ls : List Line). AreLinesOf (log_items log) ls) (sym (onto-append (header_lines h) (batch_lines h log.batches) []))
         (subst (λ (bs : List (List Event)). AreLinesOf (item.Header h ∷ batch_items bs) (onto (batch_lines h bs) start)) (sym e) read)
+
+-- the lines of the header have no part in what is spelled, nor in what fits
+module _ (h : Header) where
+  batches_spelled : (bs : List (List Event)) → batch_lines (headed h.version h.procs h.vars) bs ≡ batch_lines h bs
+  batches_spelled [] = refl
+  batches_spelled (b ∷ rest) = ap (λ (ls : List Line). event_lines h b ++ closing_line rest ∷ ls) (batches_spelled rest)
+
+  event_fits : (e : Event) → EventFits h e → EventFits (headed h.version h.procs h.vars) e
+  event_fits e fits = record { process = fits.process; width = fits.width; clock = fits.clock; kind = fits.kind; few = fits.few; assigns = fits.assigns; distinct = fits.distinct }
+
+  events_fit : (line : ℕ) (es : List Event) → EventsFit h line es → EventsFit (headed h.version h.procs h.vars) line es
+  events_fit line [] fits = tt
+  events_fit line (e ∷ es) fits = ((event_fits e fits.0.0, fits.0.1), events_fit (line + 1) es fits.1)
+
+  batches_fit : (line : ℕ) (bs : List (List Event)) → BatchesFit h line bs → BatchesFit (headed h.version h.procs h.vars) line bs
+  batches_fit line [] fits = tt
+  batches_fit line (b ∷ rest) fits = (events_fit line b fits.0, batches_fit (line + length b + 1) rest fits.1)
+
+lined_fits : (log : Log) → LogFits log → LogFits (lined log)
+lined_fits log fits = record {
+  header = record { version = fits.header.version; procs = fits.header.procs; all = fits.header.all; vars = fits.header.vars };
+  some = fits.some;
+  batches = batches_fit log.header (length (header_lines log.header) + 1) log.batches fits.batches;
+  few = fits.few;
+}
+
+lined_lines : (log : Log) → lines_of (lined log) ≡ lines_of log
+lined_lines log = ap (λ (ls : List Line). header_lines log.header ++ ls) (batches_spelled log.header log.batches)
+
+pub log_again : (log : Log) → LogFits log → AreLinesOf (log_items (lined log)) (onto (lines_of log) [])
+log_again log fits = subst (λ (ls : List Line). AreLinesOf (log_items (lined log)) (onto ls [])) (lined_lines log) (lined_again (lined log) refl (lined_fits log fits))

@@ -1,7 +1,7 @@
 -- What the lines before a line say, and what a line gives after them. The lines are without their
 -- line feeds, the newest first.
-use Rattle.std.specs.Prelude.{◌≡◌, ℕ, ◌+◌, ◌-◌, Bool, true, false, not, ◌&&◌, ◌||◌, ◌==◌, nat_le}
-use Rattle.std.specs.Prelude.{List, [], ◌∷◌, ◌++◌, length, map, replicate, Option, None, Some}
+use Rattle.std.specs.Prelude.{◌≡◌, ◌⊎◌, ℕ, ◌+◌, ◌-◌, Bool, true, false, not, ◌&&◌, ◌||◌, ◌==◌}
+use Rattle.std.specs.Prelude.{nat_le, List, [], ◌∷◌, ◌++◌, length, map, replicate, Option, None, Some}
 use Rattle.std.specs.Prelude.{is_some, unwrap_or, Result, Ok, Err, if◌then◌else◌}
 use Rattle.std.specs.Str.{bytes_eq}
 use Rattle.log_lines.specs.Names.{Name, place_of}
@@ -22,11 +22,28 @@ Line = List ℕ
 abbrev pub Lines : Type 0
 Lines = List Line
 
--- `pota-log 1`
-abbrev pub heading : Line
-heading = 112 ∷ 111 ∷ 116 ∷ 97 ∷ 45 ∷ 108 ∷ 111 ∷ 103 ∷ 32 ∷ 49 ∷ []
+-- `pota-log 1` or `pota-log 2`: 48 is the byte of the digit 0
+abbrev pub heading_of : ℕ → Line
+heading_of version =
+    112 ∷ 111 ∷ 116 ∷ 97 ∷ 45 ∷ 108 ∷ 111 ∷ 103 ∷ 32 ∷ (48 + version) ∷ []
+
+-- there are two versions
+abbrev pub IsVersion : ℕ → Type 0
+IsVersion version = (version ≡ 1) ⊎ (version ≡ 2)
+
+-- the version that a first line names
+abbrev pub version_in : Line → Option ℕ
+version_in line =
+    if bytes_eq line (heading_of 1) then Some 1
+    else if bytes_eq line (heading_of 2) then Some 2 else None
 
 -- ---- looking back
+
+-- the version of the first line
+unfoldable pub version : List Line → ℕ
+version [] = 1
+version (line ∷ older) =
+    if length older == 0 then unwrap_or (version_in line) 1 else version older
 
 -- the names of the second line
 unfoldable pub names : List Line → List Name
@@ -65,10 +82,29 @@ variables (line ∷ older) =
     then variables_after (names older) (variables older) line
     else variables older
 
+-- the lines that spell these variables, from this one on, and 0 for a process without variables
+abbrev pub lines_from : ℕ → List (List Binding) → List ℕ
+lines_from line [] = []
+lines_from line ([] ∷ others) = 0 ∷ lines_from line others
+lines_from line ((b ∷ bindings) ∷ others) = line ∷ lines_from (line + 1) others
+
+-- the `vars` lines stand right behind the second line
+abbrev pub var_lines_of : List (List Binding) → List ℕ
+var_lines_of variables = lines_from 3 variables
+
+-- the header of this version, these processes and variables, with the lines that spell them
+abbrev pub headed : ℕ → List Name → List (List Binding) → Header
+headed version procs variables = record {
+  version = version;
+  procs = procs;
+  vars = variables;
+  var_lines = var_lines_of variables;
+}
+
 -- the header that the lines spell
 abbrev pub header_of : List Line → Header
 header_of older =
-    record { procs = names older; vars = filled (variables older) (length (names older)) }
+    headed (version older) (names older) (filled (variables older) (length (names older)))
 
 -- whether the line begins with `ev`
 abbrev pub begins_event : Line → Bool
@@ -103,7 +139,7 @@ requires fault true = gives []
 requires fault false = refuses fault
 
 abbrev pub heading_told : Line → Told
-heading_told line = requires code.BadHeader (bytes_eq line heading)
+heading_told line = requires code.BadHeader (is_some (version_in line))
 
 abbrev pub procs_told : Line → Told
 procs_told line = requires code.BadProcs (is_some (procs_in line))
@@ -123,11 +159,12 @@ event_told (Ok e) = gives (item.Event e ∷ [])
 event_told (Err fault) = refuses fault
 
 -- an event, `batch` or `end`, on the line of this number and after so many events
-abbrev pub body_told : List Name → List (List Binding) → ℕ → ℕ → Line → Told
-body_told procs variables number events line =
+abbrev pub body_told : ℕ → List Name → List (List Binding) → ℕ → ℕ → Line → Told
+body_told version procs variables number events line =
     if bytes_eq line batch_line then gives (item.BatchEnd ∷ [])
     else if bytes_eq line end_line then gives (item.End ∷ [])
-    else choose (event_in line) (λ e. event_told (event_named procs variables number events e))
+    else choose (event_in line)
+    (λ e. event_told (event_named version procs variables number events e))
     (refuses code.BadLine)
 
 -- the first line behind the header gives the header too, whatever is wrong with the line
@@ -143,7 +180,8 @@ told older line =
     else if length older == 1 then procs_told line
     else if is_header_over older || not (begins_vars line)
     then with_header older
-    (body_told (names older) (variables older) (length older + 1) (events older) line)
+    (body_told (version older) (names older) (variables older) (length older + 1) (events older)
+    line)
     else vars_told (names older) (variables older) line
 
 -- ---- lines without a fault

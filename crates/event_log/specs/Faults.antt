@@ -1,7 +1,8 @@
 -- The first fault of a text and the items that it gives, looked up over all its bytes. Each byte is
 -- a moment, and the bytes before it, the newest first, are its past.
-use Rattle.std.specs.Prelude.{◌≡◌, ℕ, ◌+◌, Bool, not, ◌&&◌, ◌==◌, nat_lt, nat_le, List, [], ◌∷◌}
-use Rattle.std.specs.Prelude.{◌++◌, length, slice_index, Option, None, Some, is_some, if◌then◌else◌}
+use Rattle.std.specs.Prelude.{◌≡◌, ℕ, ◌+◌, Bool, not, ◌&&◌, ◌||◌, ◌==◌, nat_lt, nat_le, List, []}
+use Rattle.std.specs.Prelude.{◌∷◌, ◌++◌, length, slice_index, Option, None, Some, is_some}
+use Rattle.std.specs.Prelude.{if◌then◌else◌}
 use Rattle.std.specs.Option.{option_map}
 use Rattle.log_lines.specs.Reading.{choose}
 use Rattle.event_log.specs.declared.item.LogCode.{LogCode}
@@ -9,20 +10,26 @@ use Rattle.event_log.specs.declared.item.LogCode.TheVariants as code
 use Rattle.event_log.specs.declared.item.LogFault.{LogFault}
 use Rattle.event_log.specs.declared.item.Item.{Item}
 use Rattle.event_log.specs.declared.item.Fed.{Fed}
-use Rattle.event_log.specs.Before.{heading, is_ended, Told, gives, refuses, told}
+use Rattle.event_log.specs.Before.{heading_of, is_ended, Told, gives, refuses, told}
 use Rattle.event_log.specs.LogText.{onto}
 use Rattle.event_log.specs.Moments.{line_now, lines}
 
--- `pota-log 1` with its line feed
-abbrev pub heading_line : List ℕ
-heading_line = heading ++ 10 ∷ []
+-- the first line of a version, with its line feed
+abbrev pub heading_line : ℕ → List ℕ
+heading_line version = heading_of version ++ 10 ∷ []
+
+-- Whether the byte may stand at this place of the first line. The first lines of both versions
+-- differ in one place alone, so that what such bytes make begins one of them.
+abbrev pub is_heading_byte : ℕ → ℕ → Bool
+is_heading_byte place b =
+    b == slice_index (heading_line 1) place || b == slice_index (heading_line 2) place
 
 -- The fault at a byte, by the number of bytes before it, whether the `end` line was completed, and
 -- the bytes of its line before it: the first that is there.
 unfoldable pub byte_fault : ℕ → Bool → ℕ → ℕ → Option LogCode
 byte_fault total ended width b =
     if nat_le 67108864 total then Some code.LogTooLong
-    else if nat_lt total 11 && not (b == slice_index heading_line total) then Some code.BadHeader
+    else if nat_lt total 11 && not (is_heading_byte total b) then Some code.BadHeader
     else if ended then Some code.Trailing
     else if nat_le 4096 width && not (b == 10) then Some code.LineTooLong
     else None

@@ -8,4 +8,5 @@ pub mod Faults
 pub mod Feeding
 pub mod Reader
 pub mod Laws
+pub mod NotedLines
 pub mod FittingItems

@@ -15,8 +15,8 @@ use Rattle.event_log.specs.declared.line_reader.LineReader.{LineReader}
 use Rattle.event_log.specs.declared.line_reader.LineTold.{LineTold}
 use Rattle.event_log.specs.declared.line_reader.Stage.{Stage}
 use Rattle.event_log.specs.declared.line_reader.Stage.TheVariants as stage
-use Rattle.event_log.specs.Before.{Line, names, variables, variables_after, events, is_header_over}
-use Rattle.event_log.specs.Before.{is_ended, Told, gives, refuses, told}
+use Rattle.event_log.specs.Before.{Line, version_in, version, names, variables, variables_after}
+use Rattle.event_log.specs.Before.{events, is_header_over, is_ended, Told, gives, refuses, told}
 
 -- what was read, and this fault where it was malformed
 abbrev pub RefusedAs : {A : Type 0} → Result A LineError → LogCode → Result A (Refused LogCode)
@@ -52,6 +52,7 @@ StageIs stage.Ended older = is_ended older ≡ true
 -- the reader has read these lines, the newest first
 pub record HasReadLines (r : LineReader) (older : List Line) : Type 0 where
   pub lines_are : r.lines ≡ length older
+  pub version_is : r.version ≡ version older
   pub procs_are : r.procs ≡ names older
   pub variables_are : r.variables ≡ variables older
   pub events_are : r.events ≡ events older
@@ -69,9 +70,10 @@ stage_after (item.Header h) = stage.Body
 stage_after item.BatchEnd = stage.Body
 stage_after item.End = stage.Ended
 
--- one line more, and nothing else
-pub record CountsLine (old new : LineReader) : Type 0 where
+-- the first line more
+pub record TakesHeading (old new : LineReader) (line : Line) : Type 0 where
   pub lines_are : new.lines ≡ old.lines + 1
+  pub version_is : new.version ≡ unwrap_or (version_in line) 1
   pub procs_are : new.procs ≡ old.procs
   pub variables_are : new.variables ≡ old.variables
   pub events_are : new.events ≡ old.events
@@ -80,6 +82,7 @@ pub record CountsLine (old new : LineReader) : Type 0 where
 -- one `procs` line more
 pub record TakesProcs (old new : LineReader) (line : Line) : Type 0 where
   pub lines_are : new.lines ≡ old.lines + 1
+  pub version_is : new.version ≡ old.version
   pub procs_are : new.procs ≡ unwrap_or (procs_in line) []
   pub variables_are : new.variables ≡ old.variables
   pub events_are : new.events ≡ old.events
@@ -88,6 +91,7 @@ pub record TakesProcs (old new : LineReader) (line : Line) : Type 0 where
 -- one `vars` line more
 pub record TakesVars (old new : LineReader) (line : Line) : Type 0 where
   pub lines_are : new.lines ≡ old.lines + 1
+  pub version_is : new.version ≡ old.version
   pub procs_are : new.procs ≡ old.procs
   pub variables_are : new.variables ≡ variables_after old.procs old.variables line
   pub events_are : new.events ≡ old.events
@@ -96,6 +100,7 @@ pub record TakesVars (old new : LineReader) (line : Line) : Type 0 where
 -- one line more, which gave this item
 pub record Passes (old new : LineReader) (i : Item) : Type 0 where
   pub lines_are : new.lines ≡ old.lines + 1
+  pub version_is : new.version ≡ old.version
   pub procs_are : new.procs ≡ old.procs
   pub variables_are : new.variables ≡ old.variables
   pub events_are : new.events ≡ events_after i old.events

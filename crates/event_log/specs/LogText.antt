@@ -1,6 +1,6 @@
 -- The grammar of a log: which logs have a text, the one text of each, and what reading it gives.
-use Rattle.std.specs.Prelude.{◌≡◌, ◌≢◌, ℕ, ◌+◌, ◌^◌, ◌<◌, ◌≤◌, true, List, [], ◌∷◌, ◌++◌, length}
-use Rattle.std.specs.Prelude.{map, slice_index_or, FitsSigned}
+use Rattle.std.specs.Prelude.{◌≡◌, ◌≢◌, ◌⊎◌, ℕ, ◌+◌, ◌^◌, ◌<◌, ◌≤◌, true, List, [], ◌∷◌, ◌++◌}
+use Rattle.std.specs.Prelude.{length, map, slice_index_or, FitsSigned}
 use Rattle.std.specs.Int.{w64}
 use Rattle.std.specs.List.{AllByRecursion}
 use Rattle.log_lines.specs.Names.{Name, is_name, are_distinct}
@@ -17,7 +17,7 @@ use Rattle.event_log.specs.declared.log.Assign.{Assign}
 use Rattle.event_log.specs.declared.log.Event.{Event}
 use Rattle.event_log.specs.declared.log.Log.{Log}
 use Rattle.event_log.specs.Numbers.{binding_names, variables_at}
-use Rattle.event_log.specs.Before.{Line, heading}
+use Rattle.event_log.specs.Before.{Line, heading_of, IsVersion, var_lines_of, headed}
 
 -- ---- the lines
 
@@ -58,7 +58,7 @@ vars_lines (p ∷ procs) ((b ∷ bindings) ∷ others) =
     ∷ vars_lines procs others
 
 abbrev pub header_lines : Header → List Line
-header_lines h = heading ∷ procs_line h.procs ∷ vars_lines h.procs h.vars
+header_lines h = heading_of h.version ∷ procs_line h.procs ∷ vars_lines h.procs h.vars
 
 abbrev pub event_lines : Header → List Event → List Line
 event_lines h es = map (λ (e : Event). event_line (line_of h e)) es
@@ -113,6 +113,7 @@ pub record BindingsFit (bindings : List Binding) : Type 0 where
 
 -- 1 to 32 processes, each with a list of its variables
 pub record HeaderFits (h : Header) : Type 0 where
+  pub version : IsVersion h.version
   pub procs : ProcsFit h.procs
   pub all : length h.vars ≡ length h.procs
   pub vars : AllByRecursion BindingsFit h.vars
@@ -134,10 +135,14 @@ pub record AssignFits (variables : List Binding) (a : Assign) : Type 0 where
   pub variable : a.variable < length variables
   pub value : FitsSigned w64 a.value
 
+-- a clock has a count for each process; in version 2 it may be left out
+abbrev pub ClockStands : ℕ → ℕ → List ℕ → Type 0
+ClockStands version procs clock = (length clock ≡ procs) ⊎ ((version ≡ 2) × (clock ≡ []))
+
 -- at most 16 assignments to variables of the process, each one once
 pub record EventFits (h : Header) (e : Event) : Type 0 where
   pub process : e.process < length h.procs
-  pub width : length e.clock ≡ length h.procs
+  pub width : ClockStands h.version (length h.procs) e.clock
   pub clock : AllByRecursion (λ n. n < 2 ^ 32) e.clock
   pub kind : KindFits (length h.procs) e.process e.kind
   pub few : length e.assigns ≤ 16
@@ -163,6 +168,19 @@ pub record LogFits (log : Log) : Type 0 where
   pub some : 0 < length log.batches
   pub batches : BatchesFit log.header (length (header_lines log.header) + 1) log.batches
   pub few : event_count log.batches ≤ 50000
+
+-- ---- the lines of the header
+
+-- the header says on which lines of the text the variables of its processes stand
+abbrev pub HasVarLines : Header → Type 0
+HasVarLines h = h.var_lines ≡ var_lines_of h.vars
+
+-- the log with these lines
+abbrev pub lined : Log → Log
+lined log = record {
+  header = headed log.header.version log.header.procs log.header.vars;
+  batches = log.batches;
+}
 
 -- ---- lists turned round
 

@@ -1,6 +1,7 @@
 -- The names of an event line as numbers, with the first thing that is wrong with them.
-use Rattle.std.specs.Prelude.{◌≡◌, ℕ, Bool, true, false, not, ◌==◌, nat_lt, List, [], ◌∷◌, ◌++◌}
-use Rattle.std.specs.Prelude.{length, map, slice_index_or, Option, None, Some, Result, Ok, Err}
+use Rattle.std.specs.Prelude.{◌≡◌, ℕ, Bool, true, false, not, ◌||◌, ◌==◌, nat_lt, List, [], ◌∷◌}
+use Rattle.std.specs.Prelude.{◌++◌, length, map, slice_index_or, Option, None, Some, Result, Ok}
+use Rattle.std.specs.Prelude.{Err}
 use Rattle.pota_base.specs.declared.fault.Refused.{Refused}
 use Rattle.pota_base.specs.declared.fault.Refused.TheVariants as refused
 use Rattle.log_lines.specs.Names.{Name, place_of}
@@ -61,19 +62,28 @@ assigns_in variables front [] = Ok front
 assigns_in variables front (v ∷ vs) =
     assign_in variables v >>= λ a. assigns_in variables (front ++ a ∷ []) vs
 
+-- a clock may be left out in version 2 alone
+abbrev pub may_stand : ℕ → List ℕ → Bool
+may_stand version clock = not (length clock == 0) || version == 2
+
+-- a clock that isn't left out has a count for each process
+abbrev pub has_width : ℕ → List ℕ → Bool
+has_width procs clock = length clock == procs || length clock == 0
+
 -- The event of this line, after so many events of the log. The acting process is looked up first,
 -- then the peer of a message.
-unfoldable pub event_named : List Name → List (List Binding) → ℕ → ℕ → EventLine
+unfoldable pub event_named : ℕ → List Name → List (List Binding) → ℕ → ℕ → EventLine
     → Result Event LogCode
-event_named procs variables line events e =
-    known code.UnknownProcess (place_of procs e.actor) >>= λ process.
+event_named version procs variables line events e =
+    guarded code.BadLine (may_stand version e.clock)
+    (known code.UnknownProcess (place_of procs e.actor) >>= λ process.
     kind_in procs e.action >>= λ kind.
-    guarded code.ClockWidth (length e.clock == length procs)
+    guarded code.ClockWidth (has_width (length procs) e.clock)
     (guarded code.SelfMessage (not (is_to_itself process kind))
     (assigns_in (binding_names (variables_at variables process)) [] e.assigns >>= λ assigns.
     guarded code.TooManyEvents (nat_lt events 50000)
     (Ok (record { process = process; line = line; clock = e.clock; kind = kind; assigns = assigns }
-    ))))
+    )))))
 
 -- what a function that may run out of memory returned is this
 abbrev pub Agrees : {A : Type 0} → Result A (Refused LogCode) → Result A LogCode → Type 0

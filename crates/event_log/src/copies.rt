@@ -1,9 +1,9 @@
 //! Copies of the parts of a header, in memory of their own.
 
-ghost use Rattle.std.specs.Prelude.{◌≡◌, true, All, IfOk};
+ghost use Rattle.std.specs.Prelude.{◌≡◌, ◌≤◌, true, length, All, IfOk};
 ghost use Rattle.pota_names.specs.Names.{is_name};
 ghost use Rattle.log_lines.specs.Drafts.{texts_of, values_of};
-ghost use Rattle.event_log.specs.Before.{filled, bindings_of};
+ghost use Rattle.event_log.specs.Before.{filled, bindings_of, var_lines_of};
 
 use crate::log::Binding;
 use log_lines::Setting;
@@ -63,6 +63,25 @@ pub fn filled(
         variables.push(List::new(alloc))?;
     }
     Ok(variables)
+}
+
+/// The lines of a log that spell these variables: those right behind its second line. A process
+/// without variables has 0.
+pub fn var_lines_of(alloc: Global, variables: &[List<Binding>]) -> Result<List<u32>, NoMemory>
+    requires { length variables.now ≤ 32 }
+    ensures { IfOk result (λ lines. lines ≡ var_lines_of variables.now) }
+{
+    let mut lines = List::new(alloc);
+    let mut next = 3;
+    for bindings in variables {
+        if bindings.is_empty() {
+            lines.push(0)?;
+        } else {
+            lines.push(next)?;
+            next += 1;
+        }
+    }
+    Ok(lines)
 }
 
 /// The variables with their opening values, each with a name of its own.

@@ -4,7 +4,7 @@ ghost use Rattle.std.specs.Prelude.{◌≡◌, ◌+◌, ◌^◌, ◌<◌, ◌≤
 ghost use Rattle.std.specs.Prelude.{IfOk, OnOk, IsTrue};
 ghost use Rattle.std.specs.Option.{option_to_list};
 ghost use Rattle.event_log.specs.Lines.{header_items};
-ghost use Rattle.event_log.specs.Faults.{byte_fault};
+ghost use Rattle.event_log.specs.Faults.{byte_fault, is_heading_byte};
 
 use crate::item::{Fed, Item, LogCode, LogFault};
 use crate::line_reader::{LineReader, LineTold};
@@ -19,7 +19,10 @@ const MOST_BYTES: u32 = 67_108_864;
 /// The most bytes of a line, without its line feed.
 const MOST_LINE: usize = 4_096;
 
-const HEADING: [u8; 11] = *b"pota-log 1\n";
+/// The first lines of the versions.
+const VERSION_ONE: [u8; 11] = *b"pota-log 1\n";
+
+const VERSION_TWO: [u8; 11] = *b"pota-log 2\n";
 
 /// The whole lines so far, and the bytes of the unfinished one.
 #[derive(Debug, Drop)]
@@ -42,6 +45,14 @@ pub struct LineGiven {
     fault: Option<LogFault>,
 }
 
+// Whether the byte may stand at this place of the first line.
+fn is_heading_byte(place: u32, byte: u8) -> bool
+    requires { place < 11 }
+    ensures { result ≡ is_heading_byte place byte }
+{
+    byte == VERSION_ONE[place as usize] || byte == VERSION_TWO[place as usize]
+}
+
 // The fault at a byte, by the number of bytes before it, whether the log has ended, and the bytes
 // of the line before it.
 #[tactic(auto, unfolding(crate::specs::Faults::byte_fault))]
@@ -52,7 +63,7 @@ fn byte_fault(total: u32, ended: bool, width: usize, byte: u8) -> Option<LogCode
         return Some(LogCode::LogTooLong);
     }
     if total < 11 {
-        if byte != HEADING[total as usize] {
+        if !is_heading_byte(total, byte) {
             return Some(LogCode::BadHeader);
         }
     }

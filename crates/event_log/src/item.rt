@@ -6,7 +6,7 @@ use pota_base::List;
 /// What is wrong with a log, as its faults are named in the printed lines.
 #[derive(Clone, Copy, Debug, PartialEq, Eq)]
 pub enum LogCode {
-    /// The first line isn't `pota-log 1`.
+    /// The first line is neither `pota-log 1` nor `pota-log 2`.
     BadHeader,
     /// The second line is no `procs` line.
     BadProcs,
@@ -16,7 +16,7 @@ pub enum LogCode {
     UnknownProcess,
     /// An assigned variable is none of the acting process.
     UnknownVariable,
-    /// The clock has another number of components than there are processes.
+    /// The clock isn't left out, and has another number of components than there are processes.
     ClockWidth,
     /// The clock's own component isn't the event's position.
     ClockOwn,

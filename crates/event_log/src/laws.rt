@@ -2,15 +2,16 @@
 
 ghost use Rattle.std.specs.Prelude.{◌≡◌, ℕ, List, None};
 ghost use Rattle.event_log.specs.declared.log.Log.{Log};
-ghost use Rattle.event_log.specs.LogText.{log_text, log_items};
+ghost use Rattle.event_log.specs.LogText.{log_text, log_items, lined};
 ghost use Rattle.event_log.specs.Faults.{items, items_in};
 ghost use Rattle.event_log.specs.FittingItems.{FitFirst};
 ghost use Rattle.event_log.specs.Laws.{IsLog, IsWellFormed, IsTextOf};
+ghost use Rattle.event_log.specs.NotedLines.{LinesAreNoted};
 
 /// The text of a log has no fault, and reading it gives the items of the log.
 pub fn a_log_reads_back()
     ensures { (log : Log) → IsLog log
-        → IsWellFormed (log_text log) × (items_in (log_text log) ≡ log_items log) }
+        → IsWellFormed (log_text log) × (items_in (log_text log) ≡ log_items (lined log)) }
 {}
 
 /// A text without a fault is the text of a log, whose items reading it gives, and which can be
@@ -23,4 +24,10 @@ pub fn no_fault_is_a_log()
 /// first a header that fits, and then events that fit it.
 pub fn items_fit()
     ensures { (past : List ℕ) → FitFirst (items past) }
+{}
+
+/// The line that a header notes for a process is the `vars` line of its variables, and where none
+/// is noted it has no variables.
+pub fn lines_are_noted()
+    ensures { LinesAreNoted }
 {}

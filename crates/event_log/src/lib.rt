@@ -5,7 +5,8 @@
 //! `Reader::finish` gives the first fault of the whole text (`fault`). `write_log` writes the text
 //! of a log. Laws: that text has no fault and gives the log's items (`a_log_reads_back`); a text
 //! without a fault is that of a log that can be written (`no_fault_is_a_log`); the items of any
-//! bytes are those of a log, as far as they go (`items_fit`).
+//! bytes are those of a log, as far as they go (`items_fit`); a header's lines are those of its
+//! variables (`lines_are_noted`).
 //!
 //! `States` keeps the state of each process after each of its events (`state`, `value`) and takes a
 //! batch whole or not at all (`extend`).
@@ -28,11 +29,11 @@ mod split;
 mod states;
 mod writing;
 
-pub use copies::names_of;
+pub use copies::{Copies, copy_of, names_of, var_lines_of};
 pub use counting::{MANY_EVENTS, count_events};
 pub use history::History;
 pub use item::{Fed, Item, LogCode, LogFault};
-pub use laws::{a_log_reads_back, items_fit, no_fault_is_a_log};
+pub use laws::{a_log_reads_back, items_fit, lines_are_noted, no_fault_is_a_log};
 pub use log::{Assign, Binding, Event, Header, Kind, Log};
 pub use pota_names::Name;
 pub use reader::Reader;

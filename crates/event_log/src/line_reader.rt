@@ -2,8 +2,9 @@
 
 ghost use Rattle.std.specs.Prelude.{◌≡◌, ◌+◌, ◌-◌, ◌^◌, ◌<◌, ◌≤◌, ◌∷◌, ◌++◌, [], length, All, IfOk};
 ghost use Rattle.std.specs.Prelude.{OnOk, IsOk, IsSomeAnd};
+ghost use Rattle.event_log.specs.Before.{version_in};
 
-use crate::copies::{bindings_of, copy_of, filled, names_of};
+use crate::copies::{bindings_of, copy_of, filled, names_of, var_lines_of};
 use crate::item::{Item, LogCode};
 use crate::log::{Binding, Header};
 use crate::numbers::event_named;
@@ -30,6 +31,7 @@ pub enum Stage {
 pub struct LineReader {
     stage: Stage,
     lines: u32,
+    version: u32,
     events: u32,
     procs: List<Name>,
     /// The variables of the processes up to that of the last `vars` line.
@@ -39,6 +41,7 @@ pub struct LineReader {
     ghost counted: { events ≤ lines },
     ghost few: { length procs ≤ 32 },
     ghost narrow: { All (λ bindings. length bindings ≤ 16) variables },
+    ghost placed: { length variables ≤ 32 },
 }
 
 /// What one line gives.
@@ -48,6 +51,19 @@ pub struct LineTold {
     pub header: Option<Header>,
     pub item: Option<Item>,
     pub fault: Option<LogCode>,
+}
+
+// The version that a first line names.
+fn version_in(line: &[u8]) -> Option<u32>
+    ensures { result ≡ version_in line.now }
+{
+    if line == b"pota-log 1".as_slice() {
+        return Some(1);
+    }
+    if line == b"pota-log 2".as_slice() {
+        return Some(2);
+    }
+    None
 }
 
 impl LineTold {
@@ -93,18 +109,20 @@ impl LineTold {
 impl LineReader {
     ghost use Rattle.event_log.specs.declared.line_reader.Stage.TheVariants.{Header as InHeader};
     ghost use Rattle.event_log.specs.Before.{Lines, is_ended, heading_told, procs_told, vars_told};
-    ghost use Rattle.event_log.specs.Before.{body_told, filled};
-    ghost use Rattle.event_log.specs.Lines.{HasReadLines, JudgedAs, JudgedItem, CountsLine};
+    ghost use Rattle.event_log.specs.Before.{body_told, filled, headed};
+    ghost use Rattle.event_log.specs.Lines.{HasReadLines, JudgedAs, JudgedItem};
+    ghost use Rattle.event_log.specs.Lines.{TakesHeading};
     ghost use Rattle.event_log.specs.Lines.{TakesProcs, TakesVars, Passes, TakesLine};
 
     /// A reader that has read no line. It takes no memory.
-    #[tactic(auto, unfolding(crate::specs::Before::names, crate::specs::Before::variables, crate::specs::Before::events, crate::specs::Before::is_header_over, crate::specs::Before::is_ended))]
+    #[tactic(auto, unfolding(crate::specs::Before::version, crate::specs::Before::names, crate::specs::Before::variables, crate::specs::Before::events, crate::specs::Before::is_header_over, crate::specs::Before::is_ended))]
     pub fn new(alloc: Global) -> LineReader
         ensures { HasReadLines result [] }
     {
         LineReader {
             stage: Stage::Header,
             lines: 0,
+            version: 1,
             events: 0,
             procs: List::new(alloc),
             variables: List::new(alloc),
@@ -130,12 +148,13 @@ impl LineReader {
     fn take_heading(&mut self, line: &[u8]) -> Result<Option<Item>, Refused<LogCode>>
         requires { self.old.lines < 2 ^ 32 - 1 }
         ensures told { JudgedAs result (heading_told line.now) }
-        ensures next { OnOk result (CountsLine self.old self.new) }
+        ensures next { OnOk result (TakesHeading self.old self.new line.now) }
         ensures counts { self.new.lines ≤ self.old.lines + 1 }
     {
-        if line != b"pota-log 1".as_slice() {
+        let Some(version) = version_in(line) else {
             return Err(Refused::Fault(LogCode::BadHeader));
-        }
+        };
+        self.version = version;
         self.lines += 1;
         Ok(None)
     }
@@ -182,13 +201,15 @@ impl LineReader {
         process: usize,
         bindings: List<Binding>,
     ) -> Result<(), NoMemory>
-        requires { length bindings ≤ 16 }
+        requires few { length bindings ≤ 16 }
+        requires there { process < length self.old.procs }
+        requires first { length self.old.variables ≤ process }
         ensures variables { OnOk result (self.new.variables
             ≡ filled self.old.variables process ++ bindings ∷ []) }
         ensures counts { self.new.lines ≡ self.old.lines }
         ensures same { OnOk result ((self.new.procs ≡ self.old.procs)
-            × (self.new.lines ≡ self.old.lines) × (self.new.events ≡ self.old.events)
-            × (self.new.stage ≡ self.old.stage)) }
+            × (self.new.lines ≡ self.old.lines) × (self.new.version ≡ self.old.version)
+            × (self.new.events ≡ self.old.events) × (self.new.stage ≡ self.old.stage)) }
     {
         let before = std::mem::replace(&mut self.variables, List::new(alloc));
         let mut variables = filled(alloc, before, process)?;
@@ -205,7 +226,7 @@ impl LineReader {
         line: &[u8],
     ) -> Result<Item, Refused<LogCode>>
         requires { self.now.lines < 2 ^ 32 - 1 }
-        ensures { JudgedItem result (body_told self.now.procs self.now.variables
+        ensures { JudgedItem result (body_told self.now.version self.now.procs self.now.variables
             (self.now.lines + 1) self.now.events line.now) }
     {
         if is_batch(line) {
@@ -218,6 +239,7 @@ impl LineReader {
         let draft = refused(read_event(alloc, procs, frames, line), LogCode::BadLine)?;
         let event = event_named(
             alloc,
+            self.version,
             procs,
             self.variables.as_slice(),
             self.lines + 1,
@@ -245,21 +267,25 @@ impl LineReader {
 
     // The processes and their variables, once all are known.
     fn header(&self, alloc: Global) -> Result<Header, NoMemory>
-        ensures { IfOk result (λ h. h ≡ record {
-          procs = self.now.procs;
-          vars = filled self.now.variables (length self.now.procs);
-        }) }
+        ensures { IfOk result (λ h. h ≡ headed self.now.version self.now.procs
+            (filled self.now.variables (length self.now.procs))) }
     {
         let procs = copy_of(alloc, self.procs.as_slice())?;
         let variables = copy_of(alloc, self.variables.as_slice())?;
         let vars = filled(alloc, variables, procs.len())?;
-        Ok(Header { procs, vars })
+        let var_lines = var_lines_of(alloc, vars.as_slice())?;
+        Ok(Header {
+            version: self.version,
+            procs,
+            vars,
+            var_lines,
+        })
     }
 
     // A line behind the header, which has been read without a fault where it gave an item.
     fn take_body(&mut self, alloc: Global, line: &[u8]) -> Result<Option<Item>, Refused<LogCode>>
         requires { self.old.lines < 2 ^ 32 - 1 }
-        ensures told { JudgedAs result (body_told self.old.procs self.old.variables
+        ensures told { JudgedAs result (body_told self.old.version self.old.procs self.old.variables
             (self.old.lines + 1) self.old.events line.now) }
         ensures next { IfOk result (λ i. IsSomeAnd i (Passes self.old self.new)) }
         ensures counts { self.new.lines ≤ self.old.lines + 1 }

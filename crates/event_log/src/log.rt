@@ -23,9 +23,14 @@ impl Named for Binding {
 /// The processes of a run in their order, and the variables of each one.
 #[derive(Debug, Drop)]
 pub struct Header {
+    /// The version of the log's text, 1 or 2. In version 2 a clock may be left out.
+    pub version: u32,
     pub procs: List<Name>,
     /// One list for each process.
     pub vars: List<List<Binding>>,
+    /// For each process the line of the log that spells its variables, counted from 1, and 0 where
+    /// there is none. It has no part in what the log says.
+    pub var_lines: List<u32>,
 }
 
 /// What an event does beside its assignments.
@@ -51,7 +56,8 @@ pub struct Event {
     pub process: u32,
     /// The line of the log that spells it, counted from 1.
     pub line: u32,
-    /// The vector clock: how many events of each process are this event or before it.
+    /// The vector clock: how many events of each process are this event or before it. It is empty
+    /// where the log's text leaves it out.
     pub clock: List<u32>,
     pub kind: Kind,
     /// In the order of the log's text.

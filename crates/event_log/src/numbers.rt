@@ -4,7 +4,8 @@ ghost use Rattle.std.specs.Prelude.{◌≡◌, ◌<◌, ◌^◌, [], length, All
 ghost use Rattle.log_lines.specs.Names.{place_of};
 ghost use Rattle.log_lines.specs.Drafts.{action_of, event_of, value_of, values_of};
 ghost use Rattle.event_log.specs.Numbers.{Agrees, known, binding_names, variables_at, kind_in};
-ghost use Rattle.event_log.specs.Numbers.{is_to_itself, assign_in, assigns_in, event_named};
+ghost use Rattle.event_log.specs.Numbers.{is_to_itself, may_stand, has_width, assign_in, assigns_in};
+ghost use Rattle.event_log.specs.Numbers.{event_named};
 ghost use Rattle.event_log.specs.declared.item.LogCode.TheVariants.{UnknownProcess as UnknownProcessFault};
 
 use crate::item::LogCode;
@@ -63,6 +64,20 @@ fn is_to_itself(process: u32, kind: Kind) -> bool
     }
 }
 
+// Whether the clock is one of this version: it may be left out in version 2 alone.
+fn may_stand(version: u32, clock: &[u32]) -> bool
+    ensures { result ≡ may_stand version clock.now }
+{
+    !clock.is_empty() || version == 2
+}
+
+// Whether the clock has a count for each process, or is left out.
+fn has_width(procs: usize, clock: &[u32]) -> bool
+    ensures { result ≡ has_width procs clock.now }
+{
+    clock.len() == procs || clock.is_empty()
+}
+
 /// The variables of a process.
 pub fn variables_at(variables: &[List<Binding>], process: u32) -> &[Binding]
     ensures list { result.now ≡ variables_at variables.now process }
@@ -107,6 +122,7 @@ fn assigns_in(
 #[tactic(auto, unfolding(crate::specs::Numbers::event_named))]
 pub fn event_named(
     alloc: Global,
+    version: u32,
     procs: &[Name],
     variables: &[List<Binding>],
     line: u32,
@@ -118,11 +134,14 @@ pub fn event_named(
     requires place { draft.process ≡ place_of procs.now draft.actor.now }
     requires within { IfSome draft.process (λ p. p < length procs.now) }
     ensures { Agrees result
-        (event_named procs.now variables.now line events (event_of draft.entry)) }
+        (event_named version procs.now variables.now line events (event_of draft.entry)) }
 {
+    if !may_stand(version, &draft.clock) {
+        return Err(Refused::Fault(LogCode::BadLine));
+    }
     let process = process_at(draft.process)?;
     let kind = kind_in(procs, draft.action)?;
-    if draft.clock.len() != procs.len() {
+    if !has_width(procs.len(), &draft.clock) {
         return Err(Refused::Fault(LogCode::ClockWidth));
     }
     if is_to_itself(process, kind) {

@@ -5,8 +5,9 @@ ghost use Rattle.std.specs.Prelude.{slice_index_or};
 ghost use Rattle.std.specs.List.{AllByRecursion};
 ghost use Rattle.std.specs.Fmt.{decimal};
 ghost use Rattle.log_lines.specs.Spelling.{names_text, values_text, clock_rest, clock_text};
-ghost use Rattle.log_lines.specs.Spelling.{action_text, event_line};
+ghost use Rattle.log_lines.specs.Spelling.{event_clock_text, action_text, event_line};
 ghost use Rattle.event_log.specs.declared.log.Header.{Header as HeaderOf};
+ghost use Rattle.event_log.specs.Before.{heading_of, IsVersion};
 ghost use Rattle.event_log.specs.Numbers.{variables_at};
 ghost use Rattle.event_log.specs.LogText.{values_of, named_values, action_of, line_of, vars_lines};
 ghost use Rattle.event_log.specs.LogText.{header_lines, event_lines, batch_lines, closing_line};
@@ -110,6 +111,17 @@ pub fn put_clock(out: &mut Bytes, clock: &[u32]) -> Result<(), NoMemory>
     }
 }
 
+// The clock of an event, which is written `~` where it is left out.
+#[tactic(auto, using(log_lines::proofs::ItemLaws::written_text))]
+fn put_event_clock(out: &mut Bytes, clock: &[u32]) -> Result<(), NoMemory>
+    ensures { OnOk result (out.new ≡ out.old ++ event_clock_text clock.now) }
+{
+    match clock {
+        [] => out.push(b'~'),
+        [_, ..] => put_clock(out, clock),
+    }
+}
+
 fn put_message(out: &mut Bytes, word: &[u8], peer: &[u8], id: u64) -> Result<(), NoMemory>
     ensures { OnOk result (out.new ≡ out.old ++ (word.now ++ 32 ∷ (peer.now ++ 32 ∷ decimal id))) }
 {
@@ -143,7 +155,7 @@ fn put_event(out: &mut Bytes, header: &Header, event: &Event) -> Result<(), NoMe
     out.extend_from_slice(b"ev")?;
     put_spaced(out, procs[event.process as usize].as_bytes())?;
     out.push(b' ')?;
-    put_clock(out, event.clock.as_slice())?;
+    put_event_clock(out, event.clock.as_slice())?;
     out.push(b' ')?;
     put_kind(out, procs, event.kind)?;
     let variables = variables_at(header.vars.as_slice(), event.process);
@@ -207,13 +219,26 @@ fn put_all_vars(out: &mut Bytes, procs: &[Name], vars: &[List<Binding>]) -> Resu
     Ok(())
 }
 
+// The first line of a version.
+fn heading_of(version: u32) -> &'static [u8]
+    requires { IsVersion version }
+    ensures { result.now ≡ heading_of version }
+{
+    if version == 1 {
+        b"pota-log 1"
+    } else {
+        b"pota-log 2"
+    }
+}
+
 /// The text of a log, which is one that reading gives.
 pub fn write_log(alloc: Global, log: &Log) -> Result<Bytes, NoMemory>
     requires { IsLog log.now }
     ensures { IfOk result (λ text. text ≡ log_text log.now) }
 {
     let mut out = List::new(alloc);
-    out.extend_from_slice(b"pota-log 1\nprocs")?;
+    out.extend_from_slice(heading_of(log.header.version))?;
+    out.extend_from_slice(b"\nprocs")?;
     put_names(&mut out, log.header.procs.as_slice())?;
     out.push(b'\n')?;
     put_all_vars(

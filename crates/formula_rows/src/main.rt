@@ -27,12 +27,13 @@ use std::alloc::Global;
 use std::{fs, io};
 use verdict::judge;
 
-const FILES: [&str; 5] = [
+const FILES: [&str; 6] = [
     "worked.rows",
     "limits.rows",
     "tokens.rows",
     "forms.rows",
     "outside.rows",
+    "next-and-differences.rows",
 ];
 
 /// How many rows there were, and how many of them came out as they must.

@@ -12,8 +12,8 @@ use Rattle.event_log.specs.declared.log.Event.{Event}
 use Rattle.event_log.specs.declared.log.Header.{Header}
 use Rattle.event_log.specs.States.{StatesView, AreWhole, trace_of, event_of, variable_of}
 use Rattle.event_log.proofs.Keeping.{process_is}
-use Rattle.pull_system.specs.Growth.{PullGrows}
-use Rattle.pull_system.proofs.PullLists.{first_grows}
+use Rattle.pull_system.specs.Growth.{PullGrows, PullStays}
+use Rattle.pull_system.proofs.PullLists.{first_grows, first_passes, first_least}
 use Rattle.rctl_parts.specs.Exprs.{Expr}
 use Rattle.local_preds.specs.Rows.{value_at, watched_at, truth_at, truths_of, len_at}
 use Rattle.local_preds.specs.LocalPulls.{is_true_from, next_true, local_pull, never_pull}
@@ -105,3 +105,29 @@ local_grows before after watch_process old_rows new_rows p e grown fits =
     (truths_front before after watch_process old_rows new_rows p e grown fits)
     (length-truths before p old_rows e ∙ ap (λ (n : ℕ). n + 1) (sym (lens-get_or before.events p)))
     (length-truths after p new_rows e ∙ ap (λ (n : ℕ). n + 1) (sym (lens-get_or after.events p)))
+
+-- ---- pulls that stay
+
+next_stays : (row later : List Bool) → IsFront row later → (x : ℕ) → next_true row x < length row → next_true later x ≤ next_true row x
+next_stays row later front x found =
+    let k : ℕ = next_true row x in
+    let parts = and_parts (nat_le x k) (get_or row k false) (first_passes (is_true_from row x) (length row) found) in
+    first_least (is_true_from later x) (length later) k (omega (arith, front.shorter)) (and_from _ _ parts.0 (sym (front.same k found) ∙ parts.1))
+
+row_stays : (old : List ℕ) (p : ℕ) (row later : List Bool) → IsFront row later → length row ≡ get_or old p 0 + 1 → PullStays old (local_pull p row) (local_pull p later)
+row_stays old p row later front size = record {
+  asks = λ x le asked.
+      let at_old = next_at row x (omega arith) in
+      omega (arith, at_old, next_at later x (omega (arith, front.shorter)), next_stays row later front x (omega (arith, at_old, asked)));
+}
+
+pub never_stays : (old lens : List ℕ) → PullStays old (never_pull old) (never_pull lens)
+never_stays old lens = record { asks = λ x le asked. absurd (omega (arith, never_at old x (omega arith), asked)) }
+
+pub local_stays : (before after : StatesView) (watch_process : List (Option ℕ)) (old_rows new_rows : List (List Bool)) (p : ℕ) (e : Expr) → HasGrownAt before after watch_process old_rows new_rows p
+    → FitsProcess before watch_process p e
+    → PullStays (map length before.events) (local_pull p (truths_of before p old_rows e)) (local_pull p (truths_of after p new_rows e))
+local_stays before after watch_process old_rows new_rows p e grown fits =
+    row_stays (map length before.events) p (truths_of before p old_rows e) (truths_of after p new_rows e)
+    (truths_front before after watch_process old_rows new_rows p e grown fits)
+    (length-truths before p old_rows e ∙ ap (λ (n : ℕ). n + 1) (sym (lens-get_or before.events p)))

@@ -1,3 +1,4 @@
+pub mod Decided
 pub mod Following
 pub mod Steps
 pub mod Moves

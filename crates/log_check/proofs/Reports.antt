@@ -2,7 +2,8 @@
 use Rattle.std.proofs.Common.{◌≡◌, ℕ, ◌<◌, ◌≤◌, true, false, Some, None, List, length, refl, sym, ap, subst, ◌∙◌, arith}
 use Rattle.std.proofs.lemmas.List.{length_push}
 use Rattle.std.proofs.lemmas.Option.{none-some, same_Some}
-use Rattle.run_model.specs.Class.{disjuncts}
+use Rattle.run_model.specs.Run.{Run}
+use Rattle.run_model.specs.Class.{disjuncts, IsKeptFor}
 use Rattle.event_log.specs.declared.log.Event.{Event}
 use Rattle.event_log.specs.States.{trace_of}
 use Rattle.trace_growth.specs.Growing.{TraceView}
@@ -62,7 +63,8 @@ module _ {X : Type 0} {P : X → Type 0} (says : Says X P) (aim : Aim) (check : 
   is_ready log session h = record { unspent = ap (λ (t : TraceView). t.spent) h.taken.trace; full = h.watched.full }
 
   module _ (text : List ℕ) (log : Prefix) (session : Session X P) (seen : Observed) (answer : Answer) (report : Report) (wanted : Wanted) (h : HasReport log session) (same : seen ≡ session.growing.seen)
-      (aimed : aim.text ≡ text) (sliced : wanted.slice ≡ aim.slice) (witnessed : wanted.witness ≡ aim.witness) where
+      (aimed : aim.text ≡ text) (sliced : wanted.slice ≡ aim.slice) (witnessed : wanted.witness ≡ aim.witness)
+      (kept : (r : Run) → IsKeptFor r (formula_of aim.node)) where
     now_seen : (Q : Observed → Type 0) → Q session.growing.seen → Q seen
     now_seen Q q = subst Q (sym same) q
 
@@ -78,6 +80,7 @@ module _ {X : Type 0} {P : X → Type 0} (says : Says X P) (aim : Aim) (check : 
       pieces = piece.disjuncts_of session.growing.disjuncts;
       answered = now_seen (λ s. IsAnswer s (piece.disjuncts_of session.growing.disjuncts) answer) is;
       meaning = subst (λ (t : TraceView). EachAlike (part_formulas (names.names_of t.states.header aim.names) (piece.disjuncts_of session.growing.disjuncts)) (disjuncts true (formula_of aim.node))) (sym trace_is) h.taken.meaning;
+      kept = kept _;
     }
 
     pub reported : IsAnswer session.growing.seen (piece.disjuncts_of session.growing.disjuncts) answer → report.procs ≡ seen.trace.states.header.procs

@@ -9,7 +9,7 @@ use Rattle.event_log.specs.declared.log.Event.{Event}
 use Rattle.event_log.specs.declared.log.Header.{Header}
 use Rattle.log_judgement.specs.declared.refusal.Refusal.{Refusal}
 use Rattle.log_judgement.specs.declared.refusal.Refusal.TheVariants as refusal
-use Rattle.log_judgement.specs.Judgement.{Prefix, followed_by, Rules, Judgement, waiting, growing, finished, refused, judge, judged}
+use Rattle.log_judgement.specs.Judgement.{Prefix, followed_by, with_clocks, Rules, Judgement, waiting, growing, finished, refused, judge, judged}
 use Rattle.log_judgement.specs.Due.{after_each, closed_of}
 
 abbrev pub prefix_at : Header → List (List Event) → Prefix
@@ -54,17 +54,18 @@ unfolding after_each
 opened_more h None = ([], refl)
 opened_more h (Some f) = ([], refl)
 
-closed_more : (log : Prefix) (since : List Event) (o : Option LogFault)
+-- the events since are closed as this filled batch
+closed_more : (log : Prefix) (since full : List Event) (o : Option LogFault)
     → MorePrefixes (growing log since)
-    (choose o (λ f. refused (Some log) (refusal.Log f)) (growing (followed_by log since) []))
-closed_more log since None = (prefix_at log.header (log.batches ++ since ∷ []) ∷ [], after_each-push log.header [] log.batches since)
-closed_more log since (Some f) = as_before (growing log since)
+    (choose o (λ f. refused (Some log) (refusal.Log f)) (growing (followed_by log full) []))
+closed_more log since full None = (prefix_at log.header (log.batches ++ full ∷ []) ∷ [], after_each-push log.header [] log.batches full)
+closed_more log since full (Some f) = as_before (growing log since)
 
-ended_more : (log : Prefix) (since : List Event) (o : Option LogFault)
+ended_more : (log : Prefix) (since full : List Event) (o : Option LogFault)
     → MorePrefixes (growing log since)
-    (choose o (λ f. refused (Some log) (refusal.Log f)) (finished log since))
-ended_more log since None = as_before (growing log since)
-ended_more log since (Some f) = as_before (growing log since)
+    (choose o (λ f. refused (Some log) (refusal.Log f)) (finished log full))
+ended_more log since full None = as_before (growing log since)
+ended_more log since full (Some f) = as_before (growing log since)
 
 one_more : (rules : Rules) (j : Judgement) (i : Item) → MorePrefixes j (judge rules j i)
 one_more rules waiting (item.Header h) = opened_more h (rules.names h)
@@ -73,8 +74,8 @@ one_more rules waiting item.BatchEnd = as_before waiting
 one_more rules waiting item.End = as_before waiting
 one_more rules (growing log since) (item.Header h) = as_before (growing log since)
 one_more rules (growing log since) (item.Event e) = as_before (growing log since)
-one_more rules (growing log since) item.BatchEnd = closed_more log since (rules.batch log since)
-one_more rules (growing log since) item.End = ended_more log since (rules.batch log since)
+one_more rules (growing log since) item.BatchEnd = closed_more log since (with_clocks log since) (rules.batch log (with_clocks log since))
+one_more rules (growing log since) item.End = ended_more log since (with_clocks log since) (rules.batch log (with_clocks log since))
 one_more rules (finished log last) i = as_before (finished log last)
 one_more rules (refused log why) i = as_before (refused log why)
 

@@ -10,7 +10,7 @@ use Rattle.event_log.specs.declared.log.Header.{Header}
 use Rattle.event_log.specs.declared.log.Event.{Event}
 use Rattle.event_log.specs.declared.log.Log.{Log}
 use Rattle.event_log.specs.Laws.{IsLog, IsWellFormed}
-use Rattle.event_log.specs.LogText.{onto, lines_of, log_text, header_lines, batch_lines, closing_line, event_lines, text_of, event_items, closing_item, batch_items, log_items}
+use Rattle.event_log.specs.LogText.{onto, lines_of, log_text, header_lines, batch_lines, closing_line, event_lines, text_of, event_items, closing_item, batch_items, log_items, HasVarLines, lined}
 use Rattle.event_log.specs.Faults.{end_fault, items_in}
 use Rattle.event_log.specs.States.{with_batch, with_batches}
 use Rattle.event_log.proofs.Appends.{text_of-append}
@@ -21,9 +21,11 @@ use Rattle.event_log.proofs.Narrow.{IsNarrow, log_narrow}
 use Rattle.event_log.proofs.WellFormed.{fault_free_log, log_fault_free}
 use Rattle.vector_clock.specs.Events.{no_events}
 use Rattle.vector_clock.specs.Faults.{batch_fault, batches_fault, log_fault}
+use Rattle.vector_clock.specs.Filled.{filled_batches, filled_log}
+use Rattle.vector_clock.proofs.FilledBatches.{length-filled}
 use Rattle.log_judgement.specs.declared.refusal.Refusal.{Refusal}
 use Rattle.log_judgement.specs.declared.refusal.Refusal.TheVariants as refusal
-use Rattle.log_judgement.specs.Judgement.{Prefix, followed_by, Rules, with_names, Judgement, waiting, growing, finished, refused, opened, closing, judged}
+use Rattle.log_judgement.specs.Judgement.{Prefix, followed_by, events_of, with_clocks, Rules, with_names, Judgement, waiting, growing, finished, refused, opened, closing, judged}
 use Rattle.log_judgement.specs.Due.{log_reading, after_each, prefixes, counted, fault_in, Due, told, due}
 use Rattle.log_judgement.specs.WholeLogs.{IsLogFor, IsDueOfLog}
 use Rattle.log_judgement.proofs.Items.{prefix_at, refused-stays, after_each-push}
@@ -41,21 +43,21 @@ judged-events rules log since (e ∷ es) rest =
     judged-events rules log (since ++ e ∷ []) es rest
     ∙ ap (λ (xs : List Event). judged rules (growing log xs) rest) (append_assoc since (e ∷ []) es)
 
--- what the end of a batch leads to, where it has no fault
+-- what the end of a batch leads to, where it has no fault; the batch is filled
 abbrev next_of : Prefix → List Event → List (List Event) → Judgement
 next_of log b [] = finished log b
 next_of log b (c ∷ bs) = growing (followed_by log b) []
 
 closes : (rules : Rules) (log : Prefix) (b : List Event) (bs : List (List Event)) (rest : List Item)
     → judged rules (growing log b) (closing_item bs ∷ rest)
-    ≡ judged rules (closing rules log b (next_of log b bs)) rest
+    ≡ judged rules (closing rules log (with_clocks log b) (next_of log (with_clocks log b) bs)) rest
 unfolding judged
 closes rules log b [] rest = refl
 closes rules log b (c ∷ bs) rest = refl
 
 judged-batch : (rules : Rules) (log : Prefix) (b : List Event) (bs : List (List Event))
     → judged rules (growing log []) (batch_items (b ∷ bs))
-    ≡ judged rules (closing rules log b (next_of log b bs)) (batch_items bs)
+    ≡ judged rules (closing rules log (with_clocks log b) (next_of log (with_clocks log b) bs)) (batch_items bs)
 judged-batch rules log b bs =
     judged-events rules log [] b (closing_item bs ∷ batch_items bs)
     ∙ closes rules log b bs (batch_items bs)
@@ -76,7 +78,7 @@ chosen_none (Some f) other h = absurd (none-some f (sym h))
 
 -- ---- batches without a fault are all closed
 
--- the last batch was closed behind the others
+-- the last batch was closed behind the others, all filled
 record Closed (h : Header) (batches : List (List Event)) (j : Judgement) : Type 0 where
   before : List (List Event)
   last : List Event
@@ -84,39 +86,54 @@ record Closed (h : Header) (batches : List (List Event)) (j : Judgement) : Type 
   all : before ++ last ∷ [] ≡ batches
 
 module _ (names : Header → Option FormulaFault) (h : Header) where
+  -- the events of filled batches, and one more that is filled behind them
+  abbrev events : List (List Event) → List (List Event)
+  events done = events_of (prefix_at h done)
+
+  abbrev full : List (List Event) → List Event → List Event
+  full done b = with_clocks (prefix_at h done) b
+
   one_closed : (done : List (List Event)) (b : List Event) (bs : List (List Event)) (next : Judgement)
-      → batch_fault (with_batches (no_events (length h.procs)) done) b ≡ None
+      → batch_fault (events done) b ≡ None
       → closing (with_names names) (prefix_at h done) b next ≡ next
   one_closed done b bs next free = rw free refl
 
+  -- the events of filled batches, with one more
+  done_more : (done : List (List Event)) (b : List Event)
+      → events (done ++ b ∷ []) ≡ with_batch (events done) b
+  done_more done b = with_batches-push (no_events (length h.procs)) done b
+
   all_closed : (done : List (List Event)) (b : List Event) (bs : List (List Event))
-      → batches_fault (with_batches (no_events (length h.procs)) done) (b ∷ bs) ≡ None
-      → Closed h (done ++ b ∷ bs) (judged (with_names names) (growing (prefix_at h done) []) (batch_items (b ∷ bs)))
-  unfolding batches_fault
+      → batches_fault (events done) (filled_batches (events done) (b ∷ bs)) ≡ None
+      → Closed h (done ++ filled_batches (events done) (b ∷ bs)) (judged (with_names names) (growing (prefix_at h done) []) (batch_items (b ∷ bs)))
+  unfolding batches_fault filled_batches
   all_closed done b [] free =
-      let parts = chosen_none (batch_fault (with_batches (no_events (length h.procs)) done) b) None free in
+      let last = full done b in
+      let parts = chosen_none (batch_fault (events done) last) None free in
       record {
         before = done;
-        last = b;
+        last = last;
         is = judged-batch (with_names names) (prefix_at h done) b []
-            ∙ judged-none (with_names names) (closing (with_names names) (prefix_at h done) b (finished (prefix_at h done) b))
-            ∙ one_closed done b [] (finished (prefix_at h done) b) parts.0;
+            ∙ judged-none (with_names names) (closing (with_names names) (prefix_at h done) last (finished (prefix_at h done) last))
+            ∙ one_closed done last [] (finished (prefix_at h done) last) parts.0;
         all = refl;
       }
   all_closed done b (c ∷ bs) free =
-      let ess = with_batches (no_events (length h.procs)) done in
-      let parts = chosen_none (batch_fault ess b) (batches_fault (with_batch ess b) (c ∷ bs)) free in
-      let rest : batches_fault (with_batches (no_events (length h.procs)) (done ++ b ∷ [])) (c ∷ bs) ≡ None =
-      ap (λ (xs : List (List Event)). batches_fault xs (c ∷ bs)) (with_batches-push (no_events (length h.procs)) done b) ∙ parts.1 in
-      let others = all_closed (done ++ b ∷ []) c bs rest in
-      let next : Judgement = growing (prefix_at h (done ++ b ∷ [])) [] in
+      let last = full done b in
+      let parts = chosen_none (batch_fault (events done) last) (batches_fault (with_batch (events done) last) (filled_batches (with_batch (events done) last) (c ∷ bs))) free in
+      let more = done_more done last in
+      let rest : batches_fault (events (done ++ last ∷ [])) (filled_batches (events (done ++ last ∷ [])) (c ∷ bs)) ≡ None =
+      ap (λ (xs : List (List Event)). batches_fault xs (filled_batches xs (c ∷ bs))) more ∙ parts.1 in
+      let others = all_closed (done ++ last ∷ []) c bs rest in
+      let next : Judgement = growing (prefix_at h (done ++ last ∷ [])) [] in
       record {
         before = others.before;
         last = others.last;
         is = judged-batch (with_names names) (prefix_at h done) b (c ∷ bs)
-            ∙ ap (λ (j : Judgement). judged (with_names names) j (batch_items (c ∷ bs))) (one_closed done b (c ∷ bs) next parts.0)
+            ∙ ap (λ (j : Judgement). judged (with_names names) j (batch_items (c ∷ bs))) (one_closed done last (c ∷ bs) next parts.0)
             ∙ others.is;
-        all = others.all ∙ append_assoc done (b ∷ []) (c ∷ bs);
+        all = others.all ∙ append_assoc done (last ∷ []) (filled_batches (events (done ++ last ∷ [])) (c ∷ bs))
+            ∙ ap (λ (xs : List (List Event)). done ++ last ∷ filled_batches xs (c ∷ bs)) more;
       }
 
   -- ---- batches that are not refused have no fault
@@ -126,27 +143,28 @@ module _ (names : Header → Option FormulaFault) (h : Header) where
 
   none_refused : (done bs : List (List Event))
       → IsTaken (judged (with_names names) (growing (prefix_at h done) []) (batch_items bs))
-      → batches_fault (with_batches (no_events (length h.procs)) done) bs ≡ None
-  unfolding batches_fault
+      → batches_fault (events done) (filled_batches (events done) bs) ≡ None
+  unfolding batches_fault filled_batches
   none_refused done [] taken = refl
-  none_refused done (b ∷ bs) taken = go (batch_fault (with_batches (no_events (length h.procs)) done) b) refl bs taken (none_refused (done ++ b ∷ []) bs)
+  none_refused done (b ∷ bs) taken = go (batch_fault (events done) (full done b)) refl bs taken (none_refused (done ++ full done b ∷ []) bs)
     where
-      go : (o : Option LogFault) → batch_fault (with_batches (no_events (length h.procs)) done) b ≡ o → (cs : List (List Event))
+      go : (o : Option LogFault) → batch_fault (events done) (full done b) ≡ o → (cs : List (List Event))
           → IsTaken (judged (with_names names) (growing (prefix_at h done) []) (batch_items (b ∷ cs)))
-          → (IsTaken (judged (with_names names) (growing (prefix_at h (done ++ b ∷ [])) []) (batch_items cs)) → batches_fault (with_batches (no_events (length h.procs)) (done ++ b ∷ [])) cs ≡ None)
-          → choose (batch_fault (with_batches (no_events (length h.procs)) done) b) (λ f. Some f) (batches_fault (with_batch (with_batches (no_events (length h.procs)) done) b) cs) ≡ None
+          → (IsTaken (judged (with_names names) (growing (prefix_at h (done ++ full done b ∷ [])) []) (batch_items cs))
+          → batches_fault (events (done ++ full done b ∷ [])) (filled_batches (events (done ++ full done b ∷ [])) cs) ≡ None)
+          → choose (batch_fault (events done) (full done b)) (λ f. Some f) (batches_fault (with_batch (events done) (full done b)) (filled_batches (with_batch (events done) (full done b)) cs)) ≡ None
       go (Some f) is cs taken rest =
-          let stop : closing (with_names names) (prefix_at h done) b (next_of (prefix_at h done) b cs) ≡ refused (Some (prefix_at h done)) (refusal.Log f) = rw is refl in
+          let stop : closing (with_names names) (prefix_at h done) (full done b) (next_of (prefix_at h done) (full done b) cs) ≡ refused (Some (prefix_at h done)) (refusal.Log f) = rw is refl in
           absurd (taken (Some (prefix_at h done)) (refusal.Log f) (judged-batch (with_names names) (prefix_at h done) b cs
           ∙ ap (λ (j : Judgement). judged (with_names names) j (batch_items cs)) stop
           ∙ refused-stays (with_names names) (Some (prefix_at h done)) (refusal.Log f) (batch_items cs)))
       go None is [] taken rest = rw is refl
       go None is (c ∷ cs) taken rest =
-          let next : Judgement = growing (prefix_at h (done ++ b ∷ [])) [] in
+          let next : Judgement = growing (prefix_at h (done ++ full done b ∷ [])) [] in
           let same : judged (with_names names) (growing (prefix_at h done) []) (batch_items (b ∷ c ∷ cs)) ≡ judged (with_names names) next (batch_items (c ∷ cs)) =
           judged-batch (with_names names) (prefix_at h done) b (c ∷ cs)
-          ∙ ap (λ (j : Judgement). judged (with_names names) j (batch_items (c ∷ cs))) (one_closed done b (c ∷ cs) next is) in
-          rw is (ap (λ (xs : List (List Event)). batches_fault xs (c ∷ cs)) (sym (with_batches-push (no_events (length h.procs)) done b))
+          ∙ ap (λ (j : Judgement). judged (with_names names) j (batch_items (c ∷ cs))) (one_closed done (full done b) (c ∷ cs) next is) in
+          rw is (ap (λ (xs : List (List Event)). batches_fault xs (filled_batches xs (c ∷ cs))) (sym (done_more done (full done b)))
           ∙ rest (λ log why e. taken log why (same ∙ e)))
 
 -- ---- whole logs
@@ -160,20 +178,23 @@ module _ (names : Header → Option FormulaFault) (log : Log) where
   opened_log : names log.header ≡ None → opened (with_names names) log.header ≡ growing (prefix_at log.header []) []
   opened_log known = rw known refl
 
-  log_closed : names log.header ≡ None → log_fault log ≡ None → 0 < length log.batches
-      → Closed log.header log.batches (judged (with_names names) waiting (log_items log))
+  abbrev none : List (List Event)
+  none = no_events (length log.header.procs)
+
+  log_closed : names log.header ≡ None → log_fault (filled_log log) ≡ None → 0 < length log.batches
+      → Closed log.header (filled_log log).batches (judged (with_names names) waiting (log_items log))
   log_closed known free some =
       let begun = judged-log ∙ ap (λ (j : Judgement). judged (with_names names) j (batch_items log.batches)) (opened_log known) in
-      subst (Closed log.header log.batches) (sym begun) (go log.batches free some)
+      subst (Closed log.header (filled_log log).batches) (sym begun) (go log.batches free some)
     where
-      go : (bs : List (List Event)) → batches_fault (no_events (length log.header.procs)) bs ≡ None → 0 < length bs
-          → Closed log.header bs (judged (with_names names) (growing (prefix_at log.header []) []) (batch_items bs))
+      go : (bs : List (List Event)) → batches_fault none (filled_batches none bs) ≡ None → 0 < length bs
+          → Closed log.header (filled_batches none bs) (judged (with_names names) (growing (prefix_at log.header []) []) (batch_items bs))
       go [] free some = absurd (omega (arith, some))
       go (b ∷ bs) free some = all_closed names log.header [] b bs free
 
   record Taken : Type 0 where
     known : names log.header ≡ None
-    free : log_fault log ≡ None
+    free : log_fault (filled_log log) ≡ None
 
   taken_log : IsTaken names log.header (judged (with_names names) waiting (log_items log)) → Taken
   taken_log taken = go (names log.header) refl
@@ -205,10 +226,11 @@ lines_long h (b ∷ bs) =
       length-append (closing_line bs) (10 ∷ text_of (batch_lines h bs)),
     )
 
-counted_all : (log : Log) → IsLog log → counted log.batches ≡ length log.batches
+counted_all : (log : Log) → IsLog log → counted (filled_log log).batches ≡ length log.batches
 counted_all log is =
     omega (
       arith,
+      length-filled (no_events (length log.header.procs)) log.batches,
       is.small,
       lines_long log.header log.batches,
       ap length (text_of-append (header_lines log.header) (batch_lines log.header log.batches)),
@@ -217,12 +239,18 @@ counted_all log is =
 
 -- ---- the text
 
-pub reads_back : (log : Log) → IsLog log → IsWellFormed (log_text log) × (items_in (log_text log) ≡ log_items log)
+pub reads_back : (log : Log) → IsLog log → IsWellFormed (log_text log) × (items_in (log_text log) ≡ log_items (lined log))
 reads_back log is =
     log_fault_free log is (subst (λ (ls : List (List ℕ)). AllByRecursion IsNarrow ls) (sym (lines-text log (log_plain log is.fits))) (all_onto IsNarrow (lines_of log) [] (log_narrow log is.fits) tt))
 
+-- a log that has its lines
+lined_same : (log : Log) → HasVarLines log.header → lined log ≡ log
+lined_same log lines =
+    let made : List ℕ → Log = λ ns. record { header = record { version = log.header.version; procs = log.header.procs; vars = log.header.vars; var_lines = ns }; batches = log.batches } in
+    ap made (sym lines)
+
 -- what is told of a log whose last batch was closed
-told_closed : (log : Log) → IsLog log → (j : Judgement) → Closed log.header log.batches j → IsDueOfLog log (told true j None)
+told_closed : (log : Log) → IsLog log → (j : Judgement) → Closed log.header (filled_log log).batches j → IsDueOfLog log (told true j None)
 told_closed log is j closed =
     let last : Due → Type 0 = IsDueOfLog log in
     let p = prefix_at log.header closed.before in
@@ -240,7 +268,7 @@ pub log_due : (names : Header → Option FormulaFault) (bytes : List ℕ) (log :
     → IsDueOfLog log (due log_reading (with_names names) true bytes)
 log_due names bytes log l =
     let back = reads_back log l.is in
-    let items : items_in bytes ≡ log_items log = ap items_in l.spelled ∙ back.1 in
+    let items : items_in bytes ≡ log_items log = ap items_in l.spelled ∙ back.1 ∙ ap log_items (lined_same log l.lines) in
     let free : end_fault (onto bytes []) ≡ None = ap (λ (x : List ℕ). end_fault (onto x [])) l.spelled ∙ back.0 in
     let closed = log_closed names log l.named l.ordered l.is.fits.some in
     let same : due log_reading (with_names names) true bytes ≡ told true (judged (with_names names) waiting (log_items log)) None =
@@ -263,5 +291,5 @@ due_log names bytes h =
     let taken = not_refused j (end_fault (onto bytes [])) h in
     let known = taken_log names log (λ past why e. taken past why (ap (judged (with_names names) waiting) found.1.items_are ∙ e)) in (
       log,
-      record { is = found.1.log_is; spelled = found.1.text_is; ordered = known.free; named = known.known },
+      record { is = found.1.log_is; lines = found.1.lines_are; spelled = found.1.text_is; ordered = known.free; named = known.known },
     )

@@ -11,34 +11,30 @@ use Rattle.event_log.specs.declared.item.Item.TheVariants as item
 use Rattle.event_log.specs.declared.item.LogFault.{LogFault}
 use Rattle.event_log.specs.declared.log.Event.{Event}
 use Rattle.event_log.specs.declared.log.Header.{Header}
-use Rattle.event_log.specs.declared.log.Kind.{Kind}
-use Rattle.event_log.specs.declared.log.Kind.TheVariants as kind
 use Rattle.event_log.specs.FittingItems.{FitFrom, FitFirst}
-use Rattle.event_log.specs.LogText.{HeaderFits, EventFits, KindFits, KindWithin}
+use Rattle.event_log.specs.LogText.{HeaderFits, EventFits}
 use Rattle.event_log.specs.States.{with_batch, with_batches}
 use Rattle.event_log.specs.Faults.{items_in}
 use Rattle.event_log.specs.LogText.{onto}
 use Rattle.event_log.proofs.FittingItems.{items_fit}
 use Rattle.event_log.proofs.Lists.{all_push}
 use Rattle.vector_clock.specs.Events as clocks
-use Rattle.vector_clock.specs.Events.{no_events, clocks_of}
+use Rattle.vector_clock.specs.Events.{EventStands, no_events, clocks_of}
 use Rattle.vector_clock.specs.Faults.{batch_fault}
-use Rattle.vector_clock.proofs.BatchLaws.{batch_order, trace_clocks}
+use Rattle.vector_clock.proofs.BatchLaws.{batch_order, events_stand, trace_clocks}
+use Rattle.vector_clock.proofs.FilledBatches.{filled_fits}
 use Rattle.vector_clock.proofs.Growth.{length-with_batch, clocks_none}
 use Rattle.causal_order.proofs.Orders.{no_events_order}
 use Rattle.run_report.specs.Reports.{trace_so_far}
 use Rattle.log_judgement.specs.declared.refusal.Refusal.{Refusal}
 use Rattle.log_judgement.specs.declared.refusal.Refusal.TheVariants as refusal
-use Rattle.log_judgement.specs.Judgement.{Prefix, followed_by, with_names, Judgement, waiting, growing, finished, refused, judge, judged}
+use Rattle.log_judgement.specs.Judgement.{Prefix, followed_by, events_of, with_clocks, clock_fault, with_names, Judgement, waiting, growing, finished, refused, judge, judged}
 use Rattle.log_judgement.specs.Due.{log_reading, after_each, prefixes, closed_of, whole_of, at_end, text_fault, judgement_of, due}
 use Rattle.log_judgement.specs.Texts.{listed, reported}
 use Rattle.log_judgement.proofs.Items.{prefix_at, after_each-push}
 
 abbrev pub IsOrdered : Prefix → Type 0
 IsOrdered log = IsOrder (run.clocks_of (trace_so_far log.header log.batches))
-
-abbrev events_of : Prefix → List (List Event)
-events_of log = with_batches (no_events (length log.header.procs)) log.batches
 
 length-with_batches : (events batches : List (List Event)) → length (with_batches events batches) ≡ length events
 length-with_batches events [] = refl
@@ -54,21 +50,11 @@ event_count_is log = length-with_batches (no_events (length log.header.procs)) l
 
 -- ---- events that fit
 
-peer_within : (procs process : ℕ) (k : Kind) → KindFits procs process k → KindWithin procs k
-peer_within procs process kind.Internal h = tt
-peer_within procs process (kind.Send to id) h = h.0
-peer_within procs process (kind.Receive sender id) h = h.0
-
-each_fits : (h : Header) (n : ℕ) → n ≡ length h.procs → (batch : List Event) → AllByRecursion (EventFits h) batch
-    → AllByRecursion (clocks.EventFits n) batch
-each_fits h n is [] fits = tt
-each_fits h n is (e ∷ batch) fits =
-    let own = fits.0 in
-    let here : clocks.EventFits (length h.procs) e = record {
-      clock = record { process = own.process; width = own.width };
-      peer = peer_within (length h.procs) e.process e.kind own.kind;
-    } in
-    (subst (λ (k : ℕ). clocks.EventFits k e) (sym is) here, each_fits h n is batch fits.1)
+-- once their clocks are filled in
+full_fits : (log : Prefix) (batch : List Event) → AllByRecursion (EventFits log.header) batch
+    → AllByRecursion (clocks.EventFits (length (events_of log))) (with_clocks log batch)
+full_fits log batch fits =
+    filled_fits (events_of log) batch (subst (λ (n : ℕ). AllByRecursion (EventStands n) batch) (sym (event_count_is log)) (events_stand log.header batch fits))
 
 -- ---- prefixes whose clocks are an order, with all prefixes before them
 
@@ -90,13 +76,13 @@ sound_none h fits = record {
   each = tt;
 }
 
-more_order : (log : Prefix) (batch : List Event) → IsSound log → AllByRecursion (EventFits log.header) batch
+more_order : (log : Prefix) (batch : List Event) → IsSound log → AllByRecursion (clocks.EventFits (length (events_of log))) batch
     → batch_fault (events_of log) batch ≡ None → IsOrder (clocks_of (events_of (followed_by log batch)))
 more_order log batch sound fits none =
-    let more = batch_order (events_of log) batch (each_fits log.header _ (event_count_is log) batch fits) sound.order none in
+    let more = batch_order (events_of log) batch fits sound.order none in
     subst (λ (ess : List (List Event)). IsOrder (clocks_of ess)) (sym (with_batches-push (no_events (length log.header.procs)) log.batches batch)) more
 
-sound_more : (log : Prefix) (batch : List Event) → IsSound log → AllByRecursion (EventFits log.header) batch
+sound_more : (log : Prefix) (batch : List Event) → IsSound log → AllByRecursion (clocks.EventFits (length (events_of log))) batch
     → batch_fault (events_of log) batch ≡ None → IsSound (followed_by log batch)
 sound_more log batch sound fits none =
     let order = more_order log batch sound fits none in
@@ -122,14 +108,15 @@ opened_kept : (h : Header) (o : Option FormulaFault) (items : List Item) → Hea
 opened_kept h None items fits rest = (sound_none h fits, tt, (0, rest))
 opened_kept h (Some f) items fits rest = tt
 
+-- a filled batch is closed
 closed_kept : (log : Prefix) (since : List Event) (o : Option LogFault) → batch_fault (events_of log) since ≡ o
-    → (items : List Item) → IsSound log → AllByRecursion (EventFits log.header) since → (n : ℕ) → FitFrom log.header n items
+    → (items : List Item) → IsSound log → AllByRecursion (clocks.EventFits (length (events_of log))) since → (n : ℕ) → FitFrom log.header n items
     → IsKept (choose o (λ f. refused (Some log) (refusal.Log f)) (growing (followed_by log since) [])) items
 closed_kept log since None is items sound fits n rest = (sound_more log since sound fits is, tt, (n, rest))
 closed_kept log since (Some f) is items sound fits n rest = sound
 
 ended_kept : (log : Prefix) (since : List Event) (o : Option LogFault) → batch_fault (events_of log) since ≡ o
-    → (items : List Item) → IsSound log → AllByRecursion (EventFits log.header) since
+    → (items : List Item) → IsSound log → AllByRecursion (clocks.EventFits (length (events_of log))) since
     → IsKept (choose o (λ f. refused (Some log) (refusal.Log f)) (finished log since)) items
 ended_kept log since None is items sound fits =
     (sound, ordered (followed_by log since) sound.fits (more_order log since sound fits is))
@@ -151,9 +138,9 @@ module _ (names : Header → Option FormulaFault) where
   one_kept (growing log since) (item.Event e) rest kept =
       (kept.0, all_push (EventFits log.header) since e kept.1 kept.2.1.0, (kept.2.0 + 1, kept.2.1.2))
   one_kept (growing log since) item.BatchEnd rest kept =
-      closed_kept log since (batch_fault (events_of log) since) refl rest kept.0 kept.1 kept.2.0 kept.2.1
+      closed_kept log (with_clocks log since) (clock_fault log (with_clocks log since)) refl rest kept.0 (full_fits log since kept.1) kept.2.0 kept.2.1
   one_kept (growing log since) item.End rest kept =
-      ended_kept log since (batch_fault (events_of log) since) refl rest kept.0 kept.1
+      ended_kept log (with_clocks log since) (clock_fault log (with_clocks log since)) refl rest kept.0 (full_fits log since kept.1)
   one_kept (finished log last) i rest kept = kept
   one_kept (refused log why) i rest kept = refused_kept log why (i ∷ rest) rest kept
 

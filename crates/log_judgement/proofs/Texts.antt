@@ -12,7 +12,7 @@ use Rattle.run_report.specs.Reports.{Asked}
 use Rattle.run_report.proofs.OneReport.{one_report}
 use Rattle.log_judgement.specs.Judgement.{Prefix, with_names}
 use Rattle.log_judgement.specs.Due.{log_reading, due}
-use Rattle.log_judgement.specs.Texts.{reported, AreReports, IsDueText}
+use Rattle.log_judgement.specs.Texts.{reported, AreReports, IsKept, IsDueText}
 use Rattle.log_judgement.proofs.Dues.{due_grows}
 use Rattle.log_judgement.proofs.Readings.{log_is_read}
 use Rattle.log_judgement.proofs.Orders.{IsOrdered, all_ordered}
@@ -41,25 +41,25 @@ reports_split q watches (log ∷ front) rest text h =
       h.4 ∙ ap (λ (x : List ℕ). report_text h.0 ++ x) others.4 ∙ sym (append_assoc (report_text h.0) others.0 others.1),
     )
 
-pub one_text : (q : Asked) (watches : Watches) → IsOfClass q.formula → (logs : List Prefix) → AllByRecursion IsOrdered logs
+pub one_text : (q : Asked) (watches : Watches) → IsOfClass q.formula → (logs : List Prefix) → AllByRecursion IsOrdered logs → AllByRecursion (IsKept q watches) logs
     → (t u : List ℕ) → AreReports q watches logs t → AreReports q watches logs u → t ≡ u
-one_text q watches class [] ordered t u h k = h ∙ sym k
-one_text q watches class (log ∷ logs) ordered t u h k =
-    let report = one_report q log.header log.batches watches class ordered.0 h.0 k.0 h.1 k.1 in
-    let rest = one_text q watches class logs ordered.1 h.2 k.2 h.3 k.3 in
+one_text q watches class [] ordered kept t u h k = h ∙ sym k
+one_text q watches class (log ∷ logs) ordered kept t u h k =
+    let report = one_report q log.header log.batches watches class ordered.0 kept.0 h.0 k.0 h.1 k.1 in
+    let rest = one_text q watches class logs ordered.1 kept.1 h.2 k.2 h.3 k.3 in
     h.4 ∙ ap (λ (r : Report). report_text r ++ h.2) report ∙ ap (λ (x : List ℕ). report_text k.0 ++ x) rest ∙ sym k.4
 
 module _ (q : Asked) (watches : Watches) (class : IsOfClass q.formula) (names : Header → Option FormulaFault) (each ended : Bool) where
-  pub one_due : (bytes t u : List ℕ) → IsDueText q watches each (due log_reading (with_names names) ended bytes) t
+  pub one_due : (bytes t u : List ℕ) → AllByRecursion (IsKept q watches) (reported each (due log_reading (with_names names) ended bytes)) → IsDueText q watches each (due log_reading (with_names names) ended bytes) t
       → IsDueText q watches each (due log_reading (with_names names) ended bytes) u → t ≡ u
-  one_due bytes t u h k =
-      one_text q watches class (reported each (due log_reading (with_names names) ended bytes)) (all_ordered names each ended bytes) t u h k
+  one_due bytes t u kept h k =
+      one_text q watches class (reported each (due log_reading (with_names names) ended bytes)) (all_ordered names each ended bytes) kept t u h k
 
-  pub due_in_front : (bytes more t u : List ℕ) → IsDueText q watches each (due log_reading (with_names names) false bytes) t
+  pub due_in_front : (bytes more t u : List ℕ) → AllByRecursion (IsKept q watches) (reported each (due log_reading (with_names names) false bytes)) → IsDueText q watches each (due log_reading (with_names names) false bytes) t
       → IsDueText q watches each (due log_reading (with_names names) ended (bytes ++ more)) u → IsPrefix t u
-  due_in_front bytes more t u h k =
+  due_in_front bytes more t u kept h k =
       let before = reported each (due log_reading (with_names names) false bytes) in
       let grown = due_grows 67108864 log_reading log_is_read (with_names names) each ended bytes more in
       let parts = reports_split q watches before grown.0 u (subst (λ (logs : List Prefix). AreReports q watches logs u) grown.1 k) in
-      let same = one_text q watches class before (all_ordered names each false bytes) t parts.0 h parts.2 in
+      let same = one_text q watches class before (all_ordered names each false bytes) kept t parts.0 h parts.2 in
       (parts.1, parts.4 ∙ ap (λ (x : List ℕ). x ++ parts.1) (sym same))

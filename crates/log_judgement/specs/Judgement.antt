@@ -9,12 +9,13 @@ use Rattle.event_log.specs.declared.item.LogFault.{LogFault}
 use Rattle.event_log.specs.declared.log.Event.{Event}
 use Rattle.event_log.specs.declared.log.Header.{Header}
 use Rattle.event_log.specs.States.{with_batches}
-use Rattle.vector_clock.specs.Events.{no_events}
+use Rattle.vector_clock.specs.Events.{Events, no_events}
 use Rattle.vector_clock.specs.Faults.{batch_fault}
+use Rattle.vector_clock.specs.Filled.{filled_batch}
 use Rattle.log_judgement.specs.declared.refusal.Refusal.{Refusal}
 use Rattle.log_judgement.specs.declared.refusal.Refusal.TheVariants as refusal
 
--- a log as far as some batch: its header and its first batches
+-- a log as far as some batch: its header and its first batches, with all clocks filled in
 pub record Prefix : Type 0 where
   pub header : Header
   pub batches : List (List Event)
@@ -27,13 +28,20 @@ followed_by log batch = record log { batches = log.batches ++ batch ∷ [] }
 pub record Rules : Type 0 where
   -- the first name of the formula that a header hasn't
   pub names : Header → Option FormulaFault
-  -- the first fault of a batch behind the batches before it
+  -- the first fault of a filled batch behind the batches before it
   pub batch : Prefix → List Event → Option LogFault
 
--- the first fault of the clocks and messages of a batch
+-- the events of its batches
+abbrev pub events_of : Prefix → Events
+events_of log = with_batches (no_events (length log.header.procs)) log.batches
+
+-- a batch behind it, once the clocks that its text leaves out are filled in
+abbrev pub with_clocks : Prefix → List Event → List Event
+with_clocks log batch = filled_batch (events_of log) batch
+
+-- the first fault of the clocks and messages of a filled batch
 abbrev pub clock_fault : Prefix → List Event → Option LogFault
-clock_fault log batch =
-    batch_fault (with_batches (no_events (length log.header.procs)) log.batches) batch
+clock_fault log batch = batch_fault (events_of log) batch
 
 -- clocks and messages are judged, and names by this
 abbrev pub with_names : (Header → Option FormulaFault) → Rules
@@ -43,7 +51,7 @@ with_names names = record { names = names; batch = clock_fault }
 pub data Judgement : Type 0 where
   -- the header isn't there yet
   waiting : Judgement
-  -- these batches were closed without fault, and these events came since
+  -- these batches were closed without fault, and these events came since, as the text has them
   growing : (log : Prefix) → (since : List Event) → Judgement
   -- the last batch was closed without fault by the `end` line
   finished : (log : Prefix) → (last : List Event) → Judgement
@@ -55,7 +63,7 @@ abbrev pub opened : Rules → Header → Judgement
 opened rules h = choose (rules.names h) (λ f. refused None (refusal.Formula f))
     (growing (record { header = h; batches = [] }) [])
 
--- a batch is closed, which leads to this, or has a fault
+-- a filled batch is closed, which leads to this, or has a fault
 abbrev pub closing : Rules → Prefix → List Event → Judgement → Judgement
 closing rules log batch next =
     choose (rules.batch log batch) (λ f. refused (Some log) (refusal.Log f)) next
@@ -69,8 +77,9 @@ judge rules waiting item.End = waiting
 judge rules (growing log since) (item.Header h) = growing log since
 judge rules (growing log since) (item.Event e) = growing log (since ++ e ∷ [])
 judge rules (growing log since) item.BatchEnd =
-    closing rules log since (growing (followed_by log since) [])
-judge rules (growing log since) item.End = closing rules log since (finished log since)
+    closing rules log (with_clocks log since) (growing (followed_by log (with_clocks log since)) [])
+judge rules (growing log since) item.End =
+    closing rules log (with_clocks log since) (finished log (with_clocks log since))
 judge rules (finished log last) i = finished log last
 judge rules (refused log why) i = refused log why
 

@@ -1,9 +1,10 @@
 -- The text that is due: the reports on the log after some of its batches, one after the other.
 use Rattle.std.specs.Prelude.{◌≡◌, ℕ, Bool, true, false, List, [], ◌∷◌, ◌++◌, Option, None, Some}
-use Rattle.run_model.specs.Run.{Watches}
+use Rattle.run_model.specs.Run.{Watches, run_of}
+use Rattle.run_model.specs.Class.{IsKeptFor}
 use Rattle.report.specs.declared.report.Report.{Report}
 use Rattle.report.specs.Spelling.{report_text}
-use Rattle.run_report.specs.Reports.{Asked, IsReportOf}
+use Rattle.run_report.specs.Reports.{Asked, trace_so_far, IsReportOf}
 use Rattle.log_judgement.specs.Judgement.{Prefix}
 use Rattle.log_judgement.specs.Due.{Due}
 
@@ -22,6 +23,11 @@ AreReports q watches [] text = text ≡ []
 AreReports q watches (log ∷ logs) text =
     (report : Report) × IsReportOf q log.header log.batches watches report
     × (rest : List ℕ) × AreReports q watches logs rest × (text ≡ report_text report ++ rest)
+
+-- no variable of the formula's differences falls in the run of the log so far
+abbrev pub IsKept : Asked → Watches → Prefix → Type 0
+IsKept q watches log =
+    IsKeptFor (run_of (trace_so_far log.header log.batches) watches) q.formula
 
 -- the text that is due
 abbrev pub IsDueText : Asked → Watches → (each : Bool) → Due → List ℕ → Type 0

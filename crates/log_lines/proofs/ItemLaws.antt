@@ -4,11 +4,12 @@ use Rattle.std.specs.Prelude.{◌==◌}
 use Rattle.std.specs.List.{AllByRecursion}
 use Rattle.std.proofs.lemmas.Bool.{cases_Bool, eqb-true, ne_eqb}
 use Rattle.std.proofs.lemmas.List.{append-nil, nil_from_length}
-use Rattle.std.proofs.lemmas.Option.{same_Some, cond_some}
+use Rattle.std.proofs.lemmas.Option.{same_Some, cond_some, none-some}
 use Rattle.std.specs.Fmt.{decimal}
 use Rattle.log_lines.specs.Names.{Name, is_name}
-use Rattle.log_lines.specs.Spelling.{NamedValue, ValueFits, names_text, values_text, clock_rest, clock_text, ClockFits}
-use Rattle.log_lines.specs.Reading.{◌>>=◌, choose, number_at, text_at, spaced_name_at, value_at, items_from, names_from, values_from, clock_from, clock_at}
+use Rattle.log_lines.specs.Spelling.{NamedValue, ValueFits, names_text, values_text, clock_rest, clock_text, event_clock_text, ClockFits}
+use Rattle.log_lines.specs.Reading.{◌>>=◌, choose, number_at, text_at, spaced_name_at, value_at, items_from, names_from, values_from, clock_from, clock_at, event_clock_at}
+use Rattle.pota_base.specs.Number.{digits_from}
 use Rattle.pota_base.proofs.NumberLaws.{number_takes, number_again, starts_digit}
 use Rattle.log_lines.proofs.WordLaws.{bind_some, text_takes, spaced_name_takes, spaced_name_again, starts_name}
 use Rattle.log_lines.proofs.SignedLaws.{value_text, value_takes, value_again}
@@ -188,3 +189,62 @@ clock_again [] rest fits end stops = absurd (omega (arith, fits.some))
 clock_again (n ∷ ns) rest fits end stops =
     rw (append_assoc (decimal n) (clock_rest ns) rest, number_again (2 ^ 32 - 1) n (clock_rest ns ++ rest) (omega arith) (omega (arith, fits.each.0)) (clock_rest_stops ns rest stops))
     (clock_rest_again (length (clock_rest ns ++ rest)) (n ∷ []) ns rest (omega (arith, length-clock_rest ns, length-append (clock_rest ns) rest)) fits.each.1 end stops)
+
+-- ---- clocks of events
+
+abbrev Small : List ℕ → Type 0
+Small ns = AllByRecursion (λ n. n < 2 ^ 32) ns
+
+number_tilde : (after : List ℕ) → number_at (2 ^ 32 - 1) (126 ∷ after) ≡ None
+unfolding digits_from
+number_tilde after = refl
+
+-- what begins with a number is no clock that is left out
+no_tilde : (xs : List ℕ) (n : ℕ × List ℕ) → number_at (2 ^ 32 - 1) xs ≡ Some n → (o : Option (List ℕ)) → text_at (126 ∷ []) xs ≡ o → o ≡ None
+no_tilde xs n is None at = refl
+no_tilde xs n is (Some after) at =
+    absurd (none-some n (sym (number_tilde after) ∙ ap (number_at (2 ^ 32 - 1)) (sym (text_takes (126 ∷ []) xs after at)) ∙ is))
+
+-- counts that are read are the clock
+pub counts_are : (xs : List ℕ) (x : List ℕ × List ℕ) → clock_at xs ≡ Some x → event_clock_at xs ≡ Some x
+unfolding clock_at event_clock_at
+counts_are xs x h =
+    let n = bind_some (number_at (2 ^ 32 - 1) xs) _ x h in
+    rw (no_tilde xs n.0 n.1 (text_at (126 ∷ []) xs) refl) h
+
+pub counts_given : (xs : List ℕ) (n : ℕ × List ℕ) → number_at (2 ^ 32 - 1) xs ≡ Some n → event_clock_at xs ≡ clock_from (length n.1) (n.0 ∷ []) n.1
+unfolding clock_at event_clock_at
+counts_given xs n h = rw (no_tilde xs n h (text_at (126 ∷ []) xs) refl, h) refl
+
+pub left_out : (xs after : List ℕ) → text_at (126 ∷ []) xs ≡ Some after → event_clock_at xs ≡ Some ([], after)
+unfolding event_clock_at
+left_out xs after h = rw h refl
+
+pub not_left_out : (xs : List ℕ) → number_at (2 ^ 32 - 1) xs ≡ None → text_at (126 ∷ []) xs ≡ None → event_clock_at xs ≡ None
+unfolding clock_at event_clock_at
+not_left_out xs none no_tilde = rw (no_tilde, none) refl
+
+pub written_text : (ns : List ℕ) → 0 < length ns → event_clock_text ns ≡ clock_text ns
+written_text [] some = absurd (omega arith)
+written_text (n ∷ ns) some = refl
+
+pub record EventClockTaken (xs v rest : List ℕ) : Type 0 where
+  pub text : xs ≡ event_clock_text v ++ rest
+  pub fits : Small v
+
+pub event_clock_takes : (xs v rest : List ℕ) → event_clock_at xs ≡ Some (v, rest) → EventClockTaken xs v rest
+unfolding event_clock_at
+event_clock_takes xs v rest h = go (text_at (126 ∷ []) xs) refl h
+  where
+    go : (o : Option (List ℕ)) → text_at (126 ∷ []) xs ≡ o → choose o (λ after. Some ([], after)) (clock_at xs) ≡ Some (v, rest) → EventClockTaken xs v rest
+    go (Some after) at g = subst (λ (p : List ℕ × List ℕ). EventClockTaken xs p.0 p.1) (same_Some _ _ g) (record { text = text_takes (126 ∷ []) xs after at; fits = tt })
+    go None at g =
+        let taken = clock_takes xs v rest g in
+        record { text = taken.text ∙ ap (λ (t : List ℕ). t ++ rest) (sym (written_text v taken.fits.some)); fits = taken.fits.each }
+
+pub event_clock_again : (ns rest : List ℕ) → Small ns → text_at (44 ∷ []) rest ≡ None → starts_digit rest ≡ false → event_clock_at (event_clock_text ns ++ rest) ≡ Some (ns, rest)
+unfolding event_clock_at text_at
+event_clock_again [] rest fits end stops = refl
+event_clock_again (n ∷ ns) rest fits end stops =
+    let clock_fits : ClockFits (n ∷ ns) = record { some = omega arith; each = fits } in
+    counts_are (clock_text (n ∷ ns) ++ rest) (n ∷ ns, rest) (clock_again (n ∷ ns) rest clock_fits end stops)

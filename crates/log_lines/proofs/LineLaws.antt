@@ -6,12 +6,12 @@ use Rattle.std.proofs.lemmas.Option.{same_Some, cond_some}
 use Rattle.std.specs.Fmt.{decimal}
 use Rattle.log_lines.specs.declared.draft.LineError.{LineError}
 use Rattle.log_lines.specs.Names.{Name, is_name, are_distinct}
-use Rattle.log_lines.specs.Spelling.{NamedValue, Action, Internal, Send, Receive, ActionFits, EventLine, EventLineFits, event_line, VarsLine, VarsLineFits, vars_line, ProcsFit, procs_line, names_of, values_text, ValuesFit, clock_text, action_text}
-use Rattle.log_lines.specs.Reading.{◌>>=◌, choose, number_at, text_at, spaced_name_at, names_from, values_from, values_at, clock_at, message_at, send_at, receive_at, action_at, event_in, vars_in, procs_in}
+use Rattle.log_lines.specs.Spelling.{NamedValue, Action, Internal, Send, Receive, ActionFits, EventLine, EventLineFits, event_line, VarsLine, VarsLineFits, vars_line, ProcsFit, procs_line, names_of, values_text, ValuesFit, event_clock_text, action_text}
+use Rattle.log_lines.specs.Reading.{◌>>=◌, choose, number_at, text_at, spaced_name_at, names_from, values_from, values_at, event_clock_at, message_at, send_at, receive_at, action_at, event_in, vars_in, procs_in}
 use Rattle.log_lines.specs.Drafts.{Gives}
 use Rattle.pota_base.proofs.NumberLaws.{number_takes, number_again, starts_digit}
 use Rattle.log_lines.proofs.WordLaws.{bind_some, text_takes, spaced_name_takes, spaced_name_again, starts_name}
-use Rattle.log_lines.proofs.ItemLaws.{names_take, names_again, values_take, values_from_again, clock_takes, clock_again}
+use Rattle.log_lines.proofs.ItemLaws.{names_take, names_again, values_take, values_from_again, event_clock_takes, event_clock_again}
 
 -- ---- values of distinct variables
 
@@ -109,10 +109,10 @@ pub record EventRead (line : List ℕ) (e : EventLine) : Type 0 where
 
 -- the parts of an event line put together
 event_text : (line r1 actor r2 r3 clock r4 r5 : List ℕ) (action : Action) (r6 : List ℕ) (assigns : List NamedValue)
-    → line ≡ 101 ∷ 118 ∷ r1 → r1 ≡ 32 ∷ (actor ++ r2) → r2 ≡ 32 ∷ r3 → r3 ≡ clock_text clock ++ r4 → r4 ≡ 32 ∷ r5 → r5 ≡ action_text action ++ r6 → r6 ≡ values_text assigns
+    → line ≡ 101 ∷ 118 ∷ r1 → r1 ≡ 32 ∷ (actor ++ r2) → r2 ≡ 32 ∷ r3 → r3 ≡ event_clock_text clock ++ r4 → r4 ≡ 32 ∷ r5 → r5 ≡ action_text action ++ r6 → r6 ≡ values_text assigns
     → line ≡ event_line (record { actor = actor; clock = clock; action = action; assigns = assigns })
 event_text line r1 actor r2 r3 clock r4 r5 action r6 assigns e1 e2 e3 e4 e5 e6 e7 =
-    e1 ∙ ap (λ (t : List ℕ). 101 ∷ 118 ∷ t) (e2 ∙ ap (λ (t : List ℕ). 32 ∷ (actor ++ t)) (e3 ∙ ap (λ (t : List ℕ). 32 ∷ t) (e4 ∙ ap (λ (t : List ℕ). clock_text clock ++ t) (e5 ∙ ap (λ (t : List ℕ). 32 ∷ t) (e6 ∙ ap (λ (t : List ℕ). action_text action ++ t) e7)))))
+    e1 ∙ ap (λ (t : List ℕ). 101 ∷ 118 ∷ t) (e2 ∙ ap (λ (t : List ℕ). 32 ∷ (actor ++ t)) (e3 ∙ ap (λ (t : List ℕ). 32 ∷ t) (e4 ∙ ap (λ (t : List ℕ). event_clock_text clock ++ t) (e5 ∙ ap (λ (t : List ℕ). 32 ∷ t) (e6 ∙ ap (λ (t : List ℕ). action_text action ++ t) e7)))))
 
 pub event_takes : (line : List ℕ) (e : EventLine) → event_in line ≡ Some e → EventRead line e
 unfolding event_in
@@ -120,12 +120,12 @@ event_takes line e h =
     let a = bind_some (text_at (101 ∷ 118 ∷ []) line) _ e h in
     let b = bind_some (spaced_name_at a.0) _ e a.2 in
     let c = bind_some (text_at (32 ∷ []) b.0.1) _ e b.2 in
-    let d = bind_some (clock_at c.0) _ e c.2 in
+    let d = bind_some (event_clock_at c.0) _ e c.2 in
     let f = bind_some (text_at (32 ∷ []) d.0.1) _ e d.2 in
     let g = bind_some (action_at f.0) _ e f.2 in
     let k = bind_some (values_at g.0.1) _ e g.2 in
     let actor = spaced_name_takes a.0 b.0.0 b.0.1 b.1 in
-    let clock = clock_takes c.0 d.0.0 d.0.1 d.1 in
+    let clock = event_clock_takes c.0 d.0.0 d.0.1 d.1 in
     let action = action_takes f.0 g.0.0 g.0.1 g.1 in
     let assigns = values_at_takes g.0.1 k.0 k.1 in
     let text = event_text line a.0 b.0.0 b.0.1 c.0 d.0.0 d.0.1 f.0 g.0.0 g.0.1 k.0 (text_takes (101 ∷ 118 ∷ []) line a.0 a.1) actor.text (text_takes (32 ∷ []) b.0.1 c.0 c.1) clock.text (text_takes (32 ∷ []) d.0.1 f.0 f.1) action.text assigns.text in
@@ -139,8 +139,8 @@ pub event_again : (e : EventLine) → EventLineFits e → event_in (event_line e
 unfolding event_in text_at
 event_again e fits =
     rw (
-      spaced_name_again e.actor (32 ∷ (clock_text e.clock ++ 32 ∷ (action_text e.action ++ values_text e.assigns))) fits.actor refl,
-      clock_again e.clock (32 ∷ (action_text e.action ++ values_text e.assigns)) fits.clock refl refl,
+      spaced_name_again e.actor (32 ∷ (event_clock_text e.clock ++ 32 ∷ (action_text e.action ++ values_text e.assigns))) fits.actor refl,
+      event_clock_again e.clock (32 ∷ (action_text e.action ++ values_text e.assigns)) fits.clock refl refl,
       action_again e.action (values_text e.assigns) fits.action (values_stop e.assigns),
       values_at_again e.assigns fits.assigns,
     ) refl

@@ -77,8 +77,14 @@ clock_from (suc fuel) front bytes =
     (λ after. number_at (2 ^ 32 - 1) after >>= λ n. clock_from fuel (front ++ n.0 ∷ []) n.1)
     (Some (front, bytes))
 
+-- the counts of a clock or a cut
 unfoldable pub clock_at : List ℕ → Option (List ℕ × List ℕ)
 clock_at bytes = number_at (2 ^ 32 - 1) bytes >>= λ n. clock_from (length n.1) (n.0 ∷ []) n.1
+
+-- the clock of an event, which has no counts where it is left out
+unfoldable pub event_clock_at : List ℕ → Option (List ℕ × List ℕ)
+event_clock_at bytes =
+    choose (text_at (126 ∷ []) bytes) (λ after. Some ([], after)) (clock_at bytes)
 
 -- ---- whole lines
 
@@ -109,7 +115,7 @@ event_in line = do
   rest ← text_at (101 ∷ 118 ∷ []) line
   actor ← spaced_name_at rest
   after ← text_at (32 ∷ []) actor.1
-  clock ← clock_at after
+  clock ← event_clock_at after
   space ← text_at (32 ∷ []) clock.1
   action ← action_at space
   assigns ← values_at action.1

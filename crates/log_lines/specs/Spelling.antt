@@ -50,6 +50,11 @@ abbrev pub clock_text : List ℕ → List ℕ
 clock_text [] = []
 clock_text (n ∷ ns) = decimal n ++ clock_rest ns
 
+-- the counts of an event's clock, or `~` where it is left out
+abbrev pub event_clock_text : List ℕ → List ℕ
+event_clock_text [] = 126 ∷ []
+event_clock_text (n ∷ ns) = clock_text (n ∷ ns)
+
 -- `int`, `send NAME ID` or `recv NAME ID`
 abbrev pub action_text : Action → List ℕ
 action_text Internal = 105 ∷ 110 ∷ 116 ∷ []
@@ -68,7 +73,8 @@ vars_line v = 118 ∷ 97 ∷ 114 ∷ 115 ∷ 32 ∷ (v.process ++ values_text v.
 abbrev pub event_line : EventLine → List ℕ
 event_line e =
     101 ∷ 118 ∷ 32
-    ∷ (e.actor ++ 32 ∷ (clock_text e.clock ++ 32 ∷ (action_text e.action ++ values_text e.assigns)))
+    ∷ (e.actor ++ 32
+    ∷ (event_clock_text e.clock ++ 32 ∷ (action_text e.action ++ values_text e.assigns)))
 
 -- `batch`
 abbrev pub batch_line : List ℕ
@@ -99,9 +105,10 @@ pub record ClockFits (ns : List ℕ) : Type 0 where
   pub some : 0 < length ns
   pub each : AllByRecursion (λ n. n < 2 ^ 32) ns
 
+-- the clock has no counts where it is left out
 pub record EventLineFits (e : EventLine) : Type 0 where
   pub actor : is_name e.actor ≡ true
-  pub clock : ClockFits e.clock
+  pub clock : AllByRecursion (λ n. n < 2 ^ 32) e.clock
   pub action : ActionFits e.action
   pub assigns : ValuesFit e.assigns
 

@@ -7,14 +7,14 @@
 ghost use Rattle.std.specs.Prelude.{◌≡◌, ◌+◌, ◌^◌, ◌<◌, [], length, take, drop, set, IfOk, IfSome};
 ghost use Rattle.std.specs.List.{AllByRecursion};
 ghost use Rattle.std.specs.Fmt.{decimal};
-ghost use Rattle.log_lines.specs.Spelling.{clock_rest, clock_text};
-ghost use Rattle.log_lines.specs.Reading.{clock_at};
+ghost use Rattle.log_lines.specs.Spelling.{clock_rest, clock_text, event_clock_text};
+ghost use Rattle.log_lines.specs.Reading.{clock_at, event_clock_at};
 ghost use Rattle.log_lines.specs.Drafts.{Gives};
 ghost use Rattle.log_lines.specs.Frames.{FrameFits, clock_front};
 
 use crate::counts::count_at;
 use crate::draft::LineError;
-use crate::values::sized_clock_at;
+use crate::values::event_clock_at;
 use crate::words::text_at;
 use pota_base::NoMemory;
 use std::alloc::Global;
@@ -178,7 +178,7 @@ impl Frames {
         }
     }
 
-    // Keeps a clock that was read as its process's last one.
+    // Keeps a clock that was read as its process's last one. One that was left out is passed over.
     fn keep(
         &mut self,
         alloc: Global,
@@ -187,7 +187,7 @@ impl Frames {
         text: &[u8],
     ) -> Result<(), NoMemory>
         requires small { AllByRecursion (λ n. n < 2 ^ 32) clock.now }
-        requires spelled { text.now ≡ clock_text clock.now }
+        requires spelled { text.now ≡ event_clock_text clock.now }
     {
         if process >= clock.len() || process >= self.frames.len() {
             return Ok(());
@@ -198,19 +198,19 @@ impl Frames {
         Ok(())
     }
 
-    /// The clock of an event of this process at the front, and the bytes after its last component.
+    /// The clock of an event of this process at the front, and the bytes behind it.
     pub fn clock_at<'a>(
         &mut self,
         alloc: Global,
         process: usize,
         bytes: &'a [u8],
     ) -> Result<(Vec<u32>, &'a [u8]), LineError>
-        ensures { Gives (λ x. (x.0.items, x.1.now)) result (clock_at bytes.now) }
+        ensures { Gives (λ x. (x.0.items, x.1.now)) result (event_clock_at bytes.now) }
     {
         if let Some(found) = self.known(alloc, process, bytes)? {
             return Ok(found);
         }
-        let (clock, rest) = sized_clock_at(alloc, self.frames.len(), bytes)?;
+        let (clock, rest) = event_clock_at(alloc, self.frames.len(), bytes)?;
         let text = &bytes[..bytes.len() - rest.len()];
         self.keep(alloc, process, &clock, text)?;
         Ok((clock, rest))

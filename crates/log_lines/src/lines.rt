@@ -6,14 +6,14 @@ ghost use Rattle.log_lines.specs.Names.{Name as NameOf, place_of};
 ghost use Rattle.log_lines.specs.Spelling.{EventLine, EventLineFits, event_line, VarsLine};
 ghost use Rattle.log_lines.specs.Spelling.{VarsLineFits, vars_line, ProcsFit, procs_line};
 ghost use Rattle.log_lines.specs.Spelling.{batch_line, end_line};
-ghost use Rattle.log_lines.specs.Reading.{clock_at, message_at, action_at, event_in, vars_in};
+ghost use Rattle.log_lines.specs.Reading.{event_clock_at, message_at, action_at, event_in, vars_in};
 ghost use Rattle.log_lines.specs.Reading.{procs_in, begins_vars};
 ghost use Rattle.log_lines.specs.Drafts.{Gives, action_of, event_of, vars_of, texts_of};
 ghost use Rattle.log_lines.specs.Drafts.{message_seen, action_seen};
 
 use crate::draft::{ActionDraft, EventDraft, LineError, VarsDraft};
 use crate::frames::Frames;
-use crate::values::{clock_at, names_from, values_at};
+use crate::values::{event_clock_at, names_from, values_at};
 use crate::words::{are_distinct, place_of, spaced_name_at, text_at};
 use pota_base::number_at;
 use pota_names::Name;
@@ -53,11 +53,11 @@ fn clock_of<'a>(
     process: Option<usize>,
     bytes: &'a [u8],
 ) -> Result<(Vec<u32>, &'a [u8]), LineError>
-    ensures { Gives (λ x. (x.0.items, x.1.now)) result (clock_at bytes.now) }
+    ensures { Gives (λ x. (x.0.items, x.1.now)) result (event_clock_at bytes.now) }
 {
     match process {
         Some(process) => frames.clock_at(alloc, process, bytes),
-        None => clock_at(alloc, bytes),
+        None => event_clock_at(alloc, 0, bytes),
     }
 }
 

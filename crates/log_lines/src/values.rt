@@ -2,7 +2,7 @@
 
 ghost use Rattle.std.specs.Prelude.{◌≡◌, ◌^◌, ◌<◌, ◌≤◌, [], ◌∷◌, length, map};
 ghost use Rattle.log_lines.specs.Reading.{value_at, names_from, values_from, values_at, clock_from};
-ghost use Rattle.log_lines.specs.Reading.{clock_at};
+ghost use Rattle.log_lines.specs.Reading.{clock_at, event_clock_at};
 ghost use Rattle.log_lines.specs.Drafts.{Gives, value_of, values_of, value_seen, texts_of};
 
 use crate::counts::count_at;
@@ -94,23 +94,27 @@ fn clock_from(
     Ok((clock, rest))
 }
 
-/// The clock at the front, and the bytes after its last component. The memory for `width`
-/// components is taken at once.
+/// The counts of a clock or a cut at the front, and the bytes after the last one.
 #[tactic(auto, unfolding(crate::specs::Reading::clock_at))]
-pub(crate) fn sized_clock_at(
+pub fn clock_at(alloc: Global, bytes: &[u8]) -> Result<(Vec<u32>, &[u8]), LineError>
+    ensures { Gives (λ x. (x.0.items, x.1.now)) result (clock_at bytes.now) }
+{
+    let (first, rest) = count_at(bytes).ok_or(LineError::Malformed)?;
+    clock_from(alloc, 0, first, rest)
+}
+
+/// The clock of an event at the front, and the bytes behind it. It has no counts where it is left
+/// out, which is written `~`. The memory for `width` counts is taken at once.
+pub(crate) fn event_clock_at(
     alloc: Global,
     width: usize,
     bytes: &[u8],
 ) -> Result<(Vec<u32>, &[u8]), LineError>
-    ensures { Gives (λ x. (x.0.items, x.1.now)) result (clock_at bytes.now) }
+    ensures { Gives (λ x. (x.0.items, x.1.now)) result (event_clock_at bytes.now) }
 {
-    let (first, rest) = count_at(bytes).ok_or(LineError::Malformed)?;
+    let Some((first, rest)) = count_at(bytes) else {
+        let rest = text_at(b"~", bytes).ok_or(LineError::Malformed)?;
+        return Ok((Vec::new(alloc), rest));
+    };
     clock_from(alloc, width, first, rest)
-}
-
-/// The clock at the front, and the bytes after its last component.
-pub fn clock_at(alloc: Global, bytes: &[u8]) -> Result<(Vec<u32>, &[u8]), LineError>
-    ensures { Gives (λ x. (x.0.items, x.1.now)) result (clock_at bytes.now) }
-{
-    sized_clock_at(alloc, 0, bytes)
 }

@@ -1,10 +1,10 @@
 -- Runs that agree on what a formula names give it the same truth.
-use Rattle.std.proofs.Common.{◌≡◌, ℕ, ◌-◌, ◌↔◌, Bool, IsTrue, pos, sym, ap, ◌∙◌, subst, refl, inl, inr}
+use Rattle.std.proofs.Common.{◌≡◌, ℕ, ◌-◌, ◌↔◌, Bool, IsTrue, pos, ◌-ℤ◌, sym, ap, ◌∙◌, subst, refl, inl, inr}
 use Rattle.std.specs.Prelude.{◌==◌, if◌then◌else◌}
-use Rattle.run_model.specs.Cut.{Cut, Clocks, count}
+use Rattle.run_model.specs.Cut.{Cut, Clocks, count, with_next}
 use Rattle.run_model.specs.Run.{Name, Run}
-use Rattle.run_model.specs.Operators.{SomeTime, EachTime, Staying}
-use Rattle.run_model.specs.Formula.{Side, Number, Variable, Ef, Ag, Eg, Ex, Af, Ax, Formula, Truth, Comparison, Watched, InTransit, Empty, Not, And, Or, Temporal, Until, Formulas, Nil, Cons}
+use Rattle.run_model.specs.Operators.{SomeTime, EachTime, Staying, NextTime}
+use Rattle.run_model.specs.Formula.{Side, Number, Variable, Ef, Ag, Eg, Af, Ax, Formula, Truth, Comparison, Watched, InTransit, Empty, Difference, Not, And, Or, Temporal, Next, Until, Formulas, Nil, Cons}
 use Rattle.run_model.specs.Meaning.{compares, value_at, side_at, in_transit, Sat, SatAll, SatSome}
 use Rattle.run_model.proofs.Paths.{all_wider}
 use Rattle.model_laws.specs.Agreement.{AgreeOnVariable, AgreeOnWatch, AgreeOnChannel, AgreeOnSide, AgreeOn, AgreeOnAll}
@@ -46,6 +46,10 @@ same_staying o p e A B same c = subst (λ (x : Clocks). Staying o A c ↔ Stayin
   λ h. (h.0, h.1, all_wider B A (λ x m. (same x).1 m) c h.0 h.2),
 )
 
+same_next_time : (o p : Clocks) → o ≡ p → (i j : ℕ) → i ≡ j → (A B : Cut → Type 0) → ((c : Cut) → A c ↔ B c) → (c : Cut) → NextTime o i A c ↔ NextTime p j B c
+same_next_time o p e i j h A B same c = subst (λ (x : Clocks). NextTime o i A c ↔ NextTime x j B c) e (subst (λ k. NextTime o i A c ↔ NextTime o k B c) h
+    (λ w. (w.0, w.1, (same (with_next c i)).0 w.2), λ w. (w.0, w.1, (same (with_next c i)).1 w.2)))
+
 mutual
   pub same_sat : (r s : Run) → r.clocks ≡ s.clocks → (f : Formula) → AgreeOn r s f → (c : Cut) → Sat r f c ↔ Sat s f c
   same_sat r s e (Truth b) h c = (λ t. t, λ t. t)
@@ -58,15 +62,19 @@ mutual
       same_truth (compares relation (pos (in_transit r (r.process p) (r.process q) c)) (pos k)) (compares relation (pos (in_transit s (s.process p) (s.process q) c)) (pos k))
       (ap (λ n. compares relation (pos n) (pos k)) (same_transit r s p q c h))
   same_sat r s e (Empty p q) h c = (λ t. sym (same_transit r s p q c h) ∙ t, λ t. same_transit r s p q c h ∙ t)
+  same_sat r s e (Difference p x q y relation k) h c =
+      let left = same_value r s p x c h.0 in
+      let right = same_value r s q y c h.1 in
+      same_truth (compares relation (value_at r p x c -ℤ value_at r q y c) k) (compares relation (value_at s p x c -ℤ value_at s q y c) k) (λ t. compares relation (left t -ℤ right t) k)
   same_sat r s e (Not f) h c = (λ n t. n ((same_sat r s e f h c).1 t), λ n t. n ((same_sat r s e f h c).0 t))
   same_sat r s e (And fs) h c = same_all r s e fs h c
   same_sat r s e (Or fs) h c = same_some r s e fs h c
   same_sat r s e (Temporal Ef f) h c = same_some_time r.clocks s.clocks e (Sat r f) (Sat s f) (same_sat r s e f h) c
   same_sat r s e (Temporal Ag f) h c = same_each_time r.clocks s.clocks e (Sat r f) (Sat s f) (same_sat r s e f h) c
   same_sat r s e (Temporal Eg f) h c = same_staying r.clocks s.clocks e (Sat r f) (Sat s f) (same_sat r s e f h) c
-  same_sat r s e (Temporal Ex f) h c = (λ t. t, λ t. t)
   same_sat r s e (Temporal Af f) h c = (λ t. t, λ t. t)
   same_sat r s e (Temporal Ax f) h c = (λ t. t, λ t. t)
+  same_sat r s e (Next p f) h c = same_next_time r.clocks s.clocks e (r.process p) (s.process p) h.0 (Sat r f) (Sat s f) (same_sat r s e f h.1) c
   same_sat r s e (Until all left right) h c = (λ t. t, λ t. t)
 
   same_all : (r s : Run) → r.clocks ≡ s.clocks → (fs : Formulas) → AgreeOnAll r s fs → (c : Cut) → SatAll r fs c ↔ SatAll s fs c

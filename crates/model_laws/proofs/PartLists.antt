@@ -4,7 +4,7 @@ use Rattle.std.proofs.lemmas.Bool.{cond_both, or_cases, cond-false, both_ways}
 use Rattle.run_model.specs.Cut.{Cut}
 use Rattle.run_model.specs.Run.{Run}
 use Rattle.run_model.specs.Consistent.{IsOrder, IsConsistent}
-use Rattle.run_model.specs.Formula.{Formula, Truth, Comparison, Watched, InTransit, Empty, Not, And, Or, Temporal, Until}
+use Rattle.run_model.specs.Formula.{Formula, Truth, Comparison, Watched, InTransit, Empty, Difference, Not, And, Or, Temporal, Next, Until}
 use Rattle.run_model.specs.Meaning.{Sat}
 use Rattle.run_model.specs.Class.{is_local, is_conjunctive, all_conjunctive, IsRegular, signed, parts, all_parts, disjuncts, all_disjuncts, SatParts, SatDisjuncts}
 use Rattle.run_model.proofs.DisjunctLemmas.{disjuncts_mean}
@@ -16,6 +16,7 @@ one_list (Comparison q variable relation side) sign h = refl
 one_list (Watched q watch) sign h = refl
 one_list (InTransit p q relation m) sign h = refl
 one_list (Empty p q) sign h = refl
+one_list (Difference p x q y relation m) sign h = refl
 one_list (Not f) sign h = cond_both (is_local (Not f)) (parts sign (Not f) ∷ []) (disjuncts (not sign) f) (λ ds. ds ≡ parts sign (Not f) ∷ [])
     (λ t. refl)
     (λ t. elim (or_cases (is_local (Not f)) (is_conjunctive (not sign) f) h) [
@@ -27,6 +28,7 @@ one_list (And fs) false h = cond_both (is_local (And fs)) (parts false (And fs) 
 one_list (Or fs) true h = cond_both (is_local (Or fs)) (parts true (Or fs) ∷ []) (all_disjuncts true fs) (λ ds. ds ≡ parts true (Or fs) ∷ []) (λ t. refl) (λ t. absurd (both_ways (is_local (Or fs)) t h))
 one_list (Or fs) false h = refl
 one_list (Temporal operator f) sign h = refl
+one_list (Next process f) sign h = refl
 one_list (Until all left right) sign h = refl
 
 pub one_disjunct : (f : Formula) → IsRegular f → disjuncts true f ≡ parts true f ∷ []

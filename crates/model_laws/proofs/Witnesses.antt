@@ -1,20 +1,20 @@
 -- A part that is regular in a run has one witness.
-use Rattle.std.proofs.Common.{◌≡◌, ◌⊎◌, ◌↔◌, ◌&&◌, Bool, true, [], length, Option, Some, None, sym, ap, ◌∙◌, subst, refl, inl, inr, arith}
-use Rattle.std.proofs.lemmas.Bool.{cases_eq, and_parts, false≢true}
-use Rattle.run_model.specs.Cut.{Cut, Clocks, IsWithin, lengths, initial}
-use Rattle.run_model.specs.Run.{Run}
+use Rattle.std.proofs.Common.{◌≡◌, ℕ, ◌<◌, ◌≤◌, ◌⊎◌, ◌↔◌, ◌&&◌, Bool, true, [], length, Option, Some, None, sym, ap, ◌∙◌, subst, refl, inl, inr, arith}
+use Rattle.std.proofs.lemmas.Bool.{cases_lt, cases_eq, and_parts, false≢true}
+use Rattle.run_model.specs.Cut.{Cut, Clocks, IsWithin, with_next, lengths, initial}
+use Rattle.run_model.specs.Run.{Name, Run}
 use Rattle.run_model.specs.Consistent.{clock, IsOrder}
 use Rattle.run_model.specs.Sublattice.{IsClosed, Having, Smallest}
 use Rattle.run_model.specs.Slice.{Slice, IsLeastOf, Cuts, StandsFor, cut_of}
 use Rattle.run_model.specs.Operators.{HasPairs}
-use Rattle.run_model.specs.Formula.{Ef, Ag, Eg, Ex, Af, Ax, Formula, Truth, Comparison, Watched, InTransit, Empty, Not, And, Or, Temporal, Until}
+use Rattle.run_model.specs.Formula.{Operator, Ef, Ag, Eg, Af, Ax, Formula, Truth, Comparison, Watched, InTransit, Empty, Difference, Not, And, Or, Temporal, Next, Until}
 use Rattle.run_model.specs.Meaning.{IsRun, Family}
-use Rattle.run_model.specs.Class.{is_conjunctive, IsRegular}
-use Rattle.run_model.specs.Witness.{WitnessOperator, ExistsFinally, AlwaysGlobally, ExistsGlobally, part_of, Place, PathTo, Witness, Nothing, IsOfKind, IsPlace, FirstSteps, IsFirst, row_at, AreTwo, Departs, Shares, IsCanonical, explained, IsWitnessOf}
+use Rattle.run_model.specs.Class.{is_analysed, is_conjunctive, IsKeptFor, IsRegular, IsRegularIn}
+use Rattle.run_model.specs.Witness.{WitnessOperator, ExistsFinally, AlwaysGlobally, ExistsGlobally, ExistsNext, IsPartOf, HasFirst, Place, PathTo, Witness, Nothing, first_event_of, IsOfKind, IsPlace, FirstSteps, IsFirst, row_at, AreTwo, Departs, Shares, IsCanonical, explained, IsWitnessOf}
 use Rattle.run_model.specs.Witness as W
 use Rattle.run_model.proofs.Counts.{within_both, initial_within}
 use Rattle.run_model.proofs.Orders.{initial_consistent, past_consistent, past_has, has_past}
-use Rattle.run_model.proofs.SliceLemmas.{least_of_member, stands_same, stands_fits, exact_slice}
+use Rattle.run_model.proofs.SliceLemmas.{cuts_member, member_cuts, least_of_member, stands_same, stands_fits, exact_slice}
 use Rattle.run_model.proofs.JoinLemmas.{smallest_of_closed}
 use Rattle.run_model.proofs.OperatorLemmas.{Below, below_climbable, below_apart, set_climbable, pairs_apart}
 use Rattle.run_model.proofs.RegularLemmas.{regular_closed}
@@ -168,6 +168,15 @@ always_there o A s k = elim (k.decide (initial o)) [
   ]
 ]
 
+next_there : (o : Clocks) (A : Cut → Type 0) (s : Slice) → Operand o A s → (i : ℕ) → (w : Witness) × IsCanonical o s (ExistsNext i) w
+next_there o A s k i = elim (cases_lt i (length o)) [
+  | inr past ↦ (Nothing, W.IsCanonical.never_next (λ first. absurd (omega (arith, past, first.0))))
+  | inl there ↦ elim (k.decide (with_next (initial o) i)) [
+    | inl member ↦ (W.Reach (first_event_of o i), W.IsCanonical.reaches_next (there, member_cuts o A k.closed s k.stands (with_next (initial o) i) member))
+    | inr n ↦ (Nothing, W.IsCanonical.never_next (λ first. n (cuts_member o A k.closed s k.stands (with_next (initial o) i) first.1)))
+  ]
+]
+
 pub canonical_there : (o : Clocks) (A : Cut → Type 0) (s : Slice) → IsOrder o → IsClosed o A → StandsFor o s A → ((c : Cut) → Decided (A c)) → (operator : WitnessOperator) → (w : Witness) × IsCanonical o s operator w
 canonical_there o A s order closed stands decide operator = by_operator operator
   where
@@ -178,6 +187,7 @@ canonical_there o A s order closed stands decide operator = by_operator operator
     by_operator ExistsFinally = reach_there o A s k
     by_operator AlwaysGlobally = against_there o A s k
     by_operator ExistsGlobally = always_there o A s k
+    by_operator (ExistsNext i) = next_there o A s k i
 
 -- ---- of a part
 
@@ -187,84 +197,93 @@ decide_family r order f c = elim (decide_consistent r.clocks c) [
   | inl k ↦ elim (decide_sat r order f c k) [ inl s ↦ inl (k, s) | inr n ↦ inr (λ h. n h.1) ]
 ]
 
-family_slice : (r : Run) → IsRun r → (f : Formula) → IsRegular f → (s : Slice) × StandsFor r.clocks s (Family r f)
+family_slice : (r : Run) → IsRun r → (f : Formula) → IsRegularIn r f → (s : Slice) × StandsFor r.clocks s (Family r f)
 family_slice r run f regular =
     (listed_slice r f, stands_same r.clocks (listed_slice r f) (Smallest (Family r f)) (Family r f) (smallest_of_closed r.clocks (Family r f) (regular_closed r run f regular)) (listed_stands r run.order f))
 
-witness_by : (r : Run) → IsRun r → (operator : WitnessOperator) (f : Formula) → IsRegular f → (w : Witness) × ((s : Slice) × StandsFor r.clocks s (Family r f) × IsCanonical r.clocks s operator w)
+witness_by : (r : Run) → IsRun r → (operator : WitnessOperator) (f : Formula) → IsRegularIn r f → (w : Witness) × ((s : Slice) × StandsFor r.clocks s (Family r f) × IsCanonical r.clocks s operator w)
 witness_by r run operator f regular =
     let slice = family_slice r run f regular in
     let found = canonical_there r.clocks (Family r f) slice.0 run.order (regular_closed r run f regular) slice.1 (decide_family r run.order f) operator in
     (found.0, (slice.0, slice.1, found.1))
 
-operand_regular : (b : Bool) (f : Formula) → (b && is_conjunctive true f) ≡ true → IsRegular f
-operand_regular b f h = (and_parts b (is_conjunctive true f) h).1
+-- an operand of EF, AG or EG, and of EX
+operand_regular : (r : Run) (operator : Operator) (f : Formula) → IsRegularIn r (Temporal operator f) → IsRegularIn r f
+unfolding is_conjunctive
+operand_regular r operator f h = record { form = (and_parts (is_analysed operator) (is_conjunctive true f) h.form).1; kept = h.kept }
 
-pub witness_there : (r : Run) → IsRun r → (f : Formula) → IsRegular f → (w : Witness) × IsWitnessOf r f w
+next_regular : (r : Run) (p : Name) (f : Formula) → IsRegularIn r (Next p f) → IsRegularIn r f
+unfolding is_conjunctive
+next_regular r p f h = record { form = h.form; kept = h.kept }
+
+pub witness_there : (r : Run) → IsRun r → (f : Formula) → IsRegularIn r f → (w : Witness) × IsWitnessOf r f w
 unfolding is_conjunctive
 witness_there r run (Truth b) h = (Nothing, refl)
 witness_there r run (Comparison p v relation side) h = (Nothing, refl)
 witness_there r run (Watched p w) h = (Nothing, refl)
 witness_there r run (InTransit p q relation k) h = (Nothing, refl)
 witness_there r run (Empty p q) h = (Nothing, refl)
+witness_there r run (Difference p x q y relation m) h = (Nothing, refl)
 witness_there r run (Not f) h = (Nothing, refl)
 witness_there r run (And fs) h = (Nothing, refl)
 witness_there r run (Or fs) h = (Nothing, refl)
-witness_there r run (Temporal Ef f) h = witness_by r run ExistsFinally f (operand_regular true f h)
-witness_there r run (Temporal Ag f) h = witness_by r run AlwaysGlobally f (operand_regular true f h)
-witness_there r run (Temporal Eg f) h = witness_by r run ExistsGlobally f (operand_regular true f h)
-witness_there r run (Temporal Ex f) h = (Nothing, refl)
+witness_there r run (Temporal Ef f) h = witness_by r run ExistsFinally f (operand_regular r Ef f h)
+witness_there r run (Temporal Ag f) h = witness_by r run AlwaysGlobally f (operand_regular r Ag f h)
+witness_there r run (Temporal Eg f) h = witness_by r run ExistsGlobally f (operand_regular r Eg f h)
 witness_there r run (Temporal Af f) h = (Nothing, refl)
 witness_there r run (Temporal Ax f) h = (Nothing, refl)
+witness_there r run (Next p f) h = witness_by r run (ExistsNext (r.process p)) f (next_regular r p f h)
 witness_there r run (Until all left right) h = (Nothing, refl)
 
 abbrev Canonical : Run → WitnessOperator → Formula → Witness → Type 0
 Canonical r operator f w = (s : Slice) × StandsFor r.clocks s (Family r f) × IsCanonical r.clocks s operator w
 
-one_by : (r : Run) → IsRun r → (operator : WitnessOperator) (f : Formula) → IsRegular f → (w v : Witness) → Canonical r operator f w → Canonical r operator f v → w ≡ v
+one_by : (r : Run) → IsRun r → (operator : WitnessOperator) (f : Formula) → IsRegularIn r f → (w v : Witness) → Canonical r operator f w → Canonical r operator f v → w ≡ v
 one_by r run operator f regular w v h k =
     let closed = regular_closed r run f regular in
     canonical_one r.clocks k.0 (stands_fits r.clocks (Family r f) closed k.0 k.1) operator w v
     (canonical_same r.clocks (Family r f) closed h.0 k.0 h.1 k.1 operator w h.2) k.2
 
-pub witness_one : (r : Run) → IsRun r → (f : Formula) → IsRegular f → (w v : Witness) → IsWitnessOf r f w → IsWitnessOf r f v → w ≡ v
+pub witness_one : (r : Run) → IsRun r → (f : Formula) → IsRegularIn r f → (w v : Witness) → IsWitnessOf r f w → IsWitnessOf r f v → w ≡ v
 unfolding is_conjunctive
 witness_one r run (Truth b) g w v h k = h ∙ sym k
 witness_one r run (Comparison p x relation side) g w v h k = h ∙ sym k
 witness_one r run (Watched p x) g w v h k = h ∙ sym k
 witness_one r run (InTransit p q relation n) g w v h k = h ∙ sym k
 witness_one r run (Empty p q) g w v h k = h ∙ sym k
+witness_one r run (Difference p x q y relation n) g w v h k = h ∙ sym k
 witness_one r run (Not f) g w v h k = h ∙ sym k
 witness_one r run (And fs) g w v h k = h ∙ sym k
 witness_one r run (Or fs) g w v h k = h ∙ sym k
-witness_one r run (Temporal Ef f) g w v h k = one_by r run ExistsFinally f (operand_regular true f g) w v h k
-witness_one r run (Temporal Ag f) g w v h k = one_by r run AlwaysGlobally f (operand_regular true f g) w v h k
-witness_one r run (Temporal Eg f) g w v h k = one_by r run ExistsGlobally f (operand_regular true f g) w v h k
-witness_one r run (Temporal Ex f) g w v h k = h ∙ sym k
+witness_one r run (Temporal Ef f) g w v h k = one_by r run ExistsFinally f (operand_regular r Ef f g) w v h k
+witness_one r run (Temporal Ag f) g w v h k = one_by r run AlwaysGlobally f (operand_regular r Ag f g) w v h k
+witness_one r run (Temporal Eg f) g w v h k = one_by r run ExistsGlobally f (operand_regular r Eg f g) w v h k
 witness_one r run (Temporal Af f) g w v h k = h ∙ sym k
 witness_one r run (Temporal Ax f) g w v h k = h ∙ sym k
+witness_one r run (Next p f) g w v h k = one_by r run (ExistsNext (r.process p)) f (next_regular r p f g) w v h k
 witness_one r run (Until all left right) g w v h k = h ∙ sym k
 
-kind_by : (r : Run) → IsRun r → (operator : WitnessOperator) (f : Formula) → IsRegular f → (w : Witness) → Canonical r operator f w → IsOfKind r (part_of operator f) w
-kind_by r run operator f regular w h = canonical_is_of_kind r run.order f (regular_closed r run f regular) h.0 h.1 operator w h.2
+kind_by : (r : Run) → IsRun r → (operator : WitnessOperator) (f : Formula) → IsRegularIn r f → (part : Formula) → IsPartOf r operator f part → (w : Witness) → Canonical r operator f w → IsOfKind r part w
+kind_by r run operator f regular part e w h = canonical_is_of_kind r run.order f (regular_closed r run f regular) h.0 h.1 operator part e w h.2
 
 plain_kind : (r : Run) (f : Formula) (w : Witness) → w ≡ Nothing → IsOfKind r f Nothing → IsOfKind r f w
 plain_kind r f w e k = subst (IsOfKind r f) (sym e) k
 
-pub witness_kind : (r : Run) → IsRun r → (f : Formula) → IsRegular f → (w : Witness) → IsWitnessOf r f w → IsOfKind r f w
+pub witness_kind : (r : Run) → IsRun r → (f : Formula) → IsRegularIn r f → (w : Witness) → IsWitnessOf r f w → IsOfKind r f w
 unfolding is_conjunctive
 witness_kind r run (Truth b) g w h = plain_kind r (Truth b) w h (W.IsOfKind.not_temporal refl)
 witness_kind r run (Comparison p x relation side) g w h = plain_kind r (Comparison p x relation side) w h (W.IsOfKind.not_temporal refl)
 witness_kind r run (Watched p x) g w h = plain_kind r (Watched p x) w h (W.IsOfKind.not_temporal refl)
 witness_kind r run (InTransit p q relation k) g w h = plain_kind r (InTransit p q relation k) w h (W.IsOfKind.not_temporal refl)
 witness_kind r run (Empty p q) g w h = plain_kind r (Empty p q) w h (W.IsOfKind.not_temporal refl)
+witness_kind r run (Difference p x q y relation m) g w h = plain_kind r (Difference p x q y relation m) w h (W.IsOfKind.not_temporal refl)
 witness_kind r run (Not f) g w h = plain_kind r (Not f) w h (W.IsOfKind.not_temporal refl)
 witness_kind r run (And fs) g w h = plain_kind r (And fs) w h (W.IsOfKind.not_temporal refl)
 witness_kind r run (Or fs) g w h = plain_kind r (Or fs) w h (W.IsOfKind.not_temporal refl)
-witness_kind r run (Temporal Ef f) g w h = kind_by r run ExistsFinally f (operand_regular true f g) w h
-witness_kind r run (Temporal Ag f) g w h = kind_by r run AlwaysGlobally f (operand_regular true f g) w h
-witness_kind r run (Temporal Eg f) g w h = kind_by r run ExistsGlobally f (operand_regular true f g) w h
-witness_kind r run (Temporal Ex f) g w h = absurd (false≢true g)
-witness_kind r run (Temporal Af f) g w h = absurd (false≢true g)
-witness_kind r run (Temporal Ax f) g w h = absurd (false≢true g)
-witness_kind r run (Until all left right) g w h = absurd (false≢true g)
+witness_kind r run (Temporal Ef f) g w h = kind_by r run ExistsFinally f (operand_regular r Ef f g) (Temporal Ef f) refl w h
+witness_kind r run (Temporal Ag f) g w h = kind_by r run AlwaysGlobally f (operand_regular r Ag f g) (Temporal Ag f) refl w h
+witness_kind r run (Temporal Eg f) g w h = kind_by r run ExistsGlobally f (operand_regular r Eg f g) (Temporal Eg f) refl w h
+witness_kind r run (Temporal Af f) g w h = absurd (false≢true g.form)
+witness_kind r run (Temporal Ax f) g w h = absurd (false≢true g.form)
+witness_kind r run (Next p f) g w h = kind_by r run (ExistsNext (r.process p)) f (next_regular r p f g) (Next p f) (p, refl, refl) w h
+witness_kind r run (Until all left right) g w h = absurd (false≢true g.form)

@@ -3,8 +3,8 @@
 use Rattle.std.specs.Prelude.{◌≡◌, ℕ, ⊤}
 use Rattle.run_model.specs.Run.{Name, Run}
 use Rattle.run_model.specs.Formula.{Side, Number, Variable, Formula, Truth, Comparison, Watched}
-use Rattle.run_model.specs.Formula.{InTransit, Empty, Not, And, Or, Temporal, Until, Formulas, Nil}
-use Rattle.run_model.specs.Formula.{Cons}
+use Rattle.run_model.specs.Formula.{InTransit, Empty, Difference, Not, And, Or, Temporal, Next}
+use Rattle.run_model.specs.Formula.{Until, Formulas, Nil, Cons}
 
 -- the variable of a process
 pub record AgreeOnVariable (r s : Run) (process variable : Name) : Type 0 where
@@ -42,10 +42,13 @@ abbrev mutual
   AgreeOn r s (InTransit sender receiver relation k) =
       AgreeOnChannel r s sender receiver
   AgreeOn r s (Empty sender receiver) = AgreeOnChannel r s sender receiver
+  AgreeOn r s (Difference left_process left right_process right relation k) =
+      AgreeOnVariable r s left_process left × AgreeOnVariable r s right_process right
   AgreeOn r s (Not f) = AgreeOn r s f
   AgreeOn r s (And fs) = AgreeOnAll r s fs
   AgreeOn r s (Or fs) = AgreeOnAll r s fs
   AgreeOn r s (Temporal operator f) = AgreeOn r s f
+  AgreeOn r s (Next process f) = (r.process process ≡ s.process process) × AgreeOn r s f
   AgreeOn r s (Until all left right) = AgreeOn r s left × AgreeOn r s right
 
   pub AgreeOnAll : Run → Run → Formulas → Type 0

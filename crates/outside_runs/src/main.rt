@@ -3,7 +3,7 @@
 //! lines of a case mean.
 //!
 //! The cases were made from the definitions by a slow reading that lists all consistent cuts and
-//! shares nothing with this program.
+//! shares nothing with this program. Those of `pages.cases` are what the pages for users show.
 #![tactic(auto)]
 
 use row_cases::{Case, judge};
@@ -12,12 +12,13 @@ use std::thread::Threads;
 use std::{fs, io};
 
 /// The files of cases, in the order in which they are run.
-const FILES: [&str; 5] = [
+const FILES: [&str; 6] = [
     "words.cases",
     "formulas.cases",
     "logs.cases",
     "benches.cases",
     "verdicts.cases",
+    "pages.cases",
 ];
 
 fn judge_file<R: Threads + Sync + Print>(

@@ -172,6 +172,7 @@ impl Sink for MemSink {
     fn write(&mut self, piece: &[u8]) -> Result<usize, Failed>
         ensures bytes { WriteHolds (Some self.old.bytes) (Some self.new.bytes) self.old.faults
             self.new.faults result piece.now }
+        ensures calm { IfOk result (λ n. 0 < n → self.new.faults ≡ self.old.faults) }
         ensures cause { HasCause self.old.faults self.new.faults result }
 
         ensures fails { IsErr result ↔ (is_named self.old.failing self.old.calls ≡ true) }

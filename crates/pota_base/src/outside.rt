@@ -2,7 +2,7 @@
 //!
 //! What a source has left and what a sink holds may be untold, as it is for standard input. Then
 //! the clauses on bytes say nothing, and those on the counts of faults stand.
-ghost use Rattle.std.specs.Prelude.{◌≡◌, ℕ, ◌<◌, ◌≤◌, List, Option, OnOk, OnErr};
+ghost use Rattle.std.specs.Prelude.{◌≡◌, ℕ, ◌<◌, ◌≤◌, List, Option, IfOk, OnOk, OnErr};
 ghost use Rattle.std.specs.Io.{ReadsAtMost};
 ghost use Rattle.std.specs.Io.KnownBytes.{Appends, ReadConsumes};
 ghost use Rattle.pota_base.specs.Outside.{HasCause, WriteHolds, AppendsPrefix};
@@ -49,10 +49,11 @@ pub trait Sink {
     fn write(&mut self, piece: &[u8]) -> Result<usize, Failed>
         ensures bytes { WriteHolds (held self.old) (held self.new) (faults self.old)
             (faults self.new) result piece.now }
+        ensures calm { IfOk result (λ n. 0 < n → faults self.new ≡ faults self.old) }
         ensures cause { HasCause (faults self.old) (faults self.new) result };
 }
 
-/// Writes the whole text by as many writes as it takes.
+/// Writes the whole text by as many writes as it takes. It is `Ok` only where none of them failed.
 ///
 /// # Errors
 ///
@@ -60,6 +61,7 @@ pub trait Sink {
 pub fn write_all<S: Sink>(out: &mut S, text: &[u8]) -> Result<(), Failed>
     ensures whole { OnOk result (Appends (S.held out.old) (S.held out.new) text.now) }
     ensures part { OnErr result (AppendsPrefix (S.held out.old) (S.held out.new) text.now) }
+    ensures calm { OnOk result (S.faults out.new ≡ S.faults out.old) }
     ensures cause { HasCause (S.faults out.old) (S.faults out.new) result }
 {
     let mut rest = text;

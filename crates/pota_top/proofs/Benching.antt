@@ -25,8 +25,7 @@ use Rattle.log_judgement.proofs.Logs.{log_due, reads_back}
 use Rattle.log_check.specs.Aims.{Says, Aim, rules_of, unknown_name}
 use Rattle.log_check.specs.Checking.{IsCheckOf, IsFree, HasClosed, MayFollow}
 use Rattle.log_check.specs.declared.check.LogCheck.{LogCheck}
-use Rattle.trace_gen.proofs.Clear.{no_log_fault}
-use Rattle.trace_gen.proofs.Fits.{log_fits}
+use Rattle.trace_gen.proofs.Fits.{log_fits, all_written, filled_clean}
 use Rattle.trace_gen.proofs.Size.{log_small}
 use Rattle.pota_top.specs.declared.outcome.Fault.{Fault}
 use Rattle.pota_top.specs.declared.outcome.Fault.TheVariants as fault
@@ -113,14 +112,16 @@ module _ {X : Type 0} {P : X → Type 0} (says : Says X P) (aim : Aim) (sizes : 
       let bytes = log_text (made_by sizes) in
       let logged : IsLogFor names bytes (made_by sizes) = record {
         is = made_log;
+        lines = refl;
         spelled = refl;
-        ordered = no_log_fault sizes.seed sizes.procs sizes.events can.some;
+        ordered = filled_clean sizes.procs can.some can.few sizes.seed sizes.events can.limit;
         named = known;
       } in
       let due_is = log_due names bytes (made_by sizes) logged in
       let same : judged (rules_of aim) waiting (items_in bytes) ≡ judged (rules_of aim) waiting (log_items (made_by sizes)) = ap (judged (rules_of aim) waiting) back.1 in
       record {
-        whole = sym (ap whole_of same) ∙ sym (ap (λ (o : Option LogFault). at_end true o (whole_of (judged (rules_of aim) waiting (items_in bytes)))) back.0) ∙ due_is.whole;
+        whole = sym (ap whole_of same) ∙ sym (ap (λ (o : Option LogFault). at_end true o (whole_of (judged (rules_of aim) waiting (items_in bytes)))) back.0) ∙ due_is.whole
+            ∙ ap (λ (l : Log). Some (all_of l)) (all_written sizes.procs can.some can.few sizes.seed sizes.events can.limit);
         count = sym (ap batches_of same) ∙ due_is.batches;
       }
 

@@ -8,6 +8,7 @@ use Rattle.log_judgement.specs.Judgement.{Prefix, followed_by, Judgement, waitin
 use Rattle.log_judgement.specs.Due.{closed_of, whole_of, fault_in, at_end, told}
 use Rattle.log_judgement.specs.Texts.{listed, reported}
 use Rattle.log_judgement.specs.WholeLogs.{all_of}
+use Rattle.vector_clock.specs.Filled.{filled_log}
 use Rattle.log_judgement.proofs.Logs.{log_due, due_log}
 use Rattle.log_check.specs.Aims.{Says, Aim, unknown_name}
 use Rattle.log_check.specs.Checking.{IsCheckOf, HasClosed}
@@ -46,7 +47,7 @@ module _ {X : Type 0} {P : X → Type 0} (says : Says X P) (aim : Aim) (each : B
       let names = unknown_name aim.node aim.names in
       let found = due_log names bytes free_told in
       let due_is = log_due names bytes found.0 found.1 in
-      (all_of found.0, sym (ap (λ (o : Option LogFault). at_end true o (whole_of j)) w.free) ∙ due_is.whole)
+      (all_of (filled_log found.0), sym (ap (λ (o : Option LogFault). at_end true o (whole_of j)) w.free) ∙ due_is.whole)
 
   pub closed_log : HasClosed j whole_log.0
   closed_log = whole_closed j whole_log.0 whole_log.1

@@ -23,11 +23,12 @@ use Rattle.log_judgement.specs.declared.refusal.Refusal.{Refusal}
 use Rattle.log_judgement.specs.declared.refusal.Refusal.TheVariants as refusal
 use Rattle.log_judgement.specs.Judgement.{Prefix}
 use Rattle.log_judgement.specs.WholeLogs.{all_of}
-use Rattle.log_judgement.specs.Texts.{reported, AreReports}
+use Rattle.log_judgement.specs.Texts.{reported, AreReports, IsKept}
 use Rattle.log_judgement.proofs.Dues.{due_grows}
 use Rattle.log_judgement.proofs.Orders.{IsOrdered, all_ordered}
 use Rattle.log_judgement.proofs.Readings.{log_is_read}
 use Rattle.log_judgement.proofs.Texts.{reports_split, one_text}
+use Rattle.log_check.proofs.Decided.{stated_kept, each_kept}
 use Rattle.log_check.specs.Aims.{Says, Aim, asked_of, aim_of, names_of, watches_of, rules_of, unknown_name}
 use Rattle.watch.specs.declared.predicate.Handed.{Handed}
 use Rattle.pota_top.specs.declared.outcome.Fault.{Fault}
@@ -56,15 +57,15 @@ both_halves [] ys h = tt
 both_halves (x ∷ xs) ys h = (h.0, both_halves xs ys h.1)
 
 -- each report on logs whose clocks are an order tells of the run
-all_tell : (q : Asked) (watches : Watches) → IsOfClass q.formula → (logs : List Prefix) → AllByRecursion IsOrdered logs → AllTell q watches logs
-all_tell q watches class [] ordered = tt
-all_tell q watches class (log ∷ logs) ordered = (
+all_tell : (q : Asked) (watches : Watches) → IsOfClass q.formula → (logs : List Prefix) → AllByRecursion IsOrdered logs → AllByRecursion (IsKept q watches) logs → AllTell q watches logs
+all_tell q watches class [] ordered kept = tt
+all_tell q watches class (log ∷ logs) ordered kept = (
   λ report is. record {
     ordered = ordered.0;
-    denotes = told_denotes q log.header log.batches watches ordered.0 report is;
-    kinds = told_kinds q log.header log.batches watches class ordered.0 report is;
+    denotes = told_denotes q log.header log.batches watches ordered.0 kept.0 report is;
+    kinds = told_kinds q log.header log.batches watches class ordered.0 kept.0 report is;
   },
-  all_tell q watches class logs ordered.1,
+  all_tell q watches class logs ordered.1 kept.1,
 )
 
 nothing_front : (text : List ℕ) → IsPrefix [] text
@@ -90,11 +91,12 @@ module _ {X : Type 0} {P : X → Type 0} (says : Says X P) (s : Stated) (shown :
   texts_asked logs text h = subst (λ (q : Asked). AreReports q (watches_of says handed) logs text) same h
 
   class_asked : IsOfClass (asked_by s.formula.tree shown).formula
-  class_asked = (of_the_class (node_of s.formula.tree)).0 is.classed.free
+  class_asked = ((of_the_class (node_of s.formula.tree)).0 is.classed.free).0
 
   due_tell : (ended : Bool) (bytes : List ℕ) → AllTell (asked_by s.formula.tree shown) (watches_of says handed) (reported each (due_in aim ended bytes))
   due_tell ended bytes =
       all_tell (asked_by s.formula.tree shown) (watches_of says handed) class_asked (reported each (due_in aim ended bytes)) (all_ordered (unknown_name aim.node (names_of handed)) each ended bytes)
+      (each_kept (asked_by s.formula.tree shown) (watches_of says handed) (stated_kept formula s is) (reported each (due_in aim ended bytes)))
 
   abbrev told_of : (ended : Bool) (bytes text : List ℕ) (n : ℕ) → n ≡ (due_in aim ended bytes).batches
       → AreTexts aim (reported each (due_in aim ended bytes)) text → IsTold on words ended bytes text n
@@ -144,7 +146,8 @@ module _ {X : Type 0} {P : X → Type 0} (says : Says X P) (s : Stated) (shown :
       grown.1 ∙ ap (λ (ps : List Prefix). ps ++ grown.0) h.are ∙ append_assoc h.front h.rest grown.0 in
       let parts = reports_split q watches h.front (h.rest ++ grown.0) whole (subst (λ (ps : List Prefix). AreReports q watches ps whole) logs due_is.2) in
       let ordered = both_halves h.front (h.rest ++ grown.0) (subst (AllByRecursion IsOrdered) logs (all_ordered (unknown_name aim.node (names_of handed)) each ended all)) in
-      let one = one_text q watches class_asked h.front ordered parts.0 text parts.2 (texts_asked h.front text h.texts) in
+      let kept = each_kept q watches (stated_kept formula s is) h.front in
+      let one = one_text q watches class_asked h.front ordered kept parts.0 text parts.2 (texts_asked h.front text h.texts) in
       ((parts.1, parts.4 ∙ ap (λ (t : List ℕ). t ++ parts.1) one), omega (arith, h.count))
 
   module _ (left : Option (List ℕ)) (lf lf' of of' : ℕ) (read written : List ℕ) where

@@ -13,6 +13,7 @@ outside_text outside.Af = codes "F9 outside the class: AF"
 outside_text outside.Ax = codes "F9 outside the class: AX"
 outside_text outside.Eu = codes "F9 outside the class: EU"
 outside_text outside.Au = codes "F9 outside the class: AU"
+outside_text outside.Difference = codes "F9 outside the class: difference"
 
 abbrev pub formula_code_text : FormulaCode → List ℕ
 formula_code_text formula.Token = codes "F1 bad token"

@@ -16,6 +16,7 @@ fn outside_text(outside: Outside) -> &'static [u8]
         Outside::Ax => b"F9 outside the class: AX",
         Outside::Eu => b"F9 outside the class: EU",
         Outside::Au => b"F9 outside the class: AU",
+        Outside::Difference => b"F9 outside the class: difference",
     }
 }
 

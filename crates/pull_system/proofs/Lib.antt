@@ -3,6 +3,8 @@ pub mod PullLists
 pub mod Fans
 pub mod FirstNumbers
 pub mod Growing
+pub mod Staying
+pub mod Final
 pub mod Asking
 pub mod Raising
 pub mod Placing

@@ -1,5 +1,5 @@
 -- What a system has become when its processes have more events: the later pulls ask for no less,
--- and the earlier rows are kept.
+-- and the earlier rows are kept. Where a pull asked for what was there, it may ask for no more.
 use Rattle.std.specs.Prelude.{◌≡◌, ℕ, ◌+◌, ◌-◌, ◌<◌, ◌≤◌, min, List, [], ◌∷◌, Option}
 use Rattle.std.specs.Prelude.{Some, None, length, sum, slice_index, nat_le, if◌then◌else◌}
 use Rattle.pull_system.specs.declared.pull.Pull.{Pull}
@@ -25,6 +25,17 @@ pub record Grows (before after : SystemView) : Type 0 where
   pub count : length before.pulls ≡ length after.pulls
   pub each : (k : ℕ) → k < length after.pulls
       → PullGrows before.lens after.lens (pull_at before k) (pull_at after k)
+
+-- where the earlier pull asks for no more than was there, the later one asks for no more than it
+pub record PullStays (old : List ℕ) (before after : Pull) : Type 0 where
+  pub asks : (x : ℕ) → x ≤ slice_index old before.src
+      → slice_index before.table x ≤ slice_index old before.dst
+      → slice_index after.table x ≤ slice_index before.table x
+
+-- where each pull of the earlier system asks for no more than was there, the later one does as well
+pub record Stays (before after : SystemView) : Type 0 where
+  pub each : (k : ℕ) → k < length after.pulls
+      → PullStays before.lens (pull_at before k) (pull_at after k)
 
 -- The row that an event had before, where `before` counts the old events of the processes to the
 -- left. The bottom's row is kept, and a new event had none.

@@ -1,6 +1,6 @@
 //! Laws on systems and rows. The functions do nothing.
 ghost use Rattle.std.specs.Prelude.{◌≡◌, ◌↔◌, ℕ, ◌<◌, ◌≤◌, Bool, true, List, ◌++◌, length, sum};
-ghost use Rattle.std.specs.Prelude.{slice_index, slice_set};
+ghost use Rattle.std.specs.Prelude.{Some, slice_index, slice_set};
 ghost use Rattle.pull_system.specs.declared.pull.Pull.{Pull};
 ghost use Rattle.pull_system.specs.Pulls.{ClosedUnder, first_below};
 ghost use Rattle.pota_base.specs.declared.shape.EventId.{EventId};
@@ -8,8 +8,8 @@ ghost use Rattle.pota_base.specs.Shape.{HasEvent, row_of};
 ghost use Rattle.pull_system.specs.Vector.{IsWithin, IsVector, IsMinimum, IsMaximum};
 ghost use Rattle.pull_system.specs.System.{SystemView, IsSystem, IsClosed, IsLeastFrom};
 ghost use Rattle.pull_system.specs.Rows.{RowsView, AreLeastRows, start_of, starts, place_of};
-ghost use Rattle.pull_system.specs.Rows.{row_at};
-ghost use Rattle.pull_system.specs.Growth.{Grows, grown_words};
+ghost use Rattle.pull_system.specs.Rows.{IsLeast, row_at};
+ghost use Rattle.pull_system.specs.Growth.{Grows, Stays, grown_words, old_row};
 ghost use Rattle.pull_system.specs.Climb.{IsBelowLeast};
 
 /// From each start there is exactly one least closed vector, so a row's is a function of the system
@@ -75,4 +75,19 @@ pub fn growing_systems()
         → (row : ℕ) → row ≤ sum after.lens
         → IsBelowLeast after (start_of after.lens row)
         (row_at after.lens (grown_words after.lens old) row) }
+{}
+
+/// A least closed vector within the lengths stays the least one in each later system that asks for
+/// no more where what was there met it. So a row that has one is final where it stands among the
+/// grown rows.
+pub fn final_rows()
+    ensures vector { (before after : SystemView) → IsSystem before → Grows before after
+        → Stays before after → (start v : List ℕ) → IsLeastFrom before start v
+        → IsWithin v before.lens → IsLeastFrom after start v }
+    ensures row { (before after : SystemView) → IsSystem before → Grows before after
+        → Stays before after → (old : RowsView) → old.lens ≡ before.lens
+        → AreLeastRows before old.words → (row kept : ℕ) → row ≤ sum after.lens
+        → old_row old.lens after.lens row ≡ Some kept
+        → IsWithin (row_at old.lens old.words kept) old.lens
+        → IsLeast after row (row_at after.lens (grown_words after.lens old) row) }
 {}

@@ -10,6 +10,7 @@
 
 mod asks;
 mod fan;
+mod floor;
 mod laws;
 mod places;
 mod pull;
@@ -18,8 +19,10 @@ mod rows;
 mod system;
 
 pub use fan::{Fan, pulls_of};
+pub use floor::Floor;
 pub use laws::{
-    closed_lists, closed_vectors, first_numbers, growing_systems, least_vectors, row_starts,
+    closed_lists, closed_vectors, final_rows, first_numbers, growing_systems, least_vectors,
+    row_starts,
 };
 pub use pull::{Pull, all_fit};
 pub use risen::Risen;

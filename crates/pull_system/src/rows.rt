@@ -1,5 +1,5 @@
-ghost use Rattle.std.specs.Prelude.{◌≡◌, ◌+◌, ◌*◌, ◌≤◌, ◌<◌, length, sum, slice_index, slice_set};
-ghost use Rattle.std.specs.Prelude.{max, IfOk, IfSome, OnOk, ◌++◌};
+ghost use Rattle.std.specs.Prelude.{◌≡◌, ◌+◌, ◌*◌, ◌^◌, ◌≤◌, ◌<◌, length, sum, slice_index};
+ghost use Rattle.std.specs.Prelude.{slice_set, max, IfOk, IfSome, OnOk, ◌++◌};
 ghost use Rattle.pota_base.specs.Shape.{IsShape};
 ghost use Rattle.pull_system.specs.Rows.{start_of, starts, row_at};
 ghost use Rattle.pull_system.specs.Growth.{DidNotFall, grown_row, grown_words, old_row};
@@ -12,7 +12,8 @@ use std::marker::Model;
 #[derive(Debug, Drop)]
 pub struct Rows {
     shape: Shape,
-    words: Vec<u64>,
+    /// In 16 bits, which hold every word, since a run has few events.
+    words: Vec<u16>,
 }
 
 impl Model for Rows {
@@ -39,7 +40,7 @@ impl Rows {
     }
 
     /// Rows of a shape with these words, row by row.
-    pub fn from_words(alloc: Global, shape: &Shape, words: Vec<u64>) -> Result<Rows, NoMemory>
+    pub fn from_words(alloc: Global, shape: &Shape, words: Vec<u16>) -> Result<Rows, NoMemory>
         requires { length words.items ≡ (sum shape.now + 1) * length shape.now }
         ensures { IfOk result (λ rows. rows ≡ record { lens = shape.now; words = words.items }) }
     {
@@ -77,7 +78,7 @@ impl Rows {
     }
 
     /// The words of all rows, row by row.
-    pub fn as_words(&self) -> &[u64]
+    pub fn as_words(&self) -> &[u16]
         ensures words { result.now ≡ self.now.words }
         ensures rows { AreRows self.now }
     {
@@ -85,7 +86,7 @@ impl Rows {
     }
 
     /// The words of one row.
-    pub fn row(&self, row: u32) -> &[u64]
+    pub fn row(&self, row: u32) -> &[u16]
         requires { row ≤ sum self.now.lens }
         ensures words { result.now ≡ row_at self.now.lens self.now.words row }
         ensures size { length result.now ≡ length self.now.lens }
@@ -99,19 +100,20 @@ impl Rows {
         requires process { process < length self.now.lens }
         ensures { result ≡ slice_index self.now.words (place_of self.now.lens row process) }
     {
-        self.words[self.place(row, process)]
+        self.words[self.place(row, process)] as u64
     }
 
     /// Makes the word its maximum with the value.
     pub fn raise(&mut self, row: u32, process: u32, value: u64)
         requires row { row ≤ sum self.old.lens }
         requires process { process < length self.old.lens }
+        requires value { value < 2 ^ 16 }
         ensures lens { self.new.lens ≡ self.old.lens }
         ensures words { let place = place_of self.old.lens row process in self.new.words
             ≡ slice_set self.old.words place (max (slice_index self.old.words place) value) }
     {
         let place = self.place(row, process);
-        self.words[place] = self.words[place].max(value);
+        self.words[place] = self.words[place].max(value as u16);
     }
 
     /// Where the word of a process in a row stands among the words.
@@ -126,7 +128,7 @@ impl Rows {
 }
 
 /// The starts of all rows of the shape.
-fn start_words(alloc: Global, shape: &Shape) -> Result<Vec<u64>, NoMemory>
+fn start_words(alloc: Global, shape: &Shape) -> Result<Vec<u16>, NoMemory>
     ensures { IfOk result (λ words. words.items ≡ starts shape.now) }
 {
     let mut words = Vec::with_capacity(
@@ -140,7 +142,7 @@ fn start_words(alloc: Global, shape: &Shape) -> Result<Vec<u64>, NoMemory>
 }
 
 /// Appends the start of a row: zeros, with what is left of the row's number at its process.
-fn push_start(words: &mut Vec<u64>, lens: &[u32], row: u32) -> Result<(), NoMemory>
+fn push_start(words: &mut Vec<u16>, lens: &[u32], row: u32) -> Result<(), NoMemory>
     requires { IsShape lens.now }
     ensures { OnOk result (words.new.items ≡ words.old.items ++ start_of lens.now row) }
 {
@@ -150,7 +152,7 @@ fn push_start(words: &mut Vec<u64>, lens: &[u32], row: u32) -> Result<(), NoMemo
     let mut left = row;
     for (process, &len) in lens.iter().enumerate() {
         if left <= len {
-            words[begin + process] = left as u64;
+            words[begin + process] = left as u16;
             return Ok(());
         }
         left -= len;
@@ -159,7 +161,7 @@ fn push_start(words: &mut Vec<u64>, lens: &[u32], row: u32) -> Result<(), NoMemo
 }
 
 /// The words of the rows after the shape has grown.
-fn grow_words(alloc: Global, shape: &Shape, old: &Rows) -> Result<Vec<u64>, NoMemory>
+fn grow_words(alloc: Global, shape: &Shape, old: &Rows) -> Result<Vec<u16>, NoMemory>
     requires { DidNotFall old.now.lens shape.now }
     ensures { IfOk result (λ words. words.items ≡ grown_words shape.now old.now) }
 {
@@ -174,7 +176,7 @@ fn grow_words(alloc: Global, shape: &Shape, old: &Rows) -> Result<Vec<u64>, NoMe
 }
 
 /// Appends a row as it was, or the start of a new event's row.
-fn push_grown(words: &mut Vec<u64>, lens: &[u32], old: &Rows, row: u32) -> Result<(), NoMemory>
+fn push_grown(words: &mut Vec<u16>, lens: &[u32], old: &Rows, row: u32) -> Result<(), NoMemory>
     requires shape { IsShape lens.now }
     requires procs { length old.now.lens ≡ length lens.now }
     ensures { OnOk result (words.new.items ≡ words.old.items ++ grown_row lens.now old.now row) }

@@ -1,5 +1,5 @@
 -- Any list of steps keeps the words between the starts and the least, and lowers none.
-use Rattle.std.proofs.Common.{◌≡◌, ℕ, zero, suc, ◌+◌, ◌<◌, ◌≤◌, ◌⊎◌, inl, inr, List, [], ◌∷◌, Bool, true, false, length, get_or, sum, refl, arith, sym, ap, ◌∙◌, subst, drop, drop-cons}
+use Rattle.std.proofs.Common.{◌≡◌, ℕ, zero, suc, ◌+◌, ◌^◌, ◌<◌, ◌≤◌, ◌⊎◌, inl, inr, List, [], ◌∷◌, Bool, true, false, length, get_or, sum, refl, arith, sym, ap, ◌∙◌, subst, drop, drop-cons}
 use Rattle.std.specs.Prelude.{nat_le, nat_lt, if◌then◌else◌}
 use Rattle.std.proofs.lemmas.List.{get_or_past}
 use Rattle.std.proofs.lemmas.Bool.{leb-true, ltb-true}
@@ -9,6 +9,7 @@ use Rattle.pull_system.specs.Rows.{start_of, place_of, IsLeast}
 use Rattle.pull_system.proofs.Pulls.{pull-of}
 use Rattle.pull_system.proofs.Climbing.{lt_or_le}
 use Rattle.pull_system.proofs.Starts.{length-start_of}
+use Rattle.pull_system.proofs.Sums.{component_le}
 use Rattle.raise_machine.specs.declared.step.Step.{Step}
 use Rattle.raise_machine.specs.declared.step.Step.TheVariants.{Look, Pull, Lend}
 use Rattle.raise_machine.specs.Bounds.{AreBounds, word_at, raised, has_start}
@@ -144,3 +145,12 @@ pub allowed_count-next : (system : SystemView) (words : List ℕ) (steps : List 
     → allowed_count system words (drop n steps) ≡ (if is_allowed system words (get_or steps n d) then 1 else 0) + allowed_count system (happens system words (get_or steps n d)) (drop (n + 1) steps)
 allowed_count-next system words steps n d there =
     ap (λ rest. allowed_count system words rest) (drop-cons steps n d there) ∙ ap (λ m. (if is_allowed system words (get_or steps n d) then 1 else 0) + allowed_count system (happens system words (get_or steps n d)) (drop m steps)) (let e : suc n ≡ n + 1 = omega arith in e)
+
+-- what an allowed lend raises to is small enough for 16 bits
+pub lend_small : (system : SystemView) → IsSystem system → (words : List ℕ) → AreBounds system words → (to_row from_row process y : ℕ) → is_allowed system words (Lend to_row from_row process y) ≡ true → y < 2 ^ 16
+lend_small system is words bounds to_row from_row process y allowed =
+    let h = both _ (has_start system.lens words to_row from_row) allowed in
+    let l = both _ (nat_le y (word_at system.lens words from_row process)) h.0 in
+    let r = both (is_word system.lens to_row process) (nat_le from_row (sum system.lens)) l.0 in
+    let p = both (nat_le to_row (sum system.lens)) (nat_lt process (length system.lens)) r.0 in
+    omega (arith, leb-true _ _ l.1, word_in_range system is words bounds from_row process (ltb-true _ _ p.1), component_le system.lens process, is.shape.events)

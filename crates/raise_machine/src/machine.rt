@@ -146,6 +146,7 @@ impl Machine {
         ensures words { self.new.words ≡ words_after self.old.system self.old.words step }
         ensures system { self.new.system ≡ self.old.system }
     {
+        let _shape = self.system.shape();
         match step {
             Step::Look { .. } => {}
             Step::Pull { row, k, x } => {

@@ -24,13 +24,13 @@ use Rattle.rctl_grammar.specs.declared.tree.Side.TheVariants as side
 use Rattle.rctl_grammar.specs.declared.tree.Atom.TheVariants as atom
 use Rattle.rctl_grammar.specs.declared.fault.FormulaFault.{FormulaFault}
 use Rattle.rctl_grammar.specs.Shape.{relation_of, model_operator, model_side, plain_side}
-use Rattle.rctl_class.specs.Nodes.{Node, Nodes, leaf, negation, conjunction, disjunction, under, until_of, none, more, formula_of, formulas_of, counts_fit, all_counts_fit}
+use Rattle.rctl_class.specs.Nodes.{Node, Nodes, leaf, negation, conjunction, disjunction, under, stepping, until_of, none, more, formula_of, formulas_of, counts_fit, all_counts_fit}
 use Rattle.rctl_class.specs.Uses.{earlier, uses_of}
 use Rattle.rctl_class.specs.Faults.{first_fault, first_of, operator_fault}
 use Rattle.rctl_class.specs.NamedParts.{Piece, name_on, side_formula, expr_formula, expr_formulas, part_formula, part_formulas, pieces}
 use Rattle.rctl_class.specs.Walk as walk
 use Rattle.rctl_class.specs.Walk.{first_place, is_on, is_over, all_over, side_from, expr_from, exprs_from, local_part, bounds, next_count, parts_from, disjuncts_from}
-use Rattle.rctl_class.specs.Classed.{MeanTheSame, operated, OperateTheSame, Alike, PartsAlike, EachAlike, disjunct_formulas}
+use Rattle.rctl_class.specs.Classed.{MeanTheSame, Head, bare, operated, stepped, head_of, HaveOneHead, Alike, PartsAlike, EachAlike, disjunct_formulas}
 use Rattle.rctl_class.proofs.Locals.{option_name, over_is_local, local_parts, local_disjuncts}
 
 -- ---- what is alike
@@ -38,12 +38,13 @@ use Rattle.rctl_class.proofs.Locals.{option_name, over_is_local, local_parts, lo
 same_meaning : (f : Formula) → MeanTheSame f f
 same_meaning f r order c k = (λ h. h, λ h. h)
 
-same_operator : (o : Option (model.Operator × Formula)) → OperateTheSame o o
-same_operator None = tt
-same_operator (Some o) = (refl, same_meaning o.1)
+one_head : (h : Head) → HaveOneHead h h
+one_head bare = tt
+one_head (operated o f) = (refl, same_meaning f)
+one_head (stepped p f) = (refl, same_meaning f)
 
 alike_itself : (f : Formula) → Alike f f
-alike_itself f = record { operator = same_operator (operated f); meaning = same_meaning f }
+alike_itself f = record { head = one_head (head_of f); meaning = same_meaning f }
 
 parts_alike_themselves : (fs : List Formula) → PartsAlike fs fs
 parts_alike_themselves [] = tt
@@ -108,7 +109,7 @@ operated_alike : (o : Operator) (f g : Formula) → MeanTheSame f g → MeanTheS
 operated_alike operator.Ef f g same r order c k = (some_time_too r.clocks (Sat r f) (Sat r g) (λ d m. (same r order d m).0) c, some_time_too r.clocks (Sat r g) (Sat r f) (λ d m. (same r order d m).1) c)
 operated_alike operator.Ag f g same r order c k = (each_time_too r.clocks (Sat r f) (Sat r g) (λ d m. (same r order d m).0) c, each_time_too r.clocks (Sat r g) (Sat r f) (λ d m. (same r order d m).1) c)
 operated_alike operator.Eg f g same r order c k = (staying_too r.clocks (Sat r f) (Sat r g) (λ d m. (same r order d m).0) c, staying_too r.clocks (Sat r g) (Sat r f) (λ d m. (same r order d m).1) c)
-operated_alike operator.Ex f g same r order c k = (λ h. h, λ h. h)
+operated_alike (operator.Ex process) f g same r order c k = (λ h. h, λ h. h)
 operated_alike operator.Af f g same r order c k = (λ h. h, λ h. h)
 operated_alike operator.Ax f g same r order c k = (λ h. h, λ h. h)
 
@@ -147,10 +148,12 @@ mutual
   expr_named q (leaf (atom.Watch p w) at) h = ap (λ name. model.Watched name w.name) (on_same q p.name h)
   expr_named q (leaf (atom.InTransit p r compare k) at) h = absurd (false≢true h)
   expr_named q (leaf (atom.Empty p r) at) h = absurd (false≢true h)
+  expr_named q (leaf (atom.Difference p x r y compare k) at) h = absurd (false≢true h)
   expr_named q (negation n at) h = ap model.Not (expr_named q n h)
   expr_named q (conjunction ns at) h = ap model.And (exprs_named q ns h)
   expr_named q (disjunction ns at) h = ap model.Or (exprs_named q ns h)
   expr_named q (under o n at) h = absurd (false≢true h)
+  expr_named q (stepping process n at) h = absurd (false≢true h)
   expr_named q (until_of all left right at) h = absurd (false≢true h)
 
   exprs_named : (q : Option Name) (ns : Nodes) → all_over q ns ≡ true → expr_formulas (some_name q) (exprs_from ns) ≡ formulas_of ns
@@ -180,12 +183,14 @@ model_local sign (model.Comparison p v relation side) h = refl
 model_local sign (model.Watched p w) h = refl
 model_local sign (model.InTransit p q relation k) h = absurd (false≢true h)
 model_local sign (model.Empty p q) h = absurd (false≢true h)
+model_local sign (model.Difference p x q y relation k) h = absurd (false≢true h)
 model_local sign (model.Not f) h = rw h refl
 model_local true (model.And fs) h = rw h refl
 model_local false (model.And fs) h = refl
 model_local true (model.Or fs) h = refl
 model_local false (model.Or fs) h = rw h refl
 model_local sign (model.Temporal o f) h = absurd (false≢true h)
+model_local sign (model.Next process f) h = absurd (false≢true h)
 model_local sign (model.Until all left right) h = absurd (false≢true h)
 
 local_alike : (sign : Bool) (n : Node) → is_local (formula_of n) ≡ true → PartsAlike (map part_formula (parts_from sign n)) (parts sign (formula_of n))
@@ -220,7 +225,7 @@ pub not_negative : (o : Operator) (at : ℕ) → operator_fault false o at ≡ N
 not_negative operator.Ef at h = absurd (cc)
 not_negative operator.Ag at h = absurd (cc)
 not_negative operator.Eg at h = absurd (cc)
-not_negative operator.Ex at h = absurd (cc)
+not_negative (operator.Ex process) at h = absurd (cc)
 not_negative operator.Af at h = absurd (cc)
 not_negative operator.Ax at h = absurd (cc)
 
@@ -240,6 +245,7 @@ mutual
       parts_equal _ _ (bounds_alike p q (after_sign sign (relation_of compare)) k (count_below k fits) (if_none (class.is_unequal (after_sign sign (relation_of compare))) _ free))
   parts_alike true (leaf (atom.Empty p q) at) fits free = parts_alike_themselves (model.InTransit p.name q.name model.LessOrEqual 0 ∷ [])
   parts_alike false (leaf (atom.Empty p q) at) fits free = parts_alike_themselves (model.InTransit p.name q.name model.GreaterOrEqual 1 ∷ [])
+  parts_alike sign (leaf (atom.Difference p x q y compare k) at) fits free = absurd (cc)
   parts_alike sign (negation n at) fits free = elim (cases_Bool (is_local (formula_of (negation n at)))) [
     | inl h ↦ local_alike sign (negation n at) h
     | inr h ↦ rw h (parts_alike (not sign) n fits (rw h at free))
@@ -263,8 +269,9 @@ mutual
   parts_alike true (under o n at) fits free =
       let both = none_both (operator_fault true o at) (first_fault true true n) free in
       let same = operand_means (parts_from true n) (formula_of n) (parts_alike true n fits both.1) in
-      (record { operator = (refl, same); meaning = operated_alike o _ (formula_of n) same }, tt)
+      (record { head = (refl, same); meaning = operated_alike o _ (formula_of n) same }, tt)
   parts_alike false (under o n at) fits free = absurd (not_negative o at (none_both (operator_fault false o at) (first_fault true true n) free).0)
+  parts_alike sign (stepping process n at) fits free = absurd (cc)
   parts_alike sign (until_of all left right at) fits free = absurd (cc)
 
   all_parts_alike : (sign : Bool) (ns : Nodes) → all_counts_fit ns ≡ true → first_of true sign ns ≡ None → PartsAlike (map part_formula (walk.all_parts sign ns)) (all_parts sign (formulas_of ns))
@@ -287,12 +294,14 @@ model_local_disjuncts sign (model.Comparison p v relation side) h = refl
 model_local_disjuncts sign (model.Watched p w) h = refl
 model_local_disjuncts sign (model.InTransit p q relation k) h = refl
 model_local_disjuncts sign (model.Empty p q) h = refl
+model_local_disjuncts sign (model.Difference p x q y relation k) h = refl
 model_local_disjuncts sign (model.Not f) h = rw h refl
 model_local_disjuncts true (model.And fs) h = refl
 model_local_disjuncts false (model.And fs) h = rw h refl
 model_local_disjuncts true (model.Or fs) h = rw h refl
 model_local_disjuncts false (model.Or fs) h = refl
 model_local_disjuncts sign (model.Temporal o f) h = refl
+model_local_disjuncts sign (model.Next process f) h = refl
 model_local_disjuncts sign (model.Until all left right) h = refl
 
 local_disjuncts_alike : (sign : Bool) (n : Node) → is_local (formula_of n) ≡ true → EachAlike (disjunct_formulas (disjuncts_from sign n)) (disjuncts sign (formula_of n))
@@ -309,6 +318,7 @@ mutual
   disjuncts_alike sign (leaf (atom.Watch p w) at) fits free = one_alike sign (leaf (atom.Watch p w) at) fits free
   disjuncts_alike sign (leaf (atom.InTransit p q compare k) at) fits free = one_alike sign (leaf (atom.InTransit p q compare k) at) fits free
   disjuncts_alike sign (leaf (atom.Empty p q) at) fits free = one_alike sign (leaf (atom.Empty p q) at) fits free
+  disjuncts_alike sign (leaf (atom.Difference p x q y compare k) at) fits free = one_alike sign (leaf (atom.Difference p x q y compare k) at) fits free
   disjuncts_alike sign (negation n at) fits free = elim (cases_Bool (is_local (formula_of (negation n at)))) [
     | inl h ↦ local_disjuncts_alike sign (negation n at) h
     | inr h ↦ rw h (disjuncts_alike (not sign) n fits (rw h at free))
@@ -324,6 +334,7 @@ mutual
   ]
   disjuncts_alike false (disjunction ns at) fits free = one_alike false (disjunction ns at) fits free
   disjuncts_alike sign (under o n at) fits free = one_alike sign (under o n at) fits free
+  disjuncts_alike sign (stepping process n at) fits free = absurd (cc)
   disjuncts_alike sign (until_of all left right at) fits free = absurd (cc)
 
   all_disjuncts_alike : (sign : Bool) (ns : Nodes) → all_counts_fit ns ≡ true → first_of false sign ns ≡ None → EachAlike (disjunct_formulas (walk.all_disjuncts sign ns)) (all_disjuncts sign (formulas_of ns))

@@ -1,5 +1,5 @@
 -- What is so of the nodes of each formula that was read, by its derivation.
-use Rattle.std.proofs.Common.{◌≡◌, ℕ, ◌+◌, ◌<◌, ◌≤◌, ◌^◌, Bool, true, false, ◌&&◌, List, [], ◌∷◌, ◌++◌, map, nat_lt, sym, ap, refl, ◌∙◌, subst, arith, rules}
+use Rattle.std.proofs.Common.{◌≡◌, ℕ, ◌+◌, ◌<◌, ◌≤◌, ◌^◌, true, false, ◌&&◌, List, [], ◌∷◌, ◌++◌, map, nat_lt, sym, ap, refl, ◌∙◌, subst, arith, rules}
 use Rattle.std.specs.Prelude.{pos, FitsSigned}
 use Rattle.std.specs.Int.{w64}
 use Rattle.std.proofs.lemmas.Int.{ints}
@@ -19,8 +19,8 @@ use Rattle.rctl_lexer.specs.Lexing.{lex}
 use Rattle.rctl_parse.specs.Parsing.{IsReadAs}
 use Rattle.rctl_round_trip.proofs.Texts.{IsAtom, IsSpellable, AreSpellable}
 use Rattle.rctl_round_trip.proofs.Sound.{AreSound, lex-sound, disjunction-spelled}
-use Rattle.rctl_class.specs.Nodes.{Node, Nodes, leaf, negation, conjunction, disjunction, under, until_of, none, more, nodes_of, node_of, formula_of, formulas_of, counts_fit, all_counts_fit, atom_count_fits, node_count, nodes_count, IsWithinLimits}
-use Rattle.rctl_class.proofs.Folds.{node-Leaf, node-Not, node-And, node-Or, node-Temporal, node-Until}
+use Rattle.rctl_class.specs.Nodes.{Node, Nodes, leaf, negation, conjunction, disjunction, under, stepping, until_of, none, more, nodes_of, node_of, formula_of, formulas_of, counts_fit, all_counts_fit, node_count, nodes_count, IsWithinLimits}
+use Rattle.rctl_class.proofs.Folds.{node-Leaf, node-Not, node-And, node-Or, node-Temporal, node-Next, node-Until}
 use Rattle.rctl_class.proofs.Members.{joined}
 
 -- a node of a derivation of so many nodes, and its formula
@@ -130,6 +130,14 @@ leaf_derived (grammar.comparison left compare at right) h = record { counts = re
 leaf_derived (grammar.watch process at name) h = record { counts = refl; wide = refl; few = omega arith; spells = refl }
 leaf_derived (grammar.transit name at channel compare compare_at value value_at) h = record { counts = count_fits _ h.2; wide = refl; few = omega arith; spells = refl }
 leaf_derived (grammar.emptiness name at channel) h = record { counts = refl; wide = refl; few = omega arith; spells = refl }
+leaf_derived (grammar.difference left minus right compare compare_at value value_at) h = record { counts = refl; wide = refl; few = omega arith; spells = refl }
+
+operator_back : (operator : model.Operator) → shape.model_operator (grammar.operator_of operator) ≡ operator
+operator_back model.Ef = refl
+operator_back model.Ag = refl
+operator_back model.Eg = refl
+operator_back model.Af = refl
+operator_back model.Ax = refl
 
 -- ---- derivations
 
@@ -176,8 +184,17 @@ mutual
       (record { counts = inner.counts; wide = inner.wide; few = omega (arith, inner.few); spells = ap model.Not inner.spells })
   unary_derived (temporal operator name at u) h =
       let inner = unary_derived u h in
-      same_node _ (under operator (node_of (tree_unary u)) at) _ _ (node-Temporal operator (tree_unary u) at)
-      (record { counts = inner.counts; wide = inner.wide; few = omega (arith, inner.few); spells = ap (model.Temporal (shape.model_operator operator)) inner.spells })
+      same_node _ (under (grammar.operator_of operator) (node_of (tree_unary u)) at) _ _ (node-Temporal (grammar.operator_of operator) (tree_unary u) at)
+      (record {
+        counts = inner.counts;
+        wide = inner.wide;
+        few = omega (arith, inner.few);
+        spells = ap (λ o. model.Temporal o (formula_of (node_of (tree_unary u)))) (operator_back operator) ∙ ap (model.Temporal operator) inner.spells;
+      })
+  unary_derived (grammar.stepping name at process u) h =
+      let inner = unary_derived u h.1 in
+      same_node _ (stepping (grammar.placed_name process) (node_of (tree_unary u)) at) _ _ (node-Next (grammar.placed_name process) (tree_unary u) at)
+      (record { counts = inner.counts; wide = inner.wide; few = omega (arith, inner.few); spells = ap (model.Next process.name) inner.spells })
   unary_derived (group opened d closed) h = disjunction_derived d h
   unary_derived (until path left name at right closed) h =
       let first = disjunction_derived left h.0 in

@@ -44,6 +44,10 @@ pub node-Temporal : (operator : Operator) (t : Tree) (at : ℕ) → node_of (tre
 unfolding node_of
 node-Temporal operator t at = ap node_of (sym (rolls-Temporal operator t at)) ∙ fold-roll-Tree Node node_step (Tree-F.Temporal operator t at)
 
+pub node-Next : (process : Place) (t : Tree) (at : ℕ) → node_of (tree.Next process t at) ≡ node.stepping process (node_of t) at
+unfolding node_of
+node-Next process t at = ap node_of (sym (tree.rolls-Next process t at)) ∙ fold-roll-Tree Node node_step (Tree-F.Next process t at)
+
 pub node-Until : (all : Bool) (left right : Tree) (at : ℕ) → node_of (tree.Until all left right at) ≡ node.until_of all (node_of left) (node_of right) at
 unfolding node_of
 node-Until all left right at = ap node_of (sym (rolls-Until all left right at)) ∙ fold-roll-Tree Node node_step (Tree-F.Until all left right at)

@@ -7,7 +7,7 @@ use Rattle.run_model.specs.Class.{is_plain, all_plain, processes, all_processes,
 use Rattle.rctl_grammar.specs.declared.tree.Place.{Place}
 use Rattle.rctl_grammar.specs.declared.tree.Side.TheVariants as side
 use Rattle.rctl_grammar.specs.declared.tree.Atom.TheVariants as atom
-use Rattle.rctl_class.specs.Nodes.{Node, Nodes, leaf, negation, conjunction, disjunction, under, until_of, none, more, formula_of, formulas_of}
+use Rattle.rctl_class.specs.Nodes.{Node, Nodes, leaf, negation, conjunction, disjunction, under, stepping, until_of, none, more, formula_of, formulas_of}
 use Rattle.rctl_class.specs.Uses as used
 use Rattle.rctl_class.specs.Uses.{Use, all_uses, uses_of}
 use Rattle.std.specs.Borrow.{Bor}
@@ -46,25 +46,27 @@ mutual
   processes_named (leaf (atom.Watch p w) at) = refl
   processes_named (leaf (atom.InTransit p q compare k) at) = refl
   processes_named (leaf (atom.Empty p q) at) = refl
+  processes_named (leaf (atom.Difference p x q y compare k) at) = refl
   processes_named (negation n at) = processes_named n
   processes_named (conjunction ns at) = all_named ns
   processes_named (disjunction ns at) = all_named ns
   processes_named (under operator n at) = processes_named n
+  processes_named (stepping process n at) = ap (λ ns. process.name ∷ ns) (processes_named n)
   processes_named (until_of all left right at) = rw (processes_named left, processes_named right) (sym (names_joined (uses_of left) (uses_of right)))
 
   all_named : (ns : Nodes) → all_processes (formulas_of ns) ≡ process_names (all_uses ns)
   all_named none = refl
   all_named (more n ns) = rw (processes_named n, all_named ns) (sym (names_joined (uses_of n) (all_uses ns)))
 
-and_assoc : (a b c : Bool) → (a && b) && c ≡ a && (b && c)
+pub and_assoc : (a b c : Bool) → (a && b) && c ≡ a && (b && c)
 and_assoc true b c = refl
 and_assoc false b c = refl
 
-and_true : (a : Bool) → a && true ≡ a
+pub and_true : (a : Bool) → a && true ≡ a
 and_true true = refl
 and_true false = refl
 
-and_swapped : (a b c d : Bool) → (a && b) && (c && d) ≡ (a && c) && (b && d)
+pub and_swapped : (a b c d : Bool) → (a && b) && (c && d) ≡ (a && c) && (b && d)
 and_swapped true true c d = refl
 and_swapped true false true d = refl
 and_swapped true false false d = refl
@@ -85,10 +87,12 @@ mutual
   over_plain p (leaf (atom.Watch q w) at) = sym (and_true (is_on p q.name))
   over_plain p (leaf (atom.InTransit q r compare k) at) = refl
   over_plain p (leaf (atom.Empty q r) at) = refl
+  over_plain p (leaf (atom.Difference q x r y compare k) at) = refl
   over_plain p (negation n at) = over_plain p n
   over_plain p (conjunction ns at) = all_over_plain p ns
   over_plain p (disjunction ns at) = all_over_plain p ns
   over_plain p (under operator n at) = refl
+  over_plain p (stepping process n at) = refl
   over_plain p (until_of all left right at) = refl
 
   all_over_plain : (p : Option Name) (ns : Nodes) → all_over p ns ≡ all_plain (formulas_of ns) && list_all (is_on p) (all_processes (formulas_of ns))
@@ -150,6 +154,7 @@ local_free inside false (conjunction ns at) h = rw h refl
 local_free inside true (disjunction ns at) h = rw h refl
 local_free inside false (disjunction ns at) h = rw h refl
 local_free inside sign (under operator n at) h = absurd (false≢true h)
+local_free inside sign (stepping process n at) h = absurd (false≢true h)
 local_free inside sign (until_of all left right at) h = absurd (false≢true h)
 
 pub local_parts : (sign : Bool) (n : Node) → is_local (formula_of n) ≡ true → parts_from sign n ≡ local_part sign n ∷ []
@@ -161,6 +166,7 @@ local_parts false (conjunction ns at) h = rw h refl
 local_parts true (disjunction ns at) h = rw h refl
 local_parts false (disjunction ns at) h = rw h refl
 local_parts sign (under operator n at) h = absurd (false≢true h)
+local_parts sign (stepping process n at) h = absurd (false≢true h)
 local_parts sign (until_of all left right at) h = absurd (false≢true h)
 
 pub local_disjuncts : (sign : Bool) (n : Node) → is_local (formula_of n) ≡ true → disjuncts_from sign n ≡ (local_part sign n ∷ []) ∷ []
@@ -172,6 +178,7 @@ local_disjuncts false (conjunction ns at) h = rw h refl
 local_disjuncts true (disjunction ns at) h = rw h refl
 local_disjuncts false (disjunction ns at) h = ap (λ ps. ps ∷ []) (local_parts false (disjunction ns at) h)
 local_disjuncts sign (under operator n at) h = absurd (false≢true h)
+local_disjuncts sign (stepping process n at) h = absurd (false≢true h)
 local_disjuncts sign (until_of all left right at) h = absurd (false≢true h)
 
 -- ---- what the code makes of them

@@ -11,7 +11,7 @@ use Rattle.rctl_grammar.specs.declared.tree.Side.{Side}
 use Rattle.rctl_grammar.specs.declared.tree.Side.TheVariants as side
 use Rattle.rctl_grammar.specs.declared.tree.Atom.TheVariants as atom
 use Rattle.rctl_grammar.specs.Shape.{relation_of}
-use Rattle.rctl_class.specs.Nodes.{Node, Nodes, leaf, negation, conjunction, disjunction, under, until_of, none, more, formula_of}
+use Rattle.rctl_class.specs.Nodes.{Node, Nodes, leaf, negation, conjunction, disjunction, under, stepping, until_of, none, more, formula_of}
 use Rattle.rctl_class.specs.Uses as used
 use Rattle.rctl_class.specs.Uses.{Use, Known, Watching, uses_of, all_uses, use_fault, seen_with, earlier, first_unknown, seen_after, Agree}
 use Rattle.rctl_class.specs.Faults.{first_fault, first_of, operator_fault}
@@ -93,10 +93,12 @@ mutual
   uses_lead (leaf (atom.Watch p w) at) = refl
   uses_lead (leaf (atom.InTransit p q compare k) at) = refl
   uses_lead (leaf (atom.Empty p q) at) = refl
+  uses_lead (leaf (atom.Difference p x q y compare k) at) = refl
   uses_lead (negation n at) = uses_lead n
   uses_lead (conjunction ns at) = all_lead ns
   uses_lead (disjunction ns at) = all_lead ns
   uses_lead (under o n at) = uses_lead n
+  uses_lead (stepping process n at) = refl
   uses_lead (until_of all left right at) = leads_joined (uses_of left) (uses_of right) (uses_lead left) (uses_lead right)
 
   all_lead : (ns : Nodes) → leads (all_uses ns) ≡ true
@@ -149,10 +151,12 @@ mutual
   expr_names q (leaf (atom.Watch p w) at) h = ap (λ name. used.watch name w ∷ []) (on_same q p.name h)
   expr_names q (leaf (atom.InTransit p r compare k) at) h = absurd (false≢true h)
   expr_names q (leaf (atom.Empty p r) at) h = absurd (false≢true h)
+  expr_names q (leaf (atom.Difference p x r y compare k) at) h = absurd (false≢true h)
   expr_names q (negation n at) h = expr_names q n h
   expr_names q (conjunction ns at) h = exprs_names q ns h
   expr_names q (disjunction ns at) h = exprs_names q ns h
   expr_names q (under o n at) h = absurd (false≢true h)
+  expr_names q (stepping process n at) h = absurd (false≢true h)
   expr_names q (until_of all left right at) h = absurd (false≢true h)
 
   exprs_names : (q : Option Name) (ns : Nodes) → all_over q ns ≡ true → all_expr_uses (some_name q) (exprs_from ns) ≡ without_processes (all_uses ns)
@@ -233,6 +237,7 @@ mutual
       bounds_names p q (after_sign sign (relation_of compare)) k (if_none (class.is_unequal (after_sign sign (relation_of compare))) _ free)
   parts_names true (leaf (atom.Empty p q) at) free = agree_itself (used.process p ∷ used.process q ∷ [])
   parts_names false (leaf (atom.Empty p q) at) free = agree_itself (used.process p ∷ used.process q ∷ [])
+  parts_names sign (leaf (atom.Difference p x q y compare k) at) free = absurd (cc)
   parts_names sign (negation n at) free = elim (cases_Bool (is_local (formula_of (negation n at)))) [
     | inl h ↦ local_parts_names sign (negation n at) h
     | inr h ↦ rw h (parts_names (not sign) n (rw h at free))
@@ -257,6 +262,7 @@ mutual
       rw (append-nil (operand_uses (pieces (parts_from true n))), operand_names (parts_from true n))
       (parts_names true n (none_both (operator_fault true o at) (first_fault true true n) free).1)
   parts_names false (under o n at) free = absurd (not_negative o at (none_both (operator_fault false o at) (first_fault true true n) free).0)
+  parts_names sign (stepping process n at) free = absurd (cc)
   parts_names sign (until_of all left right at) free = absurd (cc)
 
   all_parts_names : (sign : Bool) (ns : Nodes) → first_of true sign ns ≡ None → Agree (parts_uses (walk.all_parts sign ns)) (all_uses ns)
@@ -298,6 +304,7 @@ mutual
   ]
   disjuncts_names false (disjunction ns at) free = one_names false (disjunction ns at) free
   disjuncts_names sign (under o n at) free = one_names sign (under o n at) free
+  disjuncts_names sign (stepping process n at) free = absurd (cc)
   disjuncts_names sign (until_of all left right at) free = absurd (cc)
 
   all_disjuncts_names : (sign : Bool) (ns : Nodes) → first_of false sign ns ≡ None → Agree (disjuncts_uses (walk.all_disjuncts sign ns)) (all_uses ns)

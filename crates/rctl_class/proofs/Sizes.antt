@@ -10,7 +10,7 @@ use Rattle.rctl_grammar.specs.declared.tree.Place.{Place}
 use Rattle.rctl_grammar.specs.declared.tree.Atom.{Atom}
 use Rattle.rctl_grammar.specs.declared.tree.Atom.TheVariants as atom
 use Rattle.rctl_grammar.specs.Shape.{relation_of, model_operator}
-use Rattle.rctl_class.specs.Nodes.{Node, Nodes, leaf, negation, conjunction, disjunction, under, until_of, none, more, formula_of, formulas_of, counts_fit, all_counts_fit, node_count, nodes_count, IsWithinLimits}
+use Rattle.rctl_class.specs.Nodes.{Node, Nodes, leaf, negation, conjunction, disjunction, under, stepping, until_of, none, more, formula_of, formulas_of, counts_fit, all_counts_fit, node_count, nodes_count, IsWithinLimits}
 use Rattle.rctl_class.specs.Uses.{uses_of, all_uses}
 use Rattle.rctl_class.specs.Faults.{first_fault, first_of, operator_fault}
 use Rattle.rctl_class.specs.NamedParts as named
@@ -36,10 +36,12 @@ mutual
   constant_expr q (leaf (atom.Watch p w) at) h = refl
   constant_expr q (leaf (atom.InTransit p r compare k) at) h = absurd (false≢true h)
   constant_expr q (leaf (atom.Empty p r) at) h = absurd (false≢true h)
+  constant_expr q (leaf (atom.Difference p x r y compare k) at) h = absurd (false≢true h)
   constant_expr q (negation n at) h = constant_expr q n h
   constant_expr q (conjunction ns at) h = constant_exprs q ns h
   constant_expr q (disjunction ns at) h = constant_exprs q ns h
   constant_expr q (under o n at) h = absurd (false≢true h)
+  constant_expr q (stepping process n at) h = absurd (false≢true h)
   constant_expr q (until_of all left right at) h = absurd (false≢true h)
 
   constant_exprs : (q : Option Name) (ns : Nodes) → all_over q ns ≡ true → are_constant (exprs_from ns) ≡ has_no_place (first_place (all_uses ns))
@@ -82,7 +84,7 @@ analysed : (o : Operator) (at : ℕ) → operator_fault true o at ≡ None → I
 analysed operator.Ef at h = refl
 analysed operator.Ag at h = refl
 analysed operator.Eg at h = refl
-analysed operator.Ex at h = absurd (cc)
+analysed (operator.Ex process) at h = absurd (cc)
 analysed operator.Af at h = absurd (cc)
 analysed operator.Ax at h = absurd (cc)
 
@@ -99,6 +101,7 @@ mutual
   parts_fit sign (leaf (atom.InTransit p q compare k) at) fits free = bounds_fit p q (after_sign sign (relation_of compare)) k (count_below k fits)
   parts_fit true (leaf (atom.Empty p q) at) fits free = (omega arith, tt)
   parts_fit false (leaf (atom.Empty p q) at) fits free = (omega arith, tt)
+  parts_fit sign (leaf (atom.Difference p x q y compare k) at) fits free = absurd (cc)
   parts_fit sign (negation n at) fits free = elim (cases_Bool (is_local (formula_of (negation n at)))) [
     | inl h ↦ local_fits sign (negation n at) h
     | inr h ↦ rw h (parts_fit (not sign) n fits (rw h at free))
@@ -123,6 +126,7 @@ mutual
       let both = none_both (operator_fault true o at) (first_fault true true n) free in
       ((analysed o at both.0, operand_fits (parts_from true n) (parts_fit true n fits both.1)), tt)
   parts_fit false (under o n at) fits free = absurd (not_negative o at (none_both (operator_fault false o at) (first_fault true true n) free).0)
+  parts_fit sign (stepping process n at) fits free = absurd (cc)
   parts_fit sign (until_of all left right at) fits free = absurd (cc)
 
   all_parts_fit : (sign : Bool) (ns : Nodes) → all_counts_fit ns ≡ true → first_of true sign ns ≡ None → EachFits (walk.all_parts sign ns)
@@ -155,6 +159,7 @@ mutual
   ]
   disjuncts_fit false (disjunction ns at) fits free = (parts_fit false (disjunction ns at) fits free, tt)
   disjuncts_fit sign (under o n at) fits free = (parts_fit sign (under o n at) fits free, tt)
+  disjuncts_fit sign (stepping process n at) fits free = absurd (cc)
   disjuncts_fit sign (until_of all left right at) fits free = absurd (cc)
 
   all_disjuncts_fit : (sign : Bool) (ns : Nodes) → all_counts_fit ns ≡ true → first_of false sign ns ≡ None → AllFit (walk.all_disjuncts sign ns)
@@ -172,6 +177,7 @@ a_node (negation n at) = omega arith
 a_node (conjunction ns at) = omega arith
 a_node (disjunction ns at) = omega arith
 a_node (under o n at) = omega arith
+a_node (stepping process n at) = omega arith
 a_node (until_of all left right at) = omega arith
 
 parts_count_joined : (ps qs : List Piece) → parts_count (ps ++ qs) ≡ parts_count ps + parts_count qs
@@ -201,6 +207,7 @@ channel_few sign (atom.InTransit p q compare k) = bounds_few (after_sign sign (r
   bounds_few model.GreaterOrEqual k = omega arith
 channel_few true (atom.Empty p q) = omega arith
 channel_few false (atom.Empty p q) = omega arith
+channel_few sign (atom.Difference p x q y compare k) = omega arith
 
 or_local_few : (sign : Bool) (n : Node) (others : List Piece) → parts_count others ≤ 2 * node_count n → parts_count (or_local sign n others) ≤ 2 * node_count n
 or_local_few sign n others few = elim (is_local (formula_of n)) as (λ b. parts_count (if b then local_part sign n ∷ [] else others) ≤ 2 * node_count n)
@@ -215,6 +222,7 @@ mutual
   parts_few true (disjunction ns at) = or_local_few true (disjunction ns at) [] (omega arith)
   parts_few false (disjunction ns at) = or_local_few false (disjunction ns at) (walk.all_parts false ns) (omega (arith, all_parts_few false ns))
   parts_few sign (under o n at) = omega (arith, operand_counted (parts_from true n), parts_few true n)
+  parts_few sign (stepping process n at) = omega arith
   parts_few sign (until_of all left right at) = omega arith
 
   all_parts_few : (sign : Bool) (ns : Nodes) → parts_count (walk.all_parts sign ns) ≤ 2 * nodes_count ns
@@ -241,6 +249,7 @@ mutual
   disjuncts_few true (disjunction ns at) = let few = all_disjuncts_few true ns in or_one_local_few true (disjunction ns at) (walk.all_disjuncts true ns) (omega (arith, few.0), omega (arith, few.1))
   disjuncts_few false (disjunction ns at) = one_few false (disjunction ns at)
   disjuncts_few sign (under o n at) = one_few sign (under o n at)
+  disjuncts_few sign (stepping process n at) = (omega arith, omega arith)
   disjuncts_few sign (until_of all left right at) = (omega arith, omega arith)
 
   all_disjuncts_few : (sign : Bool) (ns : Nodes) → AreFew (walk.all_disjuncts sign ns) (nodes_count ns)
@@ -274,6 +283,7 @@ mutual
   ]
   some_disjunct false (disjunction ns at) wide free = omega arith
   some_disjunct sign (under o n at) wide free = omega arith
+  some_disjunct sign (stepping process n at) wide free = absurd (cc)
   some_disjunct sign (until_of all left right at) wide free = absurd (cc)
 
   some_of : (sign : Bool) (ns : Nodes) → has_two (formulas_of ns) ≡ true → all_wide (formulas_of ns) ≡ true → first_of false sign ns ≡ None → 1 ≤ length (walk.all_disjuncts sign ns)

@@ -1,7 +1,7 @@
 -- What the disjuncts of a formula of the class are.
-use Rattle.std.specs.Prelude.{◌≡◌, ◌↔◌, true, false, List, [], ◌∷◌, map, Option, None, Some, ⊤}
+use Rattle.std.specs.Prelude.{◌≡◌, ◌↔◌, true, false, List, [], ◌∷◌, map, None, ⊤}
 use Rattle.run_model.specs.Cut.{Cut}
-use Rattle.run_model.specs.Run.{Run}
+use Rattle.run_model.specs.Run.{Name, Run}
 use Rattle.run_model.specs.Formula as model
 use Rattle.run_model.specs.Formula.{Formula}
 use Rattle.run_model.specs.Consistent.{IsOrder, IsConsistent}
@@ -17,30 +17,37 @@ abbrev pub MeanTheSame : Formula → Formula → Type 0
 MeanTheSame f g =
     (r : Run) → IsOrder r.clocks → (c : Cut) → IsConsistent r.clocks c → Sat r f c ↔ Sat r g c
 
--- the operator that stands at the head of a formula, with its operand
-abbrev pub operated : Formula → Option (model.Operator × Formula)
-operated (model.Truth b) = None
-operated (model.Comparison process variable relation side) = None
-operated (model.Watched process watch) = None
-operated (model.InTransit sender receiver relation k) = None
-operated (model.Empty sender receiver) = None
-operated (model.Not f) = None
-operated (model.And fs) = None
-operated (model.Or fs) = None
-operated (model.Temporal operator f) = Some (operator, f)
-operated (model.Until all left right) = None
+-- what stands at the head of a formula, over its operand: an operator, the next event of a process,
+-- or neither
+pub data Head : Type 0 where
+  bare : Head
+  operated : (operator : model.Operator) (f : Formula) → Head
+  stepped : (process : Name) (f : Formula) → Head
 
--- the same operator over operands that mean the same, or no operator
-abbrev pub OperateTheSame : Option (model.Operator × Formula) → Option (model.Operator × Formula)
-    → Type 0
-OperateTheSame None None = ⊤
-OperateTheSame None (Some o) = ⊥
-OperateTheSame (Some o) None = ⊥
-OperateTheSame (Some o) (Some p) = (o.0 ≡ p.0) × MeanTheSame o.1 p.1
+abbrev pub head_of : Formula → Head
+head_of (model.Truth b) = bare
+head_of (model.Comparison process variable relation side) = bare
+head_of (model.Watched process watch) = bare
+head_of (model.InTransit sender receiver relation k) = bare
+head_of (model.Empty sender receiver) = bare
+head_of (model.Difference left_process left right_process right relation k) = bare
+head_of (model.Not f) = bare
+head_of (model.And fs) = bare
+head_of (model.Or fs) = bare
+head_of (model.Temporal operator f) = operated operator f
+head_of (model.Next process f) = stepped process f
+head_of (model.Until all left right) = bare
+
+-- the same head over operands that mean the same
+abbrev pub HaveOneHead : Head → Head → Type 0
+HaveOneHead bare bare = ⊤
+HaveOneHead (operated o f) (operated p g) = (o ≡ p) × MeanTheSame f g
+HaveOneHead (stepped p f) (stepped q g) = (p ≡ q) × MeanTheSame f g
+HaveOneHead h k = ⊥
 
 -- a part stands for another
 pub record Alike (f g : Formula) : Type 0 where
-  pub operator : OperateTheSame (operated f) (operated g)
+  pub head : HaveOneHead (head_of f) (head_of g)
   pub meaning : MeanTheSame f g
 
 -- part by part

@@ -5,6 +5,7 @@ use Rattle.std.specs.Prelude.{IsTrue}
 use Rattle.run_model.specs.Formula as model
 use Rattle.run_model.specs.Class.{is_wide}
 use Rattle.rctl_grammar.specs.declared.tree.Operator.{Operator}
+use Rattle.rctl_grammar.specs.declared.tree.Place.{Place}
 use Rattle.rctl_grammar.specs.declared.tree.Atom.{Atom}
 use Rattle.rctl_grammar.specs.declared.tree.Atom.TheVariants as atom
 use Rattle.rctl_grammar.specs.declared.tree.Tree.{Tree}
@@ -20,6 +21,7 @@ mutual
     conjunction : (ns : Nodes) (at : ℕ) → Node
     disjunction : (ns : Nodes) (at : ℕ) → Node
     under : (operator : Operator) (n : Node) (at : ℕ) → Node
+    stepping : (process : Place) (n : Node) (at : ℕ) → Node
     until_of : (all : Bool) (left right : Node) (at : ℕ) → Node
 
   -- any number of them
@@ -39,6 +41,7 @@ node_step (Tree-F.Not n at) = negation n at
 node_step (Tree-F.And ns at) = conjunction (nodes_of ns) at
 node_step (Tree-F.Or ns at) = disjunction (nodes_of ns) at
 node_step (Tree-F.Temporal operator n at) = under operator n at
+node_step (Tree-F.Next process n at) = stepping process n at
 node_step (Tree-F.Until all left right at) = until_of all left right at
 
 -- the tree's root, with all below it
@@ -53,6 +56,7 @@ abbrev mutual
   formula_of (conjunction ns at) = model.And (formulas_of ns)
   formula_of (disjunction ns at) = model.Or (formulas_of ns)
   formula_of (under operator n at) = model.Temporal (model_operator operator) (formula_of n)
+  formula_of (stepping process n at) = model.Next process.name (formula_of n)
   formula_of (until_of all left right at) = model.Until all (formula_of left) (formula_of right)
 
   -- those of members
@@ -69,6 +73,7 @@ atom_count_fits (atom.Local process variable compare side) = true
 atom_count_fits (atom.Watch process watch) = true
 atom_count_fits (atom.InTransit sender receiver compare k) = nat_lt k (2 ^ 63)
 atom_count_fits (atom.Empty sender receiver) = true
+atom_count_fits (atom.Difference left_process left right_process right compare k) = true
 
 abbrev mutual
   -- so of each leaf
@@ -78,6 +83,7 @@ abbrev mutual
   counts_fit (conjunction ns at) = all_counts_fit ns
   counts_fit (disjunction ns at) = all_counts_fit ns
   counts_fit (under operator n at) = counts_fit n
+  counts_fit (stepping process n at) = counts_fit n
   counts_fit (until_of all left right at) = counts_fit left && counts_fit right
 
   -- so of each member
@@ -93,6 +99,7 @@ abbrev mutual
   node_count (conjunction ns at) = 1 + nodes_count ns
   node_count (disjunction ns at) = 1 + nodes_count ns
   node_count (under operator n at) = 1 + node_count n
+  node_count (stepping process n at) = 1 + node_count n
   node_count (until_of all left right at) = 1 + node_count left + node_count right
 
   -- those of members

@@ -12,7 +12,7 @@ use Rattle.rctl_grammar.specs.declared.tree.Side.TheVariants as side
 use Rattle.rctl_grammar.specs.declared.tree.Atom.{Atom}
 use Rattle.rctl_grammar.specs.declared.tree.Atom.TheVariants as atom
 use Rattle.rctl_class.specs.Nodes.{Node, Nodes, leaf, negation, conjunction, disjunction, under}
-use Rattle.rctl_class.specs.Nodes.{until_of, none, more}
+use Rattle.rctl_class.specs.Nodes.{stepping, until_of, none, more}
 
 -- a name in the text: of a process, of a variable of a process, or of a watch on a process
 pub data Use : Type 0 where
@@ -32,6 +32,8 @@ atom_uses (atom.Local p v compare right) = process p ∷ variable p.name v ∷ s
 atom_uses (atom.Watch p w) = process p ∷ watch p.name w ∷ []
 atom_uses (atom.InTransit p q compare k) = process p ∷ process q ∷ []
 atom_uses (atom.Empty p q) = process p ∷ process q ∷ []
+atom_uses (atom.Difference p x q y compare k) =
+    process p ∷ variable p.name x ∷ process q ∷ variable q.name y ∷ []
 
 abbrev mutual
   -- the names of a formula, from left to right
@@ -41,6 +43,7 @@ abbrev mutual
   uses_of (conjunction ns at) = all_uses ns
   uses_of (disjunction ns at) = all_uses ns
   uses_of (under operator n at) = uses_of n
+  uses_of (stepping p n at) = process p ∷ uses_of n
   uses_of (until_of all left right at) = uses_of left ++ uses_of right
 
   -- those of members

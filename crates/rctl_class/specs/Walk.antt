@@ -13,7 +13,7 @@ use Rattle.rctl_grammar.specs.Shape.{relation_of}
 use Rattle.rctl_class.specs.declared.named.NamedSide.{NamedSide}
 use Rattle.rctl_class.specs.declared.named.NamedSide.TheVariants as named_side
 use Rattle.rctl_class.specs.Nodes.{Node, Nodes, leaf, negation, conjunction, disjunction, under}
-use Rattle.rctl_class.specs.Nodes.{until_of, none, more, formula_of}
+use Rattle.rctl_class.specs.Nodes.{stepping, until_of, none, more, formula_of}
 use Rattle.rctl_class.specs.Uses as used
 use Rattle.rctl_class.specs.Uses.{Use, uses_of}
 use Rattle.rctl_class.specs.NamedParts as named
@@ -45,6 +45,7 @@ atom_is_over p (atom.Local q variable compare right) = is_on p q.name && side_is
 atom_is_over p (atom.Watch q watch) = is_on p q.name
 atom_is_over p (atom.InTransit sender receiver compare k) = false
 atom_is_over p (atom.Empty sender receiver) = false
+atom_is_over p (atom.Difference left_process left right_process right compare k) = false
 
 abbrev mutual
   -- only constants, comparisons, watches, not, and, or, and no other process than this one
@@ -54,6 +55,7 @@ abbrev mutual
   is_over p (conjunction ns at) = all_over p ns
   is_over p (disjunction ns at) = all_over p ns
   is_over p (under operator n at) = false
+  is_over p (stepping process n at) = false
   is_over p (until_of all left right at) = false
 
   -- so of each member
@@ -73,6 +75,7 @@ atom_expr (atom.Local q v compare right) = named.comparison v compare (side_from
 atom_expr (atom.Watch q w) = named.watched w
 atom_expr (atom.InTransit sender receiver compare k) = named.truth false
 atom_expr (atom.Empty sender receiver) = named.truth false
+atom_expr (atom.Difference left_process left right_process right compare k) = named.truth false
 
 abbrev mutual
   -- the expression of a local formula
@@ -82,6 +85,7 @@ abbrev mutual
   expr_from (conjunction ns at) = named.conjunction (exprs_from ns)
   expr_from (disjunction ns at) = named.disjunction (exprs_from ns)
   expr_from (under operator n at) = named.truth false
+  expr_from (stepping process n at) = named.truth false
   expr_from (until_of all left right at) = named.truth false
 
   -- those of members
@@ -129,6 +133,7 @@ channel_parts sign (atom.Watch q w) = []
 channel_parts sign (atom.InTransit p q compare k) =
     bounds p q (after_sign sign (relation_of compare)) k
 channel_parts sign (atom.Empty p q) = empty_bound sign p q ∷ []
+channel_parts sign (atom.Difference left_process left right_process right compare k) = []
 
 -- ---- parts and disjuncts
 
@@ -147,6 +152,7 @@ abbrev mutual
   parts_from false (disjunction ns at) = or_local false (disjunction ns at) (all_parts false ns)
   parts_from sign (under operator n at) =
       named.temporal operator (named.pieces (parts_from true n)) ∷ []
+  parts_from sign (stepping process n at) = []
   parts_from sign (until_of all left right at) = []
 
   -- those of members, one after the other
@@ -172,6 +178,7 @@ abbrev mutual
       or_one_local true (disjunction ns at) (all_disjuncts true ns)
   disjuncts_from false (disjunction ns at) = parts_from false (disjunction ns at) ∷ []
   disjuncts_from sign (under operator n at) = parts_from sign (under operator n at) ∷ []
+  disjuncts_from sign (stepping process n at) = []
   disjuncts_from sign (until_of all left right at) = []
 
   -- those of members, one after the other

@@ -3,8 +3,8 @@
 //!
 //! `classify` gives the disjuncts, or exactly the first fault: what is wrong with one node stands
 //! in three tables, and nodes are judged before their members, members from left to right. Laws:
-//! a formula has no fault exactly where it is of the class
-//! (`faultless_formulas_are_of_the_class`), the disjuncts mean the formula
+//! a formula has no fault exactly where it is of the class and has neither of the forms that are
+//! not decided yet (`faultless_formulas_are_of_the_class`), the disjuncts mean the formula
 //! (`disjuncts_mean_the_formula`), and what `classify` asks is so of each formula that was read
 //! (`read_formulas_are_within_limits`). *Not said*: that memory suffices.
 #![tactic(auto)]

@@ -35,6 +35,7 @@ fn first_of_atom(atom: &Atom) -> Option<&Place>
         Atom::Watch { process, .. } => Some(process),
         Atom::InTransit { sender, .. } => Some(sender),
         Atom::Empty { sender, .. } => Some(sender),
+        Atom::Difference { left_process, .. } => Some(left_process),
     }
 }
 
@@ -63,6 +64,7 @@ fn first_process(tree: &Tree) -> Option<&Place>
         Tree::And { members, .. } => first_of_members(members.as_slice()),
         Tree::Or { members, .. } => first_of_members(members.as_slice()),
         Tree::Temporal { inner, .. } => first_process(inner.get()),
+        Tree::Next { process, .. } => Some(process),
         Tree::Until { left, right, .. } => match first_process(left.get()) {
             Some(place) => Some(place),
             None => first_process(right.get()),
@@ -146,6 +148,7 @@ fn atom_at(
         }
         Atom::InTransit { .. } => Ok(None),
         Atom::Empty { .. } => Ok(None),
+        Atom::Difference { .. } => Ok(None),
     }
 }
 
@@ -196,6 +199,7 @@ fn expr_at(
             None => Ok(None),
         },
         Tree::Temporal { .. } => Ok(None),
+        Tree::Next { .. } => Ok(None),
         Tree::Until { .. } => Ok(None),
     }
 }

@@ -46,6 +46,7 @@ fn push_leaf(
         Atom::Empty { sender, receiver } => {
             Ok(parts.push(emptiness(alloc, sign, sender, receiver)?)?)
         }
+        Atom::Difference { .. } => Err(fault(FormulaCode::OutsideClass(Outside::Difference), at)),
     }
 }
 
@@ -57,7 +58,7 @@ fn judge(sign: bool, operator: Operator, at: u32) -> Result<(), Stop>
     match operator {
         Operator::Ef | Operator::Ag | Operator::Eg if sign => Ok(()),
         Operator::Ef | Operator::Ag | Operator::Eg => Err(fault(FormulaCode::NotRegular, at)),
-        Operator::Ex => Err(fault(FormulaCode::OutsideClass(Outside::Ex), at)),
+        Operator::Ex(_) => Err(fault(FormulaCode::OutsideClass(Outside::Ex), at)),
         Operator::Af => Err(fault(FormulaCode::OutsideClass(Outside::Af), at)),
         Operator::Ax => Err(fault(FormulaCode::OutsideClass(Outside::Ax), at)),
     }
@@ -127,6 +128,7 @@ fn conjunction(
                 parts: operand,
             })?)
         }
+        Tree::Next { at, .. } => Err(fault(FormulaCode::OutsideClass(Outside::Ex), *at)),
         Tree::Until { all, at, .. } => {
             Err(fault(FormulaCode::OutsideClass(until_code(*all)), *at))
         }
@@ -216,6 +218,7 @@ pub fn disjunction(
         Tree::Or { .. } => single(alloc, sign, tree, disjuncts),
         Tree::Leaf { .. } => single(alloc, sign, tree, disjuncts),
         Tree::Temporal { .. } => single(alloc, sign, tree, disjuncts),
+        Tree::Next { .. } => single(alloc, sign, tree, disjuncts),
         Tree::Until { .. } => single(alloc, sign, tree, disjuncts),
     }
 }

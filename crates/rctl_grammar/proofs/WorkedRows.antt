@@ -35,6 +35,14 @@ and_truths (suc n) at = tok kind.Amp (at + 1) ∷ truth_at (at + 3) ∷ and_trut
 abbrev ef_at : ℕ → Token
 ef_at at = spelled word.Ef (codes "EF") at
 
+abbrev ex_at : ℕ → Token
+ex_at at = spelled word.Ex (codes "EX") at
+
+-- "P.x - P.x <=" from a place on
+abbrev difference_from : ℕ → List Token → List Token
+difference_from at rest = plain at ∷ tok kind.Dot (at + 1) ∷ plain (at + 2) ∷ tok kind.Minus (at + 4) ∷ plain (at + 6) ∷ tok kind.Dot (at + 7) ∷ plain (at + 8) ∷
+    tok (kind.Compare compare.Le) (at + 10) ∷ rest
+
 empty_text : first_fault [] (end.Ends 0) ≡ Some (syntax_at 0)
 empty_text = refl
 
@@ -117,9 +125,44 @@ until_without_square = refl
 process_named_ef : first_fault (ef_at 0 ∷ tok kind.Dot 2 ∷ plain 3 ∷ tok (kind.Compare compare.Eq) 5 ∷ tok (kind.Number (Some (pos 2))) 7 ∷ []) (end.Ends 8) ≡ None
 process_named_ef = refl
 
--- `EX P.x`: an operand, which is no whole leaf
-leaf_left_open : first_fault (spelled word.Ex (codes "EX") 0 ∷ plain 3 ∷ tok kind.Dot 4 ∷ plain 5 ∷ []) (end.Ends 6) ≡ Some (syntax_at 6)
+-- `EF P.x`: an operand, which is no whole leaf
+leaf_left_open : first_fault (ef_at 0 ∷ plain 3 ∷ tok kind.Dot 4 ∷ plain 5 ∷ []) (end.Ends 6) ≡ Some (syntax_at 6)
 leaf_left_open = refl
+
+-- `EX P.x = 1`: the process is named, and no unary begins with a dot
+next_without_process : first_fault (ex_at 0 ∷ comparison_from 3 (Some (pos 1)) []) (end.Ends 10) ≡ Some (syntax_at 4)
+next_without_process = refl
+
+-- `EX true`: the word is the process, whichever word it is
+next_of_true : first_fault (ex_at 0 ∷ truth_at 3 ∷ []) (end.Ends 7) ≡ Some (syntax_at 7)
+next_of_true = refl
+
+-- `EX EX true`
+next_of_next : first_fault (ex_at 0 ∷ ex_at 3 ∷ truth_at 6 ∷ []) (end.Ends 10) ≡ None
+next_of_next = refl
+
+-- `EX P P.x = 1`
+next_of_process : first_fault (ex_at 0 ∷ plain 3 ∷ comparison_from 5 (Some (pos 1)) []) (end.Ends 12) ≡ None
+next_of_process = refl
+
+-- its word opens a level, also where no process follows
+next_too_deep : first_fault (bangs 16 0 (ex_at 16 ∷ tok kind.Bang 19 ∷ [])) (end.Ends 20) ≡ Some (too_deep_at 16)
+next_too_deep = refl
+
+-- `P.x - 1 <= 2`, where the `-` is a token of its own
+number_subtracted : first_fault (plain 0 ∷ tok kind.Dot 1 ∷ plain 2 ∷ tok kind.Minus 4 ∷ tok (kind.Number (Some (pos 1))) 6 ∷ []) (end.Ends 12) ≡ Some (syntax_at 6)
+number_subtracted = refl
+
+-- `P.x - P.x <= 2`
+difference_within : first_fault (difference_from 0 (tok (kind.Number (Some (pos 2))) 13 ∷ [])) (end.Ends 14) ≡ None
+difference_within = refl
+
+-- `P.x - P.x <= P.x`: a difference is compared with a number
+difference_of_three : first_fault (difference_from 0 (plain 13 ∷ [])) (end.Ends 16) ≡ Some (syntax_at 13)
+difference_of_three = refl
+
+difference_too_large : first_fault (difference_from 0 (tok (kind.Number None) 13 ∷ [])) (end.Ends 33) ≡ Some (number_at 13)
+difference_too_large = refl
 
 -- `empty(P,P) | true`
 empty_channel : first_fault (spelled word.Empty (codes "empty") 0 ∷ tok kind.OpenRound 5 ∷ plain 6 ∷ tok kind.Comma 7 ∷ plain 8 ∷ tok kind.CloseRound 9 ∷

@@ -12,7 +12,8 @@ use Rattle.rctl_grammar.specs.declared.fault.FormulaCode.TheVariants as code
 use Rattle.rctl_grammar.specs.declared.fault.FormulaFault.{FormulaFault}
 use Rattle.rctl_grammar.specs.Grammar.{Spelled, Conjunction, Disjunction, amp_nodes, bar_nodes}
 use Rattle.rctl_grammar.specs.Grammar.{nodes_conjunction, nodes_disjunction, in_range, counts}
-use Rattle.rctl_grammar.specs.Machine.{Front, compared, transit_compared, Before, nothing, bar}
+use Rattle.rctl_grammar.specs.Machine.{Front, compared, transit_compared, difference_compared}
+use Rattle.rctl_grammar.specs.Machine.{Before, nothing, bar, in_stepping, a_stepping}
 use Rattle.rctl_grammar.specs.Machine.{Outer, top, in_group, in_left, in_right, Open, first_of}
 use Rattle.rctl_grammar.specs.Machine.{next_of, in_negation, in_temporal, State, operand, a_word}
 use Rattle.rctl_grammar.specs.Machine.{in_leaf, a_path, after, start, settled, step_kind, whole_of}
@@ -35,6 +36,7 @@ abbrev mutual
   depth (next_of outer before c at) = depth_outer outer
   depth (in_negation o at) = depth o + 1
   depth (in_temporal o operator name at) = depth o + 1
+  depth (in_stepping o name at process) = depth o + 1
 
 -- the nodes of the disjunction so far, and its Or, which stands at the first bar
 abbrev pub nodes_before : Before → ℕ
@@ -56,6 +58,7 @@ abbrev mutual
       nodes_outer outer + nodes_before before + nodes_conjunction c + amp_nodes c
   nodes_open (in_negation o at) = nodes_open o + 1
   nodes_open (in_temporal o operator name at) = nodes_open o + 1
+  nodes_open (in_stepping o name at process) = nodes_open o + 1
 
 -- ---- what a token breaks
 
@@ -135,6 +138,7 @@ count_limit k here = None
 abbrev pub front_limit : Front → Kind → ℕ → Option FormulaFault
 front_limit (compared left compare at) k here = side_limit k here
 front_limit (transit_compared name at channel compare compare_at) k here = count_limit k here
+front_limit (difference_compared left minus right compare compare_at) k here = side_limit k here
 front_limit front k here = None
 
 abbrev pub path_limit : Open → Kind → ℕ → Option FormulaFault
@@ -159,6 +163,7 @@ limit_now (operand o) k here = operand_limit o k here
 limit_now (a_word o w) k here = None
 limit_now (in_leaf o front) k here = front_limit front k here
 limit_now (a_path o all name at) k here = path_limit o k here
+limit_now (a_stepping o name at) k here = None
 limit_now (after outer before c) k here = after_limit outer before c (following k) here
 
 abbrev pub settled_limit : Option State → Kind → ℕ → Option FormulaFault
@@ -177,6 +182,7 @@ limit (a_word o w) k here = either (word_limit o w (sign k)) (follow_limit o w (
 limit (operand o) k here = limit_now (operand o) k here
 limit (in_leaf o front) k here = limit_now (in_leaf o front) k here
 limit (a_path o all name at) k here = limit_now (a_path o all name at) k here
+limit (a_stepping o name at) k here = limit_now (a_stepping o name at) k here
 limit (after outer before c) k here = limit_now (after outer before c) k here
 
 -- what a word that waits breaks at the end

@@ -2,21 +2,23 @@
 --
 -- disjunction = conjunction *( "|" conjunction )
 -- conjunction = unary *( "&" unary )
--- unary       = "!" unary / operator unary / "(" disjunction ")" / leaf
+-- unary       = "!" unary / operator unary / "EX" name unary / "(" disjunction ")" / leaf
 -- / ( "E" / "A" ) "[" disjunction "U" disjunction "]"
--- operator    = "EF" / "AG" / "EG" / "EX" / "AF" / "AX"
+-- operator    = "EF" / "AG" / "EG" / "AF" / "AX"
 -- leaf        = "true" / "false"
 -- / name "." name compare side
 -- / name "@" name
 -- / "intransit" "(" name "," name ")" compare number
 -- / "empty" "(" name "," name ")"
+-- / name "." name "-" name "." name compare number
 -- side        = number / name "." name
 --
 -- A formula is a disjunction. Any word serves as a name: no other alternative has a `.` or an `@`
--- behind a word, so that one before a `.` or an `@` is a name.
+-- behind a word, so that one before a `.` or an `@` is a name, and so is one behind "EX".
 use Rattle.std.specs.Prelude.{◌≡◌, ℕ, ℤ, pos, negsuc, Bool, true, false, ◌+◌, max, ◌&&◌, List, []}
 use Rattle.std.specs.Prelude.{◌∷◌, ◌++◌, Option, None, Some}
 use Rattle.run_model.specs.Run.{Name}
+use Rattle.run_model.specs.Formula as model
 use Rattle.rctl_grammar.specs.declared.token.Kind.{Kind}
 use Rattle.rctl_grammar.specs.declared.token.Kind.TheVariants as kind
 use Rattle.rctl_grammar.specs.declared.token.Word.{Word}
@@ -66,6 +68,8 @@ pub data Leaf : Type 0 where
   transit : (name : Name) (at : ℕ) (channel : Channel) (compare : Compare) (compare_at : ℕ)
       (value : Option ℤ) (value_at : ℕ) → Leaf
   emptiness : (name : Name) (at : ℕ) (channel : Channel) → Leaf
+  difference : (left : Variable) (minus : ℕ) (right : Variable) (compare : Compare)
+      (compare_at : ℕ) (value : Option ℤ) (value_at : ℕ) → Leaf
 
 -- "E" or "A", and its "["
 pub record Path : Type 0 where
@@ -86,7 +90,9 @@ mutual
   pub data Unary : Type 0 where
     leaf : (l : Leaf) → Unary
     negation : (at : ℕ) (u : Unary) → Unary
-    temporal : (operator : Operator) (name : Name) (at : ℕ) (u : Unary) → Unary
+    temporal : (operator : model.Operator) (name : Name) (at : ℕ) (u : Unary) → Unary
+    -- "EX", with its name and its place, and the process
+    stepping : (name : Name) (at : ℕ) (process : Spelled) (u : Unary) → Unary
     group : (opened : ℕ) (d : Disjunction) (closed : ℕ) → Unary
     -- with the name and the place of the "U", and the place of the "]"
     until : (path : Path) (left : Disjunction) (name : Name) (at : ℕ) (right : Disjunction)
@@ -104,13 +110,12 @@ spelled w name at = tok (kind.Word w name) at
 abbrev pub named : Spelled → Token
 named w = spelled w.word w.name w.at
 
-abbrev pub word_of : Operator → Word
-word_of operator.Ef = word.Ef
-word_of operator.Ag = word.Ag
-word_of operator.Eg = word.Eg
-word_of operator.Ex = word.Ex
-word_of operator.Af = word.Af
-word_of operator.Ax = word.Ax
+abbrev pub word_of : model.Operator → Word
+word_of model.Ef = word.Ef
+word_of model.Ag = word.Ag
+word_of model.Eg = word.Eg
+word_of model.Af = word.Af
+word_of model.Ax = word.Ax
 
 abbrev pub truth_word : Bool → Word
 truth_word true = word.True
@@ -143,6 +148,9 @@ text_leaf (transit name at channel compare compare_at value value_at) rest =
     text_channel channel (tok (kind.Compare compare) compare_at ∷ tok (kind.Number value) value_at
     ∷ rest)
 text_leaf (emptiness name at channel) rest = spelled word.Empty name at ∷ text_channel channel rest
+text_leaf (difference left minus right compare compare_at value value_at) rest =
+    text_variable left (tok kind.Minus minus ∷ text_variable right
+    (tok (kind.Compare compare) compare_at ∷ tok (kind.Number value) value_at ∷ rest))
 
 abbrev pub text_path : Path → List Token → List Token
 text_path p rest = spelled (path_word p.all) p.name p.at ∷ tok kind.OpenSquare p.opened ∷ rest
@@ -161,6 +169,8 @@ abbrev mutual
   text_unary (negation at u) rest = tok kind.Bang at ∷ text_unary u rest
   text_unary (temporal operator name at u) rest =
       spelled (word_of operator) name at ∷ text_unary u rest
+  text_unary (stepping name at process u) rest =
+      spelled word.Ex name at ∷ named process ∷ text_unary u rest
   text_unary (group opened d closed) rest =
       tok kind.OpenRound opened ∷ text_disjunction d (tok kind.CloseRound closed ∷ rest)
   text_unary (until path left name at right closed) rest =
@@ -205,6 +215,9 @@ atom_of (transit name at channel compare compare_at value value_at) =
     (count_of value)
 atom_of (emptiness name at channel) =
     atom.Empty (placed_name channel.sender) (placed_name channel.receiver)
+atom_of (difference left minus right compare compare_at value value_at) =
+    atom.Difference (placed_name left.process) (placed_name left.variable)
+    (placed_name right.process) (placed_name right.variable) compare (number_of value)
 
 -- the place of a leaf's first token
 abbrev pub first_token : Leaf → ℕ
@@ -213,6 +226,7 @@ first_token (comparison left compare at right) = left.process.at
 first_token (watch process at name) = process.at
 first_token (transit name at channel compare compare_at value value_at) = at
 first_token (emptiness name at channel) = at
+first_token (difference left minus right compare compare_at value value_at) = left.process.at
 
 -- the place of the first `&` of these, the one at `at` behind them
 abbrev pub first_amp : Conjunction → ℕ → ℕ
@@ -222,6 +236,13 @@ first_amp (and c earlier u) at = first_amp c earlier
 abbrev pub first_bar : Disjunction → ℕ → ℕ
 first_bar (one_conjunction c) at = at
 first_bar (or d earlier c) at = first_bar d earlier
+
+abbrev pub operator_of : model.Operator → Operator
+operator_of model.Ef = operator.Ef
+operator_of model.Ag = operator.Ag
+operator_of model.Eg = operator.Eg
+operator_of model.Af = operator.Af
+operator_of model.Ax = operator.Ax
 
 abbrev mutual
   pub tree_disjunction : Disjunction → Tree
@@ -243,7 +264,9 @@ abbrev mutual
   pub tree_unary : Unary → Tree
   tree_unary (leaf l) = tree.Leaf (atom_of l) (first_token l)
   tree_unary (negation at u) = tree.Not (tree_unary u) at
-  tree_unary (temporal operator name at u) = tree.Temporal operator (tree_unary u) at
+  tree_unary (temporal operator name at u) =
+      tree.Temporal (operator_of operator) (tree_unary u) at
+  tree_unary (stepping name at process u) = tree.Next (placed_name process) (tree_unary u) at
   tree_unary (group opened d closed) = tree_disjunction d
   tree_unary (until path left name at right closed) =
       tree.Until path.all (tree_disjunction left) (tree_disjunction right) path.at
@@ -265,6 +288,7 @@ abbrev mutual
   levels_unary (leaf l) = 0
   levels_unary (negation at u) = 1 + levels_unary u
   levels_unary (temporal operator name at u) = 1 + levels_unary u
+  levels_unary (stepping name at process u) = 1 + levels_unary u
   levels_unary (group opened d closed) = 1 + levels_disjunction d
   levels_unary (until path left name at right closed) =
       1 + max (levels_disjunction left) (levels_disjunction right)
@@ -292,6 +316,7 @@ abbrev mutual
   nodes_unary (leaf l) = 1
   nodes_unary (negation at u) = 1 + nodes_unary u
   nodes_unary (temporal operator name at u) = 1 + nodes_unary u
+  nodes_unary (stepping name at process u) = 1 + nodes_unary u
   nodes_unary (group opened d closed) = nodes_disjunction d
   nodes_unary (until path left name at right closed) =
       1 + nodes_disjunction left + nodes_disjunction right
@@ -318,6 +343,7 @@ leaf_in_range (comparison left compare at right) = side_in_range right
 leaf_in_range (watch process at name) = true
 leaf_in_range (transit name at channel compare compare_at value value_at) = counts value
 leaf_in_range (emptiness name at channel) = true
+leaf_in_range (difference left minus right compare compare_at value value_at) = in_range value
 
 abbrev mutual
   -- the numbers of each leaf are such
@@ -333,6 +359,7 @@ abbrev mutual
   unary_in_range (leaf l) = leaf_in_range l
   unary_in_range (negation at u) = unary_in_range u
   unary_in_range (temporal operator name at u) = unary_in_range u
+  unary_in_range (stepping name at process u) = unary_in_range u
   unary_in_range (group opened d closed) = disjunction_in_range d
   unary_in_range (until path left name at right closed) =
       disjunction_in_range left && disjunction_in_range right

@@ -3,18 +3,18 @@
 use Rattle.std.specs.Prelude.{ℕ, ℤ, Bool, true, false, List, [], ◌∷◌, Option, None, Some}
 use Rattle.pota_base.specs.Number.{◌>>=◌}
 use Rattle.run_model.specs.Run.{Name}
+use Rattle.run_model.specs.Formula as model
 use Rattle.rctl_grammar.specs.declared.token.Kind.{Kind}
 use Rattle.rctl_grammar.specs.declared.token.Kind.TheVariants as kind
 use Rattle.rctl_grammar.specs.declared.token.Word.{Word}
 use Rattle.rctl_grammar.specs.declared.token.Word.TheVariants as word
 use Rattle.rctl_grammar.specs.declared.token.Token.{Token}
 use Rattle.rctl_grammar.specs.declared.tree.Compare.{Compare}
-use Rattle.rctl_grammar.specs.declared.tree.Operator.{Operator}
-use Rattle.rctl_grammar.specs.declared.tree.Operator.TheVariants as operator
 use Rattle.rctl_grammar.specs.Grammar.{Spelled, Channel, Variable, number, variable, Leaf, constant}
 use Rattle.rctl_grammar.specs.Grammar.{comparison, watch, transit, emptiness, Path, Disjunction}
 use Rattle.rctl_grammar.specs.Grammar.{one_conjunction, or, Conjunction, one_unary, and, Unary}
-use Rattle.rctl_grammar.specs.Grammar.{leaf, negation, temporal, group, until, tok, spelled, named}
+use Rattle.rctl_grammar.specs.Grammar.{difference, leaf, negation, temporal, stepping, group, until}
+use Rattle.rctl_grammar.specs.Grammar.{tok, spelled, named}
 use Rattle.rctl_grammar.specs.Grammar.{word_of, path_word, text_channel, text_variable, text_path}
 use Rattle.rctl_grammar.specs.Grammar.{text_disjunction, text_conjunction}
 
@@ -47,6 +47,13 @@ pub data Front : Type 0 where
   transit_channel : (name : Name) (at : ℕ) (channel : Channel) → Front
   transit_compared : (name : Name) (at : ℕ) (channel : Channel) (compare : Compare) (compare_at : ℕ)
       → Front
+  -- the left variable and the "-" are read
+  subtracting : (left : Variable) (minus : ℕ) → Front
+  subtracted_process : (left : Variable) (minus : ℕ) (process : Spelled) → Front
+  subtracted_dot : (left : Variable) (minus : ℕ) (process : Spelled) (dot : ℕ) → Front
+  both_sides : (left : Variable) (minus : ℕ) (right : Variable) → Front
+  difference_compared : (left : Variable) (minus : ℕ) (right : Variable) (compare : Compare)
+      (compare_at : ℕ) → Front
 
 -- the disjunction so far, with the bar behind it
 pub data Before : Type 0 where
@@ -66,7 +73,8 @@ mutual
     first_of : (outer : Outer) (before : Before) → Open
     next_of : (outer : Outer) (before : Before) (c : Conjunction) (at : ℕ) → Open
     in_negation : (o : Open) (at : ℕ) → Open
-    in_temporal : (o : Open) (operator : Operator) (name : Name) (at : ℕ) → Open
+    in_temporal : (o : Open) (operator : model.Operator) (name : Name) (at : ℕ) → Open
+    in_stepping : (o : Open) (name : Name) (at : ℕ) (process : Spelled) → Open
 
 pub data State : Type 0 where
   -- a unary is wanted
@@ -76,6 +84,8 @@ pub data State : Type 0 where
   in_leaf : (o : Open) (front : Front) → State
   -- "E" or "A" is read
   a_path : (o : Open) (all : Bool) (name : Name) (at : ℕ) → State
+  -- "EX" is read, and the next word is a process, whichever word it is
+  a_stepping : (o : Open) (name : Name) (at : ℕ) → State
   -- a conjunction is read, and may go on
   after : (outer : Outer) (before : Before) (c : Conjunction) → State
 
@@ -95,16 +105,17 @@ plug (first_of outer before) u = after outer before (one_unary u)
 plug (next_of outer before c at) u = after outer before (and c at u)
 plug (in_negation o at) u = plug o (negation at u)
 plug (in_temporal o operator name at) u = plug o (temporal operator name at u)
+plug (in_stepping o name at process) u = plug o (stepping name at process u)
 
 -- what a word is where neither `.` nor `@` follows
 abbrev pub settled : Open → Spelled → Option State
 settled o w = elim w.word as (λ v. Option State) [
-  | word.Ef ↦ Some (operand (in_temporal o operator.Ef w.name w.at))
-  | word.Ag ↦ Some (operand (in_temporal o operator.Ag w.name w.at))
-  | word.Eg ↦ Some (operand (in_temporal o operator.Eg w.name w.at))
-  | word.Ex ↦ Some (operand (in_temporal o operator.Ex w.name w.at))
-  | word.Af ↦ Some (operand (in_temporal o operator.Af w.name w.at))
-  | word.Ax ↦ Some (operand (in_temporal o operator.Ax w.name w.at))
+  | word.Ef ↦ Some (operand (in_temporal o model.Ef w.name w.at))
+  | word.Ag ↦ Some (operand (in_temporal o model.Ag w.name w.at))
+  | word.Eg ↦ Some (operand (in_temporal o model.Eg w.name w.at))
+  | word.Ex ↦ Some (a_stepping o w.name w.at)
+  | word.Af ↦ Some (operand (in_temporal o model.Af w.name w.at))
+  | word.Ax ↦ Some (operand (in_temporal o model.Ax w.name w.at))
   | word.E ↦ Some (a_path o false w.name w.at)
   | word.A ↦ Some (a_path o true w.name w.at)
   | word.U ↦ None
@@ -166,6 +177,12 @@ abbrev pub until_in : Kind → ℕ → Option (Name × ℕ)
 until_in (kind.Word word.U name) at = Some (name, at)
 until_in k at = None
 
+-- behind the left side: a comparison, or a difference
+abbrev pub step_left : Variable → Kind → ℕ → Option LeafStep
+step_left left (kind.Compare c) here = Some (going (compared left c here))
+step_left left kind.Minus here = Some (going (subtracting left here))
+step_left left k here = None
+
 -- the right side begins: with a number it ends
 abbrev pub step_side : Variable → Compare → ℕ → Kind → ℕ → Option LeafStep
 step_side left compare at (kind.Number value) here =
@@ -178,7 +195,7 @@ abbrev pub step_leaf : Front → Kind → ℕ → Option LeafStep
 step_leaf (process_dot process dot) k here =
     word_in k here >>= λ w. Some (going
     (left_side (record { process = process; dot = dot; variable = w })))
-step_leaf (left_side left) k here = compare_in k here >>= λ c. Some (going (compared left c.0 c.1))
+step_leaf (left_side left) k here = step_left left k here
 step_leaf (compared left compare at) k here = step_side left compare at k here
 step_leaf (right_process left compare at process) k here =
     dot_in k here >>= λ dot. Some (going (right_dot left compare at process dot))
@@ -204,6 +221,18 @@ step_leaf (transit_channel name at channel) k here =
 step_leaf (transit_compared name at channel compare compare_at) k here =
     number_in k here >>= λ value.
     Some (whole (transit name at channel compare compare_at value.0 value.1))
+step_leaf (subtracting left minus) k here =
+    word_in k here >>= λ process. Some (going (subtracted_process left minus process))
+step_leaf (subtracted_process left minus process) k here =
+    dot_in k here >>= λ dot. Some (going (subtracted_dot left minus process dot))
+step_leaf (subtracted_dot left minus process dot) k here =
+    word_in k here >>= λ w. Some (going
+    (both_sides left minus (record { process = process; dot = dot; variable = w })))
+step_leaf (both_sides left minus right) k here =
+    compare_in k here >>= λ c. Some (going (difference_compared left minus right c.0 c.1))
+step_leaf (difference_compared left minus right compare compare_at) k here =
+    number_in k here >>= λ value.
+    Some (whole (difference left minus right compare compare_at value.0 value.1))
 
 abbrev pub put_leaf : Open → LeafStep → State
 put_leaf o (going front) = in_leaf o front
@@ -220,6 +249,11 @@ abbrev pub step_path : Open → Bool → Name → ℕ → Kind → ℕ → Optio
 step_path o all name at k here = open_square_in k here >>= λ opened.
     Some (operand (first_of (in_left o
     (record { all = all; name = name; at = at; opened = opened })) nothing))
+
+-- the process of "EX"
+abbrev pub step_stepping : Open → Name → ℕ → Kind → ℕ → Option State
+step_stepping o name at k here =
+    word_in k here >>= λ process. Some (operand (in_stepping o name at process))
 
 -- the disjunction ends. Behind the left side of an until the word "U" is its own
 abbrev pub step_close : Outer → Disjunction → Kind → ℕ → Option State
@@ -254,6 +288,7 @@ step_now (operand o) k here = step_operand o k here
 step_now (a_word o w) k here = None
 step_now (in_leaf o front) k here = step_leaf front k here >>= λ s. Some (put_leaf o s)
 step_now (a_path o all name at) k here = step_path o all name at k here
+step_now (a_stepping o name at) k here = step_stepping o name at k here
 step_now (after outer before c) k here = step_after outer before c (following k) k here
 
 -- what makes a word a name
@@ -277,6 +312,7 @@ step_kind (a_word o w) k here = step_word o w (sign k) k here
 step_kind (operand o) k here = step_now (operand o) k here
 step_kind (in_leaf o front) k here = step_now (in_leaf o front) k here
 step_kind (a_path o all name at) k here = step_now (a_path o all name at) k here
+step_kind (a_stepping o name at) k here = step_now (a_stepping o name at) k here
 step_kind (after outer before c) k here = step_now (after outer before c) k here
 
 -- `None` where no formula goes on with the token
@@ -335,6 +371,16 @@ text_front (transit_channel name at channel) rest =
 text_front (transit_compared name at channel compare compare_at) rest =
     spelled word.InTransit name at ∷ text_channel channel
     (tok (kind.Compare compare) compare_at ∷ rest)
+text_front (subtracting left minus) rest = text_variable left (tok kind.Minus minus ∷ rest)
+text_front (subtracted_process left minus process) rest =
+    text_variable left (tok kind.Minus minus ∷ named process ∷ rest)
+text_front (subtracted_dot left minus process dot) rest =
+    text_variable left (tok kind.Minus minus ∷ named process ∷ tok kind.Dot dot ∷ rest)
+text_front (both_sides left minus right) rest =
+    text_variable left (tok kind.Minus minus ∷ text_variable right rest)
+text_front (difference_compared left minus right compare compare_at) rest =
+    text_variable left (tok kind.Minus minus ∷ text_variable right
+    (tok (kind.Compare compare) compare_at ∷ rest))
 
 abbrev pub text_before : Before → List Token → List Token
 text_before nothing rest = rest
@@ -355,11 +401,14 @@ abbrev mutual
   text_open (in_negation o at) rest = text_open o (tok kind.Bang at ∷ rest)
   text_open (in_temporal o operator name at) rest =
       text_open o (spelled (word_of operator) name at ∷ rest)
+  text_open (in_stepping o name at process) rest =
+      text_open o (spelled word.Ex name at ∷ named process ∷ rest)
 
 abbrev pub text_of : State → List Token → List Token
 text_of (operand o) rest = text_open o rest
 text_of (a_word o w) rest = text_open o (named w ∷ rest)
 text_of (in_leaf o front) rest = text_open o (text_front front rest)
 text_of (a_path o all name at) rest = text_open o (spelled (path_word all) name at ∷ rest)
+text_of (a_stepping o name at) rest = text_open o (spelled word.Ex name at ∷ rest)
 text_of (after outer before c) rest =
     text_outer outer (text_before before (text_conjunction c rest))

@@ -15,7 +15,8 @@ use Rattle.rctl_grammar.specs.declared.tree.Tree.{Tree}
 use Rattle.rctl_grammar.specs.declared.tree.Tree.TheOpen.{Tree-F}
 use Rattle.rctl_grammar.specs.declared.tree.Tree.TheFolds.{fold-Tree}
 use Rattle.rctl_grammar.specs.Grammar.{Disjunction, one_conjunction, or, Conjunction, one_unary}
-use Rattle.rctl_grammar.specs.Grammar.{and, Unary, leaf, negation, temporal, group, until, atom_of}
+use Rattle.rctl_grammar.specs.Grammar.{and, Unary, leaf, negation, temporal, stepping, group, until}
+use Rattle.rctl_grammar.specs.Grammar.{atom_of}
 
 -- the right side of a comparison
 pub data PlainSide : Type 0 where
@@ -28,6 +29,8 @@ pub data PlainAtom : Type 0 where
   watch : (process name : Name) → PlainAtom
   transit : (sender receiver : Name) (compare : Compare) (k : ℕ) → PlainAtom
   emptiness : (sender receiver : Name) → PlainAtom
+  difference : (left_process left right_process right : Name) (compare : Compare) (k : ℤ)
+      → PlainAtom
 
 mutual
   pub data Shape : Type 0 where
@@ -35,7 +38,8 @@ mutual
     not : (s : Shape) → Shape
     conjunction : (front : Shapes) (last : Shape) → Shape
     disjunction : (front : Shapes) (last : Shape) → Shape
-    under : (operator : Operator) (s : Shape) → Shape
+    under : (operator : model.Operator) (s : Shape) → Shape
+    stepped : (process : Name) (s : Shape) → Shape
     until_of : (all : Bool) (left right : Shape) → Shape
 
   -- one or more
@@ -56,6 +60,8 @@ plain_atom (atom.Local process name compare right) =
 plain_atom (atom.Watch process name) = watch process.name name.name
 plain_atom (atom.InTransit sender receiver compare k) = transit sender.name receiver.name compare k
 plain_atom (atom.Empty sender receiver) = emptiness sender.name receiver.name
+plain_atom (atom.Difference left_process left right_process right compare k) =
+    difference left_process.name left.name right_process.name right.name compare k
 
 -- members behind `front` and `s`
 abbrev pub conjunction_on : Shapes → Shape → List Shape → Shape
@@ -78,13 +84,23 @@ disjunction_of [] = plain (truth false)
 disjunction_of (s ∷ []) = s
 disjunction_of (s ∷ next ∷ rest) = disjunction_on (one s) next rest
 
+-- an operator over its operand. No tree has the operator of a process's number
+abbrev pub under_of : Operator → Shape → Shape
+under_of operator.Ef s = under model.Ef s
+under_of operator.Ag s = under model.Ag s
+under_of operator.Eg s = under model.Eg s
+under_of (operator.Ex process) s = stepped [] s
+under_of operator.Af s = under model.Af s
+under_of operator.Ax s = under model.Ax s
+
 -- one layer of a tree, with the shapes of its operands in their places
 abbrev pub shape_step : Tree-F Shape → Shape
 shape_step (Tree-F.Leaf a at) = plain (plain_atom a)
 shape_step (Tree-F.Not s at) = not s
 shape_step (Tree-F.And members at) = conjunction_of members
 shape_step (Tree-F.Or members at) = disjunction_of members
-shape_step (Tree-F.Temporal operator s at) = under operator s
+shape_step (Tree-F.Temporal operator s at) = under_of operator s
+shape_step (Tree-F.Next process s at) = stepped process.name s
 shape_step (Tree-F.Until all left right at) = until_of all left right
 
 -- the tree without its places
@@ -114,6 +130,7 @@ abbrev mutual
   shape_unary (leaf l) = plain (plain_atom (atom_of l))
   shape_unary (negation at u) = not (shape_unary u)
   shape_unary (temporal operator name at u) = under operator (shape_unary u)
+  shape_unary (stepping name at process u) = stepped process.name (shape_unary u)
   shape_unary (group opened d closed) = shape_disjunction d
   shape_unary (until path left name at right closed) =
       until_of path.all (shape_disjunction left) (shape_disjunction right)
@@ -128,11 +145,12 @@ relation_of compare.Le = model.LessOrEqual
 relation_of compare.Gt = model.Greater
 relation_of compare.Ge = model.GreaterOrEqual
 
+-- no tree has the operator of a process's number, and it is none that is analysed
 abbrev pub model_operator : Operator → model.Operator
 model_operator operator.Ef = model.Ef
 model_operator operator.Ag = model.Ag
 model_operator operator.Eg = model.Eg
-model_operator operator.Ex = model.Ex
+model_operator (operator.Ex process) = model.Ax
 model_operator operator.Af = model.Af
 model_operator operator.Ax = model.Ax
 
@@ -148,6 +166,8 @@ model_atom (watch process name) = model.Watched process name
 model_atom (transit sender receiver compare k) =
     model.InTransit sender receiver (relation_of compare) k
 model_atom (emptiness sender receiver) = model.Empty sender receiver
+model_atom (difference left_process left right_process right compare k) =
+    model.Difference left_process left right_process right (relation_of compare) k
 
 abbrev mutual
   -- the formula over the consistent cuts of a run that a shape spells
@@ -157,7 +177,8 @@ abbrev mutual
   model_of (conjunction front last) =
       model.And (models front (model.Cons (model_of last) model.Nil))
   model_of (disjunction front last) = model.Or (models front (model.Cons (model_of last) model.Nil))
-  model_of (under operator s) = model.Temporal (model_operator operator) (model_of s)
+  model_of (under operator s) = model.Temporal operator (model_of s)
+  model_of (stepped process s) = model.Next process (model_of s)
   model_of (until_of all left right) = model.Until all (model_of left) (model_of right)
 
   -- those of the members, and then the rest

@@ -1,5 +1,4 @@
-/// The operators that lie outside the class of formulas that are decided. `Eu` and `Au` are the
-/// untils.
+/// The forms that lie outside the class of formulas that are decided. `Eu` and `Au` are the untils.
 #[derive(Clone, Copy, Debug, PartialEq, Eq)]
 pub enum Outside {
     Ex,
@@ -7,13 +6,15 @@ pub enum Outside {
     Ax,
     Eu,
     Au,
+    /// A difference of counters.
+    Difference,
 }
 
 /// What is wrong with a formula's text.
 #[derive(Clone, Copy, Debug, PartialEq, Eq)]
 pub enum FormulaCode {
     /// A byte that begins no token, a number with a leading zero or `-0`, a word of more than 64
-    /// bytes, a `-` without a digit after it.
+    /// bytes.
     Token,
     /// The tokens before this one begin a formula, and with it they do not; or the text ends and is
     /// no formula.

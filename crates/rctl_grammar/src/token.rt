@@ -38,6 +38,8 @@ pub enum Kind {
     Bang,
     Amp,
     Bar,
+    /// A `-` without a digit behind it.
+    Minus,
     Compare(Compare),
 }
 

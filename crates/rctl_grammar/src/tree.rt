@@ -56,15 +56,25 @@ pub enum Atom {
         sender: Place,
         receiver: Place,
     },
+    /// The difference of two counters, each of its process, against `k`.
+    Difference {
+        left_process: Place,
+        left: Place,
+        right_process: Place,
+        right: Place,
+        compare: Compare,
+        k: i64,
+    },
 }
 
-/// The operators of one operand: possibly or always, on some path or on all.
+/// The operators of one operand: possibly or always, on some path or on all, and behind the next
+/// event of the process of that number. A tree names that process, in its `Next`, and never has `Ex`.
 #[derive(Clone, Copy, Debug, PartialEq, Eq)]
 pub enum Operator {
     Ef,
     Ag,
     Eg,
-    Ex,
+    Ex(u32),
     Af,
     Ax,
 }
@@ -94,6 +104,12 @@ pub enum Tree {
     },
     Temporal {
         operator: Operator,
+        inner: Boxed<Tree>,
+        at: u32,
+    },
+    /// Behind the next event of the process.
+    Next {
+        process: Place,
         inner: Boxed<Tree>,
         at: u32,
     },

@@ -8,8 +8,8 @@ use Rattle.rctl_grammar.specs.declared.token.Kind.TheVariants as kind
 use Rattle.rctl_grammar.specs.declared.token.Word.TheVariants as word
 use Rattle.rctl_grammar.specs.declared.token.Token.{Token}
 use Rattle.rctl_grammar.specs.declared.tree.Compare.TheVariants as compare
-use Rattle.rctl_grammar.specs.Grammar.{Spelled, number, variable, constant, comparison, watch, transit, emptiness, Disjunction, one_conjunction, or, one_unary, and, Unary, leaf, negation, temporal, group, until, tok, spelled, named, text_disjunction, text_unary, IsFormula, Begins}
-use Rattle.rctl_grammar.specs.Machine.{ChannelWord, of_transit, of_emptiness, Front, process_dot, left_side, compared, right_process, right_dot, process_at, channel_word, channel_opened, channel_sender, channel_comma, channel_receiver, transit_channel, transit_compared, nothing, bar, Outer, top, in_group, in_left, in_right, Open, first_of, next_of, in_negation, in_temporal, State, operand, a_word, in_leaf, a_path, after, start, settled, step, run, read, whole_of, whole_now, text_front, text_outer, text_open, text_of}
+use Rattle.rctl_grammar.specs.Grammar.{Spelled, Variable, number, variable, constant, comparison, watch, transit, emptiness, difference, Disjunction, one_conjunction, or, one_unary, and, Unary, leaf, negation, temporal, stepping, group, until, tok, spelled, named, text_disjunction, text_unary, IsFormula, Begins}
+use Rattle.rctl_grammar.specs.Machine.{ChannelWord, of_transit, of_emptiness, Front, process_dot, left_side, compared, right_process, right_dot, process_at, channel_word, channel_opened, channel_sender, channel_comma, channel_receiver, transit_channel, transit_compared, subtracting, subtracted_process, subtracted_dot, both_sides, difference_compared, nothing, bar, Outer, top, in_group, in_left, in_right, Open, first_of, next_of, in_negation, in_temporal, in_stepping, State, operand, a_word, in_leaf, a_path, a_stepping, after, start, settled, step, run, read, whole_of, whole_now, text_front, text_outer, text_open, text_of}
 use Rattle.rctl_laws.proofs.Reading.{derivation_is_read}
 use Rattle.rctl_laws.proofs.Keeps.{bind_some, joined_text, run_keeps, settled_text}
 
@@ -21,6 +21,9 @@ Completed f = (d : Disjunction) × (rest : List Token) × (text_disjunction d []
 -- a word, and a constant
 abbrev some_word : Spelled
 some_word = record { word = word.Plain; name = []; at = 0 }
+
+abbrev some_variable : Variable
+some_variable = record { process = some_word; dot = 0; variable = some_word }
 
 abbrev true_at_0 : Token
 true_at_0 = spelled word.True [] 0
@@ -42,6 +45,7 @@ mutual
   close-open (next_of outer (bar d here) c at) u = close-outer outer (or d here (and c at u))
   close-open (in_negation o at) u = close-open o (negation at u)
   close-open (in_temporal o op name at) u = close-open o (temporal op name at u)
+  close-open (in_stepping o name at process) u = close-open o (stepping name at process u)
 
 close-channel : (o : Open) (w : ChannelWord) (name : Name) (at opened : ℕ) (sender : Spelled) (comma : ℕ) (receiver : Spelled)
     → Completed (λ r. text_open o (text_front (channel_receiver w name at opened sender comma receiver) r))
@@ -73,6 +77,19 @@ close-leaf o (channel_receiver w name at opened sender comma receiver) = close-c
 close-leaf o (transit_channel name at channel) =
     let m = close-open o (leaf (transit name at channel compare.Eq 0 None 0)) in (m.0, tok (kind.Compare compare.Eq) 0 ∷ tok (kind.Number None) 0 ∷ m.1, m.2)
 close-leaf o (transit_compared name at channel c compare_at) = let m = close-open o (leaf (transit name at channel c compare_at None 0)) in (m.0, tok (kind.Number None) 0 ∷ m.1, m.2)
+close-leaf o (subtracting left minus) =
+    let m = close-open o (leaf (difference left minus some_variable compare.Eq 0 None 0)) in
+    (m.0, named some_word ∷ tok kind.Dot 0 ∷ named some_word ∷ tok (kind.Compare compare.Eq) 0 ∷ tok (kind.Number None) 0 ∷ m.1, m.2)
+close-leaf o (subtracted_process left minus process) =
+    let m = close-open o (leaf (difference left minus (record { process = process; dot = 0; variable = some_word }) compare.Eq 0 None 0)) in
+    (m.0, tok kind.Dot 0 ∷ named some_word ∷ tok (kind.Compare compare.Eq) 0 ∷ tok (kind.Number None) 0 ∷ m.1, m.2)
+close-leaf o (subtracted_dot left minus process dot) =
+    let m = close-open o (leaf (difference left minus (record { process = process; dot = dot; variable = some_word }) compare.Eq 0 None 0)) in
+    (m.0, named some_word ∷ tok (kind.Compare compare.Eq) 0 ∷ tok (kind.Number None) 0 ∷ m.1, m.2)
+close-leaf o (both_sides left minus right) =
+    let m = close-open o (leaf (difference left minus right compare.Eq 0 None 0)) in (m.0, tok (kind.Compare compare.Eq) 0 ∷ tok (kind.Number None) 0 ∷ m.1, m.2)
+close-leaf o (difference_compared left minus right c compare_at) =
+    let m = close-open o (leaf (difference left minus right c compare_at None 0)) in (m.0, tok (kind.Number None) 0 ∷ m.1, m.2)
 
 close : (s : State) → Completed (text_of s)
 close (operand o) = let m = close-open o truth in (m.0, true_at_0 ∷ m.1, m.2)
@@ -82,6 +99,7 @@ close (a_path o all name at) =
     let d = one_conjunction (one_unary truth) in
     let m = close-open o (until (record { all = all; name = name; at = at; opened = 0 }) d [] 0 d 0) in
     (m.0, tok kind.OpenSquare 0 ∷ true_at_0 ∷ spelled word.U [] 0 ∷ true_at_0 ∷ tok kind.CloseSquare 0 ∷ m.1, m.2)
+close (a_stepping o name at) = let m = close-open o (stepping name at some_word truth) in (m.0, named some_word ∷ true_at_0 ∷ m.1, m.2)
 close (after outer nothing c) = close-outer outer (one_conjunction c)
 close (after outer (bar d at) c) = close-outer outer (or d at c)
 
@@ -112,6 +130,7 @@ now-text (operand o) d e = absurd cc
 now-text (a_word o w) d e = absurd cc
 now-text (in_leaf o front) d e = absurd cc
 now-text (a_path o all name at) d e = absurd cc
+now-text (a_stepping o name at) d e = absurd cc
 now-text (after top before c) d e = ap (λ (x : Disjunction). text_disjunction x []) (sym (same_Some _ _ e)) ∙ joined_text before c []
 now-text (after (in_group o opened) before c) d e = absurd cc
 now-text (after (in_left o path) before c) d e = absurd cc
@@ -122,6 +141,7 @@ whole-text (operand o) d e = absurd cc
 whole-text (a_word o w) d e = let b = bind_some (settled o w) whole_now d e in now-text b.0 d b.2 ∙ sym (settled_text o w b.0 b.1 [])
 whole-text (in_leaf o front) d e = absurd cc
 whole-text (a_path o all name at) d e = absurd cc
+whole-text (a_stepping o name at) d e = absurd cc
 whole-text (after outer before c) d e = now-text (after outer before c) d e
 
 pub whole_is_formula : (tokens : List Token) (s : State) (d : Disjunction) → run start tokens ≡ Some s → whole_of s ≡ Some d → IsFormula tokens d

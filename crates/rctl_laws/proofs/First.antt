@@ -8,7 +8,7 @@ use Rattle.rctl_grammar.specs.declared.fault.FormulaCode.{FormulaCode}
 use Rattle.rctl_grammar.specs.declared.fault.FormulaCode.TheVariants as code
 use Rattle.rctl_grammar.specs.declared.fault.FormulaFault.{FormulaFault}
 use Rattle.rctl_grammar.specs.Grammar.{Disjunction, IsFormula}
-use Rattle.rctl_grammar.specs.Machine.{State, operand, a_word, in_leaf, a_path, after, start, run, whole_of, no_sign}
+use Rattle.rctl_grammar.specs.Machine.{State, operand, a_word, in_leaf, a_path, a_stepping, after, start, run, whole_of, no_sign}
 use Rattle.rctl_grammar.specs.FirstFault.{either, end_limit, end_fault, then_on, Passed, passed, stopped, is_whole, fault_of, first_fault, syntax_at, token_at}
 use Rattle.rctl_lexer.specs.Lexing.{Ascend, place_of}
 use Rattle.rctl_laws.specs.Table.{IsUnexpected, IsUnfinished, HasFault, Precedes}
@@ -29,6 +29,7 @@ end-limit-is (a_word o w) = refl
 end-limit-is (operand o) = refl
 end-limit-is (in_leaf o front) = refl
 end-limit-is (a_path o all name at) = refl
+end-limit-is (a_stepping o name at) = refl
 end-limit-is (after outer before c) = refl
 
 -- what is broken where the tokens end comes before the fault, or is it

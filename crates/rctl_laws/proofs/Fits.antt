@@ -10,11 +10,10 @@ use Rattle.rctl_grammar.specs.declared.token.Kind.TheVariants as kind
 use Rattle.rctl_grammar.specs.declared.token.Word.{Word}
 use Rattle.rctl_grammar.specs.declared.token.Word.TheVariants as word
 use Rattle.rctl_grammar.specs.declared.token.Token.{Token}
-use Rattle.rctl_grammar.specs.declared.tree.Operator.{Operator}
-use Rattle.rctl_grammar.specs.declared.tree.Operator.TheVariants as operator
+use Rattle.run_model.specs.Formula as model
 use Rattle.rctl_grammar.specs.declared.fault.FormulaFault.{FormulaFault}
-use Rattle.rctl_grammar.specs.Grammar.{Spelled, number, variable, constant, comparison, watch, transit, emptiness, Disjunction, one_conjunction, or, Conjunction, one_unary, and, Unary, leaf, negation, temporal, group, until, levels_disjunction, levels_conjunction, levels_unary, nodes_disjunction, nodes_conjunction, nodes_unary, in_range, counts, disjunction_in_range, conjunction_in_range, unary_in_range}
-use Rattle.rctl_grammar.specs.Machine.{ChannelWord, of_transit, of_emptiness, Front, process_dot, left_side, compared, right_process, right_dot, process_at, channel_word, channel_opened, channel_sender, channel_comma, channel_receiver, transit_channel, transit_compared, Before, nothing, bar, Outer, top, in_group, in_left, in_right, Open, first_of, next_of, in_negation, in_temporal, State, operand, a_word, in_leaf, a_path, after, joined, plug, settled, step, step_kind, step_now, step_close, no_sign, following}
+use Rattle.rctl_grammar.specs.Grammar.{Spelled, number, variable, constant, comparison, watch, transit, emptiness, difference, Disjunction, one_conjunction, or, Conjunction, one_unary, and, Unary, leaf, negation, temporal, stepping, group, until, levels_disjunction, levels_conjunction, levels_unary, nodes_disjunction, nodes_conjunction, nodes_unary, in_range, counts, disjunction_in_range, conjunction_in_range, unary_in_range}
+use Rattle.rctl_grammar.specs.Machine.{ChannelWord, of_transit, of_emptiness, Front, process_dot, left_side, compared, right_process, right_dot, process_at, channel_word, channel_opened, channel_sender, channel_comma, channel_receiver, transit_channel, transit_compared, subtracting, subtracted_process, subtracted_dot, both_sides, difference_compared, Before, nothing, bar, Outer, top, in_group, in_left, in_right, Open, first_of, next_of, in_negation, in_temporal, in_stepping, State, operand, a_word, in_leaf, a_path, a_stepping, after, joined, plug, settled, step, step_kind, step_now, step_close, no_sign, following}
 use Rattle.rctl_grammar.specs.FirstFault.{depth, depth_outer, nodes_open, nodes_outer, nodes_before, level_opens, node_stands, either, word_limit, operand_limit, front_limit, path_limit, after_limit, limit_now, settled_limit, limit, Passed, passed, stopped, placed, number_at, too_deep_at, too_many_at}
 use Rattle.rctl_laws.proofs.Scan.{and_on, step_limited, scan}
 
@@ -43,12 +42,14 @@ abbrev mutual
   FitsOpen (next_of outer before c at) = FitsOuter outer × FitsBefore (depth_outer outer) before × FitsConjunction (depth_outer outer) c
   FitsOpen (in_negation o at) = FitsOpen o × (depth o < 16)
   FitsOpen (in_temporal o op name at) = FitsOpen o × (depth o < 16)
+  FitsOpen (in_stepping o name at process) = FitsOpen o × (depth o < 16)
 
 abbrev pub Fits : State → Type 0
 Fits (operand o) = FitsOpen o × (nodes_open o ≤ 64)
 Fits (a_word o w) = FitsOpen o × (nodes_open o ≤ 64)
 Fits (in_leaf o front) = FitsOpen o × (nodes_open o < 64)
 Fits (a_path o all name at) = FitsOpen o × (nodes_open o < 64)
+Fits (a_stepping o name at) = FitsOpen o × (depth o < 16) × (nodes_open o < 64)
 Fits (after outer before c) =
     FitsOuter outer × FitsBefore (depth_outer outer) before × FitsConjunction (depth_outer outer) c × (nodes_outer outer + nodes_before before + nodes_conjunction c ≤ 64)
 
@@ -63,6 +64,7 @@ open-depth (first_of outer before) h = outer-depth outer h.0
 open-depth (next_of outer before c at) h = outer-depth outer h.0
 open-depth (in_negation o at) h = omega (arith, h.1)
 open-depth (in_temporal o op name at) h = omega (arith, h.1)
+open-depth (in_stepping o name at process) h = omega (arith, h.1)
 
 plug-fits : (o : Open) (u : Unary) → FitsOpen o → depth o + levels_unary u ≤ 16 → unary_in_range u ≡ true → nodes_open o + nodes_unary u ≤ 64 → Fits (plug o u)
 plug-fits (first_of outer before) u h levels range nodes = (h.0, h.1, (levels, range), nodes)
@@ -70,6 +72,7 @@ plug-fits (next_of outer before c at) u h levels range nodes =
     (h.0, h.1, (omega (arith, h.2.0), and_from (conjunction_in_range c) (unary_in_range u) h.2.1 range), omega arith)
 plug-fits (in_negation o at) u h levels range nodes = plug-fits o (negation at u) h.0 (omega arith) range (omega arith)
 plug-fits (in_temporal o op name at) u h levels range nodes = plug-fits o (temporal op name at u) h.0 (omega arith) range (omega arith)
+plug-fits (in_stepping o name at process) u h levels range nodes = plug-fits o (stepping name at process u) h.0 (omega arith) range (omega arith)
 
 -- ---- steps
 
@@ -118,6 +121,7 @@ fits-leaf : (o : Open) (front : Front) (k : Kind) (here : ℕ) → Fits (in_leaf
 fits-leaf o (process_dot process dot) (kind.Word w name) here h = h
 fits-leaf o (process_dot process dot) k here h = tt
 fits-leaf o (left_side left) (kind.Compare c) here h = h
+fits-leaf o (left_side left) kind.Minus here h = h
 fits-leaf o (left_side left) k here h = tt
 fits-leaf o (compared left c at) (kind.Number value) here h = leaf-range o here (in_range value) (leaf (comparison left c at (number value here))) refl h.0 refl refl h.1
 fits-leaf o (compared left c at) (kind.Word w name) here h = h
@@ -143,11 +147,26 @@ fits-leaf o (transit_channel name at channel) (kind.Compare c) here h = h
 fits-leaf o (transit_channel name at channel) k here h = tt
 fits-leaf o (transit_compared name at channel c compare_at) (kind.Number value) here h = leaf-range o here (counts value) (leaf (transit name at channel c compare_at value here)) refl h.0 refl refl h.1
 fits-leaf o (transit_compared name at channel c compare_at) k here h = tt
+fits-leaf o (subtracting left minus) (kind.Word w name) here h = h
+fits-leaf o (subtracting left minus) k here h = tt
+fits-leaf o (subtracted_process left minus process) kind.Dot here h = h
+fits-leaf o (subtracted_process left minus process) k here h = tt
+fits-leaf o (subtracted_dot left minus process dot) (kind.Word w name) here h = h
+fits-leaf o (subtracted_dot left minus process dot) k here h = tt
+fits-leaf o (both_sides left minus right) (kind.Compare c) here h = h
+fits-leaf o (both_sides left minus right) k here h = tt
+fits-leaf o (difference_compared left minus right c compare_at) (kind.Number value) here h =
+    leaf-range o here (in_range value) (leaf (difference left minus right c compare_at value here)) refl h.0 refl refl h.1
+fits-leaf o (difference_compared left minus right c compare_at) k here h = tt
 
 fits-path : (o : Open) (all : Bool) (name : Name) (at : ℕ) (k : Kind) (here : ℕ) → Fits (a_path o all name at) → Next (path_limit o k here) (step_now (a_path o all name at) k here)
 fits-path o all name at kind.OpenSquare here h =
     if-level (depth o) here (Some (operand (first_of (in_left o (record { all = all; name = name; at = at; opened = here })) nothing))) (λ shallow. (((h.0, shallow), tt), omega (arith, h.1)))
 fits-path o all name at k here h = tt
+
+fits-stepping : (o : Open) (name : Name) (at : ℕ) (k : Kind) (here : ℕ) → Fits (a_stepping o name at) → Next None (step_now (a_stepping o name at) k here)
+fits-stepping o name at (kind.Word w process) here h = ((h.0, h.1), omega (arith, h.2))
+fits-stepping o name at k here h = tt
 
 fits-close : (outer : Outer) (d : Disjunction) (k : Kind) (here : ℕ) → FitsOuter outer → FitsIn (depth_outer outer) d → nodes_outer outer + nodes_disjunction d ≤ 64 → Next None (step_close outer d k here)
 fits-close top d k here h fits nodes = tt
@@ -179,6 +198,7 @@ fits-now (operand o) k here h = fits-operand o k here h
 fits-now (a_word o w) k here h = tt
 fits-now (in_leaf o front) k here h = fits-leaf o front k here h
 fits-now (a_path o all name at) k here h = fits-path o all name at k here h
+fits-now (a_stepping o name at) k here h = fits-stepping o name at k here h
 fits-now (after outer before c) k here h = fits-after outer before c k here h
 
 -- ---- a word
@@ -193,7 +213,7 @@ node-room nodes here = cond_both (nat_lt nodes 64) None (Some (too_many_at here)
 level-room : (levels here : ℕ) → level_opens levels here ≡ None → levels < 16
 level-room levels here = cond_both (nat_lt levels 16) None (Some (too_deep_at here)) (λ b. b ≡ None → levels < 16) (λ e h. ltb-true levels 16 e) (λ e h. absurd cc)
 
-word-operator : (o : Open) (op : Operator) (name : Name) (at : ℕ) (s : State) → Some (operand (in_temporal o op name at)) ≡ Some s → FitsOpen o
+word-operator : (o : Open) (op : model.Operator) (name : Name) (at : ℕ) (s : State) → Some (operand (in_temporal o op name at)) ≡ Some s → FitsOpen o
     → either (level_opens (depth o) at) (node_stands (nodes_open o) at) ≡ None → Fits s
 word-operator o op name at s e h free =
     let each = either_none (level_opens (depth o) at) (node_stands (nodes_open o) at) free in
@@ -202,12 +222,14 @@ word-operator o op name at s e h free =
 
 word-fits : (o : Open) (w : Word) (name : Name) (at : ℕ) (s : State) → settled o (record { word = w; name = name; at = at }) ≡ Some s → FitsOpen o
     → word_limit o (record { word = w; name = name; at = at }) no_sign ≡ None → Fits s
-word-fits o word.Ef name at s e h free = word-operator o operator.Ef name at s e h free
-word-fits o word.Ag name at s e h free = word-operator o operator.Ag name at s e h free
-word-fits o word.Eg name at s e h free = word-operator o operator.Eg name at s e h free
-word-fits o word.Ex name at s e h free = word-operator o operator.Ex name at s e h free
-word-fits o word.Af name at s e h free = word-operator o operator.Af name at s e h free
-word-fits o word.Ax name at s e h free = word-operator o operator.Ax name at s e h free
+word-fits o word.Ef name at s e h free = word-operator o model.Ef name at s e h free
+word-fits o word.Ag name at s e h free = word-operator o model.Ag name at s e h free
+word-fits o word.Eg name at s e h free = word-operator o model.Eg name at s e h free
+word-fits o word.Ex name at s e h free =
+    let each = either_none (level_opens (depth o) at) (node_stands (nodes_open o) at) free in
+    subst Fits (same_Some _ _ e) (h, level-room (depth o) at each.0, node-room (nodes_open o) at each.1)
+word-fits o word.Af name at s e h free = word-operator o model.Af name at s e h free
+word-fits o word.Ax name at s e h free = word-operator o model.Ax name at s e h free
 word-fits o word.E name at s e h free = subst Fits (same_Some _ _ e) (h, node-room (nodes_open o) at free)
 word-fits o word.A name at s e h free = subst Fits (same_Some _ _ e) (h, node-room (nodes_open o) at free)
 word-fits o word.U name at s e h free = absurd cc
@@ -240,6 +262,7 @@ fits-step (operand o) k here h = fits-operand o k here h
 fits-step (a_word o w) k here h = fits-word o w k here h
 fits-step (in_leaf o front) k here h = fits-leaf o front k here h
 fits-step (a_path o all name at) k here h = fits-path o all name at k here h
+fits-step (a_stepping o name at) k here h = fits-stepping o name at k here h
 fits-step (after outer before c) k here h = fits-after outer before c k here h
 
 -- ---- the tokens that are passed

@@ -7,7 +7,7 @@ use Rattle.rctl_grammar.specs.declared.token.Token.{Token}
 use Rattle.rctl_grammar.specs.declared.token.End.{End}
 use Rattle.rctl_grammar.specs.declared.token.End.TheVariants as end
 use Rattle.rctl_grammar.specs.Grammar.{Conjunction, Disjunction, nodes_conjunction, nodes_disjunction}
-use Rattle.rctl_grammar.specs.Machine.{Before, nothing, bar, top, in_group, in_left, in_right, State, operand, a_word, in_leaf, a_path, after, start, joined, settled, run, whole_of, whole_now}
+use Rattle.rctl_grammar.specs.Machine.{Before, nothing, bar, top, in_group, in_left, in_right, State, operand, a_word, in_leaf, a_path, a_stepping, after, start, joined, settled, run, whole_of, whole_now}
 use Rattle.rctl_grammar.specs.FirstFault.{nodes_before, end_limit, end_fault, is_whole, Passed, passed, stopped, then_on, first_fault, syntax_at, token_at}
 use Rattle.rctl_laws.specs.Laws.{IsWithinLimits, IsFree}
 use Rattle.rctl_laws.proofs.Keeps.{bind_some}
@@ -32,6 +32,7 @@ now-limits (operand o) d h e = absurd cc
 now-limits (a_word o w) d h e = absurd cc
 now-limits (in_leaf o front) d h e = absurd cc
 now-limits (a_path o all name at) d h e = absurd cc
+now-limits (a_stepping o name at) d h e = absurd cc
 now-limits (after top before c) d h e = subst IsWithinLimits (same_Some _ _ e) (joined-limits before c h.1 h.2 (omega (arith, h.3)))
 now-limits (after (in_group o opened) before c) d h e = absurd cc
 now-limits (after (in_left o path) before c) d h e = absurd cc
@@ -44,6 +45,7 @@ whole-limits (a_word o w) d h free e =
     now-limits b.0 d (settled_fits o w b.0 b.1 h free) b.2
 whole-limits (in_leaf o front) d h free e = absurd cc
 whole-limits (a_path o all name at) d h free e = absurd cc
+whole-limits (a_stepping o name at) d h free e = absurd cc
 whole-limits (after outer before c) d h free e = now-limits (after outer before c) d h e
 
 some-whole : (whole : Option Disjunction) → is_whole whole ≡ true → (d : Disjunction) × (whole ≡ Some d)

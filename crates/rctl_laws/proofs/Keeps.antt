@@ -9,14 +9,15 @@ use Rattle.rctl_grammar.specs.declared.token.Kind.TheVariants as kind
 use Rattle.rctl_grammar.specs.declared.token.Word.{Word}
 use Rattle.rctl_grammar.specs.declared.token.Word.TheVariants as word
 use Rattle.rctl_grammar.specs.declared.token.Token.{Token}
-use Rattle.rctl_grammar.specs.Grammar.{Spelled, number, variable, constant, comparison, watch, transit, emptiness, Disjunction, one_conjunction, or, Conjunction, Unary, leaf, negation, temporal, group, until, tok, spelled, named, text_disjunction, text_conjunction, text_unary}
-use Rattle.rctl_grammar.specs.Machine.{ChannelWord, of_transit, of_emptiness, Front, process_dot, left_side, compared, right_process, right_dot, process_at, channel_word, channel_opened, channel_sender, channel_comma, channel_receiver, transit_channel, transit_compared, Before, nothing, bar, Outer, top, in_group, in_left, in_right, Open, first_of, next_of, in_negation, in_temporal, State, operand, a_word, in_leaf, a_path, after, joined, plug, settled, step, step_close, step_now, step_kind, run, text_before, text_outer, text_open, text_of}
+use Rattle.rctl_grammar.specs.Grammar.{Spelled, number, variable, constant, comparison, watch, transit, emptiness, difference, Disjunction, one_conjunction, or, Conjunction, Unary, leaf, negation, temporal, stepping, group, until, tok, spelled, named, text_disjunction, text_conjunction, text_unary}
+use Rattle.rctl_grammar.specs.Machine.{ChannelWord, of_transit, of_emptiness, Front, process_dot, left_side, compared, right_process, right_dot, process_at, channel_word, channel_opened, channel_sender, channel_comma, channel_receiver, transit_channel, transit_compared, subtracting, subtracted_process, subtracted_dot, both_sides, difference_compared, Before, nothing, bar, Outer, top, in_group, in_left, in_right, Open, first_of, next_of, in_negation, in_temporal, in_stepping, State, operand, a_word, in_leaf, a_path, a_stepping, after, joined, plug, settled, step, step_close, step_now, step_kind, run, text_before, text_outer, text_open, text_of}
 
 pub plug_text : (o : Open) (u : Unary) (r : List Token) → text_of (plug o u) r ≡ text_open o (text_unary u r)
 plug_text (first_of outer before) u r = refl
 plug_text (next_of outer before c at) u r = refl
 plug_text (in_negation o at) u r = plug_text o (negation at u) r
 plug_text (in_temporal o op name at) u r = plug_text o (temporal op name at u) r
+plug_text (in_stepping o name at process) u r = plug_text o (stepping name at process u) r
 
 pub joined_text : (before : Before) (c : Conjunction) (r : List Token) → text_disjunction (joined before c) r ≡ text_before before (text_conjunction c r)
 joined_text nothing c r = refl
@@ -68,6 +69,7 @@ keeps-leaf : (o : Open) (front : Front) (k : Kind) (here : ℕ) → Kept (text_o
 keeps-leaf o (process_dot process dot) (kind.Word w name) here = λ r. refl
 keeps-leaf o (process_dot process dot) k here = tt
 keeps-leaf o (left_side left) (kind.Compare c) here = λ r. refl
+keeps-leaf o (left_side left) kind.Minus here = λ r. refl
 keeps-leaf o (left_side left) k here = tt
 keeps-leaf o (compared left compare at) (kind.Number value) here = λ r. sym (plug_text o (leaf (comparison left compare at (number value here))) r)
 keeps-leaf o (compared left compare at) (kind.Word w name) here = λ r. refl
@@ -93,10 +95,24 @@ keeps-leaf o (transit_channel name at channel) (kind.Compare c) here = λ r. ref
 keeps-leaf o (transit_channel name at channel) k here = tt
 keeps-leaf o (transit_compared name at channel compare compare_at) (kind.Number value) here = λ r. sym (plug_text o (leaf (transit name at channel compare compare_at value here)) r)
 keeps-leaf o (transit_compared name at channel compare compare_at) k here = tt
+keeps-leaf o (subtracting left minus) (kind.Word w name) here = λ r. refl
+keeps-leaf o (subtracting left minus) k here = tt
+keeps-leaf o (subtracted_process left minus process) kind.Dot here = λ r. refl
+keeps-leaf o (subtracted_process left minus process) k here = tt
+keeps-leaf o (subtracted_dot left minus process dot) (kind.Word w name) here = λ r. refl
+keeps-leaf o (subtracted_dot left minus process dot) k here = tt
+keeps-leaf o (both_sides left minus right) (kind.Compare c) here = λ r. refl
+keeps-leaf o (both_sides left minus right) k here = tt
+keeps-leaf o (difference_compared left minus right compare compare_at) (kind.Number value) here = λ r. sym (plug_text o (leaf (difference left minus right compare compare_at value here)) r)
+keeps-leaf o (difference_compared left minus right compare compare_at) k here = tt
 
 keeps-path : (o : Open) (all : Bool) (name : Name) (at : ℕ) (k : Kind) (here : ℕ) → Kept (text_of (a_path o all name at)) k here (step_now (a_path o all name at) k here)
 keeps-path o all name at kind.OpenSquare here = λ r. refl
 keeps-path o all name at k here = tt
+
+keeps-stepping : (o : Open) (name : Name) (at : ℕ) (k : Kind) (here : ℕ) → Kept (text_of (a_stepping o name at)) k here (step_now (a_stepping o name at) k here)
+keeps-stepping o name at (kind.Word w process) here = λ r. refl
+keeps-stepping o name at k here = tt
 
 keeps-close : (outer : Outer) (d : Disjunction) (k : Kind) (here : ℕ) → Kept (λ r. text_outer outer (text_disjunction d r)) k here (step_close outer d k here)
 keeps-close top d k here = tt
@@ -119,6 +135,7 @@ keeps-now (operand o) k here = keeps-operand o k here
 keeps-now (a_word o w) k here = tt
 keeps-now (in_leaf o front) k here = keeps-leaf o front k here
 keeps-now (a_path o all name at) k here = keeps-path o all name at k here
+keeps-now (a_stepping o name at) k here = keeps-stepping o name at k here
 keeps-now (after outer before c) k here = keeps-after outer before c k here
 
 keeps-settled : (o : Open) (w : Spelled) (k : Kind) (here : ℕ) (next : Option State) → settled o w ≡ next → Kept (λ r. text_open o (named w ∷ r)) k here (next >>= λ s. step_now s k here)
@@ -135,6 +152,7 @@ keeps (operand o) k here = keeps-operand o k here
 keeps (a_word o w) k here = keeps-word o w k here
 keeps (in_leaf o front) k here = keeps-leaf o front k here
 keeps (a_path o all name at) k here = keeps-path o all name at k here
+keeps (a_stepping o name at) k here = keeps-stepping o name at k here
 keeps (after outer before c) k here = keeps-after outer before c k here
 
 pub step_keeps : (s next : State) (t : Token) → step s t ≡ Some next → (r : List Token) → text_of s (t ∷ r) ≡ text_of next r

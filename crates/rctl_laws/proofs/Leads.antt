@@ -7,8 +7,8 @@ use Rattle.rctl_grammar.specs.declared.token.Kind.TheVariants as kind
 use Rattle.rctl_grammar.specs.declared.token.Word.{Word}
 use Rattle.rctl_grammar.specs.declared.token.Word.TheVariants as word
 use Rattle.rctl_grammar.specs.declared.token.Token.{Token}
-use Rattle.rctl_grammar.specs.Grammar.{tok, spelled, word_of, text_path, text_disjunction, text_conjunction}
-use Rattle.rctl_grammar.specs.Machine.{Before, nothing, bar, Outer, top, in_group, in_left, in_right, Open, first_of, next_of, in_negation, in_temporal, State, operand, a_word, start, run, text_before, text_outer, text_open}
+use Rattle.rctl_grammar.specs.Grammar.{tok, spelled, named, word_of, text_path, text_disjunction, text_conjunction}
+use Rattle.rctl_grammar.specs.Machine.{Before, nothing, bar, Outer, top, in_group, in_left, in_right, Open, first_of, next_of, in_negation, in_temporal, in_stepping, State, operand, a_word, a_stepping, start, run, text_before, text_outer, text_open}
 use Rattle.rctl_laws.proofs.Settled.{settled_operator}
 use Rattle.rctl_laws.proofs.Reading.{goes, Closes, goes_settled, reads-path, reads-bar, reads-left, reads-disjunction, reads-conjunction}
 
@@ -38,6 +38,9 @@ module _ {A : Type 0} (final : State → Option A) where
     leads-open (in_temporal o op name at) r h =
         leads-open o (spelled (word_of op) name at ∷ r) refl
         ∙ goes_settled final o (record { word = word_of op; name = name; at = at }) (operand (in_temporal o op name at)) (settled_operator o op name at) r h
+    leads-open (in_stepping o name at process) r h =
+        leads-open o (spelled word.Ex name at ∷ named process ∷ r) refl
+        ∙ goes_settled final o (record { word = word.Ex; name = name; at = at }) (a_stepping o name at) refl (named process ∷ r) refl
 
   pub leads-before : (outer : Outer) (before : Before) (r : List Token) → goes final start (text_outer outer (text_before before r)) ≡ goes final (operand (first_of outer before)) r
   leads-before outer before r = from-outer outer before (λ x. leads-outer outer x) r

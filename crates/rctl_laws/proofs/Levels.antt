@@ -1,5 +1,5 @@
 -- No level too deep and no node too many comes before the first fault.
-use Rattle.std.specs.Prelude.{ℕ, ◌+◌, ◌≤◌, ◌⊎◌, nat_lt, Bool, List, [], ◌∷◌, ◌++◌, Option, None, Some}
+use Rattle.std.specs.Prelude.{ℕ, ◌+◌, ◌≤◌, ◌⊎◌, nat_lt, Bool, true, List, [], ◌∷◌, ◌++◌, Option, None, Some}
 use Rattle.std.proofs.Common.{◌≡◌, refl, sym, ◌∙◌, ap, subst, inl, inr, arith}
 use Rattle.std.proofs.lemmas.Bool.{cond_both, le-ltb}
 use Rattle.pota_base.specs.Number.{◌>>=◌}
@@ -10,13 +10,11 @@ use Rattle.rctl_grammar.specs.declared.token.Word.{Word}
 use Rattle.rctl_grammar.specs.declared.token.Token.{Token}
 use Rattle.rctl_grammar.specs.declared.token.End.{End}
 use Rattle.rctl_grammar.specs.declared.token.End.TheVariants as end
-use Rattle.rctl_grammar.specs.declared.tree.Operator.{Operator}
-use Rattle.rctl_grammar.specs.declared.tree.Operator.TheVariants as operator
 use Rattle.rctl_grammar.specs.declared.fault.FormulaCode.{FormulaCode}
 use Rattle.rctl_grammar.specs.declared.fault.FormulaCode.TheVariants as code
 use Rattle.rctl_grammar.specs.declared.fault.FormulaFault.{FormulaFault}
-use Rattle.rctl_grammar.specs.Grammar.{Spelled, Conjunction, Unary, tok, spelled, named, word_of, path_word, text_conjunction, text_unary, nodes_conjunction, nodes_unary}
-use Rattle.rctl_grammar.specs.Machine.{Front, process_dot, left_side, compared, right_process, right_dot, process_at, channel_word, channel_opened, channel_sender, channel_comma, channel_receiver, transit_channel, transit_compared, Before, nothing, bar, Outer, Open, first_of, State, operand, a_word, in_leaf, a_path, after, start, settled, step, run, NameSign, by_dot, by_at, no_sign, sign, text_before, text_outer, text_open}
+use Rattle.rctl_grammar.specs.Grammar.{Spelled, Conjunction, Unary, tok, spelled, named, path_word, text_conjunction, text_unary, nodes_conjunction, nodes_unary}
+use Rattle.rctl_grammar.specs.Machine.{Front, process_dot, left_side, compared, right_process, right_dot, process_at, channel_word, channel_opened, channel_sender, channel_comma, channel_receiver, transit_channel, transit_compared, subtracting, subtracted_process, subtracted_dot, both_sides, difference_compared, Before, nothing, bar, Outer, Open, first_of, State, operand, a_word, in_leaf, a_path, a_stepping, after, start, settled, step, run, NameSign, by_dot, by_at, no_sign, sign, text_before, text_outer, text_open}
 use Rattle.rctl_grammar.specs.FirstFault.{depth, nodes_open, nodes_outer, nodes_before, level_opens, node_stands, either, is_operator, word_limit, operand_limit, front_limit, limit_now, settled_limit, Passed, passed, stopped, fault_of, too_deep_at, too_many_at}
 use Rattle.rctl_lexer.specs.Lexing.{Ascend, place_of}
 use Rattle.rctl_laws.specs.Table.{NamesNone, OpensOperand, OpensUntil, IsTooDeep, IsNode, IsTooMany, rank}
@@ -82,12 +80,18 @@ later-front (channel_sender v word at opened sender) w name here = refl
 later-front (channel_comma v word at opened sender comma) w name here = refl
 later-front (channel_receiver v word at opened sender comma receiver) w name here = refl
 later-front (transit_channel word at channel) w name here = refl
+later-front (subtracting left minus) w name here = refl
+later-front (subtracted_process left minus process) w name here = refl
+later-front (subtracted_dot left minus process dot) w name here = refl
+later-front (both_sides left minus right) w name here = refl
+later-front (difference_compared left minus right c compare_at) w name here = refl
 
 word-now : (s : State) (w : Word) (name : Name) (here : ℕ) → limit_now s (kind.Word w name) here ≡ None
 word-now (operand o) w name here = refl
 word-now (a_word o v) w name here = refl
 word-now (in_leaf o front) w name here = later-front front w name here
 word-now (a_path o all word at) w name here = refl
+word-now (a_stepping o word at) w name here = refl
 word-now (after outer nothing c) w name here = refl
 word-now (after outer (bar d at) c) w name here = refl
 
@@ -100,6 +104,7 @@ word-later (a_word o v) w name here = word-settled (settled o v) w name here
 word-later (operand o) w name here = refl
 word-later (in_leaf o front) w name here = later-front front w name here
 word-later (a_path o all word at) w name here = refl
+word-later (a_stepping o word at) w name here = refl
 word-later (after outer nothing c) w name here = refl
 word-later (after outer (bar d at) c) w name here = refl
 
@@ -160,21 +165,16 @@ word-first before rest o w ending c text rises breaks =
 too-deep : (levels here : ℕ) → 16 ≤ levels → level_opens levels here ≡ Some (too_deep_at here)
 too-deep levels here deep = rw (le-ltb levels 16 deep) refl
 
-operator-limit : (o : Open) (op : Operator) (name : Name) (at : ℕ) → 16 ≤ depth o → word_limit o (record { word = word_of op; name = name; at = at }) no_sign ≡ Some (too_deep_at at)
-operator-limit o operator.Ef name at deep = rw (le-ltb (depth o) 16 deep) refl
-operator-limit o operator.Ag name at deep = rw (le-ltb (depth o) 16 deep) refl
-operator-limit o operator.Eg name at deep = rw (le-ltb (depth o) 16 deep) refl
-operator-limit o operator.Ex name at deep = rw (le-ltb (depth o) 16 deep) refl
-operator-limit o operator.Af name at deep = rw (le-ltb (depth o) 16 deep) refl
-operator-limit o operator.Ax name at deep = rw (le-ltb (depth o) 16 deep) refl
+operator-limit : (o : Open) (w : Spelled) → is_operator w.word ≡ true → 16 ≤ depth o → word_limit o w no_sign ≡ Some (too_deep_at w.at)
+operator-limit o w is deep = rw (is, le-ltb (depth o) 16 deep) refl
 
 follows-none : (g : NameSign) (rest : List Token) → Follows g rest → NamesNone rest → g ≡ no_sign
 follows-none g [] h none = h
 follows-none g (t ∷ ts) h none = sym h ∙ none
 
-operator-breaks : (o : Open) (op : Operator) (name : Name) (at : ℕ) (rest : List Token) → 16 ≤ depth o → NamesNone rest → Breaks o (record { word = word_of op; name = name; at = at }) rest code.TooDeep
-operator-breaks o op name at rest deep none g h =
-    (too_deep_at at, ap (λ (x : NameSign). word_limit o (record { word = word_of op; name = name; at = at }) x) (follows-none g rest h none) ∙ operator-limit o op name at deep, omega arith)
+operator-breaks : (o : Open) (w : Spelled) (rest : List Token) → is_operator w.word ≡ true → 16 ≤ depth o → NamesNone rest → Breaks o w rest code.TooDeep
+operator-breaks o w rest is deep none g h =
+    (too_deep_at w.at, ap (λ (x : NameSign). word_limit o w x) (follows-none g rest h none) ∙ operator-limit o w is deep, omega arith)
 
 -- a token that is a word, as one
 word-here : (before rest : List Token) (t : Token) (v : Word) (name : Name) (ending : End) (c : FormulaCode) → t.kind ≡ kind.Word v name
@@ -191,9 +191,9 @@ deep-here before rest t around ending deep (inl (text, inl is)) rises =
 deep-here before rest t around ending deep (inl (text, inr (inl is))) rises =
     token-first before rest t ending code.TooDeep rises (λ s e waits. stops-later code.TooDeep s t (too_deep_at t.at) waits
     (later-open t.kind t.at (ap sign is) around s (reached-from before (text_open around []) s text e) ∙ rw (is, le-ltb (depth around) 16 deep) refl) (omega arith))
-deep-here before rest t around ending deep (inl (text, inr (inr (op, name, is, none)))) rises =
-    word-here before rest t (word_of op) name ending code.TooDeep is
-    (λ h. word-first before rest around (record { word = word_of op; name = name; at = t.at }) ending code.TooDeep text h (operator-breaks around op name t.at rest deep none)) rises
+deep-here before rest t around ending deep (inl (text, inr (inr (v, name, is, operates, none)))) rises =
+    let w : Spelled = record { word = v; name = name; at = t.at } in
+    word-here before rest t v name ending code.TooDeep is (λ h. word-first before rest around w ending code.TooDeep text h (operator-breaks around w rest operates deep none)) rises
 deep-here before rest t around ending deep (inr u) rises =
     token-first before rest t ending code.TooDeep rises (λ s e waits. stops-later code.TooDeep s t (too_deep_at t.at) waits
     (ap (λ (k : Kind). later s k t.at) u.square ∙ later-path t.at around u.all u.name u.at s (reached-from before (text_open around (spelled (path_word u.all) u.name u.at ∷ [])) s u.text e)

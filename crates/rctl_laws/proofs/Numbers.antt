@@ -13,7 +13,7 @@ use Rattle.rctl_grammar.specs.declared.tree.Compare.{Compare}
 use Rattle.rctl_grammar.specs.declared.fault.FormulaCode.TheVariants as code
 use Rattle.rctl_grammar.specs.declared.fault.FormulaFault.{FormulaFault}
 use Rattle.rctl_grammar.specs.Grammar.{Spelled, Channel, Variable, Conjunction, tok, spelled, named, counts}
-use Rattle.rctl_grammar.specs.Machine.{Front, process_dot, left_side, compared, right_process, right_dot, process_at, channel_word, channel_opened, channel_sender, channel_comma, channel_receiver, transit_channel, transit_compared, Before, nothing, bar, Outer, top, in_group, in_left, in_right, Open, first_of, State, operand, a_word, in_leaf, a_path, after, start, settled, step, step_kind, step_now, sign, text_open, text_of}
+use Rattle.rctl_grammar.specs.Machine.{Front, process_dot, left_side, compared, right_process, right_dot, process_at, channel_word, channel_opened, channel_sender, channel_comma, channel_receiver, transit_channel, transit_compared, subtracting, subtracted_process, subtracted_dot, both_sides, difference_compared, Before, nothing, bar, Outer, top, in_group, in_left, in_right, Open, State, operand, a_word, in_leaf, a_path, a_stepping, after, start, settled, step, step_kind, step_now, sign, text_open, text_of}
 use Rattle.rctl_grammar.specs.FirstFault.{limit_now, settled_limit, placed, stopped, syntax_at, number_at}
 use Rattle.rctl_lexer.specs.Lexing.{Ascend, place_of}
 use Rattle.rctl_laws.specs.Table.{IsNegative, EndsWithTransit, IsBadNumber, Precedes}
@@ -41,13 +41,39 @@ refused-after (in_left o path) (bar d at) c value here = inr (refl, refl)
 refused-after (in_right o path left name where_at) nothing c value here = inr (refl, refl)
 refused-after (in_right o path left name where_at) (bar d at) c value here = inr (refl, refl)
 
--- or it is compared with a variable
+-- two tokens at the end of others
+two-last : (a b : List Token) (x y : Token) → a ++ (b ++ x ∷ y ∷ []) ≡ ((a ++ b) ++ x ∷ []) ++ y ∷ []
+two-last a b x y = sym (append_assoc (a ++ b) (x ∷ []) (y ∷ []) ∙ append_assoc a b (x ∷ y ∷ []))
+
+-- or it is compared with what ends with a variable: that alone, or a difference
 pub record IsCompared (s : State) : Type 0 where
-  pub around : Open
-  pub left : Variable
+  pub front : List Token
+  pub variable : Spelled
   pub compare : Compare
   pub at : ℕ
-  pub text : text_of s [] ≡ text_of (in_leaf around (compared left compare at)) []
+  pub text : text_of s [] ≡ (front ++ named variable ∷ []) ++ tok (kind.Compare compare) at ∷ []
+
+compared-last : (o : Open) (left : Variable) (c : Compare) (at : ℕ) → IsCompared (in_leaf o (compared left c at))
+compared-last o left c at =
+    let side : List Token = named left.process ∷ tok kind.Dot left.dot ∷ [] in
+    record {
+      front = text_open o [] ++ side;
+      variable = left.variable;
+      compare = c;
+      at = at;
+      text = appends_open o (side ++ named left.variable ∷ tok (kind.Compare c) at ∷ []) ∙ two-last (text_open o []) side (named left.variable) (tok (kind.Compare c) at);
+    }
+
+difference-last : (o : Open) (left : Variable) (minus : ℕ) (right : Variable) (c : Compare) (at : ℕ) → IsCompared (in_leaf o (difference_compared left minus right c at))
+difference-last o left minus right c at =
+    let sides : List Token = named left.process ∷ tok kind.Dot left.dot ∷ named left.variable ∷ tok kind.Minus minus ∷ named right.process ∷ tok kind.Dot right.dot ∷ [] in
+    record {
+      front = text_open o [] ++ sides;
+      variable = right.variable;
+      compare = c;
+      at = at;
+      text = appends_open o (sides ++ named right.variable ∷ tok (kind.Compare c) at ∷ []) ∙ two-last (text_open o []) sides (named right.variable) (tok (kind.Compare c) at);
+    }
 
 abbrev Judged : State → Option ℤ → ℕ → Type 0
 Judged s value here = Refused s value here ⊎ IsCompared s
@@ -57,7 +83,8 @@ judged-transit : (o : Open) (name : Name) (at : ℕ) (channel : Channel) (c : Co
 judged-transit o name at channel c compare_at value here bad = inl (rw bad refl)
 
 judged-leaf : (o : Open) (front : Front) (value : Option ℤ) (here : ℕ) → counts value ≡ false → Judged (in_leaf o front) value here
-judged-leaf o (compared left c at) value here bad = inr (record { around = o; left = left; compare = c; at = at; text = refl })
+judged-leaf o (compared left c at) value here bad = inr (compared-last o left c at)
+judged-leaf o (difference_compared left minus right c at) value here bad = inr (difference-last o left minus right c at)
 judged-leaf o (transit_compared name at channel c compare_at) value here bad = inl (judged-transit o name at channel c compare_at value here bad)
 judged-leaf o (process_dot process dot) value here bad = inl (inr (refl, refl))
 judged-leaf o (left_side left) value here bad = inl (inr (refl, refl))
@@ -70,12 +97,17 @@ judged-leaf o (channel_sender w name at opened sender) value here bad = inl (inr
 judged-leaf o (channel_comma w name at opened sender comma) value here bad = inl (inr (refl, refl))
 judged-leaf o (channel_receiver w name at opened sender comma receiver) value here bad = inl (inr (refl, refl))
 judged-leaf o (transit_channel name at channel) value here bad = inl (inr (refl, refl))
+judged-leaf o (subtracting left minus) value here bad = inl (inr (refl, refl))
+judged-leaf o (subtracted_process left minus process) value here bad = inl (inr (refl, refl))
+judged-leaf o (subtracted_dot left minus process dot) value here bad = inl (inr (refl, refl))
+judged-leaf o (both_sides left minus right) value here bad = inl (inr (refl, refl))
 
 judged-now : (s : State) (value : Option ℤ) (here : ℕ) → counts value ≡ false → Judged s value here
 judged-now (operand o) value here bad = inl (inr (refl, refl))
 judged-now (a_word o w) value here bad = inl (inr (refl, refl))
 judged-now (in_leaf o front) value here bad = judged-leaf o front value here bad
 judged-now (a_path o all name at) value here bad = inl (inr (refl, refl))
+judged-now (a_stepping o name at) value here bad = inl (inr (refl, refl))
 judged-now (after outer before c) value here bad = inl (refused-after outer before c value here)
 
 abbrev Met : State → Option ℤ → ℕ → Type 0
@@ -84,7 +116,7 @@ Met s value here = Blocked (step_kind s (kind.Number value) here) (later s (kind
 met-known : (o : Open) (w : Spelled) (s : State) (value : Option ℤ) (here : ℕ) → settled o w ≡ Some s → Judged s value here
     → Blocked (step_now s (kind.Number value) here) (limit_now s (kind.Number value) here) here ⊎ IsCompared (a_word o w)
 met-known o w s value here e (inl refused) = inl refused
-met-known o w s value here e (inr c) = inr (record { around = c.around; left = c.left; compare = c.compare; at = c.at; text = settled_text o w s e [] ∙ c.text })
+met-known o w s value here e (inr c) = inr (record { front = c.front; variable = c.variable; compare = c.compare; at = c.at; text = settled_text o w s e [] ∙ c.text })
 
 met-settled : (o : Open) (w : Spelled) (value : Option ℤ) (here : ℕ) → counts value ≡ false → (next : Option State) → settled o w ≡ next
     → Blocked (next >>= λ s. step_now s (kind.Number value) here) (settled_limit next (kind.Number value) here) here ⊎ IsCompared (a_word o w)
@@ -96,6 +128,7 @@ met (operand o) value here bad = inl (inr (refl, refl))
 met (a_word o w) value here bad = met-settled o w value here bad (settled o w) refl
 met (in_leaf o front) value here bad = judged-leaf o front value here bad
 met (a_path o all name at) value here bad = inl (inr (refl, refl))
+met (a_stepping o name at) value here bad = inl (inr (refl, refl))
 met (after outer before c) value here bad = inl (refused-after outer before c value here)
 
 -- ---- where it stands
@@ -111,21 +144,15 @@ stops-blocked s t value is waits blocked =
     stops-by code.Number s t (own s (sign t.kind)) refl waits
     (λ _. blocked-stops (step s t) (later s t.kind t.at) t.at (subst (λ (k : Kind). Blocked (step_kind s k t.at) (later s k t.at) t.at) (sym is) blocked))
 
--- two tokens at the end of others
-two-last : (a b : List Token) (x y : Token) → a ++ (b ++ x ∷ y ∷ []) ≡ ((a ++ b) ++ x ∷ []) ++ y ∷ []
-two-last a b x y = sym (append_assoc (a ++ b) (x ∷ []) (y ∷ []) ∙ append_assoc a b (x ∷ y ∷ []))
-
 -- what `intransit` is compared with is not compared with a variable
 not-both : (before : List Token) (s : State) → text_of s [] ≡ before → EndsWithTransit before → IsCompared s → ⊥
 not-both before s reached e c =
-    let compared_text = c.text ∙ appends_open c.around (text_of (in_leaf (first_of top nothing) (compared c.left c.compare c.at)) [])
-    ∙ two-last (text_open c.around []) (named c.left.process ∷ tok kind.Dot c.left.dot ∷ []) (named c.left.variable) (tok (kind.Compare c.compare) c.at) in
     let transit_text = e.text
     ∙ two-last e.front (spelled word.InTransit e.name e.at ∷ tok kind.OpenRound e.channel.opened ∷ named e.channel.sender ∷ tok kind.Comma e.channel.comma ∷ named e.channel.receiver ∷ [])
     (tok kind.CloseRound e.channel.closed) (tok (kind.Compare e.compare) e.compare_at) in
-    let ends = same_from_push _ _ _ _ (sym compared_text ∙ reached ∙ transit_text) in
+    let ends = same_from_push _ _ _ _ (sym c.text ∙ reached ∙ transit_text) in
     let last = same_from_push _ _ _ _ ends.0 in
-    let kinds : kind.Word c.left.variable.word c.left.variable.name ≡ kind.CloseRound = ap (λ (t : Token). t.kind) last.1 in
+    let kinds : kind.Word c.variable.word c.variable.name ≡ kind.CloseRound = ap (λ (t : Token). t.kind) last.1 in
     cc
 
 known : (s : State) (value : Option ℤ) (here : ℕ) → Met s value here → (IsCompared s → ⊥) → Blocked (step_kind s (kind.Number value) here) (later s (kind.Number value) here) here
@@ -136,6 +163,7 @@ known s value here (inr c) other = absurd (other c)
 out-of-range-leaf : (o : Open) (front : Front) (here : ℕ) → Refused (in_leaf o front) None here
 out-of-range-leaf o (compared left c at) here = inl refl
 out-of-range-leaf o (transit_compared name at channel c compare_at) here = inl refl
+out-of-range-leaf o (difference_compared left minus right c compare_at) here = inl refl
 out-of-range-leaf o (process_dot process dot) here = inr (refl, refl)
 out-of-range-leaf o (left_side left) here = inr (refl, refl)
 out-of-range-leaf o (right_process left c at process) here = inr (refl, refl)
@@ -147,12 +175,17 @@ out-of-range-leaf o (channel_sender w name at opened sender) here = inr (refl, r
 out-of-range-leaf o (channel_comma w name at opened sender comma) here = inr (refl, refl)
 out-of-range-leaf o (channel_receiver w name at opened sender comma receiver) here = inr (refl, refl)
 out-of-range-leaf o (transit_channel name at channel) here = inr (refl, refl)
+out-of-range-leaf o (subtracting left minus) here = inr (refl, refl)
+out-of-range-leaf o (subtracted_process left minus process) here = inr (refl, refl)
+out-of-range-leaf o (subtracted_dot left minus process dot) here = inr (refl, refl)
+out-of-range-leaf o (both_sides left minus right) here = inr (refl, refl)
 
 out-of-range-now : (s : State) (here : ℕ) → Refused s None here
 out-of-range-now (operand o) here = inr (refl, refl)
 out-of-range-now (a_word o w) here = inr (refl, refl)
 out-of-range-now (in_leaf o front) here = out-of-range-leaf o front here
 out-of-range-now (a_path o all name at) here = inr (refl, refl)
+out-of-range-now (a_stepping o name at) here = inr (refl, refl)
 out-of-range-now (after outer before c) here = refused-after outer before c None here
 
 out-of-range-settled : (next : Option State) (here : ℕ) → Blocked (next >>= λ s. step_now s (kind.Number None) here) (settled_limit next (kind.Number None) here) here
@@ -164,6 +197,7 @@ out-of-range (operand o) here = inr (refl, refl)
 out-of-range (a_word o w) here = out-of-range-settled (settled o w) here
 out-of-range (in_leaf o front) here = out-of-range-leaf o front here
 out-of-range (a_path o all name at) here = inr (refl, refl)
+out-of-range (a_stepping o name at) here = inr (refl, refl)
 out-of-range (after outer before c) here = refused-after outer before c None here
 
 number-here : (before rest : List Token) (t : Token) (ending : End) → (t.kind ≡ kind.Number None) ⊎ (IsNegative t.kind × EndsWithTransit before)

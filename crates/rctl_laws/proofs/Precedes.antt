@@ -11,7 +11,7 @@ use Rattle.rctl_grammar.specs.declared.fault.FormulaCode.{FormulaCode}
 use Rattle.rctl_grammar.specs.declared.fault.FormulaCode.TheVariants as code
 use Rattle.rctl_grammar.specs.declared.fault.FormulaFault.{FormulaFault}
 use Rattle.rctl_grammar.specs.Grammar.{Spelled, Conjunction, Begins}
-use Rattle.rctl_grammar.specs.Machine.{Front, process_dot, left_side, compared, right_process, right_dot, process_at, channel_word, channel_opened, channel_sender, channel_comma, channel_receiver, transit_channel, transit_compared, Before, nothing, bar, Outer, Open, State, operand, a_word, in_leaf, a_path, after, start, settled, step, step_kind, step_now, run, no_sign, sign, following}
+use Rattle.rctl_grammar.specs.Machine.{Front, process_dot, left_side, compared, right_process, right_dot, process_at, channel_word, channel_opened, channel_sender, channel_comma, channel_receiver, transit_channel, transit_compared, subtracting, subtracted_process, subtracted_dot, both_sides, difference_compared, Before, nothing, bar, Outer, Open, State, operand, a_word, in_leaf, a_path, a_stepping, after, start, settled, step, step_kind, step_now, run, no_sign, sign, following}
 use Rattle.rctl_grammar.specs.FirstFault.{operand_limit, front_limit, path_limit, after_limit, limit_now, settled_limit, follow_limit, placed, Passed, passed, stopped, first_fault, syntax_at}
 use Rattle.rctl_lexer.specs.Lexing.{Ascend, place_of}
 use Rattle.rctl_laws.specs.Table.{IsUnexpected, rank, Precedes}
@@ -58,7 +58,7 @@ stops-later c s t fault waits e le =
 -- a word waits for the token only where that is no sign of a name
 pub later-settled : (k : Kind) (here : ℕ) → sign k ≡ no_sign → Closes (λ s. later s k here) []
 later-settled k here plain o w s e =
-    rw (plain, e) (sym (settled_is (λ x. later x k here ≡ limit_now x k here) (λ p. refl) (λ p front. refl) (λ p all name at. refl) (λ outer before c. refl) o w s e))
+    rw (plain, e) (sym (settled_is (λ x. later x k here ≡ limit_now x k here) (λ p. refl) (λ p front. refl) (λ p all name at. refl) (λ p name at. refl) (λ outer before c. refl) o w s e))
 
 -- ---- syntax
 
@@ -83,6 +83,8 @@ passes-leaf o (compared left c at) (kind.Word w name) here = tt
 passes-leaf o (compared left c at) k here = tt
 passes-leaf o (transit_compared name at channel c compare_at) (kind.Number value) here = tt
 passes-leaf o (transit_compared name at channel c compare_at) k here = tt
+passes-leaf o (difference_compared left minus right c compare_at) (kind.Number value) here = tt
+passes-leaf o (difference_compared left minus right c compare_at) k here = tt
 passes-leaf o (process_dot process dot) k here = passes-none (step_now (in_leaf o (process_dot process dot)) k here)
 passes-leaf o (left_side left) k here = passes-none (step_now (in_leaf o (left_side left)) k here)
 passes-leaf o (right_process left c at process) k here = passes-none (step_now (in_leaf o (right_process left c at process)) k here)
@@ -94,6 +96,10 @@ passes-leaf o (channel_sender w name at opened sender) k here = passes-none (ste
 passes-leaf o (channel_comma w name at opened sender comma) k here = passes-none (step_now (in_leaf o (channel_comma w name at opened sender comma)) k here)
 passes-leaf o (channel_receiver w name at opened sender comma receiver) k here = passes-none (step_now (in_leaf o (channel_receiver w name at opened sender comma receiver)) k here)
 passes-leaf o (transit_channel name at channel) k here = passes-none (step_now (in_leaf o (transit_channel name at channel)) k here)
+passes-leaf o (subtracting left minus) k here = passes-none (step_now (in_leaf o (subtracting left minus)) k here)
+passes-leaf o (subtracted_process left minus process) k here = passes-none (step_now (in_leaf o (subtracted_process left minus process)) k here)
+passes-leaf o (subtracted_dot left minus process dot) k here = passes-none (step_now (in_leaf o (subtracted_dot left minus process dot)) k here)
+passes-leaf o (both_sides left minus right) k here = passes-none (step_now (in_leaf o (both_sides left minus right)) k here)
 
 passes-path : (o : Open) (all : Bool) (name : Name) (at : ℕ) (k : Kind) (here : ℕ) → Passes (step_now (a_path o all name at) k here) (path_limit o k here)
 passes-path o all name at kind.OpenSquare here = tt
@@ -110,6 +116,7 @@ passes-now (operand o) k here = passes-operand o k here
 passes-now (a_word o w) k here = tt
 passes-now (in_leaf o front) k here = passes-leaf o front k here
 passes-now (a_path o all name at) k here = passes-path o all name at k here
+passes-now (a_stepping o name at) k here = passes-none (step_now (a_stepping o name at) k here)
 passes-now (after outer before c) k here = passes-after outer before c k here
 
 passes-settled : (k : Kind) (here : ℕ) (next : Option State) → Passes (next >>= λ s. step_now s k here) (settled_limit next k here)
@@ -126,6 +133,7 @@ passes (operand o) k here = passes-operand o k here
 passes (a_word o w) k here = passes-word o w k here
 passes (in_leaf o front) k here = passes-leaf o front k here
 passes (a_path o all name at) k here = passes-path o all name at k here
+passes (a_stepping o name at) k here = passes-none (step_now (a_stepping o name at) k here)
 passes (after outer before c) k here = passes-after outer before c k here
 
 -- a limit is broken by no token that no formula goes on with

@@ -6,8 +6,8 @@ use Rattle.run_model.specs.Run.{Name}
 use Rattle.rctl_grammar.specs.declared.token.Kind.TheVariants as kind
 use Rattle.rctl_grammar.specs.declared.token.Word.TheVariants as word
 use Rattle.rctl_grammar.specs.declared.token.Token.{Token}
-use Rattle.rctl_grammar.specs.Grammar.{Spelled, number, variable, Leaf, constant, comparison, watch, transit, emptiness, Path, Disjunction, one_conjunction, or, Conjunction, one_unary, and, Unary, leaf, negation, temporal, group, until, tok, spelled, word_of, path_word, text_path, text_leaf, text_disjunction, text_conjunction, text_unary, IsFormula}
-use Rattle.rctl_grammar.specs.Machine.{Before, nothing, bar, Outer, top, in_group, in_left, in_right, Open, first_of, next_of, in_negation, in_temporal, State, operand, a_word, a_path, after, plug, settled, sign, no_sign, run, read, whole_of}
+use Rattle.rctl_grammar.specs.Grammar.{Spelled, number, variable, Leaf, constant, comparison, watch, transit, emptiness, difference, Path, Disjunction, one_conjunction, or, Conjunction, one_unary, and, Unary, leaf, negation, temporal, stepping, group, until, tok, spelled, named, word_of, path_word, text_path, text_leaf, text_disjunction, text_conjunction, text_unary, IsFormula}
+use Rattle.rctl_grammar.specs.Machine.{Before, nothing, bar, Outer, top, in_group, in_left, in_right, Open, first_of, next_of, in_negation, in_temporal, in_stepping, State, operand, a_word, a_path, a_stepping, after, plug, settled, sign, no_sign, run, read, whole_of}
 use Rattle.rctl_laws.proofs.Settled.{settled_steps, settled_ends, settled_operator, settled_path, ended}
 
 -- what comes of a state and the tokens behind it
@@ -32,11 +32,13 @@ module _ (Q : List Token → Type 0) (plain : (t : Token) (ts : List Token) → 
   begins-leaf (watch process at name) r = plain _ _ refl
   begins-leaf (transit name at channel compare compare_at value value_at) r = plain _ _ refl
   begins-leaf (emptiness name at channel) r = plain _ _ refl
+  begins-leaf (difference left minus right compare compare_at value value_at) r = plain _ _ refl
 
   pub begins_plain : (u : Unary) (r : List Token) → Q (text_unary u r)
   begins_plain (leaf l) r = begins-leaf l r
   begins_plain (negation at u) r = plain _ _ refl
   begins_plain (temporal op name at u) r = plain _ _ refl
+  begins_plain (stepping name at process u) r = plain _ _ refl
   begins_plain (group opened d closed) r = plain _ _ refl
   begins_plain (until path left name at right closed) r = plain _ _ refl
 
@@ -53,6 +55,7 @@ module _ {A : Type 0} (final : State → Option A) where
   reads-leaf (watch process at name) o r h = refl
   reads-leaf (transit name at channel compare compare_at value value_at) o r h = refl
   reads-leaf (emptiness name at channel) o r h = refl
+  reads-leaf (difference left minus right compare compare_at value value_at) o r h = refl
 
   pub reads-path : (o : Open) (path : Path) (r : List Token) → goes final (operand o) (text_path path r) ≡ goes final (operand (first_of (in_left o path) nothing)) r
   reads-path o path r = goes_settled o (record { word = path_word path.all; name = path.name; at = path.at }) (a_path o path.all path.name path.at) (settled_path o path.all path.name path.at) (tok kind.OpenSquare path.opened ∷ r) refl
@@ -91,6 +94,8 @@ module _ {A : Type 0} (final : State → Option A) where
     reads-unary (temporal op name at u) o r h =
         goes_settled o (record { word = word_of op; name = name; at = at }) (operand (in_temporal o op name at)) (settled_operator o op name at) (text_unary u r) (begins_plain (Closes final) (λ t ts e. e) u r)
         ∙ reads-unary u (in_temporal o op name at) r h
+    reads-unary (stepping name at process u) o r h =
+        goes_settled o (record { word = word.Ex; name = name; at = at }) (a_stepping o name at) refl (named process ∷ text_unary u r) refl ∙ reads-unary u (in_stepping o name at process) r h
     reads-unary (group opened d closed) o r h =
         reads-disjunction d (in_group o opened) (tok kind.CloseRound closed ∷ r) refl ∙ reads-close d o opened closed r
     reads-unary (until path left name at right closed) o r h =

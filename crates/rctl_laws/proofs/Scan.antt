@@ -10,7 +10,7 @@ use Rattle.rctl_grammar.specs.declared.token.Token.{Token}
 use Rattle.rctl_grammar.specs.declared.token.End.{End}
 use Rattle.rctl_grammar.specs.declared.fault.FormulaFault.{FormulaFault}
 use Rattle.rctl_grammar.specs.Grammar.{Spelled, Conjunction, one_unary, and, named, nodes_conjunction, in_range, counts}
-use Rattle.rctl_grammar.specs.Machine.{Front, process_dot, left_side, compared, right_process, right_dot, process_at, channel_word, channel_opened, channel_sender, channel_comma, channel_receiver, transit_channel, transit_compared, Before, nothing, bar, Outer, Open, State, operand, a_word, in_leaf, a_path, after, settled, step, run, NameSign, by_dot, by_at, no_sign, sign, following, text_open, text_of}
+use Rattle.rctl_grammar.specs.Machine.{Front, process_dot, left_side, compared, right_process, right_dot, process_at, channel_word, channel_opened, channel_sender, channel_comma, channel_receiver, transit_channel, transit_compared, subtracting, subtracted_process, subtracted_dot, both_sides, difference_compared, Before, nothing, bar, Outer, Open, State, operand, a_word, in_leaf, a_path, a_stepping, after, settled, step, run, NameSign, by_dot, by_at, no_sign, sign, following, text_open, text_of}
 use Rattle.rctl_grammar.specs.FirstFault.{depth, nodes_open, nodes_outer, nodes_before, level_opens, node_stands, either, is_operator, word_limit, operand_limit, front_limit, path_limit, after_limit, limit_now, settled_limit, follow_limit, limit, placed, then_on, Passed, passed, stopped, fault_of, syntax_at, number_at, too_deep_at, too_many_at}
 use Rattle.rctl_lexer.specs.Lexing.{Ascend}
 use Rattle.rctl_laws.proofs.Texts.{appends_open, appends_state}
@@ -60,6 +60,7 @@ Waits (a_word o w) n = w.at < n
 Waits (operand o) n = Unit {0}
 Waits (in_leaf o front) n = Unit {0}
 Waits (a_path o all name at) n = Unit {0}
+Waits (a_stepping o name at) n = Unit {0}
 Waits (after outer before c) n = Unit {0}
 
 waits-on : (s : State) (m n : ℕ) → m ≤ n → Waits s m → Waits s n
@@ -67,6 +68,7 @@ waits-on (a_word o w) m n le h = omega arith
 waits-on (operand o) m n le h = tt
 waits-on (in_leaf o front) m n le h = tt
 waits-on (a_path o all name at) m n le h = tt
+waits-on (a_stepping o name at) m n le h = tt
 waits-on (after outer before c) m n le h = tt
 
 -- the word that waits is the token of the step
@@ -79,6 +81,7 @@ step-waits s (a_word o w) t e =
 step-waits s (operand o) t e = tt
 step-waits s (in_leaf o front) t e = tt
 step-waits s (a_path o all name at) t e = tt
+step-waits s (a_stepping o name at) t e = tt
 step-waits s (after outer before c) t e = tt
 
 -- what is broken is at this place
@@ -106,6 +109,8 @@ at-front (compared left c at) (kind.Number value) here = cond_both (in_range val
 at-front (compared left c at) k here = tt
 at-front (transit_compared name at channel c compare_at) (kind.Number value) here = cond_both (counts value) None (Some (number_at here)) (At here) (λ e. tt) (λ e. refl)
 at-front (transit_compared name at channel c compare_at) k here = tt
+at-front (difference_compared left minus right c compare_at) (kind.Number value) here = cond_both (in_range value) None (Some (number_at here)) (At here) (λ e. tt) (λ e. refl)
+at-front (difference_compared left minus right c compare_at) k here = tt
 at-front (process_dot process dot) k here = tt
 at-front (left_side left) k here = tt
 at-front (right_process left c at process) k here = tt
@@ -117,6 +122,10 @@ at-front (channel_sender w name at opened sender) k here = tt
 at-front (channel_comma w name at opened sender comma) k here = tt
 at-front (channel_receiver w name at opened sender comma receiver) k here = tt
 at-front (transit_channel name at channel) k here = tt
+at-front (subtracting left minus) k here = tt
+at-front (subtracted_process left minus process) k here = tt
+at-front (subtracted_dot left minus process dot) k here = tt
+at-front (both_sides left minus right) k here = tt
 
 at-path : (o : Open) (k : Kind) (here : ℕ) → At here (path_limit o k here)
 at-path o kind.OpenSquare here = at-level (depth o) here
@@ -135,6 +144,7 @@ at-now (operand o) k here = at-operand o k here
 at-now (a_word o w) k here = tt
 at-now (in_leaf o front) k here = at-front front k here
 at-now (a_path o all name at) k here = at-path o k here
+at-now (a_stepping o name at) k here = tt
 at-now (after outer before c) k here = at-after outer before c k here
 
 pub at_word : (o : Open) (w : Spelled) (g : NameSign) → At w.at (word_limit o w g)
@@ -151,6 +161,7 @@ own (a_word o w) g = word_limit o w g
 own (operand o) g = None
 own (in_leaf o front) g = None
 own (a_path o all name at) g = None
+own (a_stepping o name at) g = None
 own (after outer before c) g = None
 
 abbrev pub later : State → Kind → ℕ → Option FormulaFault
@@ -158,6 +169,7 @@ later (a_word o w) k here = follow_limit o w (sign k) k here
 later (operand o) k here = limit_now (operand o) k here
 later (in_leaf o front) k here = limit_now (in_leaf o front) k here
 later (a_path o all name at) k here = limit_now (a_path o all name at) k here
+later (a_stepping o name at) k here = limit_now (a_stepping o name at) k here
 later (after outer before c) k here = limit_now (after outer before c) k here
 
 pub limit_is : (s : State) (k : Kind) (here : ℕ) → limit s k here ≡ either (own s (sign k)) (later s k here)
@@ -165,6 +177,7 @@ limit_is (a_word o w) k here = refl
 limit_is (operand o) k here = refl
 limit_is (in_leaf o front) k here = refl
 limit_is (a_path o all name at) k here = refl
+limit_is (a_stepping o name at) k here = refl
 limit_is (after outer before c) k here = refl
 
 pub own_before : (s : State) (g : NameSign) (n : ℕ) (fault : FormulaFault) → Waits s n → own s g ≡ Some fault → fault.place < n
@@ -172,6 +185,7 @@ own_before (a_word o w) g n fault waits e = let place : fault.place ≡ w.at = s
 own_before (operand o) g n fault waits e = absurd cc
 own_before (in_leaf o front) g n fault waits e = absurd cc
 own_before (a_path o all name at) g n fault waits e = absurd cc
+own_before (a_stepping o name at) g n fault waits e = absurd cc
 own_before (after outer before c) g n fault waits e = absurd cc
 
 at-settled : (next : Option State) (k : Kind) (here : ℕ) → At here (settled_limit next k here)
@@ -188,6 +202,7 @@ at-later (a_word o w) k here = at-follow o w (sign k) k here
 at-later (operand o) k here = at-operand o k here
 at-later (in_leaf o front) k here = at-front front k here
 at-later (a_path o all name at) k here = at-path o k here
+at-later (a_stepping o name at) k here = tt
 at-later (after outer before c) k here = at-after outer before c k here
 
 pub later_at : (s : State) (k : Kind) (here : ℕ) (fault : FormulaFault) → later s k here ≡ Some fault → fault.place ≡ here

@@ -5,16 +5,12 @@ use Rattle.std.proofs.lemmas.Bool.{cond_both, ltb-false}
 use Rattle.run_model.specs.Run.{Name}
 use Rattle.rctl_grammar.specs.declared.token.Kind.{Kind}
 use Rattle.rctl_grammar.specs.declared.token.Kind.TheVariants as kind
-use Rattle.rctl_grammar.specs.declared.token.Word.{Word}
-use Rattle.rctl_grammar.specs.declared.token.Word.TheVariants as word
 use Rattle.rctl_grammar.specs.declared.token.Token.{Token}
 use Rattle.rctl_grammar.specs.declared.token.End.{End}
 use Rattle.rctl_grammar.specs.declared.token.End.TheVariants as end
-use Rattle.rctl_grammar.specs.declared.tree.Operator.{Operator}
-use Rattle.rctl_grammar.specs.declared.tree.Operator.TheVariants as operator
 use Rattle.rctl_grammar.specs.declared.fault.FormulaFault.{FormulaFault}
-use Rattle.rctl_grammar.specs.Grammar.{Spelled, Conjunction, one_unary, and, tok, named, word_of, nodes_conjunction, in_range, counts}
-use Rattle.rctl_grammar.specs.Machine.{Front, process_dot, left_side, compared, right_process, right_dot, process_at, channel_word, channel_opened, channel_sender, channel_comma, channel_receiver, transit_channel, transit_compared, Before, nothing, bar, Outer, Open, State, operand, a_word, in_leaf, a_path, after, start, settled, step, run, whole_of, NameSign, by_dot, by_at, no_sign, sign, following, text_open, text_of}
+use Rattle.rctl_grammar.specs.Grammar.{Spelled, Conjunction, one_unary, and, tok, named, nodes_conjunction, in_range, counts}
+use Rattle.rctl_grammar.specs.Machine.{Front, process_dot, left_side, compared, right_process, right_dot, process_at, channel_word, channel_opened, channel_sender, channel_comma, channel_receiver, transit_channel, transit_compared, subtracting, subtracted_process, subtracted_dot, both_sides, difference_compared, Before, nothing, bar, Outer, Open, State, operand, a_word, in_leaf, a_path, a_stepping, after, start, settled, step, run, whole_of, NameSign, by_dot, by_at, no_sign, sign, following, text_open, text_of}
 use Rattle.rctl_grammar.specs.FirstFault.{depth, nodes_open, nodes_outer, nodes_before, level_opens, node_stands, either, is_operator, word_limit, operand_limit, front_limit, path_limit, after_limit, limit_now, settled_limit, follow_limit, limit, end_limit, end_fault, placed, then_on, is_whole, fault_of, first_fault, syntax_at, token_at, number_at, too_deep_at, too_many_at}
 use Rattle.rctl_laws.specs.Table.{IsAt, IsUnexpected, IsUnfinished, EndsWithTransit, NamesNone, OpensOperand, OpensUntil, IsNode, HasFault}
 use Rattle.rctl_laws.proofs.Texts.{appends_open}
@@ -78,6 +74,9 @@ leaf-holds o (transit_compared name at channel c compare_at) rest ending (kind.N
     count-holds (text_of (in_leaf o (transit_compared name at channel c compare_at)) []) rest ending value here
     (record { front = text_open o []; name = name; at = at; channel = channel; compare = c; compare_at = compare_at; text = appends_open o _ })
 leaf-holds o (transit_compared name at channel c compare_at) rest ending k here = tt
+leaf-holds o (difference_compared left minus right c compare_at) rest ending (kind.Number value) here =
+    side-holds (text_of (in_leaf o (difference_compared left minus right c compare_at)) []) rest ending value here
+leaf-holds o (difference_compared left minus right c compare_at) rest ending k here = tt
 leaf-holds o (process_dot process dot) rest ending k here = tt
 leaf-holds o (left_side left) rest ending k here = tt
 leaf-holds o (right_process left c at process) rest ending k here = tt
@@ -89,6 +88,10 @@ leaf-holds o (channel_sender w name at opened sender) rest ending k here = tt
 leaf-holds o (channel_comma w name at opened sender comma) rest ending k here = tt
 leaf-holds o (channel_receiver w name at opened sender comma receiver) rest ending k here = tt
 leaf-holds o (transit_channel name at channel) rest ending k here = tt
+leaf-holds o (subtracting left minus) rest ending k here = tt
+leaf-holds o (subtracted_process left minus process) rest ending k here = tt
+leaf-holds o (subtracted_dot left minus process dot) rest ending k here = tt
+leaf-holds o (both_sides left minus right) rest ending k here = tt
 
 path-holds : (o : Open) (all : Bool) (name : Name) (at : ℕ) (rest : List Token) (ending : End) (k : Kind) (here : ℕ)
     → Holds (text_of (a_path o all name at) [] ++ tok k here ∷ rest) ending (path_limit o k here)
@@ -114,25 +117,10 @@ now-holds (operand o) rest ending k here = operand-holds o rest ending k here
 now-holds (a_word o w) rest ending k here = tt
 now-holds (in_leaf o front) rest ending k here = leaf-holds o front rest ending k here
 now-holds (a_path o all name at) rest ending k here = path-holds o all name at rest ending k here
+now-holds (a_stepping o name at) rest ending k here = tt
 now-holds (after outer before c) rest ending k here = after-holds outer before c rest ending k here
 
 -- ---- what a word breaks
-
-operator-word : (w : Word) → is_operator w ≡ true → (op : Operator) × (w ≡ word_of op)
-operator-word word.Ef e = (operator.Ef, refl)
-operator-word word.Ag e = (operator.Ag, refl)
-operator-word word.Eg e = (operator.Eg, refl)
-operator-word word.Ex e = (operator.Ex, refl)
-operator-word word.Af e = (operator.Af, refl)
-operator-word word.Ax e = (operator.Ax, refl)
-operator-word word.E e = absurd cc
-operator-word word.A e = absurd cc
-operator-word word.U e = absurd cc
-operator-word word.True e = absurd cc
-operator-word word.False e = absurd cc
-operator-word word.InTransit e = absurd cc
-operator-word word.Empty e = absurd cc
-operator-word word.Plain e = absurd cc
 
 -- what follows the word agrees with what it is taken for
 abbrev pub Allows : NameSign → List Token → Type 0
@@ -149,8 +137,7 @@ word-level : (o : Open) (w : Spelled) (rest : List Token) (ending : End) → Nam
     → Holds (text_open o [] ++ named w ∷ rest) ending (if is_operator w.word then level_opens (depth o) w.at else None)
 word-level o w rest ending none =
     cond_both (is_operator w.word) (level_opens (depth o) w.at) None (Holds (text_open o [] ++ named w ∷ rest) ending)
-    (λ e. let op = operator-word w.word e in
-    level-holds (text_open o []) rest (kind.Word w.word w.name) w.at ending o (inl (refl, inr (inr (op.0, w.name, ap (λ (x : Word). kind.Word x w.name) op.1, none)))))
+    (λ e. level-holds (text_open o []) rest (kind.Word w.word w.name) w.at ending o (inl (refl, inr (inr (w.word, w.name, refl, e, none)))))
     (λ e. tt)
 
 word-holds : (o : Open) (w : Spelled) (rest : List Token) (ending : End) (g : NameSign) → Allows g rest → Holds (text_open o [] ++ named w ∷ rest) ending (word_limit o w g)
@@ -193,6 +180,7 @@ limit_holds (operand o) rest ending k here = operand-holds o rest ending k here
 limit_holds (a_word o w) rest ending k here = word-limits o w rest ending k here (sign k) (sign_allows k here rest (sign k) refl)
 limit_holds (in_leaf o front) rest ending k here = leaf-holds o front rest ending k here
 limit_holds (a_path o all name at) rest ending k here = path-holds o all name at rest ending k here
+limit_holds (a_stepping o name at) rest ending k here = tt
 limit_holds (after outer before c) rest ending k here = after-holds outer before c rest ending k here
 
 end-holds : (s : State) (ending : End) → Holds (text_of s []) ending (end_limit s)
@@ -200,6 +188,7 @@ end-holds (operand o) ending = tt
 end-holds (a_word o w) ending = subst (λ (xs : List Token). Holds xs ending (word_limit o w no_sign)) (sym (appends_open o (named w ∷ []))) (word-holds o w [] ending no_sign tt)
 end-holds (in_leaf o front) ending = tt
 end-holds (a_path o all name at) ending = tt
+end-holds (a_stepping o name at) ending = tt
 end-holds (after outer before c) ending = tt
 
 -- ---- the first fault

@@ -8,10 +8,9 @@ use Rattle.rctl_grammar.specs.declared.token.Word.TheVariants as word
 use Rattle.rctl_grammar.specs.declared.token.Token.{Token}
 use Rattle.rctl_grammar.specs.declared.token.End.{End}
 use Rattle.rctl_grammar.specs.declared.token.End.TheVariants as end
-use Rattle.rctl_grammar.specs.declared.tree.Operator.{Operator}
-use Rattle.rctl_grammar.specs.declared.tree.Operator.TheVariants as operator
-use Rattle.rctl_grammar.specs.Grammar.{Spelled, number, variable, Leaf, constant, comparison, watch, transit, emptiness, Path, Disjunction, one_conjunction, or, Conjunction, one_unary, and, Unary, leaf, negation, temporal, group, until, tok, spelled, word_of, path_word, text_path, text_leaf, text_disjunction, text_conjunction, text_unary, IsFormula, levels_disjunction, levels_conjunction, levels_unary, nodes_disjunction, nodes_conjunction, nodes_unary, bar_nodes, amp_nodes, leaf_in_range, disjunction_in_range, conjunction_in_range, unary_in_range}
-use Rattle.rctl_grammar.specs.Machine.{Before, nothing, bar, Outer, top, in_group, in_left, in_right, Open, first_of, next_of, in_negation, in_temporal, State, operand, a_word, after, plug, settled, no_sign}
+use Rattle.run_model.specs.Formula as model
+use Rattle.rctl_grammar.specs.Grammar.{Spelled, number, variable, Leaf, constant, comparison, watch, transit, emptiness, difference, Path, Disjunction, one_conjunction, or, Conjunction, one_unary, and, Unary, leaf, negation, temporal, stepping, group, until, tok, spelled, named, word_of, path_word, text_path, text_leaf, text_disjunction, text_conjunction, text_unary, IsFormula, levels_disjunction, levels_conjunction, levels_unary, nodes_disjunction, nodes_conjunction, nodes_unary, bar_nodes, amp_nodes, leaf_in_range, disjunction_in_range, conjunction_in_range, unary_in_range}
+use Rattle.rctl_grammar.specs.Machine.{Before, nothing, bar, Outer, top, in_group, in_left, in_right, Open, first_of, next_of, in_negation, in_temporal, in_stepping, State, operand, a_word, a_stepping, after, plug, settled, no_sign}
 use Rattle.rctl_grammar.specs.FirstFault.{depth, depth_outer, nodes_open, nodes_outer, nodes_before, word_limit, fault_of, first_fault}
 use Rattle.rctl_laws.specs.Laws.{IsWithinLimits}
 use Rattle.rctl_laws.proofs.Settled.{settled_steps, settled_ends, settled_operator, ended}
@@ -35,6 +34,7 @@ module _ (ending : End) where
   fits-leaf (comparison left compare at (variable v)) o r h room range = rw (lt-ltb (nodes_open o) 64 room) refl
   fits-leaf (watch process at name) o r h room range = rw (lt-ltb (nodes_open o) 64 room) refl
   fits-leaf (transit name at channel compare compare_at value value_at) o r h room range = rw (lt-ltb (nodes_open o) 64 room, range) refl
+  fits-leaf (difference left minus right compare compare_at value value_at) o r h room range = rw (lt-ltb (nodes_open o) 64 room, range) refl
   fits-leaf (emptiness name at channel) o r h room range = rw (lt-ltb (nodes_open o) 64 room) refl
 
   fits-negation : (o : Open) (at : ℕ) (r : List Token) → depth o < 16 → nodes_open o < 64 → fault_of (operand o) (tok kind.Bang at ∷ r) ending ≡ fault_of (operand (in_negation o at)) r ending
@@ -43,13 +43,15 @@ module _ (ending : End) where
   fits-group : (o : Open) (at : ℕ) (r : List Token) → depth o < 16 → fault_of (operand o) (tok kind.OpenRound at ∷ r) ending ≡ fault_of (operand (first_of (in_group o at) nothing)) r ending
   fits-group o at r shallow = rw (lt-ltb (depth o) 16 shallow) refl
 
-  free-operator : (o : Open) (op : Operator) (name : Name) (at : ℕ) → depth o < 16 → nodes_open o < 64 → word_limit o (record { word = word_of op; name = name; at = at }) no_sign ≡ None
-  free-operator o operator.Ef name at shallow room = rw (lt-ltb (depth o) 16 shallow, lt-ltb (nodes_open o) 64 room) refl
-  free-operator o operator.Ag name at shallow room = rw (lt-ltb (depth o) 16 shallow, lt-ltb (nodes_open o) 64 room) refl
-  free-operator o operator.Eg name at shallow room = rw (lt-ltb (depth o) 16 shallow, lt-ltb (nodes_open o) 64 room) refl
-  free-operator o operator.Ex name at shallow room = rw (lt-ltb (depth o) 16 shallow, lt-ltb (nodes_open o) 64 room) refl
-  free-operator o operator.Af name at shallow room = rw (lt-ltb (depth o) 16 shallow, lt-ltb (nodes_open o) 64 room) refl
-  free-operator o operator.Ax name at shallow room = rw (lt-ltb (depth o) 16 shallow, lt-ltb (nodes_open o) 64 room) refl
+  free-operator : (o : Open) (op : model.Operator) (name : Name) (at : ℕ) → depth o < 16 → nodes_open o < 64 → word_limit o (record { word = word_of op; name = name; at = at }) no_sign ≡ None
+  free-operator o model.Ef name at shallow room = rw (lt-ltb (depth o) 16 shallow, lt-ltb (nodes_open o) 64 room) refl
+  free-operator o model.Ag name at shallow room = rw (lt-ltb (depth o) 16 shallow, lt-ltb (nodes_open o) 64 room) refl
+  free-operator o model.Eg name at shallow room = rw (lt-ltb (depth o) 16 shallow, lt-ltb (nodes_open o) 64 room) refl
+  free-operator o model.Af name at shallow room = rw (lt-ltb (depth o) 16 shallow, lt-ltb (nodes_open o) 64 room) refl
+  free-operator o model.Ax name at shallow room = rw (lt-ltb (depth o) 16 shallow, lt-ltb (nodes_open o) 64 room) refl
+
+  free-stepping : (o : Open) (name : Name) (at : ℕ) → depth o < 16 → nodes_open o < 64 → word_limit o (record { word = word.Ex; name = name; at = at }) no_sign ≡ None
+  free-stepping o name at shallow room = rw (lt-ltb (depth o) 16 shallow, lt-ltb (nodes_open o) 64 room) refl
 
   fits-all : (o : Open) (all : Bool) (name : Name) (at opened : ℕ) (r : List Token) → depth o < 16 → nodes_open o < 64
       → fault_of (operand o) (spelled (path_word all) name at ∷ tok kind.OpenSquare opened ∷ r) ending ≡ fault_of (operand (first_of (in_left o (record { all = all; name = name; at = at; opened = opened })) nothing)) r ending
@@ -113,6 +115,9 @@ module _ (ending : End) where
         fault_settled o (record { word = word_of op; name = name; at = at }) (operand (in_temporal o op name at)) (settled_operator o op name at)
         (free-operator o op name at (omega arith) (omega arith)) (text_unary u r) (begins_plain IsPlain (λ t ts e. e) u r) ending
         ∙ fits-unary u (in_temporal o op name at) r h (omega arith) (omega arith) range
+    fits-unary (stepping name at process u) o r h shallow room range =
+        fault_settled o (record { word = word.Ex; name = name; at = at }) (a_stepping o name at) refl (free-stepping o name at (omega arith) (omega arith)) (named process ∷ text_unary u r) refl ending
+        ∙ fits-unary u (in_stepping o name at process) r h (omega arith) (omega arith) range
     fits-unary (group opened d closed) o r h shallow room range =
         fits-group o opened (text_disjunction d (tok kind.CloseRound closed ∷ r)) (omega arith)
         ∙ fits-disjunction d (in_group o opened) (tok kind.CloseRound closed ∷ r) refl (omega arith) room range

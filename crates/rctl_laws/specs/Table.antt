@@ -1,7 +1,7 @@
 -- The faults that a text of tokens has, each by the tokens before it, and their order. Nothing here
 -- is read from left to right: a text may have many faults.
 use Rattle.std.specs.Prelude.{◌≡◌, ℕ, negsuc, ◌+◌, ◌<◌, ◌≤◌, ◌⊎◌, Bool, List, [], ◌∷◌, ◌++◌, Some}
-use Rattle.std.specs.Prelude.{None}
+use Rattle.std.specs.Prelude.{None, true}
 use Rattle.run_model.specs.Run.{Name}
 use Rattle.rctl_grammar.specs.declared.token.Kind.{Kind}
 use Rattle.rctl_grammar.specs.declared.token.Kind.TheVariants as kind
@@ -11,18 +11,17 @@ use Rattle.rctl_grammar.specs.declared.token.Token.{Token}
 use Rattle.rctl_grammar.specs.declared.token.End.{End}
 use Rattle.rctl_grammar.specs.declared.token.End.TheVariants as end
 use Rattle.rctl_grammar.specs.declared.tree.Compare.{Compare}
-use Rattle.rctl_grammar.specs.declared.tree.Operator.{Operator}
 use Rattle.rctl_grammar.specs.declared.fault.FormulaCode.{FormulaCode}
 use Rattle.rctl_grammar.specs.declared.fault.FormulaCode.TheVariants as code
 use Rattle.rctl_grammar.specs.declared.fault.FormulaFault.{FormulaFault}
 use Rattle.rctl_grammar.specs.Grammar.{Channel, Disjunction, Conjunction, Unary, tok, spelled}
-use Rattle.rctl_grammar.specs.Grammar.{word_of, path_word, text_channel, text_conjunction}
+use Rattle.rctl_grammar.specs.Grammar.{path_word, text_channel, text_conjunction}
 use Rattle.rctl_grammar.specs.Grammar.{text_unary, nodes_conjunction, nodes_unary, IsFormula}
 use Rattle.rctl_grammar.specs.Grammar.{Begins}
 use Rattle.rctl_grammar.specs.Machine.{Before, Outer, Open, sign, no_sign, text_before, text_outer}
 use Rattle.rctl_grammar.specs.Machine.{text_open}
 use Rattle.rctl_grammar.specs.FirstFault.{MOST_LEVELS, MOST_NODES, depth, nodes_open, nodes_outer}
-use Rattle.rctl_grammar.specs.FirstFault.{nodes_before}
+use Rattle.rctl_grammar.specs.FirstFault.{nodes_before, is_operator}
 
 -- the token is one of these, at this place, with those tokens before it and behind it
 pub record IsAt (tokens : List Token) (at : ℕ) (before : List Token) (token : Token)
@@ -81,7 +80,7 @@ NamesNone (t ∷ ts) = sign t.kind ≡ no_sign
 abbrev pub OpensOperand : Kind → List Token → Type 0
 OpensOperand k rest =
     (k ≡ kind.Bang) ⊎ ((k ≡ kind.OpenRound)
-    ⊎ ((operator : Operator) × (name : Name) × (k ≡ kind.Word (word_of operator) name)
+    ⊎ ((w : Word) × (name : Name) × (k ≡ kind.Word w name) × (is_operator w ≡ true)
     × NamesNone rest))
 
 -- the `[` behind `E` or `A`

@@ -35,9 +35,9 @@ word_front text extra =
 
 -- ---- numbers: the longest run of digits, with `-` before it or without
 
--- a digit or `-`
-abbrev pub may_begin_number : ℕ → Bool
-may_begin_number b = is_digit b || b == 45
+-- a digit, or a `-` before a digit; any other `-` is a sign
+abbrev pub leads_number : ℕ → List ℕ → Bool
+leads_number b rest = is_digit b || b == 45 && starts_digit rest
 
 -- no digit follows a leading 0, and a digit other than 0 follows `-`
 abbrev pub begins_number : ℕ → List ℕ → Bool
@@ -67,6 +67,7 @@ sign_of b =
     else if b == 33 then Some kind.Bang
     else if b == 38 then Some kind.Amp
     else if b == 124 then Some kind.Bar
+    else if b == 45 then Some kind.Minus
     else if b == 61 then Some (kind.Compare compare.Eq)
     else if b == 60 then Some (kind.Compare compare.Lt)
     else if b == 62 then Some (kind.Compare compare.Gt)
@@ -96,7 +97,7 @@ front [] = at_front.Bad
 front (b ∷ rest) =
     if is_blank b then at_front.Blank
     else if is_name_start b then word_front (b ∷ rest) (run_of is_name_byte rest)
-    else if may_begin_number b then
+    else if leads_number b rest then
     (if begins_number b rest then number_front (b ∷ rest) (run_of is_digit rest) else at_front.Bad)
     else sign_front b rest
 

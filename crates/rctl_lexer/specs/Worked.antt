@@ -38,13 +38,25 @@ minus_zero : lex (codes "-0") ≡ nothing
 unfolding lex_from front
 minus_zero = refl
 
-lone_minus : lex (codes "-") ≡ nothing
+minus_and_leading_zero : lex (codes "-01") ≡ nothing
 unfolding lex_from front
+minus_and_leading_zero = refl
+
+lone_minus : lex (codes "-") ≡ whole (tok kind.Minus 0 ∷ []) (end_is.Ends 1)
+unfolding lex_from front sign_front sign_of with_equals
 lone_minus = refl
 
-parted_minus : lex (codes "- 1") ≡ nothing
-unfolding lex_from front
+parted_minus : lex (codes "- 1")
+    ≡ whole (tok kind.Minus 0 ∷ tok (kind.Number (Some (pos 1))) 2 ∷ []) (end_is.Ends 3)
+unfolding lex_from front sign_front sign_of with_equals number_front signed_at digits_from
 parted_minus = refl
+
+-- the longest token is a number
+minus_before_a_digit : lex (codes "x-1") ≡ whole
+    (tok (kind.Word word.Plain (codes "x")) 0 ∷ tok (kind.Number (Some (negsuc 0))) 1 ∷ [])
+    (end_is.Ends 3)
+unfolding lex_from front word_front word_of number_front signed_at digits_from
+minus_before_a_digit = refl
 
 zero_alone : lex (codes "0") ≡ whole (tok (kind.Number (Some (pos 0))) 0 ∷ []) (end_is.Ends 1)
 unfolding lex_from front number_front signed_at digits_from

@@ -1,7 +1,7 @@
 //! What stands at the front of a text.
 
 ghost use Rattle.std.specs.Prelude.{◌≡◌, ◌+◌, ◌<◌, ◌≤◌, length, IfOk};
-ghost use Rattle.rctl_lexer.specs.Front.{begins_number, front, is_blank, may_begin_number};
+ghost use Rattle.rctl_lexer.specs.Front.{begins_number, front, is_blank, leads_number};
 ghost use Rattle.rctl_lexer.specs.Front.{number_front, number_value, sign_front, sign_of};
 ghost use Rattle.rctl_lexer.specs.Front.{starts_digit, with_equals, word_front, IsWithin};
 
@@ -51,10 +51,11 @@ fn word_front(alloc: Global, text: &[u8], extra: usize) -> Result<Front, NoMemor
     }
 }
 
-fn may_begin_number(byte: u8) -> bool
-    ensures { result ≡ may_begin_number byte }
+// A digit, or a `-` before a digit.
+fn leads_number(byte: u8, rest: &[u8]) -> bool
+    ensures { result ≡ leads_number byte rest.now }
 {
-    byte.is_ascii_digit() || byte == b'-'
+    byte.is_ascii_digit() || byte == b'-' && starts_digit(rest)
 }
 
 // Whether `first` and `rest` begin with a number, where `first` is a digit or `-`.
@@ -100,6 +101,7 @@ fn sign_of(byte: u8) -> Option<Kind>
         b'!' => Some(Kind::Bang),
         b'&' => Some(Kind::Amp),
         b'|' => Some(Kind::Bar),
+        b'-' => Some(Kind::Minus),
         b'=' => Some(Kind::Compare(Compare::Eq)),
         b'<' => Some(Kind::Compare(Compare::Lt)),
         b'>' => Some(Kind::Compare(Compare::Gt)),
@@ -151,7 +153,7 @@ pub fn front_of(alloc: Global, text: &[u8]) -> Result<Front, NoMemory>
     if is_start_of_name(*first) {
         return word_front(alloc, text, run_of(Class::Word, rest));
     }
-    if !may_begin_number(*first) {
+    if !leads_number(*first, rest) {
         return Ok(sign_front(*first, rest));
     }
     if !begins_number(*first, rest) {

@@ -1,15 +1,18 @@
 -- The functions of the parser that call each other: their answers from the answers of those that they call.
 use Rattle.std.specs.Prelude.{ℕ, Bool, List, ◌∷◌, None, Some, Result, Ok, Err, MatchResult}
-use Rattle.std.proofs.Common.{◌≡◌, sym, ◌∙◌, ap, subst, inl, inr, arith}
+use Rattle.std.proofs.Common.{◌≡◌, refl, sym, ◌∙◌, ap, subst, inl, inr, arith}
 use Rattle.pota_base.specs.declared.fault.Refused.{Refused}
 use Rattle.run_model.specs.Run.{Name}
+use Rattle.run_model.specs.Formula as model
 use Rattle.rctl_grammar.specs.declared.token.Kind.TheVariants as kind
 use Rattle.rctl_grammar.specs.declared.token.Word.{Word}
 use Rattle.rctl_grammar.specs.declared.token.Token.{Token}
 use Rattle.rctl_grammar.specs.declared.fault.FormulaFault.{FormulaFault}
+use Rattle.rctl_grammar.specs.declared.tree.Operator.{Operator}
+use Rattle.rctl_grammar.specs.declared.tree.Operator.TheVariants as operator
 use Rattle.rctl_grammar.specs.declared.tree.Tree.{Tree}
 use Rattle.rctl_grammar.specs.declared.tree.Tree.TheVariants as tree
-use Rattle.rctl_grammar.specs.Grammar.{tok, spelled, path_word}
+use Rattle.rctl_grammar.specs.Grammar.{tok, spelled, operator_of, word_of, path_word}
 use Rattle.rctl_grammar.specs.FirstFault.{level_opens, node_stands, either}
 use Rattle.rctl_parse.specs.declared.around.Around.{Around}
 use Rattle.rctl_parse.specs.declared.parser.Part.{Part}
@@ -20,7 +23,7 @@ use Rattle.rctl_parse.specs.declared.symbol.Symbol.TheVariants as symbol
 use Rattle.rctl_parse.specs.Limits.{Opened, Entered}
 use Rattle.rctl_parse.specs.Prefixes.{IsPrefix, prefix_tree}
 use Rattle.rctl_parse.specs.Reading.{Faults, found, symbol_in, here}
-use Rattle.rctl_parse.specs.Parts.{NoUnary, UnaryFault, UnaryRead, PathRead, FormulaFails, FormulaRead, EnclosedRead, Unclosed, EnclosedFault}
+use Rattle.rctl_parse.specs.Parts.{NoUnary, IsWordOf, UnaryFault, UnaryRead, PathRead, FormulaFails, FormulaRead, EnclosedRead, Unclosed, EnclosedFault}
 use Rattle.rctl_parse.proofs.LeafSteps.{for_fault, found_shorter}
 use Rattle.rctl_parse.proofs.PartSteps.{negation_read, negation_bound, negation_fault, temporal_read, temporal_bound, temporal_fault, group_read, group_fault, group_unclosed, LeftRead, left_read, left_fault, left_unclosed, until_read, right_fault, right_unclosed, inside_end}
 
@@ -41,12 +44,22 @@ nothing_opens around ts none o d m = none o around.end
 
 -- ---- prefixes
 
+-- a word's operator is one of the formulas'
+pub word_of_operator : (operator : Operator) (w : Word) → IsWordOf operator w → (op : model.Operator) × (operator ≡ operator_of op) × (w ≡ word_of op)
+word_of_operator operator.Ef w is = (model.Ef, refl, is)
+word_of_operator operator.Ag w is = (model.Ag, refl, is)
+word_of_operator operator.Eg w is = (model.Eg, refl, is)
+word_of_operator (operator.Ex process) w is = absurd is
+word_of_operator operator.Af w is = (model.Af, refl, is)
+word_of_operator operator.Ax w is = (model.Ax, refl, is)
+
 pub prefixed_read : (around inside : Around) (p : Prefix) (first : Token) (at : ℕ) (ts rest : List Token) (nodes : ℕ) (t : Tree) → IsPrefix p first at ts → Entered around inside
     → UnaryRead ts rest inside nodes t → UnaryRead (first ∷ ts) rest around nodes (prefix_tree p t at)
 prefixed_read around inside prefix.Negation first at ts rest nodes t is enters read =
     subst (λ (x : Token). UnaryRead (x ∷ ts) rest around nodes (tree.Not t at)) (sym is) (negation_read around inside at ts rest nodes t enters read)
-prefixed_read around inside (prefix.Operator op) first at ts rest nodes t (name, is, other) enters read =
-    subst (λ (x : Token). UnaryRead (x ∷ ts) rest around nodes (tree.Temporal op t at)) (sym is) (temporal_read around inside op name at ts rest nodes t other enters read)
+prefixed_read around inside (prefix.Operator operator) first at ts rest nodes t (op, same, name, is, other) enters read =
+    subst (λ (x : Operator). UnaryRead (first ∷ ts) rest around nodes (tree.Temporal x t at)) (sym same)
+    (subst (λ (x : Token). UnaryRead (x ∷ ts) rest around nodes (tree.Temporal (operator_of op) t at)) (sym is) (temporal_read around inside op name at ts rest nodes t other enters read))
 
 pub prefixed_whole : (around inside : Around) (p : Prefix) (first : Token) (at : ℕ) (ts rest : List Token) (nodes : ℕ) (t whole : Tree) → IsPrefix p first at ts → Entered around inside
     → UnaryRead ts rest inside nodes t → whole ≡ prefix_tree p t at → UnaryRead (first ∷ ts) rest around nodes whole
@@ -56,12 +69,12 @@ prefixed_whole around inside p first at ts rest nodes t whole is enters read sam
 pub prefixed_bound : (around : Around) (p : Prefix) (first : Token) (at : ℕ) (ts : List Token) (f : FormulaFault) → IsPrefix p first at ts
     → either (level_opens around.level at) (node_stands around.nodes at) ≡ Some f → UnaryFault (first ∷ ts) around f
 prefixed_bound around prefix.Negation first at ts f is bound = subst (λ (x : Token). UnaryFault (x ∷ ts) around f) (sym is) (negation_bound around at ts f bound)
-prefixed_bound around (prefix.Operator op) first at ts f (name, is, other) bound = subst (λ (x : Token). UnaryFault (x ∷ ts) around f) (sym is) (temporal_bound around op name at ts f other bound)
+prefixed_bound around (prefix.Operator operator) first at ts f (op, same, name, is, other) bound = subst (λ (x : Token). UnaryFault (x ∷ ts) around f) (sym is) (temporal_bound around op name at ts f other bound)
 
 pub prefixed_fault : (around inside : Around) (p : Prefix) (first : Token) (at : ℕ) (ts : List Token) (f : FormulaFault) → IsPrefix p first at ts → Entered around inside
     → UnaryFault ts inside f → UnaryFault (first ∷ ts) around f
 prefixed_fault around inside prefix.Negation first at ts f is enters bad = subst (λ (x : Token). UnaryFault (x ∷ ts) around f) (sym is) (negation_fault around inside at ts f enters bad)
-prefixed_fault around inside (prefix.Operator op) first at ts f (name, is, other) enters bad =
+prefixed_fault around inside (prefix.Operator operator) first at ts f (op, same, name, is, other) enters bad =
     subst (λ (x : Token). UnaryFault (x ∷ ts) around f) (sym is) (temporal_fault around inside op name at ts f other enters bad)
 
 -- ---- formulas that a symbol ends

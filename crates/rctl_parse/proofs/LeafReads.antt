@@ -14,11 +14,11 @@ use Rattle.rctl_grammar.specs.declared.tree.Side.TheVariants as side
 use Rattle.rctl_grammar.specs.declared.tree.Atom.TheVariants as atom
 use Rattle.rctl_grammar.specs.Grammar.{Spelled, Channel, Variable, number, variable, comparison, watch, transit, emptiness, tok, named, placed_name, side_of, in_range, number_of}
 use Rattle.rctl_grammar.specs.Machine.{process_dot, left_side, compared, right_process, right_dot, process_at, channel_word, channel_opened, channel_sender, channel_comma, channel_receiver, transit_channel, transit_compared, ChannelWord, of_transit, of_emptiness, going, whole, step_channel, word_in, compare_in, number_in, dot_in, comma_in, open_round_in, close_round_in}
-use Rattle.rctl_parse.specs.Reading.{found, here, place_in, comparison_in, CountRead, LeafFault, Moves, LeafRead, SideRead, ChannelRead}
-use Rattle.rctl_parse.proofs.LeafSteps.{found_is, number_token, number_is, moves, stops, and_then, then_fault, place_word, compare_word, process_on_the_right, behind_dot, behind_left, behind_right, behind_right_dot, behind_at, behind_channel_word, behind_opened, behind_sender, behind_comma, behind_receiver, behind_channel, variable_of, channel_of, compare_token}
+use Rattle.rctl_parse.specs.Reading.{found, here, minus_in, place_in, comparison_in, CountRead, LeafFault, Moves, LeafRead, SideRead, ChannelRead}
+use Rattle.rctl_parse.proofs.LeafSteps.{found_is, number_token, number_is, moves, stops, and_then, then_fault, place_word, compare_word, process_on_the_right, behind_dot, compared_on_the_left, left_stops, behind_right, behind_right_dot, behind_at, behind_channel_word, behind_opened, behind_sender, behind_comma, behind_receiver, behind_channel, variable_of, channel_of, compare_token}
 
 -- what misses a token at this place
-abbrev MissesHere : {A : Type 0} → (Kind → ℕ → Option A) → List Token → End → FormulaFault → Type 0
+abbrev pub MissesHere : {A : Type 0} → (Kind → ℕ → Option A) → List Token → End → FormulaFault → Type 0
 MissesHere look ts ending f = (found look ts ≡ None) × (f ≡ here ts ending)
 
 pub watch_read : (p : Spelled) (at : ℕ) (process name : Place) (ts rest : List Token) (ending : End) → found place_in ts ≡ Some (name, rest)
@@ -83,16 +83,15 @@ comparison_read p dot process name c s ts a b rest ending hn hc read is =
       moves = and_then (process_dot p dot) (left_side left) ts a rest ending (whole (comparison left c k.0 read.r))
           (moves word_in named (process_dot p dot) (λ w. going (left_side (variable_of p dot w))) (behind_dot p dot) ts a ending v.0 v.1)
           (and_then (left_side left) (compared left c k.0) a b rest ending (whole (comparison left c k.0 read.r))
-          (moves compare_in compare_token (left_side left) (λ x. going (compared left x.0 x.1)) (behind_left left) a b ending (c, k.0) k.1)
-          (read.moves left c k.0));
+          (compared_on_the_left left a b ending (c, k.0) k.1) (read.moves left c k.0));
     }
 
-pub comparison_without_sign : (ts a : List Token) (ending : End) (name : Place) (f : FormulaFault) → found place_in ts ≡ Some (name, a) → MissesHere compare_in a ending f
+pub comparison_without_sign : (ts a : List Token) (ending : End) (name : Place) (f : FormulaFault) → found place_in ts ≡ Some (name, a) → found minus_in a ≡ None → MissesHere compare_in a ending f
     → (p : Spelled) (dot : ℕ) → LeafFault (process_dot p dot) ts ending f
-comparison_without_sign ts a ending name f hn miss p dot = let v = place_word ts a name hn in let left : Variable = variable_of p dot v.0 in
+comparison_without_sign ts a ending name f hn none miss p dot = let v = place_word ts a name hn in let left : Variable = variable_of p dot v.0 in
     then_fault (process_dot p dot) (left_side left) ts a ending f
     (moves word_in named (process_dot p dot) (λ w. going (left_side (variable_of p dot w))) (behind_dot p dot) ts a ending v.0 v.1)
-    (stops compare_in compare_token (left_side left) (λ x. going (compared left x.0 x.1)) (behind_left left) a ending f miss)
+    (left_stops left a ending f none miss)
 
 pub comparison_without_side : (ts a b : List Token) (ending : End) (name : Place) (c : Compare) (f : FormulaFault)
     → found place_in ts ≡ Some (name, a) → found comparison_in a ≡ Some (c, b) → ((left : Variable) (d : Compare) (at : ℕ) → LeafFault (compared left d at) b ending f)
@@ -104,8 +103,7 @@ comparison_without_side ts a b ending name c f hn hc bad p dot =
     then_fault (process_dot p dot) (left_side left) ts a ending f
     (moves word_in named (process_dot p dot) (λ w. going (left_side (variable_of p dot w))) (behind_dot p dot) ts a ending v.0 v.1)
     (then_fault (left_side left) (compared left c k.0) a b ending f
-    (moves compare_in compare_token (left_side left) (λ x. going (compared left x.0 x.1)) (behind_left left) a b ending (c, k.0) k.1)
-    (bad left c k.0))
+    (compared_on_the_left left a b ending (c, k.0) k.1) (bad left c k.0))
 
 -- ---- channels
 

@@ -15,9 +15,9 @@ use Rattle.rctl_grammar.specs.declared.fault.FormulaFault.{FormulaFault}
 use Rattle.rctl_grammar.specs.declared.tree.Compare.{Compare}
 use Rattle.rctl_grammar.specs.declared.tree.Place.{Place}
 use Rattle.rctl_grammar.specs.Grammar.{Spelled, Channel, Variable, variable, comparison, watch, tok, named, placed_name}
-use Rattle.rctl_grammar.specs.Machine.{Front, process_dot, left_side, compared, right_process, right_dot, process_at, channel_word, channel_opened, channel_sender, channel_comma, channel_receiver, transit_channel, transit_compared, ChannelWord, of_transit, of_emptiness, LeafStep, going, whole, step_leaf, step_channel, put_leaf, Open, in_leaf, text_front, word_in, compare_in, number_in, dot_in, comma_in, open_round_in, close_round_in}
+use Rattle.rctl_grammar.specs.Machine.{Front, process_dot, left_side, compared, right_process, right_dot, process_at, channel_word, channel_opened, channel_sender, channel_comma, channel_receiver, transit_channel, transit_compared, subtracting, subtracted_process, subtracted_dot, both_sides, difference_compared, ChannelWord, of_transit, of_emptiness, LeafStep, going, whole, step_left, step_leaf, step_channel, put_leaf, Open, in_leaf, text_front, word_in, compare_in, number_in, dot_in, comma_in, open_round_in, close_round_in}
 use Rattle.rctl_grammar.specs.FirstFault.{front_limit, fault_of, placed, then_on}
-use Rattle.rctl_parse.specs.Reading.{Faults, beside, found, here, place_in, comparison_in, LeafFault, Moves, text_step}
+use Rattle.rctl_parse.specs.Reading.{Faults, beside, found, here, minus_in, place_in, comparison_in, LeafFault, Moves, text_step}
 
 -- ---- what stops a call that called another
 
@@ -120,7 +120,7 @@ then_fault front middle ts more ending f m n o = m.goes o ∙ n o
 
 -- ---- the tokens
 
-word_is : (k : Kind) (at : ℕ) (w : Spelled) → word_in k at ≡ Some w → tok k at ≡ named w
+pub word_is : (k : Kind) (at : ℕ) (w : Spelled) → word_in k at ≡ Some w → tok k at ≡ named w
 word_is (kind.Word w name) at found_w h = let same : record { word = w; name = name; at = at } ≡ found_w = cc in ap named same
 word_is k at w h = cc
 
@@ -181,9 +181,6 @@ variable_of process dot w = record { process = process; dot = dot; variable = w 
 pub behind_dot : (p : Spelled) (dot : ℕ) → Looks word_in named (process_dot p dot) (λ w. going (left_side (variable_of p dot w)))
 behind_dot p dot = record { steps = λ k at. refl; limits = λ k at. refl; tokens = word_is; texts = λ a rest. refl }
 
-pub behind_left : (left : Variable) → Looks compare_in compare_token (left_side left) (λ c. going (compared left c.0 c.1))
-behind_left left = record { steps = λ k at. refl; limits = λ k at. refl; tokens = compare_is; texts = λ a rest. refl }
-
 pub behind_right : (left : Variable) (c : Compare) (at : ℕ) (process : Spelled) → Looks dot_in (tok kind.Dot) (right_process left c at process) (λ dot. going (right_dot left c at process dot))
 behind_right left c at process = record { steps = λ k at. refl; limits = λ k at. refl; tokens = dot_is; texts = λ a rest. refl }
 
@@ -221,6 +218,19 @@ pub behind_receiver : (w : ChannelWord) (name : Name) (at opened : ℕ) (sender 
 behind_receiver w name at opened sender comma receiver =
     record { steps = λ k at. refl; limits = λ k at. refl; tokens = close_round_is; texts = channel_text w name at opened sender comma receiver }
 
+pub behind_minus : (left : Variable) (minus : ℕ) → Looks word_in named (subtracting left minus) (λ w. going (subtracted_process left minus w))
+behind_minus left minus = record { steps = λ k at. refl; limits = λ k at. refl; tokens = word_is; texts = λ a rest. refl }
+
+pub behind_subtracted : (left : Variable) (minus : ℕ) (process : Spelled) → Looks dot_in (tok kind.Dot) (subtracted_process left minus process) (λ dot. going (subtracted_dot left minus process dot))
+behind_subtracted left minus process = record { steps = λ k at. refl; limits = λ k at. refl; tokens = dot_is; texts = λ a rest. refl }
+
+pub behind_subtracted_dot : (left : Variable) (minus : ℕ) (process : Spelled) (dot : ℕ)
+    → Looks word_in named (subtracted_dot left minus process dot) (λ w. going (both_sides left minus (variable_of process dot w)))
+behind_subtracted_dot left minus process dot = record { steps = λ k at. refl; limits = λ k at. refl; tokens = word_is; texts = λ a rest. refl }
+
+pub behind_both : (left : Variable) (minus : ℕ) (right : Variable) → Looks compare_in compare_token (both_sides left minus right) (λ c. going (difference_compared left minus right c.0 c.1))
+behind_both left minus right = record { steps = λ k at. refl; limits = λ k at. refl; tokens = compare_is; texts = λ a rest. refl }
+
 pub behind_channel : (name : Name) (at : ℕ) (c : Channel) → Looks compare_in compare_token (transit_channel name at c) (λ x. going (transit_compared name at c x.0 x.1))
 behind_channel name at c = record { steps = λ k at. refl; limits = λ k at. refl; tokens = compare_is; texts = λ a rest. refl }
 
@@ -232,8 +242,48 @@ word_on_the_right left c at (kind.Word v name) here_at ts ending w h = let same 
     (record { text = refl; goes = λ o. refl; shorter = omega arith })
 word_on_the_right left c at k here_at ts ending w h = cc
 
+-- a front that goes on by the first token, where that is what is looked for
+by_first : {A : Type 0} (look : Kind → ℕ → Option A) (front : Front) (next : A → LeafStep) (ts rest : List Token) (ending : End) (a : A)
+    → ((k : Kind) (here_at : ℕ) (more : List Token) → look k here_at ≡ Some a → Moves front (tok k here_at ∷ more) more ending (next a))
+    → found look ts ≡ Some (a, rest) → Moves front ts rest ending (next a)
+by_first look front next [] rest ending a move h = cc
+by_first look front next (t ∷ ts) rest ending a move h = let parts = beside_is (look t.kind t.at) ts rest a h in
+    subst (λ (x : List Token). Moves front (t ∷ ts) x ending (next a)) parts.1 (move t.kind t.at ts parts.0)
+
 pub process_on_the_right : (left : Variable) (c : Compare) (at : ℕ) (ts rest : List Token) (ending : End) (w : Spelled) → found word_in ts ≡ Some (w, rest)
     → Moves (compared left c at) ts rest ending (going (right_process left c at w))
-process_on_the_right left c at [] rest ending w h = cc
-process_on_the_right left c at (t ∷ ts) rest ending w h = let parts = beside_is (word_in t.kind t.at) ts rest w h in
-    subst (λ (x : List Token). Moves (compared left c at) (t ∷ ts) x ending (going (right_process left c at w))) parts.1 (word_on_the_right left c at t.kind t.at ts ending w parts.0)
+process_on_the_right left c at ts rest ending w h =
+    by_first word_in (compared left c at) (λ v. going (right_process left c at v)) ts rest ending w (λ k here_at more is. word_on_the_right left c at k here_at more ending w is) h
+
+-- behind the left side stands a comparison's sign or a `-`
+sign_on_the_left : (left : Variable) (k : Kind) (here_at : ℕ) (ts : List Token) (ending : End) (c : Compare × ℕ) → compare_in k here_at ≡ Some c
+    → Moves (left_side left) (tok k here_at ∷ ts) ts ending (going (compared left c.0 c.1))
+sign_on_the_left left (kind.Compare d) here_at ts ending c h = let same : (d, here_at) ≡ c = cc in
+    subst (λ (x : Compare × ℕ). Moves (left_side left) (tok (kind.Compare d) here_at ∷ ts) ts ending (going (compared left x.0 x.1))) same
+    (record { text = refl; goes = λ o. refl; shorter = omega arith })
+sign_on_the_left left k here_at ts ending c h = cc
+
+pub compared_on_the_left : (left : Variable) (ts rest : List Token) (ending : End) (c : Compare × ℕ) → found compare_in ts ≡ Some (c, rest)
+    → Moves (left_side left) ts rest ending (going (compared left c.0 c.1))
+compared_on_the_left left ts rest ending c h =
+    by_first compare_in (left_side left) (λ x. going (compared left x.0 x.1)) ts rest ending c (λ k here_at more is. sign_on_the_left left k here_at more ending c is) h
+
+minus_on_the_left : (left : Variable) (k : Kind) (here_at : ℕ) (ts : List Token) (ending : End) (at : ℕ) → minus_in k here_at ≡ Some at
+    → Moves (left_side left) (tok k here_at ∷ ts) ts ending (going (subtracting left at))
+minus_on_the_left left kind.Minus here_at ts ending at h = let same : here_at ≡ at = cc in
+    subst (λ (x : ℕ). Moves (left_side left) (tok kind.Minus here_at ∷ ts) ts ending (going (subtracting left x))) same
+    (record { text = refl; goes = λ o. refl; shorter = omega arith })
+minus_on_the_left left k here_at ts ending at h = cc
+
+pub subtracted_on_the_left : (left : Variable) (ts rest : List Token) (ending : End) (at : ℕ) → found minus_in ts ≡ Some (at, rest) → Moves (left_side left) ts rest ending (going (subtracting left at))
+subtracted_on_the_left left ts rest ending at h =
+    by_first minus_in (left_side left) (λ x. going (subtracting left x)) ts rest ending at (λ k here_at more is. minus_on_the_left left k here_at more ending at is) h
+
+neither_on_the_left : (left : Variable) (k : Kind) (here_at : ℕ) (ts : List Token) → beside (minus_in k here_at) ts ≡ None → beside (compare_in k here_at) ts ≡ None → step_left left k here_at ≡ None
+neither_on_the_left left kind.Minus here_at ts a b = cc
+neither_on_the_left left (kind.Compare c) here_at ts a b = cc
+neither_on_the_left left k here_at ts a b = refl
+
+pub left_stops : (left : Variable) (ts : List Token) (ending : End) (f : FormulaFault) → found minus_in ts ≡ None → (found compare_in ts ≡ None) × (f ≡ here ts ending) → LeafFault (left_side left) ts ending f
+left_stops left [] ending f none h o = cut o (left_side left) ending ∙ ap Some (sym h.1)
+left_stops left (t ∷ ts) ending f none h o = rw (neither_on_the_left left t.kind t.at ts none h.0) (ap Some (sym h.1))

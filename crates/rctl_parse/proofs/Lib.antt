@@ -1,7 +1,9 @@
 pub mod LeafSteps
 pub mod LeafReads
+pub mod DifferenceReads
 pub mod UnarySteps
 pub mod PartSteps
+pub mod SteppingSteps
 pub mod MemberSteps
 pub mod CycleSteps
 pub mod WholeSteps

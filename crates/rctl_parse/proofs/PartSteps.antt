@@ -10,11 +10,10 @@ use Rattle.rctl_grammar.specs.declared.token.Token.{Token}
 use Rattle.rctl_grammar.specs.declared.token.End.{End}
 use Rattle.rctl_grammar.specs.declared.token.End.TheVariants as end
 use Rattle.rctl_grammar.specs.declared.fault.FormulaFault.{FormulaFault}
-use Rattle.rctl_grammar.specs.declared.tree.Operator.{Operator}
-use Rattle.rctl_grammar.specs.declared.tree.Operator.TheVariants as operator
+use Rattle.run_model.specs.Formula as model
 use Rattle.rctl_grammar.specs.declared.tree.Tree.{Tree}
 use Rattle.rctl_grammar.specs.declared.tree.Tree.TheVariants as tree
-use Rattle.rctl_grammar.specs.Grammar.{negation, temporal, group, until, Path, Disjunction, Conjunction, tok, spelled, word_of, path_word, text_disjunction, tree_disjunction, nodes_disjunction, levels_disjunction, disjunction_in_range}
+use Rattle.rctl_grammar.specs.Grammar.{negation, temporal, group, until, Path, Disjunction, Conjunction, tok, spelled, operator_of, word_of, path_word, text_disjunction, tree_disjunction, nodes_disjunction, levels_disjunction, disjunction_in_range}
 use Rattle.rctl_grammar.specs.Machine.{Before, nothing, Outer, in_group, in_left, in_right, Open, first_of, in_negation, in_temporal, State, operand, after, plug, joined, settled, no_sign, close_round_in, close_square_in, until_in, step_close, by_another, following, whole_now}
 use Rattle.rctl_grammar.specs.FirstFault.{fault_of, placed, then_on, depth, nodes_open, level_opens, node_stands, either, is_operator, too_deep_at}
 use Rattle.rctl_parse.specs.declared.around.Around.{Around}
@@ -57,35 +56,33 @@ negation_fault around inside at ts f (deep, room, is) given o d m =
 
 -- ---- operators
 
-operator_opens : (op : Operator) → is_operator (word_of op) ≡ true
-operator_opens operator.Ef = refl
-operator_opens operator.Ag = refl
-operator_opens operator.Eg = refl
-operator_opens operator.Ex = refl
-operator_opens operator.Af = refl
-operator_opens operator.Ax = refl
+operator_opens : (op : model.Operator) → is_operator (word_of op) ≡ true
+operator_opens model.Ef = refl
+operator_opens model.Ag = refl
+operator_opens model.Eg = refl
+operator_opens model.Af = refl
+operator_opens model.Ax = refl
 
-settled_operator : (o : Open) (op : Operator) (name : Name) (at : ℕ) → settled o (record { word = word_of op; name = name; at = at }) ≡ Some (operand (in_temporal o op name at))
-settled_operator o operator.Ef name at = refl
-settled_operator o operator.Ag name at = refl
-settled_operator o operator.Eg name at = refl
-settled_operator o operator.Ex name at = refl
-settled_operator o operator.Af name at = refl
-settled_operator o operator.Ax name at = refl
+settled_operator : (o : Open) (op : model.Operator) (name : Name) (at : ℕ) → settled o (record { word = word_of op; name = name; at = at }) ≡ Some (operand (in_temporal o op name at))
+settled_operator o model.Ef name at = refl
+settled_operator o model.Ag name at = refl
+settled_operator o model.Eg name at = refl
+settled_operator o model.Af name at = refl
+settled_operator o model.Ax name at = refl
 
-operator_goes : (o : Open) (op : Operator) (name : Name) (at : ℕ) (ts : List Token) (ending : End) → sign_of ts ≡ no_sign → depth o < 16 → nodes_open o < 64
+operator_goes : (o : Open) (op : model.Operator) (name : Name) (at : ℕ) (ts : List Token) (ending : End) → sign_of ts ≡ no_sign → depth o < 16 → nodes_open o < 64
     → fault_of (operand o) (spelled (word_of op) name at ∷ ts) ending ≡ fault_of (operand (in_temporal o op name at)) ts ending
 unfolding settle
 operator_goes o op name at ts ending other deep room =
     word_free o (record { word = word_of op; name = name; at = at }) ts ending other (rw (operator_opens op, level_passes (depth o) at deep, node_passes (nodes_open o) at room) refl)
     ∙ ap (λ x. settle x ts ending) (settled_operator o op name at)
 
-pub temporal_read : (around inside : Around) (op : Operator) (name : Name) (at : ℕ) (ts rest : List Token) (nodes : ℕ) (t : Tree) → sign_of ts ≡ no_sign → Entered around inside
-    → UnaryRead ts rest inside nodes t → UnaryRead (spelled (word_of op) name at ∷ ts) rest around nodes (tree.Temporal op t at)
+pub temporal_read : (around inside : Around) (op : model.Operator) (name : Name) (at : ℕ) (ts rest : List Token) (nodes : ℕ) (t : Tree) → sign_of ts ≡ no_sign → Entered around inside
+    → UnaryRead ts rest inside nodes t → UnaryRead (spelled (word_of op) name at ∷ ts) rest around nodes (tree.Temporal (operator_of op) t at)
 temporal_read around inside op name at ts rest nodes t other (deep, room, is) given =
     let read : UnaryRead ts rest (record around { level = around.level + 1; nodes = around.nodes + 1 }) nodes t = subst (λ (a : Around). UnaryRead ts rest a nodes t) is given in record {
       u = temporal op name at read.u;
-      tree = ap (λ x. tree.Temporal op x at) read.tree;
+      tree = ap (λ x. tree.Temporal (operator_of op) x at) read.tree;
       text = ap (λ x. spelled (word_of op) name at ∷ x) read.text;
       goes = λ o d m. operator_goes o op name at ts around.end other (omega arith) (omega arith) ∙ read.goes (in_temporal o op name at) (ap (λ x. x + 1) d) (ap (λ x. x + 1) m);
       counts = omega (arith, read.counts);
@@ -95,12 +92,12 @@ temporal_read around inside op name at ts rest nodes t other (deep, room, is) gi
       shorter = omega (arith, read.shorter);
     }
 
-pub temporal_bound : (around : Around) (op : Operator) (name : Name) (at : ℕ) (ts : List Token) (f : FormulaFault) → sign_of ts ≡ no_sign
+pub temporal_bound : (around : Around) (op : model.Operator) (name : Name) (at : ℕ) (ts : List Token) (f : FormulaFault) → sign_of ts ≡ no_sign
     → either (level_opens around.level at) (node_stands around.nodes at) ≡ Some f → UnaryFault (spelled (word_of op) name at ∷ ts) around f
 temporal_bound around op name at ts f other bound o d m =
     word_bound o (record { word = word_of op; name = name; at = at }) ts around.end f other (rw (operator_opens op, d, m) bound)
 
-pub temporal_fault : (around inside : Around) (op : Operator) (name : Name) (at : ℕ) (ts : List Token) (f : FormulaFault) → sign_of ts ≡ no_sign → Entered around inside
+pub temporal_fault : (around inside : Around) (op : model.Operator) (name : Name) (at : ℕ) (ts : List Token) (f : FormulaFault) → sign_of ts ≡ no_sign → Entered around inside
     → UnaryFault ts inside f → UnaryFault (spelled (word_of op) name at ∷ ts) around f
 temporal_fault around inside op name at ts f other (deep, room, is) given o d m =
     let bad : UnaryFault ts (record around { level = around.level + 1; nodes = around.nodes + 1 }) f = subst (λ (a : Around). UnaryFault ts a f) is given in
@@ -120,7 +117,7 @@ taken_close None next ts rest ending at a h = cc
 taken_close (Some v) next ts rest ending at a h = let parts = beside_is (Some v) ts rest a h in let same : v ≡ a = let e = parts.0 in cc in
     ap (λ p. fault_of (next p) ts ending) same ∙ ap (λ p. fault_of (next a) p ending) parts.1
 
-missing_close : {A : Type 0} (x : Option A) (next : A → State) (ts : List Token) (ending : End) (t : Token) → beside x ts ≡ None
+pub missing_close : {A : Type 0} (x : Option A) (next : A → State) (ts : List Token) (ending : End) (t : Token) → beside x ts ≡ None
     → then_on (placed None (x >>= λ v. Some (next v)) t.at) (λ s. fault_of s ts ending) ≡ Some (here (t ∷ ts) ending)
 missing_close None next ts ending t h = refl
 missing_close (Some v) next ts ending t h = cc

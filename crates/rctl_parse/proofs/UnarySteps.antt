@@ -17,8 +17,8 @@ use Rattle.rctl_grammar.specs.declared.tree.Place.{Place}
 use Rattle.rctl_grammar.specs.declared.tree.Atom.{Atom}
 use Rattle.rctl_grammar.specs.declared.tree.Atom.TheVariants as atom
 use Rattle.rctl_grammar.specs.declared.tree.Tree.TheVariants as tree
-use Rattle.rctl_grammar.specs.Grammar.{Spelled, constant, Unary, leaf, negation, temporal, tok, spelled, named, first_token, placed_name, truth_word}
-use Rattle.rctl_grammar.specs.Machine.{Open, first_of, next_of, in_negation, in_temporal, State, operand, a_word, in_leaf, a_path, after, plug, settled, step_now, step_kind, whole_now, whole_of, process_dot, process_at, channel_word, of_transit, of_emptiness, no_sign, sign}
+use Rattle.rctl_grammar.specs.Grammar.{Spelled, constant, Unary, leaf, negation, temporal, stepping, tok, spelled, named, first_token, placed_name, truth_word}
+use Rattle.rctl_grammar.specs.Machine.{Open, first_of, next_of, in_negation, in_temporal, in_stepping, State, operand, a_word, in_leaf, a_path, a_stepping, after, plug, settled, step_now, step_kind, whole_now, whole_of, process_dot, process_at, channel_word, of_transit, of_emptiness, no_sign, sign}
 use Rattle.rctl_grammar.specs.FirstFault.{fault_of, end_fault, end_limit, limit, limit_now, nodes_open, level_opens, node_stands, word_limit, too_deep_at, too_many_at}
 use Rattle.rctl_parse.specs.declared.around.Around.{Around}
 use Rattle.rctl_parse.specs.Reading.{Faults, here, LeafFault, LeafRead}
@@ -48,6 +48,7 @@ no_word (operand o) = true
 no_word (a_word o w) = false
 no_word (in_leaf o front) = true
 no_word (a_path o all name at) = true
+no_word (a_stepping o name at) = true
 no_word (after outer before c) = true
 
 pub plugged : (o : Open) (u : Unary) → no_word (plug o u) ≡ true
@@ -56,6 +57,7 @@ plugged (first_of outer before) u = refl
 plugged (next_of outer before c at) u = refl
 plugged (in_negation o at) u = plugged o (negation at u)
 plugged (in_temporal o op name at) u = plugged o (temporal op name at u)
+plugged (in_stepping o name at process) u = plugged o (stepping name at process u)
 
 -- what waits of a word is settled, and the next token goes on from there
 unfoldable pub settle : Option State → List Token → End → Option FormulaFault
@@ -68,6 +70,7 @@ now_limit (operand o) k at h = refl
 now_limit (a_word o w) k at h = cc
 now_limit (in_leaf o front) k at h = refl
 now_limit (a_path o all name at') k at h = refl
+now_limit (a_stepping o name at') k at h = refl
 now_limit (after outer before c) k at h = refl
 
 now_step : (s : State) (k : Kind) (at : ℕ) → no_word s ≡ true → step_kind s k at ≡ step_now s k at
@@ -76,6 +79,7 @@ now_step (operand o) k at h = refl
 now_step (a_word o w) k at h = cc
 now_step (in_leaf o front) k at h = refl
 now_step (a_path o all name at') k at h = refl
+now_step (a_stepping o name at') k at h = refl
 now_step (after outer before c) k at h = refl
 
 now_whole : (s : State) → no_word s ≡ true → whole_of s ≡ whole_now s
@@ -84,6 +88,7 @@ now_whole (operand o) h = refl
 now_whole (a_word o w) h = cc
 now_whole (in_leaf o front) h = refl
 now_whole (a_path o all name at') h = refl
+now_whole (a_stepping o name at') h = refl
 now_whole (after outer before c) h = refl
 
 now_end : (s : State) → no_word s ≡ true → end_limit s ≡ None
@@ -92,6 +97,7 @@ now_end (operand o) h = refl
 now_end (a_word o w) h = cc
 now_end (in_leaf o front) h = refl
 now_end (a_path o all name at') h = refl
+now_end (a_stepping o name at') h = refl
 now_end (after outer before c) h = refl
 
 -- every state that a word is settled to is such

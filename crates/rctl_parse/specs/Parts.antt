@@ -9,10 +9,13 @@ use Rattle.rctl_grammar.specs.declared.token.Token.{Token}
 use Rattle.rctl_grammar.specs.declared.token.End.{End}
 use Rattle.rctl_grammar.specs.declared.fault.FormulaFault.{FormulaFault}
 use Rattle.rctl_grammar.specs.declared.tree.Atom.{Atom}
+use Rattle.rctl_grammar.specs.declared.tree.Operator.{Operator}
+use Rattle.rctl_grammar.specs.declared.tree.Operator.TheVariants as operator
+use Rattle.rctl_grammar.specs.declared.tree.Place.{Place}
 use Rattle.rctl_grammar.specs.declared.tree.Tree.{Tree}
-use Rattle.rctl_grammar.specs.Grammar.{Spelled, named, Leaf, leaf, atom_of, first_token}
+use Rattle.rctl_grammar.specs.Grammar.{Spelled, named, placed_name, Leaf, leaf, atom_of, first_token}
 use Rattle.rctl_grammar.specs.Grammar.{leaf_in_range, text_leaf, Disjunction, Conjunction, Unary}
-use Rattle.rctl_grammar.specs.Grammar.{tok, spelled, word_of, path_word, truth_word}
+use Rattle.rctl_grammar.specs.Grammar.{tok, spelled, path_word, truth_word}
 use Rattle.rctl_grammar.specs.Grammar.{text_disjunction, text_conjunction, text_unary, first_amp}
 use Rattle.rctl_grammar.specs.Grammar.{first_bar, tree_disjunction, tree_conjunction, tree_unary}
 use Rattle.rctl_grammar.specs.Grammar.{disjuncts, conjuncts, levels_disjunction, levels_conjunction}
@@ -21,7 +24,7 @@ use Rattle.rctl_grammar.specs.Grammar.{nodes_unary, amp_nodes, bar_nodes, disjun
 use Rattle.rctl_grammar.specs.Grammar.{conjunction_in_range, unary_in_range}
 use Rattle.rctl_grammar.specs.Machine.{Before, nothing, bar, Outer, in_left, Open, first_of}
 use Rattle.rctl_grammar.specs.Machine.{next_of, operand, a_word, after, plug, joined, settled}
-use Rattle.rctl_grammar.specs.Machine.{NameSign, no_sign, sign}
+use Rattle.rctl_grammar.specs.Machine.{in_stepping, NameSign, no_sign, sign}
 use Rattle.rctl_grammar.specs.FirstFault.{fault_of, depth, depth_outer, nodes_open, nodes_outer}
 use Rattle.rctl_grammar.specs.FirstFault.{nodes_before}
 use Rattle.rctl_parse.specs.declared.around.Around.{Around}
@@ -66,9 +69,19 @@ IsLeafRole leaf_role.Transit w ts = (w ≡ word.InTransit) × (sign_of ts ≡ no
 IsLeafRole leaf_role.Emptiness w ts = (w ≡ word.Empty) × (sign_of ts ≡ no_sign)
 IsLeafRole leaf_role.Nothing w ts = NoRole w × (sign_of ts ≡ no_sign)
 
+-- the operator that the word is. No word is the operator of a process's number
+abbrev pub IsWordOf : Operator → Word → Type 0
+IsWordOf operator.Ef w = w ≡ word.Ef
+IsWordOf operator.Ag w = w ≡ word.Ag
+IsWordOf operator.Eg w = w ≡ word.Eg
+IsWordOf (operator.Ex process) w = ⊥
+IsWordOf operator.Af w = w ≡ word.Af
+IsWordOf operator.Ax w = w ≡ word.Ax
+
 -- the role of a word that isn't a name
 abbrev pub IsRoleAlone : Role → Word → Type 0
-IsRoleAlone (role.Operator operator) w = w ≡ word_of operator
+IsRoleAlone (role.Operator operator) w = IsWordOf operator w
+IsRoleAlone role.Stepping w = w ≡ word.Ex
 IsRoleAlone (role.Path all) w = w ≡ path_word all
 IsRoleAlone (role.Leaf (leaf_role.Compared rest)) w = ⊥
 IsRoleAlone (role.Leaf (leaf_role.Watched rest)) w = ⊥
@@ -78,7 +91,8 @@ IsRoleAlone (role.Leaf leaf_role.Emptiness) w = w ≡ word.Empty
 IsRoleAlone (role.Leaf leaf_role.Nothing) w = NoRole w
 
 abbrev pub IsRole : Role → Word → List Token → Type 0
-IsRole (role.Operator operator) w ts = (w ≡ word_of operator) × (sign_of ts ≡ no_sign)
+IsRole (role.Operator operator) w ts = IsWordOf operator w × (sign_of ts ≡ no_sign)
+IsRole role.Stepping w ts = (w ≡ word.Ex) × (sign_of ts ≡ no_sign)
 IsRole (role.Path all) w ts = (w ≡ path_word all) × (sign_of ts ≡ no_sign)
 IsRole (role.Leaf l) w ts = IsLeafRole l w ts
 
@@ -126,6 +140,17 @@ pub record PathRead (all : Bool) (name : Name) (at : ℕ) (ts rest : List Token)
       → fault_of (operand o) (spelled (path_word all) name at ∷ ts) around.end
       ≡ fault_of (operand (first_of (in_left o
       (record { all = all; name = name; at = at; opened = opened })) nothing)) rest around.end
+
+-- behind "EX", and behind its process
+pub record SteppingRead (name : Name) (at : ℕ) (ts rest : List Token) (around inside : Around)
+    (process : Place) : Type 0 where
+  pub p : Spelled
+  pub process_is : placed_name p ≡ process
+  pub enters : Entered around inside
+  pub text : ts ≡ named p ∷ rest
+  pub goes : (o : Open) → depth o ≡ around.level → nodes_open o ≡ around.nodes
+      → fault_of (operand o) (spelled word.Ex name at ∷ ts) around.end
+      ≡ fault_of (operand (in_stepping o name at p)) rest around.end
 
 -- ---- conjunctions
 

@@ -1,5 +1,5 @@
 -- What the functions of the parser read.
-use Rattle.std.specs.Prelude.{◌≡◌, ℕ, pos, ◌<◌, length, true, List, [], ◌∷◌, Option, None, Some}
+use Rattle.std.specs.Prelude.{◌≡◌, ℕ, ℤ, pos, ◌<◌, length, true, List, [], ◌∷◌, Option, None, Some}
 use Rattle.pota_base.specs.declared.fault.Refused.{Refused}
 use Rattle.pota_base.specs.declared.fault.Refused.TheVariants as refused
 use Rattle.rctl_grammar.specs.declared.token.Kind.{Kind}
@@ -63,6 +63,10 @@ abbrev pub bar_in : Kind → ℕ → Option ℕ
 bar_in kind.Bar at = Some at
 bar_in k at = None
 
+abbrev pub minus_in : Kind → ℕ → Option ℕ
+minus_in kind.Minus at = Some at
+minus_in k at = None
+
 abbrev pub until_at : Kind → ℕ → Option ℕ
 until_at (kind.Word word.U name) at = Some at
 until_at k at = None
@@ -77,6 +81,7 @@ symbol_in symbol.Dot = dot_in
 symbol_in symbol.At = at_in
 symbol_in symbol.Amp = amp_in
 symbol_in symbol.Bar = bar_in
+symbol_in symbol.Minus = minus_in
 symbol_in symbol.Until = until_at
 
 -- a token that was looked for isn't there
@@ -98,6 +103,10 @@ comparison_in k at = None
 -- a number that isn't negative
 abbrev pub CountRead : List Token → List Token → ℕ → Type 0
 CountRead ts rest k = (at : ℕ) × (ts ≡ tok (kind.Number (Some (pos k))) at ∷ rest)
+
+-- a number in the range of 64 bits
+abbrev pub BoundRead : List Token → List Token → ℤ → Type 0
+BoundRead ts rest k = (at : ℕ) × (ts ≡ tok (kind.Number (Some k)) at ∷ rest)
 
 -- the first fault is this one, whatever stands around the leaf
 abbrev pub LeafFault : Front → List Token → End → FormulaFault → Type 0

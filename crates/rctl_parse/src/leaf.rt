@@ -6,16 +6,18 @@ ghost use Rattle.rctl_grammar.specs.Grammar.{Spelled, Channel, Variable, in_rang
 ghost use Rattle.rctl_grammar.specs.Grammar.{placed_name};
 ghost use Rattle.rctl_grammar.specs.Machine.{word_in, compare_in, number_in, ChannelWord, compared};
 ghost use Rattle.rctl_grammar.specs.Machine.{process_dot, process_at, channel_word, of_transit};
-ghost use Rattle.rctl_grammar.specs.Machine.{of_emptiness, transit_compared};
+ghost use Rattle.rctl_grammar.specs.Machine.{of_emptiness, transit_compared, subtracting};
+ghost use Rattle.rctl_grammar.specs.Machine.{difference_compared};
 ghost use Rattle.rctl_grammar.specs.declared.tree.Compare.{Compare as Compared};
 ghost use Rattle.rctl_grammar.specs.declared.tree.Side.TheVariants.{Number};
 ghost use Rattle.rctl_parse.specs.Reading.{Faults, Misses, found, place_in, comparison_in};
-ghost use Rattle.rctl_parse.specs.Reading.{CountRead, SideRead, ChannelRead, LeafRead, LeafFault};
+ghost use Rattle.rctl_parse.specs.Reading.{BoundRead, CountRead, SideRead, ChannelRead, LeafRead};
+ghost use Rattle.rctl_parse.specs.Reading.{LeafFault};
 ghost use Rattle.run_model.specs.Run.{Name as Bytes};
 ghost use Rattle.std.specs.Prelude.{◌≡◌, ℕ, false, true, IfOk, MatchOption, MatchResult};
 
 use crate::around::{Stop, fault, refused_here};
-use crate::symbol::{Symbol, wanted};
+use crate::symbol::{Symbol, after, wanted};
 use pota_base::NoMemory;
 use pota_names::Name;
 use rctl_grammar::{Atom, Compare, End, FormulaCode, Kind, Place, Side, Token};
@@ -32,7 +34,7 @@ pub fn place_of(alloc: Global, name: &Name, at: u32) -> Result<Place, NoMemory>
 }
 
 /// The name at the front, and the tokens behind it.
-fn place(alloc: Global, tokens: &[Token], end: End) -> Result<(Place, &[Token]), Stop>
+pub fn place(alloc: Global, tokens: &[Token], end: End) -> Result<(Place, &[Token]), Stop>
     ensures { MatchResult result (λ x. found place_in tokens.now ≡ Some (x.0, x.1.now))
         (λ stop. Misses word_in tokens.now end stop) }
 {
@@ -111,6 +113,19 @@ fn count(tokens: &[Token], end: End) -> Result<(u64, &[Token]), Stop>
     }
 }
 
+// The number that a difference is compared with.
+fn bound(tokens: &[Token], end: End) -> Result<(i64, &[Token]), Stop>
+    ensures { MatchResult result (λ x. BoundRead tokens.now x.1.now x.0)
+        (λ stop. Faults stop (λ f. (left : Variable) (minus : ℕ) (right : Variable) (c : Compared)
+        (at : ℕ) → LeafFault (difference_compared left minus right c at) tokens.now end f)) }
+{
+    match number(tokens) {
+        Some((Some(k), _, rest)) => Ok((k, rest)),
+        Some((None, at, _)) => Err(fault(FormulaCode::Number, at)),
+        None => Err(refused_here(tokens, end)),
+    }
+}
+
 fn side(alloc: Global, tokens: &[Token], end: End) -> Result<(Side, &[Token]), Stop>
     ensures { MatchResult result (λ x. SideRead tokens.now x.1.now end x.0)
         (λ stop. Faults stop (λ f. (left : Variable) (c : Compared) (at : ℕ)
@@ -125,7 +140,39 @@ fn side(alloc: Global, tokens: &[Token], end: End) -> Result<(Side, &[Token]), S
     Ok((Side::Variable { process, variable }, rest))
 }
 
-/// A comparison, from behind its first dot.
+// A difference, from behind its `-`.
+fn difference(
+    alloc: Global,
+    left_process: Place,
+    left: Place,
+    tokens: &[Token],
+    end: End,
+) -> Result<(Atom, &[Token]), Stop>
+    ensures { MatchResult result (λ x. (v : Variable) (minus : ℕ)
+        → placed_name v.process ≡ left_process → placed_name v.variable ≡ left
+        → LeafRead (subtracting v minus) tokens.now x.1.now end x.0 v.process.at)
+        (λ stop. Faults stop (λ f. (v : Variable) (minus : ℕ)
+        → LeafFault (subtracting v minus) tokens.now end f)) }
+{
+    let (right_process, rest) = place(alloc, tokens, end)?;
+    let (_, rest) = wanted(rest, end, Symbol::Dot)?;
+    let (right, rest) = place(alloc, rest, end)?;
+    let (compare, rest) = compare(rest, end)?;
+    let (k, rest) = bound(rest, end)?;
+    Ok((
+        Atom::Difference {
+            left_process,
+            left,
+            right_process,
+            right,
+            compare,
+            k,
+        },
+        rest,
+    ))
+}
+
+/// A comparison of a variable or of a difference, from behind its first dot.
 pub fn comparison(
     alloc: Global,
     process: Place,
@@ -138,6 +185,9 @@ pub fn comparison(
         → LeafFault (process_dot p dot) tokens.now end f)) }
 {
     let (variable, rest) = place(alloc, tokens, end)?;
+    if let Some((_, behind)) = after(rest, Symbol::Minus) {
+        return difference(alloc, process, variable, behind, end);
+    }
     let (compare, rest) = compare(rest, end)?;
     let (side, rest) = side(alloc, rest, end)?;
     Ok((

@@ -6,8 +6,10 @@ ghost use Rattle.rctl_grammar.specs.Machine.{no_sign};
 ghost use Rattle.rctl_grammar.specs.declared.token.Kind.TheVariants.{OpenRound};
 ghost use Rattle.rctl_grammar.specs.declared.token.Token.{Token as First};
 ghost use Rattle.rctl_grammar.specs.declared.token.Word.{Word as WordIs};
+ghost use Rattle.rctl_grammar.specs.declared.token.Word.TheVariants.{Ex};
 ghost use Rattle.rctl_parse.specs.Parts.{sign_of, IsLeafRole, WordRead, WordFault, UnaryFault};
-ghost use Rattle.rctl_parse.specs.Parts.{UnaryRead, PathRead, EnclosedRead, EnclosedFault};
+ghost use Rattle.rctl_parse.specs.Parts.{UnaryRead, PathRead, SteppingRead, EnclosedRead};
+ghost use Rattle.rctl_parse.specs.Parts.{EnclosedFault};
 ghost use Rattle.rctl_parse.specs.Parts.{ConjunctionFault, ConjunctionRead, FormulaFails};
 ghost use Rattle.rctl_parse.specs.Parts.{FormulaRead};
 ghost use Rattle.rctl_parse.specs.Prefixes.{IsPrefix, prefix_tree};
@@ -16,12 +18,12 @@ ghost use Rattle.run_model.specs.Run.{Name as Bytes};
 ghost use Rattle.std.specs.Prelude.{◌≡◌, ◌∷◌, ◌<◌, length, Bool, IfOk, MatchResult};
 
 use crate::around::{Around, Stop, refused_here};
-use crate::leaf::{comparison, emptiness, place_of, transit, watch};
+use crate::leaf::{comparison, emptiness, place, place_of, transit, watch};
 use crate::role::{LeafRole, Opening, Role, opening_of, role_of};
 use crate::symbol::{Symbol, after, wanted};
 use pota_base::{List, NoMemory};
 use pota_names::Name;
-use rctl_grammar::{Atom, Boxed, End, Operator, Token, Tree, Word};
+use rctl_grammar::{Atom, Boxed, End, Operator, Place, Token, Tree, Word};
 use std::alloc::Global;
 
 /// A part of a formula: its tree, the nodes up to its end, and the tokens behind it.
@@ -117,6 +119,24 @@ fn path(at: u32, rest: &[Token], around: Around) -> Result<(Around, &[Token]), S
     Ok((behind.opened(opened)?, rest))
 }
 
+// From behind the `EX` at `at`: what stands around behind the process, the process, and the tokens
+// there.
+fn stepped(
+    alloc: Global,
+    at: u32,
+    rest: &[Token],
+    around: Around,
+) -> Result<(Around, Place, &[Token]), Stop>
+    ensures shorter { IfOk result (λ x. length x.2.now < length rest.now) }
+    ensures step { (name : Bytes) → sign_of rest.now ≡ no_sign
+        → MatchResult result (λ x. SteppingRead name at rest.now x.2.now around x.0 x.1)
+        (λ stop. Faults stop (λ f. UnaryFault (spelled Ex name at ∷ rest.now) around f)) }
+{
+    let inside = around.entered(at)?;
+    let (process, rest) = place(alloc, rest, around.end)?;
+    Ok((inside, process, rest))
+}
+
 #[cycle(parser)]
 fn unary<'a>(alloc: Global, tokens: &'a [Token], around: Around) -> Result<Part<'a>, Stop>
     ensures { MatchResult result (λ part. UnaryRead tokens.now part.rest.now around part.nodes
@@ -133,6 +153,7 @@ fn unary<'a>(alloc: Global, tokens: &'a [Token], around: Around) -> Result<Part<
                 rest,
                 around,
             ),
+            Role::Stepping => stepping(alloc, at, rest, around),
             Role::Path(all) => until(alloc, all, at, rest, around),
             Role::Leaf(role) => leaf(alloc, role, name, at, rest, around),
         },
@@ -156,6 +177,21 @@ fn prefixed<'a>(
     let inside = around.entered(at)?;
     let Part { tree, nodes, rest } = unary(alloc, rest, inside)?;
     let tree = prefix.over(alloc, tree, at)?;
+    Ok(Part { tree, nodes, rest })
+}
+
+// From behind the `EX` at `at`.
+#[cycle(parser)]
+fn stepping<'a>(alloc: Global, at: u32, rest: &'a [Token], around: Around) -> Result<Part<'a>, Stop>
+    ensures { (name : Bytes) → sign_of rest.now ≡ no_sign
+        → MatchResult result (λ part. UnaryRead (spelled Ex name at ∷ rest.now) part.rest.now around
+        part.nodes part.tree)
+        (λ stop. Faults stop (λ f. UnaryFault (spelled Ex name at ∷ rest.now) around f)) }
+{
+    let (inside, process, rest) = stepped(alloc, at, rest, around)?;
+    let Part { tree, nodes, rest } = unary(alloc, rest, inside)?;
+    let inner = Boxed::new(alloc, tree)?;
+    let tree = Tree::Next { process, inner, at };
     Ok(Part { tree, nodes, rest })
 }
 

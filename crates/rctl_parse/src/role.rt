@@ -21,6 +21,8 @@ pub enum Opening<'a> {
 #[derive(Clone, Copy)]
 pub enum Role<'a> {
     Operator(Operator),
+    /// The next event of a process.
+    Stepping,
     /// An until, on all paths or on some path.
     Path(bool),
     Leaf(LeafRole<'a>),
@@ -78,7 +80,7 @@ fn role_alone<'a>(word: Word) -> Role<'a>
         Word::Ef => Role::Operator(Operator::Ef),
         Word::Ag => Role::Operator(Operator::Ag),
         Word::Eg => Role::Operator(Operator::Eg),
-        Word::Ex => Role::Operator(Operator::Ex),
+        Word::Ex => Role::Stepping,
         Word::Af => Role::Operator(Operator::Af),
         Word::Ax => Role::Operator(Operator::Ax),
         Word::E => Role::Path(false),

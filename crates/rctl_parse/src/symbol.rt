@@ -17,6 +17,7 @@ pub enum Symbol {
     At,
     Amp,
     Bar,
+    Minus,
     /// The word `U`.
     Until,
 }
@@ -34,6 +35,7 @@ fn is_symbol(kind: &Kind, symbol: Symbol) -> bool
         Symbol::At => matches!(kind, Kind::At),
         Symbol::Amp => matches!(kind, Kind::Amp),
         Symbol::Bar => matches!(kind, Kind::Bar),
+        Symbol::Minus => matches!(kind, Kind::Minus),
         Symbol::Until => matches!(kind, Kind::Word(Word::U, _)),
     }
 }

@@ -1,10 +1,11 @@
 -- What the bytes put one after another come to.
-use Rattle.std.proofs.Common.{◌≡◌, ℕ, ◌+◌, ◌<◌, Bool, List, [], ◌∷◌, ◌++◌, map, take, length, get_or, codes, sym, ap, ◌∙◌, append_assoc, append-nil, add-one, arith}
+use Rattle.std.proofs.Common.{◌≡◌, ℕ, ◌+◌, ◌<◌, Bool, List, [], ◌∷◌, ◌++◌, map, take, length, get_or, codes, refl, sym, ap, ◌∙◌, append_assoc, append-nil, add-one, arith}
 use Rattle.std.proofs.lemmas.List.{map-append}
 use Rattle.std.proofs.Math.Seq.{take-suc}
 use Rattle.rctl_grammar.specs.declared.tree.Operator.{Operator}
-use Rattle.rctl_grammar.specs.Shape.{Shape, not, under, until_of, Shapes, one, more, conjunction_on, disjunction_on}
-use Rattle.rctl_print.specs.Canonical.{canonical, joined, member, joint_text, operator_word, until_word}
+use Rattle.rctl_grammar.specs.declared.tree.Operator.TheVariants as operator
+use Rattle.rctl_grammar.specs.Shape.{Shape, not, under_of, stepped, until_of, Shapes, one, more, conjunction_on, disjunction_on}
+use Rattle.rctl_print.specs.Canonical.{canonical, joined, member, joint_text, operator_word, next_words, until_word}
 use Rattle.rctl_print.specs.Members.{joined_of, each_behind}
 use Rattle.rctl_print.specs.declared.joint.Joint.{Joint}
 use Rattle.rctl_print.specs.declared.joint.Joint.TheVariants.{Amp, Bar}
@@ -12,10 +13,21 @@ use Rattle.rctl_print.specs.declared.joint.Joint.TheVariants.{Amp, Bar}
 pub put_not : (old : List ℕ) {mid new : List ℕ} {s inner : Shape} → mid ≡ old ++ codes "!" → s ≡ not inner → new ≡ mid ++ member Amp inner → new ≡ old ++ canonical s
 put_not old {inner = inner} m e n = n ∙ rw (m, e) (append_assoc old (codes "!") (member Amp inner))
 
-pub put_under : (old : List ℕ) {mid last new word : List ℕ} {s inner : Shape} {operator : Operator} →
-    mid ≡ old ++ word → word ≡ operator_word operator → last ≡ mid ++ codes " " → s ≡ under operator inner →
-    new ≡ last ++ member Amp inner → new ≡ old ++ canonical s
-put_under old {inner = inner} {operator = operator} m w l e n = n ∙ rw (l, m, w, e) (simp append_assoc)
+under_text : (op : Operator) (s : Shape) → canonical (under_of op s) ≡ (operator_word op ++ codes " ") ++ member Amp s
+under_text operator.Ef s = refl
+under_text operator.Ag s = refl
+under_text operator.Eg s = refl
+under_text (operator.Ex process) s = refl
+under_text operator.Af s = refl
+under_text operator.Ax s = refl
+
+pub put_under : (op : Operator) (inner : Shape) (old : List ℕ) {mid new : List ℕ} {s : Shape} →
+    mid ≡ old ++ operator_word op ++ codes " " → s ≡ under_of op inner → new ≡ mid ++ member Amp inner → new ≡ old ++ canonical s
+put_under op inner old m e n = n ∙ rw (m, e, under_text op inner) (simp append_assoc)
+
+pub put_stepped : (old : List ℕ) {mid new process : List ℕ} {s inner : Shape} →
+    mid ≡ old ++ next_words process → s ≡ stepped process inner → new ≡ mid ++ member Amp inner → new ≡ old ++ canonical s
+put_stepped old {process = process} {inner = inner} m e n = n ∙ rw (m, e) (append_assoc old (next_words process) (member Amp inner))
 
 pub put_until : (old : List ℕ) {a b c d e new word : List ℕ} {s left right : Shape} {all : Bool} →
     a ≡ old ++ word → word ≡ until_word all → b ≡ a ++ codes "[" → c ≡ b ++ canonical left → d ≡ c ++ codes " U " → e ≡ d ++ canonical right →

@@ -1,8 +1,8 @@
 -- The canonical texts of some formulas.
-use Rattle.std.proofs.Common.{◌≡◌, ℕ, pos, true, false, List, codes, refl}
+use Rattle.std.proofs.Common.{◌≡◌, ℕ, pos, negsuc, true, false, List, codes, refl}
 use Rattle.rctl_grammar.specs.declared.tree.Compare.TheVariants.{Eq, Ne, Le}
-use Rattle.rctl_grammar.specs.declared.tree.Operator.TheVariants.{Ef, Ag}
-use Rattle.rctl_grammar.specs.Shape.{number, variable, truth, comparison, watch, transit, emptiness, Shape, plain, not, conjunction, disjunction, under, until_of, one, more}
+use Rattle.run_model.specs.Formula.{Ef, Ag}
+use Rattle.rctl_grammar.specs.Shape.{number, variable, truth, comparison, watch, transit, emptiness, difference, Shape, plain, not, conjunction, disjunction, under, stepped, until_of, one, more}
 use Rattle.rctl_print.specs.Canonical.{canonical}
 use Rattle.std.specs.Fmt.{digits}
 
@@ -45,6 +45,13 @@ an_and_in_an_and = refl
 
 an_and_in_an_or : canonical (disjunction (one (conjunction (one yes) yes)) (disjunction (one yes) yes)) ≡ codes "true & true | (true | true)"
 an_and_in_an_or = refl
+
+an_and_behind_an_event : canonical (stepped p (conjunction (one (stepped q yes)) yes)) ≡ codes "EX P (EX Q true & true)"
+an_and_behind_an_event = refl
+
+a_difference : canonical (plain (difference p (codes "x") q (codes "y") Le (negsuc 1))) ≡ codes "P.x - Q.y <= -2"
+unfolding digits
+a_difference = refl
 
 an_until : canonical (until_of false (disjunction (one (equals p 1)) yes) (plain (emptiness p q))) ≡ codes "E[P.x = 1 | true U empty(P,Q)]"
 unfolding digits

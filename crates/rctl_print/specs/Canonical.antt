@@ -5,9 +5,11 @@ use Rattle.rctl_grammar.specs.declared.tree.Compare.{Compare}
 use Rattle.rctl_grammar.specs.declared.tree.Compare.TheVariants as compare
 use Rattle.rctl_grammar.specs.declared.tree.Operator.{Operator}
 use Rattle.rctl_grammar.specs.declared.tree.Operator.TheVariants as operator
+use Rattle.rctl_grammar.specs.Grammar.{operator_of}
 use Rattle.rctl_grammar.specs.Shape.{PlainSide, number, variable, PlainAtom, truth, comparison}
-use Rattle.rctl_grammar.specs.Shape.{watch, transit, emptiness, Shape, plain, not, conjunction}
-use Rattle.rctl_grammar.specs.Shape.{disjunction, under, until_of, Shapes, one, more}
+use Rattle.rctl_grammar.specs.Shape.{watch, transit, emptiness, difference, Shape, plain, not}
+use Rattle.rctl_grammar.specs.Shape.{conjunction, disjunction, under, stepped, until_of, Shapes, one}
+use Rattle.rctl_grammar.specs.Shape.{more}
 use Rattle.rctl_print.specs.declared.joint.Joint.{Joint}
 use Rattle.rctl_print.specs.declared.joint.Joint.TheVariants.{Amp, Bar}
 
@@ -45,16 +47,24 @@ atom_text (watch process name) = process ++ codes "@" ++ name
 atom_text (transit sender receiver compare k) =
     codes "intransit" ++ channel_text sender receiver ++ spaced compare ++ decimal k
 atom_text (emptiness sender receiver) = codes "empty" ++ channel_text sender receiver
+atom_text (difference left_process left right_process right compare k) =
+    left_process ++ codes "." ++ left ++ codes " - " ++ right_process ++ codes "." ++ right
+    ++ spaced compare ++ signed_decimal k
 
 -- ---- operators and joints
 
+-- no tree has the operator of a process's number
 abbrev pub operator_word : Operator → List ℕ
 operator_word operator.Ef = codes "EF"
 operator_word operator.Ag = codes "AG"
 operator_word operator.Eg = codes "EG"
-operator_word operator.Ex = codes "EX"
+operator_word (operator.Ex process) = codes "EX "
 operator_word operator.Af = codes "AF"
 operator_word operator.Ax = codes "AX"
+
+-- what stands before the operand of an `EX`
+abbrev pub next_words : List ℕ → List ℕ
+next_words process = codes "EX " ++ process ++ codes " "
 
 -- the word of an until: on all paths, or on some path
 abbrev pub until_word : Bool → List ℕ
@@ -102,7 +112,8 @@ abbrev mutual
   canonical (disjunction front last) =
       joined Bar front ++ joint_text Bar ++ member_text Bar last (canonical last)
   canonical (under operator s) =
-      operator_word operator ++ codes " " ++ member_text Amp s (canonical s)
+      operator_word (operator_of operator) ++ codes " " ++ member_text Amp s (canonical s)
+  canonical (stepped process s) = next_words process ++ member_text Amp s (canonical s)
   canonical (until_of all left right) =
       until_word all ++ codes "[" ++ canonical left ++ codes " U " ++ canonical right ++ codes "]"
 

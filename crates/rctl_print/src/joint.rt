@@ -66,6 +66,7 @@ impl Joint {
             Tree::Leaf { .. } => false,
             Tree::Not { .. } => false,
             Tree::Temporal { .. } => false,
+            Tree::Next { .. } => false,
             Tree::Until { .. } => false,
         }
     }

@@ -1,13 +1,14 @@
 //! The text of a tree, with the brackets that it needs.
-ghost use Rattle.std.specs.Prelude.{◌≡◌, ◌++◌, OnOk, map};
+ghost use Rattle.std.specs.Prelude.{◌≡◌, ◌++◌, OnOk, codes, map};
 ghost use Rattle.rctl_grammar.specs.Shape.{shape_of};
-ghost use Rattle.rctl_print.specs.Canonical.{canonical, member, operator_word, until_word};
+ghost use Rattle.rctl_print.specs.Canonical.{canonical, member, next_words, operator_word};
+ghost use Rattle.rctl_print.specs.Canonical.{until_word};
 ghost use Rattle.rctl_print.specs.Members.{joined_of};
 
-use crate::atom::put_atom;
+use crate::atom::{put_atom, put_name};
 use crate::joint::Joint;
 use pota_base::{Bytes, NoMemory};
-use rctl_grammar::{Operator, Tree};
+use rctl_grammar::{Operator, Place, Tree};
 
 fn operator_word(operator: Operator) -> &'static [u8]
     ensures { result.now ≡ operator_word operator }
@@ -16,10 +17,27 @@ fn operator_word(operator: Operator) -> &'static [u8]
         Operator::Ef => b"EF",
         Operator::Ag => b"AG",
         Operator::Eg => b"EG",
-        Operator::Ex => b"EX",
+        Operator::Ex(_) => b"EX ",
         Operator::Af => b"AF",
         Operator::Ax => b"AX",
     }
+}
+
+// Appends the operator's word and a blank.
+fn put_operator(out: &mut Bytes, operator: Operator) -> Result<(), NoMemory>
+    ensures { OnOk result (out.new ≡ out.old ++ operator_word operator ++ codes " ") }
+{
+    out.extend_from_slice(operator_word(operator))?;
+    out.extend_from_slice(b" ")
+}
+
+// Appends `EX P `.
+fn put_next(out: &mut Bytes, process: &Place) -> Result<(), NoMemory>
+    ensures { OnOk result (out.new ≡ out.old ++ next_words process.now.name) }
+{
+    out.extend_from_slice(b"EX ")?;
+    put_name(out, &process.name)?;
+    out.extend_from_slice(b" ")
 }
 
 fn until_word(all: bool) -> &'static [u8]
@@ -82,8 +100,11 @@ pub fn put_tree(out: &mut Bytes, tree: &Tree) -> Result<(), NoMemory>
             inner,
             ..
         } => {
-            out.extend_from_slice(operator_word(*operator))?;
-            out.extend_from_slice(b" ")?;
+            put_operator(out, *operator)?;
+            put_member(out, inner.get(), Joint::Amp)
+        }
+        Tree::Next { process, inner, .. } => {
+            put_next(out, process)?;
             put_member(out, inner.get(), Joint::Amp)
         }
         Tree::Until {

@@ -2,20 +2,20 @@
 use Rattle.std.proofs.Common.{◌≡◌, ℕ, ◌+◌, max, Bool, true, false, List, [], ◌∷◌, map, Some, codes, refl, ap, ◌∙◌, arith}
 use Rattle.std.specs.Prelude.{pos}
 use Rattle.run_model.specs.Run.{Name}
+use Rattle.run_model.specs.Formula as model
 use Rattle.rctl_grammar.specs.declared.token.Kind.{Kind}
 use Rattle.rctl_grammar.specs.declared.token.Kind.TheVariants as kind
 use Rattle.rctl_grammar.specs.declared.token.Token.{Token}
-use Rattle.rctl_grammar.specs.declared.tree.Operator.{Operator}
 use Rattle.rctl_grammar.specs.Grammar as grammar
-use Rattle.rctl_grammar.specs.Grammar.{Spelled, Channel, Variable, RightSide, Leaf, constant, Path, Disjunction, one_conjunction, or, Conjunction, one_unary, and, Unary, leaf, negation, temporal, group, until, tok, text_channel, text_side, text_leaf, text_path, text_disjunction, text_conjunction, text_unary, levels_disjunction, levels_conjunction, levels_unary, amp_nodes, bar_nodes, nodes_disjunction, nodes_conjunction, nodes_unary, side_of, side_in_range, disjunction_in_range, conjunction_in_range, unary_in_range}
-use Rattle.rctl_grammar.specs.Shape.{PlainSide, PlainAtom, truth, comparison, watch, transit, emptiness, Shape, plain, not, conjunction, disjunction, under, until_of, Shapes, one, more, plain_side, shape_disjunction, disjunct_shapes, shape_conjunction, conjunct_shapes, shape_unary}
+use Rattle.rctl_grammar.specs.Grammar.{Spelled, Channel, Variable, RightSide, Leaf, constant, Path, Disjunction, one_conjunction, or, Conjunction, one_unary, and, Unary, leaf, negation, temporal, stepping, group, until, tok, text_channel, text_variable, text_side, text_leaf, text_path, text_disjunction, text_conjunction, text_unary, levels_disjunction, levels_conjunction, levels_unary, amp_nodes, bar_nodes, nodes_disjunction, nodes_conjunction, nodes_unary, side_of, side_in_range, disjunction_in_range, conjunction_in_range, unary_in_range}
+use Rattle.rctl_grammar.specs.Shape.{PlainSide, PlainAtom, truth, comparison, watch, transit, emptiness, difference, Shape, plain, not, conjunction, disjunction, under, stepped, until_of, Shapes, one, more, plain_side, shape_disjunction, disjunct_shapes, shape_conjunction, conjunct_shapes, shape_unary}
 use Rattle.rctl_grammar.specs.Shape as shape
 use Rattle.rctl_lexer.specs.Words.{word_of}
 use Rattle.rctl_print.specs.Canonical as print
 use Rattle.rctl_print.specs.Canonical.{needs_brackets, operator_word, until_word}
 use Rattle.rctl_print.specs.declared.joint.Joint.TheVariants.{Amp, Bar}
 use Rattle.rctl_round_trip.proofs.Pieces.{kind_of}
-use Rattle.rctl_round_trip.proofs.Spelling.{side_kinds, channel_kinds, atom_kinds, kinds_in, kinds_of, joined_kinds}
+use Rattle.rctl_round_trip.proofs.Spelling.{named, side_kinds, channel_kinds, atom_kinds, kinds_in, kinds_of, joined_kinds}
 use Rattle.rctl_round_trip.proofs.Measures.{levels_in, levels, levels_joined, own_node, nodes, nodes_joined}
 
 -- ---- one token
@@ -101,6 +101,28 @@ alone_conjunction s n ts ks x = record { d = one_conjunction x.c; rest = x.rest;
 abbrev at_word : Name → ℕ → Spelled
 at_word name at = record { word = word_of name; name = name; at = at }
 
+record AsVariable (process name : Name) (ts : List Token) (ks : List Kind) : Type 0 where
+  pub variable : Variable
+  pub rest : List Token
+  pub text : ts ≡ text_variable variable rest
+  pub kinds : map kind_of rest ≡ ks
+  pub is_process : variable.process.name ≡ process
+  pub is_name : variable.variable.name ≡ name
+
+as_variable : (process name : Name) (ts : List Token) (ks : List Kind) → map kind_of ts ≡ named process ∷ kind.Dot ∷ named name ∷ ks → AsVariable process name ts ks
+as_variable process name ts ks h =
+    let a = head ts _ _ h in
+    let b = head a.rest _ _ a.kinds in
+    let c = head b.rest _ _ b.kinds in
+    record {
+      variable = record { process = at_word process a.at; dot = b.at; variable = at_word name c.at };
+      rest = c.rest;
+      text = a.is ∙ behind _ (b.is ∙ behind _ c.is);
+      kinds = c.kinds;
+      is_process = refl;
+      is_name = refl;
+    }
+
 record AsSide (right : PlainSide) (ts : List Token) (ks : List Kind) : Type 0 where
   pub side : RightSide
   pub rest : List Token
@@ -114,15 +136,13 @@ as_side (shape.number value) ts ks h =
     let a = head ts _ _ h in
     record { side = grammar.number (Some value) a.at; rest = a.rest; text = a.is; kinds = a.kinds; is = refl; in_range = refl }
 as_side (shape.variable process name) ts ks h =
-    let a = head ts _ _ h in
-    let b = head a.rest _ _ a.kinds in
-    let c = head b.rest _ _ b.kinds in
+    let a = as_variable process name ts ks h in
     record {
-      side = grammar.variable (record { process = at_word process a.at; dot = b.at; variable = at_word name c.at });
-      rest = c.rest;
-      text = a.is ∙ behind _ (b.is ∙ behind _ c.is);
-      kinds = c.kinds;
-      is = refl;
+      side = grammar.variable a.variable;
+      rest = a.rest;
+      text = a.text;
+      kinds = a.kinds;
+      is = ap (λ (p : Name). shape.variable p a.variable.variable.name) a.is_process ∙ ap (shape.variable process) a.is_name;
       in_range = refl;
     }
 
@@ -212,6 +232,25 @@ as_leaf (emptiness sender receiver) ts ks h =
       many = refl;
       in_range = refl;
     }
+as_leaf (difference left_process left right_process right compare k) ts ks h =
+    let a = as_variable left_process left ts _ h in
+    let b = head a.rest _ _ a.kinds in
+    let c = as_variable right_process right b.rest _ b.kinds in
+    let d = head c.rest _ _ c.kinds in
+    let e = head d.rest _ _ d.kinds in
+    record {
+      u = leaf (grammar.difference a.variable b.at c.variable compare d.at (Some k) e.at);
+      rest = e.rest;
+      text = a.text ∙ ap (text_variable a.variable) (b.is ∙ behind _ (c.text ∙ ap (text_variable c.variable) (d.is ∙ behind _ e.is)));
+      kinds = e.kinds;
+      shape = ap (λ (name : Name). plain (difference name a.variable.variable.name c.variable.process.name c.variable.variable.name compare k)) a.is_process
+          ∙ ap (λ (name : Name). plain (difference left_process name c.variable.process.name c.variable.variable.name compare k)) a.is_name
+          ∙ ap (λ (name : Name). plain (difference left_process left name c.variable.variable.name compare k)) c.is_process
+          ∙ ap (λ (name : Name). plain (difference left_process left right_process name compare k)) c.is_name;
+      deep = refl;
+      many = refl;
+      in_range = refl;
+    }
 
 -- ---- in brackets, and without
 
@@ -278,16 +317,32 @@ as_negation s f ts ks h =
       in_range = x.in_range;
     }
 
-as_temporal : (operator : Operator) (s : Shape) → Unaries s (needs_brackets Amp s) → Unaries (under operator s) false
+as_temporal : (operator : model.Operator) (s : Shape) → Unaries s (needs_brackets Amp s) → Unaries (under operator s) false
 as_temporal operator s f ts ks h =
     let a = head ts _ _ h in
     let x = f a.rest ks a.kinds in
     record {
-      u = temporal operator (operator_word operator) a.at x.u;
+      u = temporal operator (operator_word (grammar.operator_of operator)) a.at x.u;
       rest = x.rest;
       text = a.is ∙ behind _ x.text;
       kinds = x.kinds;
       shape = ap (under operator) x.shape;
+      deep = ap (λ n. 1 + n) x.deep;
+      many = ap (λ n. 1 + n) x.many;
+      in_range = x.in_range;
+    }
+
+as_stepping : (process : Name) (s : Shape) → Unaries s (needs_brackets Amp s) → Unaries (stepped process s) false
+as_stepping process s f ts ks h =
+    let a = head ts _ _ h in
+    let b = head a.rest _ _ a.kinds in
+    let x = f b.rest ks b.kinds in
+    record {
+      u = stepping (codes "EX") a.at (at_word process b.at) x.u;
+      rest = x.rest;
+      text = a.is ∙ behind _ (b.is ∙ behind _ x.text);
+      kinds = x.kinds;
+      shape = ap (stepped process) x.shape;
       deep = ap (λ n. 1 + n) x.deep;
       many = ap (λ n. 1 + n) x.many;
       in_range = x.in_range;
@@ -387,6 +442,7 @@ mutual
   derive (conjunction front last) = of_conjunction (conjunction front last) (as_conjunction front last (amps front) (derive last).amp)
   derive (disjunction front last) = of_disjunction (disjunction front last) (as_disjunction front last (bars front) (derive last).bar)
   derive (under operator s) = of_unary (under operator s) (as_temporal operator s (derive s).amp)
+  derive (stepped process s) = of_unary (stepped process s) (as_stepping process s (derive s).amp)
   derive (until_of all left right) = of_unary (until_of all left right) (as_until all left right (derive left).whole (derive right).whole)
 
   amps : (front : Shapes) (ts : List Token) (ks : List Kind) → map kind_of ts ≡ joined_kinds Amp front ks → AsConjuncts front ts ks

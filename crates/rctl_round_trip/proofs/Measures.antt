@@ -1,6 +1,6 @@
 -- The levels and the nodes of a shape, as its canonical text has them.
 use Rattle.std.proofs.Common.{ℕ, ◌+◌, max, Bool, true, false}
-use Rattle.rctl_grammar.specs.Shape.{Shape, plain, not, conjunction, disjunction, under, until_of, Shapes, one, more}
+use Rattle.rctl_grammar.specs.Shape.{Shape, plain, not, conjunction, disjunction, under, stepped, until_of, Shapes, one, more}
 use Rattle.rctl_print.specs.Canonical.{needs_brackets}
 use Rattle.rctl_print.specs.declared.joint.Joint.{Joint}
 use Rattle.rctl_print.specs.declared.joint.Joint.TheVariants.{Amp, Bar}
@@ -17,6 +17,7 @@ abbrev mutual
   levels (conjunction front last) = max (levels_joined Amp front) (levels_in (needs_brackets Amp last) (levels last))
   levels (disjunction front last) = max (levels_joined Bar front) (levels_in (needs_brackets Bar last) (levels last))
   levels (under operator s) = 1 + levels_in (needs_brackets Amp s) (levels s)
+  levels (stepped process s) = 1 + levels_in (needs_brackets Amp s) (levels s)
   levels (until_of all left right) = 1 + max (levels left) (levels right)
 
   pub levels_joined : Joint → Shapes → ℕ
@@ -35,6 +36,7 @@ abbrev mutual
   nodes (conjunction front last) = nodes_joined front + own_node front + nodes last
   nodes (disjunction front last) = nodes_joined front + own_node front + nodes last
   nodes (under operator s) = 1 + nodes s
+  nodes (stepped process s) = 1 + nodes s
   nodes (until_of all left right) = 1 + nodes left + nodes right
 
   pub nodes_joined : Shapes → ℕ

@@ -1,6 +1,6 @@
 -- The canonical text of a formula has no more levels than the formula has, and as many nodes.
 use Rattle.std.proofs.Common.{◌≡◌, ℕ, ◌+◌, ◌≤◌, Bool, true, false, refl, ap, arith}
-use Rattle.rctl_grammar.specs.Grammar.{Disjunction, one_conjunction, or, Conjunction, one_unary, and, Unary, leaf, negation, temporal, group, until, levels_disjunction, levels_conjunction, levels_unary, amp_nodes, bar_nodes, nodes_disjunction, nodes_conjunction, nodes_unary}
+use Rattle.rctl_grammar.specs.Grammar.{Disjunction, one_conjunction, or, Conjunction, one_unary, and, Unary, leaf, negation, temporal, stepping, group, until, levels_disjunction, levels_conjunction, levels_unary, amp_nodes, bar_nodes, nodes_disjunction, nodes_conjunction, nodes_unary}
 use Rattle.rctl_grammar.specs.Shape.{Shape, shape_disjunction, disjunct_shapes, shape_conjunction, conjunct_shapes, shape_unary}
 use Rattle.rctl_print.specs.Canonical.{needs_brackets}
 use Rattle.rctl_print.specs.declared.joint.Joint.{Joint}
@@ -41,6 +41,7 @@ mutual
   levels-unary joint (leaf l) = omega arith
   levels-unary joint (negation at u) = omega (arith, levels-unary Amp u)
   levels-unary joint (temporal operator name at u) = omega (arith, levels-unary Amp u)
+  levels-unary joint (stepping name at process u) = omega (arith, levels-unary Amp u)
   levels-unary joint (group opened d closed) =
       omega (arith, in-most (needs_brackets joint (shape_disjunction d)) (levels (shape_disjunction d)), levels-disjunction d)
   levels-unary joint (until path left name at right closed) = omega (arith, levels-disjunction left, levels-disjunction right)
@@ -74,5 +75,6 @@ mutual
   nodes-unary (leaf l) = refl
   nodes-unary (negation at u) = ap (λ n. 1 + n) (nodes-unary u)
   nodes-unary (temporal operator name at u) = ap (λ n. 1 + n) (nodes-unary u)
+  nodes-unary (stepping name at process u) = ap (λ n. 1 + n) (nodes-unary u)
   nodes-unary (group opened d closed) = nodes-disjunction d
   nodes-unary (until path left name at right closed) = omega (arith, nodes-disjunction left, nodes-disjunction right)

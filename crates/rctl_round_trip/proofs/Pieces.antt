@@ -20,7 +20,7 @@ use Rattle.rctl_grammar.specs.declared.tree.Compare.TheVariants as compare
 use Rattle.rctl_print.specs.Canonical as print
 use Rattle.rctl_lexer.specs.declared.front.Front.TheVariants as at_front
 use Rattle.rctl_lexer.specs.declared.lexer.Lexed.{Lexed}
-use Rattle.rctl_lexer.specs.Front.{front, is_blank, starts_with, may_begin_number, begins_number, starts_digit, sign_of, with_equals, sign_front, word_front, number_front}
+use Rattle.rctl_lexer.specs.Front.{front, is_blank, starts_with, leads_number, begins_number, starts_digit, sign_of, with_equals, sign_front, word_front, number_front}
 use Rattle.rctl_lexer.specs.Lexing.{after, lex_from}
 use Rattle.rctl_lexer.specs.Runs.{run_of}
 use Rattle.rctl_lexer.specs.Words.{word_of}
@@ -60,7 +60,7 @@ token b text rest k extra ks stands within is h at =
 -- ---- signs
 
 -- a sign of one byte that is no front of another
-pub sign : (b : ℕ) (k : Kind) (rest : List ℕ) (ks : List Kind) → is_blank b ≡ false → is_name_start b ≡ false → may_begin_number b ≡ false →
+pub sign : (b : ℕ) (k : Kind) (rest : List ℕ) (ks : List Kind) → is_blank b ≡ false → is_name_start b ≡ false → leads_number b rest ≡ false →
     with_equals b ≡ None → sign_of b ≡ Some k → Reads rest ks → Reads (b ∷ rest) (k ∷ ks)
 unfolding front sign_front
 sign b k rest ks no_blank no_word no_number alone is h =
@@ -71,7 +71,7 @@ sign b k rest ks no_blank no_word no_number alone is h =
     token b rest rest k 0 ks stands (omega arith) refl h
 
 -- a sign of one byte that is the front of another, which doesn't stand there
-pub short_sign : (b : ℕ) (k : Kind) (rest : List ℕ) (ks : List Kind) → is_blank b ≡ false → is_name_start b ≡ false → may_begin_number b ≡ false →
+pub short_sign : (b : ℕ) (k : Kind) (rest : List ℕ) (ks : List Kind) → is_blank b ≡ false → is_name_start b ≡ false → leads_number b rest ≡ false →
     sign_of b ≡ Some k → starts_with 61 rest ≡ false → Reads rest ks → Reads (b ∷ rest) (k ∷ ks)
 unfolding front sign_front
 short_sign b k rest ks no_blank no_word no_number is other h =
@@ -79,7 +79,7 @@ short_sign b k rest ks no_blank no_word no_number is other h =
     token b rest rest k 0 ks stands (omega arith) refl h
 
 -- a sign of two bytes
-pub long_sign : (b : ℕ) (k : Kind) (rest : List ℕ) (ks : List Kind) → is_blank b ≡ false → is_name_start b ≡ false → may_begin_number b ≡ false →
+pub long_sign : (b : ℕ) (k : Kind) (rest : List ℕ) (ks : List Kind) → is_blank b ≡ false → is_name_start b ≡ false → leads_number b (61 ∷ rest) ≡ false →
     with_equals b ≡ Some k → Reads rest ks → Reads (b ∷ 61 ∷ rest) (k ∷ ks)
 unfolding front sign_front
 long_sign b k rest ks no_blank no_word no_number is h =
@@ -121,6 +121,11 @@ amp rest ks h = sign 38 kind.Amp rest ks refl refl refl refl refl h
 pub bar : (rest : List ℕ) (ks : List Kind) → Reads rest ks → Reads (124 ∷ rest) (kind.Bar ∷ ks)
 unfolding sign_of with_equals
 bar rest ks h = sign 124 kind.Bar rest ks refl refl refl refl refl h
+
+-- with a blank behind it
+pub minus : (rest : List ℕ) (ks : List Kind) → Reads rest ks → Reads (45 ∷ 32 ∷ rest) (kind.Minus ∷ ks)
+unfolding sign_of with_equals
+minus rest ks h = sign 45 kind.Minus (32 ∷ rest) ks refl refl refl refl refl (blank rest ks h)
 
 pub bang : (rest : List ℕ) (ks : List Kind) → starts_with 61 rest ≡ false → Reads rest ks → Reads (33 ∷ rest) (kind.Bang ∷ ks)
 unfolding sign_of
@@ -224,7 +229,7 @@ digit-no-word : (b : ℕ) → is_digit b ≡ true → is_name_start b ≡ false
 digit-no-word b h = grind (arith, nat_tests)
 
 number-spelled : (z : ℤ) → FitsSigned w64 z → (b : ℕ) (bs rest : List ℕ) (ks : List Kind) → signed_decimal z ≡ b ∷ bs → is_blank b ≡ false → is_name_start b ≡ false →
-    may_begin_number b ≡ true → begins_number b (bs ++ rest) ≡ true → list_all is_digit bs ≡ true → starts is_digit rest ≡ false → Reads rest ks →
+    leads_number b (bs ++ rest) ≡ true → begins_number b (bs ++ rest) ≡ true → list_all is_digit bs ≡ true → starts is_digit rest ≡ false → Reads rest ks →
     Reads (b ∷ bs ++ rest) (kind.Number (Some z) ∷ ks)
 unfolding front number_front
 number-spelled z fits b bs rest ks spelled no_blank no_word begins stands digits stops h =
@@ -271,11 +276,12 @@ pub number : (z : ℤ) (rest : List ℕ) (ks : List Kind) → FitsSigned w64 z �
 number (pos n) rest ks fits stops h =
     let bound : n < 2 ^ 64 = omega (arith, ints) in
     let d = numeral n bound in
-    let begins : may_begin_number d.first ≡ true = grind (arith, nat_tests) in
+    let begins : leads_number d.first (d.rest ++ rest) ≡ true = rw d.digit refl in
     let stands = leads-on n (decimal n) d rest stops in
     rw d.is (number-spelled (pos n) fits d.first d.rest rest ks d.is (digit-no-blank d.first d.digit) (digit-no-word d.first d.digit) begins stands d.digits stops h)
 number (negsuc n) rest ks fits stops h =
     let bound : suc n < 2 ^ 64 = omega (arith, ints) in
     let d = numeral (suc n) bound in
     let stands = leads-off (suc n) (decimal (suc n)) d rest (omega arith) in
-    number-spelled (negsuc n) fits 45 (decimal (suc n)) rest ks refl refl refl refl stands (rw d.is (rw (d.digit, d.digits) refl)) stops h
+    let begins : leads_number 45 (decimal (suc n) ++ rest) ≡ true = rw (d.is, d.digit) refl in
+    number-spelled (negsuc n) fits 45 (decimal (suc n)) rest ks refl refl refl begins stands (rw d.is (rw (d.digit, d.digits) refl)) stops h

@@ -7,13 +7,13 @@ use Rattle.std.proofs.lemmas.Fmt.{length-decimal-le}
 use Rattle.std.proofs.lemmas.Int.{ints}
 use Rattle.std.proofs.lemmas.Bool.{and_parts, ltb-true}
 use Rattle.run_model.specs.Run.{Name}
+use Rattle.run_model.specs.Formula as model
 use Rattle.pota_names.specs.Names.{is_name, is_name_start}
 use Rattle.rctl_grammar.specs.declared.tree.Compare.{Compare}
 use Rattle.rctl_grammar.specs.declared.tree.Compare.TheVariants as compare
-use Rattle.rctl_grammar.specs.declared.tree.Operator.{Operator}
-use Rattle.rctl_grammar.specs.declared.tree.Operator.TheVariants as operator
+use Rattle.rctl_grammar.specs.Grammar.{operator_of}
 use Rattle.rctl_grammar.specs.Shape as shape
-use Rattle.rctl_grammar.specs.Shape.{PlainSide, PlainAtom, truth, comparison, watch, transit, emptiness, Shape, plain, not, conjunction, disjunction, under, until_of, Shapes, one, more}
+use Rattle.rctl_grammar.specs.Shape.{PlainSide, PlainAtom, truth, comparison, watch, transit, emptiness, difference, Shape, plain, not, conjunction, disjunction, under, stepped, until_of, Shapes, one, more}
 use Rattle.rctl_print.specs.Canonical.{canonical, joined, needs_brackets, bracketed_if, joint_text, operator_word, until_word, sign_of, side_text, atom_text}
 use Rattle.rctl_print.specs.declared.joint.Joint.{Joint}
 use Rattle.rctl_print.specs.declared.joint.Joint.TheVariants.{Amp, Bar}
@@ -42,13 +42,12 @@ sign-short compare.Le = omega arith
 sign-short compare.Gt = omega arith
 sign-short compare.Ge = omega arith
 
-operator-short : (o : Operator) → length (operator_word o) ≤ 2
-operator-short operator.Ef = omega arith
-operator-short operator.Ag = omega arith
-operator-short operator.Eg = omega arith
-operator-short operator.Ex = omega arith
-operator-short operator.Af = omega arith
-operator-short operator.Ax = omega arith
+operator-short : (o : model.Operator) → length (operator_word (operator_of o)) ≤ 2
+operator-short model.Ef = omega arith
+operator-short model.Ag = omega arith
+operator-short model.Eg = omega arith
+operator-short model.Af = omega arith
+operator-short model.Ax = omega arith
 
 until-short : (all : Bool) → length (until_word all) ≤ 1
 until-short true = omega arith
@@ -62,7 +61,7 @@ side-short : (right : PlainSide) → IsSide right → length (side_text right) �
 side-short (shape.number value) h = omega (arith, signed-short value h)
 side-short (shape.variable process name) h = simp length-append (omega (arith, name-short process h.0, name-short name h.1))
 
-atom-short : (a : PlainAtom) → IsAtom a → length (atom_text a) ≤ 265
+atom-short : (a : PlainAtom) → IsAtom a → length (atom_text a) ≤ 290
 atom-short (truth true) h = omega arith
 atom-short (truth false) h = omega arith
 atom-short (comparison process name compare right) h =
@@ -72,6 +71,8 @@ atom-short (transit sender receiver compare k) h =
     let bound : k < 2 ^ 64 = omega (arith, ints, h.2) in
     simp length-append (omega (arith, name-short sender h.0, name-short receiver h.1, sign-short compare, decimal-short k bound))
 atom-short (emptiness sender receiver) h = simp length-append (omega (arith, name-short sender h.0, name-short receiver h.1))
+atom-short (difference left_process left right_process right compare k) h =
+    simp length-append (omega (arith, name-short left_process h.0, name-short left h.1, name-short right_process h.2, name-short right h.3, sign-short compare, signed-short k h.4))
 
 bracketed-short : (b : Bool) (text : List ℕ) → length (bracketed_if b text) ≤ length text + 2
 bracketed-short true text = simp length-append (omega arith)
@@ -79,7 +80,7 @@ bracketed-short false text = omega arith
 
 -- room for brackets and a joint is left
 mutual
-  text-short : (s : Shape) → IsSpellable s → length (canonical s) + 5 ≤ 270 * nodes s
+  text-short : (s : Shape) → IsSpellable s → length (canonical s) + 5 ≤ 300 * nodes s
   text-short (plain a) h = omega (arith, atom-short a h)
   text-short (not s) h = simp length-append (omega (arith, bracketed-short (needs_brackets Amp s) (canonical s), text-short s h))
   text-short (conjunction front last) h =
@@ -88,9 +89,11 @@ mutual
       simp length-append (omega (arith, joined-short Bar front h.0, bracketed-short (needs_brackets Bar last) (canonical last), text-short last h.1))
   text-short (under o s) h =
       simp length-append (omega (arith, operator-short o, bracketed-short (needs_brackets Amp s) (canonical s), text-short s h))
+  text-short (stepped process s) h =
+      simp length-append (omega (arith, name-short process h.0, bracketed-short (needs_brackets Amp s) (canonical s), text-short s h.1))
   text-short (until_of all left right) h = simp length-append (omega (arith, until-short all, text-short left h.0, text-short right h.1))
 
-  joined-short : (joint : Joint) (front : Shapes) → AreSpellable front → length (joined joint front) + 100 ≤ 270 * (nodes_joined front + own_node front)
+  joined-short : (joint : Joint) (front : Shapes) → AreSpellable front → length (joined joint front) + 100 ≤ 300 * (nodes_joined front + own_node front)
   joined-short joint (one s) h = omega (arith, bracketed-short (needs_brackets joint s) (canonical s), text-short s h)
   joined-short joint (more front s) h =
       simp length-append (omega (arith, joined-short joint front h.0, joint-short joint, bracketed-short (needs_brackets joint s) (canonical s), text-short s h.1))

@@ -11,12 +11,12 @@ use Rattle.rctl_grammar.specs.declared.token.Kind.{Kind}
 use Rattle.rctl_grammar.specs.declared.token.Kind.TheVariants as kind
 use Rattle.rctl_grammar.specs.declared.token.Token.{Token}
 use Rattle.rctl_grammar.specs.Grammar as grammar
-use Rattle.rctl_grammar.specs.Grammar.{RightSide, Leaf, constant, comparison, watch, transit, emptiness, Disjunction, one_conjunction, or, Conjunction, one_unary, and, Unary, leaf, negation, temporal, group, until, number_of, count_of, side_of, atom_of, text_side, text_leaf, text_disjunction, text_conjunction, text_unary}
+use Rattle.rctl_grammar.specs.Grammar.{RightSide, Leaf, constant, comparison, watch, transit, emptiness, difference, Disjunction, one_conjunction, or, Conjunction, one_unary, and, Unary, leaf, negation, temporal, stepping, group, until, number_of, count_of, side_of, atom_of, text_side, text_leaf, text_disjunction, text_conjunction, text_unary}
 use Rattle.rctl_grammar.specs.Shape.{plain_side, plain_atom, shape_disjunction, disjunct_shapes, shape_conjunction, conjunct_shapes, shape_unary}
 use Rattle.rctl_lexer.specs.declared.front.Front.{Front}
 use Rattle.rctl_lexer.specs.declared.front.Front.TheVariants as at_front
 use Rattle.rctl_lexer.specs.declared.lexer.Lexed.{Lexed}
-use Rattle.rctl_lexer.specs.Front.{front, is_blank, starts_with, may_begin_number, begins_number, sign_of, with_equals, longer_of, sign_front, word_front, number_front}
+use Rattle.rctl_lexer.specs.Front.{front, is_blank, starts_with, leads_number, begins_number, sign_of, with_equals, longer_of, sign_front, word_front, number_front}
 use Rattle.rctl_lexer.specs.Lexing.{lex, lex_from, lex_front}
 use Rattle.rctl_lexer.specs.Runs.{run_of}
 use Rattle.rctl_round_trip.proofs.Texts.{IsSide, IsAtom, IsSpellable, AreSpellable}
@@ -57,7 +57,7 @@ sign-sound : (b : ℕ) → IsSoundSign (sign_of b)
 unfolding sign_of
 sign-sound b = either_sign (b == 40) _ _ tt (either_sign (b == 41) _ _ tt (either_sign (b == 91) _ _ tt (either_sign (b == 93) _ _ tt
     (either_sign (b == 44) _ _ tt (either_sign (b == 46) _ _ tt (either_sign (b == 64) _ _ tt (either_sign (b == 33) _ _ tt (either_sign (b == 38) _ _ tt
-    (either_sign (b == 124) _ _ tt (either_sign (b == 61) _ _ tt (either_sign (b == 60) _ _ tt (either_sign (b == 62) _ _ tt tt))))))))))))
+    (either_sign (b == 124) _ _ tt (either_sign (b == 45) _ _ tt (either_sign (b == 61) _ _ tt (either_sign (b == 60) _ _ tt (either_sign (b == 62) _ _ tt tt)))))))))))))
 
 equals-sound : (b : ℕ) → IsSoundSign (with_equals b)
 unfolding with_equals
@@ -84,7 +84,7 @@ front-sound : (text : List ℕ) → IsSoundFront (front text)
 unfolding front number_front sign_front
 front-sound [] = tt
 front-sound (b ∷ rest) = either_front (is_blank b) _ _ tt (either_front (is_name_start b) _ _ (word-sound (b ∷ rest) (run_of is_name_byte rest))
-    (either_front (may_begin_number b) _ _ (either_front (begins_number b rest) _ _ (whole-sound _ _ refl) tt)
+    (either_front (leads_number b rest) _ _ (either_front (begins_number b rest) _ _ (whole-sound _ _ refl) tt)
     (longer-sound _ _ (either_sign (starts_with 61 rest) _ _ (equals-sound b) tt) (sign-sound b))))
 
 -- ---- the tokens
@@ -127,6 +127,8 @@ leaf-spelled (watch process at name) rest h = ((h.0, h.1.1.0), h.1.1.1)
 leaf-spelled (transit name at channel compare compare_at value value_at) rest h =
     ((h.1.1.0, h.1.1.1.1.0, count-fits value h.1.1.1.1.1.1.1.0), h.1.1.1.1.1.1.1.1)
 leaf-spelled (emptiness name at channel) rest h = ((h.1.1.0, h.1.1.1.1.0), h.1.1.1.1.1.1)
+leaf-spelled (difference left minus right compare compare_at value value_at) rest h =
+    ((h.0, h.1.1.0, h.1.1.1.1.0, h.1.1.1.1.1.1.0, number-fits value h.1.1.1.1.1.1.1.1.0), h.1.1.1.1.1.1.1.1.1)
 
 mutual
   pub disjunction-spelled : (d : Disjunction) (rest : List Token) → AreSound (text_disjunction d rest) → IsSpellable (shape_disjunction d) × AreSound rest
@@ -161,6 +163,9 @@ mutual
   unary-spelled (leaf l) rest h = leaf-spelled l rest h
   unary-spelled (negation at u) rest h = unary-spelled u rest h.1
   unary-spelled (temporal operator name at u) rest h = unary-spelled u rest h.1
+  unary-spelled (stepping name at process u) rest h =
+      let inner = unary-spelled u rest h.1.1 in
+      ((h.1.0, inner.0), inner.1)
   unary-spelled (group opened d closed) rest h =
       let inner = disjunction-spelled d _ h.1 in
       (inner.0, inner.1.1)

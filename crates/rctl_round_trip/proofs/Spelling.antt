@@ -9,7 +9,7 @@ use Rattle.rctl_grammar.specs.declared.token.Word.TheVariants as word
 use Rattle.rctl_grammar.specs.declared.tree.Compare.{Compare}
 use Rattle.rctl_grammar.specs.Grammar.{truth_word, path_word}
 use Rattle.rctl_grammar.specs.Grammar as grammar
-use Rattle.rctl_grammar.specs.Shape.{PlainSide, number, variable, PlainAtom, truth, comparison, watch, transit, emptiness, Shape, plain, not, conjunction, disjunction, under, until_of, Shapes, one, more}
+use Rattle.rctl_grammar.specs.Shape.{PlainSide, number, variable, PlainAtom, truth, comparison, watch, transit, emptiness, difference, Shape, plain, not, conjunction, disjunction, under, stepped, until_of, Shapes, one, more}
 use Rattle.rctl_lexer.specs.Words.{word_of}
 use Rattle.rctl_print.specs.Canonical as print
 use Rattle.rctl_print.specs.Canonical.{canonical, joined, needs_brackets, bracketed_if, joint_text, operator_word, until_word, sign_of, side_text, atom_text, channel_text, spaced}
@@ -34,6 +34,8 @@ atom_then (comparison process name compare right) rest = process ++ 46 ∷ (name
 atom_then (watch process name) rest = process ++ 64 ∷ (name ++ rest)
 atom_then (transit sender receiver compare k) rest = codes "intransit" ++ channel_then sender receiver (spaced_then compare (signed_decimal (pos k) ++ rest))
 atom_then (emptiness sender receiver) rest = codes "empty" ++ channel_then sender receiver rest
+atom_then (difference left_process left right_process right compare k) rest =
+    left_process ++ 46 ∷ (left ++ 32 ∷ 45 ∷ 32 ∷ (right_process ++ 46 ∷ (right ++ spaced_then compare (signed_decimal k ++ rest))))
 
 -- in brackets, if that is said
 abbrev pub text_in : Bool → (List ℕ → List ℕ) → List ℕ → List ℕ
@@ -46,7 +48,8 @@ abbrev mutual
   text_then (not s) rest = 33 ∷ text_in (needs_brackets Amp s) (text_then s) rest
   text_then (conjunction front last) rest = joined_then Amp front (joint_text Amp ++ text_in (needs_brackets Amp last) (text_then last) rest)
   text_then (disjunction front last) rest = joined_then Bar front (joint_text Bar ++ text_in (needs_brackets Bar last) (text_then last) rest)
-  text_then (under operator s) rest = operator_word operator ++ 32 ∷ text_in (needs_brackets Amp s) (text_then s) rest
+  text_then (stepped process s) rest = codes "EX" ++ 32 ∷ (process ++ 32 ∷ text_in (needs_brackets Amp s) (text_then s) rest)
+  text_then (under operator s) rest = operator_word (grammar.operator_of operator) ++ 32 ∷ text_in (needs_brackets Amp s) (text_then s) rest
   text_then (until_of all left right) rest = until_word all ++ 91 ∷ text_then left (32 ∷ 85 ∷ 32 ∷ text_then right (93 ∷ rest))
 
   pub joined_then : Joint → Shapes → List ℕ → List ℕ
@@ -72,6 +75,8 @@ atom_kinds (watch process name) rest = named process ∷ kind.At ∷ named name 
 atom_kinds (transit sender receiver compare k) rest =
     kind.Word word.InTransit (codes "intransit") ∷ channel_kinds sender receiver (kind.Compare compare ∷ kind.Number (Some (pos k)) ∷ rest)
 atom_kinds (emptiness sender receiver) rest = kind.Word word.Empty (codes "empty") ∷ channel_kinds sender receiver rest
+atom_kinds (difference left_process left right_process right compare k) rest =
+    named left_process ∷ kind.Dot ∷ named left ∷ kind.Minus ∷ named right_process ∷ kind.Dot ∷ named right ∷ kind.Compare compare ∷ kind.Number (Some k) ∷ rest
 
 abbrev pub joint_kind : Joint → Kind
 joint_kind Amp = kind.Amp
@@ -87,7 +92,8 @@ abbrev mutual
   kinds_of (not s) rest = kind.Bang ∷ kinds_in (needs_brackets Amp s) (kinds_of s) rest
   kinds_of (conjunction front last) rest = joined_kinds Amp front (kind.Amp ∷ kinds_in (needs_brackets Amp last) (kinds_of last) rest)
   kinds_of (disjunction front last) rest = joined_kinds Bar front (kind.Bar ∷ kinds_in (needs_brackets Bar last) (kinds_of last) rest)
-  kinds_of (under operator s) rest = kind.Word (grammar.word_of operator) (operator_word operator) ∷ kinds_in (needs_brackets Amp s) (kinds_of s) rest
+  kinds_of (stepped process s) rest = kind.Word word.Ex (codes "EX") ∷ named process ∷ kinds_in (needs_brackets Amp s) (kinds_of s) rest
+  kinds_of (under operator s) rest = kind.Word (grammar.word_of operator) (operator_word (grammar.operator_of operator)) ∷ kinds_in (needs_brackets Amp s) (kinds_of s) rest
   kinds_of (until_of all left right) rest = kind.Word (path_word all) (until_word all) ∷ kind.OpenSquare ∷
       kinds_of left (kind.Word word.U (codes "U") ∷ kinds_of right (kind.CloseSquare ∷ rest))
 
@@ -118,6 +124,7 @@ atom-is (transit sender receiver compare k) rest =
     rw (spaced-is compare (signed_decimal (pos k) ++ rest), channel-is sender receiver (spaced compare ++ (signed_decimal (pos k) ++ rest)))
     (four (codes "intransit") (channel_text sender receiver) (spaced compare) (decimal k) rest)
 atom-is (emptiness sender receiver) rest = simp append_assoc
+atom-is (difference left_process left right_process right compare k) rest = rw (spaced-is compare (signed_decimal k ++ rest)) (simp append_assoc)
 
 text-in-is : (b : Bool) (f : List ℕ → List ℕ) (text : List ℕ) → ((rest : List ℕ) → f rest ≡ text ++ rest) → (rest : List ℕ) → text_in b f rest ≡ bracketed_if b text ++ rest
 text-in-is true f text is rest = rw (is (41 ∷ rest)) (simp append_assoc)
@@ -131,6 +138,7 @@ mutual
       rw (text-in-is (needs_brackets Amp last) (text_then last) (canonical last) (text-is last) rest, joined-is Amp front) (simp append_assoc)
   text-is (disjunction front last) rest =
       rw (text-in-is (needs_brackets Bar last) (text_then last) (canonical last) (text-is last) rest, joined-is Bar front) (simp append_assoc)
+  text-is (stepped process s) rest = rw (text-in-is (needs_brackets Amp s) (text_then s) (canonical s) (text-is s) rest) (simp append_assoc)
   text-is (under operator s) rest = rw (text-in-is (needs_brackets Amp s) (text_then s) (canonical s) (text-is s) rest) (simp append_assoc)
   text-is (until_of all left right) rest = rw (text-is right (93 ∷ rest), text-is left) (simp append_assoc)
 

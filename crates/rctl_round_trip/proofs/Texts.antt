@@ -11,19 +11,18 @@ use Rattle.rctl_grammar.specs.declared.token.Kind.{Kind}
 use Rattle.rctl_grammar.specs.declared.token.Kind.TheVariants as kind
 use Rattle.rctl_grammar.specs.declared.token.Word.TheVariants as word_is
 use Rattle.rctl_grammar.specs.declared.tree.Compare.{Compare}
-use Rattle.rctl_grammar.specs.declared.tree.Operator.{Operator}
-use Rattle.rctl_grammar.specs.declared.tree.Operator.TheVariants.{Ef, Ag, Eg, Ex, Af, Ax}
+use Rattle.run_model.specs.Formula.{Operator, Ef, Ag, Eg, Af, Ax}
 use Rattle.rctl_grammar.specs.Grammar.{truth_word, path_word}
 use Rattle.rctl_grammar.specs.Grammar as grammar
 use Rattle.rctl_grammar.specs.Shape as shape
-use Rattle.rctl_grammar.specs.Shape.{PlainSide, PlainAtom, truth, comparison, watch, transit, emptiness, Shape, plain, not, conjunction, disjunction, under, until_of, Shapes, one, more}
+use Rattle.rctl_grammar.specs.Shape.{PlainSide, PlainAtom, truth, comparison, watch, transit, emptiness, difference, Shape, plain, not, conjunction, disjunction, under, stepped, until_of, Shapes, one, more}
 use Rattle.rctl_lexer.specs.Front.{starts_with}
 use Rattle.rctl_lexer.specs.Words.{word_of}
 use Rattle.rctl_print.specs.Canonical as print
 use Rattle.rctl_print.specs.Canonical.{needs_brackets, joint_text, operator_word, until_word}
 use Rattle.rctl_print.specs.declared.joint.Joint.{Joint}
 use Rattle.rctl_print.specs.declared.joint.Joint.TheVariants.{Amp, Bar}
-use Rattle.rctl_round_trip.proofs.Pieces.{Reads, starts, blank, open_round, close_round, open_square, close_square, comma, dot, at_sign, amp, bar, bang, compared, word, number}
+use Rattle.rctl_round_trip.proofs.Pieces.{Reads, starts, blank, open_round, close_round, open_square, close_square, comma, dot, at_sign, amp, bar, minus, bang, compared, word, number}
 use Rattle.rctl_round_trip.proofs.Spelling.{spaced_then, side_then, channel_then, atom_then, text_in, text_then, joined_then, named, side_kinds, channel_kinds, atom_kinds, joint_kind, kinds_in, kinds_of, joined_kinds}
 
 -- ---- what can be spelled: names that are names, and numbers of 64 bits
@@ -38,6 +37,8 @@ IsAtom (comparison process name compare right) = (is_name process ≡ true) × (
 IsAtom (watch process name) = (is_name process ≡ true) × (is_name name ≡ true)
 IsAtom (transit sender receiver compare k) = (is_name sender ≡ true) × (is_name receiver ≡ true) × FitsSigned w64 (pos k)
 IsAtom (emptiness sender receiver) = (is_name sender ≡ true) × (is_name receiver ≡ true)
+IsAtom (difference left_process left right_process right compare k) =
+    (is_name left_process ≡ true) × (is_name left ≡ true) × (is_name right_process ≡ true) × (is_name right ≡ true) × FitsSigned w64 k
 
 abbrev mutual
   pub IsSpellable : Shape → Type 0
@@ -46,6 +47,7 @@ abbrev mutual
   IsSpellable (conjunction front last) = AreSpellable front × IsSpellable last
   IsSpellable (disjunction front last) = AreSpellable front × IsSpellable last
   IsSpellable (under operator s) = IsSpellable s
+  IsSpellable (stepped process s) = (is_name process ≡ true) × IsSpellable s
   IsSpellable (until_of all left right) = IsSpellable left × IsSpellable right
 
   pub AreSpellable : Shapes → Type 0
@@ -68,16 +70,16 @@ atom-first (comparison process name compare right) h rest = name-first process _
 atom-first (watch process name) h rest = name-first process _ h.0
 atom-first (transit sender receiver compare k) h rest = refl
 atom-first (emptiness sender receiver) h rest = refl
+atom-first (difference left_process left right_process right compare k) h rest = name-first left_process _ h.0
 
 in-first : (b : Bool) (text : List ℕ → List ℕ) → NoEquals text → NoEquals (text_in b text)
 in-first true text h rest = refl
 in-first false text h rest = h rest
 
-operator-first : (operator : Operator) → NoEquals (λ rest. operator_word operator ++ rest)
+operator-first : (operator : Operator) → NoEquals (λ rest. operator_word (grammar.operator_of operator) ++ rest)
 operator-first Ef rest = refl
 operator-first Ag rest = refl
 operator-first Eg rest = refl
-operator-first Ex rest = refl
 operator-first Af rest = refl
 operator-first Ax rest = refl
 
@@ -92,6 +94,7 @@ mutual
   text-first (conjunction front last) h rest = joined-first Amp front h.0 _
   text-first (disjunction front last) h rest = joined-first Bar front h.0 _
   text-first (under operator s) h rest = operator-first operator _
+  text-first (stepped process s) h rest = refl
   text-first (until_of all left right) h rest = until-first all _
 
   joined-first : (joint : Joint) (front : Shapes) → AreSpellable front → NoEquals (joined_then joint front)
@@ -150,6 +153,9 @@ atom-adds (watch process name) h rest ks ends behind = name-adds process h.0 _ _
 atom-adds (transit sender receiver compare k) h rest ks ends behind = transit-reads _ _ (channel-adds sender receiver h.0 h.1 _ _
     (spaced-reads compare _ _ (number (pos k) rest ks h.2 (no-digit rest ends) behind)))
 atom-adds (emptiness sender receiver) h rest ks ends behind = empty-reads _ _ (channel-adds sender receiver h.0 h.1 _ _ behind)
+atom-adds (difference left_process left right_process right compare k) h rest ks ends behind =
+    variable-adds left_process left h.0 h.1 _ _ refl (blank _ _ (minus _ _ (variable-adds right_process right h.2 h.3 _ _ refl
+    (spaced-reads compare _ _ (number k rest ks h.4 (no-digit rest ends) behind)))))
 
 in-adds : (b : Bool) (text : List ℕ → List ℕ) (kinds : List Kind → List Kind) → Adds text kinds → Adds (text_in b text) (kinds_in b kinds)
 in-adds true text kinds h rest ks ends behind = open_round _ _ (h (41 ∷ rest) (kind.CloseRound ∷ ks) refl (close_round rest ks behind))
@@ -163,14 +169,17 @@ joint-ends : (joint : Joint) (rest : List ℕ) → Ends (joint_text joint ++ res
 joint-ends Amp rest = refl
 joint-ends Bar rest = refl
 
-operator-adds : (operator : Operator) → Adds (λ rest. operator_word operator ++ rest) (λ ks. kind.Word (grammar.word_of operator) (operator_word operator) ∷ ks)
+operator-adds : (operator : Operator) → Adds (λ rest. operator_word (grammar.operator_of operator) ++ rest) (λ ks. kind.Word (grammar.word_of operator) (operator_word (grammar.operator_of operator)) ∷ ks)
 unfolding word_of
 operator-adds Ef rest ks ends behind = word (codes "EF") rest ks refl ends behind
 operator-adds Ag rest ks ends behind = word (codes "AG") rest ks refl ends behind
 operator-adds Eg rest ks ends behind = word (codes "EG") rest ks refl ends behind
-operator-adds Ex rest ks ends behind = word (codes "EX") rest ks refl ends behind
 operator-adds Af rest ks ends behind = word (codes "AF") rest ks refl ends behind
 operator-adds Ax rest ks ends behind = word (codes "AX") rest ks refl ends behind
+
+next-reads : (rest : List ℕ) (ks : List Kind) → Reads rest ks → Reads (codes "EX" ++ 32 ∷ rest) (kind.Word word_is.Ex (codes "EX") ∷ ks)
+unfolding word_of
+next-reads rest ks h = word (codes "EX") (32 ∷ rest) ks refl refl (blank rest ks h)
 
 path-adds : (all : Bool) → Adds (λ rest. until_word all ++ rest) (λ ks. kind.Word (path_word all) (until_word all) ∷ ks)
 unfolding word_of
@@ -192,6 +201,8 @@ mutual
       (joint-reads Bar _ _ (in-adds (needs_brackets Bar last) (text_then last) (kinds_of last) (text-adds last h.1) rest ks ends behind))
   text-adds (under operator s) h rest ks ends behind = operator-adds operator _ _ refl
       (blank _ _ (in-adds (needs_brackets Amp s) (text_then s) (kinds_of s) (text-adds s h) rest ks ends behind))
+  text-adds (stepped process s) h rest ks ends behind = next-reads _ _ (name-adds process h.0 _ _ refl
+      (blank _ _ (in-adds (needs_brackets Amp s) (text_then s) (kinds_of s) (text-adds s h.1) rest ks ends behind)))
   text-adds (until_of all left right) h rest ks ends behind = path-adds all _ _ refl (open_square _ _ (text-adds left h.0 _ _ refl
       (until-reads _ _ (text-adds right h.1 _ _ refl (close_square rest ks behind)))))
 

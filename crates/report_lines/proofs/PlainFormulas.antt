@@ -10,7 +10,8 @@ use Rattle.rctl_grammar.specs.declared.tree.Compare.TheVariants as compare
 use Rattle.rctl_grammar.specs.declared.tree.Operator.{Operator}
 use Rattle.rctl_grammar.specs.declared.tree.Operator.TheVariants as operator
 use Rattle.rctl_grammar.specs.Shape as shape
-use Rattle.rctl_grammar.specs.Shape.{PlainSide, PlainAtom, truth, comparison, watch, transit, emptiness, Shape, plain, not, conjunction, disjunction, under, until_of, Shapes, one, more, shape_of, shape_disjunction}
+use Rattle.rctl_grammar.specs.Grammar.{operator_of}
+use Rattle.rctl_grammar.specs.Shape.{PlainSide, PlainAtom, truth, comparison, watch, transit, emptiness, difference, Shape, plain, not, conjunction, disjunction, under, stepped, until_of, Shapes, one, more, shape_of, shape_disjunction}
 use Rattle.rctl_grammar.proofs.Shapes.{tree-disjunction}
 use Rattle.rctl_lexer.specs.Lexing.{lex}
 use Rattle.rctl_print.specs.Canonical.{canonical, joined, needs_brackets, bracketed_if, joint_text, operator_word, until_word, sign_of, side_text, atom_text, channel_text, spaced}
@@ -38,7 +39,7 @@ operator-plain : (o : Operator) → HasNoFeed (operator_word o)
 operator-plain operator.Ef = (refl, (refl, tt))
 operator-plain operator.Ag = (refl, (refl, tt))
 operator-plain operator.Eg = (refl, (refl, tt))
-operator-plain operator.Ex = (refl, (refl, tt))
+operator-plain (operator.Ex process) = (refl, (refl, (refl, tt)))
 operator-plain operator.Af = (refl, (refl, tt))
 operator-plain operator.Ax = (refl, (refl, tt))
 
@@ -76,6 +77,13 @@ atom-plain (transit sender receiver compare k) h =
     both (codes "intransit" ++ channel_text sender receiver ++ spaced compare) (decimal k)
     (both (codes "intransit" ++ channel_text sender receiver) (spaced compare) (both (codes "intransit") (channel_text sender receiver) (refl, (refl, (refl, (refl, (refl, (refl, (refl, (refl, (refl, tt))))))))) (channel-plain sender receiver h.0 h.1)) (spaced-plain compare)) (decimal_plain k bound)
 atom-plain (emptiness sender receiver) h = both (codes "empty") (channel_text sender receiver) (refl, (refl, (refl, (refl, (refl, tt))))) (channel-plain sender receiver h.0 h.1)
+atom-plain (difference p x q y compare k) h =
+    let left : HasNoFeed (p ++ codes "." ++ x) = both (p ++ codes ".") x (both p (codes ".") (name_plain p h.0) (refl, tt)) (name_plain x h.1) in
+    let minus : HasNoFeed (p ++ codes "." ++ x ++ codes " - ") = both (p ++ codes "." ++ x) (codes " - ") left (refl, (refl, (refl, tt))) in
+    let right : HasNoFeed (p ++ codes "." ++ x ++ codes " - " ++ q ++ codes "." ++ y) =
+    both (p ++ codes "." ++ x ++ codes " - " ++ q ++ codes ".") y (both (p ++ codes "." ++ x ++ codes " - " ++ q) (codes ".") (both (p ++ codes "." ++ x ++ codes " - ") q minus (name_plain q h.2)) (refl, tt)) (name_plain y h.3) in
+    both (p ++ codes "." ++ x ++ codes " - " ++ q ++ codes "." ++ y ++ spaced compare) (signed_decimal k)
+    (both (p ++ codes "." ++ x ++ codes " - " ++ q ++ codes "." ++ y) (spaced compare) right (spaced-plain compare)) (signed_plain k h.4)
 
 bracketed-plain : (b : Bool) (text : List ℕ) → HasNoFeed text → HasNoFeed (bracketed_if b text)
 bracketed-plain true text h = both (codes "(" ++ text) (codes ")") (refl, h) (refl, tt)
@@ -90,7 +98,10 @@ mutual
   text-plain (disjunction front last) h =
       both (joined Bar front ++ joint_text Bar) (bracketed_if (needs_brackets Bar last) (canonical last)) (both (joined Bar front) (joint_text Bar) (joined-plain Bar front h.0) (joint-plain Bar)) (bracketed-plain (needs_brackets Bar last) (canonical last) (text-plain last h.1))
   text-plain (under o s) h =
-      both (operator_word o ++ codes " ") (bracketed_if (needs_brackets Amp s) (canonical s)) (both (operator_word o) (codes " ") (operator-plain o) (refl, tt)) (bracketed-plain (needs_brackets Amp s) (canonical s) (text-plain s h))
+      both (operator_word (operator_of o) ++ codes " ") (bracketed_if (needs_brackets Amp s) (canonical s)) (both (operator_word (operator_of o)) (codes " ") (operator-plain (operator_of o)) (refl, tt)) (bracketed-plain (needs_brackets Amp s) (canonical s) (text-plain s h))
+  text-plain (stepped process s) h =
+      both (codes "EX " ++ process ++ codes " ") (bracketed_if (needs_brackets Amp s) (canonical s))
+      (both (codes "EX " ++ process) (codes " ") (both (codes "EX ") process (refl, (refl, (refl, tt))) (name_plain process h.0)) (refl, tt)) (bracketed-plain (needs_brackets Amp s) (canonical s) (text-plain s h.1))
   text-plain (until_of all left right) h =
       both (until_word all ++ codes "[" ++ canonical left ++ codes " U " ++ canonical right) (codes "]")
       (both (until_word all ++ codes "[" ++ canonical left ++ codes " U ") (canonical right)

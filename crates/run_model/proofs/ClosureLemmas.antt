@@ -1,13 +1,13 @@
--- EF, AG and EG keep sets closed under minimum and maximum, without a slice of the set.
-use Rattle.std.proofs.Common.{◌≡◌, ℕ, ◌<◌, ◌≤◌, ◌⊎◌, List, [], ◌∷◌, length, sym, ap, ◌∙◌, subst, inl, inr, arith, ◌++◌}
+-- EF, AG, EG and EX keep sets closed under minimum and maximum, without a slice of the set.
+use Rattle.std.proofs.Common.{◌≡◌, ℕ, ◌+◌, ◌<◌, ◌≤◌, ◌⊎◌, List, [], ◌∷◌, length, sym, ap, ◌∙◌, subst, inl, inr, arith, ◌++◌}
 use Rattle.std.proofs.lemmas.Bool.{cases_lt, cases_eq}
 use Rattle.run_model.specs.Cut.{Cut, Clocks, count, IsWithin, min_cut, max_cut, with_next, Follows, lengths}
 use Rattle.run_model.specs.Consistent.{IsOrder, IsConsistent, PathIn, IsPath}
 use Rattle.run_model.specs.Sublattice.{IsClosed, AllIn}
-use Rattle.run_model.specs.Operators.{SomeTime, EachTime, Staying}
+use Rattle.run_model.specs.Operators.{SomeTime, EachTime, Staying, NextTime}
 use Rattle.run_model.proofs.Counts.{count-min, count-max, length-min, length-max, within_trans, min_left, max_left, max_right, max_within, same_counts, max_absorbs, length-with_next, with_next_same, with_next_other}
 use Rattle.run_model.proofs.Orders.{min_consistent, max_consistent}
-use Rattle.run_model.proofs.Paths.{path_first, path_last, path_rises, path_joined, path_wider, path_all, all_first, each_time_ends, each_time_from_ends}
+use Rattle.run_model.proofs.Paths.{path_first, path_last, path_rises, path_joined, path_wider, path_all, all_first, each_time_ends, each_time_from_ends, next_time_from, next_time_lands}
 use Rattle.run_model.proofs.OperatorLemmas.{path_exists}
 
 -- ---- EF
@@ -148,6 +148,45 @@ staying_min o order A keeps c d l w v =
     let all = path_joined (Both o A) (min_cut c d) q.0 d v.0 (lengths o) down r in
     stays o A (min_cut c d) (q.0 ++ v.0) all
 
+-- ---- EX
+
+-- minimum and maximum of the next cuts are the next cuts of minimum and maximum
+next_of_min : (c d : Cut) (i : ℕ) → length c ≡ length d → i < length c → min_cut (with_next c i) (with_next d i) ≡ with_next (min_cut c d) i
+next_of_min c d i s l = same_counts (min_cut (with_next c i) (with_next d i)) (with_next (min_cut c d) i)
+    (omega (arith, length-min (with_next c i) (with_next d i), length-with_next c i, length-with_next d i, length-with_next (min_cut c d) i, length-min c d))
+    (λ j. elim (cases_eq j i) [
+      | inl e ↦ subst (λ x. count (min_cut (with_next c i) (with_next d i)) x ≡ count (with_next (min_cut c d) i) x) (sym e)
+          (omega (arith, count-min (with_next c i) (with_next d i) i, with_next_same c i l, with_next_same d i (omega (arith, l, s)), with_next_same (min_cut c d) i (omega (arith, l, s, length-min c d)), count-min c d i))
+      | inr ne ↦ omega (arith, count-min (with_next c i) (with_next d i) j, with_next_other c i j ne, with_next_other d i j ne, with_next_other (min_cut c d) i j ne, count-min c d j)
+    ])
+
+next_of_max : (c d : Cut) (i : ℕ) → length c ≡ length d → i < length c → max_cut (with_next c i) (with_next d i) ≡ with_next (max_cut c d) i
+next_of_max c d i s l = same_counts (max_cut (with_next c i) (with_next d i)) (with_next (max_cut c d) i)
+    (omega (arith, length-max (with_next c i) (with_next d i), length-with_next c i, length-with_next d i, length-with_next (max_cut c d) i, length-max c d))
+    (λ j. elim (cases_eq j i) [
+      | inl e ↦ subst (λ x. count (max_cut (with_next c i) (with_next d i)) x ≡ count (with_next (max_cut c d) i) x) (sym e)
+          (omega (arith, count-max (with_next c i) (with_next d i) i, with_next_same c i l, with_next_same d i (omega (arith, l, s)), with_next_same (max_cut c d) i (omega (arith, l, s, length-max c d)), count-max c d i))
+      | inr ne ↦ omega (arith, count-max (with_next c i) (with_next d i) j, with_next_other c i j ne, with_next_other d i j ne, with_next_other (max_cut c d) i j ne, count-max c d j)
+    ])
+
+pub next_time_min : (o : Clocks) → IsOrder o → (A : Cut → Type 0) → ((x y : Cut) → IsConsistent o x → IsConsistent o y → A x → A y → A (min_cut x y)) → (c d : Cut) → IsConsistent o c → IsConsistent o d → (i : ℕ) → NextTime o i A c → NextTime o i A d → NextTime o i A (min_cut c d)
+next_time_min o order A keeps c d k l i w v =
+    let e = next_of_min c d i (k.shaped ∙ sym l.shaped) w.0 in
+    let m = next_time_lands o i A c w in
+    let n = next_time_lands o i A d v in
+    next_time_from o i A (min_cut c d) (omega (arith, length-min c d, k.shaped, l.shaped, w.0)) (min_consistent o order c d k l)
+    (subst (IsConsistent o) e (min_consistent o order (with_next c i) (with_next d i) m n))
+    (subst A e (keeps (with_next c i) (with_next d i) m n w.2 v.2))
+
+pub next_time_max : (o : Clocks) → IsOrder o → (A : Cut → Type 0) → ((x y : Cut) → IsConsistent o x → IsConsistent o y → A x → A y → A (max_cut x y)) → (c d : Cut) → IsConsistent o c → IsConsistent o d → (i : ℕ) → NextTime o i A c → NextTime o i A d → NextTime o i A (max_cut c d)
+next_time_max o order A keeps c d k l i w v =
+    let e = next_of_max c d i (k.shaped ∙ sym l.shaped) w.0 in
+    let m = next_time_lands o i A c w in
+    let n = next_time_lands o i A d v in
+    next_time_from o i A (max_cut c d) (omega (arith, length-max c d, k.shaped, l.shaped, w.0)) (max_consistent o order c d k l)
+    (subst (IsConsistent o) e (max_consistent o order (with_next c i) (with_next d i) m n))
+    (subst A e (keeps (with_next c i) (with_next d i) m n w.2 v.2))
+
 -- ---- together
 
 pub some_time_closed : (o : Clocks) → IsOrder o → (A : Cut → Type 0) → IsClosed o A → IsClosed o (λ c. IsConsistent o c × SomeTime o A c)
@@ -169,4 +208,11 @@ staying_closed o order A closed = record {
   consistent = λ c h. h.0;
   has_min = λ c d h l. (min_consistent o order c d h.0 l.0, staying_min o order A (λ x y p q. closed.has_min x y) c d l.0 h.1 l.1);
   has_max = λ c d h l. (max_consistent o order c d h.0 l.0, staying_max o order A (λ x y p q. closed.has_max x y) c d l.0 (all_first A d l.1.0 l.1.2) h.1);
+}
+
+pub next_time_closed : (o : Clocks) → IsOrder o → (A : Cut → Type 0) → IsClosed o A → (i : ℕ) → IsClosed o (λ c. IsConsistent o c × NextTime o i A c)
+next_time_closed o order A closed i = record {
+  consistent = λ c h. h.0;
+  has_min = λ c d h l. (min_consistent o order c d h.0 l.0, next_time_min o order A (λ x y p q. closed.has_min x y) c d h.0 l.0 i h.1 l.1);
+  has_max = λ c d h l. (max_consistent o order c d h.0 l.0, next_time_max o order A (λ x y p q. closed.has_max x y) c d h.0 l.0 i h.1 l.1);
 }

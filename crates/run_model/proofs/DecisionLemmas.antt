@@ -1,16 +1,16 @@
 -- Truth is decided at each consistent cut: there are finitely many cuts.
-use Rattle.std.proofs.Common.{◌≡◌, ℕ, zero, suc, ◌+◌, ◌<◌, ◌≤◌, ◌⊎◌, Bool, true, false, List, [], ◌∷◌, length, pos, sym, ap, ◌∙◌, subst, refl, inl, inr, arith, le_refl}
+use Rattle.std.proofs.Common.{◌≡◌, ℕ, zero, suc, ◌+◌, ◌<◌, ◌≤◌, ◌⊎◌, Bool, true, false, List, [], ◌∷◌, length, pos, ◌-ℤ◌, sym, ap, ◌∙◌, subst, refl, inl, inr, arith, le_refl}
 use Rattle.std.proofs.lemmas.Bool.{cases_lt, cases_eq, false≢true}
 use Rattle.run_model.specs.Cut.{Cut, Clocks, count, IsWithin, with_next, lengths}
 use Rattle.run_model.specs.Run.{Run}
 use Rattle.run_model.specs.Consistent.{clock, IsOrder, IsConsistent, IsPath}
 use Rattle.run_model.specs.Sublattice.{AllIn}
-use Rattle.run_model.specs.Operators.{SomeTime, EachTime, Staying}
-use Rattle.run_model.specs.Formula.{Ef, Ag, Eg, Ex, Af, Ax, Formula, Truth, Comparison, Watched, InTransit, Empty, Not, And, Or, Temporal, Until, Formulas, Nil, Cons}
+use Rattle.run_model.specs.Operators.{SomeTime, EachTime, Staying, NextTime}
+use Rattle.run_model.specs.Formula.{Ef, Ag, Eg, Af, Ax, Formula, Truth, Comparison, Watched, InTransit, Empty, Difference, Not, And, Or, Temporal, Next, Until, Formulas, Nil, Cons}
 use Rattle.run_model.specs.Meaning.{compares, value_at, side_at, in_transit, Sat, SatAll, SatSome}
 use Rattle.run_model.proofs.Counts.{count_past, within_refl, within_both, search_below, total, total_below, with_next_above, with_next_same, length-lengths}
 use Rattle.run_model.proofs.Orders.{has_process}
-use Rattle.run_model.proofs.Paths.{path_first, path_last, path_rises, all_first, each_time_ends, each_time_from_ends}
+use Rattle.run_model.proofs.Paths.{path_first, path_last, path_rises, all_first, each_time_ends, each_time_from_ends, next_time_from, next_time_lands}
 use Rattle.run_model.proofs.OperatorLemmas.{path_exists}
 
 abbrev pub Decided : Type 0 → Type 0
@@ -173,6 +173,20 @@ decide_staying_by o A decide (suc fuel) c k f = elim (decide c k) [
 pub decide_staying : (o : Clocks) (A : Cut → Type 0) → ((d : Cut) → IsConsistent o d → Decided (A d)) → (c : Cut) → IsConsistent o c → Decided (Staying o A c)
 decide_staying o A decide c k = decide_staying_by o A decide (suc (total (lengths o))) c k (omega arith)
 
+-- ---- the next cut
+
+pub decide_next_time : (o : Clocks) (A : Cut → Type 0) → ((d : Cut) → IsConsistent o d → Decided (A d)) → (i : ℕ) (c : Cut) → IsConsistent o c → Decided (NextTime o i A c)
+decide_next_time o A decide i c k = elim (cases_lt i (length c)) [
+  | inr past ↦ inr (λ w. absurd (omega (arith, past, w.0)))
+  | inl there ↦ elim (decide_consistent o (with_next c i)) [
+    | inr no' ↦ inr (λ w. no' (next_time_lands o i A c w))
+    | inl n ↦ elim (decide (with_next c i) n) [
+      | inr no' ↦ inr (λ w. no' w.2)
+      | inl h ↦ inl (next_time_from o i A c there k n h)
+    ]
+  ]
+]
+
 -- ---- formulas
 
 decide_not : {P : Type 0} → Decided P → Decided (P → ⊥)
@@ -196,15 +210,16 @@ mutual
   decide_sat r order (Watched process watch) c k = decide_true (r.watched (r.process process) watch (count c (r.process process)))
   decide_sat r order (InTransit sender receiver relation m) c k = decide_true (compares relation (pos (in_transit r (r.process sender) (r.process receiver) c)) (pos m))
   decide_sat r order (Empty sender receiver) c k = cases_eq (in_transit r (r.process sender) (r.process receiver) c) 0
+  decide_sat r order (Difference p x q y relation m) c k = decide_true (compares relation (value_at r p x c -ℤ value_at r q y c) m)
   decide_sat r order (Not f) c k = decide_not (decide_sat r order f c k)
   decide_sat r order (And fs) c k = decide_all r order fs c k
   decide_sat r order (Or fs) c k = decide_some r order fs c k
   decide_sat r order (Temporal Ef f) c k = decide_some_time r.clocks order (Sat r f) (decide_sat r order f) c k
   decide_sat r order (Temporal Ag f) c k = decide_each_time r.clocks order (Sat r f) (decide_sat r order f) c k
   decide_sat r order (Temporal Eg f) c k = decide_staying r.clocks (Sat r f) (decide_sat r order f) c k
-  decide_sat r order (Temporal Ex f) c k = inr (λ w. w)
   decide_sat r order (Temporal Af f) c k = inr (λ w. w)
   decide_sat r order (Temporal Ax f) c k = inr (λ w. w)
+  decide_sat r order (Next process f) c k = decide_next_time r.clocks (Sat r f) (decide_sat r order f) (r.process process) c k
   decide_sat r order (Until all left right) c k = inr (λ w. w)
 
   pub decide_all : (r : Run) → IsOrder r.clocks → (fs : Formulas) (c : Cut) → IsConsistent r.clocks c → Decided (SatAll r fs c)

@@ -1,15 +1,16 @@
 -- The disjuncts of a formula mean the formula, and there is one exactly where it is regular.
-use Rattle.std.proofs.Common.{◌≡◌, ℕ, zero, suc, ◌+◌, ◌≤◌, ◌⊎◌, ◌↔◌, Bool, true, false, not, ◌&&◌, ◌||◌, List, [], ◌∷◌, ◌++◌, length, sym, ap, ◌∙◌, refl, inl, inr, arith, length-append}
+use Rattle.std.proofs.Common.{◌≡◌, ℕ, zero, suc, ◌+◌, ◌≤◌, ◌⊎◌, ◌↔◌, Bool, true, false, not, ◌&&◌, ◌||◌, List, [], ◌∷◌, ◌++◌, length, ℤ, pos, ◌+ℤ◌, ◌-ℤ◌, sym, ap, ◌∙◌, refl, inl, inr, arith, length-append}
 use Rattle.std.proofs.lemmas.Bool.{cases_Bool, cond_both, and_parts, or_cases, or_left, or_right, cond-false, false≢true, both_ways}
 use Rattle.run_model.specs.Cut.{Cut}
 use Rattle.run_model.specs.Run.{Name, Run}
 use Rattle.run_model.specs.Consistent.{IsOrder, IsConsistent}
-use Rattle.run_model.specs.Formula.{Relation, Equal, Unequal, Less, LessOrEqual, Greater, GreaterOrEqual, Formula, Truth, Comparison, Watched, InTransit, Empty, Not, And, Or, Temporal, Until, Formulas, Nil, Cons}
+use Rattle.run_model.specs.Formula.{Relation, Equal, Unequal, Less, LessOrEqual, Greater, GreaterOrEqual, Formula, Truth, Comparison, Watched, InTransit, Empty, Difference, Not, And, Or, Temporal, Next, Until, Formulas, Nil, Cons}
 use Rattle.run_model.specs.Meaning.{in_transit, Sat, SatAll, SatSome}
-use Rattle.run_model.specs.Class.{is_local, after_sign, is_conjunctive, all_conjunctive, is_disjunctive, all_disjunctive, IsRegular, IsOfClass, has_two, is_wide, all_wide, signed, channel_parts, empty_parts, parts, all_parts, disjuncts, all_disjuncts, SatParts, SatDisjuncts}
+use Rattle.run_model.specs.Class.{is_local, after_sign, is_conjunctive, all_conjunctive, is_disjunctive, all_disjunctive, IsRegular, IsOfClass, has_two, is_wide, all_wide, signed, channel_parts, empty_parts, difference_parts, parts, all_parts, disjuncts, all_disjuncts, SatParts, SatDisjuncts}
 use Rattle.run_model.proofs.DecisionLemmas.{decide_sat}
 use Rattle.run_model.proofs.RelationLemmas.{holds_of, from_holds}
-use Rattle.run_model.proofs.RegularLemmas.{Signed, SignedAll, Compared, channel_signed, empty_relation, empty_bound, empty_signed, not_signed}
+use Rattle.run_model.proofs.DifferenceLemmas.{less_as_bound, greater_as_bound, bounds_from_equal, equal_from_bounds}
+use Rattle.run_model.proofs.RegularLemmas.{Signed, SignedAll, Compared, channel_signed, empty_relation, empty_bound, empty_signed, difference_at, DifferenceCompared, difference_signed, not_signed}
 
 then_iff : {A B C : Type 0} → A ↔ B → B ↔ C → A ↔ C
 then_iff e f = (λ h. f.0 (e.0 h), λ h. e.1 (f.1 h))
@@ -65,6 +66,19 @@ empties_mean : (r : Run) (sign : Bool) (p q : Name) (c : Cut) → SatParts r (em
 empties_mean r true p q c = bounds_mean r p q LessOrEqual 0 c
 empties_mean r false p q c = bounds_mean r p q GreaterOrEqual 1 c
 
+-- ---- differences
+
+differences_mean : (r : Run) (p x q y : Name) (relation : Relation) (k : ℤ) (c : Cut) → SatParts r (difference_parts p x q y relation k) c ↔ DifferenceCompared r p x q y relation k c
+differences_mean r p x q y Equal k c = (
+  λ h. equal_from_bounds (difference_at r p x q y c) k h.0 h.1.0,
+  λ h. let both = bounds_from_equal (difference_at r p x q y c) k h in (both.0, (both.1, tt)),
+)
+differences_mean r p x q y Unequal k c = (λ h. h.0, λ h. (h, tt))
+differences_mean r p x q y Less k c = (λ h. less_as_bound (difference_at r p x q y c) k ∙ h.0, λ h. (sym (less_as_bound (difference_at r p x q y c) k) ∙ h, tt))
+differences_mean r p x q y LessOrEqual k c = (λ h. h.0, λ h. (h, tt))
+differences_mean r p x q y Greater k c = (λ h. greater_as_bound (difference_at r p x q y c) k ∙ h.0, λ h. (sym (greater_as_bound (difference_at r p x q y c) k) ∙ h, tt))
+differences_mean r p x q y GreaterOrEqual k c = (λ h. h.0, λ h. (h, tt))
+
 -- ---- conjunctions
 
 none_iff : (r : Run) (sign : Bool) (c : Cut) → SatParts r [] c ↔ SignedAll r sign Nil c
@@ -84,6 +98,7 @@ mutual
   parts_mean r order (Watched q watch) sign c k = one_part r sign (Watched q watch) c
   parts_mean r order (InTransit p q relation m) sign c k = then_iff (bounds_mean r p q (after_sign sign relation) m c) (channel_signed r sign p q relation m c)
   parts_mean r order (Empty p q) sign c k = then_iff (empties_mean r sign p q c) (empty_signed r sign p q c)
+  parts_mean r order (Difference p x q y relation m) sign c k = then_iff (differences_mean r p x q y (after_sign sign relation) m c) (difference_signed r sign p x q y relation m c)
   parts_mean r order (Not f) sign c k = cond_both (is_local (Not f)) (signed sign (Not f) ∷ []) (parts (not sign) f) (λ ps. SatParts r ps c ↔ Signed r sign (Not f) c)
       (λ t. one_part r sign (Not f) c)
       (λ t. then_iff (parts_mean r order f (not sign) c k) (not_signed r order sign f c k))
@@ -96,6 +111,7 @@ mutual
       (λ t. one_part r false (Or fs) c)
       (λ t. all_parts_mean r order fs false c k)
   parts_mean r order (Temporal operator f) sign c k = one_part r sign (Temporal operator f) c
+  parts_mean r order (Next process f) sign c k = one_part r sign (Next process f) c
   parts_mean r order (Until all left right) sign c k = one_part r sign (Until all left right) c
 
   pub all_parts_mean : (r : Run) → IsOrder r.clocks → (fs : Formulas) (sign : Bool) (c : Cut) → IsConsistent r.clocks c → SatParts r (all_parts sign fs) c ↔ SignedAll r sign fs c
@@ -130,6 +146,7 @@ mutual
   disjuncts_signed r order (Watched q watch) sign c k = then_iff (one_disjunct r (parts sign (Watched q watch)) c) (parts_mean r order (Watched q watch) sign c k)
   disjuncts_signed r order (InTransit p q relation m) sign c k = then_iff (one_disjunct r (parts sign (InTransit p q relation m)) c) (parts_mean r order (InTransit p q relation m) sign c k)
   disjuncts_signed r order (Empty p q) sign c k = then_iff (one_disjunct r (parts sign (Empty p q)) c) (parts_mean r order (Empty p q) sign c k)
+  disjuncts_signed r order (Difference p x q y relation m) sign c k = then_iff (one_disjunct r (parts sign (Difference p x q y relation m)) c) (parts_mean r order (Difference p x q y relation m) sign c k)
   disjuncts_signed r order (Not f) sign c k = cond_both (is_local (Not f)) (parts sign (Not f) ∷ []) (disjuncts (not sign) f) (λ ds. SatDisjuncts r ds c ↔ Signed r sign (Not f) c)
       (λ t. then_iff (one_disjunct r (parts sign (Not f)) c) (parts_mean r order (Not f) sign c k))
       (λ t. then_iff (disjuncts_signed r order f (not sign) c k) (not_signed r order sign f c k))
@@ -142,6 +159,7 @@ mutual
       (λ t. all_disjuncts_signed r order fs true c k)
   disjuncts_signed r order (Or fs) false c k = then_iff (one_disjunct r (parts false (Or fs)) c) (parts_mean r order (Or fs) false c k)
   disjuncts_signed r order (Temporal operator f) sign c k = then_iff (one_disjunct r (parts sign (Temporal operator f)) c) (parts_mean r order (Temporal operator f) sign c k)
+  disjuncts_signed r order (Next process f) sign c k = then_iff (one_disjunct r (parts sign (Next process f)) c) (parts_mean r order (Next process f) sign c k)
   disjuncts_signed r order (Until all left right) sign c k = then_iff (one_disjunct r (parts sign (Until all left right)) c) (parts_mean r order (Until all left right) sign c k)
 
   pub all_disjuncts_signed : (r : Run) → IsOrder r.clocks → (fs : Formulas) (sign : Bool) (c : Cut) → IsConsistent r.clocks c → SatDisjuncts r (all_disjuncts sign fs) c ↔ SignedSome r sign fs c
@@ -162,6 +180,7 @@ one_where_conjunctive (Comparison q variable relation side) sign h = refl
 one_where_conjunctive (Watched q watch) sign h = refl
 one_where_conjunctive (InTransit p q relation m) sign h = refl
 one_where_conjunctive (Empty p q) sign h = refl
+one_where_conjunctive (Difference p x q y relation m) sign h = refl
 one_where_conjunctive (Not f) sign h = cond_both (is_local (Not f)) (parts sign (Not f) ∷ []) (disjuncts (not sign) f) (λ ds. length ds ≡ 1)
     (λ t. refl)
     (λ t. elim (or_cases (is_local (Not f)) (is_conjunctive (not sign) f) h) [ inl l ↦ absurd (both_ways (is_local (Not f)) t l) | inr g ↦ one_where_conjunctive f (not sign) g ])
@@ -170,6 +189,7 @@ one_where_conjunctive (And fs) false h = cond_both (is_local (And fs)) (parts fa
 one_where_conjunctive (Or fs) true h = cond_both (is_local (Or fs)) (parts true (Or fs) ∷ []) (all_disjuncts true fs) (λ ds. length ds ≡ 1) (λ t. refl) (λ t. absurd (both_ways (is_local (Or fs)) t h))
 one_where_conjunctive (Or fs) false h = refl
 one_where_conjunctive (Temporal operator f) sign h = refl
+one_where_conjunctive (Next process f) sign h = refl
 one_where_conjunctive (Until all left right) sign h = refl
 
 -- ---- and, where each `and` and `or` has two members or more, it is regular where there is one
@@ -193,6 +213,7 @@ mutual
   some_disjunct (Watched q watch) sign h = omega arith
   some_disjunct (InTransit p q relation m) sign h = omega arith
   some_disjunct (Empty p q) sign h = omega arith
+  some_disjunct (Difference p x q y relation m) sign h = omega arith
   some_disjunct (Not f) sign h = cond_both (is_local (Not f)) (parts sign (Not f) ∷ []) (disjuncts (not sign) f) (λ ds. 1 ≤ length ds) (λ t. omega arith) (λ t. some_disjunct f (not sign) h)
   some_disjunct (And fs) true h = omega arith
   some_disjunct (And fs) false h = cond_both (is_local (And fs)) (parts false (And fs) ∷ []) (all_disjuncts false fs) (λ ds. 1 ≤ length ds) (λ t. omega arith)
@@ -201,6 +222,7 @@ mutual
       (λ t. let w = and_parts (has_two fs) (all_wide fs) h in omega (arith, each_disjunct fs true w.1, two_members fs w.0))
   some_disjunct (Or fs) false h = omega arith
   some_disjunct (Temporal operator f) sign h = omega arith
+  some_disjunct (Next process f) sign h = omega arith
   some_disjunct (Until all left right) sign h = omega arith
 
   each_disjunct : (fs : Formulas) (sign : Bool) → all_wide fs ≡ true → size fs ≤ length (all_disjuncts sign fs)
@@ -220,6 +242,7 @@ conjunctive_where_one (Comparison q variable relation side) sign w h e = h
 conjunctive_where_one (Watched q watch) sign w h e = refl
 conjunctive_where_one (InTransit p q relation m) sign w h e = h
 conjunctive_where_one (Empty p q) sign w h e = refl
+conjunctive_where_one (Difference p x q y relation m) sign w h e = h
 conjunctive_where_one (Not f) sign w h e = elim (or_cases (is_local (Not f) || is_conjunctive (not sign) f) (is_disjunctive (not sign) f) h) [
   | inl c ↦ c
   | inr d ↦ elim (cases_Bool (is_local (Not f))) [
@@ -238,6 +261,7 @@ conjunctive_where_one (Or fs) true w h e = elim (cases_Bool (is_local (Or fs))) 
 ]
 conjunctive_where_one (Or fs) false w h e = h
 conjunctive_where_one (Temporal operator f) sign w h e = h
+conjunctive_where_one (Next process f) sign w h e = h
 conjunctive_where_one (Until all left right) sign w h e = absurd (false≢true h)
 
 pub regular_is_one : (f : Formula) → is_wide f ≡ true → IsOfClass f → IsRegular f ↔ (length (disjuncts true f) ≡ 1)

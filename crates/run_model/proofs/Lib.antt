@@ -12,6 +12,7 @@ pub mod PartLemmas
 pub mod EdgeLemmas
 pub mod DecisionLemmas
 pub mod RelationLemmas
+pub mod DifferenceLemmas
 pub mod RegularLemmas
 pub mod DisjunctLemmas
 pub mod WitnessLemmas

@@ -1,18 +1,18 @@
 -- A slow reading of the definitions, by listing all cuts: whether a cut is consistent, whether a formula holds, and the slice of the
 -- formula's family. It computes, and is proved to mean what the definitions say, so examples can be checked by computing.
-use Rattle.std.proofs.Common.{◌≡◌, ℕ, zero, suc, ◌+◌, ◌<◌, ◌≤◌, ◌⊎◌, Bool, true, false, not, ◌&&◌, ◌||◌, eqb, leb, List, [], ◌∷◌, ◌++◌, length, map, flat_map, filter, pos, Decides, sym, ap, ◌∙◌, subst, refl, inl, inr, arith, le_refl, zero-le}
+use Rattle.std.proofs.Common.{◌≡◌, ℕ, zero, suc, ◌+◌, ◌<◌, ◌≤◌, ◌⊎◌, Bool, true, false, not, ◌&&◌, ◌||◌, eqb, leb, List, [], ◌∷◌, ◌++◌, length, map, flat_map, filter, pos, ◌-ℤ◌, ltb, Decides, sym, ap, ◌∙◌, subst, refl, inl, inr, arith, le_refl, zero-le}
 use Rattle.std.specs.List.{range_with_len, list_all, list_any}
-use Rattle.std.proofs.lemmas.Bool.{cond_both, cases_lt, cases_Bool, false≢true, and_parts, and_from, or_cases, or_left, or_right, not_from_false, not-true, leb-true, le-leb, eqb-true, eq-eqb, both_ways}
+use Rattle.std.proofs.lemmas.Bool.{cond_both, cases_lt, cases_Bool, false≢true, and_parts, and_from, or_cases, or_left, or_right, not_from_false, not-true, leb-true, le-leb, ltb-true, lt-ltb, eqb-true, eq-eqb, both_ways}
 use Rattle.run_model.specs.Cut.{Cut, Clocks, count, IsWithin, with_next, lengths}
 use Rattle.run_model.specs.Run.{Run}
 use Rattle.run_model.specs.Consistent.{clock, IsOrder, IsConsistent, IsPath}
 use Rattle.run_model.specs.Sublattice.{AllIn}
-use Rattle.run_model.specs.Operators.{SomeTime, EachTime, Staying}
-use Rattle.run_model.specs.Formula.{Ef, Ag, Eg, Ex, Af, Ax, Formula, Truth, Comparison, Watched, InTransit, Empty, Not, And, Or, Temporal, Until, Formulas, Nil, Cons}
+use Rattle.run_model.specs.Operators.{SomeTime, EachTime, Staying, NextTime}
+use Rattle.run_model.specs.Formula.{Ef, Ag, Eg, Af, Ax, Formula, Truth, Comparison, Watched, InTransit, Empty, Difference, Not, And, Or, Temporal, Next, Until, Formulas, Nil, Cons}
 use Rattle.run_model.specs.Meaning.{compares, value_at, side_at, in_transit, Sat, SatAll, SatSome}
 use Rattle.run_model.proofs.Counts.{within_refl, within_both, total, total_below, total_within, with_next_above, with_next_same, length-lengths}
 use Rattle.run_model.proofs.Orders.{has_process}
-use Rattle.run_model.proofs.Paths.{path_first, path_last, path_rises, each_time_ends, each_time_from_ends}
+use Rattle.run_model.proofs.Paths.{path_first, path_last, path_rises, each_time_ends, each_time_from_ends, next_time_from, next_time_lands}
 use Rattle.run_model.proofs.OperatorLemmas.{path_exists}
 
 -- ---- membership in lists
@@ -190,6 +190,9 @@ abbrev pub stays : Clocks → (Cut → Bool) → ℕ → Cut → Bool
 stays o p zero c = false
 stays o p (suc fuel) c = p c && (within (lengths o) c || some_below (λ i. consistent o (with_next c i) && stays o p fuel (with_next c i)) (length c))
 
+abbrev pub next_holds : Clocks → (Cut → Bool) → ℕ → Cut → Bool
+next_holds o p i c = ltb i (length c) && (consistent o (with_next c i) && p (with_next c i))
+
 -- cs are the consistent cuts
 unfoldable mutual
   pub holds : Run → List Cut → Formula → Cut → Bool
@@ -198,15 +201,16 @@ unfoldable mutual
   holds r cs (Watched process watch) c = r.watched (r.process process) watch (count c (r.process process))
   holds r cs (InTransit sender receiver relation k) c = compares relation (pos (in_transit r (r.process sender) (r.process receiver) c)) (pos k)
   holds r cs (Empty sender receiver) c = eqb (in_transit r (r.process sender) (r.process receiver) c) 0
+  holds r cs (Difference p x q y relation k) c = compares relation (value_at r p x c -ℤ value_at r q y c) k
   holds r cs (Not f) c = not (holds r cs f c)
   holds r cs (And fs) c = holds_all r cs fs c
   holds r cs (Or fs) c = holds_some r cs fs c
   holds r cs (Temporal Ef f) c = list_any (λ d. within c d && holds r cs f d) cs
   holds r cs (Temporal Ag f) c = list_all (λ d. not (within c d) || holds r cs f d) cs
   holds r cs (Temporal Eg f) c = stays r.clocks (holds r cs f) (suc (total (lengths r.clocks))) c
-  holds r cs (Temporal Ex f) c = false
   holds r cs (Temporal Af f) c = false
   holds r cs (Temporal Ax f) c = false
+  holds r cs (Next process f) c = next_holds r.clocks (holds r cs f) (r.process process) c
   holds r cs (Until all left right) c = false
 
   pub holds_all : Run → List Cut → Formulas → Cut → Bool
@@ -292,6 +296,19 @@ staying_reads o p A reads c k = (
   λ w. is_stays o p A reads w.0 c (suc (total (lengths o))) (omega arith) w.1 w.2,
 )
 
+next_time_reads : (o : Clocks) (p : Cut → Bool) (A : Cut → Type 0) → Reads o p A → (i : ℕ) → Reads o (next_holds o p i) (NextTime o i A)
+next_time_reads o p A reads i c k = (
+  λ h.
+      let first = and_parts (ltb i (length c)) (consistent o (with_next c i) && p (with_next c i)) h in
+      let second = and_parts (consistent o (with_next c i)) (p (with_next c i)) first.1 in
+      let n = consistent_is o (with_next c i) second.0 in
+      next_time_from o i A c (ltb-true i (length c) first.0) k n ((reads (with_next c i) n).0 second.1),
+  λ w.
+      let n = next_time_lands o i A c w in
+      and_from (ltb i (length c)) (consistent o (with_next c i) && p (with_next c i)) (lt-ltb i (length c) w.0)
+      (and_from (consistent o (with_next c i)) (p (with_next c i)) (is_consistent o (with_next c i) n) ((reads (with_next c i) n).1 w.2)),
+)
+
 test_reads : (b : Bool) → Decides b (b ≡ true)
 test_reads b = (λ h. h, λ h. h)
 
@@ -324,15 +341,16 @@ mutual
   holds_reads r order (Watched process watch) c k = test_reads (r.watched (r.process process) watch (count c (r.process process)))
   holds_reads r order (InTransit sender receiver relation m) c k = test_reads (compares relation (pos (in_transit r (r.process sender) (r.process receiver) c)) (pos m))
   holds_reads r order (Empty sender receiver) c k = zero_reads (in_transit r (r.process sender) (r.process receiver) c)
+  holds_reads r order (Difference p x q y relation m) c k = test_reads (compares relation (value_at r p x c -ℤ value_at r q y c) m)
   holds_reads r order (Not f) c k = not_reads (holds r (consistent_cuts r.clocks) f c) (Sat r f c) (holds_reads r order f c k)
   holds_reads r order (And fs) c k = all_read r order fs c k
   holds_reads r order (Or fs) c k = some_reads r order fs c k
   holds_reads r order (Temporal Ef f) c k = some_time_reads r.clocks order (holds r (consistent_cuts r.clocks) f) (Sat r f) (holds_reads r order f) c k
   holds_reads r order (Temporal Ag f) c k = each_time_reads r.clocks order (holds r (consistent_cuts r.clocks) f) (Sat r f) (holds_reads r order f) c k
   holds_reads r order (Temporal Eg f) c k = staying_reads r.clocks (holds r (consistent_cuts r.clocks) f) (Sat r f) (holds_reads r order f) c k
-  holds_reads r order (Temporal Ex f) c k = never_reads
   holds_reads r order (Temporal Af f) c k = never_reads
   holds_reads r order (Temporal Ax f) c k = never_reads
+  holds_reads r order (Next process f) c k = next_time_reads r.clocks (holds r (consistent_cuts r.clocks) f) (Sat r f) (holds_reads r order f) (r.process process) c k
   holds_reads r order (Until all left right) c k = never_reads
 
   all_read : (r : Run) → IsOrder r.clocks → (fs : Formulas) (c : Cut) → IsConsistent r.clocks c → Decides (holds_all r (consistent_cuts r.clocks) fs c) (SatAll r fs c)

@@ -1,5 +1,5 @@
 -- The family of a regular formula is closed under minimum and maximum.
-use Rattle.std.proofs.Common.{◌≡◌, ℕ, ◌-◌, ◌≤◌, ◌⊎◌, ◌↔◌, min, max, Bool, true, false, not, ◌==◌, cond, List, [], ◌∷◌, ◌++◌, pos, bytes_eq, sym, ap, ◌∙◌, subst, refl, inl, inr, arith}
+use Rattle.std.proofs.Common.{◌≡◌, ℕ, ◌-◌, ◌≤◌, ◌⊎◌, ◌↔◌, min, max, Bool, true, false, not, ◌==◌, cond, List, [], ◌∷◌, ◌++◌, ℤ, pos, ◌-ℤ◌, bytes_eq, sym, ap, ◌∙◌, subst, refl, inl, inr, arith}
 use Rattle.std.specs.List.{list_all}
 use Rattle.std.proofs.lemmas.Bool.{cases_lt, false≢true, and_parts, and_from, or_cases, not-true, not_from_false, false_from_ne_true, both_ways}
 use Rattle.std.proofs.lemmas.List.Folds.{list_all-append}
@@ -8,15 +8,16 @@ use Rattle.run_model.specs.Cut.{Cut, count, min_cut, max_cut}
 use Rattle.run_model.specs.Run.{Name, Run}
 use Rattle.run_model.specs.Consistent.{IsOrder, IsConsistent}
 use Rattle.run_model.specs.Sublattice.{IsClosed}
-use Rattle.run_model.specs.Formula.{Relation, LessOrEqual, GreaterOrEqual, Side, Number, Variable, Operator, Ef, Ag, Eg, Ex, Af, Ax, Formula, Truth, Comparison, Watched, InTransit, Empty, Not, And, Or, Temporal, Until, Formulas, Nil, Cons}
+use Rattle.run_model.specs.Formula.{Relation, LessOrEqual, GreaterOrEqual, Side, Number, Variable, Operator, Ef, Ag, Eg, Af, Ax, Formula, Truth, Comparison, Watched, InTransit, Empty, Difference, Not, And, Or, Temporal, Next, Until, Formulas, Nil, Cons}
 use Rattle.run_model.specs.Meaning.{compares, value_at, side_at, in_transit, IsRun, Sat, SatAll, SatSome, Family}
-use Rattle.run_model.specs.Class.{side_processes, processes, all_processes, is_plain, all_plain, is_one_name, is_local, turned, after_sign, is_unequal, is_analysed, is_conjunctive, all_conjunctive, IsRegular}
+use Rattle.run_model.specs.Class.{side_processes, processes, all_processes, is_plain, all_plain, is_one_name, is_local, turned, after_sign, is_unequal, is_analysed, is_conjunctive, all_conjunctive, NeverFalls, IsKeptFor, AreKeptFor, IsRegular, IsRegularIn}
 use Rattle.run_model.proofs.Counts.{count-min, count-max}
 use Rattle.run_model.proofs.Orders.{min_consistent, max_consistent}
 use Rattle.run_model.proofs.Paths.{all_first}
-use Rattle.run_model.proofs.ClosureLemmas.{some_time_min, some_time_max, each_time_min, each_time_max, staying_min, staying_max}
+use Rattle.run_model.proofs.ClosureLemmas.{some_time_min, some_time_max, each_time_min, each_time_max, staying_min, staying_max, next_time_min, next_time_max}
 use Rattle.run_model.proofs.DecisionLemmas.{stable}
 use Rattle.run_model.proofs.RelationLemmas.{compares-turned, HoldsOf, holds_of, from_holds, holds_between}
+use Rattle.run_model.proofs.DifferenceLemmas.{difference_min, difference_max, ints_between}
 
 -- ---- a local formula goes by the count of its process
 
@@ -60,10 +61,12 @@ mutual
   local_alike r p (Watched q watch) plain names c d same h = sym (watch_alike r p q watch c d same (same_name p q [] names).0) ∙ h
   local_alike r p (InTransit sender receiver relation k) plain names c d same h = absurd (false≢true plain)
   local_alike r p (Empty sender receiver) plain names c d same h = absurd (false≢true plain)
+  local_alike r p (Difference s x q y relation k) plain names c d same h = absurd (false≢true plain)
   local_alike r p (Not f) plain names c d same h = λ g. h (local_alike r p f plain names d c (sym same) g)
   local_alike r p (And fs) plain names c d same h = all_alike r p fs plain names c d same h
   local_alike r p (Or fs) plain names c d same h = some_alike r p fs plain names c d same h
   local_alike r p (Temporal operator f) plain names c d same h = absurd (false≢true plain)
+  local_alike r p (Next process f) plain names c d same h = absurd (false≢true plain)
   local_alike r p (Until all left right) plain names c d same h = absurd (false≢true plain)
 
   all_alike : (r : Run) (p : Name) (fs : Formulas) → all_plain fs ≡ true → list_all (bytes_eq p) (all_processes fs) ≡ true → (c d : Cut) → Alike r p c d → SatAll r fs c → SatAll r fs d
@@ -207,6 +210,34 @@ channel_keeps r run p q relation k one = record {
       holds_between relation (in_transit r (r.process p) (r.process q) c) (in_transit r (r.process p) (r.process q) d) (in_transit r (r.process p) (r.process q) (max_cut c d)) k one mid.0 mid.1 h g;
 }
 
+-- ---- differences of counters
+
+abbrev pub difference_at : Run → Name → Name → Name → Name → Cut → ℤ
+difference_at r p x q y c = value_at r p x c -ℤ value_at r q y c
+
+-- the comparison that a difference with its sign makes
+abbrev pub DifferenceCompared : Run → Name → Name → Name → Name → Relation → ℤ → Cut → Type 0
+DifferenceCompared r p x q y relation k c = compares relation (difference_at r p x q y c) k ≡ true
+
+difference_keeps : (r : Run) (p x q y : Name) → NeverFalls r p x → NeverFalls r q y → (relation : Relation) (k : ℤ) → is_unequal relation ≡ false → Keeps r (DifferenceCompared r p x q y relation k)
+difference_keeps r p x q y up more relation k one =
+    let i = r.process p in
+    let j = r.process q in
+    record {
+      has_min = λ c d l m h g. ints_between relation (difference_at r p x q y c) (difference_at r p x q y d) (difference_at r p x q y (min_cut c d)) k one
+          (difference_min (r.value i x) (r.value j y) up more (count c i) (count c j) (count d i) (count d j) (count (min_cut c d) i) (count (min_cut c d) j) (count-min c d i) (count-min c d j)) h g;
+      has_max = λ c d l m h g. ints_between relation (difference_at r p x q y c) (difference_at r p x q y d) (difference_at r p x q y (max_cut c d)) k one
+          (difference_max (r.value i x) (r.value j y) up more (count c i) (count c j) (count d i) (count d j) (count (max_cut c d) i) (count (max_cut c d) j) (count-max c d i) (count-max c d j)) h g;
+    }
+
+pub difference_signed : (r : Run) (sign : Bool) (p x q y : Name) (relation : Relation) (k : ℤ) (c : Cut) → DifferenceCompared r p x q y (after_sign sign relation) k c ↔ Signed r sign (Difference p x q y relation k) c
+difference_signed r true p x q y relation k c = (λ h. h, λ h. h)
+difference_signed r false p x q y relation k c =
+    let n = difference_at r p x q y c in (
+      λ h e. both_ways (compares relation n k) (not-true (compares relation n k) (sym (compares-turned relation n k) ∙ h)) e,
+      λ h. compares-turned relation n k ∙ not_from_false (compares relation n k) (false_from_ne_true (compares relation n k) h),
+    )
+
 -- sets with the same members at consistent cuts are kept alike
 keeps_same : (r : Run) → IsOrder r.clocks → (M N : Cut → Type 0) → ((c : Cut) → IsConsistent r.clocks c → M c ↔ N c) → Keeps r M → Keeps r N
 keeps_same r order M N same k = record {
@@ -295,51 +326,62 @@ temporal_keeps r order Eg f one k = record {
   has_min = λ c d l m h g. staying_min r.clocks order (Sat r f) k.has_min c d m h g;
   has_max = λ c d l m h g. staying_max r.clocks order (Sat r f) k.has_max c d m (all_first (Sat r f) d g.0 g.2) h;
 }
-temporal_keeps r order Ex f one k = absurd (false≢true one)
 temporal_keeps r order Af f one k = absurd (false≢true one)
 temporal_keeps r order Ax f one k = absurd (false≢true one)
+
+next_keeps : (r : Run) → IsOrder r.clocks → (process : Name) (f : Formula) → Keeps r (Sat r f) → Keeps r (Sat r (Next process f))
+next_keeps r order process f k = record {
+  has_min = λ c d l m h g. next_time_min r.clocks order (Sat r f) k.has_min c d l m (r.process process) h g;
+  has_max = λ c d l m h g. next_time_max r.clocks order (Sat r f) k.has_max c d l m (r.process process) h g;
+}
 
 -- ---- together
 
 mutual
   unfolding is_conjunctive all_conjunctive
 
-  pub keeps : (r : Run) → IsRun r → (f : Formula) (sign : Bool) → is_conjunctive sign f ≡ true → Keeps r (Signed r sign f)
-  keeps r run (Truth b) sign h = local_keeps r sign (Truth b) (truth_local b)
-  keeps r run (Comparison q variable relation side) sign h = local_keeps r sign (Comparison q variable relation side) h
-  keeps r run (Watched q watch) sign h = local_keeps r sign (Watched q watch) (watch_local q watch)
-  keeps r run (InTransit p q relation k) sign h = keeps_same r run.order (Compared r p q (after_sign sign relation) k) (Signed r sign (InTransit p q relation k)) (λ c l. channel_signed r sign p q relation k c) (channel_keeps r run p q (after_sign sign relation) k (not-true (is_unequal (after_sign sign relation)) h))
-  keeps r run (Empty p q) sign h = keeps_same r run.order (Compared r p q (empty_relation sign) (empty_bound sign)) (Signed r sign (Empty p q)) (λ c l. empty_signed r sign p q c) (channel_keeps r run p q (empty_relation sign) (empty_bound sign) (empty_one sign))
-  keeps r run (Not f) sign h = elim (or_cases (is_local (Not f)) (is_conjunctive (not sign) f) h) [
+  pub keeps : (r : Run) → IsRun r → (f : Formula) (sign : Bool) → is_conjunctive sign f ≡ true → IsKeptFor r f → Keeps r (Signed r sign f)
+  keeps r run (Truth b) sign h kept = local_keeps r sign (Truth b) (truth_local b)
+  keeps r run (Comparison q variable relation side) sign h kept = local_keeps r sign (Comparison q variable relation side) h
+  keeps r run (Watched q watch) sign h kept = local_keeps r sign (Watched q watch) (watch_local q watch)
+  keeps r run (InTransit p q relation k) sign h kept = keeps_same r run.order (Compared r p q (after_sign sign relation) k) (Signed r sign (InTransit p q relation k)) (λ c l. channel_signed r sign p q relation k c) (channel_keeps r run p q (after_sign sign relation) k (not-true (is_unequal (after_sign sign relation)) h))
+  keeps r run (Empty p q) sign h kept = keeps_same r run.order (Compared r p q (empty_relation sign) (empty_bound sign)) (Signed r sign (Empty p q)) (λ c l. empty_signed r sign p q c) (channel_keeps r run p q (empty_relation sign) (empty_bound sign) (empty_one sign))
+  keeps r run (Difference p x q y relation k) sign h kept =
+      let both = and_parts (not (bytes_eq p q)) (not (is_unequal (after_sign sign relation))) h in
+      keeps_same r run.order (DifferenceCompared r p x q y (after_sign sign relation) k) (Signed r sign (Difference p x q y relation k)) (λ c l. difference_signed r sign p x q y relation k c)
+      (difference_keeps r p x q y kept.0 kept.1 (after_sign sign relation) k (not-true (is_unequal (after_sign sign relation)) both.1))
+  keeps r run (Not f) sign h kept = elim (or_cases (is_local (Not f)) (is_conjunctive (not sign) f) h) [
     | inl l ↦ local_keeps r sign (Not f) l
-    | inr g ↦ keeps_same r run.order (Signed r (not sign) f) (Signed r sign (Not f)) (not_signed r run.order sign f) (keeps r run f (not sign) g)
+    | inr g ↦ keeps_same r run.order (Signed r (not sign) f) (Signed r sign (Not f)) (not_signed r run.order sign f) (keeps r run f (not sign) g kept)
   ]
-  keeps r run (And fs) true h = elim (or_cases (is_local (And fs)) (all_conjunctive true fs) h) [
+  keeps r run (And fs) true h kept = elim (or_cases (is_local (And fs)) (all_conjunctive true fs) h) [
     | inl l ↦ local_keeps r true (And fs) l
-    | inr g ↦ keeps_all r run fs true g
+    | inr g ↦ keeps_all r run fs true g kept
   ]
-  keeps r run (And fs) false h = local_keeps r false (And fs) h
-  keeps r run (Or fs) true h = local_keeps r true (Or fs) h
-  keeps r run (Or fs) false h = elim (or_cases (is_local (Or fs)) (all_conjunctive false fs) h) [
+  keeps r run (And fs) false h kept = local_keeps r false (And fs) h
+  keeps r run (Or fs) true h kept = local_keeps r true (Or fs) h
+  keeps r run (Or fs) false h kept = elim (or_cases (is_local (Or fs)) (all_conjunctive false fs) h) [
     | inl l ↦ local_keeps r false (Or fs) l
-    | inr g ↦ keeps_all r run fs false g
+    | inr g ↦ keeps_all r run fs false g kept
   ]
-  keeps r run (Temporal operator f) true h =
+  keeps r run (Temporal operator f) true h kept =
       let both = and_parts (is_analysed operator) (is_conjunctive true f) h in
-      temporal_keeps r run.order operator f both.0 (keeps r run f true both.1)
-  keeps r run (Temporal operator f) false h = absurd (false≢true h)
-  keeps r run (Until all left right) sign h = absurd (false≢true h)
+      temporal_keeps r run.order operator f both.0 (keeps r run f true both.1 kept)
+  keeps r run (Temporal operator f) false h kept = absurd (false≢true h)
+  keeps r run (Next process f) true h kept = next_keeps r run.order process f (keeps r run f true h kept)
+  keeps r run (Next process f) false h kept = absurd (false≢true h)
+  keeps r run (Until all left right) sign h kept = absurd (false≢true h)
 
-  keeps_all : (r : Run) → IsRun r → (fs : Formulas) (sign : Bool) → all_conjunctive sign fs ≡ true → Keeps r (SignedAll r sign fs)
-  keeps_all r run Nil sign h = keeps_none r sign
-  keeps_all r run (Cons f fs) sign h =
+  keeps_all : (r : Run) → IsRun r → (fs : Formulas) (sign : Bool) → all_conjunctive sign fs ≡ true → AreKeptFor r fs → Keeps r (SignedAll r sign fs)
+  keeps_all r run Nil sign h kept = keeps_none r sign
+  keeps_all r run (Cons f fs) sign h kept =
       let both = and_parts (is_conjunctive sign f) (all_conjunctive sign fs) h in
-      keeps_more r sign f fs (keeps r run f sign both.0) (keeps_all r run fs sign both.1)
+      keeps_more r sign f fs (keeps r run f sign both.0 kept.0) (keeps_all r run fs sign both.1 kept.1)
 
 -- the family of a regular formula is closed
-pub regular_closed : (r : Run) → IsRun r → (f : Formula) → IsRegular f → IsClosed r.clocks (Family r f)
+pub regular_closed : (r : Run) → IsRun r → (f : Formula) → IsRegularIn r f → IsClosed r.clocks (Family r f)
 regular_closed r run f h =
-    let k = keeps r run f true h in
+    let k = keeps r run f true h.form h.kept in
     record {
       consistent = λ c m. m.0;
       has_min = λ c d m n. (min_consistent r.clocks run.order c d m.0 n.0, k.has_min c d m.0 n.0 m.1 n.1);

@@ -1,18 +1,19 @@
 -- The canonical witness is of its kind.
 use Rattle.std.proofs.Common.{◌≡◌, ℕ, ◌+◌, ◌<◌, ◌↔◌, List, [], ◌∷◌, length, Option, Some, None, sym, ap, ◌∙◌, subst, refl, inl, inr, arith}
 use Rattle.run_model.specs.Cut.{Cut, Clocks, count, IsWithin, with_next, lengths, initial}
-use Rattle.run_model.specs.Run.{Run}
+use Rattle.run_model.specs.Run.{Name, Run}
 use Rattle.run_model.specs.Consistent.{clock, IsOrder, IsConsistent, IsPath}
 use Rattle.run_model.specs.Sublattice.{AllIn, IsClosed, Having}
 use Rattle.run_model.specs.Slice.{Slice, HasWithin, IsLeastOf, Cuts, StandsFor, Fits}
-use Rattle.run_model.specs.Formula.{Formula}
+use Rattle.run_model.specs.Formula.{Ef, Ag, Eg, Formula, Temporal, Next}
+use Rattle.run_model.specs.Operators.{NextTime}
 use Rattle.run_model.specs.Meaning.{Sat, Family}
-use Rattle.run_model.specs.Witness.{WitnessOperator, ExistsFinally, AlwaysGlobally, ExistsGlobally, part_of, Place, PathTo, Witness, StepsIn, IsOfKind, FirstSteps, FirstStepsTo, IsFirst, row_at, Departs, Shares, IsPlace, IsCanonical}
+use Rattle.run_model.specs.Witness.{WitnessOperator, ExistsFinally, AlwaysGlobally, ExistsGlobally, ExistsNext, IsPartOf, HasFirst, first_event_of, Place, PathTo, Witness, StepsIn, IsOfKind, FirstSteps, FirstStepsTo, IsFirst, row_at, Departs, Shares, IsPlace, IsCanonical}
 use Rattle.run_model.specs.Witness as W
-use Rattle.run_model.proofs.Counts.{within_both, initial_within, count-initial, total, total_next}
+use Rattle.run_model.proofs.Counts.{within_both, initial_within, length-initial, count-initial, total, total_next}
 use Rattle.std.proofs.lemmas.Bool.{cases_order}
 use Rattle.run_model.proofs.Orders.{event_of_run, has_past, past_consistent, past_has, initial_consistent, final_consistent}
-use Rattle.run_model.proofs.Paths.{path_last, each_time_from_ends}
+use Rattle.run_model.proofs.Paths.{path_last, each_time_from_ends, next_time_from, next_time_lands}
 use Rattle.run_model.proofs.SliceLemmas.{least_of_member, has_within_up, cuts_member, member_cuts, one_bottom, one_row}
 use Rattle.run_model.proofs.OperatorLemmas.{rows_both, pair_refutes}
 
@@ -50,30 +51,63 @@ all_there o order s start rows d k = record {
   rows = λ i a ev. subst (λ x. HasWithin x d) (sym (rows (record { process = i; position = a }) (event_of_run o d k i a ev))) (has_past o order d k i a ev);
 }
 
-pub canonical_is_of_kind : (r : Run) → IsOrder r.clocks → (f : Formula) → IsClosed r.clocks (Family r f) → (s : Slice) → StandsFor r.clocks s (Family r f) → (operator : WitnessOperator) (w : Witness) → IsCanonical r.clocks s operator w → IsOfKind r (part_of operator f) w
-canonical_is_of_kind r order f closed s stands _ _ (W.IsCanonical.reaches {path = p} bottom steps) = W.IsOfKind.reaches
+-- the first event of the process leads to a cut of the slice exactly where EX is true at the start
+first_next : (r : Run) (f : Formula) → IsClosed r.clocks (Family r f) → (s : Slice) → StandsFor r.clocks s (Family r f) → (i : ℕ) → HasFirst r.clocks s i ↔ NextTime r.clocks i (Sat r f) (initial r.clocks)
+first_next r f closed s stands i = (
+  λ h.
+      let member = cuts_member r.clocks (Family r f) closed s stands (with_next (initial r.clocks) i) h.1 in
+      next_time_from r.clocks i (Sat r f) (initial r.clocks) (omega (arith, h.0, length-initial r.clocks)) (initial_consistent r.clocks) member.0 member.1,
+  λ w. (
+    omega (arith, w.0, length-initial r.clocks),
+    member_cuts r.clocks (Family r f) closed s stands (with_next (initial r.clocks) i) (next_time_lands r.clocks i (Sat r f) (initial r.clocks) w, w.2),
+  ),
+)
+
+-- what the witness for an operator says of the part that the operator makes of f
+abbrev KindOf : Run → Formula → WitnessOperator → Witness → Type 0
+KindOf r f ExistsFinally w = IsOfKind r (Temporal Ef f) w
+KindOf r f AlwaysGlobally w = IsOfKind r (Temporal Ag f) w
+KindOf r f ExistsGlobally w = IsOfKind r (Temporal Eg f) w
+KindOf r f (ExistsNext i) w = (process : Name) → r.process process ≡ i → IsOfKind r (Next process f) w
+
+canonical_kind : (r : Run) → IsOrder r.clocks → (f : Formula) → IsClosed r.clocks (Family r f) → (s : Slice) → StandsFor r.clocks s (Family r f) → (operator : WitnessOperator) (w : Witness) → IsCanonical r.clocks s operator w → KindOf r f operator w
+canonical_kind r order f closed s stands _ _ (W.IsCanonical.reaches {path = p} bottom steps) = W.IsOfKind.reaches
     (first_steps_wider (λ c. IsConsistent r.clocks c × IsWithin c p.goal) (IsConsistent r.clocks) (λ c h. h.0) (initial r.clocks) p.steps p.goal steps)
     (subst (IsLeastOf (Family r f)) bottom stands.bottom)
-canonical_is_of_kind r order f closed s stands _ _ (W.IsCanonical.never bottom) = W.IsOfKind.never
+canonical_kind r order f closed s stands _ _ (W.IsCanonical.never bottom) = W.IsOfKind.never
     (λ w. bottom_empty (Family r f) s.bottom stands.bottom bottom w.1 (path_last (IsConsistent r.clocks) (initial r.clocks) w.0 w.1 w.2, w.3))
-canonical_is_of_kind r order f closed s stands _ _ (W.IsCanonical.refuted_at_start start) = W.IsOfKind.refutes
+canonical_kind r order f closed s stands _ _ (W.IsCanonical.refuted_at_start start) = W.IsOfKind.refutes
     (initial_consistent r.clocks, refl)
     (λ h. start (member_cuts r.clocks (Family r f) closed s stands (initial r.clocks) (initial_consistent r.clocks, h)))
-canonical_is_of_kind r order f closed s stands _ _ (W.IsCanonical.refuted {path = p} {e = e} start first goal steps) = W.IsOfKind.refutes
+canonical_kind r order f closed s stands _ _ (W.IsCanonical.refuted {path = p} {e = e} start first goal steps) = W.IsOfKind.refutes
     (first_steps_wider (λ c. IsConsistent r.clocks c × IsWithin c p.goal) (IsConsistent r.clocks) (λ c h. h.0) (initial r.clocks) p.steps p.goal steps)
     (λ h. departs_false r.clocks order (Family r f) closed.consistent s stands e first.there first.has (past_consistent r.clocks order e.process e.position first.there, subst (Sat r f) goal h))
-canonical_is_of_kind r order f closed s stands _ _ (W.IsCanonical.each_time start rows) = W.IsOfKind.each_time
+canonical_kind r order f closed s stands _ _ (W.IsCanonical.each_time start rows) = W.IsOfKind.each_time
     (each_time_from_ends r.clocks (Sat r f) (initial r.clocks) (λ es d p. (cuts_member r.clocks (Family r f) closed s stands d (all_there r.clocks order s start rows d (path_last (IsConsistent r.clocks) (initial r.clocks) es d p))).1))
-canonical_is_of_kind r order f closed s stands _ _ (W.IsCanonical.stays {path = p} goal steps) = W.IsOfKind.stays
+canonical_kind r order f closed s stands _ _ (W.IsCanonical.stays {path = p} goal steps) = W.IsOfKind.stays
     (first_steps_wider (Cuts r.clocks s) (Family r f) (cuts_member r.clocks (Family r f) closed s stands) (initial r.clocks) p.steps p.goal steps)
     goal
-canonical_is_of_kind r order f closed s stands _ _ (W.IsCanonical.false_at_start start) = W.IsOfKind.false_at_start
+canonical_kind r order f closed s stands _ _ (W.IsCanonical.false_at_start start) = W.IsOfKind.false_at_start
     (λ h. start (member_cuts r.clocks (Family r f) closed s stands (initial r.clocks) (initial_consistent r.clocks, h)))
-canonical_is_of_kind r order f closed s stands _ _ (W.IsCanonical.false_at_finish start finish) = W.IsOfKind.false_at_finish
+canonical_kind r order f closed s stands _ _ (W.IsCanonical.false_at_finish start finish) = W.IsOfKind.false_at_finish
     (λ h. finish (member_cuts r.clocks (Family r f) closed s stands (lengths r.clocks) (final_consistent r.clocks order, h)))
-canonical_is_of_kind r order f closed s stands _ _ (W.IsCanonical.come_together {first = e} {other = g} start finish first other) = W.IsOfKind.come_together
+canonical_kind r order f closed s stands _ _ (W.IsCanonical.come_together {first = e} {other = g} start finish first other) = W.IsOfKind.come_together
     first.there other.there other.has.0
     (rows_both r.clocks (Family r f) s stands e.process e.position g.process g.position first.there other.there (sym other.has.1))
+canonical_kind r order f closed s stands _ _ (W.IsCanonical.reaches_next {process = i} first) = λ process e.
+    subst (λ j. IsOfKind r (Next process f) (W.Reach (first_event_of r.clocks j))) e
+    (W.IsOfKind.reaches_next ((first_next r f closed s stands (r.process process)).0 (subst (HasFirst r.clocks s) (sym e) first)))
+canonical_kind r order f closed s stands _ _ (W.IsCanonical.never_next {process = i} none) = λ process e.
+    W.IsOfKind.never_next (λ w. none (subst (HasFirst r.clocks s) e ((first_next r f closed s stands (r.process process)).1 w)))
+
+part_kind : (r : Run) (f : Formula) (operator : WitnessOperator) (part : Formula) → IsPartOf r operator f part → (w : Witness) → KindOf r f operator w → IsOfKind r part w
+part_kind r f ExistsFinally part e w k = subst (λ x. IsOfKind r x w) (sym e) k
+part_kind r f AlwaysGlobally part e w k = subst (λ x. IsOfKind r x w) (sym e) k
+part_kind r f ExistsGlobally part e w k = subst (λ x. IsOfKind r x w) (sym e) k
+part_kind r f (ExistsNext i) part h w k = subst (λ x. IsOfKind r x w) (sym h.2) (k h.0 h.1)
+
+pub canonical_is_of_kind : (r : Run) → IsOrder r.clocks → (f : Formula) → IsClosed r.clocks (Family r f) → (s : Slice) → StandsFor r.clocks s (Family r f) → (operator : WitnessOperator) (part : Formula) → IsPartOf r operator f part → (w : Witness) → IsCanonical r.clocks s operator w → IsOfKind r part w
+canonical_is_of_kind r order f closed s stands operator part h w canonical = part_kind r f operator part h w (canonical_kind r order f closed s stands operator w canonical)
 
 -- ---- the witness goes by the set, not by the slice that is at hand
 
@@ -125,6 +159,8 @@ canonical_same o A closed s t k l operator w canonical = moved operator w canoni
         ((cuts (initial o)).0 start) ((cuts (lengths o)).0 finish)
         (first_same o (λ e. (f : Place) × IsPlace o f × Shares s e f) (λ e. (f : Place) × IsPlace o f × Shares t e f) sharing e first)
         (first_same o (Shares s e) (Shares t e) (shares e first.there) g other)
+    moved _ _ (W.IsCanonical.reaches_next {process = i} first) = W.IsCanonical.reaches_next (first.0, (cuts (with_next (initial o) i)).0 first.1)
+    moved _ _ (W.IsCanonical.never_next {process = i} none) = W.IsCanonical.never_next (λ first. none (first.0, (cuts (with_next (initial o) i)).1 first.1))
 
 -- ---- there is one canonical witness
 
@@ -238,8 +274,15 @@ always_one o s fits _ _ (W.IsCanonical.come_together {first = e} {other = f} sta
     let both = first_one o (Shares s g) f h (subst (λ x. IsFirst o (Shares s x) f) same other) another in
     ap (λ x. W.StuckPair x f) same ∙ ap (W.StuckPair g) both
 
+next_one : (o : Clocks) (s : Slice) (i : ℕ) (w v : Witness) → IsCanonical o s (ExistsNext i) w → IsCanonical o s (ExistsNext i) v → w ≡ v
+next_one o s i _ _ (W.IsCanonical.reaches_next first) (W.IsCanonical.reaches_next other) = refl
+next_one o s i _ _ (W.IsCanonical.reaches_next first) (W.IsCanonical.never_next none) = absurd (none first)
+next_one o s i _ _ (W.IsCanonical.never_next none) (W.IsCanonical.reaches_next first) = absurd (none first)
+next_one o s i _ _ (W.IsCanonical.never_next none) (W.IsCanonical.never_next other) = refl
+
 -- an operator over a slice has one canonical witness at most
 pub canonical_one : (o : Clocks) (s : Slice) → Fits o s → (operator : WitnessOperator) (w v : Witness) → IsCanonical o s operator w → IsCanonical o s operator v → w ≡ v
 canonical_one o s fits ExistsFinally w v p q = reach_one o s w v p q
 canonical_one o s fits AlwaysGlobally w v p q = against_one o s w v p q
 canonical_one o s fits ExistsGlobally w v p q = always_one o s fits w v p q
+canonical_one o s fits (ExistsNext i) w v p q = next_one o s i w v p q

@@ -8,8 +8,7 @@ use Rattle.run_model.specs.Sublattice.{IsClosed, Smallest}
 use Rattle.run_model.specs.Slice.{Slice, Cuts, StandsFor}
 use Rattle.run_model.specs.Formula.{Formula}
 use Rattle.run_model.specs.Meaning.{Family}
-use Rattle.run_model.specs.Class.{is_conjunctive}
-use Rattle.run_model.specs.Witness.{WitnessOperator, ExistsFinally, AlwaysGlobally, ExistsGlobally, Place, PathTo, Witness, Nothing, Reach, Against, Always, StuckStart, StuckFinish, StuckPair, FirstSteps, FirstStepsTo, IsPlace, IsBefore, IsFirst, row_at, Departs, Shares, AreTwo, IsCanonical}
+use Rattle.run_model.specs.Witness.{WitnessOperator, ExistsFinally, AlwaysGlobally, ExistsGlobally, ExistsNext, first_event_of, Place, PathTo, Witness, Nothing, Reach, Against, Always, StuckStart, StuckFinish, StuckPair, FirstSteps, FirstStepsTo, IsPlace, IsBefore, IsFirst, row_at, Departs, Shares, AreTwo, IsCanonical}
 use Rattle.run_model.specs.Witness as W
 use Rattle.run_model.specs.Worked.{stable, run_with_watch, HasWitness}
 use Rattle.run_model.proofs.Counts.{within_both, within_refl}
@@ -18,6 +17,7 @@ use Rattle.run_model.proofs.SliceLemmas.{stands_same, cuts_member, member_cuts}
 use Rattle.run_model.proofs.JoinLemmas.{smallest_of_closed}
 use Rattle.run_model.proofs.RegularLemmas.{regular_closed}
 use Rattle.run_model.proofs.TraceLemmas.{run_of_order}
+use Rattle.run_model.proofs.WorkedLemmas.{is_regular_anyhow, regular_anyhow}
 use Rattle.run_model.proofs.WitnessLemmas.{canonical_same}
 use Rattle.run_model.proofs.Listing.{within, within_is, is_within, consistent, consistent_is, is_consistent, all_below, all_below_at, some_below, some_below_is, some_below_from, consistent_cuts, holds, holds_reads}
 use Rattle.run_model.proofs.ListedSlices.{all_events, all_events_at, ordered, ordered_is, least_listed, family, listed_slice, listed_stands}
@@ -186,10 +186,10 @@ record Operand (trace : Trace) (f : Formula) : Type 0 where
   closed : IsClosed (clocks_of trace) (Family (run_with_watch trace) f)
   stands : StandsFor (clocks_of trace) (listed_slice (run_with_watch trace) f) (Family (run_with_watch trace) f)
 
-operand : (trace : Trace) (f : Formula) → ordered (clocks_of trace) ≡ true → is_conjunctive true f ≡ true → Operand trace f
+operand : (trace : Trace) (f : Formula) → ordered (clocks_of trace) ≡ true → is_regular_anyhow f ≡ true → Operand trace f
 operand trace f o k =
     let order = ordered_is (clocks_of trace) o in
-    let closed = regular_closed (run_with_watch trace) (run_of_order trace (λ name states. stable states) order) f k in
+    let closed = regular_closed (run_with_watch trace) (run_of_order trace (λ name states. stable states) order) f (regular_anyhow (run_with_watch trace) f k) in
     record {
       order = order;
       closed = closed;
@@ -217,14 +217,14 @@ for_each_slice trace f k operator w canonical s stands = canonical_same (clocks_
 
 -- ---- the kinds
 
-pub reaches_by_listing : (trace : Trace) (f : Formula) (path : PathTo) → ordered (clocks_of trace) ≡ true → is_conjunctive true f ≡ true → least_listed (family (run_with_watch trace) f) ≡ Some path.goal → first_steps (below (clocks_of trace) path.goal) (initial (clocks_of trace)) path.steps path.goal ≡ true → HasWitness trace ExistsFinally f (Reach path)
+pub reaches_by_listing : (trace : Trace) (f : Formula) (path : PathTo) → ordered (clocks_of trace) ≡ true → is_regular_anyhow f ≡ true → least_listed (family (run_with_watch trace) f) ≡ Some path.goal → first_steps (below (clocks_of trace) path.goal) (initial (clocks_of trace)) path.steps path.goal ≡ true → HasWitness trace ExistsFinally f (Reach path)
 reaches_by_listing trace f path o k least steps = for_each_slice trace f (operand trace f o k) ExistsFinally (Reach path) (W.IsCanonical.reaches least
     (first_steps_is (below (clocks_of trace) path.goal) (λ c. IsConsistent (clocks_of trace) c × IsWithin c path.goal) (below_reads (clocks_of trace) path.goal) (initial (clocks_of trace)) path.steps path.goal steps))
 
-pub never_by_listing : (trace : Trace) (f : Formula) → ordered (clocks_of trace) ≡ true → is_conjunctive true f ≡ true → least_listed (family (run_with_watch trace) f) ≡ None → HasWitness trace ExistsFinally f Nothing
+pub never_by_listing : (trace : Trace) (f : Formula) → ordered (clocks_of trace) ≡ true → is_regular_anyhow f ≡ true → least_listed (family (run_with_watch trace) f) ≡ None → HasWitness trace ExistsFinally f Nothing
 never_by_listing trace f o k none = for_each_slice trace f (operand trace f o k) ExistsFinally Nothing (W.IsCanonical.never none)
 
-pub refuted_by_listing : (trace : Trace) (f : Formula) (path : PathTo) (e : Place) → ordered (clocks_of trace) ≡ true → is_conjunctive true f ≡ true → member trace f (initial (clocks_of trace)) ≡ true
+pub refuted_by_listing : (trace : Trace) (f : Formula) (path : PathTo) (e : Place) → ordered (clocks_of trace) ≡ true → is_regular_anyhow f ≡ true → member trace f (initial (clocks_of trace)) ≡ true
     → first_place (clocks_of trace) (departs (clocks_of trace) (listed_slice (run_with_watch trace) f)) e ≡ true → path.goal ≡ clock (clocks_of trace) e.process e.position
     → first_steps (below (clocks_of trace) path.goal) (initial (clocks_of trace)) path.steps path.goal ≡ true → HasWitness trace AlwaysGlobally f (Against path)
 refuted_by_listing trace f path e o k start first goal steps =
@@ -235,26 +235,26 @@ refuted_by_listing trace f path e o k start first goal steps =
     goal
     (first_steps_is (below (clocks_of trace) path.goal) (λ c. IsConsistent (clocks_of trace) c × IsWithin c path.goal) (below_reads (clocks_of trace) path.goal) (initial (clocks_of trace)) path.steps path.goal steps))
 
-pub each_time_by_listing : (trace : Trace) (f : Formula) → ordered (clocks_of trace) ≡ true → is_conjunctive true f ≡ true → member trace f (initial (clocks_of trace)) ≡ true
+pub each_time_by_listing : (trace : Trace) (f : Formula) → ordered (clocks_of trace) ≡ true → is_regular_anyhow f ≡ true → member trace f (initial (clocks_of trace)) ≡ true
     → all_events (lengths (clocks_of trace)) (λ i a. row_is ((listed_slice (run_with_watch trace) f).row i a) (Some (clock (clocks_of trace) i a))) ≡ true → HasWitness trace AlwaysGlobally f Nothing
 each_time_by_listing trace f o k start rows =
     let op = operand trace f o k in
     for_each_slice trace f op AlwaysGlobally Nothing (W.IsCanonical.each_time ((member_reads trace f op (initial (clocks_of trace))).0 start)
     (λ e there. row_is_same (row_at (listed_slice (run_with_watch trace) f) e) (Some (clock (clocks_of trace) e.process e.position)) (all_events_at (lengths (clocks_of trace)) (λ i a. row_is ((listed_slice (run_with_watch trace) f).row i a) (Some (clock (clocks_of trace) i a))) rows e.process e.position there)))
 
-pub stays_by_listing : (trace : Trace) (f : Formula) (path : PathTo) → ordered (clocks_of trace) ≡ true → is_conjunctive true f ≡ true → path.goal ≡ lengths (clocks_of trace) → first_steps (member trace f) (initial (clocks_of trace)) path.steps path.goal ≡ true → HasWitness trace ExistsGlobally f (Always path)
+pub stays_by_listing : (trace : Trace) (f : Formula) (path : PathTo) → ordered (clocks_of trace) ≡ true → is_regular_anyhow f ≡ true → path.goal ≡ lengths (clocks_of trace) → first_steps (member trace f) (initial (clocks_of trace)) path.steps path.goal ≡ true → HasWitness trace ExistsGlobally f (Always path)
 stays_by_listing trace f path o k goal steps =
     let op = operand trace f o k in
     for_each_slice trace f op ExistsGlobally (Always path) (W.IsCanonical.stays goal
     (first_steps_is (member trace f) (Cuts (clocks_of trace) (listed_slice (run_with_watch trace) f)) (member_reads trace f op) (initial (clocks_of trace)) path.steps path.goal steps))
 
-pub finish_by_listing : (trace : Trace) (f : Formula) → ordered (clocks_of trace) ≡ true → is_conjunctive true f ≡ true → member trace f (initial (clocks_of trace)) ≡ true → member trace f (lengths (clocks_of trace)) ≡ false → HasWitness trace ExistsGlobally f StuckFinish
+pub finish_by_listing : (trace : Trace) (f : Formula) → ordered (clocks_of trace) ≡ true → is_regular_anyhow f ≡ true → member trace f (initial (clocks_of trace)) ≡ true → member trace f (lengths (clocks_of trace)) ≡ false → HasWitness trace ExistsGlobally f StuckFinish
 finish_by_listing trace f o k start finish =
     let op = operand trace f o k in
     for_each_slice trace f op ExistsGlobally StuckFinish (W.IsCanonical.false_at_finish ((member_reads trace f op (initial (clocks_of trace))).0 start)
     (λ m. both_ways (member trace f (lengths (clocks_of trace))) finish ((member_reads trace f op (lengths (clocks_of trace))).1 m)))
 
-pub pair_by_listing : (trace : Trace) (f : Formula) (first other : Place) → ordered (clocks_of trace) ≡ true → is_conjunctive true f ≡ true → member trace f (initial (clocks_of trace)) ≡ true → member trace f (lengths (clocks_of trace)) ≡ true
+pub pair_by_listing : (trace : Trace) (f : Formula) (first other : Place) → ordered (clocks_of trace) ≡ true → is_regular_anyhow f ≡ true → member trace f (initial (clocks_of trace)) ≡ true → member trace f (lengths (clocks_of trace)) ≡ true
     → first_place (clocks_of trace) (is_sharing (clocks_of trace) (listed_slice (run_with_watch trace) f)) first ≡ true
     → first_place (clocks_of trace) (shares (listed_slice (run_with_watch trace) f) first) other ≡ true → HasWitness trace ExistsGlobally f (StuckPair first other)
 pair_by_listing trace f first other o k start finish p q =
@@ -265,3 +265,15 @@ pair_by_listing trace f first other o k start finish p q =
     ((member_reads trace f op (lengths (clocks_of trace))).0 finish)
     (first_place_is (clocks_of trace) (is_sharing (clocks_of trace) s) (λ e. (f : Place) × IsPlace (clocks_of trace) f × Shares s e f) (λ e there. sharing_reads (clocks_of trace) s e) first p)
     (first_place_is (clocks_of trace) (shares s first) (Shares s first) (λ e there. shares_reads s first e) other q))
+
+pub next_by_listing : (trace : Trace) (f : Formula) (i : ℕ) → ordered (clocks_of trace) ≡ true → is_regular_anyhow f ≡ true → ltb i (length (clocks_of trace)) ≡ true → member trace f (with_next (initial (clocks_of trace)) i) ≡ true → HasWitness trace (ExistsNext i) f (Reach (first_event_of (clocks_of trace) i))
+next_by_listing trace f i o k there holds =
+    let op = operand trace f o k in
+    for_each_slice trace f op (ExistsNext i) (Reach (first_event_of (clocks_of trace) i)) (W.IsCanonical.reaches_next
+    (ltb-true i (length (clocks_of trace)) there, (member_reads trace f op (with_next (initial (clocks_of trace)) i)).0 holds))
+
+pub never_next_by_listing : (trace : Trace) (f : Formula) (i : ℕ) → ordered (clocks_of trace) ≡ true → is_regular_anyhow f ≡ true → member trace f (with_next (initial (clocks_of trace)) i) ≡ false → HasWitness trace (ExistsNext i) f Nothing
+never_next_by_listing trace f i o k fails =
+    let op = operand trace f o k in
+    for_each_slice trace f op (ExistsNext i) Nothing (W.IsCanonical.never_next
+    (λ first. both_ways (member trace f (with_next (initial (clocks_of trace)) i)) fails ((member_reads trace f op (with_next (initial (clocks_of trace)) i)).1 first.1)))

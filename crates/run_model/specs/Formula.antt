@@ -21,7 +21,6 @@ pub data Operator : Type 0 where
   Ef : Operator
   Ag : Operator
   Eg : Operator
-  Ex : Operator
   Af : Operator
   Ax : Operator
 
@@ -36,10 +35,15 @@ mutual
     InTransit : (sender receiver : Name) (relation : Relation) (k : ℕ) → Formula
     -- that number is 0
     Empty : (sender receiver : Name) → Formula
+    -- a variable of the left process less one of the right process, against k
+    Difference : (left_process left right_process right : Name) (relation : Relation) (k : ℤ)
+        → Formula
     Not : (f : Formula) → Formula
     And : (fs : Formulas) → Formula
     Or : (fs : Formulas) → Formula
     Temporal : (operator : Operator) (f : Formula) → Formula
+    -- f at the cut with the next event of the process
+    Next : (process : Name) (f : Formula) → Formula
     -- on all paths, or on some path
     Until : (all : Bool) (left right : Formula) → Formula
 

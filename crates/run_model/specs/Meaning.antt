@@ -1,16 +1,17 @@
 -- Truth of a formula at a consistent cut of a run (Sen and Garg, on finite runs: every path can be
 -- taken to the final cut).
 use Rattle.std.specs.Prelude.{◌≡◌, ℕ, ◌-◌, ◌≤◌, ◌⊎◌, Bool, not, ◌==◌, if◌then◌else◌, IsTrue, ℤ, pos}
-use Rattle.std.specs.Prelude.{int_lt, int_le, ⊤}
+use Rattle.std.specs.Prelude.{◌-ℤ◌, int_lt, int_le, ⊤}
 use Rattle.std.specs.Ordering.{int_eq}
 use Rattle.run_model.specs.Cut.{Cut, count}
 use Rattle.run_model.specs.Run.{Name, Run}
 use Rattle.run_model.specs.Consistent.{IsOrder, IsConsistent}
-use Rattle.run_model.specs.Operators.{SomeTime, EachTime, Staying}
+use Rattle.run_model.specs.Operators.{SomeTime, EachTime, Staying, NextTime}
 use Rattle.run_model.specs.Formula.{Relation, Equal, Unequal, Less, LessOrEqual, Greater}
-use Rattle.run_model.specs.Formula.{GreaterOrEqual, Side, Number, Variable, Ef, Ag, Eg, Ex, Af, Ax}
-use Rattle.run_model.specs.Formula.{Formula, Truth, Comparison, Watched, InTransit, Empty, Not, And}
-use Rattle.run_model.specs.Formula.{Or, Temporal, Until, Formulas, Nil, Cons}
+use Rattle.run_model.specs.Formula.{GreaterOrEqual, Side, Number, Variable, Ef, Ag, Eg, Af, Ax}
+use Rattle.run_model.specs.Formula.{Formula, Truth, Comparison, Watched, InTransit, Empty}
+use Rattle.run_model.specs.Formula.{Difference, Not, And, Or, Temporal, Next, Until, Formulas, Nil}
+use Rattle.run_model.specs.Formula.{Cons}
 
 abbrev pub compares : Relation → ℤ → ℤ → Bool
 compares Equal x y = int_eq x y
@@ -46,7 +47,7 @@ ReceiptsHaveSends r =
     (p q : ℕ) → (p ≡ q → ⊥) → (c : Cut) → IsConsistent r.clocks c
     → r.received p q (count c q) ≤ r.sent p q (count c p)
 
--- EX, AF, AX and until are outside the fragment that is analysed. They are refused before any truth
+-- AF, AX and until are outside the fragment that is analysed. They are refused before any truth
 -- is asked, so no meaning is given to them and no promise speaks of them
 abbrev mutual
   pub Sat : Run → Formula → Cut → Type 0
@@ -59,15 +60,18 @@ abbrev mutual
       IsTrue (compares relation (pos (in_transit r (r.process sender) (r.process receiver) c))
       (pos k))
   Sat r (Empty sender receiver) c = in_transit r (r.process sender) (r.process receiver) c ≡ 0
+  Sat r (Difference left_process left right_process right relation k) c =
+      IsTrue (compares relation
+      (value_at r left_process left c -ℤ value_at r right_process right c) k)
   Sat r (Not f) c = Sat r f c → ⊥
   Sat r (And fs) c = SatAll r fs c
   Sat r (Or fs) c = SatSome r fs c
   Sat r (Temporal Ef f) c = SomeTime r.clocks (Sat r f) c
   Sat r (Temporal Ag f) c = EachTime r.clocks (Sat r f) c
   Sat r (Temporal Eg f) c = Staying r.clocks (Sat r f) c
-  Sat r (Temporal Ex f) c = ⊥
   Sat r (Temporal Af f) c = ⊥
   Sat r (Temporal Ax f) c = ⊥
+  Sat r (Next process f) c = NextTime r.clocks (r.process process) (Sat r f) c
   Sat r (Until all left right) c = ⊥
 
   -- each formula is true

@@ -1,8 +1,8 @@
 -- What the temporal operators make of a set of cuts (Sen and Garg, on finite runs), and what they
 -- and disjunction make of slices.
-use Rattle.std.specs.Prelude.{◌≡◌, ℕ, ◌≤◌, List, [], ◌∷◌, Option, Some, None, option_map}
-use Rattle.std.specs.Prelude.{if◌then◌else◌, nat_le}
-use Rattle.run_model.specs.Cut.{Cut, Clocks, count, min_cut, max_cut, lengths, initial}
+use Rattle.std.specs.Prelude.{◌≡◌, ℕ, ◌<◌, ◌≤◌, List, [], ◌∷◌, length, Option, Some, None}
+use Rattle.std.specs.Prelude.{option_map, if◌then◌else◌, nat_le}
+use Rattle.run_model.specs.Cut.{Cut, Clocks, count, min_cut, max_cut, with_next, lengths, initial}
 use Rattle.run_model.specs.Consistent.{IsEvent, IsPath, clock}
 use Rattle.run_model.specs.Sublattice.{AllIn}
 use Rattle.run_model.specs.Slice.{Slice, HasWithin}
@@ -18,6 +18,11 @@ EachTime o A c = (es : List Cut) (d : Cut) → IsPath o c es d → AllIn A c es
 -- EG: some path from c to the final cut stays in the set
 abbrev pub Staying : Clocks → (Cut → Type 0) → Cut → Type 0
 Staying o A c = (es : List Cut) × IsPath o c es (lengths o) × AllIn A c es
+
+-- EX of process i: some path of two cuts from c ends in the set, with one event of i more
+abbrev pub NextTime : Clocks → ℕ → (Cut → Type 0) → Cut → Type 0
+NextTime o i A c =
+    (i < length c) × IsPath o c (with_next c i ∷ []) (with_next c i) × A (with_next c i)
 
 -- AG at c by the rows of the set's slice: each is within the maximum of c and the past of its
 -- event, so c has each event of the row that is not in that past

@@ -3,12 +3,14 @@
 use Rattle.std.specs.Prelude.{◌≡◌, ℕ, ◌+◌, ◌<◌, ◌≤◌, ◌⊎◌, ◌↔◌, Bool, true, false, IsFalse, List, []}
 use Rattle.std.specs.Prelude.{◌∷◌, length, Option, Some, None, MatchOption}
 use Rattle.run_model.specs.Cut.{Cut, Clocks, count, IsWithin, with_next, lengths, initial}
-use Rattle.run_model.specs.Run.{Run}
+use Rattle.run_model.specs.Run.{Name, Run}
 use Rattle.run_model.specs.Consistent.{clock, IsEvent, IsConsistent}
 use Rattle.run_model.specs.Sublattice.{IsLeast}
 use Rattle.run_model.specs.Slice.{Slice, Cuts, StandsFor}
-use Rattle.run_model.specs.Formula.{Ef, Ag, Eg, Ex, Af, Ax, Formula, Truth, Comparison, Watched}
-use Rattle.run_model.specs.Formula.{InTransit, Empty, Not, And, Or, Temporal, Until}
+use Rattle.run_model.specs.Formula.{Ef, Ag, Eg, Af, Ax, Formula, Truth, Comparison, Watched}
+use Rattle.run_model.specs.Formula.{InTransit, Empty, Difference, Not, And, Or, Temporal, Next}
+use Rattle.run_model.specs.Formula.{Until}
+use Rattle.run_model.specs.Operators.{NextTime}
 use Rattle.run_model.specs.Meaning.{Sat, Family}
 
 -- an event by its process, from 0, and its position there, from 1
@@ -43,10 +45,12 @@ is_temporal (Comparison process variable relation side) = false
 is_temporal (Watched process watch) = false
 is_temporal (InTransit sender receiver relation k) = false
 is_temporal (Empty sender receiver) = false
+is_temporal (Difference left_process left right_process right relation k) = false
 is_temporal (Not f) = false
 is_temporal (And fs) = false
 is_temporal (Or fs) = false
 is_temporal (Temporal operator f) = true
+is_temporal (Next process f) = true
 is_temporal (Until all left right) = false
 
 -- two events differ
@@ -58,6 +62,14 @@ HasPlace c e = e.position ≤ count c e.process
 
 abbrev pub IsPlace : Clocks → Place → Type 0
 IsPlace o e = IsEvent (lengths o) e.process e.position
+
+-- the path of one step, the first event of process i
+abbrev pub first_event_of : Clocks → ℕ → PathTo
+first_event_of o i =
+    record {
+      goal = with_next (initial o) i;
+      steps = record { process = i; position = 1 } ∷ [];
+    }
 
 -- what a witness of a part says of the part at the initial cut
 pub data IsOfKind (r : Run) : Formula → Witness → Type 0 where
@@ -82,11 +94,17 @@ pub data IsOfKind (r : Run) : Formula → Witness → Type 0 where
       → IsPlace r.clocks other → AreTwo first other
       → ((c : Cut) → Family r f c → HasPlace c first ↔ HasPlace c other)
       → IsOfKind r (Temporal Eg f) (StuckPair first other)
+  -- the step leads to a cut where f is true
+  reaches_next : {process : Name} {f : Formula}
+      → NextTime r.clocks (r.process process) (Sat r f) (initial r.clocks)
+      → IsOfKind r (Next process f) (Reach (first_event_of r.clocks (r.process process)))
   not_temporal : {f : Formula} → IsFalse (is_temporal f) → IsOfKind r f Nothing
   never : {f : Formula} → (Sat r (Temporal Ef f) (initial r.clocks) → ⊥)
       → IsOfKind r (Temporal Ef f) Nothing
   each_time : {f : Formula} → Sat r (Temporal Ag f) (initial r.clocks)
       → IsOfKind r (Temporal Ag f) Nothing
+  never_next : {process : Name} {f : Formula}
+      → (Sat r (Next process f) (initial r.clocks) → ⊥) → IsOfKind r (Next process f) Nothing
 
 -- a path within a set that takes at each cut the next event of the first process whose next event
 -- leads to a cut of the set
@@ -123,17 +141,26 @@ Departs o s e = row_at s e ≡ Some (clock o e.process e.position) → ⊥
 abbrev pub Shares : Slice → Place → Place → Type 0
 Shares s e f = AreTwo e f × (row_at s f ≡ row_at s e)
 
--- the operators whose parts get a witness: EF, AG and EG by the words that they stand for
+-- the operators whose parts get a witness: EF, AG, EG and EX of a process by the words that they
+-- stand for
 pub data WitnessOperator : Type 0 where
   ExistsFinally : WitnessOperator
   AlwaysGlobally : WitnessOperator
   ExistsGlobally : WitnessOperator
+  ExistsNext : (process : ℕ) → WitnessOperator
 
--- the part that an operator makes of its operand
-abbrev pub part_of : WitnessOperator → Formula → Formula
-part_of ExistsFinally f = Temporal Ef f
-part_of AlwaysGlobally f = Temporal Ag f
-part_of ExistsGlobally f = Temporal Eg f
+-- the part is what the operator makes of the operand. EX names its process in the formula, and has
+-- its number in the witness
+abbrev pub IsPartOf : Run → WitnessOperator → Formula → Formula → Type 0
+IsPartOf r ExistsFinally f part = part ≡ Temporal Ef f
+IsPartOf r AlwaysGlobally f part = part ≡ Temporal Ag f
+IsPartOf r ExistsGlobally f part = part ≡ Temporal Eg f
+IsPartOf r (ExistsNext i) f part =
+    (process : Name) × (r.process process ≡ i) × (part ≡ Next process f)
+
+-- the first event of process i is there, and the cut with it alone is in the slice
+abbrev pub HasFirst : Clocks → Slice → ℕ → Type 0
+HasFirst o s i = (i < length o) × Cuts o s (with_next (initial o) i)
 
 -- the witness that is given for an operator over an operand with this slice
 pub data IsCanonical (o : Clocks) (s : Slice) : WitnessOperator → Witness → Type 0 where
@@ -161,27 +188,33 @@ pub data IsCanonical (o : Clocks) (s : Slice) : WitnessOperator → Witness → 
   come_together : {first other : Place} → Cuts o s (initial o) → Cuts o s (lengths o)
       → IsFirst o (λ e. (f : Place) × IsPlace o f × Shares s e f) first
       → IsFirst o (Shares s first) other → IsCanonical o s ExistsGlobally (StuckPair first other)
+  -- EX: the one step, if it leads to a cut of the slice
+  reaches_next : {process : ℕ} → HasFirst o s process
+      → IsCanonical o s (ExistsNext process) (Reach (first_event_of o process))
+  never_next : {process : ℕ} → (HasFirst o s process → ⊥)
+      → IsCanonical o s (ExistsNext process) Nothing
 
 -- the operator and the operand of a part that gets a witness
-abbrev pub explained : Formula → Option (WitnessOperator × Formula)
-explained (Truth b) = None
-explained (Comparison process variable relation side) = None
-explained (Watched process watch) = None
-explained (InTransit sender receiver relation k) = None
-explained (Empty sender receiver) = None
-explained (Not f) = None
-explained (And fs) = None
-explained (Or fs) = None
-explained (Temporal Ef f) = Some (ExistsFinally, f)
-explained (Temporal Ag f) = Some (AlwaysGlobally, f)
-explained (Temporal Eg f) = Some (ExistsGlobally, f)
-explained (Temporal Ex f) = None
-explained (Temporal Af f) = None
-explained (Temporal Ax f) = None
-explained (Until all left right) = None
+abbrev pub explained : Run → Formula → Option (WitnessOperator × Formula)
+explained r (Truth b) = None
+explained r (Comparison process variable relation side) = None
+explained r (Watched process watch) = None
+explained r (InTransit sender receiver relation k) = None
+explained r (Empty sender receiver) = None
+explained r (Difference left_process left right_process right relation k) = None
+explained r (Not f) = None
+explained r (And fs) = None
+explained r (Or fs) = None
+explained r (Temporal Ef f) = Some (ExistsFinally, f)
+explained r (Temporal Ag f) = Some (AlwaysGlobally, f)
+explained r (Temporal Eg f) = Some (ExistsGlobally, f)
+explained r (Temporal Af f) = None
+explained r (Temporal Ax f) = None
+explained r (Next process f) = Some (ExistsNext (r.process process), f)
+explained r (Until all left right) = None
 
 -- the witness of a part in a run: the canonical one by the slice of its operand's family, and none
 -- where the part has no such operand
 abbrev pub IsWitnessOf : Run → Formula → Witness → Type 0
-IsWitnessOf r f w = MatchOption (explained f) (w ≡ Nothing)
+IsWitnessOf r f w = MatchOption (explained r f) (w ≡ Nothing)
     (λ part. (s : Slice) × StandsFor r.clocks s (Family r part.1) × IsCanonical r.clocks s part.0 w)

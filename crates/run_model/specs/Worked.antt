@@ -3,8 +3,8 @@ use Rattle.std.specs.Prelude.{ℕ, Bool, true, MatchBool, List, [], ◌∷◌, �
 use Rattle.run_model.specs.Cut.{Cut, initial}
 use Rattle.run_model.specs.Run.{Name, Kind, Internal, Send, Receive, Event, Process, Trace, Run}
 use Rattle.run_model.specs.Run.{run_of}
-use Rattle.run_model.specs.Formula.{Equal, Unequal, LessOrEqual, Number, Formula, Comparison, And}
-use Rattle.run_model.specs.Formula.{Or, Nil, Cons}
+use Rattle.run_model.specs.Formula.{Relation, Equal, Unequal, LessOrEqual, Number, Formula}
+use Rattle.run_model.specs.Formula.{Comparison, Difference, And, Or, Nil, Cons}
 use Rattle.run_model.specs.Meaning.{Sat, Family}
 use Rattle.run_model.specs.Class.{Shown}
 use Rattle.run_model.specs.Slice.{Slice, StandsFor, Edge, IsPrintedAs}
@@ -97,6 +97,10 @@ x_at_most k = Comparison p x LessOrEqual (Number (pos k))
 
 abbrev pub y_is : ℕ → Formula
 y_is k = Comparison q y Equal (Number (pos k))
+
+-- P.x - Q.y against k
+abbrev pub x_less_y : Relation → ℕ → Formula
+x_less_y relation k = Difference p x q y relation (pos k)
 
 abbrev pub both : Formula → Formula → Formula
 both f g = And (Cons f (Cons g Nil))

@@ -8,9 +8,10 @@ ghost use Rattle.run_model.specs.Slice.{Slice, StandsFor};
 ghost use Rattle.run_model.specs.Operators.{joined_all};
 ghost use Rattle.run_model.specs.Formula.{Formula};
 ghost use Rattle.run_model.specs.Meaning.{IsRun, Sat, Family};
-ghost use Rattle.run_model.specs.Class.{is_wide, IsRegular, IsOfClass, disjuncts, SatDisjuncts};
-ghost use Rattle.run_model.specs.Class.{DisjunctFamily, StandForDisjuncts, AreRegular};
-ghost use Rattle.run_model.specs.Class.{HaveRegularParts, Shown};
+ghost use Rattle.run_model.specs.Class.{is_wide, IsKeptFor, IsRegular, IsRegularIn, IsOfClass};
+ghost use Rattle.run_model.specs.Class.{disjuncts, SatDisjuncts, DisjunctFamily};
+ghost use Rattle.run_model.specs.Class.{StandForDisjuncts, AreRegular, HaveRegularParts};
+ghost use Rattle.run_model.specs.Class.{PartsKeptFor, DisjunctsKeptFor, Shown};
 
 /// A formula is true or false at each consistent cut.
 pub fn truth_is_decided()
@@ -19,9 +20,10 @@ pub fn truth_is_decided()
 {}
 
 /// The family of a regular formula is closed under minimum and maximum (Garg and Mittal; Sen and
-/// Garg).
+/// Garg). Where it has differences, their variables never fall in the run.
 pub fn regular_families_are_closed()
-    ensures { (r : Run) → IsRun r → (f : Formula) → IsRegular f → IsClosed r.clocks (Family r f) }
+    ensures { (r : Run) → IsRun r → (f : Formula) → IsRegularIn r f
+        → IsClosed r.clocks (Family r f) }
 {}
 
 /// A formula is true exactly where some disjunct has all its parts true, and a formula of the class
@@ -36,23 +38,26 @@ pub fn disjuncts_mean_the_formula()
 /// The set that is shown of a formula is closed: the family of a regular formula, and else the
 /// smallest closed set that holds the family.
 pub fn shown_sets_are_closed()
-    ensures closed { (r : Run) → IsRun r → (f : Formula) → IsClosed r.clocks (Shown r f) }
-    ensures smallest { (r : Run) → IsRun r → (f : Formula) (c : Cut) → Shown r f c
-        ↔ Smallest (Family r f) c }
+    ensures closed { (r : Run) → IsRun r → (f : Formula) → IsKeptFor r f
+        → IsClosed r.clocks (Shown r f) }
+    ensures smallest { (r : Run) → IsRun r → (f : Formula) → IsKeptFor r f → (c : Cut)
+        → Shown r f c ↔ Smallest (Family r f) c }
 {}
 
 /// A regular formula is of the class, and the disjuncts of a formula of the class are made of
-/// regular parts, so their families are closed.
+/// regular parts, of which the run keeps what it keeps for the formula; so their families are
+/// closed.
 pub fn disjuncts_have_regular_parts()
     ensures of_the_class { (f : Formula) → IsRegular f → IsOfClass f }
     ensures parts { (f : Formula) → IsOfClass f → HaveRegularParts (disjuncts true f) }
-    ensures closed { (r : Run) → IsRun r → (d : List Formula) → AreRegular d
+    ensures kept { (r : Run) (f : Formula) → IsKeptFor r f → DisjunctsKeptFor r (disjuncts true f) }
+    ensures closed { (r : Run) → IsRun r → (d : List Formula) → AreRegular d → PartsKeptFor r d
         → IsClosed r.clocks (DisjunctFamily r d) }
 {}
 
 /// The joined slice of the disjuncts of a formula of the class is that of the set that is shown.
 pub fn joined_disjuncts_show_the_formula()
-    ensures { (r : Run) → IsRun r → (f : Formula) → IsOfClass f
+    ensures { (r : Run) → IsRun r → (f : Formula) → IsOfClass f → IsKeptFor r f
         → (d : List Formula) (ds : List (List Formula)) → disjuncts true f ≡ d ∷ ds
         → (s : Slice) (ss : List Slice) → StandsFor r.clocks s (DisjunctFamily r d)
         → StandForDisjuncts r ss ds → StandsFor r.clocks (joined_all s ss) (Shown r f) }

@@ -4,13 +4,13 @@
 // Promised: consistent cuts are closed under minimum and maximum (`consistent_cuts_are_closed`), a
 // path leads from each to each that holds it (`paths_rise`); a closed set is that of its slice
 // (`slice_of_a_closed_set`) and is denoted by its least cut, greatest cut and edges
-// (`printed_text_denotes`); what EF, AG and EG make of a closed set (`operator_laws`); truth is
+// (`printed_text_denotes`); what EF, AG, EG and EX make of a closed set (`operator_laws`); truth is
 // decided (`truth_is_decided`), the family of a regular formula is closed
 // (`regular_families_are_closed`), the disjuncts mean the formula (`disjuncts_mean_the_formula`);
 // the canonical witness is of its kind (`canonical_witness`). What stands against a wrong
 // definition are `worked_laws`, examples worked by hand.
 //
-// Not said: that a log's clocks state what happened, and anything of EX, AF, AX and until.
+// Not said: that a log's clocks state what happened, and anything of AF, AX and until.
 #![tactic(auto)]
 
 pub mod formula_laws;

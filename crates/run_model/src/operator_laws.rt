@@ -1,12 +1,12 @@
-// Laws of EF, AG and EG over a closed set of cuts (Sen and Garg): what they make is closed, and has
-// a slice made from the set's slice.
+// Laws of EF, AG, EG and EX over a closed set of cuts (Sen and Garg): what they make is closed, and
+// what EF, AG and EG make has a slice made from the set's slice.
 ghost use Rattle.std.specs.Prelude.{◌≡◌, ℕ, ◌<◌, ◌≤◌, ◌↔◌};
 ghost use Rattle.run_model.specs.Cut.{Cut, Clocks, count, IsWithin, lengths};
 ghost use Rattle.run_model.specs.Consistent.{IsOrder, IsEvent, IsConsistent};
 ghost use Rattle.run_model.specs.Sublattice.{IsClosed, IsLeast, IsGreatest};
 ghost use Rattle.run_model.specs.Slice.{Slice, StandsFor};
-ghost use Rattle.run_model.specs.Operators.{SomeTime, EachTime, Staying, HoldsAlways, HasPairs};
-ghost use Rattle.run_model.specs.Operators.{whole, nowhere, lowered, raised};
+ghost use Rattle.run_model.specs.Operators.{SomeTime, EachTime, Staying, NextTime, HoldsAlways};
+ghost use Rattle.run_model.specs.Operators.{HasPairs, whole, nowhere, lowered, raised};
 
 use crate::sublattice_laws::SetOfCuts;
 
@@ -51,4 +51,10 @@ pub fn staying<A: SetOfCuts>()
         → IsEvent (lengths o) j b → ((i ≡ j) × (a ≡ b) → ⊥)
         → ((c : Cut) → A.has c → (a ≤ count c i) ↔ (b ≤ count c j)) → (c : Cut) → count c i < a
         → Staying o A.has c → ⊥ }
+{}
+
+/// EX of a process: closed, like the others. It needs no slice of its own.
+pub fn next_time<A: SetOfCuts>()
+    ensures { (o : Clocks) → IsOrder o → IsClosed o A.has → (i : ℕ)
+        → IsClosed o (λ c. IsConsistent o c × NextTime o i A.has c) }
 {}

@@ -7,7 +7,8 @@ ghost use Rattle.run_model.specs.Sublattice.{IsClosed};
 ghost use Rattle.run_model.specs.Slice.{Slice, StandsFor, Fits};
 ghost use Rattle.run_model.specs.Formula.{Formula};
 ghost use Rattle.run_model.specs.Meaning.{Family};
-ghost use Rattle.run_model.specs.Witness.{WitnessOperator, part_of, Witness, IsCanonical, IsOfKind};
+ghost use Rattle.run_model.specs.Witness.{WitnessOperator, IsPartOf, Witness, IsCanonical};
+ghost use Rattle.run_model.specs.Witness.{IsOfKind};
 
 use crate::sublattice_laws::SetOfCuts;
 
@@ -15,8 +16,8 @@ use crate::sublattice_laws::SetOfCuts;
 pub fn canonical_witness()
     ensures { (r : Run) → IsOrder r.clocks → (f : Formula) → IsClosed r.clocks (Family r f)
         → (s : Slice) → StandsFor r.clocks s (Family r f)
-        → (operator : WitnessOperator) (w : Witness)
-        → IsCanonical r.clocks s operator w → IsOfKind r (part_of operator f) w }
+        → (operator : WitnessOperator) (part : Formula) → IsPartOf r operator f part
+        → (w : Witness) → IsCanonical r.clocks s operator w → IsOfKind r part w }
 {}
 
 /// There is one canonical witness at most, and it goes by the set, not by the slice that is at

@@ -6,14 +6,17 @@ ghost use Rattle.run_model.specs.Run.{clocks_of};
 ghost use Rattle.run_model.specs.Consistent.{IsConsistent};
 ghost use Rattle.run_model.specs.Meaning.{IsRun};
 ghost use Rattle.run_model.specs.Class.{is_conjunctive, is_disjunctive, IsOfClass};
-ghost use Rattle.run_model.specs.Formula.{Equal, LessOrEqual, Truth, Watched, InTransit, Empty};
-ghost use Rattle.run_model.specs.Formula.{Not, Temporal, Ef, Ag, Eg, Af};
-ghost use Rattle.run_model.specs.Worked.{p, q, cut, five_events, two_events, first_two_events};
-ghost use Rattle.run_model.specs.Worked.{no_events, x_is, x_is_not, x_at_most, y_is, both, one_of};
+ghost use Rattle.run_model.specs.Formula.{Equal, Less, LessOrEqual, GreaterOrEqual, Truth};
+ghost use Rattle.run_model.specs.Formula.{Watched, InTransit, Empty, Difference, Not, Temporal};
+ghost use Rattle.run_model.specs.Formula.{Next, Ef, Ag, Eg, Af};
+ghost use Rattle.run_model.specs.Worked.{p, q, x, y, cut, five_events, two_events};
+ghost use Rattle.run_model.specs.Worked.{first_two_events, no_events, x_is, x_is_not, x_at_most};
+ghost use Rattle.run_model.specs.Worked.{y_is, x_less_y, both, one_of};
 ghost use Rattle.run_model.specs.Worked.{edge, at, path_to, run_with_watch, HasVerdict, HasSlice};
 ghost use Rattle.run_model.specs.Worked.{HasNoSlice, HasWitness};
-ghost use Rattle.run_model.specs.Witness.{ExistsFinally, AlwaysGlobally, ExistsGlobally, Reach};
-ghost use Rattle.run_model.specs.Witness.{Against, Always, StuckFinish, StuckPair, Nothing};
+ghost use Rattle.run_model.specs.Witness.{ExistsFinally, AlwaysGlobally, ExistsGlobally};
+ghost use Rattle.run_model.specs.Witness.{ExistsNext, Reach, Against, Always, StuckFinish};
+ghost use Rattle.run_model.specs.Witness.{StuckPair, Nothing};
 
 /// The clocks of the examples are those of orders, so there are runs.
 pub fn examples_are_runs()
@@ -173,8 +176,36 @@ pub fn before_the_receipts()
     ensures witness { HasWitness first_two_events ExistsGlobally (Empty p q) StuckFinish }
 {}
 
+/// `EX P P.x = 1` on the five events: true where the first event of P is the next one.
+pub fn one_after_the_next_of_p()
+    ensures verdict { HasVerdict five_events (Next p (x_is 1)) true }
+    ensures slice { HasSlice five_events (Next p (x_is 1)) (cut 0 0) (cut 0 0) [] }
+    ensures witness { HasWitness five_events (ExistsNext 0) (x_is 1)
+        (Reach (path_to (cut 1 0) (at 0 1 ∷ []))) }
+{}
+
+/// `EX Q Q.y = 1` on the five events: at the start the first event of Q is not enabled yet.
+pub fn one_after_the_next_of_q()
+    ensures verdict { HasVerdict five_events (Next q (y_is 1)) false }
+    ensures slice { HasSlice five_events (Next q (y_is 1)) (cut 1 0) (cut 2 0) [] }
+    ensures witness { HasWitness five_events (ExistsNext 1) (y_is 1) Nothing }
+{}
+
+/// `EX P true` at the end of the five events, where no process has a next event.
+pub fn no_next_at_the_end()
+    ensures { HasVerdict five_events (Temporal Ag (Next p (Truth true))) false }
+{}
+
+/// `EF P.x - Q.y >= 2` and `AG P.x - Q.y <= 1` on the five events.
+pub fn two_ahead()
+    ensures reached { HasVerdict five_events (Temporal Ef (x_less_y GreaterOrEqual 2)) true }
+    ensures further { HasVerdict five_events (Temporal Ef (x_less_y GreaterOrEqual 3)) false }
+    ensures each_time { HasVerdict five_events (Temporal Ag (x_less_y LessOrEqual 1)) false }
+{}
+
 /// Formulas of the class and outside it: a disjunction of regular formulas, a disjunction below an
-/// operator, `AF`, and the negation of a channel's equation.
+/// operator, `AF`, the negation of a channel's equation, `EX` with and without a negation, and
+/// differences of two processes, within one process, and with `!=` after a negation.
 pub fn formulas_of_the_class()
     ensures disjunction { IsOfClass (one_of (both (x_is 1) (y_is 2)) (both (x_is 2) (y_is 1))) }
     ensures not_regular { IsFalse (is_conjunctive true (one_of (both (x_is 1) (y_is 2)) (both
@@ -182,4 +213,9 @@ pub fn formulas_of_the_class()
     ensures inside { IsFalse (is_disjunctive true (Temporal Ef (one_of (x_is 2) (y_is 1)))) }
     ensures unanalysed { IsFalse (is_disjunctive true (Temporal Af (x_is 2))) }
     ensures negated_equation { IsFalse (is_disjunctive true (Not (InTransit p q Equal 1))) }
+    ensures next_event { IsOfClass (Next p (x_is 1)) }
+    ensures negated_next_event { IsFalse (is_disjunctive true (Not (Next p (x_is 1)))) }
+    ensures difference { IsOfClass (Not (x_less_y Less 1)) }
+    ensures within_one { IsFalse (is_disjunctive true (Difference p x p y LessOrEqual (pos 1))) }
+    ensures negated_difference { IsFalse (is_disjunctive true (Not (x_less_y Equal 1))) }
 {}

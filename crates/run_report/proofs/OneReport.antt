@@ -8,8 +8,8 @@ use Rattle.run_model.specs.Meaning.{IsRun, Sat}
 use Rattle.run_model.specs.Sublattice.{IsClosed}
 use Rattle.run_model.specs.Slice.{Edge as EdgeOfRun, SliceText as TextOfRun}
 use Rattle.run_model.specs.Witness as model
-use Rattle.run_model.specs.Class.{IsRegular, IsOfClass, disjuncts, SatParts, AreRegular, HaveRegularParts, Shown}
-use Rattle.run_model.proofs.PartLemmas.{disjuncts_regular}
+use Rattle.run_model.specs.Class.{IsKeptFor, IsRegularIn, IsOfClass, disjuncts, SatParts, AreRegular, HaveRegularParts, PartsKeptFor, DisjunctsKeptFor, Shown}
+use Rattle.run_model.proofs.PartLemmas.{disjuncts_regular, disjuncts_kept}
 use Rattle.run_model.proofs.ShownLemmas.{shown_closed}
 use Rattle.run_model.proofs.TraceLemmas.{run_of_order}
 use Rattle.model_laws.proofs.Texts.{one_text}
@@ -105,7 +105,7 @@ one_slice true r f closed None t h k = absurd h
 one_slice true r f closed (Some s) None h k = absurd k
 one_slice false r f closed s t h k = h ∙ sym k
 
-one_for : (r : Run) → IsRun r → (i j : ℕ) (f : Formula) → IsRegular f → (w v : WitnessText)
+one_for : (r : Run) → IsRun r → (i j : ℕ) (f : Formula) → IsRegularIn r f → (w v : WitnessText)
     → IsTextFor r i j f w → IsTextFor r i j f v → w ≡ v
 one_for r run i j f regular w v h k =
     let number = h.disjunct ∙ sym k.disjunct in
@@ -114,66 +114,66 @@ one_for r run i j f regular w v h k =
     let same = seen_once w.witness v.witness seen in
     λ x. record { disjunct = number x; part = part x; witness = same x }
 
-one_of_parts : (r : Run) → IsRun r → (i j : ℕ) (fs : List Formula) → AreRegular fs
+one_of_parts : (r : Run) → IsRun r → (i j : ℕ) (fs : List Formula) → AreRegular fs → PartsKeptFor r fs
     → (ws vs : List WitnessText) → ArePartTexts r i j fs ws → ArePartTexts r i j fs vs → ws ≡ vs
-one_of_parts r run i j [] regular [] [] h k = refl
-one_of_parts r run i j [] regular [] (v ∷ vs) h k = absurd k
-one_of_parts r run i j [] regular (w ∷ ws) vs h k = absurd h
-one_of_parts r run i j (f ∷ fs) regular [] vs h k = absurd h
-one_of_parts r run i j (f ∷ fs) regular (w ∷ ws) [] h k = absurd k
-one_of_parts r run i j (f ∷ fs) regular (w ∷ ws) (v ∷ vs) h k =
-    let first = one_for r run i j f regular.0 w v h.0 k.0 in
-    let rest = one_of_parts r run i (j + 1) fs regular.1 ws vs h.1 k.1 in
+one_of_parts r run i j [] regular kept [] [] h k = refl
+one_of_parts r run i j [] regular kept [] (v ∷ vs) h k = absurd k
+one_of_parts r run i j [] regular kept (w ∷ ws) vs h k = absurd h
+one_of_parts r run i j (f ∷ fs) regular kept [] vs h k = absurd h
+one_of_parts r run i j (f ∷ fs) regular kept (w ∷ ws) [] h k = absurd k
+one_of_parts r run i j (f ∷ fs) regular kept (w ∷ ws) (v ∷ vs) h k =
+    let first = one_for r run i j f (record { form = regular.0; kept = kept.0 }) w v h.0 k.0 in
+    let rest = one_of_parts r run i (j + 1) fs regular.1 kept.1 ws vs h.1 k.1 in
     λ x. first x ∷ rest x
 
-one_of_true : (r : Run) → IsRun r → (i : ℕ) (ds : List (List Formula)) → HaveRegularParts ds
+one_of_true : (r : Run) → IsRun r → (i : ℕ) (ds : List (List Formula)) → HaveRegularParts ds → DisjunctsKeptFor r ds
     → (ws vs : List WitnessText) → AreTextsOfTrue r i ds ws → AreTextsOfTrue r i ds vs → ws ≡ vs
-one_of_true r run i [] regular ws vs h k = absurd h
-one_of_true r run i (d ∷ ds) regular ws vs (inl h) (inl k) = one_of_parts r run i 1 d regular.0 ws vs h.1 k.1
-one_of_true r run i (d ∷ ds) regular ws vs (inl h) (inr k) = absurd (k.0 h.0)
-one_of_true r run i (d ∷ ds) regular ws vs (inr h) (inl k) = absurd (h.0 k.0)
-one_of_true r run i (d ∷ ds) regular ws vs (inr h) (inr k) = one_of_true r run (i + 1) ds regular.1 ws vs h.1 k.1
+one_of_true r run i [] regular kept ws vs h k = absurd h
+one_of_true r run i (d ∷ ds) regular kept ws vs (inl h) (inl k) = one_of_parts r run i 1 d regular.0 kept.0 ws vs h.1 k.1
+one_of_true r run i (d ∷ ds) regular kept ws vs (inl h) (inr k) = absurd (k.0 h.0)
+one_of_true r run i (d ∷ ds) regular kept ws vs (inr h) (inl k) = absurd (h.0 k.0)
+one_of_true r run i (d ∷ ds) regular kept ws vs (inr h) (inr k) = one_of_true r run (i + 1) ds regular.1 kept.1 ws vs h.1 k.1
 
-one_of_false : (r : Run) → IsRun r → (i j : ℕ) (fs : List Formula) → AreRegular fs
+one_of_false : (r : Run) → IsRun r → (i j : ℕ) (fs : List Formula) → AreRegular fs → PartsKeptFor r fs
     → (w v : WitnessText) → IsTextOfFalse r i j fs w → IsTextOfFalse r i j fs v → w ≡ v
-one_of_false r run i j [] regular w v h k = absurd h
-one_of_false r run i j (f ∷ fs) regular w v (inl h) (inl k) = one_for r run i j f regular.0 w v h.1 k.1
-one_of_false r run i j (f ∷ fs) regular w v (inl h) (inr k) = absurd (h.0 k.0)
-one_of_false r run i j (f ∷ fs) regular w v (inr h) (inl k) = absurd (k.0 h.0)
-one_of_false r run i j (f ∷ fs) regular w v (inr h) (inr k) = one_of_false r run i (j + 1) fs regular.1 w v h.1 k.1
+one_of_false r run i j [] regular kept w v h k = absurd h
+one_of_false r run i j (f ∷ fs) regular kept w v (inl h) (inl k) = one_for r run i j f (record { form = regular.0; kept = kept.0 }) w v h.1 k.1
+one_of_false r run i j (f ∷ fs) regular kept w v (inl h) (inr k) = absurd (h.0 k.0)
+one_of_false r run i j (f ∷ fs) regular kept w v (inr h) (inl k) = absurd (k.0 h.0)
+one_of_false r run i j (f ∷ fs) regular kept w v (inr h) (inr k) = one_of_false r run i (j + 1) fs regular.1 kept.1 w v h.1 k.1
 
-all_of_false : (r : Run) → IsRun r → (i : ℕ) (ds : List (List Formula)) → HaveRegularParts ds
+all_of_false : (r : Run) → IsRun r → (i : ℕ) (ds : List (List Formula)) → HaveRegularParts ds → DisjunctsKeptFor r ds
     → (ws vs : List WitnessText) → AreTextsOfFalse r i ds ws → AreTextsOfFalse r i ds vs → ws ≡ vs
-all_of_false r run i [] regular [] [] h k = refl
-all_of_false r run i [] regular [] (v ∷ vs) h k = absurd k
-all_of_false r run i [] regular (w ∷ ws) vs h k = absurd h
-all_of_false r run i (d ∷ ds) regular [] vs h k = absurd h
-all_of_false r run i (d ∷ ds) regular (w ∷ ws) [] h k = absurd k
-all_of_false r run i (d ∷ ds) regular (w ∷ ws) (v ∷ vs) h k =
-    let first = one_of_false r run i 1 d regular.0 w v h.0 k.0 in
-    let rest = all_of_false r run (i + 1) ds regular.1 ws vs h.1 k.1 in
+all_of_false r run i [] regular kept [] [] h k = refl
+all_of_false r run i [] regular kept [] (v ∷ vs) h k = absurd k
+all_of_false r run i [] regular kept (w ∷ ws) vs h k = absurd h
+all_of_false r run i (d ∷ ds) regular kept [] vs h k = absurd h
+all_of_false r run i (d ∷ ds) regular kept (w ∷ ws) [] h k = absurd k
+all_of_false r run i (d ∷ ds) regular kept (w ∷ ws) (v ∷ vs) h k =
+    let first = one_of_false r run i 1 d regular.0 kept.0 w v h.0 k.0 in
+    let rest = all_of_false r run (i + 1) ds regular.1 kept.1 ws vs h.1 k.1 in
     λ x. first x ∷ rest x
 
-one_list : (r : Run) → IsRun r → (f : Formula) → IsOfClass f → (a b : Bool) → a ≡ b
+one_list : (r : Run) → IsRun r → (f : Formula) → IsOfClass f → IsKeptFor r f → (a b : Bool) → a ≡ b
     → (ws vs : List WitnessText) → AreWitnesses r f a ws → AreWitnesses r f b vs → ws ≡ vs
-one_list r run f class true true e ws vs h k = one_of_true r run 1 (disjuncts true f) (disjuncts_regular f true class) ws vs h k
-one_list r run f class false false e ws vs h k = all_of_false r run 1 (disjuncts true f) (disjuncts_regular f true class) ws vs h k
-one_list r run f class true false e ws vs h k = absurd cc
-one_list r run f class false true e ws vs h k = absurd cc
+one_list r run f class kept true true e ws vs h k = one_of_true r run 1 (disjuncts true f) (disjuncts_regular f true class) (disjuncts_kept r f true kept) ws vs h k
+one_list r run f class kept false false e ws vs h k = all_of_false r run 1 (disjuncts true f) (disjuncts_regular f true class) (disjuncts_kept r f true kept) ws vs h k
+one_list r run f class kept true false e ws vs h k = absurd cc
+one_list r run f class kept false true e ws vs h k = absurd cc
 
 -- ---- the whole report
 
 -- witnesses where they are asked for, and none where they aren't
-one_choice : (asked : Bool) (r : Run) → IsRun r → (f : Formula) → IsOfClass f → (a b : Bool) → a ≡ b
+one_choice : (asked : Bool) (r : Run) → IsRun r → (f : Formula) → IsOfClass f → IsKeptFor r f → (a b : Bool) → a ≡ b
     → (ws vs : List WitnessText) → (asked ≡ true → AreWitnesses r f a ws) → (asked ≡ true → AreWitnesses r f b vs)
     → (asked ≡ false → ws ≡ []) → (asked ≡ false → vs ≡ []) → ws ≡ vs
-one_choice true r run f class a b e ws vs h k m n = one_list r run f class a b e ws vs (h refl) (k refl)
-one_choice false r run f class a b e ws vs h k m n = m refl ∙ sym (n refl)
+one_choice true r run f class kept a b e ws vs h k m n = one_list r run f class kept a b e ws vs (h refl) (k refl)
+one_choice false r run f class kept a b e ws vs h k m n = m refl ∙ sym (n refl)
 
 pub one_report : (q : Asked) (h : Header) (batches : List (List Event)) (watches : Watches)
-    → IsOfClass q.formula → IsOrder (clocks_of (trace_so_far h batches))
+    → IsOfClass q.formula → IsOrder (clocks_of (trace_so_far h batches)) → IsKeptFor (run_of (trace_so_far h batches) watches) q.formula
     → (a b : Report) → IsReportOf q h batches watches a → IsReportOf q h batches watches b → a ≡ b
-one_report q h batches watches class order a b s t =
+one_report q h batches watches class order kept a b s t =
     let r = run_of (trace_so_far h batches) watches in
     let run : IsRun r = run_of_order (trace_so_far h batches) watches order in
     let number = s.says.number ∙ sym t.says.number in
@@ -181,8 +181,8 @@ one_report q h batches watches class order a b s t =
     let lengths = s.says.lengths_are ∙ sym t.says.lengths_are in
     let formula = s.says.formula ∙ sym t.says.formula in
     let verdict = one_verdict a.verdict b.verdict s.says.verdict t.says.verdict in
-    let slice = one_slice q.slice r q.formula (shown_closed r run q.formula) a.slice b.slice s.says.slice t.says.slice in
-    let witnesses = one_choice q.witness r run q.formula class a.verdict b.verdict verdict a.witnesses b.witnesses s.says.witnesses t.says.witnesses s.says.unasked t.says.unasked in
+    let slice = one_slice q.slice r q.formula (shown_closed r run q.formula kept) a.slice b.slice s.says.slice t.says.slice in
+    let witnesses = one_choice q.witness r run q.formula class kept a.verdict b.verdict verdict a.witnesses b.witnesses s.says.witnesses t.says.witnesses s.says.unasked t.says.unasked in
     λ i. record {
       batch = number i;
       procs = names i;
@@ -196,8 +196,8 @@ one_report q h batches watches class order a b s t =
 -- ---- the summary of a bench
 
 pub one_summary : (sizes : Sizes) (q : Asked) (h : Header) (batches : List (List Event)) (watches : Watches)
-    → IsOfClass q.formula → IsOrder (clocks_of (trace_so_far h batches))
+    → IsOfClass q.formula → IsOrder (clocks_of (trace_so_far h batches)) → IsKeptFor (run_of (trace_so_far h batches) watches) q.formula
     → (t u : List ℕ) → IsSummaryOf sizes q h batches watches t → IsSummaryOf sizes q h batches watches u → t ≡ u
-one_summary sizes q h batches watches class order t u s k =
-    let same = one_report (benched q) h batches watches class order s.report k.report s.says k.says in
+one_summary sizes q h batches watches class order kept t u s k =
+    let same = one_report (benched q) h batches watches class order kept s.report k.report s.says k.says in
     s.text_is ∙ ap (summary_text sizes) same ∙ sym k.text_is

@@ -24,11 +24,13 @@ fn log_of(alloc: Global, batch: List<Event>) -> Result<Option<Log>, NoMemory>
     procs.push(q)?;
     let mut batches = List::new(alloc);
     batches.push(batch)?;
-    let vars = List::new(alloc);
-    Ok(Some(Log {
-        header: Header { procs, vars },
-        batches,
-    }))
+    let header = Header {
+        version: 1,
+        procs,
+        vars: List::new(alloc),
+        var_lines: List::new(alloc),
+    };
+    Ok(Some(Log { header, batches }))
 }
 
 fn has_two_processes(order: &Order) -> bool

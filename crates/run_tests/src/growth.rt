@@ -6,7 +6,7 @@ ghost use Rattle.vector_clock.specs.Events.{EventFits};
 ghost use Rattle.trace_growth.specs.Growing.{FitsTrace};
 
 use crate::events::{a_message, add};
-use event_log::{Event, Header, Kind, LogCode, LogFault, Name};
+use event_log::{Event, Header, Kind, LogCode, LogFault, Name, var_lines_of};
 use pota_base::{EventId, List, NoMemory, Refused};
 use std::alloc::Global;
 use std::test::Fail;
@@ -41,7 +41,13 @@ fn two_processes(alloc: Global) -> Result<Option<Header>, NoMemory>
     let mut vars = List::new(alloc);
     vars.push(List::new(alloc))?;
     vars.push(List::new(alloc))?;
-    Ok(Some(Header { procs, vars }))
+    let var_lines = var_lines_of(alloc, vars.as_slice())?;
+    Ok(Some(Header {
+        version: 1,
+        procs,
+        vars,
+        var_lines,
+    }))
 }
 
 // A trace of two processes without events, which the batch fits.

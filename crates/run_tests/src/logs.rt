@@ -102,8 +102,10 @@ fn small_log(alloc: Global) -> Result<Option<Log>, NoMemory>
         value: 0,
     };
     let header = Header {
+        version: 1,
         procs: one(alloc, process)?,
         vars: one(alloc, one(alloc, binding)?)?,
+        var_lines: one(alloc, 3)?,
     };
     Ok(Some(Log {
         header,

@@ -1,6 +1,6 @@
 //! A batch of which the trace has the events already: the watches are fed. And what was observed is
 //! answered.
-ghost use Rattle.std.specs.Prelude.{◌≡◌, ◌+◌, ◌≤◌, [], false, length, IfOk, OnOk};
+ghost use Rattle.std.specs.Prelude.{◌≡◌, ◌+◌, ◌≤◌, [], false, length, IfOk, OnOk, OnErr};
 ghost use Rattle.rctl_parts.specs.Pieces.{disjuncts_of};
 ghost use Rattle.rctl_parts.specs.MadeFor.{AreMadeFor};
 ghost use Rattle.conjunctions.specs.Observing.{IsReady, lens_seen, scope_seen};
@@ -23,7 +23,7 @@ use std::thread::Threads;
 use watch::{Handed, Watch};
 use watch_feeding::feed_new_states;
 
-/// Feeds the watches the states that came with the batch.
+/// Feeds the watches the states that came with the batch, or none of them.
 pub(crate) fn feed_batch(
     alloc: Global,
     seen: &mut Observed,
@@ -38,6 +38,7 @@ pub(crate) fn feed_batch(
     ensures fed { OnOk result (Feeds
         (λ h. answers (h.watch.vtable, h.watch.value))
         watches.old.items watches.new.items seen.old seen.new) }
+    ensures memory { OnErr result (watches.new ≡ watches.old) }
 {
     feed_new_states(
         alloc,

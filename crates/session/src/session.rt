@@ -1,7 +1,7 @@
 //! A session: a formula over a growing trace, and the watches that it names.
 ghost use Rattle.std.specs.Prelude.{◌≡◌, ◌↔◌, ◌<◌, ◌≤◌, ◌-◌, ℤ, List as ListOf, [], Some, None};
 ghost use Rattle.std.specs.Prelude.{true, false, length, slice_index_or, Err, ◌+◌, IsTrue, IfOk};
-ghost use Rattle.std.specs.Prelude.{OnOk, OnErr, IsOk};
+ghost use Rattle.std.specs.Prelude.{OnOk, OnErr, IsOk, ◌⊎◌};
 ghost use Rattle.event_log.specs.States.{IsHeader};
 ghost use Rattle.pota_base.specs.declared.fault.Refused.TheVariants as refused;
 ghost use Rattle.vector_clock.specs.Faults.{batch_fault};
@@ -98,6 +98,7 @@ impl Session {
             × (batch_fault self.old.growing.seen.trace.states.events batch ≡ Some fault)
             × (self.new.growing ≡ self.old.growing) × (self.new.watches ≡ self.old.watches)) }
         ensures memory { IfWantsMemory result (self.new.growing.spent ≡ true) }
+        ensures unfed { IfWantsMemory result (self.new.watches ≡ self.old.watches) }
         ensures spent { self.old.growing.spent ≡ true
             → (result ≡ Err refused.NoMemory) × (self.new.growing ≡ self.old.growing)
             × (self.new.watches ≡ self.old.watches) }
@@ -225,6 +226,10 @@ impl Session {
             × (self.new.growing ≡ self.old.growing) × (self.new.watches ≡ self.old.watches)
             × (steps.new ≡ steps.old)) }
         ensures memory { IfWantsMemory result (self.new.growing.spent ≡ true) }
+        ensures fed_or_not { IfWantsMemory result ((self.new.watches ≡ self.old.watches)
+            ⊎ Feeds (λ h. answers (h.watch.vtable, h.watch.value))
+            self.old.watches.items self.new.watches.items
+            self.old.growing.seen self.new.growing.seen) }
         ensures spent { self.old.growing.spent ≡ true
             → (result ≡ Err refused.NoMemory) × (self.new.growing ≡ self.old.growing)
             × (self.new.watches ≡ self.old.watches) × (steps.new ≡ steps.old) }
@@ -293,7 +298,8 @@ impl Session {
         self.growing.settled.len()
     }
 
-    /// The rows of a conjunction on the trace so far. Conjunctions are numbered from 1: the
+    /// The rows of a conjunction on the trace so far: those that the answer's bound of look-ups
+    /// counts, and from which the next answer may begin. Conjunctions are numbered from 1: the
     /// disjuncts in order, before each the operands of its temporal parts in the order of the
     /// parts, each behind the operands within it.
     pub fn settled(&self, conjunction: u32) -> &Settled
@@ -301,8 +307,10 @@ impl Session {
         requires some { 1 ≤ conjunction }
         requires there { conjunction
             ≤ length (all_conjunctions (disjuncts_of self.now.growing.disjuncts)) }
-        ensures { IsSettled self.now.growing.seen (slice_index_or (all_conjunctions
+        ensures settled { IsSettled self.now.growing.seen (slice_index_or (all_conjunctions
             (disjuncts_of self.now.growing.disjuncts)) (conjunction - 1) []) result.now }
+        ensures kept { result.now
+            ≡ slice_index_or self.now.growing.settled (conjunction - 1) result.now }
     {
         self.growing.settled.get(conjunction as usize - 1)
     }

@@ -53,21 +53,21 @@ fn tell_slice(text: &mut String, slice: &Slice) -> Result<(), AllocError> {
 }
 
 // Whether a settled row is a cut: none of its words is above its process's length.
-fn is_cut(row: &[u64], lens: &[u32]) -> bool {
+fn is_cut(row: &[u16], lens: &[u32]) -> bool {
     for (word, len) in row.iter().zip(lens) {
-        if *word > *len as u64 {
+        if *word as u32 > *len {
             return false;
         }
     }
     true
 }
 
-fn tell_row(text: &mut String, row: &[u64], lens: &[u32]) -> Result<(), AllocError> {
+fn tell_row(text: &mut String, row: &[u16], lens: &[u32]) -> Result<(), AllocError> {
     if !is_cut(row, lens) {
         return text.push_str(" none");
     }
     for (process, count) in row.iter().enumerate() {
-        tell_count(text, process, *count)?;
+        tell_count(text, process, *count as u64)?;
     }
     Ok(())
 }

@@ -12,3 +12,4 @@ pub mod Fans
 pub mod EdgeSteps
 pub mod OrderGrowing
 pub mod StartingRows
+pub mod Alone

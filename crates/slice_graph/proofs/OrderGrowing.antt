@@ -9,7 +9,8 @@ use Rattle.causal_order.specs.Growth.{HasGrown}
 use Rattle.causal_order.proofs.Growing.{count-lengths}
 use Rattle.pull_system.specs.declared.pull.Pull.{Pull}
 use Rattle.pull_system.specs.System.{no_pull}
-use Rattle.pull_system.specs.Growth.{PullGrows}
+use Rattle.pull_system.specs.Growth.{PullGrows, PullStays}
+use Rattle.pull_system.proofs.Staying.{AllStay, stay_none, stay_one, stay_flat}
 use Rattle.slice_graph.specs.PullLists.{past_count, order_entry, order_table, order_pull, pulls_of_order}
 use Rattle.slice_graph.proofs.OrderPulls.{entry_at, counts_rise, order_pulls_count}
 
@@ -98,3 +99,36 @@ order_each before after order grown k lt =
     (subst (λ (n : ℕ). GrowsEach (lengths before) (lengths after) (flat_map (λ i. flat_map (order_pull before i) (range_with_len 0 n)) (range_with_len 0 n)) (pulls_of_order after))
     grown.count (each_flat (lengths before) (lengths after) (λ i. flat_map (order_pull before i) (range_with_len 0 (length after))) (λ i. flat_map (order_pull after i) (range_with_len 0 (length after))) 0 (length after)
     (λ i. each_flat (lengths before) (lengths after) (order_pull before i) (order_pull after i) 0 (length after) (pair_grows before after order grown i)))).each k lt
+
+-- ---- what stays
+
+pull_stays : (before after : Clocks) → HasGrown before after → (i j : ℕ)
+    → PullStays (lengths before) (record { src = i; dst = j; table = order_table before i j }) (record { src = i; dst = j; table = order_table after i j })
+pull_stays before after grown i j = record {
+  asks = λ x le asked.
+      let old : ℕ = count (lengths before) i in
+      let new : ℕ = count (lengths after) i in
+      let up = lengths_grow before after grown i in
+      let at_old = entry_at (order_entry before i j) (old + 2) x (omega (arith, le)) in
+      let at_new = entry_at (order_entry after i j) (new + 2) x (omega (arith, le, up)) in
+      let kept = past_kept before after grown i j x le in
+      let here : min x old ≡ x = omega (arith, le) in
+      let there : min x new ≡ x = omega (arith, le, up) in
+      omega (arith, at_old, at_new, kept, ap (past_count before i j) here, ap (past_count after i j) there);
+}
+
+pair_stays : (before after : Clocks) → HasGrown before after → (i j : ℕ) → AllStay (lengths before) (order_pull before i j) (order_pull after i j)
+pair_stays before after grown i j = choose (eqb i j)
+  where
+    choose : (b : Bool) → AllStay (lengths before)
+        (if b then [] else record { src = i; dst = j; table = order_table before i j } ∷ [])
+        (if b then [] else record { src = i; dst = j; table = order_table after i j } ∷ [])
+    choose true = stay_none (lengths before)
+    choose false = stay_one (lengths before) (record { src = i; dst = j; table = order_table before i j }) (record { src = i; dst = j; table = order_table after i j })
+        (pull_stays before after grown i j)
+
+pub order_stays : (before after : Clocks) → HasGrown before after → AllStay (lengths before) (pulls_of_order before) (pulls_of_order after)
+order_stays before after grown =
+    subst (λ (n : ℕ). AllStay (lengths before) (flat_map (λ i. flat_map (order_pull before i) (range_with_len 0 n)) (range_with_len 0 n)) (pulls_of_order after))
+    grown.count (stay_flat (lengths before) (λ i. flat_map (order_pull before i) (range_with_len 0 (length after))) (λ i. flat_map (order_pull after i) (range_with_len 0 (length after))) 0 (length after)
+    (λ i. stay_flat (lengths before) (order_pull before i) (order_pull after i) 0 (length after) (pair_stays before after grown i)))

@@ -41,6 +41,16 @@ pub fn join_into(words: &[u32], into: &mut Cut)
     }
 }
 
+/// Makes `into` the componentwise maximum of the words and itself.
+pub(crate) fn join_words(words: &[u32], into: &mut [u32])
+    requires { length words.now ≡ length into.old }
+    ensures { into.new ≡ max_cut words.now into.old }
+{
+    for process in 0..words.len() {
+        into[process] = into[process].max(words[process]);
+    }
+}
+
 /// Gives `into` the words as its counts.
 pub fn set_words(words: &[u32], into: &mut Cut)
     requires width { length words.now ≡ length into.old }

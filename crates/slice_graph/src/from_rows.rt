@@ -107,7 +107,7 @@ fn push_kept(table: &mut CutTable, rows: &Rows, row: u32, cut: &mut [u32]) -> Re
 }
 
 /// Whether each component of the vector is at most its length. Then `cut` is the vector.
-fn keep(vector: &[u64], lens: &[u32], cut: &mut [u32]) -> bool
+fn keep(vector: &[u16], lens: &[u32], cut: &mut [u32]) -> bool
     requires shape { IsShape lens.now }
     requires vector { length vector.now ≡ length lens.now }
     requires width { length cut.old ≡ length lens.now }
@@ -115,11 +115,14 @@ fn keep(vector: &[u64], lens: &[u32], cut: &mut [u32]) -> bool
     ensures cut { OnTrue result (cut.new ≡ vector.now) }
     ensures width { length cut.new ≡ length cut.old }
 {
+    let mut past = false;
+    // To its end in each case, so that the loop has no exit within.
     for process in 0..lens.len() {
-        if vector[process] > lens[process] as u64 {
-            return false;
+        let count = vector[process] as u32;
+        cut[process] = count;
+        if lens[process] < count {
+            past = true;
         }
-        cut[process] = vector[process] as u32;
     }
-    true
+    !past
 }

@@ -89,9 +89,9 @@ fn leave_out(counts: &[u32], process: u32, into: &mut [u32])
     ensures counts { (index : ℕ) → index < length into.new
         → slice_index into.new index ≡ count counts.now (other process index) }
 {
-    for index in 0..into.len() {
-        into[index] = counts[other(process, index as u32) as usize];
-    }
+    let process = process as usize;
+    into[..process].copy_from_slice(&counts[..process]);
+    into[process..].copy_from_slice(&counts[process + 1..]);
 }
 
 /// The process at this index among all but one.

@@ -10,7 +10,7 @@ ghost use Rattle.run_model.specs.Slice.{Cuts, IsLeastOf};
 ghost use Rattle.slice_graph.specs.Words.{past_ends, filled};
 ghost use Rattle.slice_graph.specs.Views.{AreCuts, joined_onto, joined_rows, slice_of, no_row};
 
-use crate::cuts::{is_within, join_into};
+use crate::cuts::{is_within, join_words, set_words};
 use crate::table::CutTable;
 use cut_lattice::Cut;
 use pota_base::{EventId, NoMemory, Shape};
@@ -159,7 +159,7 @@ impl Slice {
     }
 
     /// The words of a row without a cut: each is one more than the process's length.
-    pub(crate) fn absent(&self) -> &[u32]
+    pub fn absent(&self) -> &[u32]
         ensures { result.now ≡ past_ends self.now.lens }
     {
         self.table.absent()
@@ -205,21 +205,25 @@ fn join_rows(alloc: Global, table: &CutTable) -> Result<Cut, NoMemory>
     ensures joined { IfOk result (λ top. top ≡ joined_rows table.now) }
     ensures cuts { AreCuts table.now }
 {
-    let mut top = Cut::new(alloc, table.shape().procs())?;
+    let procs = table.shape().procs();
+    let mut top = [0; 32];
+    let top = &mut top[..procs as usize];
     for row in 0..table.len() {
-        join_row(table, row, &mut top);
+        join_row(table, row, top);
     }
-    Ok(top)
+    let mut cut = Cut::new(alloc, procs)?;
+    set_words(top, &mut cut);
+    Ok(cut)
 }
 
 /// Makes `into` its maximum with the cut of a row that has one.
-fn join_row(table: &CutTable, row: usize, into: &mut Cut)
+fn join_row(table: &CutTable, row: usize, into: &mut [u32])
     requires row { row < length table.now.rows }
     requires width { length into.old ≡ length table.now.lens }
     ensures joined { into.new ≡ joined_onto into.old (get_or table.now.rows row no_row ∷ []) }
     ensures width { length into.new ≡ length table.now.lens }
 {
     if let Some(cut) = table.cut(row) {
-        join_into(cut, into);
+        join_words(cut, into);
     }
 }

@@ -69,7 +69,7 @@ fn slice_fan(alloc: Global, slice: &Slice, source: u32) -> Result<Fan, NoMemory>
 }
 
 /// The numbers of all processes.
-fn all_processes(alloc: Global, procs: u32) -> Result<List<u32>, NoMemory>
+pub fn all_processes(alloc: Global, procs: u32) -> Result<List<u32>, NoMemory>
     ensures { IfOk result (λ all. all ≡ range_with_len 0 procs) }
 {
     let mut all = List::with_capacity(alloc, procs as usize)?;

@@ -14,13 +14,13 @@ ghost use Rattle.slice_graph.specs.Starting.{AreWithinClosed};
 use crate::slice::Slice;
 use causal_order::Order;
 use pota_base::NoMemory;
-use pull_system::Rows;
+use pull_system::Floor;
 use std::alloc::Global;
 
 impl Slice {
     /// The rows of the slice, as a table of a system may begin from them. A row without a cut has
     /// one more than each length.
-    pub fn rows(&self, alloc: Global) -> Result<Rows, NoMemory>
+    pub fn rows(&self, alloc: Global) -> Result<Floor, NoMemory>
         ensures lens { IfOk result (λ rows. rows.lens ≡ self.now.lens) }
         ensures words { IfOk result (λ rows. (row : ℕ) → row ≤ sum self.now.lens
             → row_at self.now.lens rows.words row
@@ -37,13 +37,13 @@ impl Slice {
             widen(self.words_of_row(row), room);
             words.extend_from_slice(room)?;
         }
-        Rows::from_words(alloc, shape, words)
+        Floor::from_words(alloc, shape, words)
     }
 }
 
 /// The clocks of the events as rows, with zeros as the bottom's, as a table of a system may begin
 /// from them.
-pub fn order_rows(alloc: Global, order: &Order) -> Result<Rows, NoMemory>
+pub fn order_rows(alloc: Global, order: &Order) -> Result<Floor, NoMemory>
     ensures lens { IfOk result (λ rows. rows.lens ≡ lengths order.now) }
     ensures bottom { IfOk result (λ rows.
         row_at (lengths order.now) rows.words 0 ≡ replicate (length order.now) 0) }
@@ -64,7 +64,7 @@ pub fn order_rows(alloc: Global, order: &Order) -> Result<Rows, NoMemory>
         widen(clock_of(order, row, none), room);
         words.extend_from_slice(room)?;
     }
-    Rows::from_words(alloc, shape, words)
+    Floor::from_words(alloc, shape, words)
 }
 
 /// The clock of a row's event, and `none` for the bottom's row.

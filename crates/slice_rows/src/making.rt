@@ -36,6 +36,18 @@ fn least_rows<L: Ledger>(
     Ok(rows)
 }
 
+/// The words of a row, in 64 bits each.
+fn wide_row(alloc: Global, row: &[u16]) -> Result<Vec<u64>, NoMemory>
+    ensures items { IfOk result (λ words. words.items ≡ row.now) }
+    ensures len { IfOk result (λ words. words.len ≡ length row.now) }
+{
+    let mut words = Vec::with_capacity(alloc, row.len())?;
+    for word in row {
+        words.push(*word as u64)?;
+    }
+    Ok(words)
+}
+
 /// Raises a row to its least closed vector.
 fn settle_row<L: Ledger>(
     alloc: Global,
@@ -55,7 +67,7 @@ fn settle_row<L: Ledger>(
         ≡ row_at system.now.lens rows.old.words other }
 {
     let _shape = rows.shape();
-    let mut vector = Vec::from_slice(alloc, rows.row(row))?;
+    let mut vector = wide_row(alloc, rows.row(row))?;
     least(system, &mut vector, steps);
     for process in 0..system.shape().procs() {
         rows.raise(row, process, vector[process as usize]);

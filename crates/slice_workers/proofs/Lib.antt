@@ -1,3 +1,4 @@
 pub mod Rises
 pub mod Reached
 pub mod Passes
+pub mod Firsts

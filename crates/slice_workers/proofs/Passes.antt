@@ -8,18 +8,18 @@ use Rattle.pull_system.specs.System.{SystemView}
 use Rattle.pull_system.specs.Climb.{marked}
 use Rattle.pull_system.proofs.Climbing.{set_case}
 use Rattle.pull_system.specs.Rows.{place_of}
-use Rattle.slice_workers.specs.Reaching.{AreHanded, handed_events, ReachesFirst}
+use Rattle.slice_workers.specs.Reaching.{rows_left, AreHanded, handed_events, ReachesFirst}
 use Rattle.slice_workers.specs.Settling.{IsBottom, HasSettled, process_looks}
 use Rattle.slice_workers.proofs.Reached.{handed_more, handed_set}
 
 pub bottom_more : (system : SystemView) (floor now bottom : List ℕ) → IsWithin floor now → IsBottom system floor bottom → IsBottom system now bottom
 bottom_more system floor now bottom within is = record { least = is.least; lent = λ i there. omega (arith, is.lent i there, within.each (place_of system.lens 0 i)) }
 
-pub passed_none : (system : SystemView) (bottom floor : List ℕ) (handed : List Bool) (steps : ℕ) → AreHanded system floor handed → HasSettled system bottom floor floor handed handed steps steps
-passed_none system bottom floor handed steps are = record { rises = record { each = λ i. omega arith }; handed = are; stays = λ p is. is; looks = omega arith; paid = omega arith }
+pub passed_none : (system : SystemView) (left bottom floor : List ℕ) (handed : List Bool) (steps : ℕ) → AreHanded system floor handed → HasSettled system left bottom floor floor handed handed steps steps
+passed_none system left bottom floor handed steps are = record { rises = record { each = λ i. omega arith }; handed = are; stays = λ p is. is; looks = omega arith; paid = omega arith }
 
-pub passed_on : (system : SystemView) (bottom a b c : List ℕ) (x y z : List Bool) (s t u : ℕ) → HasSettled system bottom a b x y s t → HasSettled system bottom b c y z t u → HasSettled system bottom a c x z s u
-passed_on system bottom a b c x y z s t u first second = record {
+pub passed_on : (system : SystemView) (left bottom a b c : List ℕ) (x y z : List Bool) (s t u : ℕ) → HasSettled system left bottom a b x y s t → HasSettled system left bottom b c y z t u → HasSettled system left bottom a c x z s u
+passed_on system left bottom a b c x y z s t u first second = record {
   rises = record { each = λ i. omega (arith, first.rises.each i, second.rises.each i) };
   handed = second.handed;
   stays = λ p is. second.stays p (first.stays p is);
@@ -52,18 +52,18 @@ next_paid pulls a b rows old new before after same paid =
     let e : pulls * (new + after) ≡ pulls * (new + (before + rows)) = ap (λ n. pulls * (new + n)) same in omega (arith, paid, e)
 
 -- the rows of one process more are settled, and it is marked
-pub passed_mark : (system : SystemView) (bottom old new : List ℕ) (handed : List Bool) (process steps steps_now : ℕ) → process < length system.lens → length system.lens ≤ 32 → AreHanded system old handed → get_or handed process false ≡ false
+pub passed_mark : (system : SystemView) (left bottom old new : List ℕ) (handed : List Bool) (process steps steps_now : ℕ) → process < length system.lens → length left ≡ length system.lens → length system.lens ≤ 32 → AreHanded system old handed → get_or handed process false ≡ false
     → IsWithin old new → ReachesFirst system process (get_or system.lens process 0) new
     → steps_now ≤ steps + process_looks system bottom
-    → steps_now + length system.pulls * sum old ≤ steps + length system.pulls * (get_or system.lens process 0 + sum new)
-    → HasSettled system bottom old new handed (set handed process true) steps steps_now
-passed_mark system bottom old new handed process steps steps_now there few are free rises first looks paid = record {
+    → steps_now + length system.pulls * sum old ≤ steps + length system.pulls * (get_or left process 0 + sum new)
+    → HasSettled system left bottom old new handed (set handed process true) steps steps_now
+passed_mark system left bottom old new handed process steps steps_now there size few are free rises first looks paid = record {
   rises = rises;
   handed = handed_set system new handed process there (handed_more system old new handed rises are) first;
   stays = λ p is. elim (set_case handed process true p false) [ inl e ↦ e ∙ is | inr e ↦ e.1 ];
   looks = next_mark (process_looks system bottom) steps_now steps (marked handed) (marked (set handed process true)) (marked_set handed process (omega (arith, are.size)) free) looks;
-  paid = next_paid (length system.pulls) steps_now steps (get_or system.lens process 0) (sum old) (sum new) (handed_events system.lens handed) (handed_events system.lens (set handed process true))
-      (events_set system.lens handed process there (omega (arith, are.size)) free) paid;
+  paid = next_paid (length system.pulls) steps_now steps (get_or left process 0) (sum old) (sum new) (handed_events left handed) (handed_events left (set handed process true))
+      (events_set left handed process (omega (arith, size, there)) (omega (arith, are.size)) free) paid;
 }
 
 -- no more are marked than there are processes
@@ -115,3 +115,20 @@ total pulls procs top bottom marks start last one some less few took =
 
     spread_out : (p a r m : ℕ) → p * a + p * r * m ≡ p * (a + r * m)
     spread_out p a r m = grind arith
+
+pub length-left : (lens finals : List ℕ) → length (rows_left lens finals) ≡ length lens
+length-left [] finals = refl
+length-left (len ∷ lens) [] = ap (λ (n : ℕ). suc n) (length-left lens [])
+length-left (len ∷ lens) (count ∷ finals) = ap (λ (n : ℕ). suc n) (length-left lens finals)
+
+pub get_or-left : (lens finals : List ℕ) (i : ℕ) → get_or (rows_left lens finals) i 0 ≡ get_or lens i 0 - get_or finals i 0
+get_or-left [] finals i = omega arith
+get_or-left (len ∷ lens) [] zero = omega arith
+get_or-left (len ∷ lens) [] (suc i) = get_or-left lens [] i
+get_or-left (len ∷ lens) (count ∷ finals) zero = refl
+get_or-left (len ∷ lens) (count ∷ finals) (suc i) = get_or-left lens finals i
+
+pub sum-left : (lens finals : List ℕ) → sum (rows_left lens finals) ≤ sum lens
+sum-left [] finals = omega arith
+sum-left (len ∷ lens) [] = omega (arith, sum_by-cons (λ (n : ℕ). n) len lens, sum_by-cons (λ (n : ℕ). n) len (rows_left lens []), sum-left lens [])
+sum-left (len ∷ lens) (count ∷ finals) = omega (arith, sum_by-cons (λ (n : ℕ). n) len lens, sum_by-cons (λ (n : ℕ). n) (len - count) (rows_left lens finals), sum-left lens finals)

@@ -1,5 +1,5 @@
 -- Rows that a floor has reached stay reached while it rises, and together they are all rows.
-use Rattle.std.proofs.Common.{◌≡◌, ℕ, suc, ◌+◌, ◌-◌, ◌<◌, ◌≤◌, ◌⊎◌, inl, inr, Bool, true, false, List, [], ◌∷◌, length, get_or, set, sum, take, arith, sym, ap, ◌∙◌, subst}
+use Rattle.std.proofs.Common.{◌≡◌, ℕ, zero, suc, refl, ◌+◌, ◌-◌, ◌<◌, ◌≤◌, ◌⊎◌, inl, inr, Bool, true, false, List, [], ◌∷◌, length, get_or, set, sum, take, replicate, arith, sym, ap, ◌∙◌, subst}
 use Rattle.std.proofs.lemmas.List.{length-set, ext_get_or}
 use Rattle.std.proofs.lemmas.List.Sums.{sum_by-cons}
 use Rattle.pull_system.specs.Vector.{IsWithin, IsMaximum}
@@ -13,7 +13,9 @@ use Rattle.raise_machine.specs.Bounds.{AreBounds, word_at, has_start}
 use Rattle.raise_machine.proofs.Raising.{word_below, has_start-bottom, has_start-event}
 use Rattle.bound_table.proofs.Lends.{has_start_next}
 use Rattle.bound_table.specs.Kept.{Follows}
-use Rattle.slice_workers.specs.Reaching.{Reaches, ReachesAll, ReachesFirst, AreHanded}
+use Rattle.slice_workers.specs.Reaching.{Reaches, ReachesAll, ReachesFirst, AreHanded, AreFinal, row_before}
+use Rattle.pull_system.proofs.Sums.{sum-within}
+use Rattle.pull_system.proofs.Starts.{start_of-bottom}
 use Rattle.slice_workers.specs.Settling.{IsBottom}
 
 pub reaches_more : (system : SystemView) (row : ℕ) (floor now : List ℕ) → IsWithin floor now → Reaches system row floor → Reaches system row now
@@ -182,3 +184,60 @@ settled_bottom system old new v follows least = record { least = least; lent = �
 
 pub all_more : (system : SystemView) (floor now : List ℕ) → IsWithin floor now → ReachesAll system floor → ReachesAll system now
 all_more system floor now within all = record { each = λ row there. reaches_more system row floor now within (all.each row there) }
+
+pub is_before : (lens : List ℕ) (process done before : ℕ) → before ≡ row_before lens process done → IsBefore lens process done before
+is_before lens process zero before is = AtBottom is
+is_before lens process (suc done) before is = After (omega arith) is
+
+pub more_rows : (first old new : ℕ) → old ≤ new → old ≤ first + new
+more_rows first old new more = omega arith
+
+-- the row of a final event, looked at
+pub final_seen : (system : SystemView) (row : ℕ) (old new v : List ℕ) → row ≤ sum system.lens → Follows system row old new v → Reaches system row old → IsLeast system row v
+final_seen system row old new v there follows reaches =
+    let now = reaches_more system row old new follows.rises reaches in
+    let length_row = length-row_at system.lens new row there follows.bounds.size in
+    let same : row_at system.lens new row ≡ v =
+    ext_get_or 0 _ _ (length_row ∙ sym follows.size) (λ i below.
+    let i_there : i < length system.lens = omega arith in
+    get_or-row_at system.lens new row i i_there ∙ sym (follows.each i i_there)) in
+    let P : List ℕ → Type 0 = IsLeast system row in subst P same (reached_least system new row follows.bounds there now)
+
+-- no row's least closed vector adds up to less than the bottom's
+pub bottom_sum : (system : SystemView) (row : ℕ) (bottom v : List ℕ) → IsLeast system 0 bottom → IsLeast system row v → sum bottom ≤ sum v
+bottom_sum system row bottom v least other =
+    sum-within bottom v (least.closed.vector.size ∙ sym other.closed.vector.size)
+    (least.least v record { vector = other.closed.vector; above = record { each = λ i. omega (arith, start_of-bottom system.lens i) }; closed = other.closed.closed }).each
+
+pub final_more : (system : SystemView) (floor now finals : List ℕ) → IsWithin floor now → AreFinal system floor finals → AreFinal system now finals
+final_more system floor now finals within are = record {
+  size = are.size;
+  few = are.few;
+  each = λ p there. first_more system p _ floor now within (are.each p there);
+}
+
+pub before_is : (lens : List ℕ) (process done row : ℕ) → 1 ≤ done → row ≡ sum (take process lens) + done → row ≡ row_before lens process done
+before_is lens process zero row some is = absurd (omega arith)
+before_is lens process (suc done) row some is = is
+
+-- where no row is known to be final
+pub none_final : (system : SystemView) (floor finals : List ℕ) → length finals ≡ length system.lens → ((p : ℕ) → get_or finals p 0 ≡ 0) → AreFinal system floor finals
+none_final system floor finals size none = record {
+  size = size;
+  few = λ p. omega (arith, none p);
+  each = λ p there. let P : ℕ → Type 0 = λ n. ReachesFirst system p n floor in subst P (sym (none p)) (first_none system p floor);
+}
+
+abbrev pub zeros : ℕ → ℕ → List ℕ
+zeros n m = take n (replicate m 0)
+
+pub length-zeros : (n m : ℕ) → n ≤ m → length (zeros n m) ≡ n
+length-zeros zero m few = refl
+length-zeros (suc n) zero few = absurd (omega arith)
+length-zeros (suc n) (suc m) few = ap (λ (k : ℕ). suc k) (length-zeros n m (omega arith))
+
+pub get_or-zeros : (n m p : ℕ) → get_or (zeros n m) p 0 ≡ 0
+get_or-zeros zero m p = refl
+get_or-zeros (suc n) zero p = refl
+get_or-zeros (suc n) (suc m) zero = refl
+get_or-zeros (suc n) (suc m) (suc p) = get_or-zeros n m p

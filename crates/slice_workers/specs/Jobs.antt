@@ -1,13 +1,14 @@
 -- What workers are handed, and what they hand back.
-use Rattle.std.specs.Prelude.{◌≡◌}
+use Rattle.std.specs.Prelude.{◌≡◌, ℕ, List}
 use Rattle.bound_table.specs.Views.{TableView}
 use Rattle.slice_workers.specs.declared.job.Job.{Job}
 use Rattle.slice_workers.specs.declared.job.Done.{Done}
-use Rattle.slice_workers.specs.Reaching.{AreHanded}
+use Rattle.slice_workers.specs.Reaching.{AreHanded, AreFinal}
 
--- the seat is of the table
-pub record IsJob (table : TableView) (job : Job) : Type 0 where
+-- the seat is of the table, and its floor has reached the final rows
+pub record IsJob (table : TableView) (finals : List ℕ) (job : Job) : Type 0 where
   pub fits : job.seat.table ≡ table
+  pub known : AreFinal table.system job.seat.floor finals
 
 -- the seat is of the table, and its floor has reached the rows of the processes that are handed
 -- back

@@ -1,5 +1,5 @@
 -- Rows that are settled, said of a seat's floor from below: so it stays true while the floor rises.
-use Rattle.std.specs.Prelude.{◌≡◌, ℕ, ◌+◌, ◌<◌, ◌≤◌, List, [], ◌∷◌, Bool, true, false}
+use Rattle.std.specs.Prelude.{◌≡◌, ℕ, zero, suc, ◌+◌, ◌-◌, ◌<◌, ◌≤◌, List, [], ◌∷◌, Bool, true, false}
 use Rattle.std.specs.Prelude.{length, sum, take, slice_index, slice_index_or, if◌then◌else◌}
 use Rattle.pull_system.specs.System.{SystemView}
 use Rattle.pull_system.specs.Rows.{IsLeast}
@@ -36,3 +36,21 @@ handed_events [] handed = 0
 handed_events (len ∷ lens) [] = 0
 handed_events (len ∷ lens) (is_handed ∷ handed) =
     (if is_handed then len else 0) + handed_events lens handed
+
+-- the row of the process's event of this number, or the bottom's before the first
+abbrev pub row_before : List ℕ → ℕ → ℕ → ℕ
+row_before lens process zero = 0
+row_before lens process (suc done) = sum (take process lens) + suc done
+
+-- the first rows of each process that the floor has reached
+pub record AreFinal (system : SystemView) (floor finals : List ℕ) : Type 0 where
+  pub size : length finals ≡ length system.lens
+  pub few : (process : ℕ) → slice_index finals process ≤ slice_index system.lens process
+  pub each : (process : ℕ) → process < length system.lens
+      → ReachesFirst system process (slice_index finals process) floor
+
+-- how many rows of each process are not final
+abbrev pub rows_left : List ℕ → List ℕ → List ℕ
+rows_left [] finals = []
+rows_left (len ∷ lens) [] = len ∷ rows_left lens []
+rows_left (len ∷ lens) (count ∷ finals) = (len - count) ∷ rows_left lens finals

@@ -23,7 +23,7 @@ process_looks system bottom =
 
 -- More processes are done: the floor rose and reached their rows, and the look-ups are paid for by
 -- these processes, and by the rise and the number of their rows.
-pub record HasSettled (system : SystemView) (bottom : List ℕ) (old new : List ℕ)
+pub record HasSettled (system : SystemView) (left bottom : List ℕ) (old new : List ℕ)
     (before after : List Bool) (steps steps_now : ℕ) : Type 0 where
   pub rises : IsWithin old new
   pub handed : AreHanded system new after
@@ -31,5 +31,5 @@ pub record HasSettled (system : SystemView) (bottom : List ℕ) (old new : List 
       → slice_index_or after process false ≡ true
   pub looks : steps_now + process_looks system bottom * marked before
       ≤ steps + process_looks system bottom * marked after
-  pub paid : steps_now + length system.pulls * (sum old + handed_events system.lens before)
-      ≤ steps + length system.pulls * (sum new + handed_events system.lens after)
+  pub paid : steps_now + length system.pulls * (sum old + handed_events left before)
+      ≤ steps + length system.pulls * (sum new + handed_events left after)

@@ -2,15 +2,18 @@
 //!
 //! `settle_all` gives the least closed vector of each row (clause `least`), for every number of
 //! workers and each gate, and leaves the seat's floors there (clause `floor`), so the shared words
-//! hold them too. The clauses `looks` and `rises_paid` bound the look-ups of one worker. Nothing is
-//! said of the order in which workers settle, of progress, nor that two threads ran or how long
+//! hold them too. The clauses `looks` and `rises_paid` bound the look-ups of one worker.
+//! `settle_behind` does so behind rows that are final: their floors are the least already. Nothing
+//! is said of the order in which workers settle, of progress, nor that two threads ran or how long
 //! they took.
 #![tactic(auto)]
 
 mod job;
+mod laws;
 mod process;
 mod settled;
 mod threads;
 mod workers;
 
-pub use settled::{Settled, settle_all};
+pub use laws::first_rows_are_final;
+pub use settled::{Settled, settle_all, settle_behind};

@@ -5,18 +5,19 @@ ghost use Rattle.pull_system.specs.Vector.{IsWithin, IsVector};
 ghost use Rattle.pull_system.specs.Rows.{row_at, IsLeast};
 ghost use Rattle.raise_machine.specs.Bounds.{AreBounds, word_at, has_start};
 ghost use Rattle.bound_table.specs.Views.{KeepsClaims};
-ghost use Rattle.slice_workers.specs.Reaching.{Reaches, ReachesFirst};
+ghost use Rattle.slice_workers.specs.Reaching.{Reaches, ReachesFirst, row_before};
 
 use bound_table::{BoundTable, Seat};
 use pota_base::{EventId, Steps};
 use std::sync::ledger::Ledger;
 
-/// Settles the rows of the process in order, from the bottom's least closed vector, each from the
-/// row before.
+/// Settles the rows of the process in order behind its first ones, which the floor has reached,
+/// each from the row before.
 pub(crate) fn settle_process<L: Ledger>(
     table: &BoundTable,
     seat: &mut Seat,
     process: u32,
+    first: u32,
     bottom: &[u16],
     into: &mut [u16],
     steps: &mut Steps<L>,
@@ -27,6 +28,8 @@ pub(crate) fn settle_process<L: Ledger>(
     requires lent { (i : ℕ) → i < length table.now.system.lens
         → slice_index bottom.now i ≤ word_at table.now.system.lens seat.old.floor 0 i }
     requires into { length into.old ≡ length table.now.system.lens }
+    requires first { first ≤ slice_index table.now.system.lens process }
+    requires kept { ReachesFirst table.now.system process first seat.old.floor }
     ensures keeps { KeepsClaims seat.old seat.new }
     ensures rises { IsWithin seat.old.floor seat.new.floor }
     ensures reaches { let count = slice_index table.now.system.lens process in
@@ -35,14 +38,13 @@ pub(crate) fn settle_process<L: Ledger>(
         let rise = sum lens + length lens - sum bottom.now in
         steps.new ≤ steps.old + length table.now.system.pulls * rise }
     ensures rises_paid { let pulls = length table.now.system.pulls in
-        let rows = slice_index table.now.system.lens process in
+        let rows = slice_index table.now.system.lens process - first in
         steps.new + pulls * sum seat.old.floor ≤ steps.old + pulls * (rows + sum seat.new.floor) }
 {
     seat.bounds();
-    into.copy_from_slice(bottom);
+    let mut before = go_behind(table, seat, process, first, bottom, into);
     let shape = table.system().shape();
-    let mut before = 0;
-    for done in 0..shape.len_of(process) {
+    for done in first..shape.len_of(process) {
         let row = shape.row_of(EventId {
             process,
             position: done + 1,
@@ -50,6 +52,47 @@ pub(crate) fn settle_process<L: Ledger>(
         settle_next(table, seat, process, before, row, into, steps);
         before = row;
     }
+}
+
+/// The row of the process's last final event, or the bottom's where there is none, with its least
+/// closed vector in `into`.
+fn go_behind(
+    table: &BoundTable,
+    seat: &mut Seat,
+    process: u32,
+    first: u32,
+    bottom: &[u16],
+    into: &mut [u16],
+) -> u32
+    requires fits { seat.old.table ≡ table.now }
+    requires process { process < length table.now.system.lens }
+    requires bottom { IsLeast table.now.system 0 bottom.now }
+    requires lent { (i : ℕ) → i < length table.now.system.lens
+        → slice_index bottom.now i ≤ word_at table.now.system.lens seat.old.floor 0 i }
+    requires into { length into.old ≡ length table.now.system.lens }
+    requires first { first ≤ slice_index table.now.system.lens process }
+    requires kept { ReachesFirst table.now.system process first seat.old.floor }
+    ensures keeps { KeepsClaims seat.old seat.new }
+    ensures rises { IsWithin seat.old.floor seat.new.floor }
+    ensures bounds { AreBounds table.now.system seat.new.floor }
+    ensures row { result ≡ row_before table.now.system.lens process first }
+    ensures there { result ≤ sum table.now.system.lens }
+    ensures least { IsLeast table.now.system result into.new }
+    ensures lent { (i : ℕ) → i < length table.now.system.lens
+        → slice_index into.new i ≤ word_at table.now.system.lens seat.new.floor result i }
+    ensures above { sum bottom.now ≤ sum into.new }
+{
+    seat.bounds();
+    if first == 0 {
+        into.copy_from_slice(bottom);
+        return 0;
+    }
+    let row = table.system().shape().row_of(EventId {
+        process,
+        position: first,
+    });
+    table.look_narrow(seat, row, into);
+    row
 }
 
 /// Settles a row from the row before on its process.

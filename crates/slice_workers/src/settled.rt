@@ -2,7 +2,7 @@ ghost use Rattle.std.specs.Prelude.{◌≡◌, ℕ, ◌+◌, ◌*◌, ◌≤◌,
 ghost use Rattle.pull_system.specs.Vector.{IsWithin};
 ghost use Rattle.pull_system.specs.System.{IsSystem};
 ghost use Rattle.pull_system.specs.Rows.{AreLeastRows};
-ghost use Rattle.slice_workers.specs.Reaching.{AreHanded, ReachesAll};
+ghost use Rattle.slice_workers.specs.Reaching.{AreHanded, AreFinal, ReachesAll, rows_left};
 
 use crate::threads::{make_jobs, meet_all, run};
 use crate::workers::{none_handed, settle_claimed, settle_rest};
@@ -14,8 +14,8 @@ use std::marker::Model;
 use std::sync::ledger::Ledger;
 use std::thread::Threads;
 
-/// The least closed vectors of all rows of a table. Only `settle_all` makes it. Contracts see its
-/// rows.
+/// The least closed vectors of all rows of a table. Only `settle_all` and `settle_behind`
+/// make it. Contracts see its rows.
 #[derive(Drop)]
 pub struct Settled {
     rows: Rows,
@@ -73,7 +73,44 @@ pub fn settle_all<R: Threads + Sync, G: Gate, L: Ledger>(
         workers ≡ 1
         → steps.new + pulls * sum seat.old.floor ≤ steps.old + pulls * (rows + sum seat.new.floor) }
 {
-    settle_rows(rt, alloc, table, seat, workers, gate, steps)?;
+    let procs = table.system().shape().procs() as usize;
+    let none = [0; 32];
+    settle_behind(rt, alloc, table, seat, &none[..procs], workers, gate, steps)
+}
+
+/// Settles all rows of the table as `settle_all` does, where the seat's floor has reached the first
+/// rows of each process, so many as `finals` says. These rows are left as they are: they are
+/// neither lent to nor looked up, and the count of one worker doesn't pay for them.
+pub fn settle_behind<R: Threads + Sync, G: Gate, L: Ledger>(
+    rt: &R,
+    alloc: Global,
+    table: &BoundTable,
+    seat: &mut Seat,
+    finals: &[u32],
+    workers: u32,
+    gate: &G,
+    steps: &mut Steps<L>,
+) -> Result<Settled, NoMemory>
+    requires fits { seat.old.table ≡ table.now }
+    requires finals { AreFinal table.now.system seat.old.floor finals.now }
+    requires some { 1 ≤ workers }
+    requires few { workers ≤ 16 }
+    ensures table { seat.new.table ≡ seat.old.table }
+    ensures lens { IfOk result (λ settled. settled.lens ≡ table.now.system.lens) }
+    ensures least { IfOk result (λ settled. AreLeastRows table.now.system settled.words) }
+    ensures floor { IfOk result (λ settled. settled.words ≡ seat.new.floor) }
+    ensures rises { IsWithin seat.old.floor seat.new.floor }
+    ensures looks { let procs = length table.now.system.lens in
+        let events = sum table.now.system.lens in
+        workers ≡ 1
+        → steps.new ≤ steps.old
+        + length table.now.system.pulls * ((procs + 1) * (events + procs)) }
+    ensures rises_paid { let pulls = length table.now.system.pulls in
+        let rows = sum (rows_left table.now.system.lens finals.now) + 1 in
+        workers ≡ 1
+        → steps.new + pulls * sum seat.old.floor ≤ steps.old + pulls * (rows + sum seat.new.floor) }
+{
+    settle_rows(rt, alloc, table, seat, finals, workers, gate, steps)?;
     seat.bounds();
     let rows = table.floors(alloc, seat)?;
     Ok(Settled { rows })
@@ -85,11 +122,13 @@ fn settle_rows<R: Threads + Sync, G: Gate, L: Ledger>(
     alloc: Global,
     table: &BoundTable,
     seat: &mut Seat,
+    finals: &[u32],
     workers: u32,
     gate: &G,
     steps: &mut Steps<L>,
 ) -> Result<(), NoMemory>
     requires fits { seat.old.table ≡ table.now }
+    requires finals { AreFinal table.now.system seat.old.floor finals.now }
     ensures table { seat.new.table ≡ seat.old.table }
     ensures reaches { OnOk result (ReachesAll table.now.system seat.new.floor) }
     ensures rises { IsWithin seat.old.floor seat.new.floor }
@@ -99,19 +138,19 @@ fn settle_rows<R: Threads + Sync, G: Gate, L: Ledger>(
         → steps.new ≤ steps.old
         + length table.now.system.pulls * ((procs + 1) * (events + procs)) }
     ensures rises_paid { let pulls = length table.now.system.pulls in
-        let rows = sum table.now.system.lens + 1 in
+        let rows = sum (rows_left table.now.system.lens finals.now) + 1 in
         workers ≡ 1
         → steps.new + pulls * sum seat.old.floor ≤ steps.old + pulls * (rows + sum seat.new.floor) }
 {
     if workers == 1 {
-        settle_alone(table, seat, gate, steps);
+        settle_alone(table, seat, finals, gate, steps);
         return Ok(());
     }
-    let jobs = make_jobs(alloc, table, seat, workers)?;
-    let dones = run(rt, table, gate, jobs)?;
+    let jobs = make_jobs(alloc, table, seat, finals, workers)?;
+    let dones = run(rt, table, finals, gate, jobs)?;
     let mut handed = none_handed();
     meet_all(table, seat, dones, &mut handed);
-    finish(table, seat, &mut handed, steps);
+    finish(table, seat, finals, &mut handed, steps);
     Ok(())
 }
 
@@ -119,10 +158,12 @@ fn settle_rows<R: Threads + Sync, G: Gate, L: Ledger>(
 fn settle_alone<G: Gate, L: Ledger>(
     table: &BoundTable,
     seat: &mut Seat,
+    finals: &[u32],
     gate: &G,
     steps: &mut Steps<L>,
 )
     requires fits { seat.old.table ≡ table.now }
+    requires finals { AreFinal table.now.system seat.old.floor finals.now }
     ensures table { seat.new.table ≡ seat.old.table }
     ensures reaches { ReachesAll table.now.system seat.new.floor }
     ensures rises { IsWithin seat.old.floor seat.new.floor }
@@ -130,20 +171,21 @@ fn settle_alone<G: Gate, L: Ledger>(
         let events = sum table.now.system.lens in
         steps.new ≤ steps.old + length table.now.system.pulls * ((procs + 1) * (events + procs)) }
     ensures rises_paid { let pulls = length table.now.system.pulls in
-        let rows = sum table.now.system.lens + 1 in
+        let rows = sum (rows_left table.now.system.lens finals.now) + 1 in
         steps.new + pulls * sum seat.old.floor ≤ steps.old + pulls * (rows + sum seat.new.floor) }
 {
     let procs = table.system().shape().procs() as usize;
     let mut bottom = [0; 32];
     let mut into = [0; 32];
     let (bottom, into) = (&mut bottom[..procs], &mut into[..procs]);
-    settle_here(table, seat, gate, bottom, into, steps);
+    settle_here(table, seat, finals, gate, bottom, into, steps);
 }
 
 /// The one worker's rows, with the room that they need.
 fn settle_here<G: Gate, L: Ledger>(
     table: &BoundTable,
     seat: &mut Seat,
+    finals: &[u32],
     gate: &G,
     bottom: &mut [u16],
     into: &mut [u16],
@@ -151,6 +193,7 @@ fn settle_here<G: Gate, L: Ledger>(
 )
     requires system { IsSystem table.now.system }
     requires fits { seat.old.table ≡ table.now }
+    requires finals { AreFinal table.now.system seat.old.floor finals.now }
     requires bottom { length bottom.old ≡ length table.now.system.lens }
     requires into { length into.old ≡ length table.now.system.lens }
     ensures table { seat.new.table ≡ seat.old.table }
@@ -160,24 +203,26 @@ fn settle_here<G: Gate, L: Ledger>(
         let events = sum table.now.system.lens in
         steps.new ≤ steps.old + length table.now.system.pulls * ((procs + 1) * (events + procs)) }
     ensures rises_paid { let pulls = length table.now.system.pulls in
-        let rows = sum table.now.system.lens + 1 in
+        let rows = sum (rows_left table.now.system.lens finals.now) + 1 in
         steps.new + pulls * sum seat.old.floor ≤ steps.old + pulls * (rows + sum seat.new.floor) }
 {
     let mut handed = none_handed();
     gate.enter(1);
-    settle_claimed(table, seat, bottom, into, &mut handed, steps);
+    settle_claimed(table, seat, finals, bottom, into, &mut handed, steps);
     gate.leave(1);
-    settle_rest(table, seat, bottom, into, &mut handed, steps);
+    settle_rest(table, seat, finals, bottom, into, &mut handed, steps);
 }
 
 /// Settles what no worker has handed back.
 fn finish<L: Ledger>(
     table: &BoundTable,
     seat: &mut Seat,
+    finals: &[u32],
     handed: &mut [bool; 32],
     steps: &mut Steps<L>,
 )
     requires fits { seat.old.table ≡ table.now }
+    requires finals { AreFinal table.now.system seat.old.floor finals.now }
     requires handed { AreHanded table.now.system seat.old.floor handed.old }
     ensures table { seat.new.table ≡ seat.old.table }
     ensures reaches { ReachesAll table.now.system seat.new.floor }
@@ -187,7 +232,7 @@ fn finish<L: Ledger>(
     let mut bottom = [0; 32];
     let mut into = [0; 32];
     let (bottom, into) = (&mut bottom[..procs], &mut into[..procs]);
-    finish_here(table, seat, bottom, into, handed, steps);
+    finish_here(table, seat, finals, bottom, into, handed, steps);
 }
 
 /// Settles what no worker has handed back, with the room that it needs. The bottom's row is looked
@@ -195,12 +240,14 @@ fn finish<L: Ledger>(
 fn finish_here<L: Ledger>(
     table: &BoundTable,
     seat: &mut Seat,
+    finals: &[u32],
     bottom: &mut [u16],
     into: &mut [u16],
     handed: &mut [bool; 32],
     steps: &mut Steps<L>,
 )
     requires fits { seat.old.table ≡ table.now }
+    requires finals { AreFinal table.now.system seat.old.floor finals.now }
     requires bottom { length bottom.old ≡ length table.now.system.lens }
     requires into { length into.old ≡ length table.now.system.lens }
     requires handed { AreHanded table.now.system seat.old.floor handed.old }
@@ -209,5 +256,5 @@ fn finish_here<L: Ledger>(
     ensures rises { IsWithin seat.old.floor seat.new.floor }
 {
     table.settle_narrow(seat, 0, bottom, steps);
-    settle_rest(table, seat, bottom, into, handed, steps);
+    settle_rest(table, seat, finals, bottom, into, handed, steps);
 }

@@ -2,7 +2,7 @@
 ghost use Rattle.std.specs.Prelude.{◌≡◌, ◌⊎◌, ℕ, ◌<◌, ◌≤◌, All, true, false, length};
 ghost use Rattle.std.specs.Prelude.{slice_index_or, IfOk};
 ghost use Rattle.pull_system.specs.Vector.{IsWithin};
-ghost use Rattle.slice_workers.specs.Reaching.{AreHanded};
+ghost use Rattle.slice_workers.specs.Reaching.{AreHanded, AreFinal};
 ghost use Rattle.slice_workers.specs.Jobs.{IsJob, IsDone};
 
 use crate::job::{Done, Job};
@@ -19,11 +19,13 @@ pub(crate) fn make_jobs(
     alloc: Global,
     table: &BoundTable,
     seat: &mut Seat,
+    finals: &[u32],
     workers: u32,
 ) -> Result<Vec<Job>, NoMemory>
     requires fits { seat.old.table ≡ table.now }
+    requires finals { AreFinal table.now.system seat.old.floor finals.now }
     ensures same { seat.new ≡ seat.old }
-    ensures jobs { IfOk result (λ jobs. All (IsJob table.now) jobs.items) }
+    ensures jobs { IfOk result (λ jobs. All (IsJob table.now finals.now) jobs.items) }
 {
     let mut jobs = Vec::with_capacity(alloc, workers as usize)?;
     for before in 0..workers {
@@ -40,28 +42,29 @@ pub(crate) fn make_jobs(
 pub(crate) fn run<R: Threads + Sync, G: Gate>(
     rt: &R,
     table: &BoundTable,
+    finals: &[u32],
     gate: &G,
     jobs: Vec<Job>,
 ) -> Result<Vec<Done>, NoMemory>
-    requires { All (IsJob table.now) jobs.items }
+    requires { All (IsJob table.now finals.now) jobs.items }
     ensures { IfOk result (λ dones. All (IsDone table.now) dones.items) }
 {
     let settle = |job: Job| -> Done
-        requires { IsJob table.now job }
+        requires { IsJob table.now finals.now job }
         ensures { IsDone table.entry.now result }
-    { work(table, gate, job) };
+    { work(table, finals, gate, job) };
     Ok(map_vec(rt, jobs, &settle)?)
 }
 
 /// What one worker does, between its calls of the gate.
-fn work<G: Gate>(table: &BoundTable, gate: &G, job: Job) -> Done
-    requires { IsJob table.now job }
+fn work<G: Gate>(table: &BoundTable, finals: &[u32], gate: &G, job: Job) -> Done
+    requires { IsJob table.now finals.now job }
     ensures { IsDone table.now result }
 {
     let Job { mut seat, worker } = job;
     gate.enter(worker);
     let mut handed = none_handed();
-    work_counted::<Brand>(Blank::new(1), table, &mut seat, &mut handed);
+    work_counted::<Brand>(Blank::new(1), table, &mut seat, finals, &mut handed);
     gate.leave(worker);
     Done { seat, handed }
 }
@@ -71,12 +74,14 @@ fn work_counted<L: Ledger>(
     blank: Blank,
     table: &BoundTable,
     seat: &mut Seat,
+    finals: &[u32],
     handed: &mut [bool; 32],
 )
     requires name { blank.name ≡ L.name }
     requires parts { blank.parts ≡ L.parts }
     requires some { 0 < blank.parts }
     requires fits { seat.old.table ≡ table.now }
+    requires finals { AreFinal table.now.system seat.old.floor finals.now }
     requires none { (process : ℕ) → slice_index_or handed.old process false ≡ false }
     ensures table { seat.new.table ≡ seat.old.table }
     ensures handed { AreHanded table.now.system seat.new.floor handed.new }
@@ -88,6 +93,7 @@ fn work_counted<L: Ledger>(
     settle_claimed(
         table,
         seat,
+        finals,
         &mut bottom[..procs],
         &mut into[..procs],
         handed,

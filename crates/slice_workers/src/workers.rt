@@ -3,7 +3,7 @@ ghost use Rattle.std.specs.Prelude.{◌≡◌, ◌≢◌, ℕ, ◌+◌, ◌*◌,
 ghost use Rattle.std.specs.Prelude.{slice_index_or, slice_set};
 ghost use Rattle.pull_system.specs.Vector.{IsWithin};
 ghost use Rattle.pull_system.specs.Climb.{marked};
-ghost use Rattle.slice_workers.specs.Reaching.{AreHanded, handed_events};
+ghost use Rattle.slice_workers.specs.Reaching.{AreHanded, AreFinal, handed_events, rows_left};
 ghost use Rattle.slice_workers.specs.Settling.{IsBottom, HasSettled, process_looks};
 
 use crate::process::settle_process;
@@ -24,12 +24,14 @@ pub(crate) fn none_handed() -> [bool; 32]
 pub(crate) fn settle_claimed<L: Ledger>(
     table: &BoundTable,
     seat: &mut Seat,
+    finals: &[u32],
     bottom: &mut [u16],
     into: &mut [u16],
     handed: &mut [bool; 32],
     steps: &mut Steps<L>,
 )
     requires fits { seat.old.table ≡ table.now }
+    requires finals { AreFinal table.now.system seat.old.floor finals.now }
     requires bottom { length bottom.old ≡ length table.now.system.lens }
     requires into { length into.old ≡ length table.now.system.lens }
     requires none { (process : ℕ) → slice_index_or handed.old process false ≡ false }
@@ -41,14 +43,15 @@ pub(crate) fn settle_claimed<L: Ledger>(
         steps.new ≤ steps.old + length system.pulls * (1 + sum bottom.new)
         + process_looks system bottom.new * marked handed.new }
     ensures rises_paid { let system = table.now.system in
-        let rows = 1 + handed_events system.lens handed.new in
+        let left = rows_left system.lens finals.now in
+        let rows = 1 + handed_events left handed.new in
         steps.new + length system.pulls * sum seat.old.floor
         ≤ steps.old + length system.pulls * (rows + sum seat.new.floor) }
 {
     seat.bounds();
     table.settle_narrow(seat, 0, bottom, steps);
     for process in 0..table.system().shape().procs() {
-        claim_one(table, seat, process, bottom, into, handed, steps);
+        claim_one(table, seat, process, finals, bottom, into, handed, steps);
     }
 }
 
@@ -56,24 +59,27 @@ pub(crate) fn settle_claimed<L: Ledger>(
 pub(crate) fn settle_rest<L: Ledger>(
     table: &BoundTable,
     seat: &mut Seat,
+    finals: &[u32],
     bottom: &[u16],
     into: &mut [u16],
     handed: &mut [bool; 32],
     steps: &mut Steps<L>,
 )
     requires fits { seat.old.table ≡ table.now }
+    requires finals { AreFinal table.now.system seat.old.floor finals.now }
     requires bottom { IsBottom table.now.system seat.old.floor bottom.now }
     requires into { length into.old ≡ length table.now.system.lens }
     requires handed { AreHanded table.now.system seat.old.floor handed.old }
     ensures table { seat.new.table ≡ seat.old.table }
-    ensures settled { HasSettled table.now.system bottom.now seat.old.floor seat.new.floor
+    ensures settled { HasSettled table.now.system
+        (rows_left table.now.system.lens finals.now) bottom.now seat.old.floor seat.new.floor
         handed.old handed.new
         steps.old steps.new }
     ensures all { (process : ℕ) → process < length table.now.system.lens
         → slice_index_or handed.new process false ≡ true }
 {
     for process in 0..table.system().shape().procs() {
-        settle_left(table, seat, process, bottom, into, handed, steps);
+        settle_left(table, seat, process, finals, bottom, into, handed, steps);
     }
 }
 
@@ -82,12 +88,14 @@ fn claim_one<L: Ledger>(
     table: &BoundTable,
     seat: &mut Seat,
     process: u32,
+    finals: &[u32],
     bottom: &[u16],
     into: &mut [u16],
     handed: &mut [bool; 32],
     steps: &mut Steps<L>,
 )
     requires fits { seat.old.table ≡ table.now }
+    requires finals { AreFinal table.now.system seat.old.floor finals.now }
     requires few { length table.now.system.lens ≤ 32 }
     requires process { process < length table.now.system.lens }
     requires bottom { IsBottom table.now.system seat.old.floor bottom.now }
@@ -95,14 +103,15 @@ fn claim_one<L: Ledger>(
     requires handed { AreHanded table.now.system seat.old.floor handed.old }
     requires free { slice_index_or handed.old process false ≡ false }
     ensures table { seat.new.table ≡ seat.old.table }
-    ensures settled { HasSettled table.now.system bottom.now seat.old.floor seat.new.floor
+    ensures settled { HasSettled table.now.system
+        (rows_left table.now.system.lens finals.now) bottom.now seat.old.floor seat.new.floor
         handed.old handed.new
         steps.old steps.new }
     ensures others { (other : ℕ) → other ≢ process
         → slice_index_or handed.new other false ≡ slice_index_or handed.old other false }
 {
     if table.claim(seat, process) {
-        settle_marked(table, seat, process, bottom, into, handed, steps);
+        settle_marked(table, seat, process, finals, bottom, into, handed, steps);
     }
 }
 
@@ -111,25 +120,28 @@ fn settle_left<L: Ledger>(
     table: &BoundTable,
     seat: &mut Seat,
     process: u32,
+    finals: &[u32],
     bottom: &[u16],
     into: &mut [u16],
     handed: &mut [bool; 32],
     steps: &mut Steps<L>,
 )
     requires fits { seat.old.table ≡ table.now }
+    requires finals { AreFinal table.now.system seat.old.floor finals.now }
     requires few { length table.now.system.lens ≤ 32 }
     requires process { process < length table.now.system.lens }
     requires bottom { IsBottom table.now.system seat.old.floor bottom.now }
     requires into { length into.old ≡ length table.now.system.lens }
     requires handed { AreHanded table.now.system seat.old.floor handed.old }
     ensures table { seat.new.table ≡ seat.old.table }
-    ensures settled { HasSettled table.now.system bottom.now seat.old.floor seat.new.floor
+    ensures settled { HasSettled table.now.system
+        (rows_left table.now.system.lens finals.now) bottom.now seat.old.floor seat.new.floor
         handed.old handed.new
         steps.old steps.new }
     ensures marked { slice_index_or handed.new process false ≡ true }
 {
     if !handed[process as usize] {
-        settle_marked(table, seat, process, bottom, into, handed, steps);
+        settle_marked(table, seat, process, finals, bottom, into, handed, steps);
     }
 }
 
@@ -138,12 +150,14 @@ fn settle_marked<L: Ledger>(
     table: &BoundTable,
     seat: &mut Seat,
     process: u32,
+    finals: &[u32],
     bottom: &[u16],
     into: &mut [u16],
     handed: &mut [bool; 32],
     steps: &mut Steps<L>,
 )
     requires fits { seat.old.table ≡ table.now }
+    requires finals { AreFinal table.now.system seat.old.floor finals.now }
     requires few { length table.now.system.lens ≤ 32 }
     requires process { process < length table.now.system.lens }
     requires bottom { IsBottom table.now.system seat.old.floor bottom.now }
@@ -151,11 +165,13 @@ fn settle_marked<L: Ledger>(
     requires handed { AreHanded table.now.system seat.old.floor handed.old }
     requires free { slice_index_or handed.old process false ≡ false }
     ensures table { seat.new.table ≡ seat.old.table }
-    ensures settled { HasSettled table.now.system bottom.now seat.old.floor seat.new.floor
+    ensures settled { HasSettled table.now.system
+        (rows_left table.now.system.lens finals.now) bottom.now seat.old.floor seat.new.floor
         handed.old handed.new
         steps.old steps.new }
     ensures marked { handed.new ≡ slice_set handed.old process true }
 {
-    settle_process(table, seat, process, bottom, into, steps);
+    let first = finals[process as usize];
+    settle_process(table, seat, process, first, bottom, into, steps);
     handed[process as usize] = true;
 }

@@ -31,6 +31,7 @@ impl<W: Write> Sink for Writing<W> {
     fn write(&mut self, piece: &[u8]) -> Result<usize, Failed>
         ensures bytes { WriteHolds (W.contents self.old.inner) (W.contents self.new.inner)
             self.old.faults self.new.faults result piece.now }
+        ensures calm { IfOk result (λ n. 0 < n → self.new.faults ≡ self.old.faults) }
         ensures cause { HasCause self.old.faults self.new.faults result }
         ensures same { IfOk result (λ n. ((0 < n) ⊎ (length piece.now ≡ 0))
             → self.new.faults ≡ self.old.faults) }

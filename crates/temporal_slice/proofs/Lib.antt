@@ -3,3 +3,4 @@ pub mod Rows
 pub mod Asked
 pub mod Shared
 pub mod Sets
+pub mod NextPulls

@@ -1,20 +1,24 @@
-//! What EF, AG and EG make of a slice (Sen and Garg, on finite runs).
+//! What EF, AG, EG and EX make of a slice (Sen and Garg, on finite runs).
 //!
 //! Of a slice that stands for a closed set of cuts, `ef` stands for the consistent cuts from which
 //! some path ends in the set, `ag` for those from which each cut of every path is in it, and `eg`
 //! for those from which some path to the final cut stays in it (clauses `stands` and `cuts`); each
 //! of these sets is closed under minimum and maximum (`closed`). The clauses speak of the slice's
 //! own cuts, and `operators_of_a_set` takes them to any closed set that the slice stands for.
+//! EX of a process needs no slice: `ex_fans` gives its pulls, which a consistent cut is closed under
+//! exactly where the cut with the process's next event is one of the child's (`closed`).
 //! Nothing is said of the time or the memory that a call takes.
 #![tactic(auto)]
 
 mod always;
+mod behind_next;
 mod laws;
 mod possible;
 mod raised;
 mod staying_in;
 
 pub use always::ag;
+pub use behind_next::ex_fans;
 pub use laws::operators_of_a_set;
 pub use possible::ef;
 pub use staying_in::eg;

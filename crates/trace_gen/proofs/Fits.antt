@@ -1,6 +1,6 @@
 -- The log that is made has a text.
-use Rattle.std.proofs.Common.{◌≡◌, ℕ, zero, suc, ◌+◌, ◌^◌, ◌<◌, ◌≤◌, true, List, [], ◌∷◌, length, map, replicate, refl, sym, ◌∙◌, subst, arith, inl, inr}
-use Rattle.std.specs.Prelude.{pos, FitsSigned}
+use Rattle.std.proofs.Common.{◌≡◌, ℕ, zero, suc, ◌+◌, ◌^◌, ◌<◌, ◌≤◌, true, List, [], ◌∷◌, length, map, replicate, refl, sym, ap, ◌∙◌, subst, arith, inl, inr}
+use Rattle.std.specs.Prelude.{pos, None, FitsSigned}
 use Rattle.std.specs.Int.{w64}
 use Rattle.std.specs.List.{AllByRecursion}
 use Rattle.std.proofs.lemmas.Int.{ints}
@@ -10,19 +10,24 @@ use Rattle.log_lines.specs.Names.{are_distinct}
 use Rattle.log_lines.specs.Spelling.{names_of}
 use Rattle.event_log.specs.declared.log.Assign.{Assign}
 use Rattle.event_log.specs.declared.log.Binding.{Binding}
+use Rattle.event_log.specs.declared.log.Event.{Event}
 use Rattle.event_log.specs.declared.log.Header.{Header}
 use Rattle.event_log.specs.LogText.{named, vars_lines, BindingsFit, HeaderFits, KindFits, AssignFits, EventFits, EventsFit, LogFits}
 use Rattle.event_log.specs.Numbers.{variables_at}
 use Rattle.event_log.specs.States.{with_event}
 use Rattle.causal_order.proofs.Growing.{count-lengths}
 use Rattle.vector_clock.specs.Events.{Events, clocks_of, no_events}
+use Rattle.vector_clock.specs.Faults.{log_fault}
+use Rattle.vector_clock.specs.Filled.{filled_log}
+use Rattle.vector_clock.proofs.BatchLaws.{all_fit}
+use Rattle.vector_clock.proofs.FilledLogs.{written_log}
 use Rattle.vector_clock.proofs.Growth.{length-clocks_of, own_count}
 use Rattle.trace_gen.specs.Words.{word, first_state, next_state}
 use Rattle.trace_gen.specs.Making.{Processes, position_is, seen_is, made}
 use Rattle.trace_gen.specs.Generated.{names_from, opening, header_of, events_from, at_rest, generated}
 use Rattle.trace_gen.proofs.Steps.{Going}
 use Rattle.trace_gen.proofs.Choices.{HasAssigns, IsMadeWell, made_well}
-use Rattle.trace_gen.proofs.Clear.{length-names, start_going}
+use Rattle.trace_gen.proofs.Clear.{length-names, start_going, no_log_fault}
 use Rattle.trace_gen.proofs.Naming.{names_distinct, names_are}
 
 -- ---- the header
@@ -39,6 +44,7 @@ all_openings (suc n) = (opening_fits, all_openings n)
 
 header_fits : (procs : ℕ) → 1 ≤ procs → procs ≤ 32 → HeaderFits (header_of procs)
 header_fits procs some few = record {
+  version = inl refl;
   procs = record {
     some = omega (arith, length-names 0 procs);
     few = omega (arith, length-names 0 procs);
@@ -82,6 +88,10 @@ module _ (procs : ℕ) (some : 1 ≤ procs) (few : procs ≤ 32) where
   pub vars_at : (i : ℕ) → i < procs → variables_at h.vars i ≡ opening
   vars_at i lt = get_or-replicate procs i opening [] lt
 
+  -- a clock has a count for each process
+  pub event_width : (before : Events) (k w : ℕ) (ps : Processes) → IsMadeWell procs before k (made procs k w ps) → length (made procs k w ps).event.clock ≡ procs
+  event_width before k w ps well = well.past.shaped ∙ length-clocks_of (with_event before (made procs k w ps).event) ∙ well.goes.tables
+
   pub event_fits : (before : Events) (k w : ℕ) (ps : Processes) → k < 50000 → IsMadeWell procs before k (made procs k w ps) → EventFits h (made procs k w ps).event
   event_fits before k w ps limit well =
       let e = (made procs k w ps).event in
@@ -89,7 +99,7 @@ module _ (procs : ℕ) (some : 1 ≤ procs) (few : procs ≤ 32) where
       let fit = assigns_fit k e.assigns limit well.assigns in
       record {
         process = omega (arith, well.there, length-names 0 procs);
-        width = well.past.shaped ∙ length-clocks_of after ∙ well.goes.tables ∙ sym (length-names 0 procs);
+        width = inl (event_width before k w ps well ∙ sym (length-names 0 procs));
         clock = all_low e.clock (k + 1) (omega arith) (λ j. omega (arith, well.past.within j, count-lengths (clocks_of after) j, own_count after j, well.goes.few j));
         kind = subst (λ n. KindFits n e.process e.kind) (sym (length-names 0 procs)) (well.kind limit);
         few = fit.0;
@@ -119,3 +129,14 @@ module _ (procs : ℕ) (some : 1 ≤ procs) (few : procs ≤ 32) where
     batches = (events_fit events 0 (first_state seed) _ (no_events procs) (at_rest procs) (omega arith) (omega (arith, length-vars 0 procs)) (start_going procs), tt);
     few = omega (arith, length-events events 0 (first_state seed) (at_rest procs));
   }
+
+  -- no clock is left out
+  pub all_written : (seed events : ℕ) → events ≤ 50000 → filled_log (generated seed procs events) ≡ generated seed procs events
+  all_written seed events limit =
+      let log = generated seed procs events in
+      let fits = log_fits seed events limit in
+      ap (λ (batches : List (List Event)). record { header = log.header; batches = batches })
+      (written_log (length log.header.procs) (no_events (length log.header.procs)) log.batches fits.header.procs.some (all_fit log.header _ log.batches refl fits.batches))
+
+  pub filled_clean : (seed events : ℕ) → events ≤ 50000 → log_fault (filled_log (generated seed procs events)) ≡ None
+  filled_clean seed events limit = ap log_fault (all_written seed events limit) ∙ no_log_fault seed procs events some

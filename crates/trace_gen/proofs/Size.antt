@@ -6,12 +6,12 @@ use Rattle.std.specs.List.{AllByRecursion}
 use Rattle.std.proofs.lemmas.Bool.{and_parts, ltb-true}
 use Rattle.std.proofs.lemmas.Fmt.{length-decimal-le}
 use Rattle.log_lines.specs.Names.{Name, is_name, is_name_start}
-use Rattle.log_lines.specs.Spelling.{names_text, values_text, clock_rest, clock_text, action_text, event_line, procs_line, vars_line, end_line}
+use Rattle.log_lines.specs.Spelling.{names_text, values_text, clock_rest, event_clock_text, action_text, event_line, procs_line, vars_line, end_line}
 use Rattle.event_log.specs.declared.log.Assign.{Assign}
 use Rattle.event_log.specs.declared.log.Header.{Header}
 use Rattle.event_log.specs.declared.log.Kind.{Kind}
 use Rattle.event_log.specs.declared.log.Kind.TheVariants as kind
-use Rattle.event_log.specs.Before.{Line, heading}
+use Rattle.event_log.specs.Before.{Line, heading_of}
 use Rattle.event_log.specs.LogText.{name_at, named, values_of, action_of, line_of, vars_lines, header_lines, event_lines, batch_lines, text_of, log_text, KindFits}
 use Rattle.event_log.specs.Numbers.{variables_at}
 use Rattle.event_log.specs.States.{with_event}
@@ -21,8 +21,8 @@ use Rattle.trace_gen.specs.Making.{Processes, seen_is, made}
 use Rattle.trace_gen.specs.Generated.{name_of, names_from, opening, header_of, events_from, at_rest, generated, generated_events}
 use Rattle.trace_gen.proofs.Steps.{Going}
 use Rattle.trace_gen.proofs.Choices.{HasAssigns, IsMadeWell, made_well}
-use Rattle.trace_gen.proofs.Clear.{length-names, start_going}
-use Rattle.trace_gen.proofs.Fits.{event_fits, vars_at}
+use Rattle.trace_gen.proofs.Clear.{start_going}
+use Rattle.trace_gen.proofs.Fits.{event_width, event_fits, vars_at}
 use Rattle.trace_gen.proofs.Naming.{names_are}
 
 -- ---- parts of a line
@@ -46,7 +46,7 @@ rest_short : (c : List ℕ) → AllByRecursion (λ n. n < 2 ^ 32) c → length (
 rest_short [] all = omega arith
 rest_short (n ∷ c) all = omega (arith, length-append (decimal n) (clock_rest c), number_short n (omega (arith, all.0)), rest_short c all.1)
 
-clock_short : (c : List ℕ) → AllByRecursion (λ n. n < 2 ^ 32) c → length (clock_text c) ≤ 21 * length c
+clock_short : (c : List ℕ) → AllByRecursion (λ n. n < 2 ^ 32) c → length (event_clock_text c) ≤ 21 * length c + 1
 clock_short [] all = omega arith
 clock_short (n ∷ c) all = omega (arith, length-append (decimal n) (clock_rest c), number_short n (omega (arith, all.0)), rest_short c all.1)
 
@@ -112,11 +112,10 @@ module _ (procs : ℕ) (some : 1 ≤ procs) (few : procs ≤ 32) where
       subst (λ vars. length (values_text (map (named vars) e.assigns)) ≤ 60) (sym (vars_at procs some few e.process well.there)) (assigns_short k e.assigns limit well.assigns) in
       omega (
         arith,
-        joined (name_at h.procs e.process) (clock_text e.clock) (action_text (action_of h.procs e.kind)) (values_text (map (named (variables_at h.vars e.process)) e.assigns)),
+        joined (name_at h.procs e.process) (event_clock_text e.clock) (action_text (action_of h.procs e.kind)) (values_text (map (named (variables_at h.vars e.process)) e.assigns)),
         short_at h.procs e.process all,
         clock_short e.clock fits.clock,
-        fits.width,
-        length-names 0 procs,
+        event_width procs some few before k w ps well,
         action_short h.procs (length h.procs) e.process e.kind all fits.kind,
         values,
       )
@@ -139,7 +138,7 @@ module _ (procs : ℕ) (some : 1 ≤ procs) (few : procs ≤ 32) where
       let all = names_are 0 procs (omega arith) in
       let es = generated_events seed procs events in
       let header : length (text_of (header_lines h)) ≤ 12 + (6 + 65 * procs) + 120 * procs =
-      omega (arith, line_more heading (procs_line h.procs ∷ vars_lines h.procs h.vars), line_more (procs_line h.procs) (vars_lines h.procs h.vars), names_short 0 procs all, vars_short 0 procs all) in
+      omega (arith, line_more (heading_of 1) (procs_line h.procs ∷ vars_lines h.procs h.vars), line_more (procs_line h.procs) (vars_lines h.procs h.vars), names_short 0 procs all, vars_short 0 procs all) in
       let body : length (text_of (batch_lines h (es ∷ []))) ≤ 1001 * events + 4 =
       omega (arith, text_both (event_lines h es) (end_line ∷ []), line_more end_line [], events_short events 0 (first_state seed) (no_events procs) (at_rest procs) (omega arith) (start_going procs)) in
       omega (arith, text_both (header_lines h) (batch_lines h (es ∷ [])), header, body)

@@ -5,6 +5,7 @@ use Rattle.event_log.specs.declared.log.Binding.{Binding}
 use Rattle.event_log.specs.declared.log.Event.{Event}
 use Rattle.event_log.specs.declared.log.Header.{Header}
 use Rattle.event_log.specs.declared.log.Log.{Log}
+use Rattle.event_log.specs.Before.{headed}
 use Rattle.trace_gen.specs.Words.{word, first_state, next_state}
 use Rattle.trace_gen.specs.Making.{Processes, made}
 
@@ -35,8 +36,9 @@ abbrev pub opening : List Binding
 opening = record { name = codes "n"; value = pos 0 }
     ∷ record { name = codes "seen"; value = pos 0 } ∷ []
 
+-- of version 1
 abbrev pub header_of : ℕ → Header
-header_of procs = record { procs = names_from 0 procs; vars = replicate procs opening }
+header_of procs = headed 1 (names_from 0 procs) (replicate procs opening)
 
 -- one batch
 abbrev pub generated : ℕ → ℕ → ℕ → Log

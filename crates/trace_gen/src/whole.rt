@@ -2,14 +2,16 @@
 ghost use Rattle.std.specs.Prelude.{◌≡◌, ◌≤◌, ◌<◌, ◌+◌, IfOk, None, List as ListOf, [], length};
 ghost use Rattle.std.specs.Prelude.{replicate};
 ghost use Rattle.event_log.specs.Laws.{IsLog};
+ghost use Rattle.event_log.specs.LogText.{HasVarLines};
 ghost use Rattle.vector_clock.specs.Faults.{log_fault};
+ghost use Rattle.vector_clock.specs.Filled.{filled_log};
 ghost use Rattle.trace_gen.specs.Generated.{at_rest, generated, generated_events, header_of};
 ghost use Rattle.trace_gen.specs.Generated.{name_of, names_from, opening};
 
 use crate::making::make;
 use crate::process::Process;
 use crate::words::Words;
-use event_log::{Binding, Event, Header, Log, Name};
+use event_log::{Binding, Event, Header, Log, Name, var_lines_of};
 use pota_base::{List, NoMemory, put_u64};
 use std::alloc::Global;
 
@@ -67,9 +69,12 @@ fn header(alloc: Global, procs: usize) -> Result<Header, NoMemory>
     requires { procs ≤ 32 }
     ensures { IfOk result (λ header. header ≡ header_of procs) }
 {
+    let vars = all_variables(alloc, procs)?;
     Ok(Header {
+        version: 1,
         procs: names(alloc, procs)?,
-        vars: all_variables(alloc, procs)?,
+        var_lines: var_lines_of(alloc, vars.as_slice())?,
+        vars,
     })
 }
 
@@ -122,7 +127,8 @@ pub fn generate(alloc: Global, seed: u64, procs: u32, events: u32) -> Result<Log
     requires limit { events ≤ 50000 }
     ensures log { IfOk result (λ log. log ≡ generated seed procs events) }
     ensures text { IfOk result IsLog }
-    ensures clean { IfOk result (λ log. log_fault log ≡ None) }
+    ensures lines { IfOk result (λ log. HasVarLines log.header) }
+    ensures clean { IfOk result (λ log. log_fault (filled_log log) ≡ None) }
 {
     make_log(alloc, seed, procs, events)
 }

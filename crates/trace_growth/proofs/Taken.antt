@@ -11,10 +11,12 @@ use Rattle.run_model.specs.Run as run
 use Rattle.causal_order.specs.Growth.{HasGrown}
 use Rattle.causal_order.proofs.Growing.{grown_none}
 use Rattle.vector_clock.specs.declared.clocks.Clocks as code
-use Rattle.vector_clock.specs.Events.{Events, EventFits, clocks_of, own_events, no_events}
+use Rattle.vector_clock.specs.Events.{Events, EventFits, EventStands, clocks_of, own_events, no_events}
 use Rattle.vector_clock.specs.Faults.{batch_fault}
+use Rattle.vector_clock.specs.Filled.{filled_batch}
 use Rattle.vector_clock.specs.Faultless.{AreFaultless, no_batch, one_batch}
 use Rattle.vector_clock.specs.Admitted.{HasAdmitted}
+use Rattle.vector_clock.proofs.FilledBatches.{filled_fits}
 use Rattle.vector_clock.proofs.BatchLaws.{trace_clocks}
 use Rattle.vector_clock.proofs.Growth.{length-clocks_of, clocks_more, fits_have_clocks, grown_with, length-with_batch}
 use Rattle.vector_clock.proofs.Delivered.{events_grow}
@@ -105,7 +107,9 @@ kept_trace states clocks spent batches trace keeps view live =
     let taken = keeps (ap (λ (t : TraceView). t.spent) view ∙ live) in
     subst IsTrace (ap (λ (t : TraceView). t.states) view) (is_trace states taken.header taken.faultless)
 
-pub fits_inside : (states : StatesView) (trace : TraceView) (batch bytes : List Event) → states ≡ trace.states → FitsTrace trace batch → bytes ≡ batch → AllByRecursion (EventFits (length states.events)) bytes
-fits_inside states trace batch bytes is fits same =
+-- with its clocks the batch fits
+pub fits_inside : (states : StatesView) (trace : TraceView) (batch filled : List Event) → states ≡ trace.states → FitsTrace trace batch → filled ≡ filled_batch states.events batch
+    → AllByRecursion (EventFits (length states.events)) filled
+fits_inside states trace batch filled is fits same =
     subst (λ (b : List Event). AllByRecursion (EventFits (length states.events)) b) (sym same)
-    (subst (λ (s : StatesView). AllByRecursion (EventFits (length s.events)) batch) (sym is) fits.each)
+    (filled_fits states.events batch (subst (λ (s : StatesView). AllByRecursion (EventStands (length s.events)) batch) (sym is) fits.each))

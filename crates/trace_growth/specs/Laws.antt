@@ -5,8 +5,8 @@ use Rattle.event_log.specs.States.{trace_of}
 use Rattle.run_model.specs.Run as run
 use Rattle.causal_order.specs.Growth.{HasGrown}
 use Rattle.vector_clock.specs.Events.{clocks_of}
-use Rattle.vector_clock.specs.Faults.{batch_fault}
-use Rattle.trace_growth.specs.Growing.{TraceView, IsTrace, FitsTrace, with_trace_batch}
+use Rattle.trace_growth.specs.Growing.{TraceView, IsTrace, FitsTrace, trace_fault}
+use Rattle.trace_growth.specs.Growing.{with_trace_batch}
 
 -- the states of each process are the old ones with more behind them
 abbrev pub StatesHaveGrown : run.Trace → run.Trace → Type 0
@@ -25,4 +25,4 @@ BatchOnlyAdds =
 abbrev pub FaultlessBatchKeepsATrace : Type 0
 FaultlessBatchKeepsATrace =
     (trace : TraceView) (batch : List Event) → IsTrace trace.states → FitsTrace trace batch
-    → batch_fault trace.states.events batch ≡ None → IsTrace (with_trace_batch trace batch).states
+    → trace_fault trace batch ≡ None → IsTrace (with_trace_batch trace batch).states

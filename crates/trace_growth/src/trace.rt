@@ -6,17 +6,16 @@ ghost use Rattle.run_model.specs.Run.{state_after, process_at};
 ghost use Rattle.pota_base.specs.Shape.{HasEvent};
 ghost use Rattle.event_log.specs.States.{IsHeader, trace_of};
 ghost use Rattle.vector_clock.specs.Events.{clocks_of};
-ghost use Rattle.vector_clock.specs.Faults.{batch_fault};
 ghost use Rattle.vector_clock.specs.Admitted.{IfFault, IfWantsMemory};
 ghost use Rattle.trace_growth.specs.Growing.{opened_trace, with_trace_batch, one_more, FitsTrace};
-ghost use Rattle.trace_growth.specs.Growing.{IsTrace};
+ghost use Rattle.trace_growth.specs.Growing.{IsTrace, trace_fault};
 
 use causal_order::Order;
 use event_log::{Event, Header, LogFault, States};
 use pota_base::{EventId, List, NoMemory, Refused};
 use std::alloc::Global;
 use std::marker::Model;
-use vector_clock::Clocks;
+use vector_clock::{Clocks, filled};
 
 /// The trace of a log: the data of its events and their order, batch by batch.
 ///
@@ -27,6 +26,7 @@ pub struct Trace {
     clocks: Clocks,
     batches: u32,
     spent: bool,
+    alloc: Global,
 }
 
 impl Model for Trace {
@@ -51,18 +51,20 @@ impl Trace {
             clocks: Clocks::new(alloc, procs)?,
             batches: 0,
             spent: false,
+            alloc,
         })
     }
 
-    /// Takes a whole batch, or none of it. A fault is the first of its clocks and messages, at the
-    /// line of its event, and the trace is then as before. After want of memory the trace is spent.
+    /// Takes a whole batch, or none of it, with the clocks that it leaves out filled in. A fault is
+    /// the first of its clocks and messages, at the line of its event, and the trace is then as
+    /// before. After want of memory the trace is spent.
     pub fn extend(&mut self, batch: List<Event>) -> Result<(), Refused<LogFault>>
-        requires { FitsTrace self.old batch }
+        requires { self.old.spent ≡ false → FitsTrace self.old batch }
         ensures ok { OnOk result ((self.old.spent ≡ false)
-            × (batch_fault self.old.states.events batch ≡ None)
+            × (trace_fault self.old batch ≡ None)
             × (self.new ≡ with_trace_batch self.old batch)) }
         ensures fault { IfFault result (λ fault. (self.old.spent ≡ false)
-            × (batch_fault self.old.states.events batch ≡ Some fault) × (self.new ≡ self.old)) }
+            × (trace_fault self.old batch ≡ Some fault) × (self.new ≡ self.old)) }
         // so a spent trace answers want of memory, and stays spent
         ensures memory { IfWantsMemory result (self.new.spent ≡ true) }
     {
@@ -73,6 +75,13 @@ impl Trace {
             self.count_batch();
             return Ok(());
         }
+        let batch = match filled(&self.clocks, self.alloc, batch) {
+            Ok(batch) => batch,
+            Err(NoMemory) => {
+                self.spent = true;
+                return Err(Refused::NoMemory);
+            }
+        };
         match self.clocks.admit(batch.as_slice()) {
             Ok(()) => {}
             Err(Refused::Fault(fault)) => return Err(Refused::Fault(fault)),

@@ -1,5 +1,5 @@
 -- Batches without a fault: their clocks are those of an order.
-use Rattle.std.proofs.Common.{◌≡◌, ℕ, ◌+◌, List, [], ◌∷◌, ◌++◌, length, map, get_or, refl, sym, ap, ◌∙◌, subst, arith}
+use Rattle.std.proofs.Common.{◌≡◌, ℕ, ◌+◌, List, [], ◌∷◌, ◌++◌, length, map, get_or, refl, sym, ap, ◌∙◌, subst, arith, inl, inr}
 use Rattle.std.specs.Prelude.{None}
 use Rattle.std.specs.List.{AllByRecursion}
 use Rattle.std.proofs.lemmas.List.{length-replicate, length-set}
@@ -8,7 +8,8 @@ use Rattle.event_log.specs.declared.log.Log.{Log}
 use Rattle.event_log.specs.declared.log.Binding.{Binding}
 use Rattle.event_log.specs.declared.item.LogCode.{LogCode}
 use Rattle.event_log.specs.States.{with_event, with_batch, with_batches, event_of, processes_of}
-use Rattle.event_log.specs.LogText.{LogFits, EventsFit, BatchesFit, KindWithin, KindFits}
+use Rattle.event_log.specs.LogText as log_text
+use Rattle.event_log.specs.LogText.{LogFits, EventsFit, BatchesFit, KindWithin, KindFits, ClockStands}
 use Rattle.event_log.specs.declared.log.Header.{Header}
 use Rattle.event_log.specs.declared.log.Kind.{Kind}
 use Rattle.event_log.specs.declared.log.Kind.TheVariants as kind
@@ -18,7 +19,7 @@ use Rattle.run_model.specs.Consistent.{IsOrder}
 use Rattle.causal_order.specs.Growth.{HasClock, HasGrown, with_row, with_clocks}
 use Rattle.causal_order.proofs.Growing.{grown_none}
 use Rattle.causal_order.proofs.Orders.{no_events_order}
-use Rattle.vector_clock.specs.Events.{Events, EventFits, AllFit, CanBeChecked, clocks_of, place, no_events}
+use Rattle.vector_clock.specs.Events.{Events, EventFits, EventStands, AllFit, AllStand, CanBeChecked, clocks_of, place, no_events}
 use Rattle.vector_clock.specs.Faults.{clock_fault, message_fault, event_fault, at_line, fault_from, batch_fault, batches_fault}
 use Rattle.vector_clock.proofs.SoundOrders.{AllSound, sound_order, order_sound, sound_along}
 use Rattle.vector_clock.proofs.Growth.{length-clocks_of, own_count, clocks_one, clocks_more, clocks_none, length-with_batch, fits_have_clocks, grown_with, next_clock, sound_more}
@@ -100,22 +101,51 @@ peer_within procs process kind.Internal h = tt
 peer_within procs process (kind.Send to id) h = h.0
 peer_within procs process (kind.Receive sender id) h = h.0
 
-batch_fits : (h : Header) (line : ℕ) (batch : List Event) → EventsFit h line batch → AllByRecursion (EventFits (length h.procs)) batch
-batch_fits h line [] fits = tt
-batch_fits h line (e ∷ batch) fits =
-    let e_fits = fits.0.0 in
-    (record { clock = record { process = e_fits.process; width = e_fits.width }; peer = peer_within (length h.procs) e.process e.kind e_fits.kind }, batch_fits h (line + 1) batch fits.1)
+-- in version 1 no clock is left out
+written_width : (procs : ℕ) (version : ℕ) (clock : List ℕ) → version ≡ 1 → ClockStands version procs clock → length clock ≡ procs
+written_width procs version clock first (inl width) = width
+written_width procs version clock first (inr out) = absurd (omega (arith, first, out.0))
 
-pub all_fit : (h : Header) (line : ℕ) (batches : List (List Event)) → BatchesFit h line batches → AllFit (length h.procs) batches
-all_fit h line [] fits = tt
-all_fit h line (b ∷ batches) fits = (batch_fits h line b fits.0, all_fit h (line + length b + 1) batches fits.1)
+batch_fits : (h : Header) (line : ℕ) (batch : List Event) → h.version ≡ 1 → EventsFit h line batch → AllByRecursion (EventFits (length h.procs)) batch
+batch_fits h line [] first fits = tt
+batch_fits h line (e ∷ batch) first fits =
+    let e_fits = fits.0.0 in
+    let width = written_width (length h.procs) h.version e.clock first e_fits.width in
+    (record { clock = record { process = e_fits.process; width = width }; peer = peer_within (length h.procs) e.process e.kind e_fits.kind }, batch_fits h (line + 1) batch first fits.1)
+
+pub all_fit : (h : Header) (line : ℕ) (batches : List (List Event)) → h.version ≡ 1 → BatchesFit h line batches → AllFit (length h.procs) batches
+all_fit h line [] first fits = tt
+all_fit h line (b ∷ batches) first fits = (batch_fits h line b first fits.0, all_fit h (line + length b + 1) batches first fits.1)
+
+-- an event that a log's text may have stands, be its clock left out or not
+pub event_stands : (h : Header) (e : Event) → log_text.EventFits h e → EventStands (length h.procs) e
+event_stands h e fits = record {
+  process = fits.process;
+  width = elim fits.width [
+    | inl width ↦ inl width
+    | inr out ↦ inr out.1
+  ];
+  peer = peer_within (length h.procs) e.process e.kind fits.kind;
+}
+
+pub events_stand : (h : Header) (es : List Event) → AllByRecursion (log_text.EventFits h) es → AllByRecursion (EventStands (length h.procs)) es
+events_stand h [] fits = tt
+events_stand h (e ∷ es) fits = (event_stands h e fits.0, events_stand h es fits.1)
+
+numbered_stand : (h : Header) (line : ℕ) (es : List Event) → EventsFit h line es → AllByRecursion (EventStands (length h.procs)) es
+numbered_stand h line [] fits = tt
+numbered_stand h line (e ∷ es) fits = (event_stands h e fits.0.0, numbered_stand h (line + 1) es fits.1)
+
+pub all_stand : (h : Header) (line : ℕ) (batches : List (List Event)) → BatchesFit h line batches → AllStand (length h.procs) batches
+all_stand h line [] fits = tt
+all_stand h line (b ∷ batches) fits = (numbered_stand h line b fits.0, all_stand h (line + length b + 1) batches fits.1)
 
 -- a log that has a text can be checked
 pub text_can_be_checked : (log : Log) → LogFits log → CanBeChecked log
 text_can_be_checked log fits = record {
   some = fits.header.procs.some;
   few = fits.header.procs.few;
-  each = all_fit log.header _ log.batches fits.batches;
+  each = all_stand log.header _ log.batches fits.batches;
   events = fits.few;
 }
 

@@ -44,7 +44,7 @@ le_step true first a n h is = let one : 1 ≡ a = same_Some 1 a is in omega arit
 le_step false None a n h is = absurd (none_some a is)
 le_step false (Some k) a n h is = let one : k + 1 ≡ a = same_Some (k + 1) a is in omega (arith, h k refl)
 
-first_le : (test : Event → Bool) (es : List Event) (a : ℕ) → first_place test es ≡ Some a → a ≤ length es
+pub first_le : (test : Event → Bool) (es : List Event) (a : ℕ) → first_place test es ≡ Some a → a ≤ length es
 unfolding first_place
 first_le test [] a h = absurd (none_some a h)
 first_le test (x ∷ es) a h = le_step (test x) (first_place test es) a (length es) (first_le test es) h
@@ -70,7 +70,7 @@ pub own_other : (events : Events) (e : Event) (p : ℕ) → (p ≡ e.process →
 own_other events e p ne = get_or-set_other events e.process p _ [] ne
 
 -- an event that doesn't pass changes nothing
-first_kept : (test : Event → Bool) (events : Events) (e : Event) (p : ℕ) → e.process < length events → test e ≡ false
+pub first_kept : (test : Event → Bool) (events : Events) (e : Event) (p : ℕ) → e.process < length events → test e ≡ false
     → first_place test (own_events (with_event events e) p) ≡ first_place test (own_events events p)
 first_kept test events e p lt fails = elim (cases_eq p e.process) [
   | inl same ↦
@@ -81,7 +81,7 @@ first_kept test events e p lt fails = elim (cases_eq p e.process) [
   | inr other ↦ ap (first_place test) (own_other events e p other)
 ]
 
-first_added : (test : Event → Bool) (events : Events) (e : Event) → e.process < length events → test e ≡ true
+pub first_added : (test : Event → Bool) (events : Events) (e : Event) → e.process < length events → test e ≡ true
     → first_place test (own_events (with_event events e) e.process) ≡ Some (unwrap_or (first_place test (own_events events e.process)) (place events e))
 first_added test events e lt passes =
     ap (first_place test) (own_same events e lt) ∙ first_with test (own_events events e.process) e [] passes

@@ -70,7 +70,7 @@ pub clock_suc : (o : Clocks) (p a : ℕ) → clock o p (suc a) ≡ get_or (get_o
 unfolding clock
 clock_suc o p a = refl
 
-clock_behind : (o : Clocks) (p n : ℕ) → clock o p (n + 1) ≡ get_or (get_or o p []) (n + 1 - 1) []
+pub clock_behind : (o : Clocks) (p n : ℕ) → clock o p (n + 1) ≡ get_or (get_or o p []) (n + 1 - 1) []
 clock_behind o p n =
     let next : n + 1 ≡ suc n = omega arith in
     let place : n ≡ n + 1 - 1 = omega arith in

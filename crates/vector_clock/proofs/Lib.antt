@@ -13,7 +13,16 @@ pub mod MessageLaws
 pub mod Noting
 pub mod Counting
 pub mod Judged
+pub mod FilledBatches
 pub mod Admitting
 pub mod MessageIds
 pub mod Delivered
 pub mod Receipts
+pub mod OneClock
+pub mod ClockOf
+pub mod FilledLogs
+pub mod Looks
+pub mod Readers
+pub mod CountLaws
+pub mod Turned
+pub mod FillLaws

@@ -10,10 +10,8 @@ use Rattle.std.proofs.lemmas.List.{length-replicate, take-append-drop, take-map}
 use Rattle.event_log.specs.declared.log.Kind.{Kind}
 use Rattle.event_log.specs.declared.log.Kind.TheVariants as kind
 use Rattle.event_log.specs.declared.log.Event.{Event}
-use Rattle.event_log.specs.declared.log.Log.{Log}
 use Rattle.event_log.specs.declared.log.Binding.{Binding}
-use Rattle.event_log.specs.LogText.{LogFits}
-use Rattle.event_log.specs.States.{StatesView, event_of, with_batch, with_batches, processes_of, trace_of, trace_of_log, states_of}
+use Rattle.event_log.specs.States.{StatesView, event_of, with_batch, with_batches, processes_of, trace_of}
 use Rattle.run_model.specs.Run as run
 use Rattle.run_model.proofs.TraceLemmas.{run_of_order}
 use Rattle.run_model.specs.Cut.{Cut, Clocks, count, IsWithin}
@@ -21,10 +19,10 @@ use Rattle.run_model.specs.Consistent.{IsOrder, IsConsistent}
 use Rattle.run_model.proofs.Orders.{has_past}
 use Rattle.causal_order.proofs.Orders.{no_events_order}
 use Rattle.vector_clock.specs.Events.{Events, EventFits, AllFit, no_events, own_events, clocks_of}
-use Rattle.vector_clock.specs.Faults.{batch_fault, batches_fault, log_fault}
+use Rattle.vector_clock.specs.Faults.{batch_fault, batches_fault}
 use Rattle.vector_clock.specs.Faultless.{AreFaultless, no_batch, one_batch, IsLoggedRun}
 use Rattle.vector_clock.proofs.Growth.{clock_suc, own_clocks, clocks_none, length-with_batch}
-use Rattle.vector_clock.proofs.BatchLaws.{batch_order, trace_clocks, all_fit}
+use Rattle.vector_clock.proofs.BatchLaws.{batch_order, trace_clocks}
 use Rattle.vector_clock.proofs.Faultless.{chosen_none}
 use Rattle.vector_clock.proofs.MessageIds.{sent_id, received_id, ids, ids-append, in_either, member_stays, length-sent_ids, length-received_ids}
 use Rattle.vector_clock.proofs.Delivered.{IsMailed, AreDelivered, batch_delivered, events_grow, delivered_along}
@@ -181,8 +179,3 @@ faultless_run s whole faultless = record {
 
     order : IsOrder (clocks_of s.events)
     order = faultless_order (length s.header.procs) s.events faultless
-
-pub log_is_a_run : (log : Log) → LogFits log → log_fault log ≡ None → IsLoggedRun (trace_of_log log)
-log_is_a_run log fits none =
-    let n = length log.header.procs in
-    faultless_run (states_of log) fits.header.all (faultless_batches n (no_events n) log.batches no_batch (all_fit log.header _ log.batches fits.batches) none)

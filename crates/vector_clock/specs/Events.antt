@@ -1,5 +1,6 @@
 -- The events of a log by process, and their vector clocks.
-use Rattle.std.specs.Prelude.{ℕ, zero, suc, ◌+◌, ◌≤◌, Bool, false, ◌||◌, nat_lt, List, [], ◌∷◌}
+use Rattle.std.specs.Prelude.{ℕ, zero, suc, ◌≡◌, ◌+◌, ◌<◌, ◌≤◌, ◌⊎◌, Bool, false, ◌||◌, nat_lt}
+use Rattle.std.specs.Prelude.{List, [], ◌∷◌}
 use Rattle.std.specs.Prelude.{length, map, get_or, set, replicate}
 use Rattle.std.specs.List.{AllByRecursion}
 use Rattle.run_model.specs.Cut.{Cut, Clocks, count}
@@ -56,9 +57,28 @@ abbrev pub AllFit : ℕ → List (List Event) → Type 0
 AllFit procs batches =
     AllByRecursion (λ (batch : List Event). AllByRecursion (EventFits procs) batch) batches
 
--- a log of 1 to 32 processes and at most 50,000 events, each of which has its place
+-- ---- where clocks may be left out
+
+-- the event has its place in a log of so many processes, and its clock is left out or has one count
+-- for each
+pub record EventStands (procs : ℕ) (e : Event) : Type 0 where
+  pub process : e.process < procs
+  pub width : (length e.clock ≡ procs) ⊎ (e.clock ≡ [])
+  pub peer : KindWithin procs e.kind
+
+pub record BatchStands (procs events : ℕ) (batch : List Event) : Type 0 where
+  pub each : AllByRecursion (EventStands procs) batch
+  pub few : events + length batch ≤ 50000
+
+-- batches of which each event has its place
+abbrev pub AllStand : ℕ → List (List Event) → Type 0
+AllStand procs batches =
+    AllByRecursion (λ (batch : List Event). AllByRecursion (EventStands procs) batch) batches
+
+-- a log of 1 to 32 processes and at most 50,000 events, each of which has its place, its clock left
+-- out or not
 pub record CanBeChecked (log : Log) : Type 0 where
   pub some : 1 ≤ length log.header.procs
   pub few : length log.header.procs ≤ 32
-  pub each : AllFit (length log.header.procs) log.batches
+  pub each : AllStand (length log.header.procs) log.batches
   pub events : event_count log.batches ≤ 50000

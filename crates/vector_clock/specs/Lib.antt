@@ -1,7 +1,11 @@
 pub mod Events
 pub mod Messages
 pub mod Faults
+pub mod Fill
+pub mod Filled
+pub mod Nodes
 pub mod Worked
+pub mod WorkedFills
 pub mod Sound
 pub mod BatchPlaces
 pub mod Met

@@ -2,17 +2,20 @@
 ghost use Rattle.std.specs.Prelude.{◌≡◌, ℕ, ◌+◌, ◌<◌, ◌≤◌, Some, None, length, sum, IfOk, OnOk};
 ghost use Rattle.std.specs.Prelude.{OnErr};
 ghost use Rattle.run_model.specs.Cut.{lengths};
-ghost use Rattle.event_log.specs.States.{with_batch, with_batches};
-ghost use Rattle.vector_clock.specs.Events.{Events, BatchFits, CanBeChecked, no_events, clocks_of};
+ghost use Rattle.event_log.specs.States.{with_batch};
+ghost use Rattle.vector_clock.specs.Events.{Events, BatchFits, BatchStands, no_events, clocks_of};
 ghost use Rattle.vector_clock.specs.Events.{raised};
-ghost use Rattle.vector_clock.specs.Faults.{batch_fault, log_fault};
+ghost use Rattle.vector_clock.specs.Filled.{filled_batch};
+ghost use Rattle.vector_clock.specs.Faults.{batch_fault};
 ghost use Rattle.vector_clock.specs.Admitted.{HasAdmitted, HasMessages, IfFault};
 
+use crate::counts::{clocks_of, copy_filled};
 use crate::judging::{first_fault, set_counts};
 use crate::messages::Messages;
+use crate::nodes::{nodes_in, readers_of, sends_in};
 use causal_order::Order;
-use event_log::{Event, Log, LogFault};
-use pota_base::{NoMemory, Refused};
+use event_log::{Event, LogFault};
+use pota_base::{List, NoMemory, Refused};
 use std::alloc::Global;
 
 /// The vector clocks and the messages of a log, of which each batch was checked before it was
@@ -42,6 +45,28 @@ impl Clocks {
             judged: Vec::new(alloc),
             alloc,
         })
+    }
+
+    /// The events of a batch behind those that were admitted, with the clocks that it leaves out.
+    ///
+    /// An event without a clock looks back on the event before it on its process and on the first
+    /// send of what it receives, and on what these look back on if they have no clock either. Its
+    /// count of a process is the greatest count of the written clocks that it looks back on, or
+    /// the place of an event of that process without one. Written clocks stay. It copies the batch.
+    ///
+    /// It takes time as its clocks have counts, whatever the order of its events, and a look-up in
+    /// an ordered map for each message.
+    pub fn fill(&self, alloc: Global, batch: &[Event]) -> Result<List<Event>, NoMemory>
+        requires { BatchStands (length self.now.order) (sum (lengths self.now.order)) batch.now }
+        ensures { IfOk result (λ filled. (events : Events) → HasAdmitted self.now events
+            → filled ≡ filled_batch events batch.now) }
+    {
+        let lens = self.order.shape().lens();
+        let sends = sends_in(alloc, batch)?;
+        let nodes = nodes_in(alloc, lens, &self.messages, &sends, batch)?;
+        let readers = readers_of(alloc, batch, &nodes)?;
+        let clocks = clocks_of(alloc, &self.order, batch, &nodes, &readers)?;
+        copy_filled(alloc, batch, &clocks)
     }
 
     /// Checks a batch and takes it whole, or none of it. A fault is the first of its events in
@@ -130,22 +155,4 @@ impl Clocks {
         } = self;
         order
     }
-}
-
-/// Checks the batches of a log in turn, and gives the order of its events. A fault is the first
-/// one.
-pub fn check(alloc: Global, log: &Log) -> Result<Order, Refused<LogFault>>
-    requires { CanBeChecked log.now }
-    ensures ok { IfOk result (λ order. (log_fault log.now ≡ None) × (order
-        ≡ clocks_of (with_batches (no_events (length log.now.header.procs)) log.now.batches))) }
-    ensures fault { IfFault result (λ fault. log_fault log.now ≡ Some fault) }
-{
-    let mut clocks = Clocks::new(alloc, log.header.procs.len() as u32)?;
-    for batch in log.batches.as_slice() {
-        match clocks.admit(batch.as_slice()) {
-            Ok(()) => {}
-            Err(refused) => return Err(refused),
-        }
-    }
-    Ok(clocks.into_order())
 }

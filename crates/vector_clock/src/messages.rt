@@ -11,6 +11,7 @@ ghost use Rattle.log_lines.specs.Reading.{choose};
 ghost use Rattle.vector_clock.specs.Events.{Events, EventFits, no_events, place as place_of};
 ghost use Rattle.vector_clock.specs.Events.{raised};
 ghost use Rattle.vector_clock.specs.Faults.{message_fault as fault_of_message};
+ghost use Rattle.vector_clock.specs.Messages.{first_send};
 ghost use Rattle.vector_clock.specs.Met.{is_place};
 ghost use Rattle.vector_clock.specs.Admitted.{HasMessages, StandsIn};
 
@@ -56,6 +57,14 @@ impl Messages {
                 self.places.note(message, Met::received_at(place))
             }
         }
+    }
+
+    /// The place of the first event that sends the message.
+    pub fn place_sent(&self, message: &Message) -> Option<u32>
+        ensures { (events : Events) → HasMessages self.now events
+            → result ≡ first_send events message.now }
+    {
+        self.places.met(message).sent
     }
 
     /// Keeps nothing of the last event.

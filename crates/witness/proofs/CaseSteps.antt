@@ -4,7 +4,7 @@ use Rattle.std.specs.Prelude.{◌↔◌, IsTrue, IfOk}
 use Rattle.std.specs.Str.{bytes_eq}
 use Rattle.std.proofs.lemmas.Bool.{cases_Bool, true≢false}
 use Rattle.std.proofs.lemmas.Slice.Eq.{bytes_eq-Decides}
-use Rattle.run_model.specs.Cut.{Cut, Clocks, count, IsWithin, lengths, initial}
+use Rattle.run_model.specs.Cut.{Cut, Clocks, count, IsWithin, with_next, lengths, initial}
 use Rattle.run_model.specs.Run.{Run}
 use Rattle.run_model.specs.Consistent.{clock, IsOrder, IsConsistent}
 use Rattle.run_model.specs.Sublattice.{IsClosed}
@@ -12,8 +12,8 @@ use Rattle.run_model.specs.Slice.{Slice, Cuts, StandsFor}
 use Rattle.run_model.specs.Formula.{Formula}
 use Rattle.run_model.specs.Meaning.{Family}
 use Rattle.run_model.specs.Witness as model
-use Rattle.run_model.specs.Witness.{WitnessOperator, AlwaysGlobally, part_of, Place, IsPlace, row_at, Departs, FirstSteps, IsCanonical, IsOfKind}
-use Rattle.run_model.proofs.Counts.{length-lengths, length-initial, initial_within}
+use Rattle.run_model.specs.Witness.{WitnessOperator, AlwaysGlobally, ExistsNext, IsPartOf, HasFirst, Place, IsPlace, row_at, Departs, FirstSteps, IsCanonical, IsOfKind}
+use Rattle.run_model.proofs.Counts.{length-lengths, length-initial, length-with_next, count-initial, initial_within, with_next_same, with_next_least}
 use Rattle.run_model.proofs.WitnessLemmas.{canonical_is_of_kind}
 use Rattle.pota_base.specs.declared.shape.EventId.{EventId}
 use Rattle.pota_base.specs.Shape.{HasEvent}
@@ -76,13 +76,36 @@ refuted_start o s start steps start_is steps_is none =
     subst (λ (c : Cut). IsCanonical o s AlwaysGlobally (model.Against (record { goal = c; steps = places_of steps }))) (sym start_is)
     (subst (λ (es : List EventId). IsCanonical o s AlwaysGlobally (model.Against (record { goal = initial o; steps = places_of es }))) (sym steps_is) bare)
 
+-- ---- the first event of a process
+
+pub first_is_event : (o : Clocks) (s : Slice) (i : ℕ) → HasFirst o s i → 0 < count (lengths o) i
+first_is_event o s i h = omega (arith, h.1.consistent.within i, with_next_same (initial o) i (omega (arith, h.0, length-initial o)))
+
+pub first_fits : (o : Clocks) (v : SliceView) (i : ℕ) → IsOperand o v → i < length o → 0 < count (lengths o) i → IsCut v.lens (with_next (initial o) i)
+first_fits o v i operand there event = record {
+  size = length-with_next (initial o) i ∙ length-initial o ∙ sym (length-lengths o) ∙ sym (ap length operand.fits.shape);
+  within = subst (IsWithin (with_next (initial o) i)) (sym operand.fits.shape)
+      (with_next_least (initial o) (lengths o) i (omega (arith, there, length-initial o)) (initial_within o (lengths o)) (omega (arith, event, count-initial o i)));
+}
+
+pub first_step : (o : Clocks) (s : Slice) (i : ℕ) (start goal : Cut) (event : EventId) (steps : List EventId) → i < length o → start ≡ initial o → goal ≡ with_next (initial o) i → Cuts o s goal
+    → event ≡ record { process = i; position = count start i + 1 } → steps ≡ event ∷ [] → IsCanonical o s (ExistsNext i) (model.Reach (record { goal = goal; steps = places_of steps }))
+first_step o s i start goal event steps there start_is goal_is member event_is steps_are =
+    let position : count start i + 1 ≡ 1 = omega (arith, ap (λ (d : Cut). count d i) start_is, count-initial o i) in
+    let first : event ≡ record { process = i; position = 1 } = event_is ∙ ap (λ (n : ℕ). record { process = i; position = n }) position in
+    let all : steps ≡ record { process = i; position = 1 } ∷ [] = steps_are ∙ ap (λ (e : EventId). e ∷ []) first in
+    subst (λ (c : Cut). IsCanonical o s (ExistsNext i) (model.Reach (record { goal = c; steps = places_of steps }))) (sym goal_is)
+    (subst (λ (es : List EventId). IsCanonical o s (ExistsNext i) (model.Reach (record { goal = with_next (initial o) i; steps = places_of es }))) (sym all)
+    (model.IsCanonical.reaches_next (there, subst (Cuts o s) goal_is member)))
+
 -- ---- the kind
 
 pub kind_of : {E : Type 0} (o : Clocks) (s : Slice) (op : WitnessOperator) (result : Result Witness E) → IsOrder o → IfOk result (λ w. IsCanonical o s op (witness_of w))
-    → (r : Run) → o ≡ r.clocks → (f : Formula) → IsClosed r.clocks (Family r f) → StandsFor r.clocks s (Family r f) → IfOk result (λ w. IsOfKind r (part_of op f) (witness_of w))
-kind_of o s op (Err e) order canonical r same f closed stands = tt
-kind_of o s op (Ok w) order canonical r same f closed stands =
-    canonical_is_of_kind r (subst IsOrder same order) f closed s stands op (witness_of w) (subst (λ (p : Clocks). IsCanonical p s op (witness_of w)) same canonical)
+    → (r : Run) → o ≡ r.clocks → (f : Formula) → IsClosed r.clocks (Family r f) → StandsFor r.clocks s (Family r f)
+    → (part : Formula) → IsPartOf r op f part → IfOk result (λ w. IsOfKind r part (witness_of w))
+kind_of o s op (Err e) order canonical r same f closed stands part is = tt
+kind_of o s op (Ok w) order canonical r same f closed stands part is =
+    canonical_is_of_kind r (subst IsOrder same order) f closed s stands op part is (witness_of w) (subst (λ (p : Clocks). IsCanonical p s op (witness_of w)) same canonical)
 
 -- a place of the run is an event of it
 pub place_event : (o : Clocks) (e : EventId) → IsPlace o (place_of e) → HasEvent (lengths o) e

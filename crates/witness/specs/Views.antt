@@ -1,6 +1,7 @@
 -- What the code's values are in the model of runs.
 pub use Rattle.witness_kinds.specs.Views.{place_of, places_of, path_of, witness_of}
 use Rattle.run_model.specs.Witness.{WitnessOperator, ExistsFinally, AlwaysGlobally, ExistsGlobally}
+use Rattle.run_model.specs.Witness.{ExistsNext}
 use Rattle.witness.specs.declared.cases.Explained.{Explained}
 use Rattle.witness.specs.declared.cases.Explained.TheVariants as explained
 
@@ -9,3 +10,4 @@ abbrev pub operator_of : Explained → WitnessOperator
 operator_of explained.ExistsFinally = ExistsFinally
 operator_of explained.AlwaysGlobally = AlwaysGlobally
 operator_of explained.ExistsGlobally = ExistsGlobally
+operator_of (explained.ExistsNext process) = ExistsNext process

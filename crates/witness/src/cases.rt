@@ -1,7 +1,7 @@
 //! The witness of each temporal operator.
 
-ghost use Rattle.std.specs.Prelude.{◌≡◌, IfOk};
-ghost use Rattle.run_model.specs.Cut.{initial, lengths};
+ghost use Rattle.std.specs.Prelude.{◌≡◌, ◌<◌, ◌↔◌, length, IfOk, IsTrue};
+ghost use Rattle.run_model.specs.Cut.{count, initial, lengths};
 ghost use Rattle.run_model.specs.Run.{Run};
 ghost use Rattle.run_model.specs.Consistent.{IsConsistent};
 ghost use Rattle.run_model.specs.Sublattice.{IsClosed};
@@ -9,8 +9,9 @@ ghost use Rattle.run_model.specs.Slice.{Cuts, StandsFor};
 ghost use Rattle.run_model.specs.Formula.{Formula};
 ghost use Rattle.run_model.specs.Meaning.{Family};
 ghost use Rattle.run_model.specs.Witness.{FirstStepsTo, IsFirst, IsPlace, Place, Shares};
-ghost use Rattle.run_model.specs.Witness.{IsCanonical, IsOfKind, part_of, ExistsFinally as Finally};
-ghost use Rattle.run_model.specs.Witness.{AlwaysGlobally as Always, ExistsGlobally as Globally};
+ghost use Rattle.run_model.specs.Witness.{IsCanonical, IsOfKind, IsPartOf};
+ghost use Rattle.run_model.specs.Witness.{ExistsFinally as Finally, AlwaysGlobally as Always};
+ghost use Rattle.run_model.specs.Witness.{ExistsGlobally as Globally, ExistsNext as Next};
 ghost use Rattle.slice_graph.specs.Views.{slice_of};
 ghost use Rattle.slice_graph.specs.Fitting.{FitsOrder};
 ghost use Rattle.witness.specs.Walks.{LeadsTo};
@@ -19,7 +20,7 @@ ghost use Rattle.witness.specs.Views.{path_of, place_of, witness_of, operator_of
 
 use crate::search::first_event;
 use crate::twins::{Departing, HasLater, Twin};
-use crate::walk::walk;
+use crate::walk::{take, walk};
 use crate::ways::{InSlice, ToGoal};
 use causal_order::Order;
 use cut_lattice::Cut;
@@ -28,7 +29,7 @@ use slice_graph::{Slice, set_words};
 use std::alloc::Global;
 use witness_kinds::{Path, Witness};
 
-/// The operators whose parts get a witness (EF, AG and EG).
+/// The operators whose parts get a witness (EF, AG, EG, and EX of a process by its number).
 #[derive(Clone, Copy, Debug, PartialEq, Eq)]
 pub enum Explained {
     /// On some path the operand is true at some cut.
@@ -37,6 +38,8 @@ pub enum Explained {
     AlwaysGlobally,
     /// On some path the operand is true at each cut.
     ExistsGlobally,
+    /// The operand is true at the cut with the next event of the process.
+    ExistsNext(u32),
 }
 
 // The path from the initial cut to a consistent cut.
@@ -157,6 +160,41 @@ fn always(alloc: Global, order: &Order, operand: &Slice, start: Cut) -> Result<W
     }
 }
 
+// Whether the process is there and has an event.
+fn has_event(order: &Order, process: u32) -> bool
+    ensures { IsTrue result
+        ↔ ((process < length order.now) × (0 < count (lengths order.now) process)) }
+{
+    let shape = order.shape();
+    process < shape.procs() && shape.len_of(process) > 0
+}
+
+// EX: the one step, if it leads to a cut with the operand.
+fn next(
+    alloc: Global,
+    order: &Order,
+    operand: &Slice,
+    start: Cut,
+    process: u32,
+) -> Result<Witness, NoMemory>
+    requires operand { IsOperand order.now operand.now }
+    requires start { start ≡ initial order.now }
+    ensures { IfOk result (λ w.
+        IsCanonical order.now (slice_of operand.now) (Next process) (witness_of w)) }
+{
+    if !has_event(order, process) {
+        return Ok(Witness::Nothing);
+    }
+    let mut goal = start;
+    let event = take(&mut goal, process);
+    if !operand.has(&goal) {
+        return Ok(Witness::Nothing);
+    }
+    let mut steps = List::new(alloc);
+    steps.push(event)?;
+    Ok(Witness::Reach(Path { goal, steps }))
+}
+
 /// Why the part that the operator makes of an operand is true or false at the initial cut, by the
 /// slice of the operand.
 pub fn explain(
@@ -169,7 +207,8 @@ pub fn explain(
     // Where the slice stands for a formula's family, the witness is of its kind.
     ensures kind { (r : Run) → order.now ≡ r.clocks → (f : Formula) → IsClosed r.clocks (Family r f)
         → StandsFor r.clocks (slice_of operand.now) (Family r f)
-        → IfOk result (λ w. IsOfKind r (part_of (operator_of operator) f) (witness_of w)) }
+        → (part : Formula) → IsPartOf r (operator_of operator) f part
+        → IfOk result (λ w. IsOfKind r part (witness_of w)) }
     // The witness is the one that is given for the operator by the slice.
     ensures canonical { IfOk result (λ w.
         IsCanonical order.now (slice_of operand.now) (operator_of operator) (witness_of w)) }
@@ -179,5 +218,6 @@ pub fn explain(
         Explained::ExistsFinally => reach(alloc, order, operand, start),
         Explained::AlwaysGlobally => against(alloc, order, operand, start),
         Explained::ExistsGlobally => always(alloc, order, operand, start),
+        Explained::ExistsNext(process) => next(alloc, order, operand, start, process),
     }
 }

@@ -40,8 +40,8 @@ fn next<W: Way>(way: &W, at: &Cut) -> Option<u32>
     None
 }
 
-// Takes the process's next event.
-fn take(at: &mut Cut, process: u32) -> EventId
+/// Takes the process's next event.
+pub fn take(at: &mut Cut, process: u32) -> EventId
     requires process { process < length at.old }
     requires room { count at.old process < 50000 }
     ensures at { at.new ≡ with_next at.old process }

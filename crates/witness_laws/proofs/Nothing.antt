@@ -5,7 +5,7 @@ use Rattle.run_model.specs.Cut.{Cut, initial}
 use Rattle.run_model.specs.Run.{Run}
 use Rattle.run_model.specs.Consistent.{IsConsistent, PathIn}
 use Rattle.run_model.specs.Sublattice.{AllIn}
-use Rattle.run_model.specs.Formula.{Ef, Ag, Eg, Ex, Af, Ax, Formula, Truth, Comparison, Watched, InTransit, Empty, Not, And, Or, Temporal, Until}
+use Rattle.run_model.specs.Formula.{Ef, Ag, Eg, Af, Ax, Formula, Truth, Comparison, Watched, InTransit, Empty, Difference, Not, And, Or, Temporal, Next, Until}
 use Rattle.run_model.specs.Meaning.{Sat}
 use Rattle.run_model.specs.Witness.{Witness, PathTo, Place, Nothing, StepsIn, is_temporal, IsOfKind}
 use Rattle.run_model.specs.Witness as W
@@ -19,7 +19,6 @@ abbrev Says : Run → Formula → Witness → Type 0
 Says r (Temporal Ef f) w = (w ≡ Nothing) ↔ (Sat r (Temporal Ef f) (initial r.clocks) → ⊥)
 Says r (Temporal Ag f) w = (w ≡ Nothing) ↔ Sat r (Temporal Ag f) (initial r.clocks)
 Says r (Temporal Eg f) w = w ≡ Nothing → ⊥
-Says r (Temporal Ex f) w = Unit {0}
 Says r (Temporal Af f) w = Unit {0}
 Says r (Temporal Ax f) w = Unit {0}
 Says r (Truth b) w = Unit {0}
@@ -27,18 +26,22 @@ Says r (Comparison process variable relation side) w = Unit {0}
 Says r (Watched process watch) w = Unit {0}
 Says r (InTransit sender receiver relation k) w = Unit {0}
 Says r (Empty sender receiver) w = Unit {0}
+Says r (Difference p x q y relation k) w = Unit {0}
 Says r (Not f) w = Unit {0}
 Says r (And fs) w = Unit {0}
 Says r (Or fs) w = Unit {0}
+Says r (Next process f) w = (w ≡ Nothing) ↔ (Sat r (Next process f) (initial r.clocks) → ⊥)
 Says r (Until all left right) w = Unit {0}
 
 plain_says : (r : Run) (f : Formula) → IsFalse (is_temporal f) → Says r f Nothing
 plain_says r (Temporal operator f) plain = absurd cc
+plain_says r (Next process f) plain = absurd cc
 plain_says r (Truth b) plain = tt
 plain_says r (Comparison process variable relation side) plain = tt
 plain_says r (Watched process watch) plain = tt
 plain_says r (InTransit sender receiver relation k) plain = tt
 plain_says r (Empty sender receiver) plain = tt
+plain_says r (Difference p x q y relation k) plain = tt
 plain_says r (Not f) plain = tt
 plain_says r (And fs) plain = tt
 plain_says r (Or fs) plain = tt
@@ -63,3 +66,5 @@ says r _ _ (W.IsOfKind.come_together first other two together) = λ e. absurd cc
 says r f _ (W.IsOfKind.not_temporal plain) = plain_says r f plain
 says r _ _ (W.IsOfKind.never never) = (λ e. never, λ h. refl)
 says r _ _ (W.IsOfKind.each_time always) = (λ e. always, λ h. refl)
+says r _ _ (W.IsOfKind.reaches_next next) = (λ e. absurd cc, λ never. absurd (never next))
+says r _ _ (W.IsOfKind.never_next never) = (λ e. never, λ h. refl)

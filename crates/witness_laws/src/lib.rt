@@ -7,14 +7,14 @@
 
 ghost use Rattle.std.specs.Prelude.{◌≡◌, ◌↔◌};
 ghost use Rattle.run_model.specs.Cut.{initial};
-ghost use Rattle.run_model.specs.Run.{Run};
-ghost use Rattle.run_model.specs.Formula.{Ef, Ag, Eg, Formula, Temporal};
+ghost use Rattle.run_model.specs.Run.{Name, Run};
+ghost use Rattle.run_model.specs.Formula.{Ef, Ag, Eg, Formula, Temporal, Next};
 ghost use Rattle.run_model.specs.Meaning.{Sat};
 ghost use Rattle.run_model.specs.Witness.{IsOfKind, Nothing, Witness};
 
-/// There is nothing to show exactly where no cut with the operand can be reached (EF), or where
-/// each cut that can be reached has it (AG). A path that stays with the operand, or what stands
-/// against one, can always be shown (EG).
+/// There is nothing to show exactly where no cut with the operand can be reached (EF), where each
+/// cut that can be reached has it (AG), or where the next event of the process doesn't lead to one
+/// (EX). A path that stays with the operand, or what stands against one, can always be shown (EG).
 pub fn nothing_is_told()
     ensures finally { (r : Run) (f : Formula) (w : Witness) → IsOfKind r (Temporal Ef f) w
         → (w ≡ Nothing) ↔ (Sat r (Temporal Ef f) (initial r.clocks) → ⊥) }
@@ -22,4 +22,7 @@ pub fn nothing_is_told()
         → (w ≡ Nothing) ↔ Sat r (Temporal Ag f) (initial r.clocks) }
     ensures globally { (r : Run) (f : Formula) (w : Witness) → IsOfKind r (Temporal Eg f) w
         → w ≡ Nothing → ⊥ }
+    ensures next { (r : Run) (process : Name) (f : Formula) (w : Witness)
+        → IsOfKind r (Next process f) w
+        → (w ≡ Nothing) ↔ (Sat r (Next process f) (initial r.clocks) → ⊥) }
 {}

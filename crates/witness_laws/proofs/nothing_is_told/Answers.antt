@@ -1,4 +1,4 @@
-use Rattle.run_model.specs.Formula.{Ef, Ag, Eg, Temporal}
+use Rattle.run_model.specs.Formula.{Ef, Ag, Eg, Temporal, Next}
 use Rattle.witness_laws.proofs.Nothing.{says}
 use Rattle.witness_laws.proofs.nothing_is_told.Goals as goal
 
@@ -10,3 +10,6 @@ returns-clause-always c = λ r f w kind. says r (Temporal Ag f) w kind
 
 pub returns-clause-globally : goal.returns-clause-globally
 returns-clause-globally c = λ r f w kind. says r (Temporal Eg f) w kind
+
+pub returns-clause-next : goal.returns-clause-next
+returns-clause-next c = λ r process f w kind. says r (Next process f) w kind

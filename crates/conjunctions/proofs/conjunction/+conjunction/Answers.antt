@@ -1,4 +1,4 @@
-use Rattle.std.proofs.Common.{◌≡◌, ℕ, ◌+◌, ◌≤◌, ◌∷◌, [], length, take, flat_map, List, Some, None, Bool, true, refl, sym, ◌∙◌, ap, subst, arith}
+use Rattle.std.proofs.Common.{◌≡◌, ℕ, ◌+◌, ◌≤◌, ◌∷◌, [], length, take, flat_map, List, Some, None, Bool, true, false, refl, sym, ◌∙◌, ap, subst, arith}
 use Rattle.std.specs.Prelude.{IsTrue, ◌↔◌}
 use Rattle.run_model.specs.Cut.{Cut, Clocks, lengths}
 use Rattle.run_model.specs.Slice.{Cuts}
@@ -94,7 +94,7 @@ add_part-returns-in_ok-truth-in-Local g t c =
       answer = atom_answer seen p c.args.disjunct c.args.number answer is refl refl refl refl c.in_ok-truth-in-Local.ensures.truth;
       pulls = c.in_ok-truth-in-Local.ensures.pulls;
       floor = let adds = c.in_ok-truth-in-Local.ensures.pulls in
-          floor_more (lens_seen seen) c.args.gathered.now c.add_atom.new.gathered adds.added adds.is c.in_ok-truth-in-Local.ensures.floor c.requires.floor;
+          floor_more (lens_seen seen) c.args.gathered.now c.add_atom.new.gathered adds.added adds.is c.in_ok-truth-in-Local.ensures.floor (λ is. let e : false ≡ true = sym c.in_ok-truth-in-Local.ensures.alone ∙ is in absurd (cc)) c.requires.floor;
       settles = atom_settles seen c.args.workers c.args.round.now c.args.steps.now p is;
     }
 
@@ -104,7 +104,7 @@ settle_conjunction-parts-init g t c =
     added_none c.args.seen.now c.args.workers c.args.disjunct c.args.round.now c.args.steps.now c.args.answers.now (first_pulls (clocks_seen c.args.seen.now) (all_atoms (pieces_of c.args.parts.now))) c.in_ok-gathered.gathered
     (c.in_ok-gathered.ensures.pulls ∙ ap (λ (b : Bool). first c.order.result.now b) c.are_atoms-atoms.ensures
     ∙ ap (λ (o : Clocks). first_pulls o (all_atoms (pieces_of c.args.parts.now))) (c.order.ensures.order ∙ sym c.order.ensures.trace.clocks))
-    c.in_ok-gathered.ensures.floor
+    c.in_ok-gathered.ensures.floor c.in_ok-gathered.ensures.alone
 
 pub settle_conjunction-overflow_cast-index : goal.settle_conjunction-overflow_cast-index
 settle_conjunction-overflow_cast-index g t c = omega (arith, few_parts c.args.parts.now c.requires.count, c.parts-test.true)

@@ -2,4 +2,4 @@ use Rattle.run_model.proofs.RegularLemmas.{regular_closed}
 use Rattle.model_laws.proofs.part_laws.families_regular_in_a_run_are_closed.Goals as goal
 
 pub returns : goal.returns
-returns c = λ r run f h. regular_closed r run f h.form
+returns c = regular_closed

@@ -6,7 +6,8 @@ use Rattle.rctl_parse.specs.Parts.{UnaryFault}
 use Rattle.rctl_parse.proofs.LeafSteps.{passes_on, stops_with}
 use Rattle.rctl_parse.proofs.PartSteps.{group_bound}
 use Rattle.rctl_parse.proofs.MemberSteps.{counted_over, one_more, conjunction_one, conjunction_fault, conjunction_bound, conjunction_init, conjunction_stops, conjunction_turn, conjunction_ends, formula_one, formula_fault, formula_bound, formula_init, formula_stops, formula_turn, formula_ends}
-use Rattle.rctl_parse.proofs.CycleSteps.{enclosed_read, unclosed_read, at_tokens, at_word, nothing_opens, prefixed_whole, prefixed_bound, prefixed_fault, group_answer, left_side, left_stops, both_sides, right_stops, until_whole}
+use Rattle.rctl_parse.proofs.CycleSteps.{enclosed_read, unclosed_read, at_tokens, at_word, word_of_operator, nothing_opens, prefixed_whole, prefixed_bound, prefixed_fault, group_answer, left_side, left_stops, both_sides, right_stops, until_whole}
+use Rattle.rctl_parse.proofs.SteppingSteps.{next_whole, next_fault}
 use Rattle.rctl_parse.proofs.parser.+parser.Goals as goal
 
 pub unary-returns-in-Negation : goal.unary-returns-in-Negation
@@ -16,8 +17,11 @@ pub unary-returns-in-Group : goal.unary-returns-in-Group
 unary-returns-in-Group t c = at_tokens _ _ _ _ c.in-Group.ensures c.group.ensures
 
 pub unary-returns-in-Operator : goal.unary-returns-in-Operator
-unary-returns-in-Operator t c = at_word _ _ _ _ _ _ _ _ c.in-Word.ensures c.in-Operator.ensures.0
-    (c.prefixed-in-Operator.ensures (spelled (word_of c.in-Operator.operator) c.in-Word.name.now c.in-Word.at) (c.in-Word.name.now, refl, c.in-Operator.ensures.1))
+unary-returns-in-Operator t c = let op = word_of_operator _ _ c.in-Operator.ensures.0 in at_word _ _ _ _ _ _ _ _ c.in-Word.ensures op.2
+    (c.prefixed-in-Operator.ensures (spelled (word_of op.0) c.in-Word.name.now c.in-Word.at) (op.0, op.1, c.in-Word.name.now, refl, c.in-Operator.ensures.1))
+
+pub unary-returns-in-Stepping : goal.unary-returns-in-Stepping
+unary-returns-in-Stepping t c = at_word _ _ _ _ _ _ _ _ c.in-Word.ensures c.in-Stepping.ensures.0 (c.stepping.ensures c.in-Word.name.now c.in-Stepping.ensures.1)
 
 pub unary-returns-in-Path : goal.unary-returns-in-Path
 unary-returns-in-Path t c = at_word _ _ _ _ _ _ _ _ c.in-Word.ensures c.in-Path.ensures.0 (c.until.ensures c.in-Word.name.now c.in-Path.ensures.1)
@@ -38,6 +42,16 @@ prefixed-returns-in_err-tree t c = λ first is. passes_on _ _ _ c.in_err-tree.fi
 
 pub prefixed-returns : goal.prefixed-returns
 prefixed-returns t c = λ first is. prefixed_whole _ _ _ _ _ _ _ _ _ _ is c.in_ok-inside.ensures c.in_ok-tree.ensures c.in_ok-tree-2.ensures
+
+pub stepping-returns-in_err-inside : goal.stepping-returns-in_err-inside
+stepping-returns-in_err-inside t c = λ name other. passes_on _ _ _ c.in_err-inside.field-0.0 _ _ c.from_residual.ensures.1 (λ y same. same) (c.in_err-inside.ensures.step name other) (λ f bad. bad)
+
+pub stepping-returns-in_err-tree : goal.stepping-returns-in_err-tree
+stepping-returns-in_err-tree t c = λ name other. passes_on _ _ _ c.in_err-tree.field-0.0 _ _ c.from_residual-in_err-tree.ensures.1 (λ y same. same) c.in_err-tree.ensures
+    (λ f bad. next_fault _ _ _ _ _ _ _ f (c.in_ok-inside.ensures.step name other) bad)
+
+pub stepping-returns : goal.stepping-returns
+stepping-returns t c = λ name other. next_whole _ _ _ _ _ _ _ _ _ _ _ (c.in_ok-inside.ensures.step name other) c.in_ok-tree.ensures c.in_ok-inner.ensures
 
 pub group-returns-in_err-inside : goal.group-returns-in_err-inside
 group-returns-in_err-inside t c = passes_on (λ f. f ≡ too_deep_at c.args.at) _ _ c.in_err-inside.field-0.0 _ _ c.from_residual.ensures.1 (λ y same. same)

@@ -8,6 +8,9 @@ decreases-unary l = 8 * length l.tokens.now + 1
 abbrev pub decreases-prefixed : goal.decreases-prefixed
 decreases-prefixed l = 8 * length l.rest.now + 2
 
+abbrev pub decreases-stepping : goal.decreases-stepping
+decreases-stepping l = 8 * length l.rest.now + 2
+
 abbrev pub decreases-group : goal.decreases-group
 decreases-group l = 8 * length l.rest.now + 5
 

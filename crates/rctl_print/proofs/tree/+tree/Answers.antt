@@ -2,10 +2,10 @@ use Rattle.std.proofs.Common.{map, ◌++◌, sym, ap, ◌∙◌, rules}
 use Rattle.std.proofs.lemmas.Result.{on_ok_weaker}
 use Rattle.std.proofs.lemmas.List.{take_all}
 use Rattle.std.proofs.lemmas.Bool.Decides.{nat_tests}
-use Rattle.rctl_grammar.specs.Shape.{shape_of, not, under, until_of}
-use Rattle.rctl_grammar.proofs.Shapes.{shape-Not, shape-Temporal, shape-Until}
+use Rattle.rctl_grammar.specs.Shape.{shape_of, not, under_of, stepped, until_of}
+use Rattle.rctl_grammar.proofs.Shapes.{shape-Not, shape-Temporal, shape-Next, shape-Until}
 use Rattle.rctl_print.specs.Members.{each_behind}
-use Rattle.rctl_print.proofs.Printing.{put_not, put_under, put_until, put_more, all_text}
+use Rattle.rctl_print.proofs.Printing.{put_not, put_under, put_stepped, put_until, put_more, all_text}
 use Rattle.rctl_print.proofs.tree.+tree.Goals as goal
 
 pub put_joined-members-preserved : goal.put_joined-members-preserved
@@ -25,13 +25,15 @@ put_tree-returns-in_ok-extend_from_slice-in-Not t c =
     let shape = ap shape_of c.in-Not.is ∙ shape-Not _ _ ∙ ap (λ x. not (shape_of x)) (sym c.get.ensures) in
     on_ok_weaker c.put_member.result (put_not c.args.out.now c.in_ok-extend_from_slice-in-Not.ensures.ok shape) c.put_member.ensures
 
-pub put_tree-returns-in_ok-extend_from_slice-in-Temporal-2 :
-    goal.put_tree-returns-in_ok-extend_from_slice-in-Temporal-2
-put_tree-returns-in_ok-extend_from_slice-in-Temporal-2 t c =
-    let shape = ap shape_of c.in-Temporal.is ∙ shape-Temporal _ _ _ ∙ ap (λ x. under c.in-Temporal.operator (shape_of x)) (sym (c.get-in-Temporal).ensures) in
-    on_ok_weaker c.put_member-in-Temporal.result
-    (put_under c.args.out.now (c.in_ok-extend_from_slice-in-Temporal).ensures.ok c.operator_word.ensures (c.in_ok-extend_from_slice-in-Temporal-2).ensures.ok shape)
-    c.put_member-in-Temporal.ensures
+pub put_tree-returns-in_ok-put_operator-in-Temporal : goal.put_tree-returns-in_ok-put_operator-in-Temporal
+put_tree-returns-in_ok-put_operator-in-Temporal t c =
+    let shape = ap shape_of c.in-Temporal.is ∙ shape-Temporal _ _ _ ∙ ap (λ x. under_of c.in-Temporal.operator (shape_of x)) (sym (c.get-in-Temporal).ensures) in
+    on_ok_weaker c.put_member-in-Temporal.result (put_under c.in-Temporal.operator _ c.args.out.now (c.in_ok-put_operator-in-Temporal).ensures shape) c.put_member-in-Temporal.ensures
+
+pub put_tree-returns-in_ok-put_next-in-Next : goal.put_tree-returns-in_ok-put_next-in-Next
+put_tree-returns-in_ok-put_next-in-Next t c =
+    let shape = ap shape_of c.in-Next.is ∙ shape-Next _ _ _ ∙ ap (λ x. stepped c.in-Next.process.name (shape_of x)) (sym (c.get-in-Next).ensures) in
+    on_ok_weaker c.put_member-in-Next.result (put_stepped c.args.out.now (c.in_ok-put_next-in-Next).ensures shape) c.put_member-in-Next.ensures
 
 pub put_tree-returns-in_ok-put_tree-in-Until-2 : goal.put_tree-returns-in_ok-put_tree-in-Until-2
 put_tree-returns-in_ok-put_tree-in-Until-2 t c =

@@ -1,4 +1,4 @@
-use Rattle.run_model.proofs.PartLemmas.{conjunctive_disjunctive, disjunct_closed, disjuncts_regular}
+use Rattle.run_model.proofs.PartLemmas.{conjunctive_disjunctive, disjunct_closed, disjuncts_regular, disjuncts_kept}
 use Rattle.std.proofs.Common.{true}
 use Rattle.run_model.proofs.formula_laws.disjuncts_have_regular_parts.Goals as goal
 
@@ -7,6 +7,9 @@ returns-clause-of_the_class c = λ f. conjunctive_disjunctive f true
 
 pub returns-clause-parts : goal.returns-clause-parts
 returns-clause-parts c = λ f. disjuncts_regular f true
+
+pub returns-clause-kept : goal.returns-clause-kept
+returns-clause-kept c = λ r f. disjuncts_kept r f true
 
 pub returns-clause-closed : goal.returns-clause-closed
 returns-clause-closed c = disjunct_closed

@@ -30,3 +30,23 @@ returns-clause-unanalysed c = refl
 pub returns-clause-negated_equation : goal.returns-clause-negated_equation
 unfolding clock lengths initial min_cut max_cut assigned state_from states_from in_transit total holds edges_of is_conjunctive is_disjunctive is_plain processes
 returns-clause-negated_equation c = refl
+
+pub returns-clause-next_event : goal.returns-clause-next_event
+unfolding clock lengths initial min_cut max_cut assigned state_from states_from in_transit total holds edges_of is_conjunctive is_disjunctive is_plain processes
+returns-clause-next_event c = refl
+
+pub returns-clause-negated_next_event : goal.returns-clause-negated_next_event
+unfolding clock lengths initial min_cut max_cut assigned state_from states_from in_transit total holds edges_of is_conjunctive is_disjunctive is_plain processes
+returns-clause-negated_next_event c = refl
+
+pub returns-clause-difference : goal.returns-clause-difference
+unfolding clock lengths initial min_cut max_cut assigned state_from states_from in_transit total holds edges_of is_conjunctive is_disjunctive is_plain processes
+returns-clause-difference c = refl
+
+pub returns-clause-within_one : goal.returns-clause-within_one
+unfolding clock lengths initial min_cut max_cut assigned state_from states_from in_transit total holds edges_of is_conjunctive is_disjunctive is_plain processes
+returns-clause-within_one c = refl
+
+pub returns-clause-negated_difference : goal.returns-clause-negated_difference
+unfolding clock lengths initial min_cut max_cut assigned state_from states_from in_transit total holds edges_of is_conjunctive is_disjunctive is_plain processes
+returns-clause-negated_difference c = refl

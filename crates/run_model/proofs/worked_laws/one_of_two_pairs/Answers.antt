@@ -17,4 +17,4 @@ returns-clause-verdict c = verdict_by_listing five_events (one_of (both (x_is 1)
 
 pub returns-clause-slice : goal.returns-clause-slice
 unfolding clock lengths initial min_cut max_cut assigned state_from states_from in_transit total holds edges_of is_conjunctive is_disjunctive is_plain processes
-returns-clause-slice c = slice_by_listing five_events (one_of (both (x_is 1) (y_is 2)) (both (x_is 2) (y_is 1))) (cut 1 1) (cut 2 2) [] refl refl refl refl
+returns-clause-slice c = slice_by_listing five_events (one_of (both (x_is 1) (y_is 2)) (both (x_is 2) (y_is 1))) (cut 1 1) (cut 2 2) [] refl refl refl refl refl

@@ -19,7 +19,7 @@ returns-clause-verdict c = verdict_by_listing five_events (Temporal Ef (both (x_
 
 pub returns-clause-slice : goal.returns-clause-slice
 unfolding clock lengths initial min_cut max_cut assigned state_from states_from in_transit total holds edges_of is_conjunctive is_disjunctive is_plain processes
-returns-clause-slice c = slice_by_listing five_events (Temporal Ef (both (x_is 2) (y_is 1))) (cut 0 0) (cut 2 1) [] refl refl refl refl
+returns-clause-slice c = slice_by_listing five_events (Temporal Ef (both (x_is 2) (y_is 1))) (cut 0 0) (cut 2 1) [] refl refl refl refl refl
 
 pub returns-clause-witness : goal.returns-clause-witness
 unfolding clock lengths initial min_cut max_cut assigned state_from states_from in_transit total holds edges_of is_conjunctive is_disjunctive is_plain processes

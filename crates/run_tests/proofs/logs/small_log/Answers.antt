@@ -1,4 +1,4 @@
-use Rattle.std.proofs.Common.{◌≡◌, [], ◌∷◌, ◌≤◌, length, List, pos, refl, arith, subst, false, ◌*◌, length-append, Option, Some}
+use Rattle.std.proofs.Common.{◌≡◌, [], ◌∷◌, ◌≤◌, length, List, pos, refl, arith, subst, false, ◌*◌, length-append, Option, Some, inl}
 use Rattle.std.specs.Prelude.{IsTrue, MatchOption}
 use Rattle.log_lines.specs.Names.{Name, is_name}
 use Rattle.event_log.specs.declared.log.Binding.{Binding}
@@ -24,7 +24,7 @@ abbrev event : Event
 event = record { process = 0; line = 4; clock = 1 ∷ []; kind = kind.Internal; assigns = assign ∷ [] }
 
 abbrev header : Header
-header = record { procs = (80 ∷ []) ∷ []; vars = (binding ∷ []) ∷ [] }
+header = record { version = 1; procs = (80 ∷ []) ∷ []; vars = (binding ∷ []) ∷ []; var_lines = 3 ∷ [] }
 
 abbrev small : Log
 small = record { header = header; batches = (event ∷ []) ∷ [] }
@@ -34,6 +34,7 @@ binding_fits = record { name = refl; value = omega (arith) }
 
 header_fits : HeaderFits header
 header_fits = record {
+  version = inl refl;
   procs = record { some = omega (arith); few = omega (arith); each = (refl, tt); distinct = refl };
   all = refl;
   vars = (record { few = omega (arith); each = (binding_fits, tt); distinct = refl }, tt);
@@ -42,7 +43,7 @@ header_fits = record {
 event_fits : EventFits header event
 event_fits = record {
   process = omega (arith);
-  width = refl;
+  width = inl refl;
   clock = (omega (arith), tt);
   kind = tt;
   few = omega (arith);
@@ -70,5 +71,5 @@ pub returns : goal.returns
 returns c =
     let process : c.in-Some.process ≡ 80 ∷ [] = name_is _ _ _ c.in-Some.is c.in_ok-process.ensures in
     let variable : c.in-Some-2.variable ≡ 120 ∷ [] = name_is _ _ _ c.in-Some-2.is c.in_ok-variable.ensures in
-    rw (c.in_ok-one-3.ensures) (rw (c.in_ok-one-5.ensures) (rw (c.in_ok-one-7.ensures) (rw (c.in_ok-one-6.ensures) (rw (c.in_ok-one-4.ensures)
-    (rw (c.in_ok-one.ensures) (rw (c.in_ok-one-2.ensures) (rw process (rw variable is_log))))))))
+    rw (c.in_ok-one-3.ensures) (rw (c.in_ok-one-5.ensures) (rw (c.in_ok-one-6.ensures) (rw (c.in_ok-one-8.ensures) (rw (c.in_ok-one-7.ensures) (rw (c.in_ok-one-4.ensures)
+    (rw (c.in_ok-one.ensures) (rw (c.in_ok-one-2.ensures) (rw process (rw variable is_log)))))))))

@@ -4,6 +4,7 @@ use Rattle.pull_system.specs.Vector.{IsVector}
 use Rattle.pull_system.specs.System.{IsLeastFrom}
 use Rattle.pull_system.specs.Rows.{start_of, row_at}
 use Rattle.pull_system.proofs.Starts.{start_of-vector}
+use Rattle.pull_system.proofs.Sums.{component_le}
 use Rattle.slice_rows.proofs.Settling.{row_ends, raised_more, start_below, raised_least, raised_others}
 use Rattle.slice_rows.proofs.making.settle_row.Goals as goal
 
@@ -13,6 +14,19 @@ least-requires g c =
     let start : c.deref_mut.result.now ≡ start_of lens c.args.row = c.deref_mut.ensures.value ∙ c.in_ok-vector.ensures.items ∙ c.row.ensures.words
     ∙ ap (λ (ls : List ℕ). row_at ls c.args.rows.now.words c.args.row) c.requires.lens ∙ c.requires.start in
     subst (IsVector lens) (sym start) (start_of-vector lens c.args.row)
+
+pub raise-requires-clause-value : goal.raise-requires-clause-value
+raise-requires-clause-value g c =
+    let lens : List ℕ = c.args.system.now.lens in
+    let start : c.deref_mut.result.now ≡ start_of lens c.args.row = c.deref_mut.ensures.value ∙ c.in_ok-vector.ensures.items ∙ c.row.ensures.words
+    ∙ ap (λ (ls : List ℕ). row_at ls c.args.rows.now.words c.args.row) c.requires.lens ∙ c.requires.start in
+    let least : IsLeastFrom c.args.system.now (start_of lens c.args.row) c.least.new.vector = subst (λ (s : List ℕ). IsLeastFrom c.args.system.now s c.least.new.vector) start c.least.ensures.least in
+    let all : take c.in_ok-vector.vector.len (c.least.new.vector ++ drop (length c.least.new.vector) c.in_ok-vector.vector.items) ≡ c.least.new.vector =
+    take_at c.least.new.vector (drop (length c.least.new.vector) c.in_ok-vector.vector.items) c.in_ok-vector.vector.len
+    (omega (arith, least.closed.vector.size, c.row.ensures.size, ap length c.requires.lens, c.in_ok-vector.ensures.len)) in
+    let lt : c.loop-process.process < length lens = omega (arith, c.loop-process-test.true, c.procs-process-end.ensures.count, ap length c.shape.ensures.shape) in
+    let read = get_or_read _ c.loop-process.process c.index.result.now (omega (arith, ap length all, least.closed.vector.size, lt)) c.index.ensures 0 in
+    omega (arith, read, ap (λ (v : List ℕ). get_or v c.loop-process.process 0) all, least.closed.vector.within c.loop-process.process, component_le lens c.loop-process.process, c.procs-process-end.ensures.shape.events, ap sum c.shape.ensures.shape)
 
 pub loop-process-preserved : goal.loop-process-preserved
 loop-process-preserved g c =

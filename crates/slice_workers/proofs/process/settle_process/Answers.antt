@@ -1,11 +1,12 @@
-use Rattle.std.proofs.Common.{rules, arith, refl, ap, ◌≡◌, ◌+◌, ◌*◌, ◌≤◌, ◌∙◌, ℕ, List, sum, take, get_or, length, subst, sym}
+use Rattle.std.proofs.Common.{rules, arith, refl, ap, ◌≡◌, ◌+◌, ◌-◌, ◌*◌, ◌≤◌, ◌∙◌, ℕ, List, sum, take, get_or, length, subst, sym}
 use Rattle.pull_system.specs.System.{SystemView}
 use Rattle.pull_system.specs.Rows.{IsLeast}
-use Rattle.pull_system.proofs.Sums.{sum-is_vector}
+use Rattle.pull_system.proofs.Sums.{sum-is_vector, sum-within}
+use Rattle.std.proofs.Math.Nat.{mul-le-mul_left}
 use Rattle.bound_table.proofs.Allowed.{bounds_along}
 use Rattle.bound_table.proofs.Claiming.{keeps_refl, keeps_trans}
 use Rattle.bound_table.proofs.Floors.{within_trans}
-use Rattle.slice_workers.proofs.Reached.{within_refl, first_none, first_next, first_more, lent_reaches, may_start}
+use Rattle.slice_workers.proofs.Reached.{within_refl, first_none, first_next, first_more, lent_reaches, may_start, is_before, more_rows}
 use Rattle.slice_workers.proofs.Reached.IsBefore.{AtBottom, After}
 use Rattle.slice_workers.specs.Reaching.{ReachesFirst}
 use Rattle.slice_workers.proofs.Rises.{pays_on, paid_on, looks_of}
@@ -14,18 +15,20 @@ use Rattle.slice_workers.proofs.process.settle_process.Goals as goal
 pub loop-done-init : goal.loop-done-init
 loop-done-init g c =
     let system : SystemView = c.args.table.now.system in
-    let same : c.copy_from_slice.new.self ≡ c.args.bottom.now = search rules in
-    let P : List ℕ → Type 0 = IsLeast system 0 in record {
-      keeps = keeps_refl _;
-      rises = within_refl _;
-      bounds = bounds_along _ _ _ _ (search rules) (search rules) c.bounds.ensures;
-      there = omega arith;
-      start = AtBottom refl;
-      least = subst P (sym same) c.requires.bottom;
-      lent = λ i there. omega (arith, c.requires.lent i there, ap (λ v. get_or v i 0) same);
-      reaches = first_none system c.args.process _;
-      pays = omega (arith, ap (λ v. length system.pulls * sum v) same);
-      paid = omega arith;
+    let old = bounds_along _ system _ c.args.seat.now.floor (search rules) (search rules) c.bounds.ensures in
+    let go = c.go_behind-before.ensures in
+    let more : sum c.args.seat.now.floor ≤ sum c.go_behind-before.new.seat.floor = sum-within _ _ (old.size ∙ sym go.bounds.size) go.rises.each in record {
+      keeps = go.keeps;
+      rises = go.rises;
+      bounds = go.bounds;
+      there = go.there;
+      start = is_before system.lens c.args.process c.args.first _ go.row;
+      least = go.least;
+      lent = go.lent;
+      reaches = first_more system c.args.process _ _ _ go.rises c.requires.kept;
+      pays = omega (arith, mul-le-mul_left (length system.pulls) go.above);
+      paid = omega (arith, mul-le-mul_left (length system.pulls) (more_rows (c.args.first - c.args.first) _ _ more));
+      from = omega arith;
     }
 
 pub settle_next-requires-clause-event : goal.settle_next-requires-clause-event
@@ -55,7 +58,11 @@ loop-done-preserved g c =
       lent = next.lent;
       reaches = first_next system c.args.process done c.row_of-row.result _ row (first_more system c.args.process done _ _ next.rises inv.reaches) (lent_reaches system c.row_of-row.result _ _ next.least next.lent);
       pays = pays_on _ _ _ _ _ _ _ next.pays inv.pays;
-      paid = paid_on _ _ _ _ _ _ _ _ next.rises_paid inv.paid;
+      paid =
+          let one : done - c.args.first + 1 ≡ done + 1 - c.args.first = omega (arith, inv.from) in
+          let rows : ℕ → Type 0 = λ n. c.settle_next.new.steps + length system.pulls * sum c.args.seat.now.floor ≤ c.args.steps.now + length system.pulls * (n + sum c.settle_next.new.seat.floor) in
+          subst rows one (paid_on _ _ _ _ _ _ _ _ next.rises_paid inv.paid);
+      from = omega (arith, inv.from);
     }
 
 pub returns-clause-reaches : goal.returns-clause-reaches

@@ -1,4 +1,4 @@
-use Rattle.std.proofs.Common.{ℕ, ◌+◌, ◌*◌, ◌<◌, ◌≤◌, length, sum, slice_index}
+use Rattle.std.proofs.Common.{ℕ, ◌+◌, ◌-◌, ◌*◌, ◌<◌, ◌≤◌, length, sum, slice_index}
 use Rattle.pull_system.specs.Vector.{IsWithin}
 use Rattle.pull_system.specs.Rows.{IsLeast}
 use Rattle.raise_machine.specs.Bounds.{AreBounds, word_at}
@@ -18,5 +18,6 @@ invariant-loop-done g l = record {
   lent : (i : ℕ) → i < length l.table.system.lens → slice_index l.into i ≤ word_at l.table.system.lens l.seat.floor l.before i;
   reaches : ReachesFirst l.table.system l.process l.done l.seat.floor;
   pays : l.steps + length l.table.system.pulls * sum l.bottom ≤ l.fn.steps + length l.table.system.pulls * sum l.into;
-  paid : l.steps + length l.table.system.pulls * sum l.fn.seat.floor ≤ l.fn.steps + length l.table.system.pulls * (l.done + sum l.seat.floor);
+  paid : l.steps + length l.table.system.pulls * sum l.fn.seat.floor ≤ l.fn.steps + length l.table.system.pulls * (l.done - l.first + sum l.seat.floor);
+  from : l.first ≤ l.done;
 }

@@ -1,7 +1,7 @@
 use Rattle.pull_system.specs.System.{SystemView}
 use Rattle.bound_table.proofs.Floors.{within_trans}
 use Rattle.slice_workers.proofs.Passes.{bottom_more}
-use Rattle.slice_workers.proofs.Reached.{handed_more, all_reached, lent_reaches, settled_bottom}
+use Rattle.slice_workers.proofs.Reached.{final_more, handed_more, all_reached, lent_reaches, settled_bottom}
 use Rattle.slice_workers.proofs.settled.finish_here.Goals as goal
 
 pub settle_rest-requires-clause-bottom : goal.settle_rest-requires-clause-bottom
@@ -24,3 +24,8 @@ returns-clause-reaches g c =
 pub returns-clause-rises : goal.returns-clause-rises
 returns-clause-rises g c =
     within_trans _ _ _ c.settle_narrow.ensures.follows.rises c.settle_rest.ensures.settled.rises
+
+pub settle_rest-requires-clause-finals : goal.settle_rest-requires-clause-finals
+settle_rest-requires-clause-finals g c =
+    let system : SystemView = c.args.table.now.system in
+    final_more system _ _ _ c.settle_narrow.ensures.follows.rises c.requires.finals

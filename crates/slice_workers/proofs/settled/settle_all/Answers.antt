@@ -1,29 +1,18 @@
-use Rattle.std.proofs.Common.{rules, sym, ap, subst, ◌∙◌, ◌≤◌, ℕ, List, sum}
+use Rattle.std.proofs.Common.{rules, arith, refl, ap, sym, subst, replicate, ◌≡◌, ◌≤◌, ◌<◌, ◌∙◌, ℕ, List, take, get_or, length, sum}
+use Rattle.std.proofs.Math.Nat.{mul-le-mul_left}
+use Rattle.slice_workers.proofs.Passes.{sum-left}
 use Rattle.pull_system.specs.System.{SystemView}
-use Rattle.pull_system.specs.Rows.{AreLeastRows}
-use Rattle.pull_system.proofs.Sums.{sum-within}
-use Rattle.bound_table.proofs.Allowed.{bounds_along}
-use Rattle.slice_workers.proofs.Reached.{all_least, all_more}
-use Rattle.slice_workers.proofs.Rises.{paid_more}
+use Rattle.slice_workers.proofs.Reached.{zeros, none_final, length-zeros, get_or-zeros}
 use Rattle.slice_workers.proofs.settled.settle_all.Goals as goal
 
-pub returns-in_err-rows-clause-rises_paid : goal.returns-in_err-rows-clause-rises_paid
-returns-in_err-rows-clause-rises_paid g c =
+pub settle_behind-requires-clause-finals : goal.settle_behind-requires-clause-finals
+settle_behind-requires-clause-finals g c κs within =
     let system : SystemView = c.args.table.now.system in
-    let bounds = bounds_along _ system _ c.settle_rows.new.seat.floor (search rules) (search rules) c.bounds.ensures in
-    let more : sum c.settle_rows.new.seat.floor ≤ sum c.floors.new.seat.floor = sum-within _ _ (bounds.size ∙ sym c.floors.ensures.bounds.size) c.floors.ensures.rises.each in
-    λ one. paid_more _ _ _ _ _ _ _ more (c.settle_rows.ensures.rises_paid one)
+    let lens : c.shape.result.now ≡ system.lens = c.shape.ensures.shape ∙ ap (λ s. s.lens) c.system.ensures in
+    let few : c.procs-procs.result ≤ 32 = omega (arith, c.procs-procs.ensures.count, c.procs-procs.ensures.shape.few) in
+    none_final system _ (zeros c.procs-procs.result 32) (length-zeros c.procs-procs.result 32 few ∙ c.procs-procs.ensures.count ∙ ap length lens) (get_or-zeros c.procs-procs.result 32)
 
 pub returns-clause-rises_paid : goal.returns-clause-rises_paid
 returns-clause-rises_paid g c =
     let system : SystemView = c.args.table.now.system in
-    let bounds = bounds_along _ system _ c.settle_rows.new.seat.floor (search rules) (search rules) c.bounds.ensures in
-    let more : sum c.settle_rows.new.seat.floor ≤ sum c.floors.new.seat.floor = sum-within _ _ (bounds.size ∙ sym c.floors.ensures.bounds.size) c.floors.ensures.rises.each in
-    λ one. paid_more _ _ _ _ _ _ _ more (c.settle_rows.ensures.rises_paid one)
-
-pub returns-clause-least : goal.returns-clause-least
-returns-clause-least g c =
-    let system : SystemView = c.args.table.now.system in
-    let least = all_least system _ c.floors.ensures.bounds (all_more system _ _ c.floors.ensures.rises c.in_ok-settle_rows.ensures.reaches) in
-    let P : List ℕ → Type 0 = AreLeastRows system in
-    subst P (sym (ap (λ r. r.words) c.in_ok-rows.ensures.rows)) least
+    λ one. omega (arith, c.settle_behind.ensures.rises_paid one, mul-le-mul_left (length system.pulls) (sum-left system.lens (zeros c.procs-procs.result 32)))

@@ -2,8 +2,9 @@ use Rattle.std.proofs.Common.{arith, ◌+◌, length, sum}
 use Rattle.pull_system.specs.System.{SystemView}
 use Rattle.pull_system.proofs.Sums.{sum-is_vector}
 use Rattle.bound_table.proofs.Floors.{within_trans}
+use Rattle.slice_workers.specs.Reaching.{rows_left}
 use Rattle.slice_workers.proofs.Passes.{bottom_more, marked_few, events_few, total}
-use Rattle.slice_workers.proofs.Reached.{all_reached, lent_reaches}
+use Rattle.slice_workers.proofs.Reached.{final_more, all_reached, lent_reaches}
 use Rattle.slice_workers.proofs.Rises.{here_looks, here_paid}
 use Rattle.slice_workers.proofs.settled.settle_here.Goals as goal
 
@@ -29,4 +30,9 @@ returns-clause-looks g c =
 pub returns-clause-rises_paid : goal.returns-clause-rises_paid
 returns-clause-rises_paid g c =
     let system : SystemView = c.args.table.now.system in
-    here_paid _ _ _ _ _ _ _ _ _ _ (events_few system.lens c.settle_rest.new.handed) c.settle_claimed.ensures.rises_paid c.settle_rest.ensures.settled.paid
+    here_paid _ _ _ _ _ _ _ _ _ _ (events_few (rows_left system.lens c.args.finals.now) c.settle_rest.new.handed) c.settle_claimed.ensures.rises_paid c.settle_rest.ensures.settled.paid
+
+pub settle_rest-requires-clause-finals : goal.settle_rest-requires-clause-finals
+settle_rest-requires-clause-finals g c =
+    let system : SystemView = c.args.table.now.system in
+    final_more system _ _ _ c.settle_claimed.ensures.rises c.requires.finals

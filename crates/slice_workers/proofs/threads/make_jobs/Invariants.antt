@@ -6,5 +6,5 @@ use Rattle.slice_workers.proofs.threads.make_jobs.Given as goal
 abbrev pub invariant-loop-before : goal.invariant-loop-before
 invariant-loop-before l = record {
   same : l.seat ≡ l.fn.seat;
-  jobs : All (IsJob l.table) l.jobs.items;
+  jobs : All (IsJob l.table l.finals) l.jobs.items;
 }

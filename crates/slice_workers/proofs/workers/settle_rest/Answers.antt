@@ -1,6 +1,7 @@
 use Rattle.std.proofs.Common.{rules, arith, ap, ◌≡◌, ◌≤◌, ◌∙◌, length, false, true, get_or}
 use Rattle.pull_system.specs.System.{SystemView}
 use Rattle.bound_table.proofs.Seeing.{upto_next}
+use Rattle.slice_workers.proofs.Reached.{final_more}
 use Rattle.slice_workers.proofs.Passes.{passed_none, passed_on, bottom_more}
 use Rattle.slice_workers.proofs.workers.settle_rest.Goals as goal
 
@@ -8,7 +9,7 @@ pub loop-process-init : goal.loop-process-init
 loop-process-init g c =
     let system : SystemView = c.args.table.now.system in record {
       table = search rules;
-      settled = passed_none system c.args.bottom.now _ _ _ c.requires.handed;
+      settled = passed_none system _ c.args.bottom.now _ _ _ c.requires.handed;
       done = λ p below. absurd (omega arith);
     }
 
@@ -32,7 +33,7 @@ loop-process-preserved g c =
     let inv = c.loop-process.invariant in
     let left = c.settle_left.ensures in record {
       table = left.table ∙ inv.table;
-      settled = passed_on system c.args.bottom.now _ _ _ _ _ _ _ _ _ inv.settled left.settled;
+      settled = passed_on system _ c.args.bottom.now _ _ _ _ _ _ _ _ _ inv.settled left.settled;
       done = upto_next (λ p. get_or c.settle_left.new.handed p false ≡ true) c.loop-process.process (λ p below. left.settled.stays p (inv.done p below)) left.marked;
     }
 
@@ -41,3 +42,8 @@ returns-clause-all g c =
     let system : SystemView = c.args.table.now.system in
     let end : c.procs-process-end.result ≡ length system.lens = c.procs-process-end.ensures.count ∙ ap length (c.shape.ensures.shape ∙ ap (λ s. s.lens) c.system.ensures) in
     λ p there. c.loop-process.invariant.done p (omega arith)
+
+pub settle_left-requires-clause-finals : goal.settle_left-requires-clause-finals
+settle_left-requires-clause-finals g c =
+    let system : SystemView = c.args.table.now.system in
+    final_more system _ _ _ c.loop-process.invariant.settled.rises c.requires.finals

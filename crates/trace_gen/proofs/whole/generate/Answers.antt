@@ -4,8 +4,8 @@ use Rattle.std.proofs.lemmas.Result.{IfOk-weaker}
 use Rattle.event_log.specs.declared.log.Log.{Log}
 use Rattle.event_log.specs.Laws.{IsLog}
 use Rattle.vector_clock.specs.Faults.{log_fault}
-use Rattle.trace_gen.proofs.Clear.{no_log_fault}
-use Rattle.trace_gen.proofs.Fits.{log_fits}
+use Rattle.vector_clock.specs.Filled.{filled_log}
+use Rattle.trace_gen.proofs.Fits.{log_fits, filled_clean}
 use Rattle.trace_gen.proofs.Size.{log_small}
 use Rattle.trace_gen.proofs.whole.generate.Goals as goal
 
@@ -17,4 +17,4 @@ returns-clause-text c = IfOk-weaker c.make_log.result _ _ (λ log is. subst IsLo
 
 pub returns-clause-clean : goal.returns-clause-clean
 returns-clause-clean c = IfOk-weaker c.make_log.result _ _
-    (λ log is. subst (λ (l : Log). log_fault l ≡ None) (sym is) (no_log_fault c.args.seed c.args.procs c.args.events c.requires.some)) c.make_log.ensures
+    (λ log is. subst (λ (l : Log). log_fault (filled_log l) ≡ None) (sym is) (filled_clean c.args.procs c.requires.some c.requires.few c.args.seed c.args.events c.requires.limit)) c.make_log.ensures

@@ -1,6 +1,7 @@
-use Rattle.std.proofs.Common.{rules, ap}
+use Rattle.std.proofs.Common.{rules, ap, refl}
 use Rattle.bound_table.proofs.Moves.{lifts}
-use Rattle.bound_table.proofs.Allowed.{pull_step_bound, bound_along, bounds_along}
+use Rattle.bound_table.proofs.Allowed.{pull_step_bound, bound_along, bounds_along, step_along}
+use Rattle.bound_table.specs.Rule.{pulled}
 use Rattle.pull_system.specs.Rows.{place_of}
 use Rattle.bound_table.proofs.table.BoundTable.raise_by_pull.Goals as goal
 
@@ -9,9 +10,11 @@ fetch_max-found-requires c =
     let system = c.args.self.now.system in
     let step = c.requires.step in
     let bounds = bounds_along _ system _ c.args.seat.now.floor (search rules) (search rules) c.seat.invariant.0.floor in
+    let machine = step_along system c.seat.inside.token.me.0.system c.args.seat.now.floor c.seat.inside.token.me.0.floor _ _ _ _ (search rules) (search rules)
+        (search (rules, ap (λ t. place_of system.lens c.args.row t) step.to)) step.asks (pulled c.args.row step.k step.x step.allowed refl refl) in
     let bound = pull_step_bound system c.place-word.ensures.system c.args.seat.now.floor bounds c.args.row step.k step.x step.allowed in (
       search rules,
       search rules,
-      lifts c.self.inside.table.shared.key.system.value _ _ c.seat.inside.token.me _ _ (search rules) (search rules) (search rules)
+      lifts c.self.inside.table.shared.key.system.value _ _ c.seat.inside.token.me _ _ (search rules) (search rules) (search rules) machine
           (bound_along system _ _ _ _ _ (search rules) (search (rules, ap (λ t. place_of system.lens c.args.row t) step.to)) step.asks bound),
     )

@@ -1,6 +1,6 @@
-use Rattle.std.proofs.Common.{◌≡◌, ◌++◌, take}
+use Rattle.std.proofs.Common.{◌≡◌, ◌++◌, take, false}
 use Rattle.pull_system.specs.Fans.{pulls_of_fans}
 use Rattle.conjunctions.proofs.gathered.Gathered.add_pulls.Given as goal
 
 abbrev pub invariant-loop-pull : goal.invariant-loop-pull
-invariant-loop-pull l = (pulls_of_fans l.self-inside.fans ≡ pulls_of_fans l.initial.self-inside.fans ++ take l.pull-index l.added) × (l.self-inside.floor ≡ l.initial.self-inside.floor)
+invariant-loop-pull l = (pulls_of_fans l.self-inside.fans ≡ pulls_of_fans l.initial.self-inside.fans ++ take l.pull-index l.added) × ((l.self-inside.floor ≡ l.initial.self-inside.floor) × (l.self-inside.alone ≡ false))

@@ -1,0 +1,12 @@
+use Rattle.std.proofs.Common.{◌-◌, ◌≤◌, length}
+use Rattle.bound_table.proofs.Reading.{AreRead}
+use Rattle.bound_table.proofs.narrow.wide_words.Given as goal
+
+abbrev pub invariant-loop-piece : goal.invariant-loop-piece
+invariant-loop-piece l = record {
+  read : AreRead l.from l.words.items;
+  few : length l.words.items ≤ length l.from;
+}
+
+abbrev pub decreases-loop-piece : goal.decreases-loop-piece
+decreases-loop-piece l = length l.from - length l.words.items

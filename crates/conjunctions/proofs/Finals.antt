@@ -1,0 +1,110 @@
+-- Which rows are final where a conjunction begins.
+use Rattle.std.proofs.Common.{◌≡◌, ℕ, zero, suc, ◌+◌, ◌<◌, ◌≤◌, inl, inr, Bool, true, false, List, [], ◌∷◌, length, sum, take, replicate, get_or, Option, Some, None, refl, sym, ◌∙◌, subst, arith}
+use Rattle.std.specs.Prelude.{IfSome}
+use Rattle.std.proofs.lemmas.Bool.{cases_lt}
+use Rattle.std.proofs.lemmas.List.{get_or-take, length-take-le}
+use Rattle.run_model.specs.Cut.{Clocks, lengths}
+use Rattle.pull_system.specs.declared.pull.Pull.{Pull}
+use Rattle.pull_system.specs.System.{SystemView, IsSystem}
+use Rattle.pull_system.specs.Rows.{RowsView, AreLeastRows, row_at}
+use Rattle.pull_system.specs.Growth.{DidNotFall, grown_words}
+use Rattle.pull_system.proofs.Starts.{get_or-row_at}
+use Rattle.slice_workers.specs.Reaching.{AreFinal, ReachesFirst}
+use Rattle.slice_workers.proofs.Reached.{first_none, none_final}
+use Rattle.slice_workers.proofs.Firsts.{sum_old}
+use Rattle.conjunctions.specs.Beginning.{GatheredView, FloorFits, BeginsAtoms, BeginsOthers, AreNone, AreWithin, HaveCuts, FinalsOfAtoms, FinalsOfOthers}
+use Rattle.conjunctions.specs.Settling.{CanBegin, CutsStay}
+
+-- ---- counts of rows, process by process
+
+abbrev pub zeros : ℕ → List ℕ
+zeros n = replicate n 0
+
+pub zero_at : (n p : ℕ) → get_or (zeros n) p 0 ≡ 0
+zero_at zero p = refl
+zero_at (suc n) zero = refl
+zero_at (suc n) (suc p) = zero_at n p
+
+-- where no row is known to be final
+pub none_within : (lens finals : List ℕ) → AreNone finals → AreWithin lens finals
+none_within lens finals none = record { size = none.size; few = λ p. omega (arith, none.none p) }
+
+pub none_cut : (rows : RowsView) (finals : List ℕ) → AreNone finals → HaveCuts rows finals
+none_cut rows finals none = record {
+  within = none_within rows.lens finals none;
+  cut = λ p there some. absurd (omega (arith, some, none.none p));
+}
+
+-- ---- final rows
+
+taken : (n : ℕ) (finals : List ℕ) (p : ℕ) → get_or (take n finals) p 0 ≤ get_or finals p 0
+taken zero finals p = omega arith
+taken (suc n) [] p = omega arith
+taken (suc n) (x ∷ finals) zero = omega arith
+taken (suc n) (x ∷ finals) (suc p) = taken n finals p
+
+size_of : (system : SystemView) → IsSystem system → (finals : List ℕ) → length finals ≡ 32 → length (take (length system.lens) finals) ≡ length system.lens
+size_of system is finals size = length-take-le (length system.lens) finals (omega (arith, size, is.shape.few))
+
+none_are : (system : SystemView) → IsSystem system → (words finals : List ℕ) → AreNone finals → AreFinal system words (take (length system.lens) finals)
+none_are system is words finals none =
+    none_final system words (take (length system.lens) finals) (size_of system is finals none.size)
+    (λ p. omega (arith, taken (length system.lens) finals p, none.none p))
+
+-- rows of before that have cuts
+cuts_are : (system : SystemView) → IsSystem system → (rows : RowsView) (finals : List ℕ) → DidNotFall rows.lens system.lens → CutsStay system rows → HaveCuts rows finals
+    → AreFinal system (grown_words system.lens rows) (take (length system.lens) finals)
+cuts_are system is rows finals fell stays have = record {
+  size = size_of system is finals have.within.size;
+  few = λ p. omega (arith, taken (length system.lens) finals p, have.within.few p, fell.each p);
+  each = λ p there. subst (λ (n : ℕ). ReachesFirst system p n (grown_words system.lens rows)) (sym (get_or-take (length system.lens) finals p 0 there)) (first p there);
+}
+  where
+    first : (p : ℕ) → p < length system.lens → ReachesFirst system p (get_or finals p 0) (grown_words system.lens rows)
+    first p there = elim (cases_lt 0 (get_or finals p 0)) [
+      | inl some ↦ stays.each p (get_or finals p 0) there (omega (arith, some)) (have.within.few p) (have.cut p (omega (arith, there, fell.count)) (omega (arith, some)))
+      | inr none ↦
+          let zeroth : get_or finals p 0 ≡ 0 = omega (arith, none) in
+          subst (λ (n : ℕ). ReachesFirst system p n (grown_words system.lens rows)) (sym zeroth) (first_none system p (grown_words system.lens rows))
+    ]
+
+-- rows that are the least already
+least_are : (system : SystemView) → IsSystem system → (words finals : List ℕ) → AreLeastRows system words → AreWithin system.lens finals → AreFinal system words (take (length system.lens) finals)
+least_are system is words finals least within = record {
+  size = size_of system is finals within.size;
+  few = λ p. omega (arith, taken (length system.lens) finals p, within.few p);
+  each = λ p there. record {
+    each = λ position one few.
+        let row : ℕ = sum (take p system.lens) + position in
+        record {
+          vector = row_at system.lens words row;
+          is = least.each row (sum_old system.lens p position (omega (arith, few, taken (length system.lens) finals p, within.few p)) there);
+          below = λ i i_there. omega (arith, get_or-row_at system.lens words row i i_there);
+        };
+  };
+}
+
+atoms_are : (o : Clocks) (pulls : List Pull) → IsSystem (record { lens = lengths o; pulls = pulls }) → (before : Option RowsView) (words finals : List ℕ) → CanBegin (record { lens = lengths o; pulls = pulls }) true before
+    → BeginsAtoms o before words → FinalsOfAtoms before finals → AreFinal (record { lens = lengths o; pulls = pulls }) words (take (length (lengths o)) finals)
+atoms_are o pulls is None words finals can begins none = none_are (record { lens = lengths o; pulls = pulls }) is words finals none
+atoms_are o pulls is (Some rows) words finals can begins have =
+    subst (λ (w : List ℕ). AreFinal (record { lens = lengths o; pulls = pulls }) w (take (length (lengths o)) finals)) (sym begins)
+    (cuts_are (record { lens = lengths o; pulls = pulls }) is rows finals (can.fell.fell rows refl refl) (can.stays rows refl refl) have)
+
+others_are : (lens : List ℕ) (pulls : List Pull) → IsSystem (record { lens = lens; pulls = pulls }) → (floor : Option RowsView) (alone : Bool) (words finals : List ℕ)
+    → (alone ≡ true → IfSome floor (λ rows. AreLeastRows (record { lens = lens; pulls = pulls }) rows.words)) → BeginsOthers lens floor words → FinalsOfOthers lens floor alone finals
+    → AreFinal (record { lens = lens; pulls = pulls }) words (take (length lens) finals)
+others_are lens pulls is None alone words finals least begins none = none_are (record { lens = lens; pulls = pulls }) is words finals none
+others_are lens pulls is (Some rows) false words finals least begins none = none_are (record { lens = lens; pulls = pulls }) is words finals none
+others_are lens pulls is (Some rows) true words finals least begins within =
+    subst (λ (w : List ℕ). AreFinal (record { lens = lens; pulls = pulls }) w (take (length lens) finals)) (sym begins)
+    (least_are (record { lens = lens; pulls = pulls }) is rows.words finals (least refl) within)
+
+-- the rows that are taken as final where a conjunction begins are
+pub finals_are : (o : Clocks) (gathered : GatheredView) (keeps : Bool) (before : Option RowsView) (words finals : List ℕ) → IsSystem (record { lens = lengths o; pulls = gathered.pulls })
+    → CanBegin (record { lens = lengths o; pulls = gathered.pulls }) keeps before → FloorFits (lengths o) gathered → (keeps ≡ true → BeginsAtoms o before words)
+    → (keeps ≡ false → BeginsOthers (lengths o) gathered.floor words) → (keeps ≡ true → FinalsOfAtoms before finals) → (keeps ≡ false → FinalsOfOthers (lengths o) gathered.floor gathered.alone finals)
+    → AreFinal (record { lens = lengths o; pulls = gathered.pulls }) words (take (length (lengths o)) finals)
+finals_are o gathered true before words finals is can fits atoms others of_atoms of_others = atoms_are o gathered.pulls is before words finals can (atoms refl) (of_atoms refl)
+finals_are o gathered false before words finals is can fits atoms others of_atoms of_others =
+    others_are (lengths o) gathered.pulls is gathered.floor gathered.alone words finals fits.least (others refl) (of_others refl)

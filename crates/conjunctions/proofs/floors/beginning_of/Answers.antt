@@ -1,0 +1,7 @@
+use Rattle.std.proofs.Common.{Bool, subst}
+use Rattle.run_model.specs.Cut.{lengths}
+use Rattle.conjunctions.specs.Settling.{IsFloorOf}
+use Rattle.conjunctions.proofs.floors.beginning_of.Goals as goal
+
+pub beginning_of_atoms-requires : goal.beginning_of_atoms-requires
+beginning_of_atoms-requires c = subst (λ (k : Bool). IsFloorOf (lengths c.args.order.now) k c.args.before) c.if-keeps.true c.requires.before

@@ -1,0 +1,6 @@
+use Rattle.std.proofs.Common.{refl}
+use Rattle.conjunctions.proofs.Finals.{zero_at}
+use Rattle.conjunctions.proofs.floors.no_rows.Goals as goal
+
+pub returns : goal.returns
+returns c = record { size = refl; none = zero_at 32 }

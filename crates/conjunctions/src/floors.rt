@@ -1,0 +1,184 @@
+//! Where the rows of a conjunction begin, and which of them are final there.
+ghost use Rattle.std.specs.Prelude.{◌≡◌, ℕ, ◌+◌, ◌<◌, ◌≤◌, ◌↔◌, true, false, length, sum, take};
+ghost use Rattle.std.specs.Prelude.{slice_index, IsTrue, IfOk, IfSome};
+ghost use Rattle.run_model.specs.Cut.{lengths};
+ghost use Rattle.pull_system.specs.Vector.{IsWithin};
+ghost use Rattle.pull_system.specs.Rows.{row_at};
+ghost use Rattle.conjunctions.specs.Beginning.{BeginsAtoms, BeginsOthers, FinalsOfAtoms};
+ghost use Rattle.conjunctions.specs.Beginning.{FinalsOfOthers, GatheredFinals};
+ghost use Rattle.conjunctions.specs.Beginning.{AreNone, AreWithin, HaveCuts};
+ghost use Rattle.conjunctions.specs.Settling.{IsFloorOf};
+
+use bound_table::widened;
+use causal_order::Order;
+use pota_base::{EventId, NoMemory, Shape};
+use pull_system::{Floor, Rows};
+use slice_graph::order_rows;
+use slice_workers::Settled;
+use std::alloc::Global;
+
+/// The rows from which a conjunction begins, and how many first ones of each process are final:
+/// they are the least already.
+#[derive(Drop)]
+pub struct Beginning {
+    pub floor: Floor,
+    pub finals: [u32; 32],
+}
+
+/// Where a conjunction of atoms begins: at its rows of before, grown, of which those with a cut are
+/// final, and where there are none at the clocks of the events.
+fn beginning_of_atoms(
+    alloc: Global,
+    order: &Order,
+    before: Option<Settled>,
+) -> Result<Beginning, NoMemory>
+    requires { IsFloorOf (lengths order.now) true before }
+    ensures lens { IfOk result (λ begins. begins.floor.lens ≡ lengths order.now) }
+    ensures rows { IfOk result (λ begins. BeginsAtoms order.now before begins.floor.words) }
+    ensures finals { IfOk result (λ begins. FinalsOfAtoms before begins.finals) }
+{
+    match before {
+        Some(settled) => {
+            let finals = rows_with_cuts(settled.rows());
+            let rows = Rows::grown(alloc, settled.rows(), order.shape())?;
+            drop(settled);
+            let floor = widened(alloc, &rows)?;
+            Ok(Beginning { floor, finals })
+        }
+        None => {
+            let floor = order_rows(alloc, order)?;
+            let finals = no_rows();
+            Ok(Beginning { floor, finals })
+        }
+    }
+}
+
+/// Where another conjunction begins: at the rows that were gathered, all final where one temporal
+/// part asks alone, and where there are none each at its start.
+fn beginning_of_others(
+    alloc: Global,
+    order: &Order,
+    gathered: Option<Floor>,
+    alone: bool,
+) -> Result<Beginning, NoMemory>
+    requires { IfSome gathered (λ rows. rows.lens ≡ lengths order.now) }
+    ensures lens { IfOk result (λ begins. begins.floor.lens ≡ lengths order.now) }
+    ensures rows { IfOk result
+        (λ begins. BeginsOthers (lengths order.now) gathered begins.floor.words) }
+    ensures finals { IfOk result
+        (λ begins. FinalsOfOthers (lengths order.now) gathered alone begins.finals) }
+{
+    match gathered {
+        Some(floor) => {
+            let finals = gathered_finals(order.shape(), alone);
+            Ok(Beginning { floor, finals })
+        }
+        None => {
+            let rows = Rows::new(alloc, order.shape())?;
+            let floor = widened(alloc, &rows)?;
+            let finals = no_rows();
+            Ok(Beginning { floor, finals })
+        }
+    }
+}
+
+/// Where a conjunction begins: where it keeps its rows, as one of atoms, and else at those that
+/// were gathered.
+pub fn beginning_of(
+    alloc: Global,
+    order: &Order,
+    keeps: bool,
+    before: Option<Settled>,
+    gathered: Option<Floor>,
+    alone: bool,
+) -> Result<Beginning, NoMemory>
+    requires before { IsFloorOf (lengths order.now) keeps before }
+    requires gathered { IfSome gathered (λ rows. rows.lens ≡ lengths order.now) }
+    ensures lens { IfOk result (λ begins. begins.floor.lens ≡ lengths order.now) }
+    ensures atoms { keeps ≡ true → IfOk result
+        (λ begins. BeginsAtoms order.now before begins.floor.words) }
+    ensures others { keeps ≡ false → IfOk result
+        (λ begins. BeginsOthers (lengths order.now) gathered begins.floor.words) }
+    ensures atoms_finals { keeps ≡ true → IfOk result
+        (λ begins. FinalsOfAtoms before begins.finals) }
+    ensures others_finals { keeps ≡ false → IfOk result
+        (λ begins. FinalsOfOthers (lengths order.now) gathered alone begins.finals) }
+{
+    if keeps {
+        beginning_of_atoms(alloc, order, before)
+    } else {
+        beginning_of_others(alloc, order, gathered, alone)
+    }
+}
+
+/// Which of the rows that were gathered are final: all where one temporal part asks alone.
+fn gathered_finals(shape: &Shape, alone: bool) -> [u32; 32]
+    ensures { GatheredFinals shape.now alone result }
+{
+    if alone { all_rows(shape) } else { no_rows() }
+}
+
+/// No row of any process.
+fn no_rows() -> [u32; 32]
+    ensures { AreNone result }
+{
+    [0; 32]
+}
+
+/// How many rows each process has.
+fn all_rows(shape: &Shape) -> [u32; 32]
+    ensures { AreWithin shape.now result }
+{
+    let mut finals = no_rows();
+    for process in 0..shape.procs() {
+        finals[process as usize] = shape.len_of(process);
+    }
+    finals
+}
+
+/// How many first rows of each process end with one that lies within the lengths.
+fn rows_with_cuts(rows: &Rows) -> [u32; 32]
+    ensures { HaveCuts rows.now result }
+{
+    let mut finals = no_rows();
+    for process in 0..rows.shape().procs() {
+        finals[process as usize] = rows_with_a_cut(rows, process);
+    }
+    finals
+}
+
+/// How many first rows of the process end with one that lies within the lengths. Rows rise along a
+/// process, so those with a cut come first, and the last of them is found by halves.
+fn rows_with_a_cut(rows: &Rows, process: u32) -> u32
+    requires process { process < length rows.now.lens }
+    ensures few { result ≤ slice_index rows.now.lens process }
+    ensures cut { 1 ≤ result → IsWithin
+        (row_at rows.now.lens rows.now.words (sum (take process rows.now.lens) + result))
+        rows.now.lens }
+{
+    let shape = rows.shape();
+    let (mut known, mut most) = (0, shape.len_of(process));
+    'halves: while known < most {
+        let position = most - (most - known) / 2;
+        let row = shape.row_of(EventId { process, position });
+        if has_cut(rows.row(row), shape.lens()) {
+            known = position;
+        } else {
+            most = position - 1;
+        }
+    }
+    known
+}
+
+/// Whether each component of the row is at most its process's length.
+fn has_cut(row: &[u16], lens: &[u32]) -> bool
+    requires { length row.now ≡ length lens.now }
+    ensures { IsTrue result ↔ IsWithin row.now lens.now }
+{
+    for process in 0..lens.len() {
+        if row[process] as u32 > lens[process] {
+            return false;
+        }
+    }
+    true
+}

@@ -1,0 +1,5 @@
+use Rattle.vector_clock.specs.Nodes.{AreStarts}
+use Rattle.vector_clock.proofs.counts.starts_in.Given as goal
+
+abbrev pub invariant-loop-i : goal.invariant-loop-i
+invariant-loop-i l = AreStarts l.order l.process l.batch l.nodes l.i l.starts.items
