@@ -12,9 +12,10 @@ use Rattle.event_log.specs.declared.item.LogFault.{LogFault}
 use Rattle.event_log.specs.declared.log.Header.{Header}
 use Rattle.event_log.specs.declared.log.Event.{Event}
 use Rattle.event_log.specs.LogText.{HeaderFits, EventFits, event_count}
+use Rattle.event_log.specs.States.{with_batch}
 use Rattle.event_log.proofs.Lists.{all_push}
-use Rattle.vector_clock.specs.Faults.{batch_fault}
-use Rattle.trace_growth.specs.Growing.{TraceView, FitsTrace}
+use Rattle.vector_clock.proofs.FilledBatches.{length-fill_from}
+use Rattle.trace_growth.specs.Growing.{TraceView, FitsTrace, trace_fault}
 use Rattle.rctl_parts.specs.declared.part.Part.{Part}
 use Rattle.rctl_parts.specs.declared.part.Resolved.{Resolved}
 use Rattle.rctl_parts.specs.Pieces as piece
@@ -35,7 +36,7 @@ use Rattle.conjunctions.specs.Observing.{AreAnswers}
 use Rattle.log_judgement.specs.declared.refusal.Refusal.{Refusal}
 use Rattle.log_judgement.specs.declared.refusal.Refusal.TheVariants as refusal
 use Rattle.rctl_grammar.specs.declared.fault.FormulaFault.{FormulaFault}
-use Rattle.log_judgement.specs.Judgement.{Prefix, followed_by, clock_fault, Judgement, waiting, growing, finished, refused, opened, judge}
+use Rattle.log_judgement.specs.Judgement.{Prefix, followed_by, clock_fault, events_of, with_clocks, Judgement, waiting, growing, finished, refused, opened, judge}
 use Rattle.log_judgement.specs.Due.{after_each, closed_of, batches_of}
 use Rattle.log_judgement.proofs.Items.{after_each-push}
 use Rattle.watch.specs.declared.predicate.Handed.{Handed}
@@ -263,11 +264,11 @@ module _ {X : Type 0} {P : X → Type 0} (says : Says X P) where
     number_is : check.batches ≡ counted c.log.batches
     number_is = is.batches ∙ ap batches_of c.is
 
-    fault_is : batch_fault session.growing.seen.trace.states.events batch ≡ clock_fault c.log c.since
+    fault_is : trace_fault session.growing.seen.trace batch ≡ clock_fault c.log (with_clocks c.log c.since)
     fault_is = same_fault session.growing.seen.trace c.log batch c.since c.taken.trace since_is
 
     -- a fault of its clocks and messages
-    pub close_refuses : (f : LogFault) → batch_fault session.growing.seen.trace.states.events batch ≡ Some f → IsRefusedAs j (judge (rules_of aim) j (end_item last)) check.batches (refusal.Log f)
+    pub close_refuses : (f : LogFault) → trace_fault session.growing.seen.trace batch ≡ Some f → IsRefusedAs j (judge (rules_of aim) j (end_item last)) check.batches (refusal.Log f)
     close_refuses f found =
         let e = refused_now last in
         record {
@@ -284,11 +285,11 @@ module _ {X : Type 0} {P : X → Type 0} (says : Says X P) where
         refused_now : (l : Bool) → judge (rules_of aim) j (end_item l) ≡ refused (Some c.log) (refusal.Log f)
         refused_now l = ap (λ (x : Judgement). judge (rules_of aim) x (end_item l)) c.is ∙ refused_so l
 
-    module _ (next : Session X P) (free : batch_fault session.growing.seen.trace.states.events batch ≡ None) (takes : TakesBatch session.growing next.growing batch) (unspent : next.growing.spent ≡ false)
+    module _ (next : Session X P) (free : trace_fault session.growing.seen.trace batch ≡ None) (takes : TakesBatch session.growing next.growing batch) (unspent : next.growing.spent ≡ false)
         (fed : (handed : List (Handed X P)) → AreFedFrom says handed session.watches.items session.growing.seen → AreFedFrom says handed next.watches.items next.growing.seen)
         (answers : AreAnswers next.growing.seen (reading_of aim)) (count : ℕ) (counts : count ≡ min (check.batches + 1) 4294967295) (es : List Event) (none : es ≡ []) where
       abbrev after : Prefix
-      after = followed_by c.log c.since
+      after = followed_by c.log (with_clocks c.log c.since)
 
       taken_now : HasTaken aim next.growing after
       taken_now = record {
@@ -303,12 +304,12 @@ module _ {X : Type 0} {P : X → Type 0} (says : Says X P) where
       handed_now = record { handed = c.watches.handed; answers = c.watches.answers; fed = fed c.watches.handed c.watches.fed }
 
       counted_now : count ≡ counted after.batches
-      counted_now = counts ∙ ap (λ (n : ℕ). min (n + 1) 4294967295) number_is ∙ counted-push c.log.batches c.since
+      counted_now = counts ∙ ap (λ (n : ℕ). min (n + 1) 4294967295) number_is ∙ counted-push c.log.batches (with_clocks c.log c.since)
 
       few_now : event_count after.batches + 0 ≤ 50000
-      few_now = omega (arith, c.came.few, event_count-push c.log.batches c.since)
+      few_now = omega (arith, c.came.few, event_count-push c.log.batches (with_clocks c.log c.since), length-fill_from (with_batch (events_of c.log) c.since) (events_of c.log) c.since)
 
-      growing_now : last ≡ false → IsCheckOf says aim (record check { session = Some next; since = es; batches = count; ended = last }) (growing (followed_by c.log c.since) [])
+      growing_now : last ≡ false → IsCheckOf says aim (record check { session = Some next; since = es; batches = count; ended = last }) (growing after [])
       growing_now more = record {
         text = is.text;
         stated = is.stated;
@@ -323,7 +324,7 @@ module _ {X : Type 0} {P : X → Type 0} (says : Says X P) where
         );
       }
 
-      finished_now : last ≡ true → IsCheckOf says aim (record check { session = Some next; since = es; batches = count; ended = last }) (finished c.log c.since)
+      finished_now : last ≡ true → IsCheckOf says aim (record check { session = Some next; since = es; batches = count; ended = last }) (finished c.log (with_clocks c.log c.since))
       finished_now over = record {
         text = is.text;
         stated = is.stated;
@@ -337,13 +338,13 @@ module _ {X : Type 0} {P : X → Type 0} (says : Says X P) where
 
       goes_so : (l : Bool) → last ≡ l → GoesOn says aim (record check { session = Some next; since = es; batches = count; ended = last }) (growing c.log c.since) (judge (rules_of aim) (growing c.log c.since) (end_item l)) (not l)
       goes_so false more =
-          let e : judge (rules_of aim) (growing c.log c.since) (end_item false) ≡ growing (followed_by c.log c.since) [] = rw (sym fault_is ∙ free) refl in
+          let e : judge (rules_of aim) (growing c.log c.since) (end_item false) ≡ growing after [] = rw (sym fault_is ∙ free) refl in
           subst (λ (x : Judgement). GoesOn says aim (record check { session = Some next; since = es; batches = count; ended = last }) (growing c.log c.since) x true) (sym e) (record {
             is = growing_now more;
-            closes = (followed_by c.log c.since, (refl, omega (arith, length_push c.log.batches c.since)), after_each-push c.log.header [] c.log.batches c.since);
+            closes = (after, (refl, omega (arith, length_push c.log.batches (with_clocks c.log c.since))), after_each-push c.log.header [] c.log.batches (with_clocks c.log c.since));
           })
       goes_so true over =
-          let e : judge (rules_of aim) (growing c.log c.since) (end_item true) ≡ finished c.log c.since = rw (sym fault_is ∙ free) refl in
+          let e : judge (rules_of aim) (growing c.log c.since) (end_item true) ≡ finished c.log (with_clocks c.log c.since) = rw (sym fault_is ∙ free) refl in
           subst (λ (x : Judgement). GoesOn says aim (record check { session = Some next; since = es; batches = count; ended = last }) (growing c.log c.since) x false) (sym e) (record {
             is = finished_now over;
             closes = refl;

@@ -14,19 +14,16 @@ use Rattle.event_log.specs.Numbers.{variables_at}
 use Rattle.event_log.specs.declared.log.Binding.{Binding}
 use Rattle.event_log.specs.declared.log.Header.{Header}
 use Rattle.event_log.specs.declared.log.Event.{Event}
-use Rattle.event_log.specs.declared.log.Kind.{Kind}
-use Rattle.event_log.specs.declared.log.Kind.TheVariants as kind
 use Rattle.event_log.specs.declared.log.Assign.{Assign}
-use Rattle.event_log.specs.LogText.{HeaderFits, BindingsFit, EventFits, AssignFits, KindFits, KindWithin, event_count}
+use Rattle.event_log.specs.LogText.{HeaderFits, BindingsFit, EventFits, AssignFits, event_count}
 use Rattle.event_log.specs.States.{IsKnown, with_event, with_batch, with_batches}
 use Rattle.event_log.proofs.Keeping.{sum_batch}
-use Rattle.vector_clock.specs.Events as clocks
-use Rattle.vector_clock.specs.Events.{no_events}
-use Rattle.vector_clock.specs.Faults.{batch_fault}
-use Rattle.trace_growth.specs.Growing.{TraceView, FitsTrace, opened_trace, with_trace_batch}
+use Rattle.vector_clock.specs.Events.{EventStands, no_events}
+use Rattle.vector_clock.proofs.BatchLaws.{events_stand}
+use Rattle.trace_growth.specs.Growing.{TraceView, FitsTrace, opened_trace, trace_fault, with_trace_batch}
 use Rattle.run_report.specs.Reports.{counted}
 use Rattle.log_judgement.specs.declared.refusal.Refusal.TheVariants as refusal
-use Rattle.log_judgement.specs.Judgement.{Prefix, followed_by, clock_fault, waiting, growing, refused, opened}
+use Rattle.log_judgement.specs.Judgement.{Prefix, followed_by, clock_fault, with_clocks, waiting, growing, refused, opened}
 use Rattle.log_judgement.specs.Due.{closed_of, batches_of}
 use Rattle.rctl_class.specs.Nodes.{Node}
 use Rattle.rctl_class.specs.NamedParts.{Piece, disjuncts_uses}
@@ -44,11 +41,6 @@ use Rattle.log_check.specs.Keeping.{trace_after, reading_of}
 
 -- ---- events of a log fit its trace
 
-within_of : (n p : ℕ) (k : Kind) → KindFits n p k → KindWithin n k
-within_of n p kind.Internal fits = tt
-within_of n p (kind.Send to id) fits = fits.0
-within_of n p (kind.Receive sender id) fits = fits.0
-
 assigns_within : (vars : List Binding) (xs : List Assign) → AllByRecursion (AssignFits vars) xs → AllByRecursion (λ (a : Assign). a.variable < length vars) xs
 assigns_within vars [] all = tt
 assigns_within vars (a ∷ rest) all = (all.0.variable, assigns_within vars rest all.1)
@@ -56,11 +48,6 @@ assigns_within vars (a ∷ rest) all = (all.0.variable, assigns_within vars rest
 events_known : (h : Header) (es : List Event) → AllByRecursion (EventFits h) es → AllByRecursion (IsKnown h) es
 events_known h [] all = tt
 events_known h (e ∷ es) all = (record { process = all.0.process; assigns = assigns_within (variables_at h.vars e.process) e.assigns all.0.assigns }, events_known h es all.1)
-
-events_placed : (h : Header) (es : List Event) → AllByRecursion (EventFits h) es → AllByRecursion (clocks.EventFits (length h.procs)) es
-events_placed h [] all = tt
-events_placed h (e ∷ es) all =
-    (record { clock = record { process = all.0.process; width = all.0.width }; peer = within_of (length h.procs) e.process e.kind all.0.kind }, events_placed h es all.1)
 
 length-with_batch : (ess : List (List Event)) (es : List Event) → length (with_batch ess es) ≡ length ess
 unfolding with_batch
@@ -88,7 +75,7 @@ fits_after log since each few =
         known = events_known log.header since each;
         few = omega (arith, few, batches_sum (no_events (length log.header.procs)) log.batches, no_sum (length log.header.procs));
       };
-      each = subst (λ (n : ℕ). AllByRecursion (clocks.EventFits n) since) (sym procs) (events_placed log.header since each);
+      each = subst (λ (n : ℕ). AllByRecursion (EventStands n) since) (sym procs) (events_stand log.header since each);
     }
 
 -- the batch fits the trace that the session has
@@ -106,20 +93,21 @@ with_batches-push ess (x ∷ bs) b = with_batches-push (with_batch ess x) bs b
 pub counted-push : (bs : List (List Event)) (b : List Event) → min (counted bs + 1) 4294967295 ≡ counted (bs ++ b ∷ [])
 counted-push bs b = let e = length_push bs b in omega (arith, e)
 
-pub trace-followed : (log : Prefix) (since : List Event) → with_trace_batch (trace_after log) since ≡ trace_after (followed_by log since)
+pub trace-followed : (log : Prefix) (since : List Event) → with_trace_batch (trace_after log) since ≡ trace_after (followed_by log (with_clocks log since))
 trace-followed log since =
     let made : List (List Event) → ℕ → TraceView = λ ess n. record { states = record { header = log.header; events = ess }; batches = n; spent = false } in
-    ap (λ (ess : List (List Event)). made ess (min (counted log.batches + 1) 4294967295)) (sym (with_batches-push (no_events (length log.header.procs)) log.batches since))
-    ∙ ap (made (with_batches (no_events (length log.header.procs)) (log.batches ++ since ∷ []))) (counted-push log.batches since)
+    ap (λ (ess : List (List Event)). made ess (min (counted log.batches + 1) 4294967295)) (sym (with_batches-push (no_events (length log.header.procs)) log.batches (with_clocks log since)))
+    ∙ ap (made (with_batches (no_events (length log.header.procs)) (log.batches ++ with_clocks log since ∷ []))) (counted-push log.batches (with_clocks log since))
 
-pub trace_closed : (old new : TraceView) (log : Prefix) (batch since : List Event) → old ≡ trace_after log → batch ≡ since → new ≡ with_trace_batch old batch → new ≡ trace_after (followed_by log since)
+pub trace_closed : (old new : TraceView) (log : Prefix) (batch since : List Event) → old ≡ trace_after log → batch ≡ since → new ≡ with_trace_batch old batch
+    → new ≡ trace_after (followed_by log (with_clocks log since))
 trace_closed old new log batch since is same next =
     next ∙ ap (λ (t : TraceView). with_trace_batch t batch) is ∙ ap (with_trace_batch (trace_after log)) same ∙ trace-followed log since
 
 -- the fault of the trace is that of the judgement
-pub same_fault : (t : TraceView) (log : Prefix) (batch since : List Event) → t ≡ trace_after log → batch ≡ since → batch_fault t.states.events batch ≡ clock_fault log since
+pub same_fault : (t : TraceView) (log : Prefix) (batch since : List Event) → t ≡ trace_after log → batch ≡ since → trace_fault t batch ≡ clock_fault log (with_clocks log since)
 same_fault t log batch since is same =
-    ap (λ (x : TraceView). batch_fault x.states.events batch) is ∙ ap (batch_fault (with_batches (no_events (length log.header.procs)) log.batches)) same
+    ap (λ (x : TraceView). trace_fault x batch) is ∙ ap (trace_fault (trace_after log)) same
 
 -- ---- watches by name
 

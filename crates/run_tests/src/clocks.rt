@@ -11,6 +11,7 @@ use std::alloc::Global;
 use std::test::Fail;
 use vector_clock::{Clocks, check};
 
+#[tactic(auto, using(crate::proofs::Standing::fits_stand))]
 fn log_of(alloc: Global, batch: List<Event>) -> Result<Option<Log>, NoMemory>
     requires fits { AllByRecursion (EventFits 2) batch }
     requires len { length batch ≤ 2 }

@@ -51,6 +51,7 @@ fn two_processes(alloc: Global) -> Result<Option<Header>, NoMemory>
 }
 
 // A trace of two processes without events, which the batch fits.
+#[tactic(auto, using(crate::proofs::Standing::fits_stand))]
 fn trace_for(alloc: Global, batch: &List<Event>) -> Result<Option<Trace>, NoMemory>
     requires fits { AllByRecursion (EventFits 2) batch.now }
     requires known { (h : Header) → length h.procs ≡ 2 → AllByRecursion (IsKnown h) batch.now }

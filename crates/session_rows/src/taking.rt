@@ -2,11 +2,11 @@
 ghost use Rattle.std.specs.Prelude.{◌≡◌, ◌+◌, ◌≤◌, false, length, sum, IsTrue};
 ghost use Rattle.std.specs.List.{AllByRecursion};
 ghost use Rattle.event_log.specs.States.{MayFollow};
-ghost use Rattle.vector_clock.specs.Events.{EventFits};
+ghost use Rattle.vector_clock.specs.Events.{EventStands};
 ghost use Rattle.trace_growth.specs.Growing.{FitsTrace};
 
 use event_log::{Event, LogFault, States};
-use log_fitting::{are_known, events_fit};
+use log_fitting::{are_known, events_stand};
 use pota_base::{FreeGate, List, NoMemory, Refused, Shape, Steps};
 use session::Session;
 use std::sync::ledger::Ledger;
@@ -37,7 +37,7 @@ fn has_room(shape: &Shape, more: usize) -> bool
 fn may_follow(states: &States, batch: &[Event]) -> bool
     ensures follows { IsTrue result → MayFollow states.now.header states.now.events batch.now }
     ensures each { IsTrue result
-        → AllByRecursion (EventFits (length states.now.events)) batch.now }
+        → AllByRecursion (EventStands (length states.now.events)) batch.now }
 {
     let shape = states.shape();
     if !has_room(shape, batch.len()) {
@@ -46,7 +46,7 @@ fn may_follow(states: &States, batch: &[Event]) -> bool
     if !are_known(states.header(), batch) {
         return false;
     }
-    events_fit(shape.procs() as usize, batch)
+    events_stand(shape.procs() as usize, batch)
 }
 
 // Whether the batch may be handed to the trace.
