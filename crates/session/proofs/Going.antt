@@ -6,9 +6,9 @@ use Rattle.std.proofs.lemmas.Option.{none-some, same_Some, slice_get_past}
 use Rattle.event_log.specs.declared.log.Event.{Event}
 use Rattle.event_log.specs.declared.log.Header.{Header}
 use Rattle.event_log.specs.States.{IsHeader, opened}
-use Rattle.vector_clock.specs.Faults.{batch_fault}
 use Rattle.vector_clock.specs.Faultless.{no_batch}
-use Rattle.trace_growth.specs.Growing.{TraceView, FitsTrace, IsTrace, with_trace_batch, opened_trace}
+use Rattle.vector_clock.proofs.FilledBatches.{filled_fits}
+use Rattle.trace_growth.specs.Growing.{TraceView, FitsTrace, IsTrace, filled_for, trace_fault, with_trace_batch, opened_trace}
 use Rattle.trace_growth.proofs.Taken.{is_trace, faultless_more}
 use Rattle.pull_system.specs.Rows.{RowsView}
 use Rattle.local_preds.specs.Rows.{len_at}
@@ -88,10 +88,10 @@ keeps_new header on disjuncts trace n rows settled fits made is size empty none 
 
 -- ---- the trace of one batch more
 
-pub trace_more : (before after : TraceView) (batch : List Event) → IsTrace before.states → FitsTrace before batch → batch_fault before.states.events batch ≡ None → after ≡ with_trace_batch before batch
+pub trace_more : (before after : TraceView) (batch : List Event) → IsTrace before.states → FitsTrace before batch → trace_fault before batch ≡ None → after ≡ with_trace_batch before batch
     → IsTrace after.states
 trace_more before after batch is fits none taken =
-    subst (λ (t : TraceView). IsTrace t.states) (sym taken) (is_trace _ is.whole.header (faultless_more before.states batch is.faultless fits.each none))
+    subst (λ (t : TraceView). IsTrace t.states) (sym taken) (is_trace _ is.whole.header (faultless_more before.states (filled_for before batch) is.faultless (filled_fits before.states.events batch fits.each) none))
 
 -- no process has fewer events
 longer_at : (before after : Observed) → IsLater before after → (p : ℕ) → len_at before.trace.states p ≤ len_at after.trace.states p
@@ -103,7 +103,7 @@ longer_at before after later p =
 pub record Begins (before : Observed) (disjuncts : List (List Part)) (settled : List RowsView) (answer : Option Answer) (trace : TraceView) (batch : List Event) : Type 0 where
   pub keeps : Keeps before disjuncts settled answer
   pub fits : FitsTrace before.trace batch
-  pub none : batch_fault before.trace.states.events batch ≡ None
+  pub none : trace_fault before.trace batch ≡ None
   pub taken : trace ≡ with_trace_batch before.trace batch
 
 module _ (before : Observed) (disjuncts : List (List Part)) (settled : List RowsView) (answer : Option Answer) (trace : TraceView) (batch : List Event) (b : Begins before disjuncts settled answer trace batch) where
@@ -168,7 +168,7 @@ module _ (before : Observed) (disjuncts : List (List Part)) (settled : List Rows
 -- the batch that the code was given
 pub begun : (v w : GrowingView) (trace : TraceView) (batch : List Event) → v ≡ w → (v.spent ≡ false → Keeps v.seen v.disjuncts v.settled v.answer) → v.spent ≡ false
     → (w.spent ≡ false → FitsTrace w.seen.trace batch)
-    → (v.seen.trace.spent ≡ false) × (batch_fault v.seen.trace.states.events batch ≡ None) × (trace ≡ with_trace_batch v.seen.trace batch) → Begins v.seen v.disjuncts v.settled v.answer trace batch
+    → (v.seen.trace.spent ≡ false) × (trace_fault v.seen.trace batch ≡ None) × (trace ≡ with_trace_batch v.seen.trace batch) → Begins v.seen v.disjuncts v.settled v.answer trace batch
 begun v w trace batch same keeps unspent fits told = record {
   keeps = keeps unspent;
   fits = subst (λ (u : GrowingView). u.spent ≡ false → FitsTrace u.seen.trace batch) (sym same) fits unspent;

@@ -4,9 +4,8 @@ ghost use Rattle.std.specs.Prelude.{true, false, length, slice_index_or, Err, �
 ghost use Rattle.std.specs.Prelude.{OnOk, OnErr, IsOk};
 ghost use Rattle.event_log.specs.States.{IsHeader};
 ghost use Rattle.pota_base.specs.declared.fault.Refused.TheVariants as refused;
-ghost use Rattle.vector_clock.specs.Faults.{batch_fault};
 ghost use Rattle.vector_clock.specs.Admitted.{IfFault, IfWantsMemory};
-ghost use Rattle.trace_growth.specs.Growing.{FitsTrace, with_trace_batch};
+ghost use Rattle.trace_growth.specs.Growing.{FitsTrace, trace_fault, with_trace_batch};
 ghost use Rattle.rctl_parts.specs.Pieces.{disjuncts_of};
 ghost use Rattle.rctl_parts.specs.MadeFor.{AreMadeFor};
 ghost use Rattle.conjunctions.specs.Observing.{Reading, AreAnswers, lens_seen, scope_seen};
@@ -72,7 +71,7 @@ impl Session {
         requires batch { self.old.growing.spent ≡ false
             → FitsTrace self.old.growing.seen.trace batch }
         ensures ok { OnOk result ((self.old.growing.spent ≡ false)
-            × (batch_fault self.old.growing.seen.trace.states.events batch ≡ None)
+            × (trace_fault self.old.growing.seen.trace batch ≡ None)
             × TakesBatch self.old.growing self.new.growing batch) }
         ensures unspent { OnOk result (self.new.growing.spent ≡ false) }
         ensures unanswered { OnOk result (self.new.growing.answer ≡ None) }
@@ -95,7 +94,7 @@ impl Session {
             handed reading
             → OnOk result (AreAnswers self.new.growing.seen reading) }
         ensures fault { IfFault result (λ fault. (self.old.growing.spent ≡ false)
-            × (batch_fault self.old.growing.seen.trace.states.events batch ≡ Some fault)
+            × (trace_fault self.old.growing.seen.trace batch ≡ Some fault)
             × (self.new.growing ≡ self.old.growing) × (self.new.watches ≡ self.old.watches)) }
         ensures memory { IfWantsMemory result (self.new.growing.spent ≡ true) }
         ensures spent { self.old.growing.spent ≡ true
@@ -197,7 +196,7 @@ impl Session {
         requires some { 1 ≤ workers }
         requires few { workers ≤ 16 }
         ensures ok { OnOk result ((self.old.growing.spent ≡ false)
-            × (batch_fault self.old.growing.seen.trace.states.events batch ≡ None)
+            × (trace_fault self.old.growing.seen.trace batch ≡ None)
             × TakesBatch self.old.growing self.new.growing batch) }
         ensures answer { OnOk result (HasAnswer self.new.growing) }
         ensures fed { OnOk result (Feeds
@@ -221,7 +220,7 @@ impl Session {
             + bounds (lens_seen self.new.growing.seen) self.old.growing.settled
             (all_conjunctions (disjuncts_of self.old.growing.disjuncts)) self.new.growing.settled) }
         ensures fault { IfFault result (λ fault. (self.old.growing.spent ≡ false)
-            × (batch_fault self.old.growing.seen.trace.states.events batch ≡ Some fault)
+            × (trace_fault self.old.growing.seen.trace batch ≡ Some fault)
             × (self.new.growing ≡ self.old.growing) × (self.new.watches ≡ self.old.watches)
             × (steps.new ≡ steps.old)) }
         ensures memory { IfWantsMemory result (self.new.growing.spent ≡ true) }

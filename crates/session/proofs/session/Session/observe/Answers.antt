@@ -1,5 +1,5 @@
 use Rattle.std.proofs.Common.{◌≡◌, None, false, length, sym, ◌∙◌, ap, subst}
-use Rattle.vector_clock.specs.Faults.{batch_fault}
+use Rattle.trace_growth.specs.Growing.{trace_fault}
 use Rattle.session.specs.Growing.{GrowingView, TakesBatch}
 use Rattle.session.proofs.Feeding.{along, rows_within, feeds_from, fed_after, answers_since}
 use Rattle.session.proofs.Going.{begun, rows_now, keeps_on, takes, completed_later, completed_trace}
@@ -20,7 +20,7 @@ pub returns-in-Ok-feed_batch-clause-ok : goal.returns-in-Ok-feed_batch-clause-ok
 returns-in-Ok-feed_batch-clause-ok g c =
     let same = along c.self.view_is (λ s. s.growing) in
     let b = begun _ c.args.self.now.growing c.extend.new.self c.args.batch same c.self.invariant c.if-self.false c.requires.batch c.in-Ok.ensures.ok in
-    subst (λ (v : GrowingView). (v.spent ≡ false) × (batch_fault v.seen.trace.states.events c.args.batch ≡ None) × TakesBatch v (record { seen = c.feed_batch.new.seen; disjuncts = c.self.inside.0.0.disjuncts; settled = c.self.inside.0.0.settled; answer = None; spent = c.self.inside.0.0.spent }) c.args.batch) same
+    subst (λ (v : GrowingView). (v.spent ≡ false) × (trace_fault v.seen.trace c.args.batch ≡ None) × TakesBatch v (record { seen = c.feed_batch.new.seen; disjuncts = c.self.inside.0.0.disjuncts; settled = c.self.inside.0.0.settled; answer = None; spent = c.self.inside.0.0.spent }) c.args.batch) same
     (c.if-self.false, c.in-Ok.ensures.ok.1, takes _ _ _ _ _ c.args.batch b c.feed_batch.new.seen c.in-Ok-feed_batch.ensures.completes c.self.inside.0.0.spent c.self.inside.0.0.spent c.self.inside.0.0.settled None)
 
 pub returns-in-Ok-feed_batch-clause-since_start : goal.returns-in-Ok-feed_batch-clause-since_start
