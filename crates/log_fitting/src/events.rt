@@ -2,7 +2,7 @@
 ghost use Rattle.std.specs.Prelude.{◌≤◌, IsTrue};
 ghost use Rattle.std.specs.List.{AllByRecursion};
 ghost use Rattle.event_log.specs.LogText.{KindWithin, event_count};
-ghost use Rattle.vector_clock.specs.Events.{EventFits, AllFit, CanBeChecked};
+ghost use Rattle.vector_clock.specs.Events.{EventStands, AllStand, CanBeChecked};
 
 use event_log::{Event, Kind, Log};
 use pota_base::List;
@@ -21,36 +21,36 @@ fn is_within(procs: usize, kind: Kind) -> bool
     }
 }
 
-// Whether the event has its place among so many processes.
-fn event_fits(procs: usize, event: &Event) -> bool
-    ensures { IsTrue result → EventFits procs event.now }
+// Whether the event has its place among so many processes, its clock left out or not.
+fn event_stands(procs: usize, event: &Event) -> bool
+    ensures { IsTrue result → EventStands procs event.now }
 {
     if event.process as usize >= procs {
         return false;
     }
-    if event.clock.len() != procs {
+    if !event.clock.is_empty() && event.clock.len() != procs {
         return false;
     }
     is_within(procs, event.kind)
 }
 
-/// Whether each event has its place among so many processes.
-pub fn events_fit(procs: usize, events: &[Event]) -> bool
-    ensures { IsTrue result → AllByRecursion (EventFits procs) events.now }
+/// Whether each event has its place among so many processes, its clock left out or not.
+pub fn events_stand(procs: usize, events: &[Event]) -> bool
+    ensures { IsTrue result → AllByRecursion (EventStands procs) events.now }
 {
     for event in events {
-        if !event_fits(procs, event) {
+        if !event_stands(procs, event) {
             return false;
         }
     }
     true
 }
 
-fn batches_fit(procs: usize, batches: &[List<Event>]) -> bool
-    ensures { IsTrue result → AllFit procs batches.now }
+fn batches_stand(procs: usize, batches: &[List<Event>]) -> bool
+    ensures { IsTrue result → AllStand procs batches.now }
 {
     for batch in batches {
-        if !events_fit(procs, batch.as_slice()) {
+        if !events_stand(procs, batch.as_slice()) {
             return false;
         }
     }
@@ -82,7 +82,7 @@ pub fn can_be_checked(log: &Log) -> bool
     if procs > 32 {
         return false;
     }
-    if !batches_fit(procs, log.batches.as_slice()) {
+    if !batches_stand(procs, log.batches.as_slice()) {
         return false;
     }
     are_few(log.batches.as_slice())

@@ -8,5 +8,5 @@
 mod events;
 mod header;
 
-pub use events::{can_be_checked, events_fit};
+pub use events::{can_be_checked, events_stand};
 pub use header::{are_known, has_few_variables, is_header};
