@@ -5,6 +5,7 @@ use Rattle.std.proofs.lemmas.List.{take-map, take-append-le, get_or-map}
 use Rattle.run_model.specs.Run as run
 use Rattle.run_model.specs.Run.{process_at, state_after, state_from}
 use Rattle.event_log.specs.declared.log.Event.{Event}
+use Rattle.event_log.specs.declared.log.Header.{Header}
 use Rattle.event_log.specs.States.{StatesView, AreWhole, trace_of, event_of, variable_of}
 use Rattle.event_log.proofs.Keeping.{process_is}
 use Rattle.pull_system.specs.Growth.{PullGrows}
@@ -16,7 +17,7 @@ use Rattle.counter_preds.specs.declared.values.Variable.{Variable}
 use Rattle.counter_preds.specs.Counters.{AreRising, IsVariable, IsCounter, value_in, values_of, value_at, lead_at, at_most_pull, at_least_pull}
 use Rattle.counter_preds.specs.Truth.{HasMoreEvents}
 use Rattle.counter_preds.proofs.Tests.{le_holds, holds_le}
-use Rattle.counter_preds.proofs.Values.{length-values_of, value_at-values_of}
+use Rattle.counter_preds.proofs.Along.{length-values_of, value_at-values_of}
 use Rattle.counter_preds.proofs.Reaching.{reached, entry}
 use Rattle.counter_preds.proofs.Tables.{positions_pull, entry_at}
 
@@ -26,30 +27,35 @@ pub process_logged : (states : StatesView) → AreWhole states → (p : ℕ) →
 process_logged states whole p there =
     process_is states.header.procs states.header.vars states.events p (omega (arith, whole.events, there)) (omega (arith, whole.events, whole.header.vars, there)) there
 
+-- the state that a header opens a process with, and the value behind some events
+abbrev opening_in : Header → Variable → List ℤ
+opening_in h x = map (λ (v : run.Variable). v.value) (map variable_of (get_or h.vars x.process []))
+
+abbrev pub value_behind : Header → Variable → List Event → ℤ
+value_behind h x events = get_or (state_from (opening_in h x) (map event_of events)) x.number (pos 0)
+
 -- the value after the first events goes by them and the header alone
 pub value_by : (states : StatesView) → AreWhole states → (x : Variable) → IsVariable states x → (a : ℕ)
-    → value_in states x a ≡ get_or (state_from (map (λ (v : run.Variable). v.value) (map variable_of (get_or states.header.vars x.process []))) (map event_of (take a (events_at states x.process)))) x.number (pos 0)
+    → value_in states x a ≡ value_behind states.header x (take a (events_at states x.process))
 value_by states whole x is a =
     ap (λ (p : run.Process). get_or (state_after p a) x.number (pos 0)) (process_logged states whole x.process is.process)
-    ∙ ap (λ (es : List run.Event). get_or (state_from (map (λ (v : run.Variable). v.value) (map variable_of (get_or states.header.vars x.process []))) es) x.number (pos 0)) (take-map event_of a (events_at states x.process))
+    ∙ ap (λ (es : List run.Event). get_or (state_from (opening_in states.header x) es) x.number (pos 0)) (take-map event_of a (events_at states x.process))
 
 more_there : (before after : StatesView) → HasMoreEvents before after → AreWhole before → AreWhole after → (x : Variable) → IsVariable before x → IsVariable after x
 more_there before after more whole whole' x is = record {
-  process = omega (arith, is.process, whole.events, whole'.events, ap (λ h. length h.procs) more.header);
-  variable = subst (λ h. x.number < length (get_or h.vars x.process [])) (sym more.header) is.variable;
+  process = omega (arith, is.process, whole.events, whole'.events, ap (λ (h : Header). length h.procs) more.header);
+  variable = subst (λ (h : Header). x.number < length (get_or h.vars x.process [])) (sym more.header) is.variable;
 }
 
 -- the values before are the first of those after
 value_stays : (before after : StatesView) → HasMoreEvents before after → AreWhole before → AreWhole after → (x : Variable) → IsVariable before x → (a : ℕ) → a ≤ length (events_at before x.process)
     → value_in before x a ≡ value_in after x a
 value_stays before after more whole whole' x is a le =
-    let opening = λ h. map (λ (v : run.Variable). v.value) (map variable_of (get_or h.vars x.process [])) in
-    let read = λ h (es : List Event). get_or (state_from (opening h) (map event_of es)) x.number (pos 0) in
     let front : take a (events_at after x.process) ≡ take a (events_at before x.process) =
     ap (λ (es : List Event). take a es) (more.each x.process).1 ∙ take-append-le a (events_at before x.process) (more.each x.process).0 le in
     value_by before whole x is a
-    ∙ ap (λ h. read h (take a (events_at before x.process))) (sym more.header)
-    ∙ ap (read after.header) (sym front)
+    ∙ ap (λ (h : Header). value_behind h x (take a (events_at before x.process))) (sym more.header)
+    ∙ ap (value_behind after.header x) (sym front)
     ∙ sym (value_by after whole' x (more_there before after more whole whole' x is) a)
 
 -- these values are the first of those
@@ -96,7 +102,7 @@ positions_grow old lens p q leads leads' more follows follows' extra rising risi
       let here : x' ≡ min x (length leads) = omega (arith, size) in
       let less : lead_at leads x' ≤ℤ lead_at leads' x = subst (λ (k : ℕ). lead_at leads k ≤ℤ lead_at leads' x) (sym here) (lead_grows leads leads' rising rising' front x) in
       let grows = first_grows (reached follows extra (lead_at leads x' +ℤ more)) (reached follows' extra (lead_at leads' x +ℤ more)) (length follows) (length follows') back.shorter
-      (λ y lt has. le_holds _ _ (subst (λ z. (lead_at leads x' +ℤ more) ≤ℤ (z +ℤ extra)) (sym (back.same y lt)) (omega (arith, ints, less, holds_le _ _ has)))) in
+      (λ y lt has. le_holds (lead_at leads x' +ℤ more) (value_at follows y +ℤ extra) (subst (λ z. (lead_at leads x' +ℤ more) ≤ℤ (z +ℤ extra)) (sym (back.same y lt)) (omega (arith, ints, less, holds_le (lead_at leads' x +ℤ more) (value_at follows' y +ℤ extra) has)))) in
       omega (arith, entry_at leads more follows extra x' (omega (arith, here)), entry_at leads' more follows' extra x (omega (arith, within, size')), grows);
 }
 

@@ -1,5 +1,5 @@
 pub mod Tests
-pub mod Values
+pub mod Along
 pub mod Reaching
 pub mod Tables
 pub mod Growing

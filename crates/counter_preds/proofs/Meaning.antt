@@ -1,5 +1,5 @@
 -- The values of a variable are those of the run, so that bounds on differences mean what formulas say.
-use Rattle.std.proofs.Common.{◌≡◌, ◌↔◌, ℕ, zero, suc, ◌+◌, ◌<◌, ◌≤◌, true, ℤ, pos, ◌+ℤ◌, ◌-ℤ◌, ◌≤ℤ◌, List, [], ◌∷◌, length, map, take, get_or, inl, inr, refl, ap, sym, subst, ◌∙◌, arith}
+use Rattle.std.proofs.Common.{◌≡◌, ◌↔◌, ℕ, zero, suc, ◌+◌, ◌<◌, ◌≤◌, ◌⊎◌, true, ℤ, pos, ◌+ℤ◌, ◌-ℤ◌, ◌≤ℤ◌, List, [], ◌∷◌, length, map, take, get_or, inl, inr, refl, ap, sym, subst, ◌∙◌, arith}
 use Rattle.std.specs.List.{AllByRecursion}
 use Rattle.std.proofs.lemmas.Int.{ints}
 use Rattle.std.proofs.lemmas.Bool.{cases_lt}
@@ -24,8 +24,8 @@ use Rattle.counter_preds.specs.declared.values.Variable.{Variable}
 use Rattle.counter_preds.specs.Counters.{AreRising, IsVariable, IsCounter, AreThere, value_in, values_of, value_at, value_within, at_most_pull, at_least_pull}
 use Rattle.counter_preds.specs.Truth.{process_of, variable_of, at_most_pulls, at_least_pulls}
 use Rattle.counter_preds.proofs.Tests.{le_holds, holds_le}
-use Rattle.counter_preds.proofs.Values.{length-values_of, value_at-values_of}
-use Rattle.counter_preds.proofs.Growing.{process_logged, value_by}
+use Rattle.counter_preds.proofs.Along.{length-values_of, value_at-values_of}
+use Rattle.counter_preds.proofs.Growing.{process_logged, value_behind, value_by}
 use Rattle.counter_preds.proofs.Tables.{at_most_closes, at_least_closes}
 
 -- ---- names and numbers
@@ -77,8 +77,8 @@ cut_within states whole p there c consistent = omega (arith, consistent.within p
 
 are_there : (states : StatesView) → AreWhole states → (left right : Variable) → IsVariable states left → IsVariable states right → (c : Cut) → IsConsistent (clocks_of (trace_of states)) c → AreThere states left right c
 are_there states whole left right l r c consistent = record {
-  left = cut_within states whole left.process l.process c consistent;
-  right = cut_within states whole right.process r.process c consistent;
+  at_left = cut_within states whole left.process l.process c consistent;
+  at_right = cut_within states whole right.process r.process c consistent;
 }
 
 -- ---- bounds
@@ -118,7 +118,7 @@ value_past states whole x is a past =
     let n = length (events_at states x.process) in
     let all : take a (events_at states x.process) ≡ take n (events_at states x.process) = take_all a (events_at states x.process) past ∙ sym (take_all n (events_at states x.process) (omega arith)) in
     value_by states whole x is a
-    ∙ ap (λ (es : List Event). get_or (run.state_from (map (λ (v : run.Variable). v.value) (map _ (get_or states.header.vars x.process []))) (map event_of es)) x.number (pos 0)) all
+    ∙ ap (value_behind states.header x) all
     ∙ sym (value_by states whole x is n)
 
 least_place : (states : StatesView) → AreWhole states → (x : Variable) → IsVariable states x → (a : ℕ) → (b : ℕ) × (b ≤ length (events_at states x.process)) × (b ≤ a) × ((a ≤ b) ⊎ (length (events_at states x.process) ≤ b)) × (value_in states x a ≡ value_at (values_of states x) b)

@@ -18,7 +18,7 @@ use Rattle.channel_preds.specs.Channels.{events_at}
 use Rattle.counter_preds.specs.declared.values.Variable.{Variable}
 use Rattle.counter_preds.specs.Counters.{AreRising, IsVariable, IsCounter, AreThere, values_of, value_at, value_within, lead_at, first_positions, at_most_pull, at_least_pull}
 use Rattle.counter_preds.proofs.Tests.{le_holds, holds_le}
-use Rattle.counter_preds.proofs.Values.{length-values_of, value_at-values_of}
+use Rattle.counter_preds.proofs.Along.{length-values_of, value_at-values_of}
 use Rattle.counter_preds.proofs.Reaching.{reached, entry}
 
 -- a pull whose table is made of values
@@ -41,14 +41,14 @@ lead_rises leads counts x y h = counts.rises (min x (length leads - 1)) (min y (
 
 -- what has reached the larger bound has reached the smaller one
 pub reached_less : (follows : List ℤ) (extra low high : ℤ) (y : ℕ) → low ≤ℤ high → reached follows extra high y ≡ true → reached follows extra low y ≡ true
-reached_less follows extra low high y h has = le_holds _ _ (omega (arith, ints, h, holds_le _ _ has))
+reached_less follows extra low high y h has = le_holds low (value_at follows y +ℤ extra) (omega (arith, ints, h, holds_le high (value_at follows y +ℤ extra) has))
 
 entry_rises : (leads : List ℤ) (more : ℤ) (follows : List ℤ) (extra : ℤ) → AreRising leads → (x y : ℕ) → x ≤ y
     → entry leads more follows extra x ≤ entry leads more follows extra y
 entry_rises leads more follows extra counts x y h =
     let less = lead_rises leads counts x y h in
     first_grows (reached follows extra (lead_at leads x +ℤ more)) (reached follows extra (lead_at leads y +ℤ more)) (length follows) (length follows) (omega arith)
-    (λ k lt has. reached_less follows extra _ _ k (omega (arith, ints, less)) has)
+    (λ k lt has. reached_less follows extra (lead_at leads x +ℤ more) (lead_at leads y +ℤ more) k (omega (arith, ints, less)) has)
 
 pub positions_rise : (leads : List ℤ) (more : ℤ) (follows : List ℤ) (extra : ℤ) → AreRising leads → RisesWithin (first_positions leads more follows extra) (length follows)
 positions_rise leads more follows extra counts =
@@ -91,9 +91,9 @@ positions_hold p q leads more follows extra counts rising v here there =
     let read = entry_at leads more follows extra x (omega arith) in
     let bound = lead_at leads x +ℤ more in
     let reaches = first_reaches (reached follows extra bound) (length follows) y there
-    (λ a b h lt has. le_holds _ _ (omega (arith, ints, holds_le _ _ has, rising.rises a b h lt))) in (
-      λ holds. subst (λ z. (z +ℤ more) ≤ℤ (value_at follows y +ℤ extra)) lead (holds_le _ _ (reaches.0 (omega (arith, holds, read)))),
-      λ enough. omega (arith, read, reaches.1 (le_holds _ _ (subst (λ z. (z +ℤ more) ≤ℤ (value_at follows y +ℤ extra)) (sym lead) enough))),
+    (λ a b h lt has. le_holds bound (value_at follows b +ℤ extra) (omega (arith, ints, holds_le bound (value_at follows a +ℤ extra) has, rising.rises a b h lt))) in (
+      λ holds. subst (λ z. (z +ℤ more) ≤ℤ (value_at follows y +ℤ extra)) lead (holds_le bound (value_at follows y +ℤ extra) (reaches.0 (omega (arith, holds, read)))),
+      λ enough. omega (arith, read, reaches.1 (le_holds bound (value_at follows y +ℤ extra) (subst (λ z. (z +ℤ more) ≤ℤ (value_at follows y +ℤ extra)) (sym lead) enough))),
     )
 
 pub positions_close : (p q : ℕ) (leads : List ℤ) (more : ℤ) (follows : List ℤ) (extra : ℤ) → AreRising leads → AreRising follows → (v : List ℕ)
@@ -141,13 +141,13 @@ pull_closes states lead follow more extra rising after v here there =
 pub at_most_closes : (states : StatesView) (left right : Variable) (k : ℤ) → IsCounter states left → IsCounter states right → (pulls : List Pull) → pulls ≡ at_most_pull states left right k ∷ []
     → (v : List ℕ) → AreThere states left right v → ClosedUnder pulls v ↔ ((value_within states left v -ℤ value_within states right v) ≤ℤ k)
 at_most_closes states left right k rising after pulls is v within =
-    let close = pull_closes states left right (pos 0) k rising after v within.left within.right in
+    let close = pull_closes states left right (pos 0) k rising after v within.at_left within.at_right in
     subst (λ (ps : List Pull). ClosedUnder ps v ↔ ((value_within states left v -ℤ value_within states right v) ≤ℤ k)) (sym is)
     (λ closed. omega (arith, ints, close.0 closed), λ enough. close.1 (omega (arith, ints, enough)))
 
 pub at_least_closes : (states : StatesView) (left right : Variable) (k : ℤ) → IsCounter states left → IsCounter states right → (pulls : List Pull) → pulls ≡ at_least_pull states left right k ∷ []
     → (v : List ℕ) → AreThere states left right v → ClosedUnder pulls v ↔ (k ≤ℤ (value_within states left v -ℤ value_within states right v))
 at_least_closes states left right k rising after pulls is v within =
-    let close = pull_closes states right left k (pos 0) after rising v within.right within.left in
+    let close = pull_closes states right left k (pos 0) after rising v within.at_right within.at_left in
     subst (λ (ps : List Pull). ClosedUnder ps v ↔ (k ≤ℤ (value_within states left v -ℤ value_within states right v))) (sym is)
     (λ closed. omega (arith, ints, close.0 closed), λ enough. close.1 (omega (arith, ints, enough)))

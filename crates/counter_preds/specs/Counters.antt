@@ -76,8 +76,8 @@ at_least_pull states left right k = record {
 
 -- the vector has no more events of the process of either variable than there are
 pub record AreThere (states : StatesView) (left right : Variable) (v : List ℕ) : Type 0 where
-  pub left : get_or v left.process 0 ≤ length (events_at states left.process)
-  pub right : get_or v right.process 0 ≤ length (events_at states right.process)
+  pub at_left : get_or v left.process 0 ≤ length (events_at states left.process)
+  pub at_right : get_or v right.process 0 ≤ length (events_at states right.process)
 
 -- the value of a variable within a vector
 abbrev pub value_within : StatesView → Variable → List ℕ → ℤ
