@@ -47,14 +47,14 @@ use Rattle.pota_top.specs.Asking.{Handing, asked, asked_by, due_of}
 -- The clocks of the run are an order. The text of the report's slice denotes the set of consistent
 -- cuts that is shown, and each of its witnesses is the canonical one of a part, and of its kind.
 pub record TellsOfRun (q : Asked) (watches : Watches) (log : Prefix) (report : Report) : Type 0
-    where
-  pub ordered : IsOrder (clocks_of (trace_so_far log.header log.batches))
-  pub denotes : (text : SliceText) → report.slice ≡ Some text → (c : Cut)
-      → ShownFor (run_of (trace_so_far log.header log.batches) watches) q.formula c
-      ↔ DenotedBy (clocks_of (trace_so_far log.header log.batches)) (text_seen text) c
-  pub kinds : AllByRecursion
-      (IsShownFor (run_of (trace_so_far log.header log.batches) watches) q.formula)
-      report.witnesses
+  where
+    pub ordered : IsOrder (clocks_of (trace_so_far log.header log.batches))
+    pub denotes : (text : SliceText) → report.slice ≡ Some text → (c : Cut)
+        → ShownFor (run_of (trace_so_far log.header log.batches) watches) q.formula c
+        ↔ DenotedBy (clocks_of (trace_so_far log.header log.batches)) (text_seen text) c
+    pub kinds : AllByRecursion
+        (IsShownFor (run_of (trace_so_far log.header log.batches) watches) q.formula)
+        report.witnesses
 
 -- each report on each of these logs does
 abbrev pub AllTell : Asked → Watches → List Prefix → Type 0

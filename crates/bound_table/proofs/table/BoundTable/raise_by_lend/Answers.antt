@@ -11,7 +11,7 @@ fetch_max-was-requires c =
     let bounds = bounds_along _ system _ c.args.seat.now.floor (search rules) (search rules) c.seat.invariant.0.floor in
     let parts = lend_parts system c.args.seat.now.floor c.args.to_row c.args.from_row c.args.process c.args.y c.requires.step in
     let machine = step_along system c.seat.inside.token.me.0.system c.args.seat.now.floor c.seat.inside.token.me.0.floor _ _ _ _ (search rules) (search rules) (search rules) (search rules)
-        (lent c.args.to_row c.args.from_row c.args.process c.args.y c.requires.step refl refl) in
+    (lent c.args.to_row c.args.from_row c.args.process c.args.y c.requires.step refl refl) in
     let there : c.args.word < word_count system.lens = omega (arith, c.requires.word, place_there system.lens c.args.to_row c.args.process parts.to_there parts.there) in (
       search rules,
       search (rules, there),

@@ -11,7 +11,7 @@ fetch_max-found-requires c =
     let step = c.requires.step in
     let bounds = bounds_along _ system _ c.args.seat.now.floor (search rules) (search rules) c.seat.invariant.0.floor in
     let machine = step_along system c.seat.inside.token.me.0.system c.args.seat.now.floor c.seat.inside.token.me.0.floor _ _ _ _ (search rules) (search rules)
-        (search (rules, ap (λ t. place_of system.lens c.args.row t) step.to)) step.asks (pulled c.args.row step.k step.x step.allowed refl refl) in
+    (search (rules, ap (λ t. place_of system.lens c.args.row t) step.to)) step.asks (pulled c.args.row step.k step.x step.allowed refl refl) in
     let bound = pull_step_bound system c.place-word.ensures.system c.args.seat.now.floor bounds c.args.row step.k step.x step.allowed in (
       search rules,
       search rules,
