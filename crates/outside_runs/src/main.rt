@@ -12,13 +12,14 @@ use std::thread::Threads;
 use std::{fs, io};
 
 /// The files of cases, in the order in which they are run.
-const FILES: [&str; 6] = [
+const FILES: [&str; 7] = [
     "words.cases",
     "formulas.cases",
     "logs.cases",
     "benches.cases",
     "verdicts.cases",
     "pages.cases",
+    "left_out.cases",
 ];
 
 fn judge_file<R: Threads + Sync + Print>(
