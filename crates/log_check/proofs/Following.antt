@@ -11,7 +11,9 @@ use Rattle.event_log.specs.declared.log.Header.{Header}
 use Rattle.event_log.specs.LogText.{event_count}
 use Rattle.event_log.specs.FittingItems.{FitFrom}
 use Rattle.log_judgement.specs.declared.refusal.Refusal.TheVariants as refusal
-use Rattle.log_judgement.specs.Judgement.{Prefix, followed_by, Rules, Judgement, waiting, growing, finished, refused, judge, judged}
+use Rattle.event_log.specs.States.{with_batch}
+use Rattle.vector_clock.proofs.FilledBatches.{length-fill_from}
+use Rattle.log_judgement.specs.Judgement.{Prefix, followed_by, events_of, with_clocks, Rules, Judgement, waiting, growing, finished, refused, judge, judged}
 use Rattle.log_check.specs.Checking.{MayFollow}
 
 pub event_count-push : (bs : List (List Event)) (b : List Event) → event_count (bs ++ b ∷ []) ≡ event_count bs + length b
@@ -23,12 +25,13 @@ opened_follows : (h : Header) (o : Option FormulaFault) (rest : List Item) → F
 opened_follows h None rest fit = fit
 opened_follows h (Some f) rest fit = tt
 
-closed_follows : (log : Prefix) (since : List Event) (o : Option LogFault) (rest : List Item) → FitFrom log.header (event_count log.batches + length since) rest
-    → MayFollow (choose o (λ f. refused (Some log) (refusal.Log f)) (growing (followed_by log since) [])) rest
-closed_follows log since None rest fit =
-    let e : event_count log.batches + length since ≡ event_count (log.batches ++ since ∷ []) + 0 = omega (arith, event_count-push log.batches since) in
+-- the closed batch has as many events as came since
+closed_follows : (log : Prefix) (since batch : List Event) → length batch ≡ length since → (o : Option LogFault) (rest : List Item) → FitFrom log.header (event_count log.batches + length since) rest
+    → MayFollow (choose o (λ f. refused (Some log) (refusal.Log f)) (growing (followed_by log batch) [])) rest
+closed_follows log since batch same None rest fit =
+    let e : event_count log.batches + length since ≡ event_count (log.batches ++ batch ∷ []) + 0 = omega (arith, same, event_count-push log.batches batch) in
     subst (λ (k : ℕ). FitFrom log.header k rest) e fit
-closed_follows log since (Some f) rest fit = tt
+closed_follows log since batch same (Some f) rest fit = tt
 
 ended_follows : (log : Prefix) (since : List Event) (o : Option LogFault) (rest : List Item) → (n : ℕ) → FitFrom log.header n rest
     → MayFollow (choose o (λ f. refused (Some log) (refusal.Log f)) (finished log since)) rest
@@ -44,8 +47,11 @@ follows_one rules (growing log since) (item.Header h) rest fit = absurd fit
 follows_one rules (growing log since) (item.Event e) rest fit =
     let n : event_count log.batches + length since + 1 ≡ event_count log.batches + length (since ++ e ∷ []) = omega (arith, length_push since e) in
     subst (λ (k : ℕ). FitFrom log.header k rest) n fit.2
-follows_one rules (growing log since) item.BatchEnd rest fit = closed_follows log since (rules.batch log since) rest fit
-follows_one rules (growing log since) item.End rest fit = ended_follows log since (rules.batch log since) rest (event_count log.batches + length since) fit
+follows_one rules (growing log since) item.BatchEnd rest fit =
+    closed_follows log since (with_clocks log since) (length-fill_from (with_batch (events_of log) since) (events_of log) since)
+    (rules.batch log (with_clocks log since)) rest fit
+follows_one rules (growing log since) item.End rest fit =
+    ended_follows log (with_clocks log since) (rules.batch log (with_clocks log since)) rest (event_count log.batches + length since) fit
 follows_one rules (finished log last) (item.Header h) rest fit = absurd fit.1
 follows_one rules (finished log last) (item.Event e) rest fit = (fit.0 + 1, fit.1.2)
 follows_one rules (finished log last) item.BatchEnd rest fit = fit
