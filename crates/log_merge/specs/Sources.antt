@@ -1,0 +1,76 @@
+-- The sources: one log for each process, or for none, and the lines that they have of it.
+use Rattle.std.specs.Prelude.{ℕ, ◌+◌, Bool, ◌==◌, List, [], ◌∷◌, ◌++◌, length, map, Option, None}
+use Rattle.std.specs.Prelude.{Some, slice_get, sum_by, flat_map, if◌then◌else◌}
+use Rattle.std.specs.List.{list_any}
+use Rattle.std.specs.Option.{option_map}
+use Rattle.log_lines.specs.Reading.{choose}
+use Rattle.event_log.specs.declared.log.Event.{Event}
+use Rattle.event_log.specs.declared.log.Log.{Log}
+use Rattle.event_log.specs.Laws.{IsLog}
+use Rattle.event_log.specs.LogText.{HasVarLines}
+use Rattle.log_merge.specs.declared.seen.Seen.{Seen}
+use Rattle.log_merge.specs.declared.seen.Seen.TheVariants.{Nothing, One, Two}
+
+-- a log that reading gives, with the lines of its header
+pub record IsSource (source : Log) : Type 0 where
+  pub is : IsLog source
+  pub lines : HasVarLines source.header
+
+-- a `vars` or `ev` line, with its process
+pub record OwnLine : Type 0 where
+  pub process : ℕ
+  pub line : ℕ
+
+-- the `vars` lines that are noted for the processes from this one on; 0 is none
+abbrev pub own_vars_lines : ℕ → List ℕ → List OwnLine
+own_vars_lines process [] = []
+own_vars_lines process (line ∷ lines) =
+    if line == 0 then own_vars_lines (process + 1) lines
+    else record { process = process; line = line } ∷ own_vars_lines (process + 1) lines
+
+abbrev pub own_event_lines : List Event → List OwnLine
+own_event_lines events = map (λ (e : Event). record { process = e.process; line = e.line }) events
+
+-- the events of batches in their order
+abbrev pub all_events : List (List Event) → List Event
+all_events batches = flat_map (λ (batch : List Event). batch) batches
+
+-- the events of a source, in the order of its text
+abbrev pub events_of : Log → List Event
+events_of source = all_events source.batches
+
+-- all lines of processes that the source has, in the order of its text
+abbrev pub own_lines : Log → List OwnLine
+own_lines source = own_vars_lines 0 source.header.var_lines ++ own_event_lines (events_of source)
+
+-- whether the source has a line of the process
+abbrev pub has_lines_of : ℕ → Log → Bool
+has_lines_of process source = list_any (λ (l : OwnLine). l.process == process) (own_lines source)
+
+-- the first line of another process
+abbrev pub another : ℕ → List OwnLine → Option OwnLine
+another process [] = None
+another process (l ∷ ls) = if process == l.process then another process ls else Some l
+
+-- of which processes these lines are
+abbrev pub seen_of : List OwnLine → Seen
+seen_of [] = Nothing
+seen_of (l ∷ ls) = choose (another l.process ls) (λ k. Two k.line) (One l.process l.line)
+
+-- the same with lines before them
+abbrev pub seen_one : Seen → OwnLine → Seen
+seen_one Nothing l = One l.process l.line
+seen_one (One process line) l = if process == l.process then One process line else Two l.line
+seen_one (Two line) l = Two line
+
+abbrev pub seen_after : Seen → List OwnLine → Seen
+seen_after seen [] = seen
+seen_after seen (l ∷ ls) = seen_after (seen_one seen l) ls
+
+-- the line of the event of this index, counted from 0
+abbrev pub line_at : ℕ → List Event → Option ℕ
+line_at index events = option_map (λ (e : Event). e.line) (slice_get events index)
+
+-- how many events the sources have
+abbrev pub events_in : List Log → ℕ
+events_in sources = sum_by (λ (s : Log). length (events_of s)) sources
