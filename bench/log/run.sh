@@ -1,9 +1,11 @@
 #!/usr/bin/env bash
 # Prints the times of reading and of checking a log apart, and the peak of the memory: of 32 processes and 50,000 events in one
-# batch, of the same with a batch behind each event, and of 64 MiB of empty batches. As in the product, a log comes in pieces of
-# 64 KiB, and what a piece gives is put into the trace before the next one is read. Then the time that the program takes for the
-# texts that cost the most. It works on a scratch copy of the crates, where what is timed is proved and built. With the word `log`
-# it stops before the program is built.
+# batch, of the same with a batch behind each event, both with their clocks and with none of them, of a chain and of a cycle of
+# 50,000 events without clocks, and of 64 MiB of empty batches. As in the product, a log comes in pieces of 64 KiB, and what a piece
+# gives is put into the trace before the next one is read. Then the time that the program takes for the texts that cost the most.
+# It works on a scratch copy of the crates, where what is timed is proved and built.
+#
+# It is run as `bench/log/run.sh`, or as `bench/log/run.sh log`, which stops before the program is built.
 set -e
 here=$(cd "$(dirname "$0")" && pwd)
 . "$here/../scratch.sh"
@@ -35,11 +37,44 @@ awk 'BEGIN {
     }
     print "end"
 }' > "$scratch/one_batch"
-sed '/^ev /a batch' "$scratch/one_batch" > "$scratch/a_batch_an_event"
+
+# The log on standard input, with a batch behind each event.
+cut_up() { sed '/^ev /a batch'; }
+
+# The log on standard input, in version 2 and without its clocks.
+leave_out() { sed -e '1s/1/2/' -e 's/^\(ev [^ ]*\) [^ ]*/\1 ~/'; }
+
+# ring SENT
+# A log without clocks whose 50,000 events are a chain. In each of 781 rounds each process receives from the one behind it and
+# sends to the one before it, and the last one receives what the first one sent in the round before. The events stand process by
+# process, so but for the last process each receipt stands before its send. In the first round the last process receives what the
+# first one sent in the round SENT: of the last one, so that the chain is closed to a cycle, or nothing where it is 0.
+ring() {
+    awk -v sent="$1" 'BEGIN {
+        print "pota-log 2"
+        line = "procs"
+        for (p = 1; p <= 32; p++) line = line " P" p
+        print line
+        for (p = 1; p <= 32; p++)
+            for (round = 1; round <= 781; round++) {
+                from = p < 32 ? round : round > 1 ? round - 1 : sent
+                print "ev P" p " ~ " (from ? "recv P" p % 32 + 1 " " from : "int")
+                if (p == 1 && round == 781)
+                    for (more = 0; more < 16; more++) print "ev P1 ~ int"
+                print "ev P" p " ~ send P" (p + 30) % 32 + 1 " " round
+            }
+        print "end"
+    }'
+}
+cut_up < "$scratch/one_batch" > "$scratch/a_batch_an_event"
+leave_out < "$scratch/one_batch" > "$scratch/one_batch_without_clocks"
+cut_up < "$scratch/one_batch_without_clocks" > "$scratch/a_batch_an_event_without_clocks"
+ring 0 > "$scratch/chain"
+ring 781 > "$scratch/cycle"
 header='pota-log 1\nprocs P\nvars P x=0\n'
 (printf "$header"; yes batch | head -n 10999999; echo end) > "$scratch/empty_batches"
 rt run > /dev/null < "$scratch/one_batch"
-for log in one_batch a_batch_an_event empty_batches; do
+for log in one_batch one_batch_without_clocks a_batch_an_event a_batch_an_event_without_clocks chain cycle empty_batches; do
     echo "$log: $(wc -c < "$scratch/$log") bytes"
     for _ in 1 2 3; do
         /usr/bin/time -f 'peak memory: %M KiB, processor: %U s and %S s of the system' ./out/log_times < "$scratch/$log"

@@ -54,6 +54,21 @@ impl Came {
         format!(in alloc; "diag {text:?}")
     }
 
+    /// Makes it what must come out of the case.
+    pub fn be_wanted(self, case: &mut Case) {
+        let Came {
+            status,
+            batches,
+            written,
+            told,
+            ..
+        } = self;
+        case.status = Some(status);
+        case.batches = batches;
+        case.report = written;
+        case.diag = told;
+    }
+
     /// What is otherwise than it must be.
     pub fn differs(&self, alloc: Global, case: &Case) -> Result<Option<String>, AllocError> {
         let status = case.status.unwrap_or(0);

@@ -64,4 +64,4 @@ mod verdict;
 
 pub use case::Case;
 pub use generated::{put_clock, put_names, put_number};
-pub use verdict::judge;
+pub use verdict::{judge, want_what_comes};

@@ -125,3 +125,20 @@ pub fn judge<R: Threads + Sync>(
     }
     judge_workers(rt, alloc, case)
 }
+
+/// Runs the case through the call, once and with its own words, and makes what comes out what must
+/// come out.
+///
+/// # Errors
+///
+/// Where there is no memory.
+pub fn want_what_comes<R: Threads + Sync>(
+    rt: &R,
+    alloc: Global,
+    case: &mut Case,
+) -> Result<(), AllocError> {
+    let setting = Setting::new(case, &case.words, usize::MAX)?;
+    let came = run(rt, alloc, case, &setting, &FreeGate)?;
+    came.be_wanted(case);
+    Ok(())
+}
