@@ -35,24 +35,30 @@ fn judge_printed(
     Ok(Some(format!(in alloc; "printed {:?}", printed)?))
 }
 
-// What is wrong with what a reading of the text gave.
-fn judge_answer(
+// What is wrong with the formula that a reading of the text gave.
+fn judge_formula(
     alloc: Global,
     text: &[u8],
-    answer: Result<Formula, Refused<FormulaFault>>,
+    formula: &Formula,
     wanted: &Wanted,
 ) -> Result<Option<String>, AllocError> {
-    match answer {
-        Err(Refused::NoMemory) => Err(AllocError),
-        Err(Refused::Fault(found)) => match wanted {
-            Wanted::Fault(fault) if *fault == found => Ok(None),
-            _ => Ok(Some(format!(in alloc; "{:?}", found)?)),
-        },
-        Ok(formula) => match wanted {
-            Wanted::Fault(_) => Ok(Some(format!(in alloc; "read")?)),
-            Wanted::AsItStands => judge_printed(alloc, &formula, text),
-            Wanted::Printed(printed) => judge_printed(alloc, &formula, printed.as_slice()),
-        },
+    match wanted {
+        Wanted::Fault(_) => Ok(Some(format!(in alloc; "read")?)),
+        Wanted::AsItStands => judge_printed(alloc, formula, text),
+        Wanted::Printed(printed) => judge_printed(alloc, formula, printed.as_slice()),
+    }
+}
+
+// What is wrong with the fault that a reading gave.
+fn judge_refused(
+    alloc: Global,
+    refused: Refused<FormulaFault>,
+    wanted: &Wanted,
+) -> Result<Option<String>, AllocError> {
+    match (refused, wanted) {
+        (Refused::NoMemory, _) => Err(AllocError),
+        (Refused::Fault(found), Wanted::Fault(fault)) if *fault == found => Ok(None),
+        (Refused::Fault(found), _) => Ok(Some(format!(in alloc; "{:?}", found)?)),
     }
 }
 
@@ -66,11 +72,17 @@ fn judge_text(
     if text.len() > LONGEST_OF_ALL {
         return Ok(Some(format!(in alloc; "too long for any reading")?));
     }
-    let wrong = judge_answer(alloc, text, parse(alloc, text), wanted)?;
+    let wrong = match parse(alloc, text) {
+        Ok(formula) => judge_formula(alloc, text, &formula, wanted)?,
+        Err(refused) => judge_refused(alloc, refused, wanted)?,
+    };
     if wrong.is_some() {
         return Ok(wrong);
     }
-    judge_answer(alloc, text, parse_long(alloc, text), long)
+    match parse_long(alloc, text) {
+        Ok(formula) => judge_formula(alloc, text, &formula, long),
+        Err(refused) => judge_refused(alloc, refused, long),
+    }
 }
 
 // What is wrong with the reading of a text that was printed, which must be printed as itself.
