@@ -8,12 +8,10 @@ use std::alloc::{AllocError, Global};
 
 fn outside_word(outside: Outside) -> &'static str {
     match outside {
-        Outside::Ex => "outside-ex",
         Outside::Af => "outside-af",
         Outside::Ax => "outside-ax",
         Outside::Eu => "outside-eu",
         Outside::Au => "outside-au",
-        Outside::Difference => "outside-difference",
     }
 }
 

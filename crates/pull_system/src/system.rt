@@ -84,8 +84,7 @@ impl System {
         })
     }
 
-    /// The entry `x` of the table of pull `k`. This is the only reader of a table, and counts one
-    /// step.
+    /// The entry `x` of the table of pull `k`; counts one step.
     pub fn pull<L: Ledger>(&self, k: u32, x: u64, steps: &mut Steps<L>) -> u64
         requires pull { k < length self.now.pulls }
         requires entry { x < length (pull_at self.now k).table }

@@ -1,13 +1,10 @@
 /// The forms that lie outside the class of formulas that are decided. `Eu` and `Au` are the untils.
 #[derive(Clone, Copy, Debug, PartialEq, Eq)]
 pub enum Outside {
-    Ex,
     Af,
     Ax,
     Eu,
     Au,
-    /// A difference of counters.
-    Difference,
 }
 
 /// What is wrong with a formula's text.
