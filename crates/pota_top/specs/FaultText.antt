@@ -8,12 +8,10 @@ use Rattle.rctl_grammar.specs.declared.fault.Outside.{Outside}
 use Rattle.rctl_grammar.specs.declared.fault.Outside.TheVariants as outside
 
 abbrev pub outside_text : Outside → List ℕ
-outside_text outside.Ex = codes "F9 outside the class: EX"
 outside_text outside.Af = codes "F9 outside the class: AF"
 outside_text outside.Ax = codes "F9 outside the class: AX"
 outside_text outside.Eu = codes "F9 outside the class: EU"
 outside_text outside.Au = codes "F9 outside the class: AU"
-outside_text outside.Difference = codes "F9 outside the class: difference"
 
 abbrev pub formula_code_text : FormulaCode → List ℕ
 formula_code_text formula.Token = codes "F1 bad token"

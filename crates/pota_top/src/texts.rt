@@ -11,12 +11,10 @@ fn outside_text(outside: Outside) -> &'static [u8]
     ensures short { length result.now ≤ 64 }
 {
     match outside {
-        Outside::Ex => b"F9 outside the class: EX",
         Outside::Af => b"F9 outside the class: AF",
         Outside::Ax => b"F9 outside the class: AX",
         Outside::Eu => b"F9 outside the class: EU",
         Outside::Au => b"F9 outside the class: AU",
-        Outside::Difference => b"F9 outside the class: difference",
     }
 }
 
