@@ -46,6 +46,8 @@ pub enum LogCode {
     LineTooLong,
     /// The log has more than 67,108,864 bytes.
     LogTooLong,
+    /// An assigned variable is lower than before, and stands in a difference of the formula.
+    CounterFalls,
 }
 
 /// A fault and its line, counted from 1.

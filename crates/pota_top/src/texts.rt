@@ -66,5 +66,6 @@ pub fn log_code_text(code: LogCode) -> &'static [u8]
         LogCode::TooManyEvents => b"L18 too many events",
         LogCode::LineTooLong => b"L19 line too long",
         LogCode::LogTooLong => b"L20 log too long",
+        LogCode::CounterFalls => b"L21 counter falls",
     }
 }

@@ -29,6 +29,7 @@ pub fn number_of(code: LogCode) -> u32 {
         LogCode::TooManyEvents => 18,
         LogCode::LineTooLong => 19,
         LogCode::LogTooLong => 20,
+        LogCode::CounterFalls => 21,
     }
 }
 
