@@ -27,7 +27,7 @@ atom_fault sign (atom.InTransit sender receiver compare k) at =
     if is_unequal (after_sign sign (relation_of compare)) then fault_at code.NotRegular at else None
 atom_fault sign (atom.Empty sender receiver) at = None
 atom_fault sign (atom.Difference left_process left right_process right compare k) at =
-    fault_at (code.OutsideClass outside.Difference) at
+    fault_at code.NotRegular at
 
 -- a disjunction stands inside
 abbrev pub inside_fault : Bool → ℕ → Option FormulaFault
@@ -38,7 +38,7 @@ abbrev pub operator_fault : Bool → Operator → ℕ → Option FormulaFault
 operator_fault sign operator.Ef at = if sign then None else fault_at code.NotRegular at
 operator_fault sign operator.Ag at = if sign then None else fault_at code.NotRegular at
 operator_fault sign operator.Eg at = if sign then None else fault_at code.NotRegular at
-operator_fault sign (operator.Ex process) at = fault_at (code.OutsideClass outside.Ex) at
+operator_fault sign (operator.Ex process) at = fault_at code.NotRegular at
 operator_fault sign operator.Af at = fault_at (code.OutsideClass outside.Af) at
 operator_fault sign operator.Ax at = fault_at (code.OutsideClass outside.Ax) at
 
@@ -96,7 +96,7 @@ abbrev mutual
   first_fault inside sign (under operator n at) =
       earlier (operator_fault sign operator at) (first_fault true true n)
   -- it is not decided yet
-  first_fault inside sign (stepping process n at) = fault_at (code.OutsideClass outside.Ex) at
+  first_fault inside sign (stepping process n at) = fault_at code.NotRegular at
   first_fault inside sign (until_of all left right at) =
       fault_at (code.OutsideClass (until_code all)) at
 

@@ -46,7 +46,7 @@ fn push_leaf(
         Atom::Empty { sender, receiver } => {
             Ok(parts.push(emptiness(alloc, sign, sender, receiver)?)?)
         }
-        Atom::Difference { .. } => Err(fault(FormulaCode::OutsideClass(Outside::Difference), at)),
+        Atom::Difference { .. } => Err(fault(FormulaCode::NotRegular, at)),
     }
 }
 
@@ -58,7 +58,7 @@ fn judge(sign: bool, operator: Operator, at: u32) -> Result<(), Stop>
     match operator {
         Operator::Ef | Operator::Ag | Operator::Eg if sign => Ok(()),
         Operator::Ef | Operator::Ag | Operator::Eg => Err(fault(FormulaCode::NotRegular, at)),
-        Operator::Ex(_) => Err(fault(FormulaCode::OutsideClass(Outside::Ex), at)),
+        Operator::Ex(_) => Err(fault(FormulaCode::NotRegular, at)),
         Operator::Af => Err(fault(FormulaCode::OutsideClass(Outside::Af), at)),
         Operator::Ax => Err(fault(FormulaCode::OutsideClass(Outside::Ax), at)),
     }
@@ -128,7 +128,7 @@ fn conjunction(
                 parts: operand,
             })?)
         }
-        Tree::Next { at, .. } => Err(fault(FormulaCode::OutsideClass(Outside::Ex), *at)),
+        Tree::Next { at, .. } => Err(fault(FormulaCode::NotRegular, *at)),
         Tree::Until { all, at, .. } => {
             Err(fault(FormulaCode::OutsideClass(until_code(*all)), *at))
         }
