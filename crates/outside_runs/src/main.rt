@@ -12,7 +12,7 @@ use std::thread::Threads;
 use std::{fs, io};
 
 /// The files of cases, in the order in which they are run.
-const FILES: [&str; 7] = [
+const FILES: [&str; 8] = [
     "words.cases",
     "formulas.cases",
     "logs.cases",
@@ -20,6 +20,7 @@ const FILES: [&str; 7] = [
     "verdicts.cases",
     "pages.cases",
     "left_out.cases",
+    "whole_language.cases",
 ];
 
 fn judge_file<R: Threads + Sync + Print>(

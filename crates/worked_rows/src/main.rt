@@ -18,12 +18,13 @@ use std::{fs, io};
 use verdict::judge;
 
 /// The files of cases, in the order in which they are run.
-const FILES: [&str; 9] = [
+const FILES: [&str; 10] = [
     "first_form.cases",
     "malformed.cases",
     "words.cases",
     "formulas.cases",
     "slices.cases",
+    "next_events.cases",
     "left_out.cases",
     "batches.cases",
     "failing.cases",
