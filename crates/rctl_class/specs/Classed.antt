@@ -6,7 +6,7 @@ use Rattle.run_model.specs.Formula as model
 use Rattle.run_model.specs.Formula.{Formula}
 use Rattle.run_model.specs.Consistent.{IsOrder, IsConsistent}
 use Rattle.run_model.specs.Meaning.{Sat}
-use Rattle.run_model.specs.Class.{disjuncts}
+use Rattle.run_model.specs.Class.{disjuncts, IsKeptFor, DisjunctsKeptFor}
 use Rattle.rctl_class.specs.Nodes.{Node, formula_of}
 use Rattle.rctl_class.specs.Uses.{Agree, uses_of}
 use Rattle.rctl_class.specs.Faults.{first_fault}
@@ -73,6 +73,8 @@ pub record IsClassed (n : Node) (ds : List (List Piece)) : Type 0 where
   pub free : first_fault false true n ≡ None
   -- part by part they mean what the formula's disjuncts do
   pub meaning : EachAlike (disjunct_formulas ds) (disjuncts true (formula_of n))
+  -- they ask of a run what the formula asks, that the variables of differences never fall
+  pub kept : (r : Run) → DisjunctsKeptFor r (disjunct_formulas ds) ↔ IsKeptFor r (formula_of n)
   -- their names have the first fault that the names of the text have
   pub names : Agree (disjuncts_uses ds) (uses_of n)
   pub sized : AreDisjuncts ds

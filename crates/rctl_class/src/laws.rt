@@ -1,6 +1,6 @@
 // Laws of the class, of the disjuncts, and of the formulas that were read.
 ghost use Rattle.rctl_class.specs.Classed.{IsClassed, disjunct_formulas};
-ghost use Rattle.rctl_class.specs.Faults.{first_fault, is_decided};
+ghost use Rattle.rctl_class.specs.Faults.{first_fault};
 ghost use Rattle.rctl_class.specs.NamedParts.{Piece};
 ghost use Rattle.rctl_class.specs.Nodes.{IsWithinLimits, Node, formula_of, node_of};
 ghost use Rattle.rctl_grammar.specs.Shape.{meaning};
@@ -11,13 +11,11 @@ ghost use Rattle.run_model.specs.Consistent.{IsConsistent, IsOrder};
 ghost use Rattle.run_model.specs.Cut.{Cut};
 ghost use Rattle.run_model.specs.Meaning.{Sat};
 ghost use Rattle.run_model.specs.Run.{Run};
-ghost use Rattle.std.specs.Prelude.{◌≡◌, ◌↔◌, ℕ, IsTrue, List, None, false, length, true};
+ghost use Rattle.std.specs.Prelude.{◌≡◌, ◌↔◌, ℕ, List, None, false, length, true};
 
-/// A formula has no fault exactly where it is of the class and neither a difference nor the next
-/// event of a process, which are not decided yet, stands in it.
+/// A formula has no fault exactly where it is of the class.
 pub fn faultless_formulas_are_of_the_class()
-    ensures { (n : Node)
-        → (first_fault false true n ≡ None) ↔ IsOfClass (formula_of n) × IsTrue (is_decided n) }
+    ensures { (n : Node) → (first_fault false true n ≡ None) ↔ IsOfClass (formula_of n) }
 {}
 
 /// A formula of the class is true at a consistent cut exactly where some disjunct has all its
@@ -30,8 +28,9 @@ pub fn disjuncts_mean_the_formula()
         → IsRegular (formula_of n) ↔ (length ds ≡ 1) }
 {}
 
-/// A formula that was read has at most 64 nodes, each number that messages are compared with is
-/// below 2^63, and each `and` and `or` has two members or more; its nodes spell what it means.
+/// A formula that was read has at most 64 nodes, each number that messages or a difference are
+/// compared with has 64 bits with a sign, and each `and` and `or` has two members or more; its nodes
+/// spell what it means.
 pub fn read_formulas_are_within_limits()
     ensures limits { (text : List ℕ) (t : Tree) → IsReadAs text t → IsWithinLimits (node_of t) }
     ensures meaning { (text : List ℕ) (t : Tree) → IsReadAs text t
