@@ -126,7 +126,8 @@ mapped_none : (past : List ℕ) (o : Option LogCode) → option_map (placed past
 mapped_none past None h = refl
 mapped_none past (Some c) h = absurd (none-some (placed past c) (sym h))
 
-ended_byte : (total width b : ℕ) → byte_fault total true width b ≡ None → ⊥
+-- each byte behind the `end` line is a fault
+pub ended_byte : (total width b : ℕ) → byte_fault total true width b ≡ None → ⊥
 unfolding byte_fault
 ended_byte total width b h = elim (cases_Bool (nat_le 67108864 total)) [
   | inl full ↦ none-some code.LogTooLong (sym (rw full at h))

@@ -1,7 +1,8 @@
 -- How the feeder follows the bytes.
-use Rattle.std.proofs.Common.{◌≡◌, ℕ, ◌+◌, ◌<◌, ◌≤◌, Bool, true, false, Option, Some, None, List, [], ◌∷◌, ◌++◌, length, refl, sym, ap, subst, ◌∙◌, arith, append_assoc}
+use Rattle.std.proofs.Common.{◌≡◌, ℕ, ◌+◌, ◌<◌, ◌≤◌, Bool, true, false, Option, Some, None, List, [], ◌∷◌, ◌++◌, length, refl, sym, ap, subst, ◌∙◌, arith, append_assoc, get_or, inl, inr}
 use Rattle.std.specs.Prelude.{is_some}
 use Rattle.std.specs.Option.{option_map}
+use Rattle.std.proofs.lemmas.Bool.{cases_Bool}
 use Rattle.std.proofs.lemmas.List.{append-nil}
 use Rattle.std.proofs.lemmas.Option.{none-some}
 use Rattle.event_log.specs.declared.item.LogCode.{LogCode}
@@ -14,14 +15,17 @@ use Rattle.event_log.specs.Before.{Line, is_ended, Told, told}
 use Rattle.event_log.specs.LogText.{onto}
 use Rattle.event_log.specs.Lines.{HasReadLines, TakesLine, told_of}
 use Rattle.event_log.specs.Moments.{IsPlainByte, HasNoFeed, line_now, lines}
+use Rattle.event_log.specs.LogEnd.{is_whole, log_upto, behind_log}
 use Rattle.event_log.specs.Faults.{byte_fault, moment_told, placed, first_fault, items, FedIs}
-use Rattle.event_log.specs.Feeding.{Past, CountsLines, HasFed, Gains, placed_at, PlainTaken, TakesPlain, given_items, ClosesLine, TakesFedLine, TakesPiece}
+use Rattle.event_log.specs.Feeding.{Past, CountsLines, HasFed, Gains, placed_at, PlainTaken, TakesPlain, given_items, ClosesLine, TakesFedLine, TakesLog, JudgesRest}
 use Rattle.event_log.specs.declared.reader.Reader.{Reader}
-use Rattle.event_log.specs.Reader.{HasRead}
+use Rattle.event_log.specs.declared.item.Fed.{Fed}
+use Rattle.event_log.specs.Reader.{HasRead, ReadsLog}
 use Rattle.event_log.proofs.ReadLaws.{some_value}
 use Rattle.event_log.proofs.Lists.{onto-append, length-onto}
 use Rattle.event_log.proofs.Texts.{line_now-plain, lines-plain}
-use Rattle.event_log.proofs.FaultLaws.{byte_room, stuck-byte, stuck_items-byte, fault-next, items_byte-next, stuck, Passed, one_passes, one_faults, quiet_passes, feed_moment, lines-feed, line_now-feed}
+use Rattle.event_log.proofs.LogEnds.{LeadsTo, then_leads, upto_line, upto_open, whole_upto, whole_behind, parted, all_read, behind_open}
+use Rattle.event_log.proofs.FaultLaws.{byte_room, stuck-byte, stuck_items-byte, fault-next, items_byte-next, stuck, Passed, one_passes, one_faults, quiet_passes, ended_byte, feed_moment, lines-feed, line_now-feed}
 
 -- what the feeder knows of the next byte's fault
 abbrev pub Knows : Feeder → ℕ → ℕ → Option LogCode → Type 0
@@ -170,49 +174,122 @@ kept_line f kept bare closed new chunk line g taken line_is total reader closes 
 -- ---- a piece
 
 -- whole lines of the piece were read, and this is left
-pub record HasReadTo (old now : Feeder) (piece rest : List ℕ) (given : List Item) (past : Past) : Type 0 where
+pub record HasReadTo (now : Feeder) (piece rest : List ℕ) (given : List Item) (past : Past) : Type 0 where
   pub at : Past
   pub fed : HasFed now at
-  pub text_is : onto rest at ≡ onto piece past
+  pub leads : LeadsTo past piece at rest
   pub items_are : items at ≡ items past ++ given
 
 abbrev pub ReadsTo : Feeder → Feeder → List ℕ → List ℕ → List Item → Type 0
-ReadsTo old now piece rest given = (past : Past) → HasFed old past → HasReadTo old now piece rest given past
+ReadsTo old now piece rest given = (past : Past) → HasFed old past → HasReadTo now piece rest given past
 
 pub piece_starts : (f : Feeder) (piece : List ℕ) → ReadsTo f f piece piece []
-piece_starts f piece past has = record { at = past; fed = has; text_is = refl; items_are = sym (append-nil (items past)) }
+piece_starts f piece past has = record { at = past; fed = has; leads = record { upto_is = refl; behind_is = refl }; items_are = sym (append-nil (items past)) }
 
--- the bytes of the piece behind one line
-line_text : (rest line after : List ℕ) (at : Past) → rest ≡ line ++ 10 ∷ after → onto rest at ≡ onto after (10 ∷ onto line at)
-line_text rest line after at split = ap (λ (x : List ℕ). onto x at) split ∙ onto-append line (10 ∷ after) at
+-- what the feeder knows of the end of the log
+abbrev pub KnowsEnd : Feeder → Bool → Type 0
+KnowsEnd f ended = (older : List Line) → HasReadLines f.reader older → ended ≡ is_ended older
 
-pub piece_goes_on : (old now new : Feeder) (piece rest line after : List ℕ) (given more : List Item) (g : LineGiven) → ReadsTo old now piece rest given → rest ≡ line ++ 10 ∷ after → TakesFedLine now line g new → g.fault ≡ None → more ≡ given ++ given_items g
+-- the bytes behind one line
+line_leads : (rest line after : List ℕ) (at : Past) → rest ≡ line ++ 10 ∷ after → HasNoFeed line → is_whole at ≡ false → LeadsTo at rest (10 ∷ onto line at) after
+line_leads rest line after at split plain open_ = subst (λ (xs : List ℕ). LeadsTo at xs (10 ∷ onto line at) after) (sym split) (upto_line line after at plain open_)
+
+pub record LineFound (rest line after : List ℕ) : Type 0 where
+  pub plain : HasNoFeed line
+  pub split : rest ≡ line ++ 10 ∷ after
+
+pub piece_goes_on : (old now new : Feeder) (piece rest line after : List ℕ) (given more : List Item) (g : LineGiven) → ReadsTo old now piece rest given → KnowsEnd now false → LineFound rest line after → TakesFedLine now line g new → g.fault ≡ None → more ≡ given ++ given_items g
     → ReadsTo old new piece after more
-piece_goes_on old now new piece rest line after given more g reads split takes none all past has =
+piece_goes_on old now new piece rest line after given more g reads knows found takes none all past has =
     let r = reads past has in
     let t = takes r.at r.fed in
+    let open_ : is_whole r.at ≡ false = sym (knows (lines r.at) r.fed.counts.knows) in
     record {
       at = 10 ∷ onto line r.at;
       fed = t.1 none;
-      text_is = sym (line_text rest line after r.at split) ∙ r.text_is;
+      leads = then_leads past piece r.at rest (10 ∷ onto line r.at) after r.leads (line_leads rest line after r.at found.split found.plain open_);
       items_are = t.0.items_are ∙ ap (λ (xs : List Item). xs ++ given_items g) r.items_are ∙ append_assoc (items past) given (given_items g) ∙ ap (λ (xs : List Item). items past ++ xs) (sym all);
     }
 
-pub piece_faults : (old now new : Feeder) (piece rest line after : List ℕ) (given more : List Item) (g : LineGiven) (x : LogFault) → ReadsTo old now piece rest given → rest ≡ line ++ 10 ∷ after → TakesFedLine now line g new → g.fault ≡ Some x → more ≡ given ++ given_items g
-    → (last : Feeder) → TakesPiece old piece (record { items = more; fault = g.fault }) last
-piece_faults old now new piece rest line after given more g x reads split takes some all last past has =
+pub piece_faults : (old now new : Feeder) (piece rest line after : List ℕ) (given more : List Item) (g : LineGiven) (x : LogFault) → ReadsTo old now piece rest given → KnowsEnd now false → LineFound rest line after → TakesFedLine now line g new → g.fault ≡ Some x → more ≡ given ++ given_items g
+    → (left : List ℕ) (last : Feeder) → TakesLog old piece (record { items = more; fault = g.fault }) left last
+piece_faults old now new piece rest line after given more g x reads knows found takes some all left last past has =
     let r = reads past has in
     let t = takes r.at r.fed in
-    let s = stuck after (10 ∷ onto line r.at) x (sym t.0.fault_is ∙ some) in
-    let text = sym (line_text rest line after r.at split) ∙ r.text_is in
-    let items_are : items (onto piece past) ≡ items past ++ more = ap items (sym text) ∙ s.1 ∙ t.0.items_are ∙ ap (λ (xs : List Item). xs ++ given_items g) r.items_are ∙ append_assoc (items past) given (given_items g) ∙ ap (λ (xs : List Item). items past ++ xs) (sym all) in
-    (record { items_are = items_are; fault_is = some ∙ sym (ap first_fault (sym text) ∙ s.0) }, λ none. absurd (none-some x (sym none ∙ some)))
+    let open_ : is_whole r.at ≡ false = sym (knows (lines r.at) r.fed.counts.knows) in
+    let p = parted after (10 ∷ onto line r.at) in
+    let s = stuck p.front (10 ∷ onto line r.at) x (sym t.0.fault_is ∙ some) in
+    let text : log_upto past piece ≡ onto p.front (10 ∷ onto line r.at) = r.leads.upto_is ∙ (line_leads rest line after r.at found.split found.plain open_).upto_is ∙ p.upto_is in
+    let items_are : items (log_upto past piece) ≡ items past ++ more = ap items text ∙ s.1 ∙ t.0.items_are ∙ ap (λ (xs : List Item). xs ++ given_items g) r.items_are ∙ append_assoc (items past) given (given_items g) ∙ ap (λ (xs : List Item). items past ++ xs) (sym all) in
+    record {
+      fed_is = record { items_are = items_are; fault_is = some ∙ sym (ap first_fault text ∙ s.0) };
+      feeds = λ none. absurd (none-some x (sym none ∙ some));
+      rest_is = λ none. absurd (none-some x (sym none ∙ some));
+    }
 
-pub piece_ends : (old now new : Feeder) (piece rest : List ℕ) (given : List Item) (o : Option LogFault) → ReadsTo old now piece rest given → TakesPlain now rest o new → TakesPiece old piece (record { items = given; fault = o }) new
-piece_ends old now new piece rest given o reads taken past has =
+-- the piece ends in the log
+pub piece_ends : (old now new last : Feeder) (piece rest : List ℕ) (given : List Item) (o : Option LogFault) → ReadsTo old now piece rest given → KnowsEnd now false → HasNoFeed rest → TakesPlain now rest o new → last.total ≡ new.total → last.reader ≡ new.reader → last.line ≡ new.line
+    → TakesLog old piece (record { items = given; fault = o }) [] last
+piece_ends old now new last piece rest given o reads knows plain taken total reader line_is past has =
     let r = reads past has in
     let p = taken r.at r.fed in
-    (record { items_are = ap items (sym r.text_is) ∙ p.items_are ∙ r.items_are; fault_is = p.fault_is ∙ ap first_fault r.text_is }, λ none. subst (HasFed new) r.text_is (p.feeds none))
+    let open_ : is_whole r.at ≡ false = sym (knows (lines r.at) r.fed.counts.knows) in
+    let u = upto_open rest r.at plain open_ in
+    let text : onto rest r.at ≡ log_upto past piece = sym (r.leads.upto_is ∙ u.0) in
+    let kept : HasFed new (onto rest r.at) → HasFed last (onto rest r.at) = λ fed. record {
+      counts = record { fault_is = fed.counts.fault_is; total_is = total ∙ fed.counts.total_is; knows = rw reader fed.counts.knows };
+      line_is = rw line_is fed.line_is;
+    } in
+    record {
+      fed_is = record { items_are = ap items (sym text) ∙ p.items_are ∙ r.items_are; fault_is = p.fault_is ∙ ap first_fault text };
+      feeds = λ none. subst (HasFed last) text (kept (p.feeds none));
+      rest_is = λ none. sym (r.leads.behind_is ∙ u.1);
+    }
+
+-- the log ends in the piece
+pub log_ends : (old now new : Feeder) (piece rest : List ℕ) (given : List Item) → ReadsTo old now piece rest given → KnowsEnd now true → new ≡ now → TakesLog old piece (record { items = given; fault = None }) rest new
+log_ends old now new piece rest given reads knows same past has =
+    let r = reads past has in
+    let whole : is_whole r.at ≡ true = sym (knows (lines r.at) r.fed.counts.knows) in
+    let text : r.at ≡ log_upto past piece = sym (r.leads.upto_is ∙ whole_upto r.at rest whole) in
+    let fed : HasFed new r.at = subst (λ (f : Feeder). HasFed f r.at) (sym same) r.fed in
+    record {
+      fed_is = record { items_are = ap items (sym text) ∙ r.items_are; fault_is = sym (ap first_fault (sym text) ∙ r.fed.counts.fault_is) };
+      feeds = λ none. subst (HasFed new) text fed;
+      rest_is = λ none. sym (r.leads.behind_is ∙ whole_behind r.at rest whole);
+    }
+
+-- ---- what stands behind the log
+
+-- there is nothing
+rest_is_none : (f : Feeder) → JudgesRest f [] None
+rest_is_none f past bytes fed is =
+    let all : onto bytes past ≡ log_upto past bytes = all_read bytes past ∙ ap (λ (xs : List ℕ). onto xs (log_upto past bytes)) (sym is) in
+    sym (ap first_fault all ∙ fed.counts.fault_is)
+
+pub no_rest : (f : Feeder) (rest : List ℕ) → length rest < 1 → JudgesRest f rest None
+no_rest f [] none = rest_is_none f
+no_rest f (b ∷ rest) none = absurd (omega arith)
+
+-- there is a byte
+pub rest_faults : (f : Feeder) (rest : List ℕ) (c : LogCode) (x : LogFault) → 1 ≤ length rest → Knows f (length f.line.items) (get_or rest 0 0) (Some c) → x ≡ placed_at (f.reader.lines + 1) c → JudgesRest f rest (Some x)
+rest_faults f [] c x some knows x_is past bytes fed is = absurd (omega arith)
+rest_faults f (b ∷ rest) c x some knows x_is past bytes fed is =
+    let taken = byte_faults f f b c knows (log_upto past bytes) fed in
+    let s = stuck rest (b ∷ log_upto past bytes) (placed_at (f.reader.lines + 1) c) (sym taken.fault_is) in
+    let all : onto bytes past ≡ onto rest (b ∷ log_upto past bytes) = all_read bytes past ∙ ap (λ (xs : List ℕ). onto xs (log_upto past bytes)) (sym is) in
+    ap (λ (y : LogFault). Some y) x_is ∙ sym (ap first_fault all ∙ s.0)
+
+-- it is a fault, since the log has ended
+pub rest_is_faulty : (f : Feeder) (rest : List ℕ) (o : Option LogFault) → 1 ≤ length rest → Knows f (length f.line.items) (get_or rest 0 0) None → JudgesRest f rest o
+rest_is_faulty f [] o some knows past bytes fed is = absurd (omega arith)
+rest_is_faulty f (b ∷ rest) o some knows past bytes fed is =
+    let now = log_upto past bytes in
+    let none : byte_fault (length now) (is_ended (lines now)) (length (line_now now)) b ≡ None = sym (knows now fed.counts ∙ ap (λ (l : Line). byte_fault (length now) (is_ended (lines now)) (length l) b) fed.line_is) in
+    absurd (elim (cases_Bool (is_whole now)) [
+      | inl whole ↦ ended_byte (length now) (length (line_now now)) b (rw whole at none)
+      | inr open_ ↦ cc (is, behind_open bytes past open_)
+    ])
 
 -- ---- as the calls give their answers
 
@@ -237,12 +314,82 @@ none_value (Some x) h = absurd cc
 
 -- ---- after a fault
 
-pub stays_read : (r new : Reader) (given : List Item) (piece : List ℕ) → is_some r.fault ≡ true → given ≡ [] → new.fault ≡ r.fault → new.spent ≡ r.spent
-    → (past : Past) → HasRead r past → FedIs (record { items = given; fault = r.fault }) past (onto piece past) × HasRead new (onto piece past)
-stays_read r new given piece some none same spent past has =
+pub stays_read : (r new : Reader) (given : List Item) (piece rest : List ℕ) → is_some r.fault ≡ true → given ≡ [] → new.fault ≡ r.fault → new.spent ≡ r.spent
+    → (past : Past) → HasRead r past → ReadsLog new piece (record { items = given; fault = r.fault }) rest past
+stays_read r new given piece rest some none same spent past has =
     let x = some_value r.fault some in
-    let s = stuck piece past x.0 (sym has.fault_is ∙ x.1) in
-    let fault : r.fault ≡ first_fault (onto piece past) = x.1 ∙ sym s.0 in (
-      record { items_are = s.1 ∙ sym (ap (λ (xs : List Item). items past ++ xs) none ∙ append-nil (items past)); fault_is = fault },
-      record { not_spent = spent ∙ has.not_spent; fault_is = same ∙ fault; feeds = λ free. absurd (none-some x.0 (sym free ∙ same ∙ x.1)) },
+    let p = parted piece past in
+    let s = stuck p.front past x.0 (sym has.fault_is ∙ x.1) in
+    let fault : r.fault ≡ first_fault (log_upto past piece) = x.1 ∙ sym (ap first_fault p.upto_is ∙ s.0) in
+    record {
+      fed_is = record { items_are = ap items p.upto_is ∙ s.1 ∙ sym (ap (λ (xs : List Item). items past ++ xs) none ∙ append-nil (items past)); fault_is = fault };
+      reads = record { not_spent = spent ∙ has.not_spent; fault_is = same ∙ fault; feeds = λ free. absurd (none-some x.0 (sym free ∙ same ∙ x.1)) };
+      rest_is = λ free. absurd (none-some x.0 (sym free ∙ x.1));
+    }
+
+-- ---- all bytes
+
+pub record RestFaults (now rest : Past) : Type 0 where
+  pub fault : LogFault
+  pub fault_is : first_fault (onto rest now) ≡ Some fault
+  pub items_are : items (onto rest now) ≡ items now
+
+-- a byte behind a whole log is a fault
+rest_faulty : (now : Past) (b : ℕ) (rest : Past) → first_fault now ≡ None → is_whole now ≡ true → RestFaults now (b ∷ rest)
+rest_faulty now b rest none whole = go (byte_fault (length now) (is_ended (lines now)) (length (line_now now)) b) refl
+  where
+    go : (o : Option LogCode) → byte_fault (length now) (is_ended (lines now)) (length (line_now now)) b ≡ o → RestFaults now (b ∷ rest)
+    go None e = absurd (ended_byte (length now) (length (line_now now)) b (rw whole at e))
+    go (Some c) e =
+        let one = one_faults b now c none e in
+        let s = stuck rest (b ∷ now) (placed now c) one.0 in
+        record { fault = placed now c; fault_is = s.0; items_are = s.1 ∙ one.1 }
+
+-- all bytes are those of the log, or those behind it begin with a fault
+pub data AllAre (piece past : Past) : Type 0 where
+  OfLog : onto piece past ≡ log_upto past piece → AllAre piece past
+  Faulty : RestFaults (log_upto past piece) (behind_log past piece) → AllAre piece past
+
+all_are : (piece past : Past) → first_fault (log_upto past piece) ≡ None → AllAre piece past
+all_are piece past none = go (behind_log past piece) refl
+  where
+    now : Past
+    now = log_upto past piece
+
+    go : (rest : Past) → behind_log past piece ≡ rest → AllAre piece past
+    go [] e = OfLog (all_read piece past ∙ ap (λ (xs : Past). onto xs now) e)
+    go (b ∷ rest) e = elim (cases_Bool (is_whole now)) [
+      | inl whole ↦ Faulty (subst (RestFaults now) (sym e) (rest_faulty now b rest none whole))
+      | inr open_ ↦ absurd (cc (e, behind_open piece past open_))
+    ]
+
+-- a fault of the log is that of all bytes
+pub faults_all : (r : Reader) (piece rest : Past) (fed : Fed) (x : LogFault) (past : Past) → ReadsLog r piece fed rest past → fed.fault ≡ Some x → FedIs fed past (onto piece past) × HasRead r (onto piece past)
+faults_all r piece rest fed x past reads some =
+    let all = all_read piece past in
+    let s = stuck (behind_log past piece) (log_upto past piece) x (sym reads.fed_is.fault_is ∙ some) in
+    let fault : fed.fault ≡ first_fault (onto piece past) = some ∙ sym (ap first_fault all ∙ s.0) in
+    let same : r.fault ≡ fed.fault = reads.reads.fault_is ∙ sym reads.fed_is.fault_is in (
+      record { items_are = ap items all ∙ s.1 ∙ reads.fed_is.items_are; fault_is = fault },
+      record { not_spent = reads.reads.not_spent; fault_is = same ∙ fault; feeds = λ free. absurd (none-some x (sym free ∙ same ∙ some)) },
+    )
+
+-- else that of the bytes behind it is
+pub reads_all : (r new : Reader) (piece rest : Past) (fed : Fed) (o : Option LogFault) (past : Past) → ReadsLog r piece fed rest past → fed.fault ≡ None → JudgesRest r.feeder rest o → new.fault ≡ o → new.spent ≡ r.spent → new.feeder ≡ r.feeder
+    → FedIs (record { items = fed.items; fault = o }) past (onto piece past) × HasRead new (onto piece past)
+reads_all r new piece rest fed o past reads none judges fault_is spent feeder =
+    let now_none : first_fault (log_upto past piece) ≡ None = sym reads.fed_is.fault_is ∙ none in
+    let has = reads.reads.feeds (reads.reads.fault_is ∙ now_none) in
+    let judged : o ≡ first_fault (onto piece past) = judges past piece has (reads.rest_is none) in
+    let all = all_read piece past in
+    let items_are : items (onto piece past) ≡ items (log_upto past piece) = elim (all_are piece past now_none) [
+      | OfLog same ↦ ap items same
+      | Faulty faults ↦ ap items all ∙ faults.items_are
+    ] in
+    let feeds : new.fault ≡ None → HasFed new.feeder (onto piece past) = λ free. elim (all_are piece past now_none) [
+      | OfLog same ↦ rw (feeder, same) has
+      | Faulty faults ↦ absurd (none-some faults.fault (sym free ∙ fault_is ∙ judged ∙ ap first_fault all ∙ faults.fault_is))
+    ] in (
+      record { items_are = items_are ∙ reads.fed_is.items_are; fault_is = judged },
+      record { not_spent = spent ∙ reads.reads.not_spent; fault_is = fault_is ∙ judged; feeds = feeds },
     )

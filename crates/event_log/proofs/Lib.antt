@@ -10,6 +10,7 @@ pub mod Histories
 pub mod Keeping
 pub mod LineSteps
 pub mod Lists
+pub mod LogEnds
 pub mod NameLaws
 pub mod NameNumbers
 pub mod Narrow

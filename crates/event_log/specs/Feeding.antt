@@ -11,6 +11,7 @@ use Rattle.event_log.specs.declared.feeder.LineGiven.{LineGiven}
 use Rattle.event_log.specs.LogText.{onto}
 use Rattle.event_log.specs.Lines.{HasReadLines, header_items}
 use Rattle.event_log.specs.Moments.{line_now, lines}
+use Rattle.event_log.specs.LogEnd.{log_upto, behind_log}
 use Rattle.event_log.specs.Faults.{first_fault, items, FedIs}
 
 abbrev pub Past : Type 0
@@ -63,7 +64,18 @@ TakesFedLine old line g new =
     (past : Past) → HasFed old past
     → LineGives g past (10 ∷ onto line past) × (g.fault ≡ None → HasFed new (10 ∷ onto line past))
 
-abbrev pub TakesPiece : Feeder → Past → Fed → Feeder → Type 0
-TakesPiece old piece fed new =
-    (past : Past) → HasFed old past
-    → FedIs fed past (onto piece past) × (fed.fault ≡ None → HasFed new (onto piece past))
+-- what those bytes of a piece gave that are of the log
+pub record LogTaken (piece past : Past) (fed : Fed) (rest : Past) (new : Feeder) : Type 0 where
+  pub fed_is : FedIs fed past (log_upto past piece)
+  pub feeds : fed.fault ≡ None → HasFed new (log_upto past piece)
+  pub rest_is : fed.fault ≡ None → rest ≡ behind_log past piece
+
+abbrev pub TakesLog : Feeder → Past → Fed → Past → Feeder → Type 0
+TakesLog old piece fed rest new =
+    (past : Past) → HasFed old past → LogTaken piece past fed rest new
+
+-- the fault that all these bytes have, of which only those of the log were read
+abbrev pub JudgesRest : Feeder → Past → Option LogFault → Type 0
+JudgesRest f rest fault =
+    (past bytes : Past) → HasFed f (log_upto past bytes) → rest ≡ behind_log past bytes
+    → fault ≡ first_fault (onto bytes past)

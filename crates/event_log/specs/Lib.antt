@@ -4,6 +4,7 @@ pub mod States
 pub mod Lines
 pub mod LogText
 pub mod Moments
+pub mod LogEnd
 pub mod Faults
 pub mod Feeding
 pub mod Reader

@@ -131,7 +131,7 @@ impl Feeder {
     ghost use Rattle.event_log.specs.Moments.{HasNoFeed, lines, IsPlainByte};
     ghost use Rattle.event_log.specs.Faults.{end_fault};
     ghost use Rattle.event_log.specs.Feeding.{Past, CountsLines, HasFed, Gains, TakesPlain};
-    ghost use Rattle.event_log.specs.Feeding.{ClosesLine, TakesFedLine, TakesPiece};
+    ghost use Rattle.event_log.specs.Feeding.{ClosesLine, TakesFedLine, TakesLog, JudgesRest};
 
     /// A reader that has read nothing. It takes no memory.
     #[tactic(auto, unfolding(crate::specs::Moments::lines, crate::specs::Moments::line_now, crate::specs::Faults::first_fault))]
@@ -265,14 +265,20 @@ impl Feeder {
         Ok(given)
     }
 
-    /// Reads one piece more, and gives what it completes.
-    pub fn feed(&mut self, piece: &[u8]) -> Result<Fed, NoMemory>
-        ensures { IfOk result (λ fed. TakesPiece self.old piece.now fed self.new) }
+    /// Reads one piece more, up to the end of the log. Gives what it completes, and the bytes that
+    /// stand behind the log.
+    pub fn feed_log<'a>(&mut self, piece: &'a [u8]) -> Result<(Fed, &'a [u8]), NoMemory>
+        ensures { IfOk result (λ x. TakesLog self.old piece.now x.0 x.1.now self.new) }
     {
         // Pieces are mostly alike.
         let mut items = List::with_capacity(self.alloc, self.given)?;
         let mut rest = piece;
-        'lines: while let Some((line, after)) = split_line(rest) {
+        'lines: while !self.reader.is_ended() {
+            let Some((line, after)) = split_line(rest) else {
+                let fault = self.take_plain(rest)?;
+                self.given = items.len();
+                return Ok((Fed { items, fault }, &[]));
+            };
             let LineGiven {
                 header,
                 item,
@@ -280,13 +286,24 @@ impl Feeder {
             } = self.take_line(line)?;
             items = with_given(items, header, item)?;
             if fault.is_some() {
-                return Ok(Fed { items, fault });
+                return Ok((Fed { items, fault }, after));
             }
             rest = after;
         }
-        let fault = self.take_plain(rest)?;
-        self.given = items.len();
-        Ok(Fed { items, fault })
+        Ok((Fed { items, fault: None }, rest))
+    }
+
+    /// The fault of all bytes, where these stand behind the log and the log has none.
+    pub fn fault_behind(&self, rest: &[u8]) -> Option<LogFault>
+        ensures { JudgesRest self.now rest.now result }
+    {
+        match rest {
+            [] => None,
+            [byte, ..] => {
+                let code = self.next_fault(self.line.len(), *byte)?;
+                Some(self.placed(code))
+            }
+        }
     }
 
     /// The fault where the input ends here, without a fault so far.

@@ -2,6 +2,7 @@
 //!
 //! `Reader::feed` gives the items and the first fault of the bytes so far, however they are cut
 //! into pieces (`read`); after want of memory it answers that from then on (`spent`, `err`).
+//! `Reader::feed_log` does the same up to the end of one log, and hands back the bytes behind it.
 //! `Reader::finish` gives the first fault of the whole text (`fault`). `write_log` writes the text
 //! of a log. Laws: that text has no fault and gives the log's items (`a_log_reads_back`); a text
 //! without a fault is that of a log that can be written (`no_fault_is_a_log`); the items of any

@@ -24,7 +24,7 @@ impl Reader {
     ghost use Rattle.event_log.specs.LogText.{onto};
     ghost use Rattle.event_log.specs.Faults.{FedIs, end_fault};
     ghost use Rattle.event_log.specs.Feeding.{Past};
-    ghost use Rattle.event_log.specs.Reader.{HasRead, IsSpent};
+    ghost use Rattle.event_log.specs.Reader.{HasRead, IsSpent, ReadsLog};
 
     /// A reader that has read nothing. It takes no memory.
     pub fn new(alloc: Global) -> Reader
@@ -47,19 +47,38 @@ impl Reader {
         ensures spent { IsSpent self.old → IsErr result }
         ensures err { OnErr result (IsSpent self.new) }
     {
+        let (fed, behind) = self.feed_log(piece)?;
+        if fed.fault.is_some() {
+            return Ok(fed);
+        }
+        self.fault = self.feeder.fault_behind(behind);
+        Ok(Fed {
+            items: fed.items,
+            fault: self.fault,
+        })
+    }
+
+    /// Reads one piece more, as far as it is of the log: up to the line feed of the `end` line.
+    /// Gives what `feed` gives of those bytes, and the bytes behind them, which are not read.
+    /// After a fault nothing is said of these.
+    pub fn feed_log<'a>(&mut self, piece: &'a [u8]) -> Result<(Fed, &'a [u8]), NoMemory>
+        ensures read { IfOk result (λ x. (past : Past) → HasRead self.old past
+            → ReadsLog self.new piece.now x.0 x.1.now past) }
+        ensures spent { IsSpent self.old → IsErr result }
+        ensures err { OnErr result (IsSpent self.new) }
+    {
         if self.spent {
             return Err(NoMemory);
         }
         if self.fault.is_some() {
-            return Ok(Fed {
-                items: List::new(self.alloc),
-                fault: self.fault,
-            });
+            let items = List::new(self.alloc);
+            let fault = self.fault;
+            return Ok((Fed { items, fault }, piece));
         }
-        match self.feeder.feed(piece) {
-            Ok(fed) => {
+        match self.feeder.feed_log(piece) {
+            Ok((fed, behind)) => {
                 self.fault = fed.fault;
-                Ok(fed)
+                Ok((fed, behind))
             }
             Err(NoMemory) => {
                 self.spent = true;
