@@ -1,0 +1,10 @@
+pub mod Own
+pub mod Unclocked
+pub mod Staying
+pub mod Behind
+pub mod Filling
+pub mod OneBatch
+pub mod Logs
+pub mod Joined
+pub mod Sent
+pub mod OneFilling
