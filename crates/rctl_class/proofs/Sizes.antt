@@ -22,7 +22,7 @@ use Rattle.rctl_class.specs.Classed.{IsClassed}
 use Rattle.rctl_class.proofs.Locals.{option_name, local_parts, local_disjuncts}
 use Rattle.rctl_class.proofs.Members.{or_else, first_joined}
 use Rattle.rctl_class.proofs.Alike.{local_is_over, none_both, not_negative, count_below, next_exact, if_bounded, bounded, disjuncts_alike}
-use Rattle.rctl_class.proofs.Kept.{disjuncts_kept}
+use Rattle.rctl_class.proofs.Counters.{disjuncts_have}
 use Rattle.rctl_class.proofs.Names.{disjuncts_names}
 
 -- ---- parts fit
@@ -332,7 +332,7 @@ classed n ds limits free is =
     let whole : IsClassed n (disjuncts_from true n) = record {
       free = free;
       meaning = disjuncts_alike true n limits.counts free;
-      kept = λ r. disjuncts_kept r true n free;
+      counters = disjuncts_have true n free;
       names = disjuncts_names true n free;
       sized = record {
         fit = disjuncts_fit true n limits.counts free;
