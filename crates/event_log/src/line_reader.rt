@@ -188,7 +188,7 @@ impl LineReader {
         if process < self.variables.len() {
             return Err(Refused::Fault(LogCode::BadLine));
         }
-        let bindings = bindings_of(alloc, &draft.settings)?;
+        let bindings = bindings_of(alloc, draft.settings.as_slice())?;
         self.add_variables(alloc, process, bindings)?;
         self.lines += 1;
         Ok(None)

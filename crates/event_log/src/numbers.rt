@@ -147,7 +147,8 @@ pub fn event_named(
     if is_to_itself(process, kind) {
         return Err(Refused::Fault(LogCode::SelfMessage));
     }
-    let assigns = assigns_in(alloc, variables_at(variables, process), &draft.settings)?;
+    let settings = draft.settings.as_slice();
+    let assigns = assigns_in(alloc, variables_at(variables, process), settings)?;
     if events >= MOST_EVENTS {
         return Err(Refused::Fault(LogCode::TooManyEvents));
     }

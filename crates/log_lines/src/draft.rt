@@ -4,6 +4,7 @@ ghost use Rattle.std.specs.Prelude.{◌≡◌};
 ghost use Rattle.log_lines.specs.declared.draft.LineError.TheVariants.{NoMemory};
 
 use crate::words::Named;
+use smallvec::SmallVec;
 use std::alloc::{AllocError, AllocFailed};
 
 /// Why a line was not read.
@@ -39,11 +40,14 @@ impl From<pota_base::NoMemory> for LineError {
 }
 
 /// `NAME=INT`: a variable and a value for it.
-#[derive(Clone, Copy, Debug)]
+#[derive(Clone, Copy, Debug, Default)]
 pub struct Setting<'a> {
     pub name: &'a [u8],
     pub value: i64,
 }
+
+/// Settings in their order. Up to two take no memory of their own.
+pub type Settings<'a> = SmallVec<Setting<'a>, 2>;
 
 /// What an event does beside its assignments.
 #[derive(Clone, Copy, Debug)]
@@ -61,14 +65,14 @@ pub struct EventDraft<'a> {
     pub process: Option<usize>,
     pub clock: Vec<u32>,
     pub action: ActionDraft<'a>,
-    pub settings: Vec<Setting<'a>>,
+    pub settings: Settings<'a>,
 }
 
 /// `vars NAME NAME=INT ..`
 #[derive(Debug, Drop)]
 pub struct VarsDraft<'a> {
     pub process: &'a [u8],
-    pub settings: Vec<Setting<'a>>,
+    pub settings: Settings<'a>,
 }
 
 impl Named for Setting<'_> {

@@ -11,7 +11,7 @@ mod lines;
 mod values;
 mod words;
 
-pub use draft::{ActionDraft, EventDraft, LineError, Setting, VarsDraft};
+pub use draft::{ActionDraft, EventDraft, LineError, Setting, Settings, VarsDraft};
 pub use frames::Frames;
 pub use lines::{begins_vars, is_batch, is_end, read_event, read_procs, read_vars};
 pub use pota_base::signed_at;

@@ -6,7 +6,7 @@ ghost use Rattle.log_lines.specs.Reading.{clock_at, event_clock_at};
 ghost use Rattle.log_lines.specs.Drafts.{Gives, value_of, values_of, value_seen, texts_of};
 
 use crate::counts::count_at;
-use crate::draft::{LineError, Setting};
+use crate::draft::{LineError, Setting, Settings};
 use crate::words::{are_distinct, spaced_name_at, text_at};
 use pota_base::signed_at;
 use std::alloc::Global;
@@ -42,10 +42,10 @@ pub fn names_from(alloc: Global, most: usize, bytes: &[u8]) -> Result<Vec<&[u8]>
     Ok(names)
 }
 
-fn values_from(alloc: Global, most: usize, bytes: &[u8]) -> Result<Vec<Setting<'_>>, LineError>
+fn values_from(alloc: Global, most: usize, bytes: &[u8]) -> Result<Settings<'_>, LineError>
     ensures { Gives (λ values. values_of values.items) result (values_from most [] bytes.now) }
 {
-    let mut values = Vec::new(alloc);
+    let mut values = Settings::new(alloc);
     let mut rest = bytes;
     for _ in 0..most {
         if rest.is_empty() {
@@ -63,11 +63,11 @@ fn values_from(alloc: Global, most: usize, bytes: &[u8]) -> Result<Vec<Setting<'
 
 /// The values to the end of the line, at most 16 and of distinct variables.
 #[tactic(auto, using(crate::proofs::Steps::value_names), unfolding(crate::specs::Reading::values_at))]
-pub fn values_at(alloc: Global, bytes: &[u8]) -> Result<Vec<Setting<'_>>, LineError>
+pub fn values_at(alloc: Global, bytes: &[u8]) -> Result<Settings<'_>, LineError>
     ensures { Gives (λ values. values_of values.items) result (values_at bytes.now) }
 {
     let values = values_from(alloc, 16, bytes)?;
-    if !are_distinct(&values) {
+    if !are_distinct(values.as_slice()) {
         return Err(LineError::Malformed);
     }
     Ok(values)

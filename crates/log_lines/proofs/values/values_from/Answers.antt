@@ -25,7 +25,7 @@ pub loop-preserved : goal.loop-preserved
 loop-preserved c =
     let some : (length c.loop.rest.now == 0) ≡ false = grind (arith, nat_tests) in
     let h : value_at c.loop.rest.now ≡ Some (value_of c.in_ok-value.value, c.in_ok-value.after.now) = grind arith in
-    let pushed : values_of c.push.new.self.items ≡ values_of c.loop.values.items ++ (value_of c.in_ok-value.value) ∷ [] = rw c.in_ok-push.ensures.items (map_push _ c.loop.values.items c.in_ok-value.value) in
+    let pushed : values_of c.push.new.self.items ≡ values_of c.loop.values.items ++ (value_of c.in_ok-value.value) ∷ [] = rw c.in_ok-push.ensures.ok (map_push _ c.loop.values.items c.in_ok-value.value) in
     c.loop.invariant ∙ items-next value_at c.args.most c.loop.counter (values_of c.loop.values.items) c.loop.rest.now (value_of c.in_ok-value.value) c.in_ok-value.after.now c.loop-test.true some h ∙ ap (λ (front : List NamedValue). items_from value_at (c.args.most - (c.loop.counter + 1)) front c.in_ok-value.after.now) (sym pushed)
 
 pub returns-then-not-is_empty : goal.returns-then-not-is_empty
