@@ -1,11 +1,11 @@
 -- The start of an earlier row of one process lies within the start of the later one.
-use Rattle.std.proofs.Common.{◌≡◌, ℕ, zero, suc, ◌+◌, ◌-◌, ◌<◌, ◌≤◌, ◌⊎◌, inl, inr, List, [], ◌∷◌, length, get_or, set, sum, take, refl, arith, sym, ap, ◌∙◌, get_or-set_same}
+use Rattle.std.proofs.Common.{◌≡◌, ℕ, zero, suc, ◌-◌, ◌<◌, ◌≤◌, ◌⊎◌, inl, inr, List, [], ◌∷◌, get_or, set, arith, sym, ap, ◌∙◌, get_or-set_same}
 use Rattle.pota_base.specs.declared.shape.EventId.{EventId}
 use Rattle.pota_base.specs.Shape.{HasEvent, row_of}
 use Rattle.pull_system.specs.Rows.{start_of}
 use Rattle.pull_system.proofs.Climbing.{lt_or_le, set_case}
 use Rattle.pull_system.proofs.Starts.{in_head, in_tail, start_of-bottom, start_of-event, length-start_of}
-use Rattle.certified_rows.specs.Begun.{AreOfOneProcess, MayFollow}
+use Rattle.certified_rows.specs.Begun.{AreOfOneProcess}
 
 heads_rise : (a b : ℕ) (xs : List ℕ) → a ≤ b → (i : ℕ) → get_or (a ∷ xs) i 0 ≤ get_or (b ∷ xs) i 0
 heads_rise a b xs less zero = less

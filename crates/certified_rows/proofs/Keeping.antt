@@ -1,5 +1,5 @@
 -- What stands of rows that are begun and raised.
-use Rattle.std.proofs.Common.{◌≡◌, ◌↔◌, ℕ, zero, suc, ◌+◌, ◌-◌, ◌*◌, ◌^◌, ◌<◌, ◌≤◌, ◌⊎◌, inl, inr, List, [], length, get_or, sum, max, subst, Option, None, Some, refl, arith, sym, ap, ◌∙◌}
+use Rattle.std.proofs.Common.{◌≡◌, ◌↔◌, ℕ, zero, suc, ◌+◌, ◌-◌, ◌^◌, ◌<◌, ◌≤◌, inl, inr, List, [], length, get_or, sum, max, subst, Option, None, Some, refl, arith, sym, ap, ◌∙◌}
 use Rattle.std.proofs.lemmas.Nat.{same_from_place}
 use Rattle.pull_system.specs.System.{SystemView, IsSystem, IsPull, IsClosed, HoldsPull, source_of, target_of, pull_at, ask}
 use Rattle.pull_system.specs.Rows.{AreLeastRows, IsLeast, start_of, place_of, row_at}
@@ -10,7 +10,7 @@ use Rattle.pull_system.proofs.Sums.{component_le}
 use Rattle.raise_machine.specs.Bounds.{AreBounds, word_at, raised}
 use Rattle.raise_machine.proofs.Raising.{bounds_raised, starts_bounds, pull_bound, lend_bound, word_above, word_in_range}
 use Rattle.raise_machine.proofs.Running.{seen_least}
-use Rattle.certified_rows.specs.Begun.{BegunView, AreCertified, AreOfOneProcess, IsWhole, LastIsClosed, MayBegin, MayFollow, MayRaise, fresh_rows, lent, lent_from, present, present_row, with_raise, with_row}
+use Rattle.certified_rows.specs.Begun.{BegunView, AreCertified, IsWhole, LastIsClosed, MayBegin, MayFollow, MayRaise, fresh_rows, lent, lent_from, present, with_raise, with_row}
 use Rattle.certified_rows.proofs.Following.{followed_within}
 
 -- ---- rows that stay
@@ -116,7 +116,7 @@ raise_keeps v is k x may =
       system = is.system;
       few = is.few;
       bounds = bounds_raised v.system v.words (place_of v.system.lens (present v) (target_of v.system k)) (ask v.system k x) is.bounds
-      (pull_bound v.system is.system v.words is.bounds (present v) k x may.pull may.reached);
+          (pull_bound v.system is.system v.words is.bounds (present v) k x may.pull may.reached);
       closed = λ r before.
           same_closed v.system is.system v.words (raised v.words (place_of v.system.lens (present v) (target_of v.system k)) (ask v.system k x)) r
           (λ at there. other_stays v.system.lens v.words (present v) (target_of v.system k) (ask v.system k x) r at p.target there (λ e. omega (arith, e, before, may.begun)))

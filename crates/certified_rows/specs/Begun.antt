@@ -1,7 +1,7 @@
 -- Rows of one system that are begun in their order, and raised one step at a time.
 use Rattle.std.specs.Prelude.{◌≡◌, ℕ, zero, suc, ◌+◌, ◌-◌, ◌<◌, ◌≤◌, ◌⊎◌, List, length, sum}
 use Rattle.std.specs.Prelude.{slice_index, Option, None, Some}
-use Rattle.pull_system.specs.System.{SystemView, IsSystem, IsClosed, HoldsPull, source_of, target_of}
+use Rattle.pull_system.specs.System.{SystemView, IsSystem, IsClosed, source_of, target_of}
 use Rattle.pull_system.specs.System.{ask}
 use Rattle.pull_system.specs.Rows.{start_of, starts, place_of, row_at}
 use Rattle.raise_machine.specs.Bounds.{AreBounds, word_at, raised}

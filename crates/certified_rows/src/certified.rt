@@ -49,12 +49,7 @@ impl CertifiedRows {
 
     /// Begins the row, behind an earlier one if there is one, and says whether it may begin. It
     /// looks up each pull once at most, to see that the row before is closed.
-    pub fn begin<L: Ledger>(
-        &mut self,
-        row: u32,
-        after: Option<u32>,
-        steps: &mut Steps<L>,
-    ) -> bool
+    pub fn begin<L: Ledger>(&mut self, row: u32, after: Option<u32>, steps: &mut Steps<L>) -> bool
         ensures allowed { IsTrue result ↔ MayBegin self.old row after }
         ensures begun { IsTrue result → self.new ≡ with_row self.old row after }
         ensures same { result ≡ false → self.new ≡ self.old }

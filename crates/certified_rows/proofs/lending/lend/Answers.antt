@@ -1,4 +1,4 @@
-use Rattle.std.proofs.Common.{rules, arith, ◌≡◌, ◌∙◌, ◌+◌, ℕ, suc, ap}
+use Rattle.std.proofs.Common.{rules, arith, ◌≡◌, ◌∙◌, ◌+◌, suc, ap}
 use Rattle.raise_machine.specs.Bounds.{word_at}
 use Rattle.certified_rows.specs.Begun.{lent}
 use Rattle.certified_rows.proofs.Keeping.{lent_stays}

@@ -1,5 +1,4 @@
-use Rattle.std.proofs.Common.{rules, arith, ◌≡◌, sym, subst}
-use Rattle.std.specs.Prelude.{IsTrue}
+use Rattle.std.proofs.Common.{rules, sym, subst}
 use Rattle.pull_system.specs.Rows.{AreLeastRows}
 use Rattle.certified_rows.specs.Begun.{BegunView, IsWhole, LastIsClosed}
 use Rattle.certified_rows.proofs.Keeping.{whole_least}

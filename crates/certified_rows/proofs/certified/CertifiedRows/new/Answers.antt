@@ -1,7 +1,5 @@
-use Rattle.std.proofs.Common.{rules, ◌≡◌, List, ℕ, sym, subst, ap, ◌∙◌}
-use Rattle.pull_system.specs.Rows.{RowsView}
+use Rattle.std.proofs.Common.{rules}
 use Rattle.pull_system.specs.System.{IsSystem}
-use Rattle.certified_rows.specs.Begun.{AreCertified}
 use Rattle.certified_rows.proofs.Keeping.{fresh_certified}
 use Rattle.certified_rows.proofs.certified.CertifiedRows.new.Goals as goal
 

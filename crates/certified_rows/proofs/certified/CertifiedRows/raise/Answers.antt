@@ -1,9 +1,9 @@
-use Rattle.std.proofs.Common.{rules, arith, ◌≡◌, ◌-◌, ◌<◌, ◌≤◌, List, ℕ, length, ap, sym, subst, ◌∙◌}
+use Rattle.std.proofs.Common.{rules, arith, ◌≡◌, ◌-◌, List, ℕ, sym, subst, ◌∙◌}
 use Rattle.pull_system.specs.System.{source_of, target_of, ask}
 use Rattle.pull_system.specs.Rows.{place_of}
 use Rattle.raise_machine.specs.Bounds.{word_at, raised}
 use Rattle.certified_rows.specs.Begun.{AreCertified, BegunView, MayRaise}
-use Rattle.certified_rows.proofs.Keeping.{entry_there, ask_small, raise_keeps}
+use Rattle.certified_rows.proofs.Keeping.{entry_there, raise_keeps}
 use Rattle.certified_rows.proofs.certified.CertifiedRows.raise.Goals as goal
 
 pub pull-asked-requires-clause-entry : goal.pull-asked-requires-clause-entry
@@ -18,6 +18,7 @@ invariant_of-self g c =
     let asked : c.pull-asked.result ≡ ask c.self.inside.system c.args.k c.args.x = cc (c.pull-asked.ensures.entry, c.from-2.ensures) in
     let v : BegunView = record { system = c.self.inside.system; words = c.self.inside.rows.words; begun = c.self.inside.begun } in
     let may : MayRaise v c.args.k c.args.x = record { begun = search rules; pull = search rules; reached = omega (arith, read, c.from.ensures, c.if-from-word.false); more = omega (arith, found, asked, c.if-asked-word.false) } in
-    let words : c.raise.new.self.words ≡ raised c.self.inside.rows.words (place_of c.self.inside.system.lens (c.self.inside.begun - 1) (target_of c.self.inside.system c.args.k)) (ask c.self.inside.system c.args.k c.args.x) = cc (c.raise.ensures.words, c.ends-source.ensures.target, c.self.invariant.0, asked) in
-    (c.raise.ensures.lens ∙ c.self.invariant.0,
-    subst (λ (ws : List ℕ). AreCertified (record { system = c.self.inside.system; words = ws; begun = c.self.inside.begun })) (sym words) (raise_keeps v c.self.invariant.1 c.args.k c.args.x may))
+    let words : c.raise.new.self.words ≡ raised c.self.inside.rows.words (place_of c.self.inside.system.lens (c.self.inside.begun - 1) (target_of c.self.inside.system c.args.k)) (ask c.self.inside.system c.args.k c.args.x) = cc (c.raise.ensures.words, c.ends-source.ensures.target, c.self.invariant.0, asked) in (
+      c.raise.ensures.lens ∙ c.self.invariant.0,
+      subst (λ (ws : List ℕ). AreCertified (record { system = c.self.inside.system; words = ws; begun = c.self.inside.begun })) (sym words) (raise_keeps v c.self.invariant.1 c.args.k c.args.x may),
+    )
