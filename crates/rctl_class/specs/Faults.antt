@@ -17,8 +17,8 @@ use Rattle.rctl_class.specs.Uses.{earlier, fault_at}
 
 -- ---- what is wrong with one node that isn't local
 
--- a comparison is of two processes, messages under way or a difference are compared as unequal after
--- the sign, and a difference is of one process
+-- a comparison is of two processes, messages under way or a difference are compared as unequal
+-- after the sign, and a difference is of one process
 abbrev pub atom_fault : Bool → Atom → ℕ → Option FormulaFault
 atom_fault sign (atom.Truth value) at = None
 atom_fault sign (atom.Local process variable compare right) at = fault_at code.NotRegular at

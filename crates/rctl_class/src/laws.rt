@@ -40,8 +40,8 @@ pub fn counters_are_what_is_asked()
 {}
 
 /// A formula that was read has at most 64 nodes, each number that messages or a difference are
-/// compared with has 64 bits with a sign, and each `and` and `or` has two members or more; its nodes
-/// spell what it means.
+/// compared with has 64 bits with a sign, and each `and` and `or` has two members or more; its
+/// nodes spell what it means.
 pub fn read_formulas_are_within_limits()
     ensures limits { (text : List ℕ) (t : Tree) → IsReadAs text t → IsWithinLimits (node_of t) }
     ensures meaning { (text : List ℕ) (t : Tree) → IsReadAs text t

@@ -4,9 +4,10 @@
 //! `classify` gives the disjuncts, or exactly the first fault: what is wrong with one node stands
 //! in three tables, and nodes are judged before their members, members from left to right. Laws:
 //! a formula has no fault exactly where it is of the class (`faultless_formulas_are_of_the_class`),
-//! the disjuncts mean the formula (`disjuncts_mean_the_formula`), what a formula asks of a run is that
-//! none of its counters falls (`counters_are_what_is_asked`), and what `classify` asks is so of each
-//! formula that was read (`read_formulas_are_within_limits`). *Not said*: that memory suffices.
+//! the disjuncts mean the formula (`disjuncts_mean_the_formula`), what a formula asks of a run is
+//! that none of its counters falls (`counters_are_what_is_asked`), and what `classify` asks is so
+//! of each formula that was read (`read_formulas_are_within_limits`). *Not said*: that memory
+//! suffices.
 #![tactic(auto)]
 
 ghost use Rattle.rctl_class.specs.Classed.{IsClassed};
