@@ -1,5 +1,6 @@
 pub mod Rounds
 pub mod Observing
+pub mod Counters
 pub mod Numbering
 pub mod Systems
 pub mod Counting

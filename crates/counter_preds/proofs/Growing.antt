@@ -28,7 +28,7 @@ process_logged states whole p there =
     process_is states.header.procs states.header.vars states.events p (omega (arith, whole.events, there)) (omega (arith, whole.events, whole.header.vars, there)) there
 
 -- the state that a header opens a process with, and the value behind some events
-abbrev opening_in : Header → Variable → List ℤ
+abbrev pub opening_in : Header → Variable → List ℤ
 opening_in h x = map (λ (v : run.Variable). v.value) (map variable_of (get_or h.vars x.process []))
 
 abbrev pub value_behind : Header → Variable → List Event → ℤ
@@ -48,7 +48,7 @@ more_there before after more whole whole' x is = record {
 }
 
 -- the values before are the first of those after
-value_stays : (before after : StatesView) → HasMoreEvents before after → AreWhole before → AreWhole after → (x : Variable) → IsVariable before x → (a : ℕ) → a ≤ length (events_at before x.process)
+pub value_stays : (before after : StatesView) → HasMoreEvents before after → AreWhole before → AreWhole after → (x : Variable) → IsVariable before x → (a : ℕ) → a ≤ length (events_at before x.process)
     → value_in before x a ≡ value_in after x a
 value_stays before after more whole whole' x is a le =
     let front : take a (events_at after x.process) ≡ take a (events_at before x.process) =

@@ -4,3 +4,8 @@ pub mod Reaching
 pub mod Tables
 pub mod Growing
 pub mod Meaning
+pub mod Behind
+pub mod Lowering
+pub mod Falling
+pub mod Staying
+pub mod Clockless

@@ -1,5 +1,5 @@
 -- What the tests of integers say.
-use Rattle.std.proofs.Common.{◌≡◌, true, false, ℤ, ◌≤ℤ◌, ◌<ℤ◌, int_le, arith}
+use Rattle.std.proofs.Common.{◌≡◌, true, false, ℤ, ◌≤ℤ◌, ◌<ℤ◌, int_le, int_lt, arith}
 use Rattle.std.proofs.lemmas.Int.{ints}
 
 pub le_holds : (a b : ℤ) → a ≤ℤ b → int_le a b ≡ true
@@ -13,3 +13,6 @@ lt_fails a b h = grind (arith, ints)
 
 pub fails_lt : (a b : ℤ) → int_le a b ≡ false → b <ℤ a
 fails_lt a b h = grind (arith, ints)
+
+pub not_lower : (a b : ℤ) → int_lt b a ≡ false → a ≤ℤ b
+not_lower a b h = grind (arith, ints)

@@ -1,5 +1,5 @@
 -- The plain data of an expression and of a part, variant by variant.
-use Rattle.std.specs.Prelude.{ℕ, Bool, List, map, Option}
+use Rattle.std.specs.Prelude.{ℕ, ℤ, Bool, List, map, Option}
 use Rattle.std.proofs.Common.{◌≡◌, sym, ◌∙◌, ap}
 use Rattle.rctl_grammar.specs.declared.tree.Compare.{Compare}
 use Rattle.rctl_grammar.specs.declared.tree.Operator.{Operator}
@@ -11,11 +11,11 @@ use Rattle.rctl_parts.specs.declared.expr.LocalExpr.TheOpen.{LocalExpr-F}
 use Rattle.rctl_parts.specs.declared.expr.LocalExpr.TheFolds.{fold-roll-LocalExpr}
 use Rattle.rctl_parts.specs.declared.part.Part.{Part}
 use Rattle.rctl_parts.specs.declared.part.Part.TheVariants as part
-use Rattle.rctl_parts.specs.declared.part.Part.TheVariants.{rolls-Local, rolls-AtMost, rolls-AtLeast, rolls-Never, rolls-Temporal}
+use Rattle.rctl_parts.specs.declared.part.Part.TheVariants.{rolls-Local, rolls-AtMost, rolls-AtLeast, rolls-Never, rolls-DiffAtMost, rolls-DiffAtLeast, rolls-Temporal}
 use Rattle.rctl_parts.specs.declared.part.Part.TheOpen.{Part-F}
 use Rattle.rctl_parts.specs.declared.part.Part.TheFolds.{fold-roll-Part}
 use Rattle.rctl_parts.specs.Exprs.{Expr, truth, comparison, watch, negation, conjunction, disjunction, exprs, expr_step, expr_of}
-use Rattle.rctl_parts.specs.Pieces.{Piece, local, at_most, at_least, never, atom, temporal, pieces, piece_step, piece_of, pieces_of}
+use Rattle.rctl_parts.specs.Pieces.{Piece, local, at_most, at_least, never, diff_at_most, diff_at_least, atom, temporal, pieces, piece_step, piece_of, pieces_of}
 
 pub expr-Truth : (value : Bool) → expr_of (local_expr.Truth value) ≡ truth value
 unfolding expr_of
@@ -59,6 +59,16 @@ piece-AtLeast sender receiver k =
 pub piece-Never : piece_of part.Never ≡ atom never
 unfolding piece_of
 piece-Never = ap piece_of (sym rolls-Never) ∙ fold-roll-Part Piece piece_step Part-F.Never
+
+pub piece-DiffAtMost : (p x q y : ℕ) (k : ℤ) → piece_of (part.DiffAtMost p x q y k) ≡ atom (diff_at_most p x q y k)
+unfolding piece_of
+piece-DiffAtMost p x q y k =
+    ap piece_of (sym (rolls-DiffAtMost p x q y k)) ∙ fold-roll-Part Piece piece_step (Part-F.DiffAtMost p x q y k)
+
+pub piece-DiffAtLeast : (p x q y : ℕ) (k : ℤ) → piece_of (part.DiffAtLeast p x q y k) ≡ atom (diff_at_least p x q y k)
+unfolding piece_of
+piece-DiffAtLeast p x q y k =
+    ap piece_of (sym (rolls-DiffAtLeast p x q y k)) ∙ fold-roll-Part Piece piece_step (Part-F.DiffAtLeast p x q y k)
 
 pub piece-Temporal : (operator : Operator) (ps : List Part) → piece_of (part.Temporal operator ps) ≡ temporal operator (pieces (pieces_of ps))
 unfolding piece_of

@@ -1,9 +1,9 @@
 -- When parts are made for a header and for watches: each number in them is there, and each watch is
 -- on one process.
 use Rattle.std.specs.Prelude.{◌≡◌, ℕ, ◌+◌, ◌^◌, ◌<◌, ◌≤◌, ◌==◌, Bool, true, false, ◌&&◌, ◌||◌, List}
-use Rattle.std.specs.Prelude.{[], ◌∷◌, length, get_or, Option, None, Some, IsTrue, ⊤}
-use Rattle.run_model.specs.Class.{is_analysed}
-use Rattle.rctl_grammar.specs.Shape.{model_operator}
+use Rattle.std.specs.Prelude.{[], ◌∷◌, length, get_or, Option, None, Some, ⊤, ℤ, pos, neg_ℤ, ◌≤ℤ◌}
+use Rattle.rctl_grammar.specs.declared.tree.Operator.{Operator}
+use Rattle.rctl_grammar.specs.declared.tree.Operator.TheVariants as operator
 use Rattle.rctl_parts.specs.declared.expr.LocalSide.{LocalSide}
 use Rattle.rctl_parts.specs.declared.expr.LocalSide.TheVariants as side
 use Rattle.rctl_parts.specs.Exprs as expr
@@ -66,19 +66,39 @@ LocalFits scope (Some p) e =
 abbrev pub ChannelFits : Scope → ℕ → ℕ → ℕ → Type 0
 ChannelFits scope p q k = (p < length scope.variables) × (q < length scope.variables) × (k ≤ 2 ^ 63)
 
+-- a variable of a process is there
+abbrev pub VariableFits : Scope → ℕ → ℕ → Type 0
+VariableFits scope p x = (p < length scope.variables) × (x < get_or scope.variables p 0)
+
+-- a difference is of variables of two processes, and its bound within 2^64
+abbrev pub DifferenceFits : Scope → ℕ → ℕ → ℕ → ℕ → ℤ → Type 0
+DifferenceFits scope p x q y k =
+    VariableFits scope p x × VariableFits scope q y × (p ≡ q → ⊥) × (neg_ℤ (pos (2 ^ 64)) ≤ℤ k)
+    × (k ≤ℤ pos (2 ^ 64))
+
+-- an operator is analysed, and the process of a number is there
+abbrev pub OperatorFits : Scope → Operator → Type 0
+OperatorFits scope operator.Ef = ⊤
+OperatorFits scope operator.Ag = ⊤
+OperatorFits scope operator.Eg = ⊤
+OperatorFits scope (operator.Ex p) = p < length scope.variables
+OperatorFits scope operator.Af = ⊥
+OperatorFits scope operator.Ax = ⊥
+
 -- an atom is made for the scope
 abbrev pub AtomFits : Scope → Atom → Type 0
 AtomFits scope (piece.local process e) = LocalFits scope process e
 AtomFits scope (piece.at_most p q k) = ChannelFits scope p q k
 AtomFits scope (piece.at_least p q k) = ChannelFits scope p q k
 AtomFits scope piece.never = ⊤
+AtomFits scope (piece.diff_at_most p x q y k) = DifferenceFits scope p x q y k
+AtomFits scope (piece.diff_at_least p x q y k) = DifferenceFits scope p x q y k
 
 abbrev mutual
   -- a part is made for the scope: its numbers are there, and its operators are analysed
   pub PieceFits : Scope → Piece → Type 0
   PieceFits scope (piece.atom a) = AtomFits scope a
-  PieceFits scope (piece.temporal operator ps) =
-      IsTrue (is_analysed (model_operator operator)) × PiecesFit scope ps
+  PieceFits scope (piece.temporal operator ps) = OperatorFits scope operator × PiecesFit scope ps
 
   -- so of each part of an operand
   pub PiecesFit : Scope → Pieces → Type 0
@@ -137,6 +157,8 @@ atom_names_watch w (piece.local process e) = names_watch w e
 atom_names_watch w (piece.at_most p q k) = false
 atom_names_watch w (piece.at_least p q k) = false
 atom_names_watch w piece.never = false
+atom_names_watch w (piece.diff_at_most p x q y k) = false
+atom_names_watch w (piece.diff_at_least p x q y k) = false
 
 abbrev mutual
   -- some local part of the part names the watch

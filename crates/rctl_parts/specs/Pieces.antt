@@ -1,5 +1,5 @@
 -- A part as plain data: an atom, or an operator over parts.
-use Rattle.std.specs.Prelude.{ℕ, List, [], ◌∷◌, map, Option}
+use Rattle.std.specs.Prelude.{ℕ, ℤ, List, [], ◌∷◌, map, Option}
 use Rattle.rctl_grammar.specs.declared.tree.Operator.{Operator}
 use Rattle.rctl_parts.specs.declared.part.Part.{Part}
 use Rattle.rctl_parts.specs.declared.part.Part.TheOpen.{Part-F}
@@ -12,6 +12,9 @@ pub data Atom : Type 0 where
   at_most : (sender receiver k : ℕ) → Atom
   at_least : (sender receiver k : ℕ) → Atom
   never : Atom
+  -- a variable of the left process, less one of the right process, against k
+  diff_at_most : (left_process left right_process right : ℕ) (k : ℤ) → Atom
+  diff_at_least : (left_process left right_process right : ℕ) (k : ℤ) → Atom
 
 mutual
   -- a part
@@ -40,6 +43,10 @@ piece_step (Part-F.Local process expr) = atom (local process (expr_of expr))
 piece_step (Part-F.AtMost sender receiver k) = atom (at_most sender receiver k)
 piece_step (Part-F.AtLeast sender receiver k) = atom (at_least sender receiver k)
 piece_step Part-F.Never = atom never
+piece_step (Part-F.DiffAtMost left_process left right_process right k) =
+    atom (diff_at_most left_process left right_process right k)
+piece_step (Part-F.DiffAtLeast left_process left right_process right k) =
+    atom (diff_at_least left_process left right_process right k)
 piece_step (Part-F.Temporal operator ps) = temporal operator (pieces ps)
 
 -- the part that the code's value is

@@ -3,7 +3,9 @@
 use Rattle.std.specs.Prelude.{ℕ, List, [], ◌∷◌, map, get_or, Option, None, Some, false}
 use Rattle.run_model.specs.Run.{Name}
 use Rattle.run_model.specs.Formula as model
-use Rattle.rctl_grammar.specs.Shape.{relation_of, model_operator}
+use Rattle.rctl_grammar.specs.declared.tree.Operator.{Operator}
+use Rattle.rctl_grammar.specs.declared.tree.Operator.TheVariants as operator
+use Rattle.rctl_grammar.specs.Shape.{relation_of}
 use Rattle.rctl_parts.specs.declared.expr.LocalSide.{LocalSide}
 use Rattle.rctl_parts.specs.declared.expr.LocalSide.TheVariants as side
 use Rattle.rctl_parts.specs.Exprs as expr
@@ -49,6 +51,10 @@ abbrev mutual
   formulas_in variables watches process (expr.more e es) =
       model.Cons (formula_in variables watches process e) (formulas_in variables watches process es)
 
+-- the name of a process's variable
+abbrev pub variable_at : Names → ℕ → ℕ → Name
+variable_at names p x = name_at (get_or names.variables p []) x
+
 -- an expression over a process, or over none
 abbrev pub local_formula : Names → Option ℕ → Expr → model.Formula
 local_formula names None e = formula_in [] [] [] e
@@ -63,13 +69,28 @@ atom_formula names (piece.at_most p q k) =
 atom_formula names (piece.at_least p q k) =
     model.InTransit (name_at names.processes p) (name_at names.processes q) model.GreaterOrEqual k
 atom_formula names piece.never = model.Truth false
+atom_formula names (piece.diff_at_most p x q y k) =
+    model.Difference (name_at names.processes p) (variable_at names p x) (name_at names.processes q)
+    (variable_at names q y) model.LessOrEqual k
+atom_formula names (piece.diff_at_least p x q y k) =
+    model.Difference (name_at names.processes p) (variable_at names p x) (name_at names.processes q)
+    (variable_at names q y) model.GreaterOrEqual k
+
+-- an operator over an operand: that of a process's number is the next event of the process
+abbrev pub operated : Names → Operator → model.Formula → model.Formula
+operated names operator.Ef f = model.Temporal model.Ef f
+operated names operator.Ag f = model.Temporal model.Ag f
+operated names operator.Eg f = model.Temporal model.Eg f
+operated names (operator.Ex p) f = model.Next (name_at names.processes p) f
+operated names operator.Af f = model.Temporal model.Af f
+operated names operator.Ax f = model.Temporal model.Ax f
 
 abbrev mutual
   -- the formula of a part
   pub formula_of : Names → Piece → model.Formula
   formula_of names (piece.atom a) = atom_formula names a
   formula_of names (piece.temporal operator ps) =
-      model.Temporal (model_operator operator) (model.And (formulas_of names ps))
+      operated names operator (model.And (formulas_of names ps))
 
   -- those of the parts of an operand
   pub formulas_of : Names → Pieces → model.Formulas

@@ -25,6 +25,22 @@ pub enum Part {
     },
     /// False at every cut.
     Never,
+    /// The left variable, of the left process, is at most `k` more than the right one.
+    DiffAtMost {
+        left_process: u32,
+        left: u32,
+        right_process: u32,
+        right: u32,
+        k: i128,
+    },
+    /// The left variable, of the left process, is at least `k` more than the right one.
+    DiffAtLeast {
+        left_process: u32,
+        left: u32,
+        right_process: u32,
+        right: u32,
+        k: i128,
+    },
     /// The operator over the conjunction of the parts (Sen and Garg).
     Temporal {
         operator: Operator,
