@@ -1,19 +1,19 @@
 -- The parts and disjuncts of a formula of the class mean what the model's do.
-use Rattle.std.proofs.Common.{◌≡◌, ◌↔◌, ℕ, zero, suc, ◌+◌, ◌<◌, ◌^◌, Bool, true, false, not, List, [], ◌∷◌, ◌++◌, map, length, Option, None, Some, if◌then◌else◌, sym, ap, refl, ◌∙◌, inl, inr, subst, rules, nat_lt, arith}
+use Rattle.std.proofs.Common.{◌≡◌, ◌↔◌, ℕ, zero, suc, ◌+◌, ◌<◌, ◌^◌, ℤ, Bool, true, false, not, bytes_eq, List, [], ◌∷◌, ◌++◌, map, length, Option, None, Some, if◌then◌else◌, sym, ap, refl, ◌∙◌, inl, inr, subst, rules, nat_lt, arith}
 use Rattle.std.proofs.lemmas.Bool.{cases_Bool, and_parts, false≢true}
 use Rattle.std.proofs.lemmas.Bool.Decides.{nat_tests}
 use Rattle.std.proofs.lemmas.List.{map-append}
 use Rattle.std.proofs.lemmas.Slice.Eq.{bytes_eq-Decides}
-use Rattle.run_model.specs.Cut.{Cut, Clocks}
+use Rattle.run_model.specs.Cut.{Cut, Clocks, with_next}
 use Rattle.run_model.specs.Run.{Name, Run}
 use Rattle.run_model.specs.Formula as model
 use Rattle.run_model.specs.Formula.{Formula, Formulas}
 use Rattle.run_model.specs.Consistent.{IsOrder, IsConsistent, PathIn}
 use Rattle.run_model.specs.Sublattice.{AllIn}
-use Rattle.run_model.specs.Operators.{SomeTime, EachTime, Staying}
+use Rattle.run_model.specs.Operators.{SomeTime, EachTime, Staying, NextTime}
 use Rattle.run_model.specs.Meaning.{Sat, SatAll}
 use Rattle.run_model.specs.Class as class
-use Rattle.run_model.specs.Class.{is_plain, all_plain, processes, all_processes, is_local, after_sign, channel_parts, parts, all_parts, disjuncts, all_disjuncts, SatParts, SatDisjuncts}
+use Rattle.run_model.specs.Class.{is_plain, all_plain, processes, all_processes, is_local, after_sign, channel_parts, parts, all_parts, difference_parts, are_bounded, is_unequal, disjuncts, all_disjuncts, SatParts, SatDisjuncts}
 use Rattle.run_model.proofs.Paths.{path_last}
 use Rattle.run_model.proofs.DisjunctLemmas.{parts_mean}
 use Rattle.rctl_grammar.specs.declared.tree.Operator.{Operator}
@@ -29,7 +29,7 @@ use Rattle.rctl_class.specs.Uses.{earlier, uses_of}
 use Rattle.rctl_class.specs.Faults.{first_fault, first_of, operator_fault}
 use Rattle.rctl_class.specs.NamedParts.{Piece, name_on, side_formula, expr_formula, expr_formulas, part_formula, part_formulas, pieces}
 use Rattle.rctl_class.specs.Walk as walk
-use Rattle.rctl_class.specs.Walk.{first_place, is_on, is_over, all_over, side_from, expr_from, exprs_from, local_part, bounds, next_count, parts_from, disjuncts_from}
+use Rattle.rctl_class.specs.Walk.{first_place, is_on, is_over, all_over, side_from, expr_from, exprs_from, local_part, bounds, difference_bounds, next_count, parts_from, disjuncts_from}
 use Rattle.rctl_class.specs.Classed.{MeanTheSame, Head, bare, operated, stepped, head_of, HaveOneHead, Alike, PartsAlike, EachAlike, disjunct_formulas}
 use Rattle.rctl_class.proofs.Locals.{option_name, over_is_local, local_parts, local_disjuncts}
 
@@ -113,6 +113,12 @@ operated_alike (operator.Ex process) f g same r order c k = (λ h. h, λ h. h)
 operated_alike operator.Af f g same r order c k = (λ h. h, λ h. h)
 operated_alike operator.Ax f g same r order c k = (λ h. h, λ h. h)
 
+next_too : (o : Clocks) (i : ℕ) (A B : Cut → Type 0) → ((c : Cut) → IsConsistent o c → A c → B c) → (c : Cut) → NextTime o i A c → NextTime o i B c
+next_too o i A B wider c h = (h.0, h.1, wider (with_next c i) (path_last (IsConsistent o) c (with_next c i ∷ []) (with_next c i) h.1) h.2)
+
+stepped_alike : (process : Name) (f g : Formula) → MeanTheSame f g → MeanTheSame (model.Next process f) (model.Next process g)
+stepped_alike process f g same r order c k = (next_too r.clocks (r.process process) (Sat r f) (Sat r g) (λ d m. (same r order d m).0) c, next_too r.clocks (r.process process) (Sat r g) (Sat r f) (λ d m. (same r order d m).1) c)
+
 all_of_parts : (r : Run) (ps : List Piece) (c : Cut) → SatAll r (part_formulas (pieces ps)) c ↔ SatParts r (map part_formula ps) c
 all_of_parts r [] c = (λ h. h, λ h. h)
 all_of_parts r (p ∷ ps) c = let rest = all_of_parts r ps c in (λ h. (h.0, rest.0 h.1), λ h. (h.0, rest.1 h.1))
@@ -172,7 +178,7 @@ local_is_over n h = over_is_local n ∙ h
 unsigned_formula : (n : Node) → is_local (formula_of n) ≡ true → expr_formula (name_on (first_place (uses_of n))) (expr_from n) ≡ formula_of n
 unsigned_formula n h = ap (λ name. expr_formula name (expr_from n)) (sym (name_of_first (first_place (uses_of n)))) ∙ expr_named (option_name (first_place (uses_of n))) n (local_is_over n h)
 
-local_formula : (sign : Bool) (n : Node) → is_local (formula_of n) ≡ true → part_formula (local_part sign n) ≡ class.signed sign (formula_of n)
+pub local_formula : (sign : Bool) (n : Node) → is_local (formula_of n) ≡ true → part_formula (local_part sign n) ≡ class.signed sign (formula_of n)
 local_formula true n h = unsigned_formula n h
 local_formula false n h = ap model.Not (unsigned_formula n h)
 
@@ -217,6 +223,29 @@ pub if_none : (b : Bool) (f : FormulaFault) → (if b then Some f else None) ≡
 if_none true f h = absurd (cc)
 if_none false f h = refl
 
+pub if_bounded : (b : Bool) (f : FormulaFault) → (if b then None else Some f) ≡ None → b ≡ true
+if_bounded true f h = refl
+if_bounded false f h = absurd (cc)
+
+not_true : (b : Bool) → not b ≡ true → b ≡ false
+not_true true h = absurd (false≢true h)
+not_true false h = refl
+
+-- a difference without a fault is of two processes, and not compared as unequal after the sign
+pub bounded : (sign : Bool) (p q : Name) (relation : model.Relation) → are_bounded sign p q relation ≡ true → (bytes_eq p q ≡ false) × (is_unequal (after_sign sign relation) ≡ false)
+bounded sign p q relation h =
+    let both = and_parts (not (bytes_eq p q)) (not (is_unequal (after_sign sign relation))) h in
+    (not_true (bytes_eq p q) both.0, not_true (is_unequal (after_sign sign relation)) both.1)
+
+differences_alike : (p x q y : Place) (relation : model.Relation) (k : ℤ) → is_unequal relation ≡ false
+    → map part_formula (difference_bounds p x q y relation k) ≡ difference_parts p.name x.name q.name y.name relation k
+differences_alike p x q y model.Equal k h = refl
+differences_alike p x q y model.Unequal k h = absurd (false≢true (sym h))
+differences_alike p x q y model.Less k h = refl
+differences_alike p x q y model.LessOrEqual k h = refl
+differences_alike p x q y model.Greater k h = refl
+differences_alike p x q y model.GreaterOrEqual k h = refl
+
 pub none_both : (a b : Option FormulaFault) → earlier a b ≡ None → (a ≡ None) × (b ≡ None)
 none_both None b h = (refl, h)
 none_both (Some f) b h = absurd (cc)
@@ -245,7 +274,9 @@ mutual
       parts_equal _ _ (bounds_alike p q (after_sign sign (relation_of compare)) k (count_below k fits) (if_none (class.is_unequal (after_sign sign (relation_of compare))) _ free))
   parts_alike true (leaf (atom.Empty p q) at) fits free = parts_alike_themselves (model.InTransit p.name q.name model.LessOrEqual 0 ∷ [])
   parts_alike false (leaf (atom.Empty p q) at) fits free = parts_alike_themselves (model.InTransit p.name q.name model.GreaterOrEqual 1 ∷ [])
-  parts_alike sign (leaf (atom.Difference p x q y compare k) at) fits free = absurd (cc)
+  parts_alike sign (leaf (atom.Difference p x q y compare k) at) fits free =
+      let are = bounded sign p.name q.name (relation_of compare) (if_bounded (are_bounded sign p.name q.name (relation_of compare)) _ free) in
+      parts_equal _ _ (differences_alike p x q y (after_sign sign (relation_of compare)) k are.1)
   parts_alike sign (negation n at) fits free = elim (cases_Bool (is_local (formula_of (negation n at)))) [
     | inl h ↦ local_alike sign (negation n at) h
     | inr h ↦ rw h (parts_alike (not sign) n fits (rw h at free))
@@ -271,7 +302,10 @@ mutual
       let same = operand_means (parts_from true n) (formula_of n) (parts_alike true n fits both.1) in
       (record { head = (refl, same); meaning = operated_alike o _ (formula_of n) same }, tt)
   parts_alike false (under o n at) fits free = absurd (not_negative o at (none_both (operator_fault false o at) (first_fault true true n) free).0)
-  parts_alike sign (stepping process n at) fits free = absurd (cc)
+  parts_alike true (stepping process n at) fits free =
+      let same = operand_means (parts_from true n) (formula_of n) (parts_alike true n fits free) in
+      (record { head = (refl, same); meaning = stepped_alike process.name (model.And (part_formulas (pieces (parts_from true n)))) (formula_of n) same }, tt)
+  parts_alike false (stepping process n at) fits free = absurd (cc)
   parts_alike sign (until_of all left right at) fits free = absurd (cc)
 
   all_parts_alike : (sign : Bool) (ns : Nodes) → all_counts_fit ns ≡ true → first_of true sign ns ≡ None → PartsAlike (map part_formula (walk.all_parts sign ns)) (all_parts sign (formulas_of ns))
@@ -334,7 +368,7 @@ mutual
   ]
   disjuncts_alike false (disjunction ns at) fits free = one_alike false (disjunction ns at) fits free
   disjuncts_alike sign (under o n at) fits free = one_alike sign (under o n at) fits free
-  disjuncts_alike sign (stepping process n at) fits free = absurd (cc)
+  disjuncts_alike sign (stepping process n at) fits free = one_alike sign (stepping process n at) fits free
   disjuncts_alike sign (until_of all left right at) fits free = absurd (cc)
 
   all_disjuncts_alike : (sign : Bool) (ns : Nodes) → all_counts_fit ns ≡ true → first_of false sign ns ≡ None → EachAlike (disjunct_formulas (walk.all_disjuncts sign ns)) (all_disjuncts sign (formulas_of ns))

@@ -1,7 +1,7 @@
 -- A formula has no fault exactly where it is of the class.
 use Rattle.std.proofs.Common.{◌≡◌, ◌↔◌, ℕ, Bool, true, false, not, ◌&&◌, ◌||◌, IsTrue, Option, None, Some, if◌then◌else◌, sym, ap, refl, ◌∙◌}
-use Rattle.std.proofs.lemmas.Bool.{and_parts, false≢true}
-use Rattle.run_model.specs.Class.{is_plain, all_plain, processes, all_processes, is_one_name, is_local, is_unequal, after_sign, is_analysed, is_conjunctive, all_conjunctive, is_disjunctive, all_disjunctive, IsOfClass}
+use Rattle.std.proofs.lemmas.Bool.{false≢true}
+use Rattle.run_model.specs.Class.{is_plain, all_plain, processes, all_processes, is_local, is_unequal, after_sign, are_bounded, is_analysed, is_conjunctive, all_conjunctive, is_disjunctive, all_disjunctive, IsOfClass}
 use Rattle.run_model.proofs.PartLemmas.{conjunctive_disjunctive}
 use Rattle.rctl_grammar.specs.declared.fault.FormulaFault.{FormulaFault}
 use Rattle.rctl_grammar.specs.declared.tree.Operator.{Operator}
@@ -11,8 +11,7 @@ use Rattle.rctl_grammar.specs.declared.tree.Atom.TheVariants as atom
 use Rattle.rctl_grammar.specs.Shape.{relation_of, model_operator}
 use Rattle.rctl_class.specs.Nodes.{Node, Nodes, leaf, negation, conjunction, disjunction, under, stepping, until_of, none, more, formula_of, formulas_of}
 use Rattle.rctl_class.specs.Uses.{earlier}
-use Rattle.rctl_class.specs.Faults.{first_fault, first_of, unless_local, operator_fault, is_decided, all_decided}
-use Rattle.rctl_class.proofs.Locals.{and_assoc, and_true, and_swapped}
+use Rattle.rctl_class.specs.Faults.{first_fault, first_of, unless_local, operator_fault}
 
 -- there is no fault
 abbrev pub free : Option FormulaFault → Bool
@@ -29,6 +28,10 @@ free_both (Some f) b = refl
 free_if_not : (b : Bool) (f : FormulaFault) → free (if b then Some f else None) ≡ not b
 free_if_not true f = refl
 free_if_not false f = refl
+
+free_if : (b : Bool) (f : FormulaFault) → free (if b then None else Some f) ≡ b
+free_if true f = refl
+free_if false f = refl
 
 or_false : (b : Bool) → b || false ≡ b
 or_false true = refl
@@ -50,78 +53,32 @@ free_negative (operator.Ex process) at = refl
 free_negative operator.Af at = refl
 free_negative operator.Ax at = refl
 
-and_false : (b : Bool) → b && false ≡ false
-and_false true = refl
-and_false false = refl
-
--- where a local formula has none of the forms that are not decided yet
-or_decided : (l c d : Bool) → (l ≡ true → d ≡ true) → l || (c && d) ≡ (l || c) && d
-or_decided true c d h = sym (h refl)
-or_decided false c d h = refl
-
-local_decided : (l d : Bool) → (l ≡ true → d ≡ true) → l ≡ l && d
-local_decided true d h = sym (h refl)
-local_decided false d h = refl
-
-mutual
-  unfolding is_plain all_plain
-
-  plain_decided : (n : Node) → is_plain (formula_of n) ≡ true → is_decided n ≡ true
-  plain_decided (leaf (atom.Truth value) at) h = refl
-  plain_decided (leaf (atom.Local p v compare right) at) h = refl
-  plain_decided (leaf (atom.Watch p w) at) h = refl
-  plain_decided (leaf (atom.InTransit p q compare k) at) h = refl
-  plain_decided (leaf (atom.Empty p q) at) h = refl
-  plain_decided (leaf (atom.Difference p x q y compare k) at) h = absurd (false≢true h)
-  plain_decided (negation n at) h = plain_decided n h
-  plain_decided (conjunction ns at) h = all_plain_decided ns h
-  plain_decided (disjunction ns at) h = all_plain_decided ns h
-  plain_decided (under o n at) h = absurd (false≢true h)
-  plain_decided (stepping process n at) h = absurd (false≢true h)
-  plain_decided (until_of all left right at) h = absurd (false≢true h)
-
-  all_plain_decided : (ns : Nodes) → all_plain (formulas_of ns) ≡ true → all_decided ns ≡ true
-  all_plain_decided none h = refl
-  all_plain_decided (more n ns) h =
-      let both = and_parts (is_plain (formula_of n)) (all_plain (formulas_of ns)) h in
-      rw (plain_decided n both.0, all_plain_decided ns both.1) refl
-
-local_is_decided : (n : Node) → is_local (formula_of n) ≡ true → is_decided n ≡ true
-local_is_decided n h = plain_decided n (and_parts (is_plain (formula_of n)) (is_one_name (processes (formula_of n))) h).0
-
 mutual
   unfolding is_plain all_plain processes all_processes is_conjunctive all_conjunctive
 
-  pub conjunctive : (sign : Bool) (n : Node) → free (first_fault true sign n) ≡ is_conjunctive sign (formula_of n) && is_decided n
+  pub conjunctive : (sign : Bool) (n : Node) → free (first_fault true sign n) ≡ is_conjunctive sign (formula_of n)
   conjunctive sign (leaf (atom.Truth value) at) = refl
   conjunctive sign (leaf (atom.Local p v compare (side.Number value)) at) = refl
   conjunctive sign (leaf (atom.Local p v compare (side.Variable q w)) at) =
-      let n = leaf (atom.Local p v compare (side.Variable q w)) at in free_or n _ ∙ or_false (is_local (formula_of n)) ∙ sym (and_true (is_local (formula_of n)))
+      let n = leaf (atom.Local p v compare (side.Variable q w)) at in free_or n _ ∙ or_false (is_local (formula_of n))
   conjunctive sign (leaf (atom.Watch p w) at) = refl
-  conjunctive sign (leaf (atom.InTransit p q compare k) at) =
-      free_if_not (is_unequal (after_sign sign (relation_of compare))) _ ∙ sym (and_true (not (is_unequal (after_sign sign (relation_of compare)))))
+  conjunctive sign (leaf (atom.InTransit p q compare k) at) = free_if_not (is_unequal (after_sign sign (relation_of compare))) _
   conjunctive sign (leaf (atom.Empty p q) at) = refl
-  conjunctive sign (leaf (atom.Difference p x q y compare k) at) = sym (and_false (is_conjunctive sign (formula_of (leaf (atom.Difference p x q y compare k) at))))
+  conjunctive sign (leaf (atom.Difference p x q y compare k) at) = free_if (are_bounded sign p.name q.name (relation_of compare)) _
   conjunctive sign (negation n at) = free_or (negation n at) _ ∙ ap (λ b. is_local (formula_of (negation n at)) || b) (conjunctive (not sign) n)
-      ∙ or_decided (is_local (formula_of (negation n at))) (is_conjunctive (not sign) (formula_of n)) (is_decided n) (local_is_decided (negation n at))
   conjunctive true (conjunction ns at) = free_or (conjunction ns at) _ ∙ ap (λ b. is_local (formula_of (conjunction ns at)) || b) (all_conjunctive_of true ns)
-      ∙ or_decided (is_local (formula_of (conjunction ns at))) (all_conjunctive true (formulas_of ns)) (all_decided ns) (local_is_decided (conjunction ns at))
   conjunctive false (conjunction ns at) = free_or (conjunction ns at) _ ∙ or_false (is_local (formula_of (conjunction ns at)))
-      ∙ local_decided (is_local (formula_of (conjunction ns at))) (all_decided ns) (local_is_decided (conjunction ns at))
   conjunctive true (disjunction ns at) = free_or (disjunction ns at) _ ∙ or_false (is_local (formula_of (disjunction ns at)))
-      ∙ local_decided (is_local (formula_of (disjunction ns at))) (all_decided ns) (local_is_decided (disjunction ns at))
   conjunctive false (disjunction ns at) = free_or (disjunction ns at) _ ∙ ap (λ b. is_local (formula_of (disjunction ns at)) || b) (all_conjunctive_of false ns)
-      ∙ or_decided (is_local (formula_of (disjunction ns at))) (all_conjunctive false (formulas_of ns)) (all_decided ns) (local_is_decided (disjunction ns at))
-  conjunctive true (under o n at) = free_both (operator_fault true o at) (first_fault true true n)
-      ∙ rw (free_positive o at, conjunctive true n) (sym (and_assoc (is_analysed (model_operator o)) (is_conjunctive true (formula_of n)) (is_decided n)))
+  conjunctive true (under o n at) = free_both (operator_fault true o at) (first_fault true true n) ∙ rw (free_positive o at, conjunctive true n) refl
   conjunctive false (under o n at) = free_both (operator_fault false o at) (first_fault true true n) ∙ rw (free_negative o at) refl
-  conjunctive sign (stepping process n at) = sym (and_false (is_conjunctive sign (formula_of (stepping process n at))))
+  conjunctive true (stepping process n at) = conjunctive true n
+  conjunctive false (stepping process n at) = refl
   conjunctive sign (until_of all left right at) = refl
 
-  all_conjunctive_of : (sign : Bool) (ns : Nodes) → free (first_of true sign ns) ≡ all_conjunctive sign (formulas_of ns) && all_decided ns
+  all_conjunctive_of : (sign : Bool) (ns : Nodes) → free (first_of true sign ns) ≡ all_conjunctive sign (formulas_of ns)
   all_conjunctive_of sign none = refl
-  all_conjunctive_of sign (more n ns) = free_both (first_fault true sign n) (first_of true sign ns)
-      ∙ rw (conjunctive sign n, all_conjunctive_of sign ns) (and_swapped (is_conjunctive sign (formula_of n)) (is_decided n) (all_conjunctive sign (formulas_of ns)) (all_decided ns))
+  all_conjunctive_of sign (more n ns) = free_both (first_fault true sign n) (first_of true sign ns) ∙ rw (conjunctive sign n, all_conjunctive_of sign ns) refl
 
 or_wider : (l c d : Bool) → (c ≡ true → d ≡ true) → l || d ≡ (l || c) || d
 or_wider true c d h = refl
@@ -131,36 +88,30 @@ or_wider false false d h = refl
 mutual
   unfolding is_plain all_plain processes all_processes is_conjunctive is_disjunctive all_disjunctive
 
-  pub disjunctive : (sign : Bool) (n : Node) → free (first_fault false sign n) ≡ is_disjunctive sign (formula_of n) && is_decided n
+  pub disjunctive : (sign : Bool) (n : Node) → free (first_fault false sign n) ≡ is_disjunctive sign (formula_of n)
   disjunctive sign (leaf (atom.Truth value) at) = refl
   disjunctive sign (leaf (atom.Local p v compare (side.Number value)) at) = refl
   disjunctive sign (leaf (atom.Local p v compare (side.Variable q w)) at) =
-      let n = leaf (atom.Local p v compare (side.Variable q w)) at in free_or n _ ∙ or_false (is_local (formula_of n)) ∙ sym (and_true (is_local (formula_of n)))
+      let n = leaf (atom.Local p v compare (side.Variable q w)) at in free_or n _ ∙ or_false (is_local (formula_of n))
   disjunctive sign (leaf (atom.Watch p w) at) = refl
-  disjunctive sign (leaf (atom.InTransit p q compare k) at) =
-      free_if_not (is_unequal (after_sign sign (relation_of compare))) _ ∙ sym (and_true (not (is_unequal (after_sign sign (relation_of compare)))))
+  disjunctive sign (leaf (atom.InTransit p q compare k) at) = free_if_not (is_unequal (after_sign sign (relation_of compare))) _
   disjunctive sign (leaf (atom.Empty p q) at) = refl
-  disjunctive sign (leaf (atom.Difference p x q y compare k) at) = sym (and_false (is_disjunctive sign (formula_of (leaf (atom.Difference p x q y compare k) at))))
-  disjunctive sign (negation n at) =
-      let l = is_local (formula_of (negation n at)) in
-      free_or (negation n at) _ ∙ ap (λ b. l || b) (disjunctive (not sign) n)
-      ∙ or_decided l (is_disjunctive (not sign) (formula_of n)) (is_decided n) (local_is_decided (negation n at))
-      ∙ ap (λ b. b && is_decided n) (or_wider l (is_conjunctive (not sign) (formula_of n)) (is_disjunctive (not sign) (formula_of n)) (conjunctive_disjunctive (formula_of n) (not sign)))
+  disjunctive sign (leaf (atom.Difference p x q y compare k) at) = free_if (are_bounded sign p.name q.name (relation_of compare)) _
+  disjunctive sign (negation n at) = free_or (negation n at) _ ∙ ap (λ b. is_local (formula_of (negation n at)) || b) (disjunctive (not sign) n)
+      ∙ or_wider (is_local (formula_of (negation n at))) (is_conjunctive (not sign) (formula_of n)) (is_disjunctive (not sign) (formula_of n)) (conjunctive_disjunctive (formula_of n) (not sign))
   disjunctive true (conjunction ns at) = conjunctive true (conjunction ns at)
   disjunctive false (conjunction ns at) = free_or (conjunction ns at) _ ∙ ap (λ b. is_local (formula_of (conjunction ns at)) || b) (all_disjunctive_of false ns)
-      ∙ or_decided (is_local (formula_of (conjunction ns at))) (all_disjunctive false (formulas_of ns)) (all_decided ns) (local_is_decided (conjunction ns at))
   disjunctive true (disjunction ns at) = free_or (disjunction ns at) _ ∙ ap (λ b. is_local (formula_of (disjunction ns at)) || b) (all_disjunctive_of true ns)
-      ∙ or_decided (is_local (formula_of (disjunction ns at))) (all_disjunctive true (formulas_of ns)) (all_decided ns) (local_is_decided (disjunction ns at))
   disjunctive false (disjunction ns at) = conjunctive false (disjunction ns at)
   disjunctive true (under o n at) = conjunctive true (under o n at)
   disjunctive false (under o n at) = conjunctive false (under o n at)
-  disjunctive sign (stepping process n at) = sym (and_false (is_disjunctive sign (formula_of (stepping process n at))))
+  disjunctive true (stepping process n at) = conjunctive true n
+  disjunctive false (stepping process n at) = refl
   disjunctive sign (until_of all left right at) = refl
 
-  all_disjunctive_of : (sign : Bool) (ns : Nodes) → free (first_of false sign ns) ≡ all_disjunctive sign (formulas_of ns) && all_decided ns
+  all_disjunctive_of : (sign : Bool) (ns : Nodes) → free (first_of false sign ns) ≡ all_disjunctive sign (formulas_of ns)
   all_disjunctive_of sign none = refl
-  all_disjunctive_of sign (more n ns) = free_both (first_fault false sign n) (first_of false sign ns)
-      ∙ rw (disjunctive sign n, all_disjunctive_of sign ns) (and_swapped (is_disjunctive sign (formula_of n)) (is_decided n) (all_disjunctive sign (formulas_of ns)) (all_decided ns))
+  all_disjunctive_of sign (more n ns) = free_both (first_fault false sign n) (first_of false sign ns) ∙ rw (disjunctive sign n, all_disjunctive_of sign ns) refl
 
 free_is_none : (fault : Option FormulaFault) → IsTrue (free fault) → fault ≡ None
 free_is_none None h = refl
@@ -170,8 +121,8 @@ none_is_free : (fault : Option FormulaFault) → fault ≡ None → IsTrue (free
 none_is_free None h = refl
 none_is_free (Some f) h = absurd (cc)
 
-pub of_the_class : (n : Node) → (first_fault false true n ≡ None) ↔ IsOfClass (formula_of n) × IsTrue (is_decided n)
+pub of_the_class : (n : Node) → (first_fault false true n ≡ None) ↔ IsOfClass (formula_of n)
 of_the_class n = (
-  λ h. and_parts (is_disjunctive true (formula_of n)) (is_decided n) (sym (disjunctive true n) ∙ none_is_free (first_fault false true n) h),
-  λ h. free_is_none (first_fault false true n) (disjunctive true n ∙ rw (h.0, h.1) refl),
+  λ h. sym (disjunctive true n) ∙ none_is_free (first_fault false true n) h,
+  λ h. free_is_none (first_fault false true n) (disjunctive true n ∙ h),
 )

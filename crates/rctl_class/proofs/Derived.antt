@@ -1,6 +1,6 @@
 -- What is so of the nodes of each formula that was read, by its derivation.
 use Rattle.std.proofs.Common.{◌≡◌, ℕ, ◌+◌, ◌<◌, ◌≤◌, ◌^◌, true, false, ◌&&◌, List, [], ◌∷◌, ◌++◌, map, nat_lt, sym, ap, refl, ◌∙◌, subst, arith, rules}
-use Rattle.std.specs.Prelude.{pos, FitsSigned}
+use Rattle.std.specs.Prelude.{ℤ, pos, neg_ℤ, int_le, int_lt, FitsSigned}
 use Rattle.std.specs.Int.{w64}
 use Rattle.std.proofs.lemmas.Int.{ints}
 use Rattle.std.proofs.lemmas.Bool.Decides.{nat_tests}
@@ -19,7 +19,7 @@ use Rattle.rctl_lexer.specs.Lexing.{lex}
 use Rattle.rctl_parse.specs.Parsing.{IsReadAs}
 use Rattle.rctl_round_trip.proofs.Texts.{IsAtom, IsSpellable, AreSpellable}
 use Rattle.rctl_round_trip.proofs.Sound.{AreSound, lex-sound, disjunction-spelled}
-use Rattle.rctl_class.specs.Nodes.{Node, Nodes, leaf, negation, conjunction, disjunction, under, stepping, until_of, none, more, nodes_of, node_of, formula_of, formulas_of, counts_fit, all_counts_fit, node_count, nodes_count, IsWithinLimits}
+use Rattle.rctl_class.specs.Nodes.{Node, Nodes, leaf, negation, conjunction, disjunction, under, stepping, until_of, none, more, nodes_of, node_of, formula_of, formulas_of, is_small, counts_fit, all_counts_fit, node_count, nodes_count, IsWithinLimits}
 use Rattle.rctl_class.proofs.Folds.{node-Leaf, node-Not, node-And, node-Or, node-Temporal, node-Next, node-Until}
 use Rattle.rctl_class.proofs.Members.{joined}
 
@@ -123,6 +123,12 @@ same_node n m most f e is = let P : Node → Type 0 = λ k. IsDerived k most f i
 count_fits : (k : ℕ) → FitsSigned w64 (pos k) → nat_lt k (2 ^ 63) ≡ true
 count_fits k h = let below : k < 2 ^ 63 = omega (arith, ints) in search (rules, nat_tests)
 
+small : (k : ℤ) → FitsSigned w64 k → is_small k ≡ true
+small k h =
+    let low : int_le (neg_ℤ (pos (2 ^ 63))) k ≡ true = grind (arith, ints, h) in
+    let high : int_lt k (pos (2 ^ 63)) ≡ true = grind (arith, ints, h) in
+    rw (low, high) refl
+
 leaf_derived : (l : Leaf) → IsAtom (plain_atom (atom_of l)) → IsDerived (leaf (atom_of l) (first_token l)) 1 (model_atom (plain_atom (atom_of l)))
 unfolding is_wide
 leaf_derived (grammar.constant value name at) h = record { counts = refl; wide = refl; few = omega arith; spells = refl }
@@ -130,7 +136,7 @@ leaf_derived (grammar.comparison left compare at right) h = record { counts = re
 leaf_derived (grammar.watch process at name) h = record { counts = refl; wide = refl; few = omega arith; spells = refl }
 leaf_derived (grammar.transit name at channel compare compare_at value value_at) h = record { counts = count_fits _ h.2; wide = refl; few = omega arith; spells = refl }
 leaf_derived (grammar.emptiness name at channel) h = record { counts = refl; wide = refl; few = omega arith; spells = refl }
-leaf_derived (grammar.difference left minus right compare compare_at value value_at) h = record { counts = refl; wide = refl; few = omega arith; spells = refl }
+leaf_derived (grammar.difference left minus right compare compare_at value value_at) h = record { counts = small _ h.4; wide = refl; few = omega arith; spells = refl }
 
 operator_back : (operator : model.Operator) → shape.model_operator (grammar.operator_of operator) ≡ operator
 operator_back model.Ef = refl

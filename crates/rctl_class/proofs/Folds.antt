@@ -1,5 +1,5 @@
 -- The plain data of a tree, an expression and a part, variant by variant.
-use Rattle.std.specs.Prelude.{ℕ, Bool, List, map, Option}
+use Rattle.std.specs.Prelude.{ℕ, ℤ, Bool, List, map, Option}
 use Rattle.std.proofs.Common.{◌≡◌, sym, ◌∙◌, ap}
 use Rattle.rctl_grammar.specs.declared.tree.Compare.{Compare}
 use Rattle.rctl_grammar.specs.declared.tree.Operator.{Operator}
@@ -104,3 +104,15 @@ pub piece-Temporal : (operator : Operator) (ps : List NamedPart) → piece_of (p
 unfolding piece_of
 piece-Temporal operator ps =
     ap piece_of (sym (part.rolls-Temporal operator ps)) ∙ fold-roll-NamedPart Piece piece_step (NamedPart-F.Temporal operator ps)
+
+pub piece-DiffAtMost : (p x q y : Place) (k : ℤ) → piece_of (part.DiffAtMost p x q y k) ≡ named.diff_at_most p x q y k
+unfolding piece_of
+piece-DiffAtMost p x q y k = ap piece_of (sym (part.rolls-DiffAtMost p x q y k)) ∙ fold-roll-NamedPart Piece piece_step (NamedPart-F.DiffAtMost p x q y k)
+
+pub piece-DiffAtLeast : (p x q y : Place) (k : ℤ) → piece_of (part.DiffAtLeast p x q y k) ≡ named.diff_at_least p x q y k
+unfolding piece_of
+piece-DiffAtLeast p x q y k = ap piece_of (sym (part.rolls-DiffAtLeast p x q y k)) ∙ fold-roll-NamedPart Piece piece_step (NamedPart-F.DiffAtLeast p x q y k)
+
+pub piece-Next : (p : Place) (ps : List NamedPart) → piece_of (part.Next p ps) ≡ named.next p (pieces (pieces_of ps))
+unfolding piece_of
+piece-Next p ps = ap piece_of (sym (part.rolls-Next p ps)) ∙ fold-roll-NamedPart Piece piece_step (NamedPart-F.Next p ps)

@@ -5,6 +5,8 @@ pub mod Locals
 pub mod Class
 pub mod Alike
 pub mod Names
+pub mod Counters
+pub mod Kept
 pub mod Sizes
 pub mod Derived
 pub mod Meaning

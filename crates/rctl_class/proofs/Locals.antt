@@ -1,27 +1,28 @@
 -- A formula is local exactly where it is over the process that it names first.
-use Rattle.std.proofs.Common.{◌≡◌, ℕ, Bool, true, false, ◌&&◌, List, [], ◌∷◌, ◌++◌, Option, None, Some, sym, ap, refl, ◌∙◌}
+use Rattle.std.proofs.Common.{◌≡◌, ℕ, ℤ, Bool, true, false, ◌&&◌, List, [], ◌∷◌, ◌++◌, Option, None, Some, sym, ap, refl, ◌∙◌, subst}
 use Rattle.std.specs.List.{list_all}
 use Rattle.std.proofs.lemmas.Slice.Eq.{bytes_eq-Decides}
 use Rattle.run_model.specs.Run.{Name}
 use Rattle.run_model.specs.Class.{is_plain, all_plain, processes, all_processes, is_local, is_one_name}
 use Rattle.rctl_grammar.specs.declared.tree.Place.{Place}
 use Rattle.rctl_grammar.specs.declared.tree.Side.TheVariants as side
+use Rattle.rctl_grammar.specs.declared.tree.Atom.{Atom}
 use Rattle.rctl_grammar.specs.declared.tree.Atom.TheVariants as atom
 use Rattle.rctl_class.specs.Nodes.{Node, Nodes, leaf, negation, conjunction, disjunction, under, stepping, until_of, none, more, formula_of, formulas_of}
 use Rattle.rctl_class.specs.Uses as used
 use Rattle.rctl_class.specs.Uses.{Use, all_uses, uses_of}
 use Rattle.std.specs.Borrow.{Bor}
 use Rattle.rctl_class.specs.Seen.{place_seen, name_seen, some_if}
-use Rattle.rctl_class.specs.Faults.{first_fault, operator_fault}
+use Rattle.rctl_class.specs.Faults.{atom_fault, first_fault, negated_fault, operator_fault}
 use Rattle.rctl_grammar.specs.declared.tree.Operator.{Operator}
 use Rattle.rctl_class.specs.declared.named.NamedPart.{NamedPart}
 use Rattle.rctl_class.specs.declared.named.NamedPart.TheVariants as part
 use Rattle.std.proofs.lemmas.Bool.{false≢true}
 use Rattle.std.proofs.lemmas.List.{map-append}
-use Rattle.rctl_class.proofs.Folds.{piece-Temporal}
+use Rattle.rctl_class.proofs.Folds.{piece-DiffAtMost, piece-DiffAtLeast, piece-Temporal, piece-Next}
 use Rattle.rctl_class.specs.NamedParts as named
 use Rattle.rctl_class.specs.NamedParts.{Expr, Piece, piece_of, pieces_of}
-use Rattle.rctl_class.specs.Walk.{first_place, is_on, is_over, all_over, expr_from, signed, local_part, parts_from, disjuncts_from}
+use Rattle.rctl_class.specs.Walk.{first_place, is_on, is_over, all_over, expr_from, signed, local_part, channel_parts, parts_from, disjuncts_from}
 
 -- the names of processes among the names
 abbrev pub process_names : List Use → List Name
@@ -187,6 +188,18 @@ pub made_local : (sign : Bool) (n : Node) {on : Option Place} {e signed_e : Expr
     signed_e ≡ signed sign e → e ≡ expr_from n → p ≡ local_part sign n
 made_local sign n is on over from = is ∙ rw (on, over, from) refl
 
+pub at_most_made : {p x q y p' x' q' y' : Place} {k k' : ℤ} → p' ≡ p → x' ≡ x → q' ≡ q → y' ≡ y → k' ≡ k → piece_of (part.DiffAtMost p' x' q' y' k') ≡ named.diff_at_most p x q y k
+at_most_made a b c d e = piece-DiffAtMost _ _ _ _ _ ∙ rw (a, b, c, d, e) refl
+
+pub at_least_made : {p x q y p' x' q' y' : Place} {k k' : ℤ} → p' ≡ p → x' ≡ x → q' ≡ q → y' ≡ y → k' ≡ k → piece_of (part.DiffAtLeast p' x' q' y' k') ≡ named.diff_at_least p x q y k
+at_least_made a b c d e = piece-DiffAtLeast _ _ _ _ _ ∙ rw (a, b, c, d, e) refl
+
+-- a leaf that isn't local has its own fault, and its own parts
+pub leaf_alone : (sign : Bool) (a : Atom) (at : ℕ) (m : Node) → m ≡ leaf a at → is_local (formula_of m) ≡ false → (first_fault true sign m ≡ atom_fault sign a at) × (parts_from sign m ≡ channel_parts sign a)
+leaf_alone sign a at m is other =
+    let P : Node → Type 0 = λ n. is_local (formula_of n) ≡ false → (first_fault true sign n ≡ atom_fault sign a at) × (parts_from sign n ≡ channel_parts sign a) in
+    subst P (sym is) (λ h. (rw h refl, rw h refl)) other
+
 -- an operator over an operand that was walked
 pub under_made : (sign : Bool) (operator : Operator) (at : ℕ) (m n : Node) (old start operand : List NamedPart) {new : List NamedPart} → m ≡ under operator n at →
     operator_fault sign operator at ≡ None → first_fault true true n ≡ None → start ≡ [] → pieces_of operand ≡ pieces_of start ++ parts_from true n →
@@ -197,5 +210,19 @@ under_made sign operator at m n old start operand is judged free nothing walked 
       ap pieces_of pushed ∙ map-append piece_of old (part.Temporal operator operand ∷ [])
           ∙ ap (λ p. pieces_of old ++ p ∷ []) (piece-Temporal operator operand)
           ∙ ap (λ ps. pieces_of old ++ named.temporal operator (named.pieces ps) ∷ []) operands
+          ∙ ap (λ k. pieces_of old ++ parts_from sign k) (sym is),
+    )
+
+-- the next event of a process before an operand that was walked
+pub next_made : (sign : Bool) (process : Place) (at : ℕ) (m n : Node) (old start operand : List NamedPart) {new : List NamedPart} {copy : Place} → m ≡ stepping process n at →
+    negated_fault sign at ≡ None → first_fault true true n ≡ None → start ≡ [] → pieces_of operand ≡ pieces_of start ++ parts_from true n → copy ≡ process →
+    new ≡ old ++ part.Next copy operand ∷ [] → (first_fault true sign m ≡ None) × (pieces_of new ≡ pieces_of old ++ parts_from sign m)
+next_made sign process at m n old start operand {new} {copy} is judged free nothing walked copied pushed =
+    let operands : pieces_of operand ≡ parts_from true n = walked ∙ rw nothing refl in (
+      rw (is, judged, free) refl,
+      ap pieces_of pushed ∙ map-append piece_of old (part.Next copy operand ∷ [])
+          ∙ ap (λ p. pieces_of old ++ p ∷ []) (piece-Next copy operand)
+          ∙ ap (λ p. pieces_of old ++ named.next p (named.pieces (pieces_of operand)) ∷ []) copied
+          ∙ ap (λ ps. pieces_of old ++ named.next process (named.pieces ps) ∷ []) operands
           ∙ ap (λ k. pieces_of old ++ parts_from sign k) (sym is),
     )

@@ -25,6 +25,6 @@ as_many n ds is = sym (length-map ds (map part_formula)) ∙ alike_lengths (disj
 
 pub one_is_regular : (n : Node) (ds : List (List Piece)) → IsWithinLimits n → IsClassed n ds → IsRegular (formula_of n) ↔ (length ds ≡ 1)
 one_is_regular n ds limits is =
-    let one = regular_is_one (formula_of n) limits.wide ((of_the_class n).0 is.free).0 in
+    let one = regular_is_one (formula_of n) limits.wide ((of_the_class n).0 is.free) in
     let many = as_many n ds is in
     (λ h. many ∙ one.0 h, λ h. one.1 (sym many ∙ h))

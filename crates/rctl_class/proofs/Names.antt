@@ -1,11 +1,12 @@
 -- The names of the parts and disjuncts have the first fault that the names of the text have.
-use Rattle.std.proofs.Common.{◌≡◌, ℕ, zero, suc, Bool, true, false, not, List, [], ◌∷◌, ◌++◌, Option, None, Some, sym, ap, refl, ◌∙◌, append_assoc, append-nil, inl, inr}
+use Rattle.std.proofs.Common.{◌≡◌, ℕ, ℤ, zero, suc, Bool, true, false, not, List, [], ◌∷◌, ◌++◌, Option, None, Some, sym, ap, refl, ◌∙◌, append_assoc, append-nil, inl, inr}
 use Rattle.std.proofs.lemmas.Bool.{cases_Bool, and_parts, false≢true}
 use Rattle.std.specs.List.{list_all}
 use Rattle.run_model.specs.Run.{Name}
 use Rattle.run_model.specs.Formula as model
 use Rattle.run_model.specs.Class as class
 use Rattle.run_model.specs.Class.{is_plain, all_plain, processes, all_processes, is_local, after_sign}
+use Rattle.rctl_grammar.specs.declared.fault.FormulaFault.{FormulaFault}
 use Rattle.rctl_grammar.specs.declared.tree.Place.{Place}
 use Rattle.rctl_grammar.specs.declared.tree.Side.{Side}
 use Rattle.rctl_grammar.specs.declared.tree.Side.TheVariants as side
@@ -18,10 +19,10 @@ use Rattle.rctl_class.specs.Faults.{first_fault, first_of, operator_fault}
 use Rattle.rctl_class.specs.NamedParts as named
 use Rattle.rctl_class.specs.NamedParts.{Piece, Pieces, name_on, side_uses, expr_uses, all_expr_uses, process_use, part_uses, operand_uses, parts_uses, disjuncts_uses, pieces}
 use Rattle.rctl_class.specs.Walk as walk
-use Rattle.rctl_class.specs.Walk.{first_place, is_on, is_over, all_over, side_from, expr_from, exprs_from, signed, local_part, bounds, parts_from, disjuncts_from}
+use Rattle.rctl_class.specs.Walk.{first_place, is_on, is_over, all_over, side_from, expr_from, exprs_from, signed, local_part, bounds, difference_bounds, parts_from, disjuncts_from}
 use Rattle.rctl_class.proofs.Locals.{process_names, processes_named, over_plain, option_name, local_parts, local_disjuncts}
 use Rattle.rctl_class.proofs.Members.{earlier_assoc}
-use Rattle.rctl_class.proofs.Alike.{some_name, name_of_first, on_same, local_is_over, none_both, not_negative, if_none}
+use Rattle.rctl_class.proofs.Alike.{some_name, name_of_first, on_same, local_is_over, none_both, not_negative, if_none, if_bounded, bounded}
 
 -- ---- names joined
 
@@ -190,16 +191,23 @@ local_names sign n h =
 
 -- ---- channels
 
--- two processes named twice are as if named once
-channel_twice : (p q : Place) → Agree (used.process p ∷ used.process q ∷ used.process p ∷ used.process q ∷ []) (used.process p ∷ used.process q ∷ [])
-unfolding first_unknown seen_after
-channel_twice p q = record {
-  fault = λ known seen. elim (cases_Bool (known.is_process p.name)) [
-    | inl a ↦ elim (cases_Bool (known.is_process q.name)) [ inl b ↦ rw (a, b) refl | inr b ↦ rw (a, b) refl ]
-    | inr a ↦ rw a refl
-  ];
-  seen = λ before. refl;
+earlier_itself : (a : Option FormulaFault) → earlier a a ≡ a
+earlier_itself None = refl
+earlier_itself (Some f) = refl
+
+-- names without watches, twice, are as if named once
+named_twice : (us : List Use) → ((seen : List Watching) → seen_after seen us ≡ seen) → Agree (us ++ us) us
+named_twice us stays = record {
+  fault = λ known seen.
+      unknown_joined known seen us us
+      ∙ ap (λ s. earlier (first_unknown known seen us) (first_unknown known s us)) (stays seen)
+      ∙ earlier_itself (first_unknown known seen us);
+  seen = λ before. seen_joined before us us ∙ ap (λ s. seen_after s us) (stays before);
 }
+
+channel_twice : (p q : Place) → Agree (used.process p ∷ used.process q ∷ used.process p ∷ used.process q ∷ []) (used.process p ∷ used.process q ∷ [])
+unfolding seen_after
+channel_twice p q = named_twice (used.process p ∷ used.process q ∷ []) (λ seen. refl)
 
 bounds_names : (p q : Place) (relation : model.Relation) (k : ℕ) → class.is_unequal relation ≡ false → Agree (parts_uses (bounds p q relation k)) (used.process p ∷ used.process q ∷ [])
 bounds_names p q model.Equal k h = channel_twice p q
@@ -209,6 +217,22 @@ bounds_names p q model.Less (suc k) h = agree_itself (used.process p ∷ used.pr
 bounds_names p q model.LessOrEqual k h = agree_itself (used.process p ∷ used.process q ∷ [])
 bounds_names p q model.Greater k h = agree_itself (used.process p ∷ used.process q ∷ [])
 bounds_names p q model.GreaterOrEqual k h = agree_itself (used.process p ∷ used.process q ∷ [])
+
+-- the names of a difference
+abbrev difference_uses : (p x q y : Place) → List Use
+difference_uses p x q y = used.process p ∷ used.variable p.name x ∷ used.process q ∷ used.variable q.name y ∷ []
+
+difference_twice : (p x q y : Place) → Agree (difference_uses p x q y ++ difference_uses p x q y) (difference_uses p x q y)
+unfolding seen_after
+difference_twice p x q y = named_twice (difference_uses p x q y) (λ seen. refl)
+
+difference_names : (p x q y : Place) (relation : model.Relation) (k : ℤ) → class.is_unequal relation ≡ false → Agree (parts_uses (difference_bounds p x q y relation k)) (difference_uses p x q y)
+difference_names p x q y model.Equal k h = difference_twice p x q y
+difference_names p x q y model.Unequal k h = absurd (false≢true (sym h))
+difference_names p x q y model.Less k h = agree_itself (difference_uses p x q y)
+difference_names p x q y model.LessOrEqual k h = agree_itself (difference_uses p x q y)
+difference_names p x q y model.Greater k h = agree_itself (difference_uses p x q y)
+difference_names p x q y model.GreaterOrEqual k h = agree_itself (difference_uses p x q y)
 
 -- ---- parts
 
@@ -237,7 +261,9 @@ mutual
       bounds_names p q (after_sign sign (relation_of compare)) k (if_none (class.is_unequal (after_sign sign (relation_of compare))) _ free)
   parts_names true (leaf (atom.Empty p q) at) free = agree_itself (used.process p ∷ used.process q ∷ [])
   parts_names false (leaf (atom.Empty p q) at) free = agree_itself (used.process p ∷ used.process q ∷ [])
-  parts_names sign (leaf (atom.Difference p x q y compare k) at) free = absurd (cc)
+  parts_names sign (leaf (atom.Difference p x q y compare k) at) free =
+      let are = bounded sign p.name q.name (relation_of compare) (if_bounded (class.are_bounded sign p.name q.name (relation_of compare)) _ free) in
+      difference_names p x q y (after_sign sign (relation_of compare)) k are.1
   parts_names sign (negation n at) free = elim (cases_Bool (is_local (formula_of (negation n at)))) [
     | inl h ↦ local_parts_names sign (negation n at) h
     | inr h ↦ rw h (parts_names (not sign) n (rw h at free))
@@ -262,7 +288,10 @@ mutual
       rw (append-nil (operand_uses (pieces (parts_from true n))), operand_names (parts_from true n))
       (parts_names true n (none_both (operator_fault true o at) (first_fault true true n) free).1)
   parts_names false (under o n at) free = absurd (not_negative o at (none_both (operator_fault false o at) (first_fault true true n) free).0)
-  parts_names sign (stepping process n at) free = absurd (cc)
+  parts_names true (stepping process n at) free =
+      rw (append-nil (operand_uses (pieces (parts_from true n))), operand_names (parts_from true n))
+      (agree_joined (used.process process ∷ []) (used.process process ∷ []) (parts_uses (parts_from true n)) (uses_of n) (agree_itself (used.process process ∷ [])) (parts_names true n free))
+  parts_names false (stepping process n at) free = absurd (cc)
   parts_names sign (until_of all left right at) free = absurd (cc)
 
   all_parts_names : (sign : Bool) (ns : Nodes) → first_of true sign ns ≡ None → Agree (parts_uses (walk.all_parts sign ns)) (all_uses ns)
@@ -304,7 +333,7 @@ mutual
   ]
   disjuncts_names false (disjunction ns at) free = one_names false (disjunction ns at) free
   disjuncts_names sign (under o n at) free = one_names sign (under o n at) free
-  disjuncts_names sign (stepping process n at) free = absurd (cc)
+  disjuncts_names sign (stepping process n at) free = one_names sign (stepping process n at) free
   disjuncts_names sign (until_of all left right at) free = absurd (cc)
 
   all_disjuncts_names : (sign : Bool) (ns : Nodes) → first_of false sign ns ≡ None → Agree (disjuncts_uses (walk.all_disjuncts sign ns)) (all_uses ns)

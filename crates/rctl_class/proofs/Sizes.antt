@@ -1,26 +1,28 @@
 -- How many parts and disjuncts a formula has, and that each part is such as it has to be.
-use Rattle.std.proofs.Common.{◌≡◌, ℕ, zero, suc, ◌+◌, ◌*◌, ◌<◌, ◌≤◌, ◌^◌, Bool, true, false, not, ◌&&◌, IsTrue, List, [], ◌∷◌, ◌++◌, length, Option, None, Some, if◌then◌else◌, sym, ap, refl, ◌∙◌, arith, length-append, inl, inr, subst}
+use Rattle.std.proofs.Common.{◌≡◌, ℕ, zero, suc, ◌+◌, ◌*◌, ◌<◌, ◌≤◌, ◌^◌, ℤ, pos, neg_ℤ, ◌≤ℤ◌, ◌<ℤ◌, int_le, int_lt, bytes_eq, Bool, true, false, not, ◌&&◌, IsTrue, List, [], ◌∷◌, ◌++◌, length, Option, None, Some, if◌then◌else◌, sym, ap, refl, ◌∙◌, arith, length-append, inl, inr, subst}
 use Rattle.std.proofs.lemmas.Bool.{cases_Bool, and_parts, false≢true}
+use Rattle.std.proofs.lemmas.Int.{ints}
 use Rattle.run_model.specs.Run.{Name}
 use Rattle.run_model.specs.Formula as model
-use Rattle.run_model.specs.Class.{is_plain, all_plain, processes, all_processes, is_local, is_analysed, after_sign, is_wide, all_wide, has_two}
+use Rattle.run_model.specs.Class.{is_plain, all_plain, processes, all_processes, is_local, is_analysed, after_sign, are_bounded, is_wide, all_wide, has_two}
 use Rattle.rctl_grammar.specs.declared.tree.Operator.{Operator}
 use Rattle.rctl_grammar.specs.declared.tree.Operator.TheVariants as operator
 use Rattle.rctl_grammar.specs.declared.tree.Place.{Place}
 use Rattle.rctl_grammar.specs.declared.tree.Atom.{Atom}
 use Rattle.rctl_grammar.specs.declared.tree.Atom.TheVariants as atom
 use Rattle.rctl_grammar.specs.Shape.{relation_of, model_operator}
-use Rattle.rctl_class.specs.Nodes.{Node, Nodes, leaf, negation, conjunction, disjunction, under, stepping, until_of, none, more, formula_of, formulas_of, counts_fit, all_counts_fit, node_count, nodes_count, IsWithinLimits}
+use Rattle.rctl_class.specs.Nodes.{Node, Nodes, leaf, negation, conjunction, disjunction, under, stepping, until_of, none, more, formula_of, formulas_of, is_small, counts_fit, all_counts_fit, node_count, nodes_count, IsWithinLimits}
 use Rattle.rctl_class.specs.Uses.{uses_of, all_uses}
 use Rattle.rctl_class.specs.Faults.{first_fault, first_of, operator_fault}
 use Rattle.rctl_class.specs.NamedParts as named
 use Rattle.rctl_class.specs.NamedParts.{Piece, Pieces, pieces, is_constant, are_constant, has_no_place, PartFits, OperandFits, EachFits, AllFit, part_count, operand_count, parts_count, disjuncts_count, AreDisjuncts}
 use Rattle.rctl_class.specs.Walk as walk
-use Rattle.rctl_class.specs.Walk.{first_place, is_over, all_over, expr_from, exprs_from, signed, local_part, bounds, next_count, fewer_than, channel_parts, or_local, or_one_local, parts_from, disjuncts_from}
+use Rattle.rctl_class.specs.Walk.{first_place, is_over, all_over, expr_from, exprs_from, signed, local_part, bounds, difference_bounds, next_count, fewer_than, channel_parts, or_local, or_one_local, parts_from, disjuncts_from}
 use Rattle.rctl_class.specs.Classed.{IsClassed}
 use Rattle.rctl_class.proofs.Locals.{option_name, local_parts, local_disjuncts}
 use Rattle.rctl_class.proofs.Members.{or_else, first_joined}
-use Rattle.rctl_class.proofs.Alike.{local_is_over, none_both, not_negative, count_below, next_exact, disjuncts_alike}
+use Rattle.rctl_class.proofs.Alike.{local_is_over, none_both, not_negative, count_below, next_exact, if_bounded, bounded, disjuncts_alike}
+use Rattle.rctl_class.proofs.Counters.{disjuncts_have}
 use Rattle.rctl_class.proofs.Names.{disjuncts_names}
 
 -- ---- parts fit
@@ -68,6 +70,23 @@ bounds_fit p q model.LessOrEqual k fits = (omega arith, tt)
 bounds_fit p q model.Greater k fits = (rw (next_exact k fits) (omega arith), tt)
 bounds_fit p q model.GreaterOrEqual k fits = (omega arith, tt)
 
+small_within : (k : ℤ) → is_small k ≡ true → (neg_ℤ (pos (2 ^ 63)) ≤ℤ k) × (k <ℤ pos (2 ^ 63))
+small_within k h =
+    let both = and_parts (int_le (neg_ℤ (pos (2 ^ 63))) k) (int_lt k (pos (2 ^ 63))) h in
+    let low = both.0 in
+    let high = both.1 in
+    (grind (arith, ints, low), grind (arith, ints, high))
+
+differences_fit : (p x q y : Place) (relation : model.Relation) (k : ℤ) → bytes_eq p.name q.name ≡ false → neg_ℤ (pos (2 ^ 63)) ≤ℤ k → k <ℤ pos (2 ^ 63)
+    → EachFits (difference_bounds p x q y relation k)
+differences_fit p x q y model.Equal k apart low high =
+    ((apart, omega (arith, ints), omega (arith, ints)), ((apart, omega (arith, ints), omega (arith, ints)), tt))
+differences_fit p x q y model.Unequal k apart low high = tt
+differences_fit p x q y model.Less k apart low high = ((apart, omega (arith, ints), omega (arith, ints)), tt)
+differences_fit p x q y model.LessOrEqual k apart low high = ((apart, omega (arith, ints), omega (arith, ints)), tt)
+differences_fit p x q y model.Greater k apart low high = ((apart, omega (arith, ints), omega (arith, ints)), tt)
+differences_fit p x q y model.GreaterOrEqual k apart low high = ((apart, omega (arith, ints), omega (arith, ints)), tt)
+
 each_fits_joined : (ps qs : List Piece) → EachFits ps → EachFits qs → EachFits (ps ++ qs)
 each_fits_joined [] qs a b = b
 each_fits_joined (p ∷ ps) qs a b = (a.0, each_fits_joined ps qs a.1 b)
@@ -101,7 +120,10 @@ mutual
   parts_fit sign (leaf (atom.InTransit p q compare k) at) fits free = bounds_fit p q (after_sign sign (relation_of compare)) k (count_below k fits)
   parts_fit true (leaf (atom.Empty p q) at) fits free = (omega arith, tt)
   parts_fit false (leaf (atom.Empty p q) at) fits free = (omega arith, tt)
-  parts_fit sign (leaf (atom.Difference p x q y compare k) at) fits free = absurd (cc)
+  parts_fit sign (leaf (atom.Difference p x q y compare k) at) fits free =
+      let are = bounded sign p.name q.name (relation_of compare) (if_bounded (are_bounded sign p.name q.name (relation_of compare)) _ free) in
+      let within = small_within k fits in
+      differences_fit p x q y (after_sign sign (relation_of compare)) k are.0 within.0 within.1
   parts_fit sign (negation n at) fits free = elim (cases_Bool (is_local (formula_of (negation n at)))) [
     | inl h ↦ local_fits sign (negation n at) h
     | inr h ↦ rw h (parts_fit (not sign) n fits (rw h at free))
@@ -126,7 +148,8 @@ mutual
       let both = none_both (operator_fault true o at) (first_fault true true n) free in
       ((analysed o at both.0, operand_fits (parts_from true n) (parts_fit true n fits both.1)), tt)
   parts_fit false (under o n at) fits free = absurd (not_negative o at (none_both (operator_fault false o at) (first_fault true true n) free).0)
-  parts_fit sign (stepping process n at) fits free = absurd (cc)
+  parts_fit true (stepping process n at) fits free = (operand_fits (parts_from true n) (parts_fit true n fits free), tt)
+  parts_fit false (stepping process n at) fits free = absurd (cc)
   parts_fit sign (until_of all left right at) fits free = absurd (cc)
 
   all_parts_fit : (sign : Bool) (ns : Nodes) → all_counts_fit ns ≡ true → first_of true sign ns ≡ None → EachFits (walk.all_parts sign ns)
@@ -159,7 +182,7 @@ mutual
   ]
   disjuncts_fit false (disjunction ns at) fits free = (parts_fit false (disjunction ns at) fits free, tt)
   disjuncts_fit sign (under o n at) fits free = (parts_fit sign (under o n at) fits free, tt)
-  disjuncts_fit sign (stepping process n at) fits free = absurd (cc)
+  disjuncts_fit sign (stepping process n at) fits free = (parts_fit sign (stepping process n at) fits free, tt)
   disjuncts_fit sign (until_of all left right at) fits free = absurd (cc)
 
   all_disjuncts_fit : (sign : Bool) (ns : Nodes) → all_counts_fit ns ≡ true → first_of false sign ns ≡ None → AllFit (walk.all_disjuncts sign ns)
@@ -207,7 +230,14 @@ channel_few sign (atom.InTransit p q compare k) = bounds_few (after_sign sign (r
   bounds_few model.GreaterOrEqual k = omega arith
 channel_few true (atom.Empty p q) = omega arith
 channel_few false (atom.Empty p q) = omega arith
-channel_few sign (atom.Difference p x q y compare k) = omega arith
+channel_few sign (atom.Difference p x q y compare k) = differences_few (after_sign sign (relation_of compare)) where
+  differences_few : (relation : model.Relation) → parts_count (difference_bounds p x q y relation k) ≤ 2
+  differences_few model.Equal = omega arith
+  differences_few model.Unequal = omega arith
+  differences_few model.Less = omega arith
+  differences_few model.LessOrEqual = omega arith
+  differences_few model.Greater = omega arith
+  differences_few model.GreaterOrEqual = omega arith
 
 or_local_few : (sign : Bool) (n : Node) (others : List Piece) → parts_count others ≤ 2 * node_count n → parts_count (or_local sign n others) ≤ 2 * node_count n
 or_local_few sign n others few = elim (is_local (formula_of n)) as (λ b. parts_count (if b then local_part sign n ∷ [] else others) ≤ 2 * node_count n)
@@ -222,7 +252,7 @@ mutual
   parts_few true (disjunction ns at) = or_local_few true (disjunction ns at) [] (omega arith)
   parts_few false (disjunction ns at) = or_local_few false (disjunction ns at) (walk.all_parts false ns) (omega (arith, all_parts_few false ns))
   parts_few sign (under o n at) = omega (arith, operand_counted (parts_from true n), parts_few true n)
-  parts_few sign (stepping process n at) = omega arith
+  parts_few sign (stepping process n at) = omega (arith, operand_counted (parts_from true n), parts_few true n)
   parts_few sign (until_of all left right at) = omega arith
 
   all_parts_few : (sign : Bool) (ns : Nodes) → parts_count (walk.all_parts sign ns) ≤ 2 * nodes_count ns
@@ -249,7 +279,7 @@ mutual
   disjuncts_few true (disjunction ns at) = let few = all_disjuncts_few true ns in or_one_local_few true (disjunction ns at) (walk.all_disjuncts true ns) (omega (arith, few.0), omega (arith, few.1))
   disjuncts_few false (disjunction ns at) = one_few false (disjunction ns at)
   disjuncts_few sign (under o n at) = one_few sign (under o n at)
-  disjuncts_few sign (stepping process n at) = (omega arith, omega arith)
+  disjuncts_few sign (stepping process n at) = one_few sign (stepping process n at)
   disjuncts_few sign (until_of all left right at) = (omega arith, omega arith)
 
   all_disjuncts_few : (sign : Bool) (ns : Nodes) → AreFew (walk.all_disjuncts sign ns) (nodes_count ns)
@@ -283,7 +313,7 @@ mutual
   ]
   some_disjunct false (disjunction ns at) wide free = omega arith
   some_disjunct sign (under o n at) wide free = omega arith
-  some_disjunct sign (stepping process n at) wide free = absurd (cc)
+  some_disjunct sign (stepping process n at) wide free = omega arith
   some_disjunct sign (until_of all left right at) wide free = absurd (cc)
 
   some_of : (sign : Bool) (ns : Nodes) → has_two (formulas_of ns) ≡ true → all_wide (formulas_of ns) ≡ true → first_of false sign ns ≡ None → 1 ≤ length (walk.all_disjuncts sign ns)
@@ -302,6 +332,7 @@ classed n ds limits free is =
     let whole : IsClassed n (disjuncts_from true n) = record {
       free = free;
       meaning = disjuncts_alike true n limits.counts free;
+      counters = disjuncts_have true n free;
       names = disjuncts_names true n free;
       sized = record {
         fit = disjuncts_fit true n limits.counts free;

@@ -9,6 +9,7 @@ use Rattle.run_model.specs.Meaning.{Sat}
 use Rattle.run_model.specs.Class.{disjuncts}
 use Rattle.rctl_class.specs.Nodes.{Node, formula_of}
 use Rattle.rctl_class.specs.Uses.{Agree, uses_of}
+use Rattle.rctl_class.specs.Counters.{counters_of, disjuncts_counters, HaveSameMembers}
 use Rattle.rctl_class.specs.Faults.{first_fault}
 use Rattle.rctl_class.specs.NamedParts.{Piece, part_formula, disjuncts_uses, AreDisjuncts}
 
@@ -73,6 +74,9 @@ pub record IsClassed (n : Node) (ds : List (List Piece)) : Type 0 where
   pub free : first_fault false true n ≡ None
   -- part by part they mean what the formula's disjuncts do
   pub meaning : EachAlike (disjunct_formulas ds) (disjuncts true (formula_of n))
+  -- they have the counters of the formula
+  pub counters : HaveSameMembers (disjuncts_counters (disjunct_formulas ds))
+      (counters_of (formula_of n))
   -- their names have the first fault that the names of the text have
   pub names : Agree (disjuncts_uses ds) (uses_of n)
   pub sized : AreDisjuncts ds

@@ -1,7 +1,7 @@
 -- The first fault of a formula that lies outside the class: what is wrong with one node, and the
 -- order in which nodes are judged.
-use Rattle.std.specs.Prelude.{ℕ, Bool, true, false, not, ◌&&◌, Option, None, if◌then◌else◌}
-use Rattle.run_model.specs.Class.{is_local, is_unequal, after_sign}
+use Rattle.std.specs.Prelude.{ℕ, Bool, true, false, not, Option, None, if◌then◌else◌}
+use Rattle.run_model.specs.Class.{is_local, is_unequal, after_sign, are_bounded}
 use Rattle.rctl_grammar.specs.declared.fault.Outside.{Outside}
 use Rattle.rctl_grammar.specs.declared.fault.Outside.TheVariants as outside
 use Rattle.rctl_grammar.specs.declared.fault.FormulaCode.TheVariants as code
@@ -17,8 +17,8 @@ use Rattle.rctl_class.specs.Uses.{earlier, fault_at}
 
 -- ---- what is wrong with one node that isn't local
 
--- a comparison is of two processes, messages under way are compared as unequal after the sign, and
--- a difference is not decided yet
+-- a comparison is of two processes, messages under way or a difference are compared as unequal after
+-- the sign, and a difference is of one process
 abbrev pub atom_fault : Bool → Atom → ℕ → Option FormulaFault
 atom_fault sign (atom.Truth value) at = None
 atom_fault sign (atom.Local process variable compare right) at = fault_at code.NotRegular at
@@ -26,19 +26,25 @@ atom_fault sign (atom.Watch process watch) at = None
 atom_fault sign (atom.InTransit sender receiver compare k) at =
     if is_unequal (after_sign sign (relation_of compare)) then fault_at code.NotRegular at else None
 atom_fault sign (atom.Empty sender receiver) at = None
-atom_fault sign (atom.Difference left_process left right_process right compare k) at =
-    fault_at code.NotRegular at
+atom_fault sign (atom.Difference p x q y compare k) at =
+    if are_bounded sign p.name q.name (relation_of compare) then None
+    else fault_at code.NotRegular at
 
 -- a disjunction stands inside
 abbrev pub inside_fault : Bool → ℕ → Option FormulaFault
 inside_fault inside at = if inside then fault_at code.DisjunctionInside at else None
 
--- an analysed operator is negated, and the others are outside the class whatever the sign
+-- an analysed operator is negated
+abbrev pub negated_fault : Bool → ℕ → Option FormulaFault
+negated_fault sign at = if sign then None else fault_at code.NotRegular at
+
+-- so of the analysed ones, and the others are outside the class whatever the sign. No tree has the
+-- operator of a process's number
 abbrev pub operator_fault : Bool → Operator → ℕ → Option FormulaFault
-operator_fault sign operator.Ef at = if sign then None else fault_at code.NotRegular at
-operator_fault sign operator.Ag at = if sign then None else fault_at code.NotRegular at
-operator_fault sign operator.Eg at = if sign then None else fault_at code.NotRegular at
-operator_fault sign (operator.Ex process) at = fault_at code.NotRegular at
+operator_fault sign operator.Ef at = negated_fault sign at
+operator_fault sign operator.Ag at = negated_fault sign at
+operator_fault sign operator.Eg at = negated_fault sign at
+operator_fault sign (operator.Ex process) at = fault_at (code.OutsideClass outside.Ax) at
 operator_fault sign operator.Af at = fault_at (code.OutsideClass outside.Af) at
 operator_fault sign operator.Ax at = fault_at (code.OutsideClass outside.Ax) at
 
@@ -52,31 +58,6 @@ until_code false = outside.Eu
 -- a local formula has no fault
 abbrev pub unless_local : Node → Option FormulaFault → Option FormulaFault
 unless_local n fault = if is_local (formula_of n) then None else fault
-
--- neither a difference nor the next event of a process is decided yet
-abbrev pub is_decided_atom : Atom → Bool
-is_decided_atom (atom.Truth value) = true
-is_decided_atom (atom.Local process variable compare right) = true
-is_decided_atom (atom.Watch process watch) = true
-is_decided_atom (atom.InTransit sender receiver compare k) = true
-is_decided_atom (atom.Empty sender receiver) = true
-is_decided_atom (atom.Difference left_process left right_process right compare k) = false
-
-abbrev mutual
-  -- none of either stands in the formula
-  pub is_decided : Node → Bool
-  is_decided (leaf a at) = is_decided_atom a
-  is_decided (negation n at) = is_decided n
-  is_decided (conjunction ns at) = all_decided ns
-  is_decided (disjunction ns at) = all_decided ns
-  is_decided (under operator n at) = is_decided n
-  is_decided (stepping process n at) = false
-  is_decided (until_of all left right at) = is_decided left && is_decided right
-
-  -- nor in a member
-  pub all_decided : Nodes → Bool
-  all_decided none = true
-  all_decided (more n ns) = is_decided n && all_decided ns
 
 abbrev mutual
   -- the first fault of the formula with this sign, which stands inside an operand or a conjunction
@@ -95,8 +76,8 @@ abbrev mutual
       unless_local (disjunction ns at) (first_of true false ns)
   first_fault inside sign (under operator n at) =
       earlier (operator_fault sign operator at) (first_fault true true n)
-  -- it is not decided yet
-  first_fault inside sign (stepping process n at) = fault_at code.NotRegular at
+  first_fault inside sign (stepping process n at) =
+      earlier (negated_fault sign at) (first_fault true true n)
   first_fault inside sign (until_of all left right at) =
       fault_at (code.OutsideClass (until_code all)) at
 

@@ -4,4 +4,5 @@ pub mod NamedParts
 pub mod Faults
 pub mod Seen
 pub mod Walk
+pub mod Counters
 pub mod Classed

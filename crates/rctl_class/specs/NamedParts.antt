@@ -1,6 +1,7 @@
 -- Parts by names as plain data, the formulas that they spell, and the names that they use.
 use Rattle.std.specs.Prelude.{◌≡◌, ℕ, ◌+◌, ◌^◌, ◌≤◌, Bool, true, false, ◌&&◌, List, [], ◌∷◌, ◌++◌}
-use Rattle.std.specs.Prelude.{map, length, Option, None, Some, IsTrue, ⊤}
+use Rattle.std.specs.Prelude.{map, length, Option, None, Some, IsTrue, ⊤, ℤ, pos, neg_ℤ, ◌≤ℤ◌}
+use Rattle.std.specs.Prelude.{bytes_eq}
 use Rattle.run_model.specs.Run.{Name}
 use Rattle.run_model.specs.Formula as model
 use Rattle.run_model.specs.Class.{is_analysed}
@@ -60,7 +61,10 @@ mutual
     at_most : (sender receiver : Place) (k : ℕ) → Piece
     at_least : (sender receiver : Place) (k : ℕ) → Piece
     never : (sender receiver : Place) → Piece
+    diff_at_most : (left_process left right_process right : Place) (k : ℤ) → Piece
+    diff_at_least : (left_process left right_process right : Place) (k : ℤ) → Piece
     temporal : (operator : Operator) (ps : Pieces) → Piece
+    next : (behind : Place) (ps : Pieces) → Piece
 
   -- a conjunction of parts
   pub data Pieces : Type 0 where
@@ -78,7 +82,12 @@ piece_step (NamedPart-F.Local on expr) = local on (expr_of expr)
 piece_step (NamedPart-F.AtMost sender receiver k) = at_most sender receiver k
 piece_step (NamedPart-F.AtLeast sender receiver k) = at_least sender receiver k
 piece_step (NamedPart-F.Never sender receiver) = never sender receiver
+piece_step (NamedPart-F.DiffAtMost left_process left right_process right k) =
+    diff_at_most left_process left right_process right k
+piece_step (NamedPart-F.DiffAtLeast left_process left right_process right k) =
+    diff_at_least left_process left right_process right k
 piece_step (NamedPart-F.Temporal operator ps) = temporal operator (pieces ps)
+piece_step (NamedPart-F.Next p ps) = next p (pieces ps)
 
 -- the part that the code's value is
 unfoldable pub piece_of : NamedPart → Piece
@@ -127,6 +136,11 @@ abbrev mutual
   part_formula (at_most p q k) = model.InTransit p.name q.name model.LessOrEqual k
   part_formula (at_least p q k) = model.InTransit p.name q.name model.GreaterOrEqual k
   part_formula (never p q) = model.Truth false
+  part_formula (diff_at_most p x q y k) =
+      model.Difference p.name x.name q.name y.name model.LessOrEqual k
+  part_formula (diff_at_least p x q y k) =
+      model.Difference p.name x.name q.name y.name model.GreaterOrEqual k
+  part_formula (next p ps) = model.Next p.name (model.And (part_formulas ps))
   part_formula (temporal operator ps) =
       model.Temporal (model_operator operator) (model.And (part_formulas ps))
 
@@ -169,7 +183,12 @@ abbrev mutual
   part_uses (at_most p q k) = process p ∷ process q ∷ []
   part_uses (at_least p q k) = process p ∷ process q ∷ []
   part_uses (never p q) = process p ∷ process q ∷ []
+  part_uses (diff_at_most p x q y k) =
+      process p ∷ variable p.name x ∷ process q ∷ variable q.name y ∷ []
+  part_uses (diff_at_least p x q y k) =
+      process p ∷ variable p.name x ∷ process q ∷ variable q.name y ∷ []
   part_uses (temporal operator ps) = operand_uses ps
+  part_uses (next p ps) = process p ∷ operand_uses ps
 
   -- those of the parts of an operand
   pub operand_uses : Pieces → List Use
@@ -208,14 +227,22 @@ abbrev pub has_no_place : Option Place → Bool
 has_no_place None = true
 has_no_place (Some p) = false
 
+-- a difference is of two processes, and its bound within 2^64
+abbrev pub DifferenceFits : Place → Place → ℤ → Type 0
+DifferenceFits p q k =
+    (bytes_eq p.name q.name ≡ false) × (neg_ℤ (pos (2 ^ 64)) ≤ℤ k) × (k ≤ℤ pos (2 ^ 64))
+
 abbrev mutual
-  -- an expression has a process exactly where it isn't constant, bounds are at most 2^63, operators
-  -- are analysed
+  -- an expression has a process exactly where it isn't constant, bounds are at most 2^63, those of
+  -- differences within 2^64, operators are analysed
   pub PartFits : Piece → Type 0
   PartFits (local on e) = is_constant e ≡ has_no_place on
   PartFits (at_most p q k) = k ≤ 2 ^ 63
   PartFits (at_least p q k) = k ≤ 2 ^ 63
   PartFits (never p q) = ⊤
+  PartFits (diff_at_most p x q y k) = DifferenceFits p q k
+  PartFits (diff_at_least p x q y k) = DifferenceFits p q k
+  PartFits (next p ps) = OperandFits ps
   PartFits (temporal operator ps) = IsTrue (is_analysed (model_operator operator)) × OperandFits ps
 
   -- so of each part of an operand
@@ -240,7 +267,10 @@ abbrev mutual
   part_count (at_most p q k) = 1
   part_count (at_least p q k) = 1
   part_count (never p q) = 1
+  part_count (diff_at_most p x q y k) = 1
+  part_count (diff_at_least p x q y k) = 1
   part_count (temporal operator ps) = 1 + operand_count ps
+  part_count (next p ps) = 1 + operand_count ps
 
   -- those of an operand
   pub operand_count : Pieces → ℕ

@@ -1,7 +1,7 @@
 -- A tree with its places as plain data, on which the rest goes by cases, and the formula that it
 -- spells.
 use Rattle.std.specs.Prelude.{◌≡◌, ℕ, ◌+◌, ◌^◌, ◌≤◌, nat_lt, Bool, true, ◌&&◌, List, [], ◌∷◌}
-use Rattle.std.specs.Prelude.{IsTrue}
+use Rattle.std.specs.Prelude.{IsTrue, ℤ, pos, neg_ℤ, int_le, int_lt}
 use Rattle.run_model.specs.Formula as model
 use Rattle.run_model.specs.Class.{is_wide}
 use Rattle.rctl_grammar.specs.declared.tree.Operator.{Operator}
@@ -66,14 +66,18 @@ abbrev mutual
 
 -- ---- what is known of a formula that was read
 
--- the number that messages are compared with is below 2^63
+-- a number is one of 64 bits with a sign
+abbrev pub is_small : ℤ → Bool
+is_small k = int_le (neg_ℤ (pos (2 ^ 63))) k && int_lt k (pos (2 ^ 63))
+
+-- the number that messages are compared with is below 2^63, and that of a difference has 64 bits
 abbrev pub atom_count_fits : Atom → Bool
 atom_count_fits (atom.Truth value) = true
 atom_count_fits (atom.Local process variable compare side) = true
 atom_count_fits (atom.Watch process watch) = true
 atom_count_fits (atom.InTransit sender receiver compare k) = nat_lt k (2 ^ 63)
 atom_count_fits (atom.Empty sender receiver) = true
-atom_count_fits (atom.Difference left_process left right_process right compare k) = true
+atom_count_fits (atom.Difference left_process left right_process right compare k) = is_small k
 
 abbrev mutual
   -- so of each leaf

@@ -1,6 +1,7 @@
 -- The parts and the disjuncts of a formula of the class, by names and with their places.
 use Rattle.std.specs.Prelude.{ℕ, zero, suc, ◌+◌, ◌-◌, ◌^◌, min, Bool, true, false, not, ◌&&◌, List}
-use Rattle.std.specs.Prelude.{[], ◌∷◌, ◌++◌, Option, None, Some, if◌then◌else◌, bytes_eq}
+use Rattle.std.specs.Prelude.{[], ◌∷◌, ◌++◌, Option, None, Some, if◌then◌else◌, bytes_eq, ℤ, pos}
+use Rattle.std.specs.Prelude.{◌-ℤ◌, ◌+ℤ◌}
 use Rattle.run_model.specs.Run.{Name}
 use Rattle.run_model.specs.Class.{is_local, after_sign}
 use Rattle.run_model.specs.Formula as model
@@ -125,6 +126,16 @@ bounds p q model.GreaterOrEqual k = named.at_least p q k ∷ []
 abbrev pub empty_bound : Bool → Place → Place → Piece
 empty_bound sign p q = if sign then named.at_most p q 0 else named.at_least p q 1
 
+-- the bounds that a comparison of a difference says, and none for "unequal"
+abbrev pub difference_bounds : Place → Place → Place → Place → model.Relation → ℤ → List Piece
+difference_bounds p x q y model.Equal k =
+    named.diff_at_most p x q y k ∷ named.diff_at_least p x q y k ∷ []
+difference_bounds p x q y model.Unequal k = []
+difference_bounds p x q y model.Less k = named.diff_at_most p x q y (k -ℤ pos 1) ∷ []
+difference_bounds p x q y model.LessOrEqual k = named.diff_at_most p x q y k ∷ []
+difference_bounds p x q y model.Greater k = named.diff_at_least p x q y (k +ℤ pos 1) ∷ []
+difference_bounds p x q y model.GreaterOrEqual k = named.diff_at_least p x q y k ∷ []
+
 -- the parts of a leaf with this sign that isn't local
 abbrev pub channel_parts : Bool → Atom → List Piece
 channel_parts sign (atom.Truth value) = []
@@ -133,7 +144,8 @@ channel_parts sign (atom.Watch q w) = []
 channel_parts sign (atom.InTransit p q compare k) =
     bounds p q (after_sign sign (relation_of compare)) k
 channel_parts sign (atom.Empty p q) = empty_bound sign p q ∷ []
-channel_parts sign (atom.Difference left_process left right_process right compare k) = []
+channel_parts sign (atom.Difference p x q y compare k) =
+    difference_bounds p x q y (after_sign sign (relation_of compare)) k
 
 -- ---- parts and disjuncts
 
@@ -152,7 +164,8 @@ abbrev mutual
   parts_from false (disjunction ns at) = or_local false (disjunction ns at) (all_parts false ns)
   parts_from sign (under operator n at) =
       named.temporal operator (named.pieces (parts_from true n)) ∷ []
-  parts_from sign (stepping process n at) = []
+  parts_from sign (stepping process n at) =
+      named.next process (named.pieces (parts_from true n)) ∷ []
   parts_from sign (until_of all left right at) = []
 
   -- those of members, one after the other
@@ -178,7 +191,7 @@ abbrev mutual
       or_one_local true (disjunction ns at) (all_disjuncts true ns)
   disjuncts_from false (disjunction ns at) = parts_from false (disjunction ns at) ∷ []
   disjuncts_from sign (under operator n at) = parts_from sign (under operator n at) ∷ []
-  disjuncts_from sign (stepping process n at) = []
+  disjuncts_from sign (stepping process n at) = parts_from sign (stepping process n at) ∷ []
   disjuncts_from sign (until_of all left right at) = []
 
   -- those of members, one after the other

@@ -3,10 +3,10 @@
 //!
 //! `classify` gives the disjuncts, or exactly the first fault: what is wrong with one node stands
 //! in three tables, and nodes are judged before their members, members from left to right. Laws:
-//! a formula has no fault exactly where it is of the class and has neither of the forms that are
-//! not decided yet (`faultless_formulas_are_of_the_class`), the disjuncts mean the formula
-//! (`disjuncts_mean_the_formula`), and what `classify` asks is so of each formula that was read
-//! (`read_formulas_are_within_limits`). *Not said*: that memory suffices.
+//! a formula has no fault exactly where it is of the class (`faultless_formulas_are_of_the_class`),
+//! the disjuncts mean the formula (`disjuncts_mean_the_formula`), what a formula asks of a run is that
+//! none of its counters falls (`counters_are_what_is_asked`), and what `classify` asks is so of each
+//! formula that was read (`read_formulas_are_within_limits`). *Not said*: that memory suffices.
 #![tactic(auto)]
 
 ghost use Rattle.rctl_class.specs.Classed.{IsClassed};
@@ -17,6 +17,7 @@ ghost use Rattle.rctl_parse.specs.Reading.{Faults};
 ghost use Rattle.std.specs.Prelude.{◌≡◌, false, MatchResult, Some, true};
 
 mod channel;
+mod difference;
 mod laws;
 mod local;
 mod named;
@@ -24,7 +25,7 @@ mod stop;
 mod walk;
 
 pub use laws::{
-    disjuncts_mean_the_formula, faultless_formulas_are_of_the_class,
+    counters_are_what_is_asked, disjuncts_mean_the_formula, faultless_formulas_are_of_the_class,
     read_formulas_are_within_limits,
 };
 pub use named::{Classed, NamedExpr, NamedPart, NamedSide};
@@ -34,8 +35,9 @@ use std::alloc::Global;
 pub use stop::{Stop, fault};
 
 /// The disjuncts of the formula, each by its parts. `Fault` is its first fault, at the node:
-/// `NotRegular` is a comparison of two processes, messages under way compared as unequal, or an
-/// operator, under a sign that no regular predicate has (Garg and Mittal; Sen and Garg);
+/// `NotRegular` is a comparison of two processes, a difference within one process, messages under
+/// way or a difference compared as unequal, or an operator, under a sign that no regular predicate
+/// has (Garg and Mittal; Sen and Garg);
 /// `DisjunctionInside` stands in a conjunction or in an operand; `OutsideClass` is an operator
 /// that is not decided.
 ///

@@ -53,9 +53,30 @@ pub enum NamedPart {
         sender: Place,
         receiver: Place,
     },
+    /// The left variable is at most `k` more than the right one.
+    DiffAtMost {
+        left_process: Place,
+        left: Place,
+        right_process: Place,
+        right: Place,
+        k: i128,
+    },
+    /// The left variable is at least `k` more than the right one.
+    DiffAtLeast {
+        left_process: Place,
+        left: Place,
+        right_process: Place,
+        right: Place,
+        k: i128,
+    },
     /// The operator over the conjunction of the parts (Sen and Garg).
     Temporal {
         operator: Operator,
+        parts: List<NamedPart>,
+    },
+    /// The conjunction of the parts behind the next event of the process.
+    Next {
+        process: Place,
         parts: List<NamedPart>,
     },
 }

@@ -1,20 +1,24 @@
 //! The walk over a formula with a sign: its parts and disjuncts, or its first fault.
 ghost use Rattle.rctl_class.specs.Faults.{atom_fault, first_fault, first_of};
-ghost use Rattle.rctl_class.specs.Faults.{operator_fault, until_code};
+ghost use Rattle.rctl_class.specs.Faults.{negated_fault, operator_fault, until_code};
 ghost use Rattle.rctl_class.specs.NamedParts.{disjuncts_of, piece_of, pieces_of};
 ghost use Rattle.rctl_class.specs.Nodes.{node_of, nodes_of};
 ghost use Rattle.rctl_class.specs.Walk.{all_disjuncts, all_parts, channel_parts, disjuncts_from};
 ghost use Rattle.rctl_class.specs.Walk.{parts_from};
+ghost use Rattle.rctl_grammar.specs.Shape.{relation_of};
+ghost use Rattle.rctl_grammar.specs.declared.fault.FormulaCode.TheVariants.{NotRegular};
 ghost use Rattle.rctl_parse.specs.Reading.{Faults};
+ghost use Rattle.run_model.specs.Class.{after_sign as turned_by, are_bounded};
 ghost use Rattle.std.specs.Prelude.{◌≡◌, ◌++◌, ◌∷◌, [], false, map, MatchResult, None, OnOk};
 ghost use Rattle.std.specs.Prelude.{Some, true};
 
 use crate::channel::{after_sign, emptiness, push_bounds};
-use crate::local::local_part;
+use crate::difference::push_difference;
+use crate::local::{copy_place, local_part};
 use crate::named::NamedPart;
 use crate::stop::{Stop, fault};
 use pota_base::{List, NoMemory};
-use rctl_grammar::{Atom, Compare, FormulaCode, Operator, Outside, Tree};
+use rctl_grammar::{Atom, Compare, FormulaCode, Operator, Outside, Place, Tree};
 use std::alloc::Global;
 
 /// Appends the parts of a leaf that isn't local. A comparison of one process and a watch are local.
@@ -46,8 +50,62 @@ fn push_leaf(
         Atom::Empty { sender, receiver } => {
             Ok(parts.push(emptiness(alloc, sign, sender, receiver)?)?)
         }
-        Atom::Difference { .. } => Err(fault(FormulaCode::NotRegular, at)),
+        Atom::Difference {
+            left_process,
+            left,
+            right_process,
+            right,
+            compare,
+            k,
+        } => {
+            let turned = judge_difference(sign, left_process, right_process, *compare, at)?;
+            Ok(push_difference(
+                alloc,
+                left_process,
+                left,
+                right_process,
+                right,
+                turned,
+                *k,
+                parts,
+            )?)
+        }
     }
+}
+
+/// The comparison of a difference after the sign, where that is of two processes and no `!=`.
+fn judge_difference(
+    sign: bool,
+    left_process: &Place,
+    right_process: &Place,
+    compare: Compare,
+    at: u32,
+) -> Result<Compare, Stop>
+    ensures { MatchResult result
+        (λ turned. (are_bounded sign left_process.now.name right_process.now.name
+        (relation_of compare) ≡ true)
+        × (relation_of turned ≡ turned_by sign (relation_of compare)))
+        (λ stop. Faults stop (λ f. (are_bounded sign left_process.now.name right_process.now.name
+        (relation_of compare) ≡ false) × (f ≡ record { code = NotRegular; place = at }))) }
+{
+    if left_process.name.as_bytes() == right_process.name.as_bytes() {
+        return Err(fault(FormulaCode::NotRegular, at));
+    }
+    match after_sign(sign, compare) {
+        Compare::Ne => Err(fault(FormulaCode::NotRegular, at)),
+        turned => Ok(turned),
+    }
+}
+
+/// Lets an operator pass that is not negated.
+fn judge_sign(sign: bool, at: u32) -> Result<(), Stop>
+    ensures { MatchResult result (λ _. negated_fault sign at ≡ None)
+        (λ stop. Faults stop (λ f. negated_fault sign at ≡ Some f)) }
+{
+    if sign {
+        return Ok(());
+    }
+    Err(fault(FormulaCode::NotRegular, at))
 }
 
 /// Lets an operator pass that is analysed and not negated.
@@ -56,11 +114,9 @@ fn judge(sign: bool, operator: Operator, at: u32) -> Result<(), Stop>
         (λ stop. Faults stop (λ f. operator_fault sign operator at ≡ Some f)) }
 {
     match operator {
-        Operator::Ef | Operator::Ag | Operator::Eg if sign => Ok(()),
-        Operator::Ef | Operator::Ag | Operator::Eg => Err(fault(FormulaCode::NotRegular, at)),
-        Operator::Ex(_) => Err(fault(FormulaCode::NotRegular, at)),
+        Operator::Ef | Operator::Ag | Operator::Eg => judge_sign(sign, at),
         Operator::Af => Err(fault(FormulaCode::OutsideClass(Outside::Af), at)),
-        Operator::Ax => Err(fault(FormulaCode::OutsideClass(Outside::Ax), at)),
+        Operator::Ex(_) | Operator::Ax => Err(fault(FormulaCode::OutsideClass(Outside::Ax), at)),
     }
 }
 
@@ -128,7 +184,15 @@ fn conjunction(
                 parts: operand,
             })?)
         }
-        Tree::Next { at, .. } => Err(fault(FormulaCode::NotRegular, *at)),
+        Tree::Next { process, inner, at } => {
+            judge_sign(sign, *at)?;
+            let mut operand = List::new(alloc);
+            conjunction(alloc, true, inner.get(), &mut operand)?;
+            Ok(parts.push(NamedPart::Next {
+                process: copy_place(alloc, process)?,
+                parts: operand,
+            })?)
+        }
         Tree::Until { all, at, .. } => {
             Err(fault(FormulaCode::OutsideClass(until_code(*all)), *at))
         }
