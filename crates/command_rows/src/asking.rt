@@ -1,23 +1,31 @@
 //! What a command line asks for, in words.
 
-use command_words::{Request, Sizes, Task, read_request};
+use command_words::{Form, Inquiry, Product, Request, Shown, Sizes, Task, read_request};
 use std::alloc::{AllocError, Global};
+
+fn shown_text(alloc: Global, shown: &Shown) -> Result<String, AllocError> {
+    let mut text = String::from_str(alloc, "check")?;
+    if shown.slice {
+        text.push_str(" slice")?;
+    }
+    if shown.witness {
+        text.push_str(" witness")?;
+    }
+    if shown.each_batch {
+        text.push_str(" each-batch")?;
+    }
+    Ok(text)
+}
+
+fn inquiry_text(alloc: Global, inquiry: &Inquiry) -> Result<String, AllocError> {
+    match (&inquiry.form, &inquiry.product) {
+        (Form::Text, Product::Reports(shown)) => shown_text(alloc, shown),
+    }
+}
 
 fn task_text(alloc: Global, task: &Task) -> Result<String, AllocError> {
     match task {
-        Task::Check(shown) => {
-            let mut text = String::from_str(alloc, "check")?;
-            if shown.slice {
-                text.push_str(" slice")?;
-            }
-            if shown.witness {
-                text.push_str(" witness")?;
-            }
-            if shown.each_batch {
-                text.push_str(" each-batch")?;
-            }
-            Ok(text)
-        }
+        Task::Read(inquiry) => inquiry_text(alloc, inquiry),
         Task::Bench(
             Sizes {
                 seed,

@@ -3,7 +3,10 @@ use Rattle.std.specs.Prelude.{ℕ, Bool, ◌||◌, List, Option, None, Some, is_
 use Rattle.std.specs.Prelude.{option_and_then, codes, if◌then◌else◌}
 use Rattle.std.specs.Str.{bytes_eq}
 use Rattle.command_words.specs.declared.request.Task.{Task}
-use Rattle.command_words.specs.declared.request.Task.TheVariants.{Check, Bench}
+use Rattle.command_words.specs.declared.request.Task.TheVariants.{Read, Bench}
+use Rattle.command_words.specs.declared.request.Form.TheVariants as form
+use Rattle.command_words.specs.declared.request.Product.TheVariants.{Reports}
+use Rattle.command_words.specs.declared.request.Shown.{Shown}
 use Rattle.command_words.specs.Rule.{Text, Given, given, is_used, value_of}
 use Rattle.command_words.specs.Numbers.{workers_of, sizes_of}
 
@@ -33,10 +36,14 @@ values_of g = record {
   each_batch = is_used (codes "each-batch") g.uses;
 }
 
+-- what the flags show
+abbrev pub shown_of : Values → Shown
+shown_of v = record { slice = v.slice; witness = v.witness; each_batch = v.each_batch }
+
 -- `check` takes the flags, and none of the three options of `bench`
 abbrev pub check_of : Values → Option Task
 check_of v = if is_some v.seed || is_some v.procs || is_some v.events then None
-    else Some (Check (record { slice = v.slice; witness = v.witness; each_batch = v.each_batch }))
+    else Some (Read (record { form = form.Text; product = Reports (shown_of v) }))
 
 -- `bench` takes no flag, and wants its three options
 abbrev pub bench_of : Values → Option Task

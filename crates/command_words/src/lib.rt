@@ -14,7 +14,8 @@
 //! look-ups in `proofs/Names.antt`; its field in `Values` (`specs/Request.antt`), `TextValues` and
 //! `values_in` of both sides, and where the command takes it (`check_of`, `bench_of`). An option is
 //! the same, in `options` and `with_options`. A command more is a line in `task_of` and in
-//! `task_named`, and a variant of `Task`.
+//! `task_named`, and a variant of `Task`; one that reads its input is a variant of `Product`, and a
+//! form of input more is a variant of `Form`.
 #![tactic(auto)]
 
 mod command;
@@ -26,4 +27,4 @@ mod request;
 mod values;
 
 pub use laws::{clap_gives_the_rule, clap_takes_the_rule};
-pub use request::{Request, Shown, Sizes, Task, read_request};
+pub use request::{Form, Inquiry, Product, Request, Shown, Sizes, Task, read_request};

@@ -17,7 +17,14 @@ use clap::{ArgMatches, Error};
 use pota_base::NoMemory;
 use std::alloc::Global;
 
-/// What `check` shows beside the verdict.
+/// How an input is read as a log.
+#[derive(Clone, Copy, Debug, PartialEq, Eq)]
+pub enum Form {
+    /// As the text of one log.
+    Text,
+}
+
+/// What the reports on a log show beside the verdict.
 #[derive(Clone, Copy, Debug, PartialEq, Eq)]
 pub struct Shown {
     /// The slice of the formula.
@@ -26,6 +33,20 @@ pub struct Shown {
     pub witness: bool,
     /// A report for each batch, and not for the last one alone.
     pub each_batch: bool,
+}
+
+/// What is written of a log that is read.
+#[derive(Clone, Copy, Debug, PartialEq, Eq)]
+pub enum Product {
+    /// Reports on it.
+    Reports(Shown),
+}
+
+/// What is asked of an input.
+#[derive(Clone, Copy, Debug, PartialEq, Eq)]
+pub struct Inquiry {
+    pub form: Form,
+    pub product: Product,
 }
 
 /// The log that `bench` makes.
@@ -42,7 +63,7 @@ pub struct Sizes {
 #[derive(Clone, Copy, Debug, PartialEq, Eq)]
 pub enum Task {
     /// Judge the log that is read.
-    Check(Shown),
+    Read(Inquiry),
     /// Judge a log that is made from a number.
     Bench(Sizes),
 }
@@ -63,10 +84,14 @@ fn check_task(values: &TextValues<'_>) -> Option<Task>
     if values.seed.is_some() || values.procs.is_some() || values.events.is_some() {
         return None;
     }
-    Some(Task::Check(Shown {
+    let shown = Shown {
         slice: values.slice,
         witness: values.witness,
         each_batch: values.each_batch,
+    };
+    Some(Task::Read(Inquiry {
+        form: Form::Text,
+        product: Product::Reports(shown),
     }))
 }
 

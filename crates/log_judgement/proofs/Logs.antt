@@ -1,8 +1,8 @@
 -- What is due of the text of a log.
 use Rattle.std.proofs.Common.{◌≡◌, ℕ, ◌<◌, ◌≤◌, true, Option, Some, None, List, [], ◌∷◌, ◌++◌, length, refl, sym, ap, subst, ◌∙◌, arith, append_assoc, append-nil, length-append}
 use Rattle.std.specs.List.{AllByRecursion}
+use Rattle.std.specs.Option.{option_map}
 use Rattle.std.proofs.lemmas.Option.{none-some}
-use Rattle.log_lines.specs.Reading.{choose}
 use Rattle.rctl_grammar.specs.declared.fault.FormulaFault.{FormulaFault}
 use Rattle.event_log.specs.declared.item.LogFault.{LogFault}
 use Rattle.event_log.specs.declared.item.Item.{Item}
@@ -12,7 +12,7 @@ use Rattle.event_log.specs.declared.log.Log.{Log}
 use Rattle.event_log.specs.Laws.{IsLog, IsWellFormed}
 use Rattle.event_log.specs.LogText.{onto, lines_of, log_text, header_lines, batch_lines, closing_line, event_lines, text_of, event_items, closing_item, batch_items, log_items, HasVarLines, lined}
 use Rattle.event_log.specs.Faults.{end_fault, items_in}
-use Rattle.event_log.specs.States.{with_batch, with_batches}
+use Rattle.event_log.specs.States.{with_batch}
 use Rattle.event_log.proofs.Appends.{text_of-append}
 use Rattle.event_log.proofs.Lists.{all_onto}
 use Rattle.event_log.proofs.Texts.{lines-text}
@@ -20,16 +20,21 @@ use Rattle.event_log.proofs.Plain.{log_plain}
 use Rattle.event_log.proofs.Narrow.{IsNarrow, log_narrow}
 use Rattle.event_log.proofs.WellFormed.{fault_free_log, log_fault_free}
 use Rattle.vector_clock.specs.Events.{no_events}
-use Rattle.vector_clock.specs.Faults.{batch_fault, batches_fault, log_fault}
+use Rattle.vector_clock.specs.Faults.{batch_fault, batches_fault}
 use Rattle.vector_clock.specs.Filled.{filled_batches, filled_log}
 use Rattle.vector_clock.proofs.FilledBatches.{length-filled}
 use Rattle.log_judgement.specs.declared.refusal.Refusal.{Refusal}
 use Rattle.log_judgement.specs.declared.refusal.Refusal.TheVariants as refusal
-use Rattle.log_judgement.specs.Judgement.{Prefix, followed_by, events_of, with_clocks, Rules, with_names, Judgement, waiting, growing, finished, refused, opened, closing, judged}
-use Rattle.log_judgement.specs.Due.{log_reading, after_each, prefixes, counted, fault_in, Due, told, due}
-use Rattle.log_judgement.specs.WholeLogs.{IsLogFor, IsDueOfLog}
+use Rattle.counter_preds.specs.declared.values.Variable.{Variable}
+use Rattle.counter_preds.specs.Falls.{fall_fault, behind_batch}
+use Rattle.log_judgement.specs.Judgement.{Prefix, followed_by, events_of, states_of, with_clocks, clock_fault, fault_behind, Rules, with_rules, Judgement, waiting, growing, finished, refused, opened, closing, judged}
+use Rattle.log_judgement.specs.Readings.{log_reading}
+use Rattle.log_judgement.specs.Due.{after_each, prefixes, counted, placed, fault_in, told, due}
+use Rattle.log_judgement.specs.WholeLogs.{first_fall, IsLogFor, IsDueOfLog}
 use Rattle.log_judgement.proofs.Items.{prefix_at, refused-stays, after_each-push}
 use Rattle.log_judgement.proofs.Dues.{text_free}
+use Rattle.log_judgement.proofs.Orders.{with_batches-push, chosen_none}
+use Rattle.log_judgement.proofs.Readings.{text_none}
 
 -- ---- the items of batches
 
@@ -66,16 +71,6 @@ judged-none : (rules : Rules) (j : Judgement) → judged rules j [] ≡ j
 unfolding judged
 judged-none rules j = refl
 
-with_batches-push : (ess batches : List (List Event)) (b : List Event)
-    → with_batches ess (batches ++ b ∷ []) ≡ with_batch (with_batches ess batches) b
-with_batches-push ess [] b = refl
-with_batches-push ess (x ∷ batches) b = with_batches-push (with_batch ess x) batches b
-
-chosen_none : (o other : Option LogFault) → choose o (λ f. Some f) other ≡ None
-    → (o ≡ None) × (other ≡ None)
-chosen_none None other h = (refl, h)
-chosen_none (Some f) other h = absurd (none-some f (sym h))
-
 -- ---- batches without a fault are all closed
 
 -- the last batch was closed behind the others, all filled
@@ -85,7 +80,10 @@ record Closed (h : Header) (batches : List (List Event)) (j : Judgement) : Type 
   is : j ≡ finished (prefix_at h before) last
   all : before ++ last ∷ [] ≡ batches
 
-module _ (names : Header → Option FormulaFault) (h : Header) where
+module _ (names : Header → Option FormulaFault) (counters : Header → List Variable) (h : Header) where
+  abbrev rules : Rules
+  rules = with_rules names counters
+
   -- the events of filled batches, and one more that is filled behind them
   abbrev events : List (List Event) → List (List Event)
   events done = events_of (prefix_at h done)
@@ -93,47 +91,72 @@ module _ (names : Header → Option FormulaFault) (h : Header) where
   abbrev full : List (List Event) → List Event → List Event
   full done b = with_clocks (prefix_at h done) b
 
-  one_closed : (done : List (List Event)) (b : List Event) (bs : List (List Event)) (next : Judgement)
-      → batch_fault (events done) b ≡ None
-      → closing (with_names names) (prefix_at h done) b next ≡ next
-  one_closed done b bs next free = rw free refl
+  abbrev falls : List (List Event) → List Event → Option LogFault
+  falls done b = fall_fault (states_of (prefix_at h done)) (counters h) b
+
+  -- batches behind filled ones have no fault
+  record Free (done bs : List (List Event)) : Type 0 where
+    ordered : batches_fault (events done) (filled_batches (events done) bs) ≡ None
+    rising : first_fall (states_of (prefix_at h done)) (counters h) (filled_batches (events done) bs) ≡ None
+
+  free_behind : (done : List (List Event)) (b : List Event) → falls done b ≡ None → batch_fault (events done) b ≡ None
+      → fault_behind (counters h) (prefix_at h done) b ≡ None
+  free_behind done b rises free = rw rises free
+
+  one_closed : (done : List (List Event)) (b : List Event) (next : Judgement)
+      → fault_behind (counters h) (prefix_at h done) b ≡ None
+      → closing rules (prefix_at h done) b next ≡ next
+  one_closed done b next free = rw free refl
 
   -- the events of filled batches, with one more
   done_more : (done : List (List Event)) (b : List Event)
       → events (done ++ b ∷ []) ≡ with_batch (events done) b
   done_more done b = with_batches-push (no_events (length h.procs)) done b
 
-  all_closed : (done : List (List Event)) (b : List Event) (bs : List (List Event))
-      → batches_fault (events done) (filled_batches (events done) (b ∷ bs)) ≡ None
-      → Closed h (done ++ filled_batches (events done) (b ∷ bs)) (judged (with_names names) (growing (prefix_at h done) []) (batch_items (b ∷ bs)))
-  unfolding batches_fault filled_batches
+  -- what is filled behind so many events has no fault
+  abbrev NoFault : List (List Event) → List (List Event) → Type 0
+  NoFault ess bs = batches_fault ess (filled_batches ess bs) ≡ None
+
+  abbrev NoFall : List (List Event) → List (List Event) → Type 0
+  NoFall ess bs = first_fall (record { header = h; events = ess }) (counters h) (filled_batches ess bs) ≡ None
+
+  free_more : (done : List (List Event)) (b : List Event) (bs : List (List Event))
+      → NoFault (with_batch (events done) b) bs → NoFall (with_batch (events done) b) bs
+      → Free (done ++ b ∷ []) bs
+  free_more done b bs ordered rising =
+      let more = sym (done_more done b) in
+      record { ordered = subst (λ (ess : List (List Event)). NoFault ess bs) more ordered; rising = subst (λ (ess : List (List Event)). NoFall ess bs) more rising }
+
+  all_closed : (done : List (List Event)) (b : List Event) (bs : List (List Event)) → Free done (b ∷ bs)
+      → Closed h (done ++ filled_batches (events done) (b ∷ bs)) (judged rules (growing (prefix_at h done) []) (batch_items (b ∷ bs)))
+  unfolding batches_fault filled_batches first_fall
   all_closed done b [] free =
       let last = full done b in
-      let parts = chosen_none (batch_fault (events done) last) None free in
+      let ordered = chosen_none (batch_fault (events done) last) None free.ordered in
+      let rising = chosen_none (falls done last) None free.rising in
       record {
         before = done;
         last = last;
-        is = judged-batch (with_names names) (prefix_at h done) b []
-            ∙ judged-none (with_names names) (closing (with_names names) (prefix_at h done) last (finished (prefix_at h done) last))
-            ∙ one_closed done last [] (finished (prefix_at h done) last) parts.0;
+        is = judged-batch rules (prefix_at h done) b []
+            ∙ judged-none rules (closing rules (prefix_at h done) last (finished (prefix_at h done) last))
+            ∙ one_closed done last (finished (prefix_at h done) last) (free_behind done last rising.0 ordered.0);
         all = refl;
       }
   all_closed done b (c ∷ bs) free =
       let last = full done b in
-      let parts = chosen_none (batch_fault (events done) last) (batches_fault (with_batch (events done) last) (filled_batches (with_batch (events done) last) (c ∷ bs))) free in
-      let more = done_more done last in
-      let rest : batches_fault (events (done ++ last ∷ [])) (filled_batches (events (done ++ last ∷ [])) (c ∷ bs)) ≡ None =
-      ap (λ (xs : List (List Event)). batches_fault xs (filled_batches xs (c ∷ bs))) more ∙ parts.1 in
-      let others = all_closed (done ++ last ∷ []) c bs rest in
+      let after = with_batch (events done) last in
+      let ordered = chosen_none (batch_fault (events done) last) (batches_fault after (filled_batches after (c ∷ bs))) free.ordered in
+      let rising = chosen_none (falls done last) (first_fall (behind_batch (states_of (prefix_at h done)) last) (counters h) (filled_batches after (c ∷ bs))) free.rising in
+      let others = all_closed (done ++ last ∷ []) c bs (free_more done last (c ∷ bs) ordered.1 rising.1) in
       let next : Judgement = growing (prefix_at h (done ++ last ∷ [])) [] in
       record {
         before = others.before;
         last = others.last;
-        is = judged-batch (with_names names) (prefix_at h done) b (c ∷ bs)
-            ∙ ap (λ (j : Judgement). judged (with_names names) j (batch_items (c ∷ bs))) (one_closed done last (c ∷ bs) next parts.0)
+        is = judged-batch rules (prefix_at h done) b (c ∷ bs)
+            ∙ ap (λ (j : Judgement). judged rules j (batch_items (c ∷ bs))) (one_closed done last next (free_behind done last rising.0 ordered.0))
             ∙ others.is;
         all = others.all ∙ append_assoc done (last ∷ []) (filled_batches (events (done ++ last ∷ [])) (c ∷ bs))
-            ∙ ap (λ (xs : List (List Event)). done ++ last ∷ filled_batches xs (c ∷ bs)) more;
+            ∙ ap (λ (xs : List (List Event)). done ++ last ∷ filled_batches xs (c ∷ bs)) (done_more done last);
       }
 
   -- ---- batches that are not refused have no fault
@@ -141,75 +164,88 @@ module _ (names : Header → Option FormulaFault) (h : Header) where
   abbrev IsTaken : Judgement → Type 0
   IsTaken j = (log : Option Prefix) (why : Refusal) → j ≡ refused log why → ⊥
 
+  -- one more in front of those without a fault
+  free_one : (done : List (List Event)) (b : List Event) (bs : List (List Event))
+      → fault_behind (counters h) (prefix_at h done) (full done b) ≡ None → Free (done ++ full done b ∷ []) bs → Free done (b ∷ bs)
+  unfolding batches_fault filled_batches first_fall
+  free_one done b bs free rest =
+      let last = full done b in
+      let parts = chosen_none (falls done last) (clock_fault (prefix_at h done) last) free in
+      let more = done_more done last in
+      record {
+        ordered = rw parts.1 (subst (λ (ess : List (List Event)). NoFault ess bs) more rest.ordered);
+        rising = rw parts.0 (subst (λ (ess : List (List Event)). NoFall ess bs) more rest.rising);
+      }
+
+  free_none : (done : List (List Event)) → Free done []
+  unfolding batches_fault filled_batches first_fall
+  free_none done = record { ordered = refl; rising = refl }
+
   none_refused : (done bs : List (List Event))
-      → IsTaken (judged (with_names names) (growing (prefix_at h done) []) (batch_items bs))
-      → batches_fault (events done) (filled_batches (events done) bs) ≡ None
-  unfolding batches_fault filled_batches
-  none_refused done [] taken = refl
-  none_refused done (b ∷ bs) taken = go (batch_fault (events done) (full done b)) refl bs taken (none_refused (done ++ full done b ∷ []) bs)
+      → IsTaken (judged rules (growing (prefix_at h done) []) (batch_items bs)) → Free done bs
+  none_refused done [] taken = free_none done
+  none_refused done (b ∷ bs) taken = go (fault_behind (counters h) (prefix_at h done) (full done b)) refl bs taken (none_refused (done ++ full done b ∷ []) bs)
     where
-      go : (o : Option LogFault) → batch_fault (events done) (full done b) ≡ o → (cs : List (List Event))
-          → IsTaken (judged (with_names names) (growing (prefix_at h done) []) (batch_items (b ∷ cs)))
-          → (IsTaken (judged (with_names names) (growing (prefix_at h (done ++ full done b ∷ [])) []) (batch_items cs))
-          → batches_fault (events (done ++ full done b ∷ [])) (filled_batches (events (done ++ full done b ∷ [])) cs) ≡ None)
-          → choose (batch_fault (events done) (full done b)) (λ f. Some f) (batches_fault (with_batch (events done) (full done b)) (filled_batches (with_batch (events done) (full done b)) cs)) ≡ None
+      go : (o : Option LogFault) → fault_behind (counters h) (prefix_at h done) (full done b) ≡ o → (cs : List (List Event))
+          → IsTaken (judged rules (growing (prefix_at h done) []) (batch_items (b ∷ cs)))
+          → (IsTaken (judged rules (growing (prefix_at h (done ++ full done b ∷ [])) []) (batch_items cs)) → Free (done ++ full done b ∷ []) cs)
+          → Free done (b ∷ cs)
       go (Some f) is cs taken rest =
-          let stop : closing (with_names names) (prefix_at h done) (full done b) (next_of (prefix_at h done) (full done b) cs) ≡ refused (Some (prefix_at h done)) (refusal.Log f) = rw is refl in
-          absurd (taken (Some (prefix_at h done)) (refusal.Log f) (judged-batch (with_names names) (prefix_at h done) b cs
-          ∙ ap (λ (j : Judgement). judged (with_names names) j (batch_items cs)) stop
-          ∙ refused-stays (with_names names) (Some (prefix_at h done)) (refusal.Log f) (batch_items cs)))
-      go None is [] taken rest = rw is refl
+          let stop : closing rules (prefix_at h done) (full done b) (next_of (prefix_at h done) (full done b) cs) ≡ refused (Some (prefix_at h done)) (refusal.Log f) = rw is refl in
+          absurd (taken (Some (prefix_at h done)) (refusal.Log f) (judged-batch rules (prefix_at h done) b cs
+          ∙ ap (λ (j : Judgement). judged rules j (batch_items cs)) stop
+          ∙ refused-stays rules (Some (prefix_at h done)) (refusal.Log f) (batch_items cs)))
+      go None is [] taken rest = free_one done b [] is (free_none (done ++ full done b ∷ []))
       go None is (c ∷ cs) taken rest =
           let next : Judgement = growing (prefix_at h (done ++ full done b ∷ [])) [] in
-          let same : judged (with_names names) (growing (prefix_at h done) []) (batch_items (b ∷ c ∷ cs)) ≡ judged (with_names names) next (batch_items (c ∷ cs)) =
-          judged-batch (with_names names) (prefix_at h done) b (c ∷ cs)
-          ∙ ap (λ (j : Judgement). judged (with_names names) j (batch_items (c ∷ cs))) (one_closed done (full done b) (c ∷ cs) next is) in
-          rw is (ap (λ (xs : List (List Event)). batches_fault xs (filled_batches xs (c ∷ cs))) (sym (done_more done (full done b)))
-          ∙ rest (λ log why e. taken log why (same ∙ e)))
+          let same : judged rules (growing (prefix_at h done) []) (batch_items (b ∷ c ∷ cs)) ≡ judged rules next (batch_items (c ∷ cs)) =
+          judged-batch rules (prefix_at h done) b (c ∷ cs)
+          ∙ ap (λ (j : Judgement). judged rules j (batch_items (c ∷ cs))) (one_closed done (full done b) next is) in
+          free_one done b (c ∷ cs) is (rest (λ log why e. taken log why (same ∙ e)))
 
 -- ---- whole logs
 
-module _ (names : Header → Option FormulaFault) (log : Log) where
-  judged-log : judged (with_names names) waiting (log_items log)
-      ≡ judged (with_names names) (opened (with_names names) log.header) (batch_items log.batches)
+module _ (names : Header → Option FormulaFault) (counters : Header → List Variable) (log : Log) where
+  judged-log : judged (with_rules names counters) waiting (log_items log)
+      ≡ judged (with_rules names counters) (opened (with_rules names counters) log.header) (batch_items log.batches)
   unfolding judged
   judged-log = refl
 
-  opened_log : names log.header ≡ None → opened (with_names names) log.header ≡ growing (prefix_at log.header []) []
+  opened_log : names log.header ≡ None → opened (with_rules names counters) log.header ≡ growing (prefix_at log.header []) []
   opened_log known = rw known refl
 
-  abbrev none : List (List Event)
-  none = no_events (length log.header.procs)
+  begun : names log.header ≡ None → judged (with_rules names counters) waiting (log_items log)
+      ≡ judged (with_rules names counters) (growing (prefix_at log.header []) []) (batch_items log.batches)
+  begun known =
+      judged-log ∙ ap (λ (j : Judgement). judged (with_rules names counters) j (batch_items log.batches)) (opened_log known)
 
-  log_closed : names log.header ≡ None → log_fault (filled_log log) ≡ None → 0 < length log.batches
-      → Closed log.header (filled_log log).batches (judged (with_names names) waiting (log_items log))
+  log_closed : names log.header ≡ None → Free names counters log.header [] log.batches → 0 < length log.batches
+      → Closed log.header (filled_log log).batches (judged (with_rules names counters) waiting (log_items log))
   log_closed known free some =
-      let begun = judged-log ∙ ap (λ (j : Judgement). judged (with_names names) j (batch_items log.batches)) (opened_log known) in
-      subst (Closed log.header (filled_log log).batches) (sym begun) (go log.batches free some)
+      subst (Closed log.header (filled_log log).batches) (sym (begun known)) (go log.batches free some)
     where
-      go : (bs : List (List Event)) → batches_fault none (filled_batches none bs) ≡ None → 0 < length bs
-          → Closed log.header (filled_batches none bs) (judged (with_names names) (growing (prefix_at log.header []) []) (batch_items bs))
+      go : (bs : List (List Event)) → Free names counters log.header [] bs → 0 < length bs
+          → Closed log.header (filled_batches (no_events (length log.header.procs)) bs) (judged (with_rules names counters) (growing (prefix_at log.header []) []) (batch_items bs))
       go [] free some = absurd (omega (arith, some))
-      go (b ∷ bs) free some = all_closed names log.header [] b bs free
+      go (b ∷ bs) free some = all_closed names counters log.header [] b bs free
 
   record Taken : Type 0 where
     known : names log.header ≡ None
-    free : log_fault (filled_log log) ≡ None
+    free : Free names counters log.header [] log.batches
 
-  taken_log : IsTaken names log.header (judged (with_names names) waiting (log_items log)) → Taken
+  taken_log : IsTaken names counters log.header (judged (with_rules names counters) waiting (log_items log)) → Taken
   taken_log taken = go (names log.header) refl
     where
       go : (o : Option FormulaFault) → names log.header ≡ o → Taken
       go None known = record {
         known = known;
-        free = none_refused names log.header [] log.batches
-            (λ past why e. taken past why (judged-log ∙ ap (λ (j : Judgement). judged (with_names names) j (batch_items log.batches)) (opened_log known) ∙ e));
+        free = none_refused names counters log.header [] log.batches (λ past why e. taken past why (begun known ∙ e));
       }
       go (Some f) is =
-          let stop : opened (with_names names) log.header ≡ refused None (refusal.Formula f) = rw is refl in
+          let stop : opened (with_rules names counters) log.header ≡ refused None (refusal.Formula f) = rw is refl in
           absurd (taken None (refusal.Formula f) (judged-log
-          ∙ ap (λ (j : Judgement). judged (with_names names) j (batch_items log.batches)) stop
-          ∙ refused-stays (with_names names) None (refusal.Formula f) (batch_items log.batches)))
+          ∙ ap (λ (j : Judgement). judged (with_rules names counters) j (batch_items log.batches)) stop
+          ∙ refused-stays (with_rules names counters) None (refusal.Formula f) (batch_items log.batches)))
 
 -- ---- the number of batches
 
@@ -250,11 +286,10 @@ lined_same log lines =
     ap made (sym lines)
 
 -- what is told of a log whose last batch was closed
-told_closed : (log : Log) → IsLog log → (j : Judgement) → Closed log.header (filled_log log).batches j → IsDueOfLog log (told true j None)
-told_closed log is j closed =
-    let last : Due → Type 0 = IsDueOfLog log in
+told_closed : (place : LogFault → Refusal) (log : Log) → IsLog log → (j : Judgement) → Closed log.header (filled_log log).batches j → IsDueOfLog log (told true place j None)
+told_closed place log is j closed =
     let p = prefix_at log.header closed.before in
-    let due_is : IsDueOfLog log (told true (finished p closed.last) None) = record {
+    let due_is : IsDueOfLog log (told true place (finished p closed.last) None) = record {
       whole = ap (λ (bs : List (List Event)). Some (prefix_at log.header bs)) closed.all;
       each = ap (λ (bs : List (List Event)). prefixes p ++ prefix_at log.header bs ∷ []) (sym closed.all)
           ∙ sym (after_each-push log.header [] closed.before closed.last)
@@ -262,34 +297,47 @@ told_closed log is j closed =
       batches = ap counted closed.all ∙ counted_all log is;
       fault = refl;
     } in
-    subst (λ (k : Judgement). IsDueOfLog log (told true k None)) (sym closed.is) due_is
+    subst (λ (k : Judgement). IsDueOfLog log (told true place k None)) (sym closed.is) due_is
 
-pub log_due : (names : Header → Option FormulaFault) (bytes : List ℕ) (log : Log) → IsLogFor names bytes log
-    → IsDueOfLog log (due log_reading (with_names names) true bytes)
-log_due names bytes log l =
-    let back = reads_back log l.is in
-    let items : items_in bytes ≡ log_items log = ap items_in l.spelled ∙ back.1 ∙ ap log_items (lined_same log l.lines) in
-    let free : end_fault (onto bytes []) ≡ None = ap (λ (x : List ℕ). end_fault (onto x [])) l.spelled ∙ back.0 in
-    let closed = log_closed names log l.named l.ordered l.is.fits.some in
-    let same : due log_reading (with_names names) true bytes ≡ told true (judged (with_names names) waiting (log_items log)) None =
-    ap (told true (judged (with_names names) waiting (items_in bytes))) free
-    ∙ ap (λ (xs : List Item). told true (judged (with_names names) waiting xs) None) items in
-    subst (IsDueOfLog log) (sym same) (told_closed log l.is (judged (with_names names) waiting (log_items log)) closed)
+-- how the text's faults of batches are told
+abbrev as_is : LogFault → Refusal
+as_is f = refusal.Log f
 
-not_refused : (j : Judgement) (text : Option LogFault) → fault_in j text ≡ None
-    → (log : Option Prefix) (why : Refusal) → j ≡ refused log why → ⊥
-not_refused j text none log why e =
-    none-some why (sym (subst (λ (k : Judgement). fault_in k text ≡ None) e none))
+module _ (names : Header → Option FormulaFault) (counters : Header → List Variable) (bytes : List ℕ) where
+  pub log_due : (log : Log) → IsLogFor names counters bytes log → IsDueOfLog log (due log_reading (with_rules names counters) true bytes)
+  log_due log l =
+      let rules = with_rules names counters in
+      let back = reads_back log l.is in
+      let items : items_in bytes ≡ log_items log = ap items_in l.spelled ∙ back.1 ∙ ap log_items (lined_same log l.lines) in
+      let free : end_fault (onto bytes []) ≡ None = ap (λ (x : List ℕ). end_fault (onto x [])) l.spelled ∙ back.0 in
+      let closed = log_closed names counters log l.named (record { ordered = l.ordered; rising = l.rising }) l.is.fits.some in
+      let same : due log_reading rules true bytes ≡ told true as_is (judged rules waiting (log_items log)) None =
+      ap (λ (f : Option LogFault). told true as_is (judged rules waiting (items_in bytes)) (option_map as_is f)) free
+      ∙ ap (λ (xs : List Item). told true as_is (judged rules waiting xs) None) items in
+      subst (IsDueOfLog log) (sym same) (told_closed as_is log l.is (judged rules waiting (log_items log)) closed)
 
-pub due_log : (names : Header → Option FormulaFault) (bytes : List ℕ)
-    → (due log_reading (with_names names) true bytes).fault ≡ None → (log : Log) × IsLogFor names bytes log
-due_log names bytes h =
-    let j : Judgement = judged (with_names names) waiting (items_in bytes) in
-    let ended = text_free j (end_fault (onto bytes [])) h in
-    let found = fault_free_log bytes ended in
-    let log = found.0 in
-    let taken = not_refused j (end_fault (onto bytes [])) h in
-    let known = taken_log names log (λ past why e. taken past why (ap (judged (with_names names) waiting) found.1.items_are ∙ e)) in (
-      log,
-      record { is = found.1.log_is; lines = found.1.lines_are; spelled = found.1.text_is; ordered = known.free; named = known.known },
-    )
+  not_refused : (j : Judgement) (fault : Option Refusal) → fault_in as_is j fault ≡ None
+      → (log : Option Prefix) (why : Refusal) → j ≡ refused log why → ⊥
+  not_refused j fault none log why e =
+      none-some (placed as_is why) (sym (subst (λ (k : Judgement). fault_in as_is k fault ≡ None) e none))
+
+  pub due_log : (due log_reading (with_rules names counters) true bytes).fault ≡ None → (log : Log) × IsLogFor names counters bytes log
+  due_log h =
+      let rules = with_rules names counters in
+      let j : Judgement = judged rules waiting (items_in bytes) in
+      let fault = option_map as_is (end_fault (onto bytes [])) in
+      let ended = text_none (end_fault (onto bytes [])) (text_free as_is j fault h) in
+      let found = fault_free_log bytes ended in
+      let log = found.0 in
+      let taken = not_refused j fault h in
+      let known = taken_log names counters log (λ past why e. taken past why (ap (judged rules waiting) found.1.items_are ∙ e)) in (
+        log,
+        record {
+          is = found.1.log_is;
+          lines = found.1.lines_are;
+          spelled = found.1.text_is;
+          ordered = known.free.ordered;
+          rising = known.free.rising;
+          named = known.known;
+        },
+      )

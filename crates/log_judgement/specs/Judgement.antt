@@ -8,10 +8,12 @@ use Rattle.event_log.specs.declared.item.Item.TheVariants as item
 use Rattle.event_log.specs.declared.item.LogFault.{LogFault}
 use Rattle.event_log.specs.declared.log.Event.{Event}
 use Rattle.event_log.specs.declared.log.Header.{Header}
-use Rattle.event_log.specs.States.{with_batches}
+use Rattle.event_log.specs.States.{StatesView, with_batches}
 use Rattle.vector_clock.specs.Events.{Events, no_events}
 use Rattle.vector_clock.specs.Faults.{batch_fault}
 use Rattle.vector_clock.specs.Filled.{filled_batch}
+use Rattle.counter_preds.specs.declared.values.Variable.{Variable}
+use Rattle.counter_preds.specs.Falls.{fall_fault}
 use Rattle.log_judgement.specs.declared.refusal.Refusal.{Refusal}
 use Rattle.log_judgement.specs.declared.refusal.Refusal.TheVariants as refusal
 
@@ -43,9 +45,21 @@ with_clocks log batch = filled_batch (events_of log) batch
 abbrev pub clock_fault : Prefix → List Event → Option LogFault
 clock_fault log batch = batch_fault (events_of log) batch
 
--- clocks and messages are judged, and names by this
-abbrev pub with_names : (Header → Option FormulaFault) → Rules
-with_names names = record { names = names; batch = clock_fault }
+-- the states of its processes after its batches
+abbrev pub states_of : Prefix → StatesView
+states_of log = record { header = log.header; events = events_of log }
+
+-- a counter that falls in a filled batch comes before all faults of its clocks and messages
+abbrev pub fault_behind : List Variable → Prefix → List Event → Option LogFault
+fault_behind counters log batch =
+    choose (fall_fault (states_of log) counters batch) (λ f. Some f) (clock_fault log batch)
+
+-- names are judged by this, and these variables of a header are the counters
+abbrev pub with_rules : (Header → Option FormulaFault) → (Header → List Variable) → Rules
+with_rules names counters = record {
+  names = names;
+  batch = λ log batch. fault_behind (counters log.header) log batch;
+}
 
 -- how far the judgement has come
 pub data Judgement : Type 0 where

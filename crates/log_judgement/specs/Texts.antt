@@ -1,10 +1,9 @@
 -- The text that is due: the reports on the log after some of its batches, one after the other.
 use Rattle.std.specs.Prelude.{◌≡◌, ℕ, Bool, true, false, List, [], ◌∷◌, ◌++◌, Option, None, Some}
-use Rattle.run_model.specs.Run.{Watches, run_of}
-use Rattle.run_model.specs.Class.{IsKeptFor}
+use Rattle.run_model.specs.Run.{Watches}
 use Rattle.report.specs.declared.report.Report.{Report}
 use Rattle.report.specs.Spelling.{report_text}
-use Rattle.run_report.specs.Reports.{Asked, trace_so_far, IsReportOf}
+use Rattle.run_report.specs.Reports.{Asked, IsReportOf}
 use Rattle.log_judgement.specs.Judgement.{Prefix}
 use Rattle.log_judgement.specs.Due.{Due}
 
@@ -17,17 +16,21 @@ abbrev pub reported : (each : Bool) → Due → List Prefix
 reported false d = listed d.whole
 reported true d = d.closed ++ listed d.whole
 
--- the text is that of the reports on these prefixes
-abbrev pub AreReports : Asked → Watches → List Prefix → List ℕ → Type 0
-AreReports q watches [] text = text ≡ []
-AreReports q watches (log ∷ logs) text =
-    (report : Report) × IsReportOf q log.header log.batches watches report
-    × (rest : List ℕ) × AreReports q watches logs rest × (text ≡ report_text report ++ rest)
+-- the text is that of these logs, one behind the other, where this says which text each may have
+abbrev pub AreTexts : (Prefix → List ℕ → Type 0) → List Prefix → List ℕ → Type 0
+AreTexts Is [] text = text ≡ []
+AreTexts Is (log ∷ logs) text =
+    (front : List ℕ) × Is log front × (rest : List ℕ) × AreTexts Is logs rest × (text ≡ front ++ rest)
 
--- no variable of the formula's differences falls in the run of the log so far
-abbrev pub IsKept : Asked → Watches → Prefix → Type 0
-IsKept q watches log =
-    IsKeptFor (run_of (trace_so_far log.header log.batches) watches) q.formula
+-- the text is that of the report on the log
+abbrev pub IsReportText : Asked → Watches → Prefix → List ℕ → Type 0
+IsReportText q watches log text =
+    (report : Report) × IsReportOf q log.header log.batches watches report
+    × (text ≡ report_text report)
+
+-- the text is that of the reports on these logs
+abbrev pub AreReports : Asked → Watches → List Prefix → List ℕ → Type 0
+AreReports q watches logs text = AreTexts (IsReportText q watches) logs text
 
 -- the text that is due
 abbrev pub IsDueText : Asked → Watches → (each : Bool) → Due → List ℕ → Type 0
