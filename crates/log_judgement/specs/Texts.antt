@@ -20,7 +20,8 @@ reported true d = d.closed ++ listed d.whole
 abbrev pub AreTexts : (Prefix → List ℕ → Type 0) → List Prefix → List ℕ → Type 0
 AreTexts Is [] text = text ≡ []
 AreTexts Is (log ∷ logs) text =
-    (front : List ℕ) × Is log front × (rest : List ℕ) × AreTexts Is logs rest × (text ≡ front ++ rest)
+    (front : List ℕ) × Is log front × (rest : List ℕ) × AreTexts Is logs rest
+    × (text ≡ front ++ rest)
 
 -- the text is that of the report on the log
 abbrev pub IsReportText : Asked → Watches → Prefix → List ℕ → Type 0

@@ -38,8 +38,8 @@ pub record IsLogFor (names : Header → Option FormulaFault) (counters : Header 
 abbrev pub all_of : Log → Prefix
 all_of log = record { header = log.header; batches = log.batches }
 
--- what is due of such a log: the filled log after each batch, of which the last is the whole, and no
--- fault
+-- what is due of such a log: the filled log after each batch, of which the last is the whole, and
+-- no fault
 pub record IsDueOfLog (log : Log) (d : Due) : Type 0 where
   pub whole : d.whole ≡ Some (all_of (filled_log log))
   pub each : d.closed ++ all_of (filled_log log) ∷ [] ≡ prefixes (all_of (filled_log log))

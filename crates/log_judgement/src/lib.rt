@@ -2,9 +2,9 @@
 // after each batch that was closed, the whole log where it was read to its end, the number of
 // batches and the first fault. Clocks that the text leaves out are filled in where their batch is
 // closed, before it is judged, so the logs that are due have them all. `IsDueText` of
-// `specs/Texts.antt` says which text of reports goes with it. How bytes are read, which names a header
-// lacks and which of its variables are counters are arguments: `specs/Readings.antt` has the reading
-// of one log's text, item by item, and that of a log that stands once all bytes are there.
+// `specs/Texts.antt` says which text of reports goes with it. How bytes are read, which names a
+// header lacks and which of its variables are counters are arguments: `specs/Readings.antt` has the
+// reading of one log's text, item by item, and that of a log that stands once all bytes are there.
 // The laws say what more bytes change, that logs without a fault are those of which none is due,
 // and that there is one due text at most.
 //

@@ -42,7 +42,7 @@ all_openings : (n : ℕ) → AllByRecursion BindingsFit (replicate n opening)
 all_openings zero = tt
 all_openings (suc n) = (opening_fits, all_openings n)
 
-header_fits : (procs : ℕ) → 1 ≤ procs → procs ≤ 32 → HeaderFits (header_of procs)
+pub header_fits : (procs : ℕ) → 1 ≤ procs → procs ≤ 32 → HeaderFits (header_of procs)
 header_fits procs some few = record {
   version = inl refl;
   procs = record {

@@ -9,3 +9,4 @@ pub mod Loops
 pub mod Fits
 pub mod Size
 pub mod Naming
+pub mod Rising
