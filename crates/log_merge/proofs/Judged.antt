@@ -128,6 +128,10 @@ fault_behind before (x ∷ xs) ys none = go (source_fault before x) refl (λ fre
     go (Some f) e rest = absurd (none-some _ (sym none ∙ fault_here before xs x f e))
     go None e rest = fault_next before (xs ++ ys) x e ∙ rest (sym (fault_next before xs x e) ∙ none) ∙ ap (λ (b : List Log). fault_from b ys) (append_assoc before (x ∷ []) xs)
 
+-- one source more without a fault
+pub none_more : (before : List Log) (s : Log) → merge_fault before ≡ None → source_fault before s ≡ None → merge_fault (before ++ s ∷ []) ≡ None
+none_more before s none more = fault_behind [] before (s ∷ []) none ∙ fault_next before [] s more ∙ fault_done (before ++ s ∷ [])
+
 pub events_in-push : (before : List Log) (s : Log) → events_in (before ++ s ∷ []) ≡ events_in before + length (events_of s)
 events_in-push before s =
     let size : Log → ℕ = λ (x : Log). length (events_of x) in
@@ -154,7 +158,7 @@ one_joined before s old new n seen source has seen_is none made size count =
     let events = events_in-push before s in
     record {
       judged = record {
-        none = fault_behind [] before (s ∷ []) has.judged.none ∙ fault_next before [] s none ∙ fault_done (before ++ s ∷ []);
+        none = none_more before s has.judged.none none;
         owners_are = subst (AreOwners (before ++ s ∷ [])) (sym made) (owners_more before s old.owners seen (length before + 1) source seen_is (seen_within s seen source seen_is) refl has.long ok.alone has.judged.owners_are);
         few = omega (arith, events, ok.small, has.judged.few);
       };
