@@ -3,6 +3,7 @@ use Rattle.std.proofs.Common.{◌≡◌, ℕ, zero, suc, ◌+◌, ◌<◌, ◌�
 use Rattle.std.specs.Prelude.{◌==◌, ◌||◌, Contains}
 use Rattle.std.specs.List.{list_any, AllByRecursion}
 use Rattle.std.proofs.lemmas.Bool.{cases_Bool, eq-eqb}
+use Rattle.std.proofs.lemmas.List.{append-nil, length-append}
 use Rattle.std.proofs.lemmas.List.Folds.{Any-from_list_any, list_any-append}
 use Rattle.log_lines.specs.Names.{are_distinct}
 use Rattle.log_lines.specs.Spelling.{names_of}
@@ -11,12 +12,12 @@ use Rattle.event_log.specs.declared.log.Event.{Event}
 use Rattle.event_log.specs.declared.log.Header.{Header}
 use Rattle.event_log.specs.declared.log.Log.{Log}
 use Rattle.event_log.specs.Numbers.{variables_at}
-use Rattle.event_log.specs.LogText.{named, BindingsFit, ClockStands, KindFits, AssignFits, EventFits, EventsFit, BatchesFit, header_lines}
+use Rattle.event_log.specs.LogText.{named, BindingsFit, ClockStands, KindFits, AssignFits, EventFits, EventsFit, BatchesFit, event_count, header_lines}
 use Rattle.event_log.proofs.Lists.{all_append}
 use Rattle.vector_clock.proofs.BatchLaws.{events_stand}
-use Rattle.log_merge.specs.Sources.{IsSource, own_vars_lines, own_event_lines, all_events, events_of, has_lines_of}
+use Rattle.log_merge.specs.Sources.{IsSource, in_one_batch, own_vars_lines, own_event_lines, all_events, events_of, has_lines_of}
 use Rattle.log_merge.specs.Merging.{Placed, placed_events, placed_in, placed_from, of_process, by_process, numbered, variables_in, all_variables, merged_header}
-use Rattle.log_merge.specs.Laws.{StartAlike, AreApart, MergedLogsFit}
+use Rattle.log_merge.specs.Laws.{StartAlike, AreApart, MergedLogsFit, LogsAreSources}
 use Rattle.log_merge.proofs.Owned.{is_of, has_none}
 use Rattle.log_merge.proofs.Gathers.{length-numbered, length-by_process, length-placed}
 use Rattle.log_merge.proofs.Apart.{no_fault_is_apart, flat_one, flat_none, any_false, first_in, later_in, is_source}
@@ -52,7 +53,7 @@ module _ (sources : List Log) (all : AllByRecursion IsSource sources) (apart : A
       go (inl some) =
           let any = Any-from_list_any (has_lines_of p) sources some in
           let has : Contains sources any.1 = (any.0, any.2, any.3) in
-          subst BindingsFit (sym (owned_variables p any.1 has any.4)) (at_fits any.1.header.vars p (is_source sources all any.1 has).is.fits.header.vars)
+          subst BindingsFit (sym (owned_variables p any.1 has any.4)) (at_fits any.1.header.vars p (is_source sources all any.1 has).header.vars)
       go (inr none) =
           let empty : variables_in p sources ≡ [] = flat_none (λ (t : Log). variables_at t.header.vars p) sources (λ t there. (has_none p t (is_source sources all t there) (any_false (has_lines_of p) sources t there none)).variables) in
           subst BindingsFit (sym empty) (record { few = omega arith; each = tt; distinct = refl })
@@ -66,6 +67,22 @@ batches_each h line (b ∷ bs) fit = all_append (EventFits h) b (all_events bs) 
     events_each : (n : ℕ) (es : List Event) → EventsFit h n es → AllByRecursion (EventFits h) es
     events_each n [] f = tt
     events_each n (e ∷ es) f = (f.0.0, events_each (n + 1) es f.1)
+
+length-all_events : (bs : List (List Event)) → length (all_events bs) ≡ event_count bs
+length-all_events [] = refl
+length-all_events (b ∷ bs) = omega (arith, length-append b (all_events bs), length-all_events bs)
+
+-- one batch has the events of all
+in_one : (s : Log) → events_of (in_one_batch s) ≡ events_of s
+in_one s = append-nil (events_of s)
+
+one_batch_fits : (s : Log) → IsSource s → IsSource (in_one_batch s)
+one_batch_fits s source = record { header = source.header; lines = source.lines; events = subst (AllByRecursion (EventFits s.header)) (sym (in_one s)) source.events; few = omega (arith, source.few, ap length (in_one s)) }
+
+pub logs_are_sources : LogsAreSources
+logs_are_sources log fits lines =
+    let source : IsSource log = record { header = fits.header; lines = lines; events = batches_each log.header (length (header_lines log.header) + 1) log.batches fits.batches; few = omega (arith, length-all_events log.batches, fits.few) } in
+    (source, one_batch_fits log source)
 
 -- it fits another header with the same processes and the same variables of its process
 moved_fits : (g h : Header) (e : Event) → StartAlike g h → variables_at g.vars e.process ≡ variables_at h.vars e.process → EventFits g e → EventFits h e
@@ -117,7 +134,7 @@ module _ (h : Header) (s : Log) (moves : (e : Event) → has_lines_of e.process 
 
   source_moves : (n : ℕ) → IsSource s → AllByRecursion (Fits h) (placed_in n s)
   source_moves n source = events_move n (events_of s) (λ q some. list_any-append (is_of q) (own_vars_lines 0 s.header.var_lines) (own_event_lines (events_of s)) ∙ or_right (list_any (is_of q) (own_vars_lines 0 s.header.var_lines)) (list_any (is_of q) (own_event_lines (events_of s))) some)
-      (batches_each s.header (length (header_lines s.header) + 1) s.batches source.is.fits.batches)
+      source.events
     where
       or_right : (a b : Bool) → b ≡ true → (a || b) ≡ true
       or_right true b e = refl
@@ -144,7 +161,7 @@ merged_logs_fit (x ∷ xs) some all none =
     let fit : AllByRecursion (EventFits h) (numbered 1 events) = numbered_keeps h 1 events (order_keeps h 0 n (placed_from 1 (x ∷ xs)) (all_move h 1 (x ∷ xs) (λ s has k. source_moves h s (moves s has) k (is_source (x ∷ xs) all s has)))) in
     let few : length (numbered 1 events) + 0 ≤ 50000 = omega (arith, apart.small, length-numbered 1 events, length-by_process 0 n (placed_from 1 (x ∷ xs)), length-placed 1 (x ∷ xs)) in
     record {
-      header = record { version = all.0.is.fits.header.version; procs = all.0.is.fits.header.procs; all = length-variables 0 n (x ∷ xs); vars = variables_fit 0 n (x ∷ xs) (in_fits (x ∷ xs) all apart) };
+      header = record { version = all.0.header.version; procs = all.0.header.procs; all = length-variables 0 n (x ∷ xs); vars = variables_fit 0 n (x ∷ xs) (in_fits (x ∷ xs) all apart) };
       events = fit;
-      checked = record { some = all.0.is.fits.header.procs.some; few = all.0.is.fits.header.procs.few; each = (events_stand h (numbered 1 events) fit, tt); events = few };
+      checked = record { some = all.0.header.procs.some; few = all.0.header.procs.few; each = (events_stand h (numbered 1 events) fit, tt); events = few };
     }

@@ -1,31 +1,32 @@
 -- The first fault, source by source.
-use Rattle.std.proofs.Common.{◌≡◌, ℕ, zero, suc, ◌+◌, ◌-◌, ◌<◌, ◌≤◌, Bool, cond, Option, Some, None, List, [], ◌∷◌, ◌++◌, length, take, drop, get_or, replicate, refl, sym, ap, ◌∙◌, subst, arith, inl, inr}
+use Rattle.std.proofs.Common.{◌≡◌, ℕ, zero, suc, ◌+◌, ◌-◌, ◌<◌, ◌≤◌, Bool, cond, Option, Some, None, List, [], ◌∷◌, ◌++◌, length, take, drop, get_or, replicate, refl, sym, ap, ◌∙◌, subst, arith, append_assoc, inl, inr}
 use Rattle.std.specs.Prelude.{◌==◌, slice_get}
 use Rattle.std.specs.List.{AllByRecursion}
 use Rattle.std.specs.Option.{option_map, option_or}
 use Rattle.std.proofs.lemmas.Bool.{cases_Bool, eq-eqb}
-use Rattle.std.proofs.lemmas.List.{length-append, length-take-le, take_all, get_or-replicate, length-replicate}
+use Rattle.std.proofs.lemmas.List.{append-nil, length-append, take-append-drop, take_all, get_or-replicate}
+use Rattle.std.proofs.Math.ListN.{length-set}
 use Rattle.std.proofs.lemmas.List.Elements.{All-from_recursion}
 use Rattle.std.proofs.lemmas.List.Sums.{sum_by-cons, sum_by-append}
 use Rattle.std.proofs.lemmas.Option.{none-some}
-use Rattle.std.proofs.Math.ListN.{drop_of_length-le}
 use Rattle.log_lines.specs.Reading.{choose}
 use Rattle.event_log.specs.declared.log.Binding.{Binding}
 use Rattle.event_log.specs.declared.log.Event.{Event}
 use Rattle.event_log.specs.declared.log.Header.{Header}
 use Rattle.event_log.specs.declared.log.Log.{Log}
 use Rattle.event_log.specs.Before.{lines_from}
-use Rattle.event_log.specs.LogText.{EventsFit, BatchesFit, event_count, header_lines}
+use Rattle.event_log.specs.LogText.{EventFits}
 use Rattle.event_log.proofs.Lists.{all_append}
 use Rattle.log_merge.specs.declared.fault.Found.{Found}
 use Rattle.log_merge.specs.declared.fault.MergeCode.TheVariants as code
 use Rattle.log_merge.specs.declared.seen.Seen.{Seen}
-use Rattle.log_merge.specs.declared.seen.Seen.TheVariants.{One, Two}
+use Rattle.log_merge.specs.declared.seen.Seen.TheVariants.{Nothing, One, Two}
 use Rattle.log_merge.specs.Sources.{IsSource, OwnLine, own_vars_lines, own_event_lines, all_events, events_of, own_lines, another, seen_of, line_at, events_in}
 use Rattle.log_merge.specs.Faults.{differs, not_alone, one_too_many, source_fault, placed, fault_from, merge_fault, found}
-use Rattle.log_merge.specs.Owners.{IsOwner, AreOwners, IsWithin, with_owner, IsJudged}
+use Rattle.log_merge.specs.declared.fault.MergeFault.{MergeFault}
+use Rattle.log_merge.specs.declared.judging.Joined.{Joined}
+use Rattle.log_merge.specs.Owners.{IsOwner, AreOwners, IsWithin, with_owner, IsJudged, HasJoined}
 use Rattle.log_merge.proofs.Lists.{item_at, item_taken}
-use Rattle.log_merge.proofs.Own.{own_event_lines-append}
 use Rattle.log_merge.proofs.Owned.{owners_more, no_owners}
 
 pub all_at : {A : Type 0} (P : A → Type 0) (xs : List A) (i : ℕ) (x : A) → AllByRecursion P xs → i < length xs → x ≡ get_or xs i x → P x
@@ -43,15 +44,9 @@ vars_low p (line ∷ lines) few = elim (cases_Bool (line == 0)) [
   | inr some ↦ rw some (omega arith, vars_low (p + 1) lines (omega arith))
 ]
 
-events_low : (h : Header) (line : ℕ) (es : List Event) → length h.procs ≤ 32 → EventsFit h line es → AllByRecursion IsLow (own_event_lines es)
-events_low h line [] few fit = tt
-events_low h line (e ∷ es) few fit = (omega (arith, few, fit.0.0.process), events_low h (line + 1) es few fit.1)
-
-batches_low : (h : Header) (line : ℕ) (bs : List (List Event)) → length h.procs ≤ 32 → BatchesFit h line bs → AllByRecursion IsLow (own_event_lines (all_events bs))
-batches_low h line [] few fit = tt
-batches_low h line (b ∷ bs) few fit =
-    subst (AllByRecursion IsLow) (sym (own_event_lines-append b (all_events bs)))
-    (all_append IsLow (own_event_lines b) (own_event_lines (all_events bs)) (events_low h line b few fit.0) (batches_low h (line + length b + 1) bs few fit.1))
+events_low : (h : Header) (es : List Event) → length h.procs ≤ 32 → AllByRecursion (EventFits h) es → AllByRecursion IsLow (own_event_lines es)
+events_low h [] few fit = tt
+events_low h (e ∷ es) few fit = (omega (arith, few, fit.0.process), events_low h es few fit.1)
 
 length-lines_from : (n : ℕ) (vars : List (List Binding)) → length (lines_from n vars) ≡ length vars
 length-lines_from n [] = refl
@@ -59,7 +54,7 @@ length-lines_from n ([] ∷ vars) = ap suc (length-lines_from n vars)
 length-lines_from n ((b ∷ bs) ∷ vars) = ap suc (length-lines_from (n + 1) vars)
 
 pub few_lines : (s : Log) → IsSource s → length s.header.var_lines ≤ 32
-few_lines s source = omega (arith, ap length source.lines, length-lines_from 3 s.header.vars, source.is.fits.header.all, source.is.fits.header.procs.few)
+few_lines s source = omega (arith, ap length source.lines, length-lines_from 3 s.header.vars, source.header.all, source.header.procs.few)
 
 low_seen : (ls : List OwnLine) → AllByRecursion IsLow ls → IsWithin (seen_of ls)
 low_seen [] all = tt
@@ -71,16 +66,7 @@ low_seen (l ∷ ls) all = go (another l.process ls)
 
 pub seen_within : (s : Log) (seen : Seen) → IsSource s → seen ≡ seen_of (own_lines s) → IsWithin seen
 seen_within s seen source is =
-    let fits = source.is.fits in
-    subst IsWithin (sym is) (low_seen (own_lines s) (all_append IsLow (own_vars_lines 0 s.header.var_lines) (own_event_lines (events_of s)) (vars_low 0 s.header.var_lines (omega (arith, few_lines s source)))
-    (batches_low s.header (length (header_lines s.header) + 1) s.batches fits.header.procs.few fits.batches)))
-
-length-all_events : (bs : List (List Event)) → length (all_events bs) ≡ event_count bs
-length-all_events [] = refl
-length-all_events (b ∷ bs) = omega (arith, length-append b (all_events bs), length-all_events bs)
-
-pub few_events : (s : Log) → IsSource s → length (events_of s) ≤ 50000
-few_events s source = omega (arith, length-all_events s.batches, source.is.fits.few)
+    subst IsWithin (sym is) (low_seen (own_lines s) (all_append IsLow (own_vars_lines 0 s.header.var_lines) (own_event_lines (events_of s)) (vars_low 0 s.header.var_lines (omega (arith, few_lines s source))) (events_low s.header (events_of s) source.header.procs.few source.events)))
 
 -- ---- a source without a fault
 
@@ -121,14 +107,6 @@ fine before s e =
 
 -- ---- one source more
 
-pub record Judging (sources : List Log) (i : ℕ) (owners : List (Option ℕ)) (count : ℕ) : Type 0 where
-  pub fault_is : fault_from [] sources ≡ fault_from (take i sources) (drop i sources)
-  pub owners_are : AreOwners (take i sources) owners
-  pub count_is : count ≡ events_in (take i sources)
-  pub small : count ≤ 50000
-  pub few : i ≤ 32
-  pub long : length owners ≡ 32
-
 fault_next : (before rest : List Log) (s : Log) → source_fault before s ≡ None → fault_from before (s ∷ rest) ≡ fault_from (before ++ s ∷ []) rest
 unfolding fault_from
 fault_next before rest s e = rw e refl
@@ -141,47 +119,71 @@ fault_done : (before : List Log) → fault_from before [] ≡ None
 unfolding fault_from
 fault_done before = refl
 
+-- the faults of sources behind those that have none
+fault_behind : (before xs ys : List Log) → fault_from before xs ≡ None → fault_from before (xs ++ ys) ≡ fault_from (before ++ xs) ys
+fault_behind before [] ys none = ap (λ (b : List Log). fault_from b ys) (sym (append-nil before))
+fault_behind before (x ∷ xs) ys none = go (source_fault before x) refl (λ free. fault_behind (before ++ x ∷ []) xs ys free)
+  where
+    go : (o : Option Found) → source_fault before x ≡ o → (fault_from (before ++ x ∷ []) xs ≡ None → fault_from (before ++ x ∷ []) (xs ++ ys) ≡ fault_from ((before ++ x ∷ []) ++ xs) ys) → fault_from before ((x ∷ xs) ++ ys) ≡ fault_from (before ++ x ∷ xs) ys
+    go (Some f) e rest = absurd (none-some _ (sym none ∙ fault_here before xs x f e))
+    go None e rest = fault_next before (xs ++ ys) x e ∙ rest (sym (fault_next before xs x e) ∙ none) ∙ ap (λ (b : List Log). fault_from b ys) (append_assoc before (x ∷ []) xs)
+
+-- one source more without a fault
+pub none_more : (before : List Log) (s : Log) → merge_fault before ≡ None → source_fault before s ≡ None → merge_fault (before ++ s ∷ []) ≡ None
+none_more before s none more = fault_behind [] before (s ∷ []) none ∙ fault_next before [] s more ∙ fault_done (before ++ s ∷ [])
+
 pub events_in-push : (before : List Log) (s : Log) → events_in (before ++ s ∷ []) ≡ events_in before + length (events_of s)
 events_in-push before s =
     let size : Log → ℕ = λ (x : Log). length (events_of x) in
     omega (arith, sum_by-append size before (s ∷ []), sum_by-cons size s [])
 
-pub judging_none : (sources : List Log) (owners : List (Option ℕ)) → length owners ≡ 32 → AreOwners [] owners → Judging sources 0 owners 0
-judging_none sources owners long are = record { long = long; fault_is = refl; owners_are = are; count_is = refl; small = omega arith; few = omega arith }
+pub none_joined : (owners : List (Option ℕ)) → length owners ≡ 32 → owners ≡ replicate 32 None → HasJoined (record { owners = owners; count = 0 }) []
+none_joined owners long is = record {
+  judged = record { none = fault_done []; owners_are = λ p lt. subst (IsOwner [] p) (sym (ap (λ (os : List (Option ℕ)). get_or os p None) is ∙ get_or-replicate {A = Option ℕ} 32 p None None lt)) (no_owners p); few = omega arith };
+  count_is = refl;
+  few = omega arith;
+  long = long;
+}
 
-pub judging_more : (sources : List Log) (i : ℕ) (s : Log) (owners new : List (Option ℕ)) (count n : ℕ) (seen : Seen) → AllByRecursion IsSource sources → i < length sources → s ≡ get_or sources i s → Judging sources i owners count
-    → seen ≡ seen_of (own_lines s) → source_fault (take i sources) s ≡ None → new ≡ with_owner owners seen (i + 1) → n ≡ length (events_of s) → length new ≡ 32 → Judging sources (i + 1) new (count + n)
-judging_more sources i s owners new count n seen all lt is j seen_is none made size len =
-    let before = take i sources in
-    let source = all_at IsSource sources i s all lt is in
+length-with_owner : (owners : List (Option ℕ)) (seen : Seen) (k : ℕ) → length (with_owner owners seen k) ≡ length owners
+length-with_owner owners Nothing k = refl
+length-with_owner owners (One process line) k = length-set owners process (Some k)
+length-with_owner owners (Two line) k = refl
+
+pub one_joined : (before : List Log) (s : Log) (old new : Joined) (n : ℕ) (seen : Seen) → IsSource s → HasJoined old before → seen ≡ seen_of (own_lines s) → source_fault before s ≡ None → new.owners ≡ with_owner old.owners seen (length before + 1) → n ≡ length (events_of s) → new.count ≡ old.count + n
+    → HasJoined new (before ++ s ∷ [])
+one_joined before s old new n seen source has seen_is none made size count =
     let ok = fine before s none in
-    let taken = item_taken sources i s lt is in
-    let at : length before ≡ i = length-take-le i sources (omega (arith, lt)) in
-    let rest = drop (i + 1) sources in
+    let few : length before + 1 ≤ 32 = omega (arith, has.few, λ (e : length before ≡ 32). ok.few e) in
+    let events = events_in-push before s in
     record {
-      fault_is = j.fault_is ∙ ap (fault_from before) (item_at sources i s lt is) ∙ fault_next before rest s none ∙ ap (λ (xs : List Log). fault_from xs rest) (sym taken);
-      owners_are = subst (λ (xs : List Log). AreOwners xs new) (sym taken) (subst (AreOwners (before ++ s ∷ [])) (sym made) (owners_more before s owners seen (i + 1) source seen_is (seen_within s seen source seen_is) (omega (arith, at)) j.long ok.alone j.owners_are));
-      count_is = omega (arith, ap events_in taken, events_in-push before s, j.count_is, size);
-      small = omega (arith, ok.small, j.count_is, j.small, size);
-      few = let no : i ≡ 32 → ⊥ = λ e. ok.few (at ∙ e) in omega (arith, j.few, no);
-      long = len;
+      judged = record {
+        none = none_more before s has.judged.none none;
+        owners_are = subst (AreOwners (before ++ s ∷ [])) (sym made) (owners_more before s old.owners seen (length before + 1) source seen_is (seen_within s seen source seen_is) refl has.long ok.alone has.judged.owners_are);
+        few = omega (arith, events, ok.small, has.judged.few);
+      };
+      count_is = omega (arith, events, has.count_is, count, size);
+      few = omega (arith, length-append before (s ∷ []), few);
+      long = ap length made ∙ length-with_owner old.owners seen (length before + 1) ∙ has.long;
     }
 
-pub judged_fault : (sources : List Log) (i : ℕ) (s : Log) (owners : List (Option ℕ)) (count : ℕ) (f : Found) → i < length sources → s ≡ get_or sources i s → Judging sources i owners count
-    → source_fault (take i sources) s ≡ Some f → merge_fault sources ≡ Some (placed (i + 1) f)
-judged_fault sources i s owners count f lt is j some =
-    let before = take i sources in
-    let at : length before + 1 ≡ i + 1 = omega (arith, length-take-le i sources (omega (arith, lt))) in
-    j.fault_is ∙ ap (fault_from before) (item_at sources i s lt is) ∙ fault_here before (drop (i + 1) sources) s f some ∙ ap (λ (n : ℕ). Some (placed n f)) at
+-- ---- all sources
 
-pub judged_all : (sources : List Log) (i : ℕ) (owners : List (Option ℕ)) (count : ℕ) → length sources ≤ i → Judging sources i owners count → IsJudged sources owners
-judged_all sources i owners count le j =
-    let all = take_all i sources le in
-    record {
-      none = j.fault_is ∙ ap (fault_from (take i sources)) (drop_of_length-le sources {i = i} le) ∙ fault_done (take i sources);
-      owners_are = subst (λ (xs : List Log). AreOwners xs owners) all j.owners_are;
-      few = omega (arith, j.count_is, ap events_in all, j.small);
-    }
+pub judged_fault : (sources : List Log) (i : ℕ) (s : Log) (joined : Joined) (f : MergeFault) → i < length sources → s ≡ get_or sources i s → HasJoined joined (take i sources)
+    → option_map (placed (length (take i sources) + 1)) (source_fault (take i sources) s) ≡ Some f → merge_fault sources ≡ Some f
+judged_fault sources i s joined f lt is has some = go (source_fault before s) refl
+  where
+    before : List Log
+    before = take i sources
 
-pub judging_first : (sources : List Log) → Judging sources 0 (replicate 32 None) 0
-judging_first sources = judging_none sources (replicate 32 None) (length-replicate {A = Option ℕ} 32 None) (λ p lt. subst (IsOwner [] p) (sym (get_or-replicate {A = Option ℕ} 32 p None None lt)) (no_owners p))
+    go : (o : Option Found) → source_fault before s ≡ o → merge_fault sources ≡ Some f
+    go None e = absurd (none-some f (sym (ap (option_map (placed (length before + 1))) e) ∙ some))
+    go (Some x) e =
+        ap (fault_from []) (sym (take-append-drop i sources)) ∙ fault_behind [] before (drop i sources) has.judged.none ∙ ap (fault_from before) (item_at sources i s lt is) ∙ fault_here before (drop (i + 1) sources) s x e
+        ∙ sym (ap (option_map (placed (length before + 1))) e) ∙ some
+
+pub joined_next : (sources : List Log) (i : ℕ) (s : Log) (joined : Joined) → i < length sources → s ≡ get_or sources i s → HasJoined joined (take i sources ++ s ∷ []) → HasJoined joined (take (i + 1) sources)
+joined_next sources i s joined lt is has = subst (HasJoined joined) (sym (item_taken sources i s lt is)) has
+
+pub all_joined : (sources : List Log) (i : ℕ) (joined : Joined) → length sources ≤ i → HasJoined joined (take i sources) → IsJudged sources joined.owners
+all_joined sources i joined le has = subst (λ (xs : List Log). IsJudged xs joined.owners) (take_all i sources le) has.judged

@@ -4,9 +4,9 @@ use Rattle.std.specs.List.{AllByRecursion}
 use Rattle.std.specs.List.Sorted.{IsPermutation}
 use Rattle.event_log.specs.declared.log.Header.{Header}
 use Rattle.event_log.specs.declared.log.Log.{Log}
-use Rattle.event_log.specs.LogText.{HeaderFits, EventFits}
+use Rattle.event_log.specs.LogText.{HeaderFits, EventFits, LogFits, HasVarLines}
 use Rattle.vector_clock.specs.Events.{CanBeChecked}
-use Rattle.log_merge.specs.Sources.{IsSource, has_lines_of, events_in}
+use Rattle.log_merge.specs.Sources.{IsSource, in_one_batch, has_lines_of, events_in}
 use Rattle.log_merge.specs.Faults.{merge_fault}
 use Rattle.log_merge.specs.Merging.{merged_header, merged_events, numbered, merged_log}
 
@@ -47,3 +47,8 @@ pub record MergedFits (sources : List Log) : Type 0 where
 abbrev pub MergedLogsFit : Type 0
 MergedLogsFit = (sources : List Log) → 0 < length sources → AllByRecursion IsSource sources
     → merge_fault sources ≡ None → MergedFits sources
+
+-- a log that reading gives is a source, and so is the same log in one batch
+abbrev pub LogsAreSources : Type 0
+LogsAreSources = (log : Log) → LogFits log → HasVarLines log.header
+    → IsSource log × IsSource (in_one_batch log)

@@ -8,6 +8,7 @@ use Rattle.event_log.specs.declared.log.Binding.{Binding}
 use Rattle.event_log.specs.declared.log.Log.{Log}
 use Rattle.event_log.specs.Numbers.{variables_at}
 use Rattle.log_merge.specs.declared.gathering.Gathered.{Gathered}
+use Rattle.log_merge.specs.declared.judging.Joined.{Joined}
 use Rattle.log_merge.specs.declared.seen.Seen.{Seen}
 use Rattle.log_merge.specs.declared.seen.Seen.TheVariants.{Nothing, One, Two}
 use Rattle.log_merge.specs.Sources.{has_lines_of, events_in}
@@ -60,6 +61,13 @@ pub record IsJudged (sources : List Log) (owners : List (Option ℕ)) : Type 0 w
   pub none : merge_fault sources ≡ None
   pub owners_are : AreOwners sources owners
   pub few : events_in sources ≤ 50000
+
+-- what is known of sources that are joined: they have no fault
+pub record HasJoined (joined : Joined) (sources : List Log) : Type 0 where
+  pub judged : IsJudged sources joined.owners
+  pub count_is : joined.count ≡ events_in sources
+  pub few : length sources ≤ 32
+  pub long : length joined.owners ≡ 32
 
 -- these events more, with their numbers and origins
 pub record Gathers (old new : Gathered) (more : List Placed) : Type 0 where

@@ -1,20 +1,14 @@
 -- The sources: one log for each process, or for none, and the lines that they have of it.
-use Rattle.std.specs.Prelude.{ℕ, ◌+◌, Bool, ◌==◌, List, [], ◌∷◌, ◌++◌, length, map, Option, None}
+use Rattle.std.specs.Prelude.{ℕ, ◌+◌, ◌≤◌, Bool, ◌==◌, List, [], ◌∷◌, ◌++◌, length, map, Option, None}
 use Rattle.std.specs.Prelude.{Some, slice_get, sum_by, flat_map, if◌then◌else◌}
-use Rattle.std.specs.List.{list_any}
+use Rattle.std.specs.List.{AllByRecursion, list_any}
 use Rattle.std.specs.Option.{option_map}
 use Rattle.log_lines.specs.Reading.{choose}
 use Rattle.event_log.specs.declared.log.Event.{Event}
 use Rattle.event_log.specs.declared.log.Log.{Log}
-use Rattle.event_log.specs.Laws.{IsLog}
-use Rattle.event_log.specs.LogText.{HasVarLines}
+use Rattle.event_log.specs.LogText.{HeaderFits, EventFits, HasVarLines}
 use Rattle.log_merge.specs.declared.seen.Seen.{Seen}
 use Rattle.log_merge.specs.declared.seen.Seen.TheVariants.{Nothing, One, Two}
-
--- a log that reading gives, with the lines of its header
-pub record IsSource (source : Log) : Type 0 where
-  pub is : IsLog source
-  pub lines : HasVarLines source.header
 
 -- a `vars` or `ev` line, with its process
 pub record OwnLine : Type 0 where
@@ -38,6 +32,18 @@ all_events batches = flat_map (λ (batch : List Event). batch) batches
 -- the events of a source, in the order of its text
 abbrev pub events_of : Log → List Event
 events_of source = all_events source.batches
+
+-- What reading gives of a log, but for its batches: a header with its lines, and events that fit
+-- it.
+pub record IsSource (source : Log) : Type 0 where
+  pub header : HeaderFits source.header
+  pub lines : HasVarLines source.header
+  pub events : AllByRecursion (EventFits source.header) (events_of source)
+  pub few : length (events_of source) ≤ 50000
+
+-- the log with all its events in one batch
+abbrev pub in_one_batch : Log → Log
+in_one_batch log = record log { batches = events_of log ∷ [] }
 
 -- all lines of processes that the source has, in the order of its text
 abbrev pub own_lines : Log → List OwnLine

@@ -1,12 +1,14 @@
 //! The first fault of the sources.
 
-ghost use Rattle.std.specs.Prelude.{◌≡◌, ◌+◌, ◌-◌, ◌≤◌, ◌<◌, length, MatchResult, None, Some};
+ghost use Rattle.std.specs.Prelude.{◌≡◌, ◌+◌, ◌-◌, ◌≤◌, ◌<◌, ◌∷◌, ◌++◌, [], length, MatchResult};
+ghost use Rattle.std.specs.Prelude.{IfErr, OnOk, OnErr, None, Some};
+ghost use Rattle.std.specs.Option.{option_map};
 ghost use Rattle.std.specs.List.{AllByRecursion};
 ghost use Rattle.event_log.specs.declared.log.Event.{Event};
 ghost use Rattle.log_merge.specs.Sources.{IsSource, seen_of, own_lines, events_in, events_of};
 ghost use Rattle.log_merge.specs.Sources.{all_events};
 ghost use Rattle.log_merge.specs.Faults.{same_procs, same_start, differs, not_alone, one_too_many};
-ghost use Rattle.log_merge.specs.Faults.{event_too_many, source_fault, merge_fault};
+ghost use Rattle.log_merge.specs.Faults.{event_too_many, source_fault, placed, merge_fault};
 ghost use Rattle.log_merge.specs.Owners.{AreOwners, IsWithin, with_owner, IsJudged};
 
 use crate::fault::{Found, MergeCode, MergeFault};
@@ -158,26 +160,60 @@ fn count_of(batches: &[List<Event>]) -> usize
     count
 }
 
+/// What is known of sources that have no fault: which of them has the lines of which process, and
+/// how many events they have.
+#[derive(Clone, Copy, Debug)]
+pub struct Joined {
+    owners: [Option<u32>; 32],
+    count: usize,
+}
+
+impl Joined {
+    ghost use Rattle.log_merge.specs.Owners.{HasJoined};
+
+    /// No sources.
+    pub fn new() -> Joined
+        ensures { HasJoined result [] }
+    {
+        Joined {
+            owners: [None; 32],
+            count: 0,
+        }
+    }
+
+    /// Joins one source more to those before it, or gives its first fault.
+    pub fn join(&mut self, before: &[Log], source: &Log) -> Result<(), MergeFault>
+        requires joined { HasJoined self.old before.now }
+        requires source { IsSource source.now }
+        ensures ok { OnOk result (source_fault before.now source.now ≡ None) }
+        ensures fault { IfErr result (λ f. option_map (placed (length before.now + 1))
+            (source_fault before.now source.now) ≡ Some f) }
+        ensures next { OnOk result (HasJoined self.new (before.now ++ source.now ∷ [])) }
+        ensures same { OnErr result (self.new ≡ self.old) }
+    {
+        let seen = seen_in(source);
+        let number = before.len() as u32 + 1;
+        if let Some(found) = source_fault(before, source, seen, &self.owners, self.count) {
+            return Err(MergeFault {
+                code: found.code,
+                source: number,
+                line: found.line,
+            });
+        }
+        note(&mut self.owners, seen, number);
+        self.count += count_of(source.batches.as_slice());
+        Ok(())
+    }
+}
+
 /// Which source has the lines of which process, or the first fault of the sources.
 pub fn judge(sources: &[Log]) -> Result<[Option<u32>; 32], MergeFault>
     requires { AllByRecursion IsSource sources.now }
     ensures { MatchResult result (IsJudged sources.now) (λ f. merge_fault sources.now ≡ Some f) }
 {
-    let mut owners = [None; 32];
-    let mut count = 0;
+    let mut joined = Joined::new();
     'sources: for i in 0..sources.len() {
-        let source = &sources[i];
-        let seen = seen_in(source);
-        let fault = source_fault(&sources[..i], source, seen, &owners, count);
-        if let Some(found) = fault {
-            return Err(MergeFault {
-                code: found.code,
-                source: i as u32 + 1,
-                line: found.line,
-            });
-        }
-        note(&mut owners, seen, i as u32 + 1);
-        count += count_of(source.batches.as_slice());
+        joined.join(&sources[..i], &sources[i])?;
     }
-    Ok(owners)
+    Ok(joined.owners)
 }

@@ -1,6 +1,7 @@
 //! Laws of merging, as contracts of functions that do nothing.
 
 ghost use Rattle.log_merge.specs.Laws.{NoFaultIsApart, AnyOrderWillDo, MergedLogsFit};
+ghost use Rattle.log_merge.specs.Laws.{LogsAreSources};
 
 /// There is no fault exactly where the sources are of one version and of the same processes, each
 /// has lines of at most one of them, no two have lines of the same one, and they are few enough.
@@ -17,4 +18,9 @@ pub fn any_order_will_do()
 /// checked.
 pub fn merged_logs_fit()
     ensures { MergedLogsFit }
+{}
+
+/// A log that reading gives is a source, and so is the same log with all its events in one batch.
+pub fn logs_are_sources()
+    ensures { LogsAreSources }
 {}

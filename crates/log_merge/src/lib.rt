@@ -3,7 +3,9 @@
 //! `merge` gives exactly the merged log and where each of its events comes from (`ok`), where the
 //! sources have no fault (`faultless`), or exactly the first fault by source (`fault`). Laws: which
 //! sources have no fault (`no_fault_is_apart`); that their order doesn't matter
-//! (`any_order_will_do`); that the merged log may be handed on (`merged_logs_fit`).
+//! (`any_order_will_do`); that the merged log may be handed on (`merged_logs_fit`); that the batches
+//! of a source don't matter (`logs_are_sources`). `Joined::join` judges one source behind those
+//! before it.
 //!
 //! Not said: that the merged log's clocks have no fault, how much memory there is, and how long a
 //! call takes.
@@ -17,5 +19,6 @@ mod merged;
 mod seen;
 
 pub use fault::{Found, MergeCode, MergeFault};
-pub use laws::{any_order_will_do, merged_logs_fit, no_fault_is_apart};
+pub use judging::Joined;
+pub use laws::{any_order_will_do, logs_are_sources, merged_logs_fit, no_fault_is_apart};
 pub use merged::{Merged, Origin, merge};

@@ -1,0 +1,6 @@
+pub mod DraftLaws
+pub mod OneSource
+pub mod ReadingOn
+pub mod Stepping
+pub mod Texts
+pub mod WholeSources

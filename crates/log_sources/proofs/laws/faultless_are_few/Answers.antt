@@ -1,0 +1,5 @@
+use Rattle.log_sources.proofs.Texts as texts
+use Rattle.log_sources.proofs.laws.faultless_are_few.Goals as goal
+
+pub returns : goal.returns
+returns c = texts.faultless_are_few

@@ -1,0 +1,4 @@
+pub mod Drafts
+pub mod Sources
+pub mod Reading
+pub mod Laws
