@@ -72,7 +72,7 @@ unclocked_batches before (b ∷ batches) =
     ∙ ap (λ (es : List Event). map without_clock b ++ es) (unclocked_batches (with_batch before full) batches)
     ∙ sym (map-append without_clock b (as_one batches))
 
-all_of_one : (P : Event → Type 0) (batches : List (List Event)) → AllByRecursion (λ (b : List Event). AllByRecursion P b) batches → AllByRecursion P (as_one batches)
+pub all_of_one : (P : Event → Type 0) (batches : List (List Event)) → AllByRecursion (λ (b : List Event). AllByRecursion P b) batches → AllByRecursion P (as_one batches)
 all_of_one P [] each = tt
 all_of_one P (b ∷ batches) each = all_append P b (as_one batches) each.0 (all_of_one P batches each.1)
 
