@@ -10,9 +10,10 @@ use Rattle.vector_clock.specs.declared.message.Message.{Message}
 use Rattle.vector_clock.specs.Events.{Events, own_events}
 use Rattle.vector_clock.specs.Messages.{first_send}
 use Rattle.vector_clock.specs.Fill.{Place, IsThere, event_at, no_event, Links, Gives, HasClockOf}
-use Rattle.clock_laws.specs.Clocked.{without_clocks}
+use Rattle.clock_laws.specs.Clocked.{without_clock, without_clocks}
 use Rattle.clock_laws.proofs.Own.{Grows, of_process, own_added, grows_batch, there_on, event_on, is_decided, is_behind}
-use Rattle.clock_laws.proofs.Unclocked.{same_count, same_len, same_there, same_send, same_more}
+use Rattle.clock_laws.proofs.Same.{same_count, same_len, same_there, same_send}
+use Rattle.clock_laws.proofs.Unclocked.{same_more}
 use Rattle.clock_laws.proofs.Staying.{HasSame, by_event, gives_same, links_same, KeepsSends, clock_stays}
 
 -- the filled events are the raw ones but for their clocks, and have the clocks that those have
@@ -36,13 +37,13 @@ module _ (raw filled : Events) (batch : List Event) (among now : Place → Event
   mixed = with_batch filled batch
 
   pub still_same : without_clocks mixed ≡ without_clocks new
-  still_same = same_more filled raw are.events batch batch refl
+  still_same = same_more filled raw batch batch are.events refl
 
   grows : Grows raw new
   grows = grows_batch raw batch
 
   filled_there : (x : Place) → IsThere raw x → IsThere filled x
-  filled_there x there = same_there raw filled (sym are.events) x there
+  filled_there x there = same_there without_clock raw filled (sym are.events) x there
 
   -- an old event is filled, and written there
   mixed_old : (x : Place) → IsThere raw x → event_at mixed x ≡ event_at filled x
@@ -56,20 +57,20 @@ module _ (raw filled : Events) (batch : List Event) (among now : Place → Event
   mixed_new x there not =
       let n = length (own_events raw x.process) in
       let behind = is_behind raw new x grows not there in
-      event_behind filled batch x n (omega (arith, there.process, grows.count, same_count filled raw are.events)) (same_len filled raw are.events x.process) behind
+      event_behind filled batch x n (omega (arith, there.process, grows.count, same_count without_clock filled raw are.events)) (same_len without_clock filled raw are.events x.process) behind
       ∙ sym (event_behind raw batch x n (omega (arith, there.process, grows.count)) refl behind)
 
   stays_there : (x : Place) → IsThere mixed x → IsThere new x
-  stays_there x there = same_there mixed new still_same x there
+  stays_there x there = same_there without_clock mixed new still_same x there
 
   same_sends : (x : Place) (m : Message) → IsThere new x → (IsThere raw x → ⊥) → first_send (now x) m ≡ first_send mixed m
-  same_sends x m there not = new_sends x m there not ∙ sym (same_send mixed new still_same m)
+  same_sends x m there not = new_sends x m there not ∙ sym (same_send without_clock mixed new still_same m (λ e. refl))
 
   pub old_stays : (x : Place) → IsThere raw x → HasClockOf new now x (event_at filled x).clock
   old_stays x there = clock_stays raw new among now grows keeps x (event_at filled x).clock there (are.clocks x there)
 
   forth : (x : Place) → IsThere new x → (IsThere raw x → ⊥) → HasSame new mixed x
-  forth x there not = by_event new mixed x (same_there new mixed (sym still_same) x there) (mixed_new x there not)
+  forth x there not = by_event new mixed x (same_there without_clock new mixed (sym still_same) x there) (mixed_new x there not)
 
   back : (x : Place) → IsThere new x → (IsThere raw x → ⊥) → HasSame mixed new x
   back x there not = by_event mixed new x there (sym (mixed_new x there not))
@@ -105,6 +106,6 @@ module _ (raw filled : Events) (batch : List Event) (among now : Place → Event
 
   pub behind_is_in : (x : Place) (c : Cut) → HasClockOf mixed (λ y. mixed) x c → HasClockOf new now x c
   behind_is_in x c has = record {
-    width = has.width ∙ same_count mixed new still_same;
-    counts = λ j below. cut_off (Links new now) (Links mixed (λ y. mixed)) (Gives new j) (Gives mixed j) (IsThere raw) (cuts j below) x (count c j) (has.counts j (omega (arith, below, same_count mixed new still_same)));
+    width = has.width ∙ same_count without_clock mixed new still_same;
+    counts = λ j below. cut_off (Links new now) (Links mixed (λ y. mixed)) (Gives new j) (Gives mixed j) (IsThere raw) (cuts j below) x (count c j) (has.counts j (omega (arith, below, same_count without_clock mixed new still_same)));
   }

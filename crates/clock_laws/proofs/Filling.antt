@@ -120,7 +120,7 @@ module _ (filled : Events) (batch : List Event) (stands : AllByRecursion (EventS
   whole = with_batch filled (filled_batch filled batch)
 
   pub whole_same : without_clocks whole ≡ without_clocks mixed
-  whole_same = same_more filled filled refl (filled_batch filled batch) batch (unclocked_fill mixed filled batch)
+  whole_same = same_more filled filled (filled_batch filled batch) batch refl (unclocked_fill mixed filled batch)
 
   -- the event of the batch at a new place
   in_batch : (x : Place) → ℕ → Event

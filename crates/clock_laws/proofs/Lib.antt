@@ -1,4 +1,5 @@
 pub mod Own
+pub mod Same
 pub mod Unclocked
 pub mod Staying
 pub mod Behind

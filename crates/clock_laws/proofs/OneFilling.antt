@@ -1,24 +1,24 @@
 -- Joined batches fill to the same.
-use Rattle.std.proofs.Common.{◌≡◌, ℕ, ◌+◌, ◌-◌, ◌<◌, List, [], ◌∷◌, ◌++◌, length, map, get_or, drop, refl, sym, ap, ◌∙◌, subst, arith, inl, inr}
+use Rattle.std.proofs.Common.{◌≡◌, ℕ, ◌<◌, List, [], ◌∷◌, ◌++◌, length, map, get_or, drop, refl, sym, ap, ◌∙◌, subst, arith, inl, inr}
 use Rattle.std.specs.Prelude.{None}
 use Rattle.std.specs.List.{AllByRecursion}
 use Rattle.std.proofs.lemmas.Bool.{cases_eq}
-use Rattle.std.proofs.lemmas.List.{ext_get_or, length-replicate, map-append}
+use Rattle.std.proofs.lemmas.List.{length-replicate, map-append}
 use Rattle.event_log.specs.declared.log.Event.{Event}
 use Rattle.event_log.specs.States.{with_event, with_batch}
 use Rattle.vector_clock.specs.Events.{Events, EventStands, AllStand, no_events, own_events}
 use Rattle.vector_clock.specs.Faults.{batch_fault, batches_fault}
-use Rattle.vector_clock.specs.Fill.{Place, IsThere, event_at, no_event, upto_from, all_events}
+use Rattle.vector_clock.specs.Fill.{Place, IsThere, event_at, upto_from, all_events}
 use Rattle.vector_clock.specs.Filled.{filled_event, fill_from, filled_batch, filled_batches}
 use Rattle.vector_clock.proofs.OneClock.{one_clock}
 use Rattle.clock_laws.specs.Clocked.{without_clock, without_clocks, HaveTheirClocks}
 use Rattle.clock_laws.specs.Joined.{as_one}
 use Rattle.clock_laws.proofs.Own.{of_process, of_here, of_other, own_added}
-use Rattle.clock_laws.proofs.Unclocked.{same_count, same_len, same_there}
+use Rattle.clock_laws.proofs.Same.{same_count, same_len, same_there, same_at, same_places}
 use Rattle.clock_laws.proofs.Filling.{same_process, unclocked_fill}
 use Rattle.clock_laws.proofs.Logs.{none_own, none_clocked, one_more}
 use Rattle.clock_laws.proofs.Joined.{joined_none, joined_events, all_append}
-use Rattle.clock_laws.proofs.Sent.{same_at, one_batch_clocked}
+use Rattle.clock_laws.proofs.Sent.{one_batch_clocked}
 
 -- ---- events that have their clocks are determined
 
@@ -26,19 +26,16 @@ event_is : (e f : Event) → without_clock e ≡ without_clock f → e.clock ≡
 event_is e f same clock = λ i. record (same i) { clock = clock i }
 
 pub one_filling : (procs : ℕ) (batches : List (List Event)) (f g : Events) → HaveTheirClocks procs batches f → HaveTheirClocks procs batches g → f ≡ g
-one_filling procs batches f g one other = ext_get_or [] f g (same_count f g same) (λ p lt. ext_get_or no_event (own_events f p) (own_events g p) (same_len f g same p) (λ k here. event p k lt here))
+one_filling procs batches f g one other = same_places f g (same_count without_clock f g same) (same_len without_clock f g same) event
   where
     same : without_clocks f ≡ without_clocks g
     same = one.events ∙ sym other.events
 
-    event : (p k : ℕ) → p < length f → k < length (own_events f p) → get_or (own_events f p) k no_event ≡ get_or (own_events g p) k no_event
-    event p k lt here =
-        let x : Place = record { process = p; position = k + 1 } in
-        let there : IsThere (all_events procs batches) x = same_there f (all_events procs batches) one.events x (record { process = lt; first = omega arith; last = omega (arith, here) }) in
-        let back : k + 1 - 1 ≡ k = omega arith in
-        subst (λ (n : ℕ). get_or (own_events f p) n no_event ≡ get_or (own_events g p) n no_event) back
-        (event_is (event_at f x) (event_at g x) (same_at f g x same)
-        (one_clock (all_events procs batches) (upto_from (no_events procs) batches) x (event_at f x).clock (event_at g x).clock (one.clocks x there) (other.clocks x there)))
+    event : (x : Place) → IsThere f x → event_at f x ≡ event_at g x
+    event x here =
+        let there : IsThere (all_events procs batches) x = same_there without_clock f (all_events procs batches) one.events x here in
+        event_is (event_at f x) (event_at g x) (same_at without_clock f g same refl x)
+        (one_clock (all_events procs batches) (upto_from (no_events procs) batches) x (event_at f x).clock (event_at g x).clock (one.clocks x there) (other.clocks x there))
 
 -- ---- the same list of events
 
@@ -75,7 +72,7 @@ unclocked_batches before (b ∷ batches) =
     ∙ ap (λ (es : List Event). map without_clock b ++ es) (unclocked_batches (with_batch before full) batches)
     ∙ sym (map-append without_clock b (as_one batches))
 
-all_of_one : (P : Event → Type 0) (batches : List (List Event)) → AllByRecursion (λ (b : List Event). AllByRecursion P b) batches → AllByRecursion P (as_one batches)
+pub all_of_one : (P : Event → Type 0) (batches : List (List Event)) → AllByRecursion (λ (b : List Event). AllByRecursion P b) batches → AllByRecursion P (as_one batches)
 all_of_one P [] each = tt
 all_of_one P (b ∷ batches) each = all_append P b (as_one batches) each.0 (all_of_one P batches each.1)
 

@@ -1,8 +1,7 @@
 -- Of batches without a fault each receipt has its send by the end of its batch, so the clocks go by the events alone.
-use Rattle.std.proofs.Common.{◌≡◌, ℕ, ◌+◌, ◌-◌, ◌<◌, true, false, not, List, [], ◌∷◌, length, get_or, refl, sym, ap, ◌∙◌, subst, arith, inl, inr, length-append}
+use Rattle.std.proofs.Common.{◌≡◌, ℕ, ◌+◌, ◌-◌, ◌<◌, true, false, not, List, [], ◌∷◌, length, refl, sym, ap, ◌∙◌, subst, arith, inl, inr, length-append}
 use Rattle.std.specs.Prelude.{Option, None, Some, is_some}
 use Rattle.std.specs.List.{AllByRecursion}
-use Rattle.std.proofs.Math.ListN.{get_or-map}
 use Rattle.std.proofs.lemmas.List.{length-replicate}
 use Rattle.std.proofs.lemmas.Bool.{cases_eq}
 use Rattle.log_lines.specs.Reading.{choose}
@@ -22,7 +21,7 @@ use Rattle.vector_clock.proofs.Growth.{length-with_batch}
 use Rattle.clock_laws.specs.Clocked.{without_clock, without_clocks, HaveTheirClocks}
 use Rattle.clock_laws.specs.Joined.{as_one}
 use Rattle.clock_laws.proofs.Own.{Grows, of_process, of_here, of_other, all_at, own_added, grows_none, grows_batch, event_on, is_decided, is_behind, send_on, send_there}
-use Rattle.clock_laws.proofs.Unclocked.{own_unclocked, same_there, same_send}
+use Rattle.clock_laws.proofs.Same.{same_there, same_at, same_send}
 use Rattle.clock_laws.proofs.Staying.{KeepsSends, clock_stays}
 use Rattle.clock_laws.proofs.Behind.{AreClocked, event_behind}
 use Rattle.clock_laws.proofs.OneBatch.{clocked_more}
@@ -66,18 +65,10 @@ of_own all (e ∷ es) p each = elim (cases_eq e.process p) [
 abbrev pub HaveSends : Events → Type 0
 HaveSends events = (x : Place) → IsThere events x → HasSend events x.process (event_at events x)
 
--- events that are the same but for their clocks
-pub same_at : (one other : Events) (x : Place) → without_clocks one ≡ without_clocks other → without_clock (event_at one x) ≡ without_clock (event_at other x)
-same_at one other x same =
-    at one ∙ ap (λ (e : Events). get_or (own_events e x.process) (x.position - 1) no_event) same ∙ sym (at other)
-  where
-    at : (events : Events) → without_clock (event_at events x) ≡ get_or (own_events (without_clocks events) x.process) (x.position - 1) no_event
-    at events = sym (get_or-map without_clock (own_events events x.process) (x.position - 1) no_event) ∙ ap (λ (es : List Event). get_or es (x.position - 1) no_event) (sym (own_unclocked events x.process))
-
 pub sends_unclocked : (one other : Events) → without_clocks one ≡ without_clocks other → HaveSends one → HaveSends other
 sends_unclocked one other same sends x there m is =
-    let found = sends x (same_there other one (sym same) x there) m (ap (λ (e : Event). message_received x.process e.kind) (same_at one other x same) ∙ is) in
-    (found.0, sym (same_send one other same m) ∙ found.1)
+    let found = sends x (same_there without_clock other one (sym same) x there) m (ap (λ (e : Event). message_received x.process e.kind) (same_at without_clock one other same refl x) ∙ is) in
+    (found.0, sym (same_send without_clock one other same m (λ e. refl)) ∙ found.1)
 
 sends_more : (events : Events) (batch : List Event) → HaveSends events → batch_fault events batch ≡ None → HaveSends (with_batch events batch)
 sends_more events batch sends none x there = elim (is_decided events x) [
