@@ -8,8 +8,8 @@ use Rattle.event_log.specs.declared.log.Event.{Event}
 use Rattle.event_log.specs.declared.log.Header.{Header}
 use Rattle.event_log.specs.States.{StatesView, AreWhole, trace_of, event_of, variable_of}
 use Rattle.event_log.proofs.Keeping.{process_is}
-use Rattle.pull_system.specs.Growth.{PullGrows}
-use Rattle.pull_system.proofs.PullLists.{first_grows}
+use Rattle.pull_system.specs.Growth.{PullGrows, PullStays}
+use Rattle.pull_system.proofs.PullLists.{first_grows, first_passes, first_least}
 use Rattle.channel_preds.specs.Channels.{events_at}
 use Rattle.channel_preds.specs.Truth.{lens_of}
 use Rattle.channel_preds.proofs.Growing.{lens-get_or}
@@ -18,7 +18,7 @@ use Rattle.counter_preds.specs.Counters.{AreRising, IsVariable, IsCounter, value
 use Rattle.counter_preds.specs.Truth.{HasMoreEvents}
 use Rattle.counter_preds.proofs.Tests.{le_holds, holds_le}
 use Rattle.counter_preds.proofs.Along.{length-values_of, value_at-values_of}
-use Rattle.counter_preds.proofs.Reaching.{reached}
+use Rattle.counter_preds.proofs.Reaching.{reached, entry}
 use Rattle.counter_preds.proofs.Tables.{positions_pull, entry_at}
 
 -- the process of the run, by what was logged of it
@@ -124,3 +124,40 @@ at_most_grows before after left right k more whole whole' l r rising after_rises
 pub at_least_grows : (before after : StatesView) (left right : Variable) (k : ℤ) → HasMoreEvents before after → AreWhole before → AreWhole after → IsVariable before left → IsVariable before right
     → IsCounter after left → IsCounter after right → PullGrows (lens_of before) (lens_of after) (at_least_pull before left right k) (at_least_pull after left right k)
 at_least_grows before after left right k more whole whole' l r rising after_rises = pull_grows before after right left k (pos 0) more whole whole' r l after_rises
+
+-- ---- pulls that stay
+
+positions_stay : (old : List ℕ) (p q : ℕ) (leads leads' : List ℤ) (more : ℤ) (follows follows' : List ℤ) (extra : ℤ)
+    → IsFront leads leads' → IsFront follows follows' → length leads ≡ get_or old p 0 + 1 → length follows ≡ get_or old q 0 + 1
+    → PullStays old (positions_pull p q leads more follows extra) (positions_pull p q leads' more follows' extra)
+positions_stay old p q leads leads' more follows follows' extra front back size follow_size = record {
+  asks = λ x le asked.
+      let at_old = entry_at leads more follows extra x (omega (arith, le, size)) in
+      let here : min x (length leads - 1) ≡ x = omega (arith, le, size) in
+      let there : min x (length leads' - 1) ≡ x = omega (arith, le, size, front.shorter) in
+      let same : lead_at leads x ≡ lead_at leads' x =
+      ap (λ (i : ℕ). value_at leads i) here ∙ front.same x (omega (arith, le, size)) ∙ ap (λ (i : ℕ). value_at leads' i) (sym there) in
+      let y : ℕ = entry leads more follows extra x in
+      let found : y < length follows = omega (arith, at_old, asked, follow_size) in
+      let has : (lead_at leads x +ℤ more) ≤ℤ (value_at follows y +ℤ extra) =
+      holds_le (lead_at leads x +ℤ more) (value_at follows y +ℤ extra) (first_passes (reached follows extra (lead_at leads x +ℤ more)) (length follows) found) in
+      let later : (lead_at leads' x +ℤ more) ≤ℤ (value_at follows' y +ℤ extra) =
+      subst (λ z. (z +ℤ more) ≤ℤ (value_at follows' y +ℤ extra)) same (subst (λ z. (lead_at leads x +ℤ more) ≤ℤ (z +ℤ extra)) (back.same y found) has) in
+      let least = first_least (reached follows' extra (lead_at leads' x +ℤ more)) (length follows') y (omega (arith, found, back.shorter))
+      (le_holds (lead_at leads' x +ℤ more) (value_at follows' y +ℤ extra) later) in
+      omega (arith, at_old, entry_at leads' more follows' extra x (omega (arith, front.shorter, le, size)), least);
+}
+
+pull_stays : (before after : StatesView) (lead follow : Variable) (more extra : ℤ) → HasMoreEvents before after → AreWhole before → AreWhole after → IsVariable before lead → IsVariable before follow
+    → PullStays (lens_of before) (positions_pull lead.process follow.process (values_of before lead) more (values_of before follow) extra) (positions_pull lead.process follow.process (values_of after lead) more (values_of after follow) extra)
+pull_stays before after lead follow more extra grown whole whole' leads follows =
+    positions_stay (lens_of before) lead.process follow.process (values_of before lead) (values_of after lead) more (values_of before follow) (values_of after follow) extra
+    (values_front before after grown whole whole' lead leads) (values_front before after grown whole whole' follow follows) (values_size before lead) (values_size before follow)
+
+pub at_most_stays : (before after : StatesView) (left right : Variable) (k : ℤ) → HasMoreEvents before after → AreWhole before → AreWhole after → IsVariable before left → IsVariable before right
+    → PullStays (lens_of before) (at_most_pull before left right k) (at_most_pull after left right k)
+at_most_stays before after left right k more whole whole' l r = pull_stays before after left right (pos 0) k more whole whole' l r
+
+pub at_least_stays : (before after : StatesView) (left right : Variable) (k : ℤ) → HasMoreEvents before after → AreWhole before → AreWhole after → IsVariable before left → IsVariable before right
+    → PullStays (lens_of before) (at_least_pull before left right k) (at_least_pull after left right k)
+at_least_stays before after left right k more whole whole' l r = pull_stays before after right left k (pos 0) more whole whole' r l

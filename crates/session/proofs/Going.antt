@@ -1,5 +1,5 @@
 -- From one batch to the next.
-use Rattle.std.proofs.Common.{◌≡◌, ℕ, zero, suc, ◌<◌, ◌≤◌, Bool, false, List, [], ◌∷◌, ◌++◌, length, map, replicate, get_or, Option, Some, None, slice_get, slice_index_or, IsSome, refl, sym, ◌∙◌, ap, subst, arith, append-nil, length-append}
+use Rattle.std.proofs.Common.{◌≡◌, ℕ, zero, suc, ◌<◌, ◌≤◌, Bool, false, List, [], ◌∷◌, ◌++◌, length, map, replicate, get_or, Option, Some, None, slice_get, slice_index_or, IsSome, All, refl, sym, ◌∙◌, ap, subst, arith, append-nil, length-append}
 use Rattle.std.proofs.lemmas.Bool.{true≢false}
 use Rattle.std.proofs.lemmas.List.{length-map, length-replicate}
 use Rattle.std.proofs.lemmas.Option.{none-some, same_Some, slice_get_past}
@@ -10,6 +10,9 @@ use Rattle.vector_clock.specs.Faultless.{no_batch}
 use Rattle.vector_clock.proofs.FilledBatches.{filled_fits}
 use Rattle.trace_growth.specs.Growing.{TraceView, FitsTrace, IsTrace, filled_for, trace_fault, with_trace_batch, opened_trace}
 use Rattle.trace_growth.proofs.Taken.{is_trace, faultless_more}
+use Rattle.counter_preds.specs.Falls.{fall_fault}
+use Rattle.counter_preds.specs.Counters.{IsCounter}
+use Rattle.counter_preds.proofs.Staying.{opened_counter}
 use Rattle.pull_system.specs.Rows.{RowsView}
 use Rattle.local_preds.specs.Rows.{len_at}
 use Rattle.rctl_parts.specs.declared.part.Part.{Part}
@@ -20,17 +23,19 @@ use Rattle.conjunctions.specs.declared.observed.Observed.{Observed}
 use Rattle.conjunctions.specs.declared.answer.Answer.{Answer}
 use Rattle.conjunctions.specs.Observing.{AreFull, scope_seen}
 use Rattle.conjunctions.specs.Numbering.{all_conjunctions}
+use Rattle.conjunctions.specs.Counters.{CountersRise, counters_of}
 use Rattle.conjunctions.specs.Settling.{IsSettled, AreSettled, AreFloors, IsLater}
 use Rattle.conjunctions.specs.Answering.{IsAnswer}
-use Rattle.session.specs.Growing.{GrowingView, opened_observed, Stands, Keeps, Completes, TakesBatch, HasAnswer}
+use Rattle.session.specs.Growing.{GrowingView, counter_fault, opened_observed, Stands, Keeps, Completes, TakesBatch, HasAnswer}
 use Rattle.session.proofs.OneTrace.{later_on, later_itself}
 use Rattle.session.proofs.Named.{watches_on}
 use Rattle.session.proofs.Taking.{is_later}
+use Rattle.session.proofs.Rising.{counters_rise_on}
 
 -- the law that rows may be begun from once more was observed
 abbrev pub KeptRows : Type 0
 KeptRows = (before after : Observed) (ds : List (List Piece)) (rows : List RowsView) → IsTrace before.trace.states → IsTrace after.trace.states → AreFull before → IsLater before after
-    → AllFit (scope_seen before) ds → AreSettled before (all_conjunctions ds) rows → AreFloors after rows (all_conjunctions ds)
+    → AllFit (scope_seen before) ds → CountersRise after ds → AreSettled before (all_conjunctions ds) rows → AreFloors after rows (all_conjunctions ds)
 
 -- what was observed, with another trace
 abbrev pub seen_with : Observed → TraceView → Observed
@@ -57,6 +62,7 @@ keeps_opened header on disjuncts fits made =
       unspent = refl;
       trace = is_trace (opened header) fits no_batch;
       made = made;
+      rise = λ k d lt. opened_counter header _;
       watched = record {
         whole = (is_trace (opened header) fits no_batch).whole;
         count = length-replicate (length on) [];
@@ -71,7 +77,7 @@ keeps_opened header on disjuncts fits made =
         within = λ w p is. omega (arith, ap length (fresh_rows seen refl w));
       };
       full = λ taken. absurd (omega arith);
-      floors = record { floors = λ later is more. tt };
+      floors = record { floors = λ later is more rise. tt };
       stands = tt;
     }
 
@@ -103,6 +109,7 @@ longer_at before after later p =
 pub record Begins (before : Observed) (disjuncts : List (List Part)) (settled : List RowsView) (answer : Option Answer) (trace : TraceView) (batch : List Event) : Type 0 where
   pub keeps : Keeps before disjuncts settled answer
   pub fits : FitsTrace before.trace batch
+  pub kept : fall_fault before.trace.states (counters_of (disjuncts_of disjuncts)) (filled_for before.trace batch) ≡ None
   pub none : trace_fault before.trace batch ≡ None
   pub taken : trace ≡ with_trace_batch before.trace batch
 
@@ -141,6 +148,11 @@ module _ (before : Observed) (disjuncts : List (List Part)) (settled : List Rows
   pub made_now : AreMadeFor (scope_seen (seen_with before trace)) (disjuncts_of disjuncts)
   made_now = subst (λ (h : Header). AreMadeFor (record { variables = map length h.vars; watch_process = before.watch_process }) (disjuncts_of disjuncts)) (sym (ap (λ (t : TraceView). t.states.header) b.taken)) b.keeps.made
 
+  counters_now : (after : Observed) → Completes (seen_with before trace) after → CountersRise after (disjuncts_of disjuncts)
+  counters_now after done =
+      subst (λ (t : TraceView). All (IsCounter t.states) (counters_of (disjuncts_of disjuncts))) (sym (done.trace ∙ b.taken))
+      (counters_rise_on before (disjuncts_of disjuncts) batch b.keeps.trace b.keeps.made.fit b.keeps.rise b.kept)
+
   -- what is known behind the batch
   pub keeps_on : (after : Observed) → Completes (seen_with before trace) after → Keeps after disjuncts settled None
   keeps_on after done = record {
@@ -149,6 +161,7 @@ module _ (before : Observed) (disjuncts : List (List Part)) (settled : List Rows
     made =
         subst (λ (t : TraceView). AreMadeFor (record { variables = map length t.states.header.vars; watch_process = after.watch_process }) (disjuncts_of disjuncts)) (sym done.trace)
         (subst (λ (on : List (Option ℕ)). AreMadeFor (record { variables = map length trace.states.header.vars; watch_process = on }) (disjuncts_of disjuncts)) (sym done.watches) made_now);
+    rise = counters_now after done;
     watched = record {
       whole = (completed_trace after done).whole;
       count = done.rows.count ∙ rows_now.count ∙ sym (ap length done.watches);
@@ -156,7 +169,7 @@ module _ (before : Observed) (disjuncts : List (List Part)) (settled : List Rows
       within = λ w p on. let h = (done.full.each p w on).1 in omega (arith, h);
     };
     full = λ taken. done.full;
-    floors = record { floors = λ later is more. b.keeps.floors.floors later is (later_on before after later (completed_later after done) more) };
+    floors = record { floors = λ later is more rise. b.keeps.floors.floors later is (later_on before after later (completed_later after done) more) rise };
     stands = tt;
   }
 
@@ -167,11 +180,12 @@ module _ (before : Observed) (disjuncts : List (List Part)) (settled : List Rows
 
 -- the batch that the code was given
 pub begun : (v w : GrowingView) (trace : TraceView) (batch : List Event) → v ≡ w → (v.spent ≡ false → Keeps v.seen v.disjuncts v.settled v.answer) → v.spent ≡ false
-    → (w.spent ≡ false → FitsTrace w.seen.trace batch)
+    → (w.spent ≡ false → FitsTrace w.seen.trace batch) → counter_fault v batch ≡ None
     → (v.seen.trace.spent ≡ false) × (trace_fault v.seen.trace batch ≡ None) × (trace ≡ with_trace_batch v.seen.trace batch) → Begins v.seen v.disjuncts v.settled v.answer trace batch
-begun v w trace batch same keeps unspent fits told = record {
+begun v w trace batch same keeps unspent fits kept told = record {
   keeps = keeps unspent;
   fits = subst (λ (u : GrowingView). u.spent ≡ false → FitsTrace u.seen.trace batch) (sym same) fits unspent;
+  kept = kept;
   none = told.1;
   taken = told.2;
 }
@@ -180,7 +194,7 @@ begun v w trace batch same keeps unspent fits told = record {
 
 -- each conjunction may begin from its rows
 pub floors_now : (seen : Observed) (disjuncts : List (List Part)) (rows : List RowsView) (o : Option Answer) → Keeps seen disjuncts rows o → AreFloors seen rows (all_conjunctions (disjuncts_of disjuncts))
-floors_now seen disjuncts rows o keeps = keeps.floors.floors seen keeps.trace (later_itself seen)
+floors_now seen disjuncts rows o keeps = keeps.floors.floors seen keeps.trace (later_itself seen) keeps.rise
 
 -- what is known behind the answer
 pub keeps_answered : KeptRows → (seen : Observed) (disjuncts : List (List Part)) (before : List RowsView) (o : Option Answer) → Keeps seen disjuncts before o → 1 ≤ seen.trace.batches → (rows : List RowsView) (a : Answer)
@@ -189,9 +203,10 @@ keeps_answered kept seen disjuncts before o keeps taken rows a is settles = reco
   unspent = keeps.unspent;
   trace = keeps.trace;
   made = keeps.made;
+  rise = keeps.rise;
   watched = keeps.watched;
   full = keeps.full;
-  floors = record { floors = λ later now more. kept seen later (disjuncts_of disjuncts) rows keeps.trace now (keeps.full taken) more keeps.made.fit settles };
+  floors = record { floors = λ later now more rise. kept seen later (disjuncts_of disjuncts) rows keeps.trace now (keeps.full taken) more keeps.made.fit rise settles };
   stands = record { taken = taken; answer = is; settled = settles };
 }
 

@@ -1,9 +1,13 @@
 -- A formula over a trace that grows batch by batch.
 use Rattle.std.specs.Prelude.{◌≡◌, ℕ, ◌≤◌, Bool, false, List, [], ◌∷◌, ◌++◌, length, replicate}
 use Rattle.std.specs.Prelude.{Option, None, Some, IsSome}
+use Rattle.log_lines.specs.Reading.{choose}
+use Rattle.event_log.specs.declared.item.LogFault.{LogFault}
 use Rattle.event_log.specs.declared.log.Event.{Event}
 use Rattle.event_log.specs.declared.log.Header.{Header}
-use Rattle.trace_growth.specs.Growing.{IsTrace, opened_trace, with_trace_batch}
+use Rattle.trace_growth.specs.Growing.{IsTrace, opened_trace, filled_for, trace_fault}
+use Rattle.trace_growth.specs.Growing.{with_trace_batch}
+use Rattle.counter_preds.specs.Falls.{fall_fault}
 use Rattle.pull_system.specs.Rows.{RowsView}
 use Rattle.rctl_parts.specs.declared.part.Part.{Part}
 use Rattle.rctl_parts.specs.Pieces.{Piece, disjuncts_of}
@@ -12,6 +16,7 @@ use Rattle.watch_feeding.specs.Fed.{HaveRows, RowsHaveGrown}
 use Rattle.conjunctions.specs.declared.observed.Observed.{Observed}
 use Rattle.conjunctions.specs.declared.answer.Answer.{Answer}
 use Rattle.conjunctions.specs.Observing.{AreFull, scope_seen}
+use Rattle.conjunctions.specs.Counters.{CountersRise, counters_of}
 use Rattle.conjunctions.specs.Numbering.{all_conjunctions}
 use Rattle.conjunctions.specs.Settling.{AreSettled, AreFloors, IsLater}
 use Rattle.conjunctions.specs.Answering.{IsAnswer}
@@ -43,11 +48,12 @@ opened_growing header on disjuncts = record {
   spent = false;
 }
 
--- each conjunction may begin from its rows, on what was observed and on all that is observed later
-pub record MayGoOn (seen : Observed) (rows : List RowsView) (cs : List (List Piece))
+-- each conjunction may begin from its rows, on what was observed and on all that is observed later,
+-- while no counter falls
+pub record MayGoOn (seen : Observed) (rows : List RowsView) (ds : List (List Piece))
     : Type 0 where
   pub floors : (later : Observed) → IsTrace later.trace.states → IsLater seen later
-      → AreFloors later rows cs
+      → CountersRise later ds → AreFloors later rows (all_conjunctions ds)
 
 -- batches were taken, the answer is that of the formula on what was observed, and the rows are
 -- those of its conjunctions
@@ -62,16 +68,18 @@ abbrev pub Stands : Observed → List (List Part) → List RowsView → Option A
 Stands seen disjuncts rows None = Unit {0}
 Stands seen disjuncts rows (Some answer) = IsAnswered seen disjuncts rows answer
 
--- the trace goes on, the formula is made for it and for the watches, each named watch has answered
--- each state of the batches, and what was answered and settled is of what was observed
+-- the trace goes on, the formula is made for it and for the watches, none of its counters ever
+-- fell, each named watch has answered each state of the batches, and what was answered and settled
+-- is of what was observed
 pub record Keeps (seen : Observed) (disjuncts : List (List Part)) (rows : List RowsView)
     (answer : Option Answer) : Type 0 where
   pub unspent : seen.trace.spent ≡ false
   pub trace : IsTrace seen.trace.states
   pub made : AreMadeFor (scope_seen seen) (disjuncts_of disjuncts)
+  pub rise : CountersRise seen (disjuncts_of disjuncts)
   pub watched : HaveRows seen.trace.states seen.watch_process seen.watch_rows
   pub full : 1 ≤ seen.trace.batches → AreFull seen
-  pub floors : MayGoOn seen rows (all_conjunctions (disjuncts_of disjuncts))
+  pub floors : MayGoOn seen rows (disjuncts_of disjuncts)
   pub stands : Stands seen disjuncts rows answer
 
 -- a batch was taken, memory sufficed so far, and the answer on the trace so far was made
@@ -90,6 +98,18 @@ pub record TakesBatch (before after : GrowingView) (batch : List Event) : Type 0
   pub full : AreFull after.seen
 
 -- ---- one batch
+
+-- the fault of the first event that leaves a counter of the formula lower than it was, in a batch
+-- whose clocks are filled in
+abbrev pub counter_fault : GrowingView → List Event → Option LogFault
+counter_fault growing batch =
+    fall_fault growing.seen.trace.states (counters_of (disjuncts_of growing.disjuncts))
+    (filled_for growing.seen.trace batch)
+
+-- where no counter falls, the first fault of the clocks and messages
+abbrev pub first_fault : GrowingView → List Event → Option LogFault
+first_fault growing batch =
+    choose (counter_fault growing batch) (λ f. Some f) (trace_fault growing.seen.trace batch)
 
 -- what was observed has all events of the batch; then each watch that is on a process has answered
 -- each state, and the truths that were there stand in front

@@ -4,6 +4,7 @@ ghost use Rattle.std.specs.Prelude.{◌≡◌, ◌+◌, ◌≤◌, [], false, le
 ghost use Rattle.rctl_parts.specs.Pieces.{disjuncts_of};
 ghost use Rattle.rctl_parts.specs.MadeFor.{AreMadeFor};
 ghost use Rattle.conjunctions.specs.Observing.{IsReady, lens_seen, scope_seen};
+ghost use Rattle.conjunctions.specs.Counters.{CountersRise};
 ghost use Rattle.conjunctions.specs.Numbering.{all_conjunctions};
 ghost use Rattle.conjunctions.specs.Counting.{bounds};
 ghost use Rattle.conjunctions.specs.Settling.{AreFloors, AreSettled};
@@ -73,6 +74,7 @@ pub(crate) fn answer_seen<R: Threads + Sync, G: Gate, L: Ledger>(
 ) -> Result<Answer, NoMemory>
     requires ready { IsReady seen.now }
     requires made { AreMadeFor (scope_seen seen.now) (disjuncts_of disjuncts.now) }
+    requires rise { CountersRise seen.now (disjuncts_of disjuncts.now) }
     requires floors { AreFloors seen.now settled.old
         (all_conjunctions (disjuncts_of disjuncts.now)) }
     requires some { 1 ≤ workers }

@@ -1,13 +1,15 @@
 //! A formula and what was observed of it so far: all that is plain data.
-ghost use Rattle.std.specs.Prelude.{◌≡◌, [], replicate, IfOk, List as ListOf, Bool};
+ghost use Rattle.std.specs.Prelude.{◌≡◌, false, [], replicate, IfOk, List as ListOf, Bool};
 ghost use Rattle.event_log.specs.States.{IsHeader};
 ghost use Rattle.rctl_parts.specs.Pieces.{disjuncts_of};
 ghost use Rattle.rctl_parts.specs.MadeFor.{AreMadeFor};
 ghost use Rattle.conjunctions.specs.Observing.{scope_seen};
-ghost use Rattle.session.specs.Growing.{opened_observed, opened_growing};
+ghost use Rattle.session.specs.Growing.{opened_observed, opened_growing, counter_fault};
 
+use crate::counters::counters_of;
 use conjunctions::{Answer, Observed};
-use event_log::Header;
+use counter_preds::{Variable, first_fall};
+use event_log::{Event, Header, LogFault};
 use pota_base::{List, NoMemory};
 use rctl_parts::{Part, Resolved};
 use slice_workers::Settled;
@@ -22,6 +24,8 @@ use trace_growth::Trace;
 pub struct Growing {
     pub(crate) seen: Observed,
     pub(crate) disjuncts: List<List<Part>>,
+    /// The variables of the differences, none of which may fall.
+    pub(crate) counters: List<Variable>,
     pub(crate) settled: List<Settled>,
     pub(crate) answer: Option<Answer>,
     pub(crate) spent: bool,
@@ -32,6 +36,8 @@ impl Model for Growing {
     ghost use Rattle.std.specs.Prelude.{◌≡◌, false};
     ghost use Rattle.std.specs.Coded.{codes};
     ghost use Rattle.rctl_parts.specs.contracts.part.Part as e;
+    ghost use Rattle.rctl_parts.specs.Pieces.{disjuncts_of};
+    ghost use Rattle.conjunctions.specs.Counters.{counters_of};
     ghost use Rattle.session.specs.Growing.{GrowingView, Keeps};
 
     ghost Value = { GrowingView };
@@ -46,7 +52,8 @@ impl Model for Growing {
       spent = g.spent;
     } };
 
-    ghost invariant = { λ g. g.spent ≡ false → Keeps g.seen g.disjuncts g.settled g.answer };
+    ghost invariant = { λ g. (g.counters ≡ counters_of (disjuncts_of g.disjuncts))
+        × (g.spent ≡ false → Keeps g.seen g.disjuncts g.settled g.answer) };
 }
 
 // An empty row for each watch.
@@ -77,6 +84,7 @@ impl Growing {
             disjuncts,
             watch_process,
         } = resolved;
+        let counters = counters_of(alloc, disjuncts.as_slice())?;
         let watch_rows = no_rows(alloc, watch_process.len())?;
         let trace = Trace::new(alloc, header)?;
         Ok(Growing {
@@ -86,10 +94,20 @@ impl Growing {
                 watch_rows,
             },
             disjuncts,
+            counters,
             settled: List::new(alloc),
             answer: None,
             spent: false,
             alloc,
         })
+    }
+
+    /// The fault of the first event of a batch that leaves a counter of the formula lower than it
+    /// was.
+    pub(crate) fn first_fall(&self, batch: &[Event]) -> Option<LogFault>
+        requires { self.now.spent ≡ false }
+        ensures { result ≡ counter_fault self.now batch.now }
+    {
+        first_fall(self.seen.trace.states(), batch, self.counters.as_slice())
     }
 }

@@ -1,14 +1,15 @@
 //! Laws on sessions. The functions do nothing.
-ghost use Rattle.std.specs.Prelude.{◌≡◌, List, length};
+ghost use Rattle.std.specs.Prelude.{◌≡◌, List, [], length};
 ghost use Rattle.event_log.specs.declared.log.Event.{Event};
 ghost use Rattle.event_log.specs.States.{with_batch, with_batches};
-ghost use Rattle.trace_growth.specs.Growing.{IsTrace};
-ghost use Rattle.rctl_parts.specs.Pieces.{Piece};
+ghost use Rattle.trace_growth.specs.Growing.{IsTrace, trace_fault};
+ghost use Rattle.rctl_parts.specs.Pieces.{Piece, disjuncts_of};
+ghost use Rattle.conjunctions.specs.Counters.{counters_of};
 ghost use Rattle.conjunctions.specs.declared.observed.Observed.{Observed};
 ghost use Rattle.conjunctions.specs.declared.answer.Answer.{Answer};
 ghost use Rattle.conjunctions.specs.Settling.{IsLater};
 ghost use Rattle.conjunctions.specs.Answering.{IsAnswer};
-ghost use Rattle.session.specs.Growing.{all_events};
+ghost use Rattle.session.specs.Growing.{GrowingView, all_events, first_fault};
 ghost use Rattle.session.specs.Fed.{IsOneTrace};
 
 use conjunctions::one_answer;
@@ -39,4 +40,11 @@ pub fn batches_may_be_joined()
 pub fn later_is_later_still()
     ensures { (before then after : Observed) → IsLater before then → IsLater then after
         → IsLater before after }
+{}
+
+/// A formula without differences has the faults of clocks and messages alone.
+pub fn without_differences_no_counter_falls()
+    ensures { (growing : GrowingView) (batch : List Event)
+        → counters_of (disjuncts_of growing.disjuncts) ≡ []
+        → first_fault growing batch ≡ trace_fault growing.seen.trace batch }
 {}

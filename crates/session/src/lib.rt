@@ -1,7 +1,8 @@
 //! A formula over a trace that grows by batches.
 //!
 //! `Session::observe` takes a batch whole, or answers exactly its first fault and is as before, and
-//! the boxes of the watches too (`ok`, `fault`). It makes no answer. `Session::settle` makes the
+//! the boxes of the watches too (`ok`, `fault`). A counter that falls is judged before clocks and
+//! messages; only the variables of the formula's differences are counters. It makes no answer. `Session::settle` makes the
 //! answer on the trace so far, by however many batches it came, and does nothing where that answer
 //! is there already (`again`). `Session::extend` is the two in a row. After want of memory the
 //! session is spent: it answers that from then on and feeds nothing (`memory`, `spent`).
@@ -20,9 +21,13 @@
 #![tactic(auto)]
 
 mod batch;
+mod counters;
 mod growing;
 mod laws;
 mod session;
 
-pub use laws::{a_fresh_start_answers_the_same, batches_may_be_joined, later_is_later_still};
+pub use laws::{
+    a_fresh_start_answers_the_same, batches_may_be_joined, later_is_later_still,
+    without_differences_no_counter_falls,
+};
 pub use session::Session;

@@ -5,15 +5,17 @@ ghost use Rattle.std.specs.Prelude.{OnOk, OnErr, IsOk, ◌⊎◌};
 ghost use Rattle.event_log.specs.States.{IsHeader};
 ghost use Rattle.pota_base.specs.declared.fault.Refused.TheVariants as refused;
 ghost use Rattle.vector_clock.specs.Admitted.{IfFault, IfWantsMemory};
-ghost use Rattle.trace_growth.specs.Growing.{FitsTrace, trace_fault, with_trace_batch};
+ghost use Rattle.trace_growth.specs.Growing.{FitsTrace};
 ghost use Rattle.rctl_parts.specs.Pieces.{disjuncts_of};
 ghost use Rattle.rctl_parts.specs.MadeFor.{AreMadeFor};
 ghost use Rattle.conjunctions.specs.Observing.{Reading, AreAnswers, lens_seen, scope_seen};
+ghost use Rattle.conjunctions.specs.Counters.{CountersRise};
 ghost use Rattle.conjunctions.specs.Numbering.{all_conjunctions};
 ghost use Rattle.conjunctions.specs.Counting.{bounds};
 ghost use Rattle.conjunctions.specs.Settling.{IsSettled};
 ghost use Rattle.conjunctions.specs.Answering.{IsAnswer};
 ghost use Rattle.session.specs.Growing.{opened_observed, opened_growing, HasAnswer, TakesBatch};
+ghost use Rattle.session.specs.Growing.{first_fault};
 ghost use Rattle.session.specs.Fed.{Feeds, AreFedFrom, AnswersAs};
 
 use crate::batch::{answer_seen, feed_batch};
@@ -64,14 +66,15 @@ impl Session {
 
     /// Takes a whole batch, or none of it, and makes no answer.
     ///
-    /// A fault is the first of the batch's clocks and messages, at the line of its event: the
-    /// session is then as before, and no watch was fed. After want of memory the session is spent:
-    /// it answers that from then on, and feeds nothing.
+    /// A fault is at the line of its event: that of the first event which leaves a counter of the
+    /// formula lower than it was, and else the first of the batch's clocks and messages. The session
+    /// is then as before, and no watch was fed. After want of memory the session is spent: it
+    /// answers that from then on, and feeds nothing.
     pub fn observe(&mut self, batch: List<Event>) -> Result<(), Refused<LogFault>>
         requires batch { self.old.growing.spent ≡ false
             → FitsTrace self.old.growing.seen.trace batch }
         ensures ok { OnOk result ((self.old.growing.spent ≡ false)
-            × (trace_fault self.old.growing.seen.trace batch ≡ None)
+            × (first_fault self.old.growing batch ≡ None)
             × TakesBatch self.old.growing self.new.growing batch) }
         ensures unspent { OnOk result (self.new.growing.spent ≡ false) }
         ensures unanswered { OnOk result (self.new.growing.answer ≡ None) }
@@ -94,7 +97,7 @@ impl Session {
             handed reading
             → OnOk result (AreAnswers self.new.growing.seen reading) }
         ensures fault { IfFault result (λ fault. (self.old.growing.spent ≡ false)
-            × (trace_fault self.old.growing.seen.trace batch ≡ Some fault)
+            × (first_fault self.old.growing batch ≡ Some fault)
             × (self.new.growing ≡ self.old.growing) × (self.new.watches ≡ self.old.watches)) }
         ensures memory { IfWantsMemory result (self.new.growing.spent ≡ true) }
         ensures unfed { IfWantsMemory result (self.new.watches ≡ self.old.watches) }
@@ -104,6 +107,10 @@ impl Session {
     {
         if self.growing.spent {
             return Err(Refused::NoMemory);
+        }
+        let fallen = self.growing.first_fall(batch.as_slice());
+        if let Some(fall) = fallen {
+            return Err(Refused::Fault(fall));
         }
         match self.growing.seen.trace.extend(batch) {
             Ok(()) => {}
@@ -181,9 +188,10 @@ impl Session {
     /// Takes a whole batch, or none of it, and makes its answer by 1 to 16 workers: `observe`, and
     /// then `settle`. It may wait for the threads that it joins.
     ///
-    /// A fault is the first of the batch's clocks and messages, at the line of its event: the
-    /// session is then as before, and no watch was fed. After want of memory the session is spent:
-    /// it answers that from then on, and feeds nothing.
+    /// A fault is at the line of its event: that of the first event which leaves a counter of the
+    /// formula lower than it was, and else the first of the batch's clocks and messages. The session
+    /// is then as before, and no watch was fed. After want of memory the session is spent: it
+    /// answers that from then on, and feeds nothing.
     pub fn extend<R: Threads + Sync, G: Gate, L: Ledger>(
         &mut self,
         rt: &R,
@@ -197,7 +205,7 @@ impl Session {
         requires some { 1 ≤ workers }
         requires few { workers ≤ 16 }
         ensures ok { OnOk result ((self.old.growing.spent ≡ false)
-            × (trace_fault self.old.growing.seen.trace batch ≡ None)
+            × (first_fault self.old.growing batch ≡ None)
             × TakesBatch self.old.growing self.new.growing batch) }
         ensures answer { OnOk result (HasAnswer self.new.growing) }
         ensures fed { OnOk result (Feeds
@@ -221,7 +229,7 @@ impl Session {
             + bounds (lens_seen self.new.growing.seen) self.old.growing.settled
             (all_conjunctions (disjuncts_of self.old.growing.disjuncts)) self.new.growing.settled) }
         ensures fault { IfFault result (λ fault. (self.old.growing.spent ≡ false)
-            × (trace_fault self.old.growing.seen.trace batch ≡ Some fault)
+            × (first_fault self.old.growing batch ≡ Some fault)
             × (self.new.growing ≡ self.old.growing) × (self.new.watches ≡ self.old.watches)
             × (steps.new ≡ steps.old)) }
         ensures memory { IfWantsMemory result (self.new.growing.spent ≡ true) }
@@ -262,9 +270,12 @@ impl Session {
         &self.growing.seen.trace
     }
 
-    /// What was observed so far: the trace, and what the watches answered to its states.
+    /// What was observed so far: the trace, and what the watches answered to its states. No counter
+    /// of the formula ever falls in it.
     pub fn seen(&self) -> &Observed
-        ensures { result.now ≡ self.now.growing.seen }
+        ensures seen { result.now ≡ self.now.growing.seen }
+        ensures rise { self.now.growing.spent ≡ false
+            → CountersRise self.now.growing.seen (disjuncts_of self.now.growing.disjuncts) }
     {
         &self.growing.seen
     }
@@ -274,6 +285,8 @@ impl Session {
         requires { HasAnswer self.now.growing }
         ensures answer { IsAnswer self.now.growing.seen
             (disjuncts_of self.now.growing.disjuncts) result.now }
+        ensures rise { CountersRise self.now.growing.seen
+            (disjuncts_of self.now.growing.disjuncts) }
         ensures answers { (handed : _) (reading : Reading) → AreFedFrom
             (λ h. answers (h.watch.vtable, h.watch.value))
             handed self.now.watches.items self.now.growing.seen

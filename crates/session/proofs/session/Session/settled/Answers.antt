@@ -5,8 +5,8 @@ use Rattle.session.proofs.session.Session.settled.Goals as goal
 
 pub get-requires : goal.get-requires
 get-requires g c =
-    omega (arith, settled_len _ c.args.self.now.growing (along c.self.view_is (λ s. s.growing)) c.self.invariant c.requires.answered, c.requires.some, c.requires.there)
+    omega (arith, settled_len _ c.args.self.now.growing (along c.self.view_is (λ s. s.growing)) c.self.invariant.1 c.requires.answered, c.requires.some, c.requires.there)
 
 pub returns-clause-settled : goal.returns-clause-settled
 returns-clause-settled g c =
-    settled_is _ c.args.self.now.growing (along c.self.view_is (λ s. s.growing)) c.self.invariant c.requires.answered _ c.get.result.now c.get.ensures.item
+    settled_is _ c.args.self.now.growing (along c.self.view_is (λ s. s.growing)) c.self.invariant.1 c.requires.answered _ c.get.result.now c.get.ensures.item
