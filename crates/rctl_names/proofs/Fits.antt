@@ -1,21 +1,28 @@
 -- The parts with numbers are made for the header and the watches.
-use Rattle.std.proofs.Common.{◌≡◌, ℕ, zero, suc, ◌+◌, ◌<◌, ◌==◌, Bool, true, false, not, ◌||◌, List, [], ◌∷◌, map, length, get_or, set, Option, None, Some, sym, ap, refl, ◌∙◌, arith, rules, subst}
+use Rattle.std.proofs.Common.{◌≡◌, ℕ, ℤ, IsTrue, zero, suc, ◌+◌, ◌<◌, ◌==◌, Bool, true, false, not, ◌||◌, List, [], ◌∷◌, map, length, get_or, set, Option, None, Some, sym, ap, refl, ◌∙◌, arith, rules, subst}
 use Rattle.std.proofs.lemmas.Bool.{false≢true}
 use Rattle.std.proofs.lemmas.Bool.Decides.{nat_tests}
+use Rattle.std.proofs.lemmas.Slice.Eq.{bytes_eq-Decides}
+use Rattle.std.specs.Prelude.{bytes_eq}
 use Rattle.run_model.specs.Run.{Name}
+use Rattle.run_model.specs.Class.{is_analysed}
 use Rattle.log_lines.specs.Names.{place_of}
 use Rattle.rctl_grammar.specs.declared.fault.FormulaCode.TheVariants as code
+use Rattle.rctl_grammar.specs.declared.tree.Operator.{Operator}
+use Rattle.rctl_grammar.specs.declared.tree.Operator.TheVariants as operator
 use Rattle.rctl_grammar.specs.declared.tree.Place.{Place}
+use Rattle.rctl_grammar.specs.Shape.{model_operator}
 use Rattle.rctl_parts.specs.Spelled.{Names}
 use Rattle.rctl_parts.specs.MadeFor as made
-use Rattle.rctl_parts.specs.MadeFor.{Scope, SideFits, ExprFits, ExprsFit, PieceFits, PiecesFit, EachFits, AllFit, names_watch, some_names_watch, part_names_watch, operand_names_watch, parts_name_watch, disjuncts_name_watch}
+use Rattle.rctl_parts.specs.MadeFor.{Scope, SideFits, VariableFits, DifferenceFits, OperatorFits, ExprFits, ExprsFit, PieceFits, PiecesFit, EachFits, AllFit, names_watch, some_names_watch, part_names_watch, operand_names_watch, parts_name_watch, disjuncts_name_watch}
 use Rattle.rctl_class.specs.declared.named.NamedSide.{NamedSide}
 use Rattle.rctl_class.specs.declared.named.NamedSide.TheVariants as side
+use Rattle.rctl_class.specs.Uses.{earlier}
 use Rattle.rctl_class.specs.NamedParts as named
 use Rattle.rctl_class.proofs.Alike.{none_both}
-use Rattle.rctl_names.specs.Numbers.{Watched, number, variables_of, variable_fault, process_fault, watch_fault, put, put_at, is_other, LocalName, a_variable, a_watch, side_names, local_names, all_local_names, local_fault, local_after, part_fault, operand_fault, part_after, operand_after, disjuncts_fault, disjuncts_after}
-use Rattle.rctl_names.specs.Resolving.{side_in, expr_in, exprs_in, piece_in, pieces_in}
-use Rattle.rctl_names.proofs.Lookups.{found_within, found_number}
+use Rattle.rctl_names.specs.Numbers.{Watched, number, variables_of, variable_fault, process_fault, watch_fault, put, put_at, is_other, LocalName, a_variable, a_watch, side_names, local_names, all_local_names, local_fault, local_after, counter_fault, part_fault, operand_fault, part_after, operand_after, disjuncts_fault, disjuncts_after}
+use Rattle.rctl_names.specs.Resolving.{side_in, expr_in, exprs_in, process_in, variable_in, piece_in, pieces_in}
+use Rattle.rctl_names.proofs.Lookups.{found_within, found_number, found_once}
 use Rattle.rctl_names.proofs.Joined.{after_names, part_names, operand_names, fault_joined, after_joined}
 use Rattle.rctl_names.proofs.Spells.{known_at, watch_known, variables_there}
 use Rattle.rctl_names.proofs.Tracks.{set_there, set_others, set_length, put_found, watch_free}
@@ -65,7 +72,10 @@ mutual
   part_keeps names s (named.at_most p q k) free = keeps_itself s
   part_keeps names s (named.at_least p q k) free = keeps_itself s
   part_keeps names s (named.never p q) free = keeps_itself s
+  part_keeps names s (named.diff_at_most p x q y k) free = keeps_itself s
+  part_keeps names s (named.diff_at_least p x q y k) free = keeps_itself s
   part_keeps names s (named.temporal o ps) free = operand_keeps names s ps free
+  part_keeps names s (named.next p ps) free = operand_keeps names s ps (none_both (process_fault names.processes p) (operand_fault names s ps) free).1
 
   operand_keeps : (names : Names) (s : Watched) (ps : named.Pieces) → operand_fault names s ps ≡ None → Keeps s (operand_after names s ps)
   operand_keeps names s named.no_piece free = keeps_itself s
@@ -183,6 +193,39 @@ local_fits names s t p e is constant free keeps =
     let P : ℕ → Type 0 = λ n. ExprFits n t.on k (expr_in (variables_of names p.name) names.watches e) in
     (constant_in (variables_of names p.name) names.watches e ∙ constant, process_within names s t p is both.0, subst P many fits)
 
+variable_fits : (names : Names) (s t : Watched) (p x : Place) → IsSized names s → counter_fault names p x ≡ None → VariableFits (scope_for names t) (process_in names p) (variable_in names p x)
+variable_fits names s t p x is free =
+    let both = none_both (process_fault names.processes p) (variable_fault (variables_of names p.name) x) free in
+    let at = known_at code.UnknownProcess names.processes p both.0 in
+    let many : length (variables_of names p.name) ≡ get_or (map (λ (v : List Name). length v) names.variables) (process_in names p) 0 =
+    ap length (variables_there names p at) ∙ sym (length_at names.variables (process_in names p)) in
+    let P : ℕ → Type 0 = λ n. variable_in names p x < n in
+    (process_within names s t p is both.0, subst P many (variable_within (variables_of names p.name) x both.1))
+
+-- processes of two names have two numbers
+numbers_apart : (names : List Name) (p q : Place) → bytes_eq p.name q.name ≡ false → process_fault names p ≡ None → process_fault names q ≡ None → number names p.name ≡ number names q.name → ⊥
+numbers_apart names p q apart known other e =
+    let a = known_at code.UnknownProcess names p known in
+    let b = known_at code.UnknownProcess names q other in
+    let same : a.at ≡ b.at = sym (found_number names p.name a.at a.found) ∙ e ∙ found_number names q.name b.at b.found in
+    false≢true (sym apart ∙ (bytes_eq-Decides p.name q.name).1 (found_once names p.name q.name b.at (a.found ∙ ap Some same) b.found))
+
+difference_fits : (names : Names) (s t : Watched) (p x q y : Place) (k : ℤ) → IsSized names s → named.DifferenceFits p q k → earlier (counter_fault names p x) (counter_fault names q y) ≡ None →
+    DifferenceFits (scope_for names t) (process_in names p) (variable_in names p x) (process_in names q) (variable_in names q y) k
+difference_fits names s t p x q y k is fits free =
+    let both = none_both (counter_fault names p x) (counter_fault names q y) free in
+    let left = none_both (process_fault names.processes p) (variable_fault (variables_of names p.name) x) both.0 in
+    let right = none_both (process_fault names.processes q) (variable_fault (variables_of names q.name) y) both.1 in
+    (variable_fits names s t p x is both.0, variable_fits names s t q y is both.1, numbers_apart names.processes p q fits.0 left.0 right.0, fits.1, fits.2)
+
+operator_fits : (scope : Scope) (o : Operator) → IsTrue (is_analysed (model_operator o)) → OperatorFits scope o
+operator_fits scope operator.Ef h = tt
+operator_fits scope operator.Ag h = tt
+operator_fits scope operator.Eg h = tt
+operator_fits scope (operator.Ex p) h = absurd (false≢true h)
+operator_fits scope operator.Af h = absurd (false≢true h)
+operator_fits scope operator.Ax h = absurd (false≢true h)
+
 part_sized : (names : Names) (s : Watched) (p : named.Piece) → IsSized names s → part_fault names s p ≡ None → IsSized names (part_after names s p)
 part_sized names s p is free = record { paired = is.paired; same = part_names names s p ∙ is.same; sized = (part_keeps names s p free).sized ∙ is.sized }
 
@@ -197,7 +240,12 @@ mutual
       let both = none_both (process_fault names.processes p) (process_fault names.processes q) free in
       (process_within names s t p is both.0, process_within names s t q is both.1, fits)
   piece_fits names s t (named.never p q) is fits free keeps = tt
-  piece_fits names s t (named.temporal o ps) is fits free keeps = (fits.0, operand_fits names s t ps is fits.1 free keeps)
+  piece_fits names s t (named.diff_at_most p x q y k) is fits free keeps = difference_fits names s t p x q y k is fits free
+  piece_fits names s t (named.diff_at_least p x q y k) is fits free keeps = difference_fits names s t p x q y k is fits free
+  piece_fits names s t (named.temporal o ps) is fits free keeps = (operator_fits (scope_for names t) o fits.0, operand_fits names s t ps is fits.1 free keeps)
+  piece_fits names s t (named.next p ps) is fits free keeps =
+      let both = none_both (process_fault names.processes p) (operand_fault names s ps) free in
+      (process_within names s t p is both.0, operand_fits names s t ps is fits both.1 keeps)
 
   operand_fits : (names : Names) (s t : Watched) (ps : named.Pieces) → IsSized names s → named.OperandFits ps → operand_fault names s ps ≡ None → Keeps (operand_after names s ps) t → PiecesFit (scope_for names t) (pieces_in names ps)
   operand_fits names s t named.no_piece is fits free keeps = tt
@@ -273,7 +321,10 @@ mutual
   part_others names w s (named.at_most p q k) same h = refl
   part_others names w s (named.at_least p q k) same h = refl
   part_others names w s (named.never p q) same h = refl
+  part_others names w s (named.diff_at_most p x q y k) same h = refl
+  part_others names w s (named.diff_at_least p x q y k) same h = refl
   part_others names w s (named.temporal o ps) same h = operand_others names w s ps same h
+  part_others names w s (named.next p ps) same h = operand_others names w s ps same h
 
   operand_others : (names : Names) (w : ℕ) (s : Watched) (ps : named.Pieces) → s.names ≡ names.watches → operand_names_watch w (pieces_in names ps) ≡ false → get_or (operand_after names s ps).on w None ≡ get_or s.on w None
   operand_others names w s named.no_piece same h = refl
@@ -303,7 +354,10 @@ mutual
   part_counted names (named.at_most p q k) = refl
   part_counted names (named.at_least p q k) = refl
   part_counted names (named.never p q) = refl
+  part_counted names (named.diff_at_most p x q y k) = refl
+  part_counted names (named.diff_at_least p x q y k) = refl
   part_counted names (named.temporal o ps) = ap (λ n. 1 + n) (operand_counted names ps)
+  part_counted names (named.next p ps) = ap (λ n. 1 + n) (operand_counted names ps)
 
   operand_counted : (names : Names) (ps : named.Pieces) → made.operand_count (pieces_in names ps) ≡ named.operand_count ps
   operand_counted names named.no_piece = refl

@@ -46,7 +46,10 @@ mutual
   part_names names s (named.at_most p q k) = refl
   part_names names s (named.at_least p q k) = refl
   part_names names s (named.never p q) = refl
+  part_names names s (named.diff_at_most p x q y k) = refl
+  part_names names s (named.diff_at_least p x q y k) = refl
   part_names names s (named.temporal o ps) = operand_names names s ps
+  part_names names s (named.next p ps) = operand_names names s ps
 
   pub operand_names : (names : Names) (s : Watched) (ps : named.Pieces) → (operand_after names s ps).names ≡ s.names
   operand_names names s named.no_piece = refl

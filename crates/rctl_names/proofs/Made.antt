@@ -1,17 +1,19 @@
 -- What the code makes of a local part, and that the names stay the same from part to part.
-use Rattle.std.proofs.Common.{◌≡◌, ℕ, zero, suc, ◌<◌, List, [], ◌∷◌, map, length, get_or, None, Some, sym, ap, refl, ◌∙◌, arith}
+use Rattle.std.proofs.Common.{◌≡◌, ℕ, ℤ, zero, suc, ◌<◌, List, [], ◌∷◌, map, length, get_or, None, Some, sym, ap, refl, ◌∙◌, arith}
 use Rattle.log_lines.specs.Names.{place_of}
 use Rattle.event_log.specs.declared.log.Binding.{Binding}
 use Rattle.rctl_grammar.specs.declared.tree.Place.{Place}
 use Rattle.rctl_parts.specs.Exprs as expr
 use Rattle.rctl_parts.specs.Pieces as piece
 use Rattle.rctl_parts.specs.Spelled.{Names}
+use Rattle.rctl_parts.specs.declared.part.Part.TheVariants as part
+use Rattle.rctl_parts.proofs.Folds.{piece-DiffAtMost, piece-DiffAtLeast}
 use Rattle.rctl_class.specs.NamedParts as named
 use Rattle.rctl_names.specs.declared.scope.Scope.{Scope}
 use Rattle.rctl_names.specs.declared.watches.Watches.{Watches}
-use Rattle.rctl_names.specs.Numbers.{Watched, number, or_zero, variables_of, variables_at, local_names, local_fault, local_after, operand_after, disjuncts_after}
+use Rattle.rctl_names.specs.Numbers.{Watched, number, or_zero, variables_of, variables_at, local_names, local_fault, local_after, counter_fault, difference_fault, operand_after, disjuncts_after}
 use Rattle.rctl_names.specs.Seen.{variables_in, processes_in, watched_in, names_in}
-use Rattle.rctl_names.specs.Resolving.{expr_in, piece_in, pieces_in, IsPieceIn}
+use Rattle.rctl_names.specs.Resolving.{expr_in, process_in, variable_in, piece_in, pieces_in, IsPieceIn}
 use Rattle.rctl_names.proofs.Joined.{operand_names, disjuncts_names}
 
 get_mapped : (vs : List (List Binding)) (n : ℕ) → get_or (map variables_in vs) n [] ≡ variables_in (get_or vs n [])
@@ -63,3 +65,16 @@ listed_of names (p ∷ ps) = ap (λ l. piece_in names p ∷ l) (listed_of names 
 pub listed_in : (others names : Names) (xs : List named.Piece) (made : List piece.Piece) → others ≡ names → piece.pieces made ≡ pieces_in others (named.pieces xs) → made ≡ map (piece_in names) xs
 listed_in others names xs made same is =
     sym (listed_back made) ∙ ap piece.listed (is ∙ ap (λ n. pieces_in n (named.pieces xs)) same) ∙ listed_of names xs
+
+-- ---- differences
+
+module _ (names : Names) (p x q y : Place) {i v j w : ℕ} {k made : ℤ} (left : counter_fault names p x ≡ None) (is_p : i ≡ process_in names p) (is_x : v ≡ variable_in names p x)
+    (right : counter_fault names q y ≡ None) (is_q : j ≡ process_in names q) (is_y : w ≡ variable_in names q y) (is_k : made ≡ k) where
+  difference_free : difference_fault names p x q y ≡ None
+  difference_free = rw (left, right) refl
+
+  pub at_most_made : (difference_fault names p x q y ≡ None) × (piece.piece_of (part.DiffAtMost i v j w made) ≡ piece_in names (named.diff_at_most p x q y k))
+  at_most_made = (difference_free, piece-DiffAtMost i v j w made ∙ rw (is_p, is_x, is_q, is_y, is_k) refl)
+
+  pub at_least_made : (difference_fault names p x q y ≡ None) × (piece.piece_of (part.DiffAtLeast i v j w made) ≡ piece_in names (named.diff_at_least p x q y k))
+  at_least_made = (difference_free, piece-DiffAtLeast i v j w made ∙ rw (is_p, is_x, is_q, is_y, is_k) refl)

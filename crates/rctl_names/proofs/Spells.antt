@@ -1,23 +1,26 @@
 -- The parts with numbers spell the formulas of the parts with names, and their numbers are there.
-use Rattle.std.proofs.Common.{◌≡◌, ℕ, true, List, [], ◌∷◌, map, get_or, Option, None, Some, sym, ap, refl, ◌∙◌, subst}
+use Rattle.std.proofs.Common.{◌≡◌, ℕ, ℤ, IsTrue, true, List, [], ◌∷◌, map, get_or, Option, None, Some, sym, ap, refl, ◌∙◌, subst}
 use Rattle.std.proofs.lemmas.Bool.{and_parts, false≢true}
 use Rattle.run_model.specs.Run.{Name}
 use Rattle.run_model.specs.Formula as model
+use Rattle.run_model.specs.Class.{is_analysed}
 use Rattle.log_lines.specs.Names.{place_of}
 use Rattle.rctl_grammar.specs.declared.fault.FormulaCode.{FormulaCode}
 use Rattle.rctl_grammar.specs.declared.fault.FormulaCode.TheVariants as code
+use Rattle.rctl_grammar.specs.declared.tree.Operator.{Operator}
+use Rattle.rctl_grammar.specs.declared.tree.Operator.TheVariants as operator
 use Rattle.rctl_grammar.specs.declared.tree.Place.{Place}
 use Rattle.rctl_grammar.specs.Shape.{relation_of, model_operator}
 use Rattle.rctl_parts.specs.Spelled as spelled
-use Rattle.rctl_parts.specs.Spelled.{Names, name_at, formula_in, formulas_in, formula_of, formulas_of}
+use Rattle.rctl_parts.specs.Spelled.{Names, name_at, variable_at, formula_in, formulas_in, operated, formula_of, formulas_of}
 use Rattle.rctl_class.specs.declared.named.NamedSide.{NamedSide}
 use Rattle.rctl_class.specs.declared.named.NamedSide.TheVariants as side
 use Rattle.rctl_class.specs.Uses.{earlier}
 use Rattle.rctl_class.specs.NamedParts as named
 use Rattle.rctl_class.specs.NamedParts.{side_formula, expr_formula, expr_formulas, part_formula, part_formulas, name_on}
 use Rattle.rctl_class.proofs.Alike.{none_both}
-use Rattle.rctl_names.specs.Numbers.{Watched, number, variables_of, variables_at, variable_fault, process_fault, watch_fault, watch_fault_at, unless_known, side_names, local_names, all_local_names, local_fault, local_after, part_fault, operand_fault, part_after, operand_after, disjuncts_fault}
-use Rattle.rctl_names.specs.Resolving.{side_in, expr_in, exprs_in, piece_in, pieces_in}
+use Rattle.rctl_names.specs.Numbers.{Watched, number, variables_of, variables_at, variable_fault, process_fault, watch_fault, watch_fault_at, unless_known, side_names, local_names, all_local_names, local_fault, local_after, counter_fault, part_fault, operand_fault, part_after, operand_after, disjuncts_fault}
+use Rattle.rctl_names.specs.Resolving.{side_in, expr_in, exprs_in, process_in, variable_in, piece_in, pieces_in}
 use Rattle.rctl_names.proofs.Lookups.{found_there, found_number}
 use Rattle.rctl_names.proofs.Joined.{after_names, part_names, operand_names, fault_joined}
 
@@ -119,6 +122,30 @@ channel_spelled names p q relation k free =
     ap (λ n. model.InTransit n (name_at names.processes (number names.processes q.name)) relation k) (process_named names p both.0)
     ∙ ap (λ n. model.InTransit p.name n relation k) (process_named names q both.1)
 
+variable_named : (names : Names) (p x : Place) → counter_fault names p x ≡ None → variable_at names (process_in names p) (variable_in names p x) ≡ x.name
+variable_named names p x free =
+    let both = none_both (process_fault names.processes p) (variable_fault (variables_of names p.name) x) free in
+    ap (λ v. name_at v (variable_in names p x)) (sym (variables_there names p (known_at code.UnknownProcess names.processes p both.0)))
+    ∙ named_back (variables_of names p.name) x.name (known_at code.UnknownVariable (variables_of names p.name) x both.1)
+
+difference_spelled : (names : Names) (p x q y : Place) (relation : model.Relation) (k : ℤ) → earlier (counter_fault names p x) (counter_fault names q y) ≡ None →
+    model.Difference (name_at names.processes (process_in names p)) (variable_at names (process_in names p) (variable_in names p x)) (name_at names.processes (process_in names q))
+    (variable_at names (process_in names q) (variable_in names q y)) relation k ≡ model.Difference p.name x.name q.name y.name relation k
+difference_spelled names p x q y relation k free =
+    let both = none_both (counter_fault names p x) (counter_fault names q y) free in
+    let left = none_both (process_fault names.processes p) (variable_fault (variables_of names p.name) x) both.0 in
+    let right = none_both (process_fault names.processes q) (variable_fault (variables_of names q.name) y) both.1 in
+    rw (process_named names p left.0, variable_named names p x both.0, process_named names q right.0, variable_named names q y both.1) refl
+
+-- an operator that is analysed is none of a process's number
+analysed_operated : (names : Names) (o : Operator) (f : model.Formula) → IsTrue (is_analysed (model_operator o)) → operated names o f ≡ model.Temporal (model_operator o) f
+analysed_operated names operator.Ef f h = refl
+analysed_operated names operator.Ag f h = refl
+analysed_operated names operator.Eg f h = refl
+analysed_operated names (operator.Ex p) f h = absurd (false≢true h)
+analysed_operated names operator.Af f h = absurd (false≢true h)
+analysed_operated names operator.Ax f h = absurd (false≢true h)
+
 mutual
   pub piece_spelled : (names : Names) (s : Watched) (p : named.Piece) → s.names ≡ names.watches → named.PartFits p → part_fault names s p ≡ None → formula_of names (piece_in names p) ≡ part_formula p
   piece_spelled names s (named.local None e) same fits free = constant_over_none names.watches e fits
@@ -126,7 +153,15 @@ mutual
   piece_spelled names s (named.at_most p q k) same fits free = channel_spelled names p q model.LessOrEqual k free
   piece_spelled names s (named.at_least p q k) same fits free = channel_spelled names p q model.GreaterOrEqual k free
   piece_spelled names s (named.never p q) same fits free = refl
-  piece_spelled names s (named.temporal o ps) same fits free = ap (λ fs. model.Temporal (model_operator o) (model.And fs)) (operand_spelled names s ps same fits.1 free)
+  piece_spelled names s (named.diff_at_most p x q y k) same fits free = difference_spelled names p x q y model.LessOrEqual k free
+  piece_spelled names s (named.diff_at_least p x q y k) same fits free = difference_spelled names p x q y model.GreaterOrEqual k free
+  piece_spelled names s (named.temporal o ps) same fits free =
+      analysed_operated names o (model.And (formulas_of names (pieces_in names ps))) fits.0
+      ∙ ap (λ fs. model.Temporal (model_operator o) (model.And fs)) (operand_spelled names s ps same fits.1 free)
+  piece_spelled names s (named.next p ps) same fits free =
+      let both = none_both (process_fault names.processes p) (operand_fault names s ps) free in
+      ap (λ n. model.Next n (model.And (formulas_of names (pieces_in names ps)))) (process_named names p both.0)
+      ∙ ap (λ fs. model.Next p.name (model.And fs)) (operand_spelled names s ps same fits both.1)
 
   operand_spelled : (names : Names) (s : Watched) (ps : named.Pieces) → s.names ≡ names.watches → named.OperandFits ps → operand_fault names s ps ≡ None → formulas_of names (pieces_in names ps) ≡ part_formulas ps
   operand_spelled names s named.no_piece same fits free = refl

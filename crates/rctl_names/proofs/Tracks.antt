@@ -19,7 +19,7 @@ use Rattle.rctl_class.specs.NamedParts as named
 use Rattle.rctl_class.specs.NamedParts.{expr_uses, all_expr_uses, part_uses, operand_uses, parts_uses, disjuncts_uses}
 use Rattle.rctl_class.proofs.Alike.{none_both}
 use Rattle.rctl_class.proofs.Names.{unknown_joined, seen_joined, operand_names}
-use Rattle.rctl_names.specs.Numbers.{Watched, number, variables_of, known_in, variable_fault, process_fault, watch_fault, watch_fault_at, unless_known, put, put_at, is_other, LocalName, a_variable, a_watch, local_names, all_local_names, local_fault, local_after, part_fault, operand_fault, part_after, operand_after, disjuncts_fault, disjuncts_after}
+use Rattle.rctl_names.specs.Numbers.{Watched, number, variables_of, known_in, variable_fault, process_fault, watch_fault, watch_fault_at, unless_known, put, put_at, is_other, LocalName, a_variable, a_watch, local_names, all_local_names, local_fault, local_after, counter_fault, difference_fault, part_fault, operand_fault, part_after, operand_after, disjuncts_fault, disjuncts_after}
 use Rattle.rctl_names.proofs.Lookups.{found_number, found_once, found_within, same_place}
 use Rattle.rctl_names.proofs.Spells.{watch_known}
 
@@ -232,15 +232,6 @@ earlier_none : (o : Option FormulaFault) → earlier o None ≡ o
 earlier_none None = refl
 earlier_none (Some f) = refl
 
-channel_follows : (names : Names) (seen : List Watching) (s : Watched) (p q : Place) → Tracks names seen s →
-    Follows names seen s (earlier (process_fault names.processes p) (process_fault names.processes q)) s (used.process p ∷ used.process q ∷ [])
-unfolding first_unknown seen_after
-channel_follows names seen s p q tracks = (
-  ap (λ f. earlier f (process_fault names.processes q)) (sym (unless_is code.UnknownProcess p (place_of names.processes p.name)))
-      ∙ ap (earlier (use_fault (known_in names) seen (used.process p))) (sym (earlier_none (use_fault (known_in names) seen (used.process q)) ∙ unless_is code.UnknownProcess q (place_of names.processes q.name))),
-  λ free. tracks,
-)
-
 then_follows : (names : Names) (seen : List Watching) (s t u : Watched) (fault rest : Option FormulaFault) (us vs : List Use) → Follows names seen s fault t us →
     ((fault ≡ None) → Follows names (seen_after seen us) t rest u vs) → Follows names seen s (earlier fault rest) u (us ++ vs)
 then_follows names seen s t u None rest us vs first next =
@@ -250,6 +241,40 @@ then_follows names seen s t u None rest us vs first next =
     )
 then_follows names seen s t u (Some f) rest us vs first next =
     (sym (unknown_joined (known_in names) seen us vs ∙ rw (← first.0) refl), λ free. absurd (cc))
+
+process_follows : (names : Names) (seen : List Watching) (s : Watched) (p : Place) → Tracks names seen s → Follows names seen s (process_fault names.processes p) s (used.process p ∷ [])
+unfolding first_unknown seen_after
+process_follows names seen s p tracks =
+    (sym (earlier_none (use_fault (known_in names) seen (used.process p)) ∙ unless_is code.UnknownProcess p (place_of names.processes p.name)), λ free. tracks)
+
+variable_follows : (names : Names) (seen : List Watching) (s : Watched) (p : Name) (x : Place) → Tracks names seen s →
+    Follows names seen s (variable_fault (variables_of names p) x) s (used.variable p x ∷ [])
+unfolding first_unknown seen_after
+variable_follows names seen s p x tracks =
+    (sym (earlier_none (use_fault (known_in names) seen (used.variable p x)) ∙ unless_is code.UnknownVariable x (place_of (variables_of names p) x.name)), λ free. tracks)
+
+next_follows : (names : Names) (seen : List Watching) (s u : Watched) (p : Place) (fault : Option FormulaFault) (us : List Use) → Tracks names seen s →
+    Follows names seen s fault u us → Follows names seen s (earlier (process_fault names.processes p) fault) u (used.process p ∷ us)
+unfolding seen_after
+next_follows names seen s u p fault us tracks inside =
+    then_follows names seen s s u (process_fault names.processes p) fault (used.process p ∷ []) us (process_follows names seen s p tracks) (λ free. inside)
+
+channel_follows : (names : Names) (seen : List Watching) (s : Watched) (p q : Place) → Tracks names seen s →
+    Follows names seen s (earlier (process_fault names.processes p) (process_fault names.processes q)) s (used.process p ∷ used.process q ∷ [])
+channel_follows names seen s p q tracks =
+    next_follows names seen s s p (process_fault names.processes q) (used.process q ∷ []) tracks (process_follows names seen s q tracks)
+
+counter_follows : (names : Names) (seen : List Watching) (s : Watched) (p x : Place) → Tracks names seen s →
+    Follows names seen s (counter_fault names p x) s (used.process p ∷ used.variable p.name x ∷ [])
+counter_follows names seen s p x tracks =
+    next_follows names seen s s p (variable_fault (variables_of names p.name) x) (used.variable p.name x ∷ []) tracks (variable_follows names seen s p.name x tracks)
+
+difference_follows : (names : Names) (seen : List Watching) (s : Watched) (p x q y : Place) → Tracks names seen s →
+    Follows names seen s (difference_fault names p x q y) s (used.process p ∷ used.variable p.name x ∷ used.process q ∷ used.variable q.name y ∷ [])
+unfolding seen_after
+difference_follows names seen s p x q y tracks =
+    then_follows names seen s s s (counter_fault names p x) (counter_fault names q y) (used.process p ∷ used.variable p.name x ∷ []) (used.process q ∷ used.variable q.name y ∷ [])
+    (counter_follows names seen s p x tracks) (λ free. counter_follows names seen s q y tracks)
 
 none_follows : (names : Names) (seen : List Watching) (s : Watched) → Tracks names seen s → Follows names seen s None s []
 unfolding first_unknown seen_after
@@ -264,7 +289,11 @@ mutual
   part_follows names seen s (named.at_most p q k) fits tracks = channel_follows names seen s p q tracks
   part_follows names seen s (named.at_least p q k) fits tracks = channel_follows names seen s p q tracks
   part_follows names seen s (named.never p q) fits tracks = channel_follows names seen s p q tracks
+  part_follows names seen s (named.diff_at_most p x q y k) fits tracks = difference_follows names seen s p x q y tracks
+  part_follows names seen s (named.diff_at_least p x q y k) fits tracks = difference_follows names seen s p x q y tracks
   part_follows names seen s (named.temporal o ps) fits tracks = operand_follows names seen s ps fits.1 tracks
+  part_follows names seen s (named.next p ps) fits tracks =
+      next_follows names seen s (operand_after names s ps) p (operand_fault names s ps) (operand_uses ps) tracks (operand_follows names seen s ps fits tracks)
 
   operand_follows : (names : Names) (seen : List Watching) (s : Watched) (ps : named.Pieces) → named.OperandFits ps → Tracks names seen s →
       Follows names seen s (operand_fault names s ps) (operand_after names s ps) (operand_uses ps)

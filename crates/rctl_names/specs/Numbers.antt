@@ -59,6 +59,15 @@ abbrev pub variable_fault : List Name → Place → Option FormulaFault
 variable_fault variables place =
     unless_known code.UnknownVariable place (place_of variables place.name)
 
+-- what is wrong with a variable of a process: the name of the process, or that of the variable
+abbrev pub counter_fault : Names → Place → Place → Option FormulaFault
+counter_fault names p x =
+    earlier (process_fault names.processes p) (variable_fault (variables_of names p.name) x)
+
+-- that of a difference: of its left side, else of its right one
+abbrev pub difference_fault : Names → Place → Place → Place → Place → Option FormulaFault
+difference_fault names p x q y = earlier (counter_fault names p x) (counter_fault names q y)
+
 -- the watches, and the process that each is on so far
 pub record Watched : Type 0 where
   pub names : List Name
@@ -150,7 +159,11 @@ abbrev mutual
       earlier (process_fault names.processes p) (process_fault names.processes q)
   part_fault names s (named.never p q) =
       earlier (process_fault names.processes p) (process_fault names.processes q)
+  part_fault names s (named.diff_at_most p x q y k) = difference_fault names p x q y
+  part_fault names s (named.diff_at_least p x q y k) = difference_fault names p x q y
   part_fault names s (named.temporal operator ps) = operand_fault names s ps
+  part_fault names s (named.next p ps) =
+      earlier (process_fault names.processes p) (operand_fault names s ps)
 
   -- that of the parts of an operand
   pub operand_fault : Names → Watched → Pieces → Option FormulaFault
@@ -166,7 +179,10 @@ abbrev mutual
   part_after names s (named.at_most p q k) = s
   part_after names s (named.at_least p q k) = s
   part_after names s (named.never p q) = s
+  part_after names s (named.diff_at_most p x q y k) = s
+  part_after names s (named.diff_at_least p x q y k) = s
   part_after names s (named.temporal operator ps) = operand_after names s ps
+  part_after names s (named.next p ps) = operand_after names s ps
 
   -- those behind an operand
   pub operand_after : Names → Watched → Pieces → Watched

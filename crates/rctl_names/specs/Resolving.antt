@@ -4,6 +4,7 @@ use Rattle.run_model.specs.Run.{Name}
 use Rattle.event_log.specs.declared.log.Binding.{Binding}
 use Rattle.event_log.specs.declared.log.Header.{Header}
 use Rattle.event_log.specs.States.{IsHeader}
+use Rattle.rctl_grammar.specs.declared.tree.Operator.TheVariants as operator
 use Rattle.rctl_grammar.specs.declared.tree.Place.{Place}
 use Rattle.rctl_parts.specs.declared.expr.LocalSide.{LocalSide}
 use Rattle.rctl_parts.specs.declared.expr.LocalSide.TheVariants as number_side
@@ -61,16 +62,31 @@ local_in names (Some p) e =
     piece.local (Some (number names.processes p.name))
     (expr_in (variables_of names p.name) names.watches e)
 
+-- the number of a process, and that of one of its variables
+abbrev pub process_in : Names → Place → ℕ
+process_in names p = number names.processes p.name
+
+abbrev pub variable_in : Names → Place → Place → ℕ
+variable_in names p x = number (variables_of names p.name) x.name
+
 abbrev mutual
   -- a part
   pub piece_in : Names → named.Piece → piece.Piece
   piece_in names (named.local on e) = piece.atom (local_in names on e)
   piece_in names (named.at_most p q k) =
-      piece.atom (piece.at_most (number names.processes p.name) (number names.processes q.name) k)
+      piece.atom (piece.at_most (process_in names p) (process_in names q) k)
   piece_in names (named.at_least p q k) =
-      piece.atom (piece.at_least (number names.processes p.name) (number names.processes q.name) k)
+      piece.atom (piece.at_least (process_in names p) (process_in names q) k)
   piece_in names (named.never p q) = piece.atom piece.never
+  piece_in names (named.diff_at_most p x q y k) =
+      piece.atom (piece.diff_at_most (process_in names p) (variable_in names p x)
+      (process_in names q) (variable_in names q y) k)
+  piece_in names (named.diff_at_least p x q y k) =
+      piece.atom (piece.diff_at_least (process_in names p) (variable_in names p x)
+      (process_in names q) (variable_in names q y) k)
   piece_in names (named.temporal operator ps) = piece.temporal operator (pieces_in names ps)
+  piece_in names (named.next p ps) =
+      piece.temporal (operator.Ex (process_in names p)) (pieces_in names ps)
 
   -- the parts of an operand
   pub pieces_in : Names → named.Pieces → piece.Pieces

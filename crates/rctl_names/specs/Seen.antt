@@ -1,5 +1,5 @@
 -- What the code's values show.
-use Rattle.std.specs.Prelude.{List, map}
+use Rattle.std.specs.Prelude.{List, [], map}
 use Rattle.run_model.specs.Run.{Name}
 use Rattle.event_log.specs.declared.log.Binding.{Binding}
 use Rattle.event_log.specs.declared.log.Header.{Header}
@@ -29,6 +29,15 @@ watched_in watches = record { names = watches.names.now; on = watches.on }
 -- the names of the variables of a process
 abbrev pub variables_on : Process → List Name
 variables_on on = variables_in on.variables.now
+
+-- the names of a scope alone
+abbrev pub header_names : Scope → Names
+header_names scope =
+    record {
+      processes = scope.processes.now;
+      variables = map variables_in scope.variables.now;
+      watches = [];
+    }
 
 -- the names of a scope and of the watches beside it
 abbrev pub names_in : Scope → Watches → Names

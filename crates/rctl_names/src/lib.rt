@@ -4,8 +4,9 @@
 //! `resolve` gives parts that spell the very formulas of the parts by names and that are made for
 //! the header and the watches (`IsResolved`), or exactly the first name, from left to right, that
 //! is unknown or is a watch on a second process. Laws: the formula that the parts spell is true
-//! where the formula that was read is (`resolved_parts_mean_the_formula`), and the names of the
-//! parts have the first fault of the names of the text (`faults_are_in_the_order_of_the_text`).
+//! where the formula that was read is (`resolved_parts_mean_the_formula`), they have its counters
+//! (`resolved_parts_have_the_counters_of_the_formula`), and the names of the parts have the first
+//! fault of the names of the text (`faults_are_in_the_order_of_the_text`).
 //! *Not said*: that memory suffices. Processes, variables and watches are few by the condition, so
 //! that numbers fit in 32 bits.
 #![tactic(auto)]
@@ -18,6 +19,7 @@ ghost use Rattle.rctl_names.specs.Seen.{names_of};
 ghost use Rattle.rctl_parse.specs.Reading.{Faults};
 ghost use Rattle.std.specs.Prelude.{◌≡◌, [], MatchResult, Some};
 
+mod difference;
 mod exprs;
 mod laws;
 mod numbers;
@@ -27,7 +29,10 @@ mod scope;
 mod watches;
 
 use event_log::Header;
-pub use laws::{faults_are_in_the_order_of_the_text, resolved_parts_mean_the_formula};
+pub use laws::{
+    faults_are_in_the_order_of_the_text, resolved_parts_have_the_counters_of_the_formula,
+    resolved_parts_mean_the_formula,
+};
 use parts::resolve_disjuncts;
 use pota_base::{List, Refused};
 use pota_names::Name;

@@ -10,6 +10,7 @@ ghost use Rattle.rctl_parse.specs.Reading.{Faults};
 ghost use Rattle.rctl_parts.specs.Pieces.{disjuncts_of, piece_of, pieces, pieces_of};
 ghost use Rattle.std.specs.Prelude.{◌≡◌, MatchResult, None, Some};
 
+use crate::difference::{at_least, at_most};
 use crate::exprs::resolve_expr;
 use crate::numbers::process_number;
 use crate::process::Process;
@@ -17,7 +18,7 @@ use crate::scope::Scope;
 use crate::watches::Watches;
 use pota_base::List;
 use rctl_class::{NamedExpr, NamedPart, Stop};
-use rctl_grammar::Place;
+use rctl_grammar::{Operator, Place};
 use rctl_parts::Part;
 use std::alloc::Global;
 
@@ -137,11 +138,33 @@ fn resolve_part(
             let _receiver = process_number(scope, receiver)?;
             Ok(Part::Never)
         }
+        NamedPart::DiffAtMost {
+            left_process,
+            left,
+            right_process,
+            right,
+            k,
+        } => at_most(scope, left_process, left, right_process, right, *k),
+        NamedPart::DiffAtLeast {
+            left_process,
+            left,
+            right_process,
+            right,
+            k,
+        } => at_least(scope, left_process, left, right_process, right, *k),
         NamedPart::Temporal { operator, parts } => {
             let parts = resolve_parts(alloc, scope, watches, parts.as_slice())?;
             Ok(Part::Temporal {
                 operator: *operator,
                 parts,
+            })
+        }
+        NamedPart::Next { process, parts } => {
+            let number = process_number(scope, process)?;
+            let operand = resolve_parts(alloc, scope, watches, parts.as_slice())?;
+            Ok(Part::Temporal {
+                operator: Operator::Ex(number),
+                parts: operand,
             })
         }
     }
