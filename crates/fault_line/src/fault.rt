@@ -1,0 +1,62 @@
+//! Why a run gave no verdict.
+ghost use Rattle.std.specs.Prelude.{◌≡◌};
+ghost use Rattle.fault_line.specs.Faults.{status_of, fault_of_question, fault_of_refusal};
+
+use event_log::LogFault;
+use log_judgement::Refusal;
+use pota_base::Status;
+use rctl_parse::FormulaFault;
+use run_request::QuestionFault;
+
+/// Why a run gave no verdict.
+#[derive(Clone, Copy, Debug, PartialEq, Eq)]
+pub enum Fault {
+    /// The words are refused.
+    Usage,
+    /// The formula's text is faulty, or the formula is outside the class.
+    Formula(FormulaFault),
+    /// The log is faulty.
+    Log(LogFault),
+    /// The log could not be read.
+    Read,
+    /// The report could not be written.
+    Write,
+    /// There was no memory.
+    Memory,
+}
+
+impl Fault {
+    /// What is wrong with the words or their formula.
+    pub fn of_question(fault: QuestionFault) -> Fault
+        ensures { result ≡ fault_of_question fault }
+    {
+        match fault {
+            QuestionFault::Usage => Fault::Usage,
+            QuestionFault::Formula(fault) => Fault::Formula(fault),
+        }
+    }
+
+    /// Why a log is refused.
+    pub fn of_refusal(refusal: Refusal) -> Fault
+        ensures { result ≡ fault_of_refusal refusal }
+    {
+        match refusal {
+            Refusal::Formula(fault) => Fault::Formula(fault),
+            Refusal::Log(fault) => Fault::Log(fault),
+        }
+    }
+
+    /// The status of a run that ended so.
+    pub fn status(&self) -> Status
+        ensures { result ≡ status_of self.now }
+    {
+        match self {
+            Fault::Usage => Status::Usage,
+            Fault::Formula(_) => Status::Formula,
+            Fault::Log(_) => Status::Log,
+            Fault::Read => Status::ReadFault,
+            Fault::Write => Status::WriteFault,
+            Fault::Memory => Status::OutOfMemory,
+        }
+    }
+}

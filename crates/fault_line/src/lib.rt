@@ -1,0 +1,13 @@
+//! Why a run gave no verdict, its status, and the one line that tells of it.
+//!
+//! `tell` writes the line of a program's name and a fault, and nothing where there is none. Its
+//! texts are those of `specs/Lines.antt` and `specs/FaultText.antt`, byte for byte, and it takes no
+//! memory.
+#![tactic(auto)]
+
+mod fault;
+mod line;
+mod texts;
+
+pub use fault::Fault;
+pub use line::tell;
