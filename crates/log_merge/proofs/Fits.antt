@@ -73,7 +73,7 @@ length-all_events [] = refl
 length-all_events (b ∷ bs) = omega (arith, length-append b (all_events bs), length-all_events bs)
 
 -- one batch has the events of all
-in_one : (s : Log) → events_of (in_one_batch s) ≡ events_of s
+pub in_one : (s : Log) → events_of (in_one_batch s) ≡ events_of s
 in_one s = append-nil (events_of s)
 
 one_batch_fits : (s : Log) → IsSource s → IsSource (in_one_batch s)

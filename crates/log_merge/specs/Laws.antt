@@ -1,5 +1,6 @@
 -- Which sources can be merged, and that their order doesn't matter.
-use Rattle.std.specs.Prelude.{◌≡◌, ◌↔◌, ℕ, ◌<◌, ◌≤◌, true, List, length, None, count_by, Contains}
+use Rattle.std.specs.Prelude.{◌≡◌, ◌↔◌, ℕ, ◌<◌, ◌≤◌, true, List, length, map, None, count_by}
+use Rattle.std.specs.Prelude.{Contains}
 use Rattle.std.specs.List.{AllByRecursion}
 use Rattle.std.specs.List.Sorted.{IsPermutation}
 use Rattle.event_log.specs.declared.log.Header.{Header}
@@ -8,7 +9,7 @@ use Rattle.event_log.specs.LogText.{HeaderFits, EventFits, LogFits, HasVarLines}
 use Rattle.vector_clock.specs.Events.{CanBeChecked}
 use Rattle.log_merge.specs.Sources.{IsSource, in_one_batch, has_lines_of, events_in}
 use Rattle.log_merge.specs.Faults.{merge_fault}
-use Rattle.log_merge.specs.Merging.{merged_header, merged_events, numbered, merged_log}
+use Rattle.log_merge.specs.Merging.{merged_header, merged_events, numbered, merged_log, merged}
 
 -- two headers of one version and of the same processes
 pub record StartAlike (g h : Header) : Type 0 where
@@ -52,3 +53,9 @@ MergedLogsFit = (sources : List Log) → 0 < length sources → AllByRecursion I
 abbrev pub LogsAreSources : Type 0
 LogsAreSources = (log : Log) → LogFits log → HasVarLines log.header
     → IsSource log × IsSource (in_one_batch log)
+
+-- with all its events in one batch each source is as good
+abbrev pub BatchesDoNotMatter : Type 0
+BatchesDoNotMatter = (sources : List Log)
+    → (merge_fault (map in_one_batch sources) ≡ merge_fault sources)
+    × (merged (map in_one_batch sources) ≡ merged sources)

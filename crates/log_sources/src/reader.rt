@@ -119,8 +119,8 @@ impl SourceReader {
         }
         let draft = mem::replace(&mut self.draft, Draft::new(self.alloc));
         let log = draft.into_log(self.alloc)?;
-        if let Err(fault) = self.joined.join(self.sources.as_slice(), &log) {
-            self.fault = Some(fault);
+        if let Err(refusal) = self.joined.join(self.sources.as_slice(), &log) {
+            self.fault = Some(refusal);
             return Ok(());
         }
         self.sources.push(log)?;

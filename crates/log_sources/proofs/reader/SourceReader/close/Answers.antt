@@ -20,7 +20,7 @@ join-requires-clause-source c =
 pub returns-in-Err : goal.returns-in-Err
 returns-in-Err c = λ s reads.
     let none : c.finish.result ≡ None = none_value c.finish.result (sym c.is_some.ensures ∙ c.if-is_some.false) in
-    not_joined c.args.self.now c.in_ok-log.log s reads (sym (c.finish.ensures.fault s.now reads.log) ∙ none) (c.in_ok-log.ensures ∙ ap log_of c.replace-draft.ensures.value) _ c.in-Err.fault (rw c.as_slice.ensures at c.in-Err.ensures.fault) refl
+    not_joined c.args.self.now c.in_ok-log.log s reads (sym (c.finish.ensures.fault s.now reads.log) ∙ none) (c.in_ok-log.ensures ∙ ap log_of c.replace-draft.ensures.value) _ c.in-Err.refusal (rw c.as_slice.ensures at c.in-Err.ensures.fault) refl
 
 pub returns : goal.returns
 returns c = λ s reads.
