@@ -1,5 +1,5 @@
 -- Pulls and answers of parts that are put behind those of others.
-use Rattle.std.proofs.Common.{◌≡◌, ℕ, suc, zero, ◌+◌, ◌*◌, ◌≤◌, Bool, true, false, List, [], ◌∷◌, ◌++◌, length, take, get_or, flat_map, All, refl, sym, ◌∙◌, ap, subst, arith, append_assoc, append-nil, length-append, ◌<◌}
+use Rattle.std.proofs.Common.{◌≡◌, ℕ, ◌+◌, Bool, true, false, List, [], ◌∷◌, ◌++◌, length, refl, sym, ◌∙◌, ap, arith, append_assoc, append-nil, length-append}
 use Rattle.std.specs.Prelude.{◌↔◌, ◌&&◌}
 use Rattle.std.proofs.lemmas.List.Elements.{All-append}
 use Rattle.std.proofs.lemmas.Grind.{flat_map-append}
@@ -7,19 +7,20 @@ use Rattle.run_model.proofs.EdgeLemmas.{all_left, all_right}
 use Rattle.run_model.specs.Cut.{Cut, IsWithin}
 use Rattle.run_model.specs.Run.{Run}
 use Rattle.run_model.specs.Consistent.{IsConsistent}
-use Rattle.run_model.specs.Meaning.{Sat, SatAll}
+use Rattle.run_model.specs.Meaning.{SatAll}
 use Rattle.pull_system.specs.declared.pull.Pull.{Pull}
 use Rattle.pull_system.specs.System.{IsPull}
 use Rattle.pull_system.specs.Pulls.{HoldsAt, ClosedUnder}
 use Rattle.rctl_parts.specs.Pieces.{Piece, pieces}
-use Rattle.rctl_parts.specs.Spelled.{Names, formulas_of, conjunction_of}
+use Rattle.rctl_parts.specs.Spelled.{Names, formulas_of}
 use Rattle.conjunctions.specs.declared.observed.Observed.{Observed}
 use Rattle.conjunctions.specs.declared.answer.PartAnswer.{PartAnswer}
-use Rattle.conjunctions.specs.Observing.{Reading, AreAnswers, clocks_seen, lens_seen, run_seen, names_seen}
-use Rattle.conjunctions.specs.Numbering.{is_atom, all_atoms}
-use Rattle.conjunctions.specs.Counting.{rooms_of, room_of}
+use Rattle.conjunctions.specs.Observing.{clocks_seen, lens_seen, run_seen, names_seen}
+use Rattle.conjunctions.specs.Numbering.{is_atom, all_atoms, gives_order}
+use Rattle.conjunctions.specs.Counting.{rooms_of}
 use Rattle.conjunctions.specs.Systems.{AddsPulls, pulls_of_part, pulls_of_parts}
 use Rattle.conjunctions.specs.Answering.{Place, places_from, ArePartAnswers, AddsAnswers}
+use Rattle.conjunctions.proofs.Ordering.{gives_right}
 
 -- ---- lists of parts
 
@@ -54,17 +55,6 @@ pub atoms_right : (ps qs : List Piece) → all_atoms (ps ++ qs) ≡ true → all
 atoms_right [] qs h = h
 atoms_right (p ∷ ps) qs h = atoms_right ps qs (and_right (is_atom p) (all_atoms (ps ++ qs)) h)
 
-and_rest : (a b : Bool) → a ≡ true → (a && b) ≡ false → b ≡ false
-and_rest true b h some = some
-and_rest false b h some = absurd (cc)
-
--- where the first parts are atoms, a temporal one is among the others
-temporal_right : (ps qs : List Piece) → all_atoms ps ≡ true → all_atoms (ps ++ qs) ≡ false → all_atoms qs ≡ false
-temporal_right [] qs h some = some
-temporal_right (p ∷ ps) qs h some =
-    let first = and_left (is_atom p) (all_atoms ps) h in
-    temporal_right ps qs (and_right (is_atom p) (all_atoms ps) h) (and_rest (is_atom p) (all_atoms (ps ++ qs)) first some)
-
 -- ---- pulls
 
 pub closed_none : (c : Cut) → ClosedUnder [] c
@@ -77,7 +67,7 @@ adds_none seen pulls = record {
   fit = λ k d there. absurd (omega arith);
   few = omega arith;
   meaning = λ reading are c consistent. (λ h. tt, λ h. closed_none c);
-  orders = λ temporal. absurd (cc);
+  orders = λ gives. absurd (cc);
   own = λ atoms. refl;
 }
 
@@ -94,18 +84,17 @@ adds_more seen a b c ps qs first second = record {
         λ h. joined.1 (early.0 (all_left (HoldsAt cut) first.added second.added h), late.0 (all_right (HoldsAt cut) first.added second.added h)),
         λ h. All-append (HoldsAt cut) first.added second.added (early.1 (joined.0 h).0) (late.1 (joined.0 h).1),
       );
-  orders = λ temporal cut shaped within closed. ordered (all_atoms ps) refl temporal cut shaped within closed;
+  orders = λ gives cut shaped within closed. ordered (gives_order ps) refl gives cut shaped within closed;
   own = λ atoms.
       let early = first.own (atoms_left ps qs atoms) in
       let late = second.own (atoms_right ps qs atoms) in
       ap (λ pulls. pulls ++ second.added) early ∙ ap (λ pulls. pulls_of_parts seen ps ++ pulls) late ∙ sym (flat_map-append (pulls_of_part seen) ps qs);
 }
   where
-    ordered : (atoms : Bool) → all_atoms ps ≡ atoms → all_atoms (ps ++ qs) ≡ false → (cut : Cut) → length cut ≡ length (clocks_seen seen) → IsWithin cut (lens_seen seen)
+    ordered : (gives : Bool) → gives_order ps ≡ gives → gives_order (ps ++ qs) ≡ true → (cut : Cut) → length cut ≡ length (clocks_seen seen) → IsWithin cut (lens_seen seen)
         → ClosedUnder (first.added ++ second.added) cut → IsConsistent (clocks_seen seen) cut
-    ordered false is temporal cut shaped within closed = first.orders is cut shaped within (all_left (HoldsAt cut) first.added second.added closed)
-    ordered true is temporal cut shaped within closed =
-        second.orders (temporal_right ps qs is temporal) cut shaped within (all_right (HoldsAt cut) first.added second.added closed)
+    ordered true is gives cut shaped within closed = first.orders is cut shaped within (all_left (HoldsAt cut) first.added second.added closed)
+    ordered false is gives cut shaped within closed = second.orders (gives_right ps qs is gives) cut shaped within (all_right (HoldsAt cut) first.added second.added closed)
 
 -- ---- answers
 

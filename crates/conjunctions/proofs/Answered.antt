@@ -1,15 +1,14 @@
 -- The disjuncts of a formula, one after the other.
-use Rattle.std.proofs.Common.{◌≡◌, ◌⊎◌, ℕ, suc, zero, ◌+◌, ◌<◌, ◌≤◌, Bool, true, false, List, [], ◌∷◌, ◌++◌, length, map, take, drop, get_or, sum, replicate, flat_map, Option, Some, None, refl, sym, ◌∙◌, ap, subst, arith, append_assoc, append-nil, add-one, inl, inr, rules}
+use Rattle.std.proofs.Common.{◌≡◌, ◌⊎◌, ℕ, suc, zero, ◌+◌, ◌<◌, ◌≤◌, Bool, true, false, List, [], ◌∷◌, ◌++◌, length, take, drop, get_or, sum, replicate, Option, Some, None, refl, sym, ◌∙◌, ap, subst, arith, append_assoc, append-nil, add-one, inl, inr, rules}
 use Rattle.std.specs.Prelude.{◌↔◌, ◌||◌, IsTrue}
 use Rattle.std.proofs.lemmas.Grind.{flat_map-append}
 use Rattle.std.proofs.lemmas.List.Concat.{flat_map-cons}
 use Rattle.std.proofs.lemmas.List.{length-map, length-take-le, take_all, length-replicate}
 use Rattle.run_model.specs.Cut.{Cut, Clocks, initial, lengths}
-use Rattle.run_model.specs.Consistent.{IsOrder, IsConsistent, IsEvent}
-use Rattle.run_model.specs.Sublattice.{Smallest, given, Either}
-use Rattle.run_model.specs.Slice.{Slice, StandsFor, Fits, Cuts, IsLeastOf, HasWithin}
-use Rattle.run_model.specs.Meaning.{Sat, SatAll, Family}
-use Rattle.run_model.proofs.Counts.{length-lengths}
+use Rattle.run_model.specs.Consistent.{IsOrder}
+use Rattle.run_model.specs.Sublattice.{Smallest, Either}
+use Rattle.run_model.specs.Slice.{StandsFor, Cuts, IsLeastOf, HasWithin}
+use Rattle.run_model.specs.Meaning.{Sat, Family}
 use Rattle.run_model.proofs.Orders.{initial_consistent}
 use Rattle.run_model.proofs.JoinLemmas.{smallest_in}
 use Rattle.pull_system.specs.Rows.{RowsView}
@@ -211,8 +210,3 @@ disjunct_floors seen workers round now s t ds d later floors settles =
   where
     split : all_conjunctions (ds ++ d ∷ later) ≡ all_conjunctions ds ++ (conjunctions_in d ++ all_conjunctions later)
     split = flat_map-append conjunctions_in ds (d ∷ later) ∙ ap (λ cs. all_conjunctions ds ++ cs) (flat_map-cons conjunctions_in d later)
-
--- the initial cut as the code makes it
-pub initial_is : (seen : Observed) (n : ℕ) → n ≡ length (lens_seen seen) → replicate n 0 ≡ initial (clocks_seen seen)
-unfolding initial
-initial_is seen n is = ap (λ m. replicate m 0) (is ∙ length-lengths (clocks_seen seen))

@@ -1,16 +1,16 @@
 -- What atoms ask of cuts.
-use Rattle.std.proofs.Common.{◌≡◌, ℕ, suc, zero, ◌+◌, ◌<◌, ◌≤◌, Bool, true, false, List, [], ◌∷◌, ◌++◌, length, map, take, get_or, count_by, All, Option, Some, None, refl, sym, ◌∙◌, ap, subst, arith}
-use Rattle.std.specs.Prelude.{◌↔◌, IsTrue, ◌==◌, unwrap_or}
+use Rattle.std.proofs.Common.{◌≡◌, ℕ, ◌+◌, ◌<◌, ◌≤◌, Bool, true, false, List, [], ◌∷◌, length, map, get_or, All, ℤ, ◌-ℤ◌, ◌≤ℤ◌, Option, Some, None, refl, sym, ◌∙◌, ap, subst, arith}
+use Rattle.std.specs.Prelude.{◌↔◌, IsTrue, ◌==◌, unwrap_or, pos, neg_ℤ, ◌^◌, FitsSigned}
+use Rattle.std.specs.Int.{w128}
+use Rattle.std.proofs.lemmas.Int.{ints, fits_signed_from_abs}
 use Rattle.std.proofs.Math.ListN.{get_or-map}
 use Rattle.std.proofs.lemmas.List.{length-map}
 use Rattle.event_log.specs.declared.log.Binding.{Binding}
 use Rattle.event_log.specs.declared.log.Event.{Event}
 use Rattle.vector_clock.specs.Events.{clocks_of}
-use Rattle.std.specs.List.{range_with_len}
 use Rattle.std.proofs.lemmas.Bool.Decides.{Decides-eqb}
 use Rattle.run_model.specs.Cut.{Cut, Clocks, count, initial, lengths}
 use Rattle.run_model.specs.Consistent.{IsConsistent}
-use Rattle.run_model.specs.Run as run
 use Rattle.run_model.specs.Meaning.{Sat}
 use Rattle.run_model.proofs.Counts.{count-initial}
 use Rattle.run_model.proofs.Orders.{initial_consistent}
@@ -20,12 +20,12 @@ use Rattle.pull_system.specs.declared.pull.Pull.{Pull}
 use Rattle.pull_system.specs.System.{IsPull}
 use Rattle.pull_system.specs.Pulls.{ClosedUnder}
 use Rattle.rctl_parts.specs.Exprs.{Expr}
-use Rattle.rctl_parts.specs.Pieces.{Atom, Piece, atom, temporal, local, at_most, at_least, never}
-use Rattle.rctl_parts.specs.MadeFor.{AtomFits, LocalFits, ExprFits}
-use Rattle.rctl_parts.specs.Spelled.{atom_formula}
+use Rattle.rctl_parts.specs.Pieces.{Atom, Piece, atom, temporal, local, at_most, at_least, never, diff_at_most, diff_at_least}
+use Rattle.rctl_parts.specs.MadeFor.{AtomFits, LocalFits, ExprFits, VariableFits}
+use Rattle.rctl_parts.specs.Spelled.{atom_formula, name_at, variable_at}
 use Rattle.local_preds.specs.LocalPulls.{constant_pulls_of}
 use Rattle.local_preds.specs.LocalRuns.{constant_truth, FitsProcess}
-use Rattle.local_preds.specs.Rows.{IsReadableAt, truths_of, truth_at, len_at}
+use Rattle.local_preds.specs.Rows.{IsReadableAt, truths_of}
 use Rattle.local_preds.specs.LocalPulls.{local_pull}
 use Rattle.local_preds.proofs.Expressions.{fitting_readable, constant_readable, same_constant}
 use Rattle.local_preds.proofs.RowSteps.{length-truths}
@@ -40,6 +40,15 @@ use Rattle.conjunctions.specs.declared.observed.Observed.{Observed}
 use Rattle.conjunctions.specs.Observing.{Reading, AreAnswers, clocks_seen, lens_seen, run_seen, names_seen, scope_seen, AreFull}
 use Rattle.conjunctions.specs.Numbering.{is_atom}
 use Rattle.conjunctions.specs.Systems.{pulls_of_atom, IsAtomOf}
+use Rattle.conjunctions.specs.Counters.{AllRise, counter, counters_of_atom}
+use Rattle.conjunctions.proofs.Rising.{none_rise, left_rises, right_rises}
+use Rattle.counter_preds.specs.declared.values.Variable.{Variable}
+use Rattle.counter_preds.specs.Counters.{IsVariable, AreThere, value_in, value_within}
+use Rattle.counter_preds.specs.Truth as counters
+use Rattle.counter_preds.proofs.Meaning as counter_meaning
+use Rattle.event_log.specs.Numbers.{binding_names}
+use Rattle.run_model.specs.Run.{Name}
+use Rattle.run_model.specs.Formula.{Difference, LessOrEqual, GreaterOrEqual}
 
 counted : (events : List (List Event)) → map length (clocks_of events) ≡ map length events
 counted [] = refl
@@ -70,27 +79,53 @@ few_pulls seen (local (Some p) e) = omega arith
 few_pulls seen (at_most p q k) = omega arith
 few_pulls seen (at_least p q k) = omega arith
 few_pulls seen never = few_constant (lens_of seen.trace.states) false
+few_pulls seen (diff_at_most p x q y k) = omega arith
+few_pulls seen (diff_at_least p x q y k) = omega arith
 
 first_within : (seen : Observed) → IsTrace seen.trace.states → (c : Cut) → IsConsistent (clocks_seen seen) c → count c 0 ≤ count (lens_of seen.trace.states) 0
 first_within seen trace c consistent = subst (λ (lens : List ℕ). count c 0 ≤ count lens 0) (lens_same seen trace) (consistent.within 0)
 
+-- the variable of a number is there, and its name is the header's
+pub is_variable : (seen : Observed) → IsTrace seen.trace.states → (p x : ℕ) → VariableFits (scope_seen seen) p x → IsVariable seen.trace.states (counter p x)
+is_variable seen trace p x fits = record {
+  process = there seen trace p fits.0;
+  variable = subst (λ (n : ℕ). x < n) (get_or-map (λ (vs : List Binding). length vs) seen.trace.states.header.vars p []) fits.1;
+}
+
+pub variable_name : (seen : Observed) (reading : Reading) (p x : ℕ) → variable_at (names_seen seen reading) p x ≡ counters.variable_of seen.trace.states (counter p x)
+variable_name seen reading p x = ap (λ (names : List Name). name_at names x) (get_or-map binding_names seen.trace.states.header.vars p [])
+
 -- an atom's pulls are closed at a consistent cut exactly where it is true there
-meaning : (seen : Observed) → IsTrace seen.trace.states → (a : Atom) → AtomFits (scope_seen seen) a → (reading : Reading) → AreAnswers seen reading
+meaning : (seen : Observed) → IsTrace seen.trace.states → (a : Atom) → AtomFits (scope_seen seen) a → AllRise seen (counters_of_atom a) → (reading : Reading) → AreAnswers seen reading
     → (c : Cut) → IsConsistent (clocks_seen seen) c → ClosedUnder (pulls_of_atom seen a) c ↔ Sat (run_seen seen reading) (atom_formula (names_seen seen reading) a) c
-meaning seen trace (local None e) fits reading are c consistent =
+meaning seen trace (local None e) fits rise reading are c consistent =
     constant_means (run_seen seen reading) (names_seen seen reading) (lens_of seen.trace.states) e fits c (first_within seen trace c consistent)
-meaning seen trace (local (Some p) e) fits reading are c consistent =
+meaning seen trace (local (Some p) e) fits rise reading are c consistent =
     local_means seen.trace.states reading.watches reading.watch_names seen.watch_process seen.watch_rows p e trace.whole (there seen trace p fits.1) (fits_process seen p e fits.2) (are.each p) c consistent
-meaning seen trace (at_most p q k) fits reading are c consistent = at_most_means seen.trace.states reading.watches p q k trace.whole (there seen trace p fits.0) (there seen trace q fits.1) c consistent
-meaning seen trace (at_least p q k) fits reading are c consistent =
+meaning seen trace (at_most p q k) fits rise reading are c consistent = at_most_means seen.trace.states reading.watches p q k trace.whole (there seen trace p fits.0) (there seen trace q fits.1) c consistent
+meaning seen trace (at_least p q k) fits rise reading are c consistent =
     at_least_means seen.trace.states reading.watches p q k trace.whole (there seen trace p fits.0) (there seen trace q fits.1) (trace.run.receipts reading.watches) c consistent
-meaning seen trace never fits reading are c consistent =
+meaning seen trace never fits rise reading are c consistent =
     let closes = constant_closes (lens_of seen.trace.states) false c (first_within seen trace c consistent) in
     (λ h. closes.0 h, λ h. closes.1 h)
+meaning seen trace (diff_at_most p x q y k) fits rise reading are c consistent =
+    let names = names_seen seen reading in
+    let P : Name → Name → Type 0 = λ left right. ClosedUnder (pulls_of_atom seen (diff_at_most p x q y k)) c ↔ Sat (run_seen seen reading) (Difference (name_at names.processes p) left (name_at names.processes q) right LessOrEqual k) c in
+    subst (λ (left : Name). P left (variable_at names q y)) (sym (variable_name seen reading p x))
+    (subst (λ (right : Name). P (counters.variable_of seen.trace.states (counter p x)) right) (sym (variable_name seen reading q y))
+    (counter_meaning.at_most_means seen.trace.states reading.watches (counter p x) (counter q y) k trace.whole (is_variable seen trace p x fits.0) (is_variable seen trace q y fits.1)
+    (left_rises seen (counter p x) (counter q y) rise) (right_rises seen (counter p x) (counter q y) rise) c consistent))
+meaning seen trace (diff_at_least p x q y k) fits rise reading are c consistent =
+    let names = names_seen seen reading in
+    let P : Name → Name → Type 0 = λ left right. ClosedUnder (pulls_of_atom seen (diff_at_least p x q y k)) c ↔ Sat (run_seen seen reading) (Difference (name_at names.processes p) left (name_at names.processes q) right GreaterOrEqual k) c in
+    subst (λ (left : Name). P left (variable_at names q y)) (sym (variable_name seen reading p x))
+    (subst (λ (right : Name). P (counters.variable_of seen.trace.states (counter p x)) right) (sym (variable_name seen reading q y))
+    (counter_meaning.at_least_means seen.trace.states reading.watches (counter p x) (counter q y) k trace.whole (is_variable seen trace p x fits.0) (is_variable seen trace q y fits.1)
+    (left_rises seen (counter p x) (counter q y) rise) (right_rises seen (counter p x) (counter q y) rise) c consistent))
 
-pub atom_is : (seen : Observed) → IsTrace seen.trace.states → (a : Atom) → AtomFits (scope_seen seen) a → (pulls : List Pull) (truth : Bool) → pulls ≡ pulls_of_atom seen a
+pub atom_is : (seen : Observed) → IsTrace seen.trace.states → (a : Atom) → AtomFits (scope_seen seen) a → AllRise seen (counters_of_atom a) → (pulls : List Pull) (truth : Bool) → pulls ≡ pulls_of_atom seen a
     → All (IsPull (lens_of seen.trace.states)) pulls → IsTrue truth ↔ ClosedUnder pulls (initial (clocks_seen seen)) → IsAtomOf seen a pulls truth
-atom_is seen trace a fits pulls truth own fit first = record {
+atom_is seen trace a fits rise pulls truth own fit first = record {
   own = own;
   fit = subst (λ (lens : List ℕ). All (IsPull lens) pulls) (sym (lens_same seen trace)) fit;
   few = subst (λ (list : List Pull). length list ≤ 1) (sym own) (few_pulls seen a);
@@ -102,7 +137,7 @@ atom_is seen trace a fits pulls truth own fit first = record {
   where
     means : (reading : Reading) → AreAnswers seen reading → (c : Cut) → IsConsistent (clocks_seen seen) c → ClosedUnder pulls c ↔ Sat (run_seen seen reading) (atom_formula (names_seen seen reading) a) c
     means reading are c consistent =
-        subst (λ (list : List Pull). ClosedUnder list c ↔ Sat (run_seen seen reading) (atom_formula (names_seen seen reading) a) c) (sym own) (meaning seen trace a fits reading are c consistent)
+        subst (λ (list : List Pull). ClosedUnder list c ↔ Sat (run_seen seen reading) (atom_formula (names_seen seen reading) a) c) (sym own) (meaning seen trace a fits rise reading are c consistent)
 
 -- a part that is no operator is an atom
 pub atom_of : (p : Piece) → is_atom p ≡ true → (a : Atom) × (p ≡ atom a)
@@ -138,7 +173,7 @@ local_some seen trace p e fits row row_is pulls own fit closed truth first =
     let some : 0 < length row = omega (arith, ap length row_is, length-truths seen.trace.states p seen.watch_rows e) in
     let start : get_or row (get_or (initial o) p 0) false ≡ truth = ap (λ i. get_or row i false) (count-initial o p) ∙ first_item row truth first some in
     let here = closed (initial o) (none_at_first o (lens_of seen.trace.states) p) in
-    atom_is seen trace (local (Some p) e) fits pulls truth (own ∙ ap (λ r. local_pull p r ∷ []) row_is) fit
+    atom_is seen trace (local (Some p) e) fits (none_rise seen) pulls truth (own ∙ ap (λ r. local_pull p r ∷ []) row_is) fit
     (λ h. here.1 (start ∙ h), λ h. sym start ∙ here.0 h)
 
 pub local_none : (seen : Observed) → IsTrace seen.trace.states → (e : Expr) → LocalFits (scope_seen seen) None e → (row : List Bool)
@@ -151,7 +186,7 @@ local_none seen trace e fits row row_is truth first pulls own fit closed =
     let truth_is : truth ≡ constant_truth e =
     sym (first_item row truth first some) ∙ ap (λ r. get_or r 0 false) row_is ∙ truth_at_cut seen.trace.states 0 seen.watch_rows e 0 (omega arith) ∙ same_constant _ _ _ _ e fits in
     let here = closed (initial o) (none_at_first o (lens_of seen.trace.states) 0) in
-    atom_is seen trace (local None e) fits pulls truth (own ∙ ap (constant_pulls_of (lens_of seen.trace.states)) truth_is) fit (λ h. here.1 h, λ h. here.0 h)
+    atom_is seen trace (local None e) fits (none_rise seen) pulls truth (own ∙ ap (constant_pulls_of (lens_of seen.trace.states)) truth_is) fit (λ h. here.1 h, λ h. here.0 h)
 
 pub never_is : (seen : Observed) → IsTrace seen.trace.states → (pulls : List Pull) → pulls ≡ constant_pulls_of (lens_of seen.trace.states) false
     → All (IsPull (lens_of seen.trace.states)) pulls → IsAtomOf seen never pulls false
@@ -159,7 +194,7 @@ never_is seen trace pulls own fit =
     let o = clocks_seen seen in
     let P : List Pull → Type 0 = λ list. IsTrue false ↔ ClosedUnder list (initial o) in
     let closes = constant_closes (lens_of seen.trace.states) false (initial o) (none_at_first o (lens_of seen.trace.states) 0) in
-    atom_is seen trace never tt pulls false own fit (subst P (sym own) (λ h. closes.1 h, λ h. closes.0 h))
+    atom_is seen trace never tt (none_rise seen) pulls false own fit (subst P (sym own) (λ h. closes.1 h, λ h. closes.0 h))
 
 -- ---- channels
 
@@ -189,7 +224,7 @@ at_most_is seen trace p q k fits channel channel_is shape pulls own fit closed =
     subst (λ (c : ChannelView). IsQuiet c (initial o)) (sym channel_is) (quiet_at_first o seen.trace.states p q (lens_of seen.trace.states) (subst (FitsShape (lens_of seen.trace.states)) channel_is shape)) in
     let here = closed (initial o) quiet.within in
     let sent = quiet.sent in
-    atom_is seen trace (at_most p q k) fits pulls true (own ∙ ap (λ c. at_most_pull c k ∷ []) channel_is) fit (λ h. here.1 (omega arith), λ h. refl)
+    atom_is seen trace (at_most p q k) fits (none_rise seen) pulls true (own ∙ ap (λ c. at_most_pull c k ∷ []) channel_is) fit (λ h. here.1 (omega arith), λ h. refl)
 
 pub at_least_is : (seen : Observed) → IsTrace seen.trace.states → (p q k : ℕ) → AtomFits (scope_seen seen) (at_least p q k) → (channel : ChannelView)
     → channel ≡ channel_of seen.trace.states p q → FitsShape (lens_of seen.trace.states) channel → (pulls : List Pull) → pulls ≡ at_least_pull channel k ∷ []
@@ -203,7 +238,48 @@ at_least_is seen trace p q k fits channel channel_is shape pulls own fit closed 
     let sent = quiet.sent in
     let received = quiet.received in
     let zero_is = Decides-eqb k 0 in
-    atom_is seen trace (at_least p q k) fits pulls truth (own ∙ ap (λ c. at_least_pull c k ∷ []) channel_is) fit (
+    atom_is seen trace (at_least p q k) fits (none_rise seen) pulls truth (own ∙ ap (λ c. at_least_pull c k ∷ []) channel_is) fit (
       λ h. let z : k ≡ 0 = zero_is.0 (sym truth_is ∙ h) in here.1 (omega arith),
       λ h. let low = here.0 h in truth_is ∙ zero_is.1 (omega arith),
     )
+
+-- ---- differences
+
+-- a bound has room in 128 bits
+pub bound_fits : (k : ℤ) → neg_ℤ (pos (2 ^ 64)) ≤ℤ k → k ≤ℤ pos (2 ^ 64) → FitsSigned w128 k
+bound_fits k low high = fits_signed_from_abs w128 k (omega (arith, ints, low, high))
+
+-- at the initial cut the values are those of the header
+value_first : (seen : Observed) (x : Variable) → value_within seen.trace.states x (initial (clocks_seen seen)) ≡ value_in seen.trace.states x 0
+value_first seen x = ap (value_in seen.trace.states x) (count-initial (clocks_seen seen) x.process)
+
+none_past : (seen : Observed) (left right : Variable) → AreThere seen.trace.states left right (initial (clocks_seen seen))
+none_past seen left right = record {
+  at_left = omega (arith, count-initial (clocks_seen seen) left.process);
+  at_right = omega (arith, count-initial (clocks_seen seen) right.process);
+}
+
+first_difference : (seen : Observed) (left right : Variable)
+    → (value_within seen.trace.states left (initial (clocks_seen seen)) -ℤ value_within seen.trace.states right (initial (clocks_seen seen))) ≡ (value_in seen.trace.states left 0 -ℤ value_in seen.trace.states right 0)
+first_difference seen left right =
+    ap (λ (z : ℤ). z -ℤ value_within seen.trace.states right (initial (clocks_seen seen))) (value_first seen left) ∙ ap (λ (z : ℤ). value_in seen.trace.states left 0 -ℤ z) (value_first seen right)
+
+pub diff_at_most_is : (seen : Observed) → IsTrace seen.trace.states → (left right : Variable) (k : ℤ) → AtomFits (scope_seen seen) (diff_at_most left.process left.number right.process right.number k)
+    → AllRise seen (left ∷ right ∷ []) → (pulls : List Pull) → pulls ≡ counters.at_most_pulls seen.trace.states left right k → All (IsPull (lens_of seen.trace.states)) pulls
+    → ((v : List ℕ) → AreThere seen.trace.states left right v → ClosedUnder pulls v ↔ ((value_within seen.trace.states left v -ℤ value_within seen.trace.states right v) ≤ℤ k))
+    → (truth : Bool) → IsTrue truth ↔ ((value_in seen.trace.states left 0 -ℤ value_in seen.trace.states right 0) ≤ℤ k) → IsAtomOf seen (diff_at_most left.process left.number right.process right.number k) pulls truth
+diff_at_most_is seen trace left right k fits rise pulls own fit closed truth first =
+    let here = closed (initial (clocks_seen seen)) (none_past seen left right) in
+    let same = first_difference seen left right in
+    atom_is seen trace (diff_at_most left.process left.number right.process right.number k) fits rise pulls truth own fit
+    (λ h. here.1 (subst (λ z. z ≤ℤ k) (sym same) (first.0 h)), λ h. first.1 (subst (λ z. z ≤ℤ k) same (here.0 h)))
+
+pub diff_at_least_is : (seen : Observed) → IsTrace seen.trace.states → (left right : Variable) (k : ℤ) → AtomFits (scope_seen seen) (diff_at_least left.process left.number right.process right.number k)
+    → AllRise seen (left ∷ right ∷ []) → (pulls : List Pull) → pulls ≡ counters.at_least_pulls seen.trace.states left right k → All (IsPull (lens_of seen.trace.states)) pulls
+    → ((v : List ℕ) → AreThere seen.trace.states left right v → ClosedUnder pulls v ↔ (k ≤ℤ (value_within seen.trace.states left v -ℤ value_within seen.trace.states right v)))
+    → (truth : Bool) → IsTrue truth ↔ (k ≤ℤ (value_in seen.trace.states left 0 -ℤ value_in seen.trace.states right 0)) → IsAtomOf seen (diff_at_least left.process left.number right.process right.number k) pulls truth
+diff_at_least_is seen trace left right k fits rise pulls own fit closed truth first =
+    let here = closed (initial (clocks_seen seen)) (none_past seen left right) in
+    let same = first_difference seen left right in
+    atom_is seen trace (diff_at_least left.process left.number right.process right.number k) fits rise pulls truth own fit
+    (λ h. here.1 (subst (λ z. k ≤ℤ z) (sym same) (first.0 h)), λ h. first.1 (subst (λ z. k ≤ℤ z) same (here.0 h)))

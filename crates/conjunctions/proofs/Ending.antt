@@ -22,7 +22,7 @@ use Rattle.rctl_parts.specs.MadeFor.{parts_count}
 use Rattle.event_log.specs.declared.log.Event.{Event}
 use Rattle.conjunctions.specs.declared.observed.Observed.{Observed}
 use Rattle.conjunctions.specs.Observing.{clocks_seen, lens_seen}
-use Rattle.conjunctions.specs.Numbering.{is_atom, all_atoms}
+use Rattle.conjunctions.specs.Numbering.{is_atom, all_atoms, gives_order}
 use Rattle.conjunctions.specs.Counting.{rooms_of, first_of}
 use Rattle.conjunctions.specs.Rounds.{RoundView}
 use Rattle.conjunctions.specs.Systems.{AddsPulls, first_pulls, pulls_of_parts}
@@ -31,39 +31,40 @@ use Rattle.conjunctions.specs.Settling.{CanBegin, CutsStay, AreFloors, SettlesOn
 use Rattle.conjunctions.proofs.Settled.{AreFirstPulls, few_pulls, has_order}
 use Rattle.conjunctions.proofs.Adding.{closed_none}
 use Rattle.conjunctions.proofs.Atoms.{lens_same}
+use Rattle.conjunctions.proofs.Ordering.{atoms_give_none}
 
 pub is_order : (seen : Observed) → IsTrace seen.trace.states → IsOrder (clocks_seen seen)
 is_order seen trace = (trace.run.run (λ name states. [])).order
 
-pub first_pulls_are : (seen : Observed) → IsTrace seen.trace.states → (atoms : Bool) → AreFirstPulls (clocks_seen seen) atoms
+pub first_pulls_are : (seen : Observed) → IsTrace seen.trace.states → (gives : Bool) → AreFirstPulls (clocks_seen seen) gives
 first_pulls_are seen trace true = record {
-  fit = order_pulls_fit (clocks_seen seen) (is_order seen trace);
-  count = omega (arith, order_pulls_count (clocks_seen seen));
-  closed = λ c consistent. (order_closed (clocks_seen seen) (is_order seen trace) c consistent.shaped consistent.within).1 consistent;
-  orders = λ is c shaped within. (order_closed (clocks_seen seen) (is_order seen trace) c shaped within).0;
-}
-first_pulls_are seen trace false = record {
   fit = λ k d there. absurd (omega arith);
   count = omega arith;
   closed = λ c consistent. closed_none c;
   orders = λ is. absurd (cc);
 }
+first_pulls_are seen trace false = record {
+  fit = order_pulls_fit (clocks_seen seen) (is_order seen trace);
+  count = omega (arith, order_pulls_count (clocks_seen seen));
+  closed = λ c consistent. (order_closed (clocks_seen seen) (is_order seen trace) c consistent.shaped consistent.within).1 consistent;
+  orders = λ is c shaped within. (order_closed (clocks_seen seen) (is_order seen trace) c shaped within).0;
+}
 
 -- ---- the requirements of a system
 
-pub pulls_fit : (seen : Observed) → IsTrace seen.trace.states → (pulls : List Pull) (ps : List Piece) → AddsPulls seen (first_pulls (clocks_seen seen) (all_atoms ps)) pulls ps
+pub pulls_fit : (seen : Observed) → IsTrace seen.trace.states → (pulls : List Pull) (ps : List Piece) → AddsPulls seen (first_pulls (clocks_seen seen) (gives_order ps)) pulls ps
     → (order : Clocks) → order ≡ clocks_seen seen → All (IsPull (lengths order)) pulls
 pulls_fit seen trace pulls ps adds order is =
     let P : List Pull → Type 0 = λ list. All (IsPull (lens_seen seen)) list in
     let here : All (IsPull (lens_seen seen)) pulls =
-    subst P (sym adds.is) (All-append (IsPull (lens_seen seen)) (first_pulls (clocks_seen seen) (all_atoms ps)) adds.added (first_pulls_are seen trace (all_atoms ps)).fit adds.fit) in
+    subst P (sym adds.is) (All-append (IsPull (lens_seen seen)) (first_pulls (clocks_seen seen) (gives_order ps)) adds.added (first_pulls_are seen trace (gives_order ps)).fit adds.fit) in
     subst (λ (o : Clocks). All (IsPull (lengths o)) pulls) (sym is) here
 
-pub pulls_have_order : (seen : Observed) → IsTrace seen.trace.states → (pulls : List Pull) (ps : List Piece) → AddsPulls seen (first_pulls (clocks_seen seen) (all_atoms ps)) pulls ps
+pub pulls_have_order : (seen : Observed) → IsTrace seen.trace.states → (pulls : List Pull) (ps : List Piece) → AddsPulls seen (first_pulls (clocks_seen seen) (gives_order ps)) pulls ps
     → (order : Clocks) → order ≡ clocks_seen seen → HasOrder order (record { lens = lengths order; pulls = pulls })
 pulls_have_order seen trace pulls ps adds order is =
     subst (λ (o : Clocks). HasOrder o (record { lens = lengths o; pulls = pulls })) (sym is)
-    (has_order seen pulls ps (first_pulls_are seen trace (all_atoms ps)) adds)
+    (has_order seen pulls ps (first_pulls_are seen trace (gives_order ps)) adds)
 
 pub length_count : (ps : List Piece) → length ps ≤ parts_count ps
 length_count [] = omega arith
@@ -78,7 +79,7 @@ few_rooms n (temporal o qs ∷ ps) h = let square : n * n ≤ 32 * 32 = mul-le-m
 few_processes : (seen : Observed) → IsTrace seen.trace.states → length (lens_seen seen) ≤ 32
 few_processes seen trace = let few = trace.whole.header.few in omega (arith, ap length (lens_same seen trace), length-map seen.trace.states.events (λ (es : List Event). length es), trace.whole.events)
 
-pub pulls_count : (seen : Observed) → IsTrace seen.trace.states → (pulls : List Pull) (ps : List Piece) → AddsPulls seen (first_pulls (clocks_seen seen) (all_atoms ps)) pulls ps
+pub pulls_count : (seen : Observed) → IsTrace seen.trace.states → (pulls : List Pull) (ps : List Piece) → AddsPulls seen (first_pulls (clocks_seen seen) (gives_order ps)) pulls ps
     → parts_count ps ≤ 128 → length pulls < 4294967296
 pulls_count seen trace pulls ps adds few =
     let n = length (lens_seen seen) in
@@ -86,18 +87,18 @@ pulls_count seen trace pulls ps adds few =
     let less : n - 1 ≤ 32 = omega arith in
     let square : n * (n - 1) ≤ 32 * 32 = mul-le-mul {n₁ = n} {m₁ = n - 1} {n₂ = 32} {m₂ = 32} small less in
     let rooms = few_rooms n ps small in
-    let bound = few_pulls seen pulls ps (first_pulls_are seen trace (all_atoms ps)) adds in
+    let bound = few_pulls seen pulls ps (first_pulls_are seen trace (gives_order ps)) adds in
     omega (arith, length_count ps)
 
 -- where all parts are atoms, the pulls begin with those of the order
-pub begins_with_order : (seen : Observed) (pulls : List Pull) (ps : List Piece) → AddsPulls seen (first_pulls (clocks_seen seen) (all_atoms ps)) pulls ps
+pub begins_with_order : (seen : Observed) (pulls : List Pull) (ps : List Piece) → AddsPulls seen (first_pulls (clocks_seen seen) (gives_order ps)) pulls ps
     → (order : Clocks) → order ≡ clocks_seen seen → (keeps : Bool) → keeps ≡ all_atoms ps → keeps ≡ true → BeginsWithOrder order pulls
 begins_with_order seen pulls ps adds order is keeps keeps_is kept =
     subst (λ (o : Clocks). BeginsWithOrder o pulls) (sym is)
-    (record { others = adds.added; is = adds.is ∙ ap (λ b. first_pulls (clocks_seen seen) b ++ adds.added) (sym keeps_is ∙ kept) })
+    (record { others = adds.added; is = adds.is ∙ ap (λ b. first_pulls (clocks_seen seen) b ++ adds.added) (atoms_give_none ps (sym keeps_is ∙ kept)) })
 
 -- the rows of before of the conjunction itself
-pub can_begin : (seen : Observed) (before : List RowsView) (pulls : List Pull) (ps : List Piece) → AddsPulls seen (first_pulls (clocks_seen seen) (all_atoms ps)) pulls ps → AreFloors seen before (ps ∷ [])
+pub can_begin : (seen : Observed) (before : List RowsView) (pulls : List Pull) (ps : List Piece) → AddsPulls seen (first_pulls (clocks_seen seen) (gives_order ps)) pulls ps → AreFloors seen before (ps ∷ [])
     → CanBegin (record { lens = lens_seen seen; pulls = pulls }) (all_atoms ps) (first_of before)
 can_begin seen [] pulls ps adds floors = record { fell = record { fell = λ rows keeps is. absurd (cc) }; floor = λ rows keeps is. absurd (cc); stays = λ rows keeps is. absurd (cc) }
 can_begin seen (rows ∷ before) pulls ps adds floors = record {
@@ -111,12 +112,12 @@ can_begin seen (rows ∷ before) pulls ps adds floors = record {
 }
   where
     own : all_atoms ps ≡ true → pulls ≡ pulls_of_order (clocks_seen seen) ++ pulls_of_parts seen ps
-    own keeps = adds.is ∙ ap (λ b. first_pulls (clocks_seen seen) b ++ adds.added) keeps ∙ ap (λ list. pulls_of_order (clocks_seen seen) ++ list) (adds.own keeps)
+    own keeps = adds.is ∙ ap (λ b. first_pulls (clocks_seen seen) b ++ adds.added) (atoms_give_none ps keeps) ∙ ap (λ list. pulls_of_order (clocks_seen seen) ++ list) (adds.own keeps)
 
     same : (found : RowsView) → first_of (rows ∷ before) ≡ Some found → rows ≡ found
     same found is = cc
 
-pub can_begin_by : (seen : Observed) (before : List RowsView) (pulls : List Pull) (ps : List Piece) → AddsPulls seen (first_pulls (clocks_seen seen) (all_atoms ps)) pulls ps → AreFloors seen before (ps ∷ [])
+pub can_begin_by : (seen : Observed) (before : List RowsView) (pulls : List Pull) (ps : List Piece) → AddsPulls seen (first_pulls (clocks_seen seen) (gives_order ps)) pulls ps → AreFloors seen before (ps ∷ [])
     → (order : Clocks) → order ≡ clocks_seen seen → (keeps : Bool) → keeps ≡ all_atoms ps → CanBegin (record { lens = lengths order; pulls = pulls }) keeps (first_of before)
 can_begin_by seen before pulls ps adds floors order is keeps keeps_is =
     subst (λ (k : Bool). CanBegin (record { lens = lengths order; pulls = pulls }) k (first_of before)) (sym keeps_is)

@@ -1,6 +1,5 @@
 -- The parts of a conjunction, one after the other.
-use Rattle.std.proofs.Common.{◌≡◌, ℕ, suc, zero, ◌+◌, ◌<◌, ◌≤◌, true, false, List, [], ◌∷◌, ◌++◌, length, take, drop, get_or, flat_map, Option, None, sym, ◌∙◌, ap, subst, arith, append_assoc, append-nil, add-one}
-use Rattle.std.specs.Prelude.{IfSome}
+use Rattle.std.proofs.Common.{◌≡◌, ℕ, suc, zero, ◌+◌, ◌<◌, ◌≤◌, List, [], ◌∷◌, ◌++◌, length, take, drop, get_or, flat_map, sym, ◌∙◌, ap, subst, arith, append_assoc, append-nil, add-one}
 use Rattle.std.proofs.lemmas.List.{length-map, length-take-le}
 use Rattle.std.proofs.lemmas.Grind.{flat_map-append}
 use Rattle.std.proofs.lemmas.List.Concat.{flat_map-cons}
@@ -13,7 +12,7 @@ use Rattle.conjunctions.specs.declared.observed.Observed.{Observed}
 use Rattle.conjunctions.specs.declared.answer.PartAnswer.{PartAnswer}
 use Rattle.conjunctions.specs.Observing.{lens_seen}
 use Rattle.conjunctions.specs.Numbering.{within, conjunctions_in}
-use Rattle.conjunctions.specs.Beginning.{GatheredView, MayBeginFrom, FloorFits}
+use Rattle.conjunctions.specs.Beginning.{GatheredView, FloorFits}
 use Rattle.conjunctions.specs.Rounds.{RoundView}
 use Rattle.conjunctions.specs.Systems.{AddsPulls}
 use Rattle.conjunctions.specs.Settling.{AreFloors, Settles}
@@ -28,14 +27,11 @@ pub record PartsAdded (seen : Observed) (workers disjunct : ℕ) (round now : Ro
   pub settles : Settles seen workers round now steps steps_now (flat_map within ps)
   pub told : AddsAnswers seen answers answers_now (places_from disjunct 1 ps)
 
-pub added_none : (seen : Observed) (workers disjunct : ℕ) (round : RoundView) (steps : ℕ) (answers : List PartAnswer) (begun : List Pull) (gathered : GatheredView) → gathered.pulls ≡ begun → gathered.floor ≡ None
-    → gathered.alone ≡ false → PartsAdded seen workers disjunct round round steps steps answers answers begun gathered []
-added_none seen workers disjunct round steps answers begun gathered is none alone = record {
+pub added_none : (seen : Observed) (workers disjunct : ℕ) (round : RoundView) (steps : ℕ) (answers : List PartAnswer) (begun : List Pull) (gathered : GatheredView) → gathered.pulls ≡ begun
+    → FloorFits (lens_seen seen) gathered → PartsAdded seen workers disjunct round round steps steps answers answers begun gathered []
+added_none seen workers disjunct round steps answers begun gathered is floor = record {
   adds = subst (λ (list : List Pull). AddsPulls seen begun list []) (sym is) (adds_none seen begun);
-  floor = record {
-    begins = subst (λ (f : Option RowsView). IfSome f (MayBeginFrom (lens_seen seen) gathered.pulls)) (sym none) tt;
-    least = λ found. absurd (let e : false ≡ true = sym alone ∙ found in cc);
-  };
+  floor = floor;
   settles = settles_none seen workers round steps;
   told = answers_none seen answers;
 }

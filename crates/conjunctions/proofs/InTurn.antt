@@ -1,13 +1,13 @@
 -- Conjunctions that are settled one after the other.
-use Rattle.std.proofs.Common.{◌≡◌, ℕ, suc, zero, ◌+◌, ◌≤◌, List, [], ◌∷◌, ◌++◌, length, drop, refl, sym, ◌∙◌, ap, subst, arith, append_assoc, append-nil, length-append}
+use Rattle.std.proofs.Common.{◌≡◌, ℕ, suc, zero, ◌+◌, List, [], ◌∷◌, ◌++◌, length, drop, refl, sym, ◌∙◌, ap, arith, append_assoc, append-nil, length-append}
 use Rattle.std.proofs.lemmas.List.{drop-drop}
 use Rattle.pull_system.specs.Rows.{RowsView}
 use Rattle.rctl_parts.specs.Pieces.{Piece}
 use Rattle.conjunctions.specs.declared.observed.Observed.{Observed}
 use Rattle.conjunctions.specs.Observing.{lens_seen}
-use Rattle.conjunctions.specs.Counting.{bounds, bound_of, first_of}
+use Rattle.conjunctions.specs.Counting.{bounds}
 use Rattle.conjunctions.specs.Rounds.{RoundView}
-use Rattle.conjunctions.specs.Settling.{IsSettled, AreSettled, IsFloor, AreFloors, Settles}
+use Rattle.conjunctions.specs.Settling.{AreSettled, AreFloors, Settles}
 
 pub are_settled_joined : (seen : Observed) (cs ds : List (List Piece)) (rs qs : List RowsView) → AreSettled seen cs rs → AreSettled seen ds qs → AreSettled seen (cs ++ ds) (rs ++ qs)
 are_settled_joined seen [] ds [] qs left right = right

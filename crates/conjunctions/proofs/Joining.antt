@@ -1,16 +1,16 @@
 -- One disjunct more.
-use Rattle.std.proofs.Common.{◌≡◌, ◌⊎◌, List, [], ◌∷◌, ◌++◌, refl, sym, ◌∙◌, ap, subst, inl, inr}
+use Rattle.std.proofs.Common.{◌⊎◌, List, [], ◌∷◌, ◌++◌, inl, inr}
 use Rattle.std.specs.Prelude.{◌↔◌}
-use Rattle.run_model.specs.Cut.{Cut, Clocks}
+use Rattle.run_model.specs.Cut.{Cut}
 use Rattle.run_model.specs.Run.{Run}
-use Rattle.run_model.specs.Consistent.{IsOrder, IsConsistent}
+use Rattle.run_model.specs.Consistent.{IsOrder}
 use Rattle.run_model.specs.Sublattice.{IsClosed, Smallest, given, Either}
 use Rattle.run_model.specs.Slice.{Slice, StandsFor, Cuts}
-use Rattle.run_model.specs.Meaning.{Sat, SatAll, SatSome, Family}
+use Rattle.run_model.specs.Meaning.{SatSome, Family}
 use Rattle.run_model.proofs.SliceLemmas.{stands_same, exact_slice}
 use Rattle.run_model.proofs.JoinLemmas.{smallest_closed, smallest_wider}
-use Rattle.rctl_parts.specs.Pieces.{Piece, pieces}
-use Rattle.rctl_parts.specs.Spelled.{Names, formulas_of, conjunction_of, conjunctions_of, disjunction_of}
+use Rattle.rctl_parts.specs.Pieces.{Piece}
+use Rattle.rctl_parts.specs.Spelled.{Names, conjunction_of, conjunctions_of, disjunction_of}
 
 -- some disjunct of two lists is true where one of either list is
 pub some_joined : (r : Run) (names : Names) (ds es : List (List Piece)) (c : Cut)

@@ -1,12 +1,11 @@
 -- Rows of conjunctions of atoms may be begun from by those of a later trace.
-use Rattle.std.proofs.Common.{◌≡◌, ℕ, suc, zero, ◌+◌, ◌<◌, ◌≤◌, Bool, true, false, List, [], ◌∷◌, ◌++◌, length, get_or, sum, take, flat_map, Option, Some, None, refl, sym, ◌∙◌, ap, subst, arith, length-append}
+use Rattle.std.proofs.Common.{◌≡◌, ℕ, suc, zero, ◌+◌, ◌<◌, ◌≤◌, Bool, true, false, List, [], ◌∷◌, ◌++◌, length, get_or, sum, take, flat_map, Some, None, refl, sym, ◌∙◌, ap, subst, arith, length-append}
 use Rattle.std.specs.Prelude.{slice_index_or}
 use Rattle.std.proofs.lemmas.List.Concat.{flat_map-cons}
-use Rattle.run_model.specs.Cut.{Clocks, lengths}
 use Rattle.run_model.proofs.Counts.{length-lengths}
 use Rattle.trace_growth.specs.Growing.{IsTrace}
 use Rattle.pull_system.specs.declared.pull.Pull.{Pull}
-use Rattle.pull_system.specs.System.{SystemView, no_pull}
+use Rattle.pull_system.specs.System.{no_pull}
 use Rattle.pull_system.specs.Vector.{IsWithin}
 use Rattle.pull_system.specs.Rows.{RowsView, row_at}
 use Rattle.pull_system.specs.Growth.{DidNotFall, PullGrows, Grows}
@@ -14,20 +13,23 @@ use Rattle.raise_machine.proofs.Raising.{grown_bounds}
 use Rattle.slice_workers.proofs.Firsts.{first_final}
 use Rattle.slice_graph.specs.PullLists.{pulls_of_order}
 use Rattle.slice_graph.proofs.OrderGrowing.{lengths_grow, order_count, order_each}
-use Rattle.rctl_parts.specs.Pieces.{Atom, Piece, Pieces, none, more, listed, atom, temporal, local, at_most, at_least, never}
+use Rattle.rctl_parts.specs.Pieces.{Atom, Piece, Pieces, none, more, listed, atom, temporal, local, at_most, at_least, never, diff_at_most, diff_at_least}
 use Rattle.rctl_parts.specs.MadeFor.{Scope, AtomFits, PieceFits, PiecesFit, EachFits, AllFit}
 use Rattle.local_preds.specs.LocalPulls.{never_pull, constant_pulls_of}
-use Rattle.local_preds.specs.LocalRuns.{HasGrownAt, constant_truth}
+use Rattle.local_preds.specs.LocalRuns.{constant_truth}
 use Rattle.local_preds.proofs.Growing.{local_grows, never_grows}
-use Rattle.channel_preds.specs.Truth.{lens_of, HasMoreEvents}
+use Rattle.channel_preds.specs.Truth.{lens_of}
 use Rattle.channel_preds.proofs.Growing.{at_most_grows, at_least_grows, lens-get_or}
 use Rattle.conjunctions.specs.declared.observed.Observed.{Observed}
 use Rattle.conjunctions.specs.Observing.{clocks_seen, lens_seen, scope_seen, AreFull}
-use Rattle.conjunctions.specs.Numbering.{within, within_operand, conjunctions_in, all_conjunctions, all_atoms}
+use Rattle.conjunctions.specs.Numbering.{within, within_operand, conjunctions_in, all_conjunctions}
 use Rattle.conjunctions.specs.Systems.{pulls_of_atom, pulls_of_part, pulls_of_parts, system_of}
 use Rattle.conjunctions.specs.Settling.{IsSettled, AreSettled, IsFloor, AreFloors, IsLater}
-use Rattle.conjunctions.proofs.Atoms.{lens_same, there, fits_process}
-use Rattle.conjunctions.proofs.Staying.{has_grown_at, OrderStays, system_stays, orders_stay}
+use Rattle.conjunctions.proofs.Atoms.{lens_same, there, fits_process, is_variable}
+use Rattle.conjunctions.specs.Counters.{AllRise, CountersRise, counter, counters_of_atom, counters_of_part, counters_of_parts}
+use Rattle.conjunctions.proofs.Rising.{EachRises, conjunctions_rise, first_rises, others_rise, left_rises, right_rises}
+use Rattle.counter_preds.proofs.Growing as counter_growing
+use Rattle.conjunctions.proofs.Staying.{has_grown_at, more_events, OrderStays, system_stays, orders_stay}
 use Rattle.conjunctions.proofs.Ending.{is_order}
 
 -- as many pulls, and each asks for no less
@@ -64,24 +66,24 @@ grow_on old lens (p ∷ ps) (q ∷ qs) rs ts left right =
 pub record OrderGrows (before after : Observed) : Type 0 where
   pub fell : DidNotFall (lens_seen before) (lens_seen after)
   pub order : PullsGrow (lens_seen before) (lens_seen after) (pulls_of_order (clocks_seen before)) (pulls_of_order (clocks_seen after))
-  pub atoms : (a : Atom) → AtomFits (scope_seen before) a → PullsGrow (lens_seen before) (lens_seen after) (pulls_of_atom before a) (pulls_of_atom after a)
+  pub atoms : (a : Atom) → AtomFits (scope_seen before) a → AllRise after (counters_of_atom a) → PullsGrow (lens_seen before) (lens_seen after) (pulls_of_atom before a) (pulls_of_atom after a)
 
-part_grows : (before after : Observed) → OrderGrows before after → (p : Piece) → PieceFits (scope_seen before) p
+part_grows : (before after : Observed) → OrderGrows before after → (p : Piece) → PieceFits (scope_seen before) p → AllRise after (counters_of_part p)
     → PullsGrow (lens_seen before) (lens_seen after) (pulls_of_part before p) (pulls_of_part after p)
-part_grows before after grows (atom a) fits = grows.atoms a fits
-part_grows before after grows (temporal operator ps) fits = grow_none (lens_seen before) (lens_seen after)
+part_grows before after grows (atom a) fits rise = grows.atoms a fits rise
+part_grows before after grows (temporal operator ps) fits rise = grow_none (lens_seen before) (lens_seen after)
 
-parts_grow : (before after : Observed) → OrderGrows before after → (ps : List Piece) → EachFits (scope_seen before) ps
+parts_grow : (before after : Observed) → OrderGrows before after → (ps : List Piece) → EachFits (scope_seen before) ps → AllRise after (counters_of_parts ps)
     → PullsGrow (lens_seen before) (lens_seen after) (pulls_of_parts before ps) (pulls_of_parts after ps)
-parts_grow before after grows [] fits = grow_none (lens_seen before) (lens_seen after)
-parts_grow before after grows (p ∷ ps) fits =
+parts_grow before after grows [] fits rise = grow_none (lens_seen before) (lens_seen after)
+parts_grow before after grows (p ∷ ps) fits rise =
     grow_on (lens_seen before) (lens_seen after) (pulls_of_part before p) (pulls_of_part after p) (pulls_of_parts before ps) (pulls_of_parts after ps)
-    (part_grows before after grows p fits.0) (parts_grow before after grows ps fits.1)
+    (part_grows before after grows p fits.0 (first_rises after p ps rise)) (parts_grow before after grows ps fits.1 (others_rise after p ps rise))
 
-pub system_grows : (before after : Observed) → OrderGrows before after → (ps : List Piece) → EachFits (scope_seen before) ps → Grows (system_of before ps) (system_of after ps)
-system_grows before after grows ps fits =
+pub system_grows : (before after : Observed) → OrderGrows before after → (ps : List Piece) → EachFits (scope_seen before) ps → AllRise after (counters_of_parts ps) → Grows (system_of before ps) (system_of after ps)
+system_grows before after grows ps fits rise =
     let all = grow_on (lens_seen before) (lens_seen after) (pulls_of_order (clocks_seen before)) (pulls_of_order (clocks_seen after)) (pulls_of_parts before ps) (pulls_of_parts after ps)
-    grows.order (parts_grow before after grows ps fits) in
+    grows.order (parts_grow before after grows ps fits rise) in
     record { fell = grows.fell; count = all.count; each = all.each }
 
 -- of two runs, the later asks for no less, and for no more where what was there met it
@@ -89,25 +91,25 @@ record RunGrows (before after : Observed) : Type 0 where
   grows : OrderGrows before after
   stays : OrderStays before after
 
-kept_floor : (before after : Observed) → RunGrows before after → (ps : List Piece) (rows : RowsView) → EachFits (scope_seen before) ps → IsSettled before ps rows → IsFloor after ps rows
-kept_floor before after run ps rows fits settled = record {
+kept_floor : (before after : Observed) → RunGrows before after → (ps : List Piece) (rows : RowsView) → EachFits (scope_seen before) ps → AllRise after (counters_of_parts ps) → IsSettled before ps rows → IsFloor after ps rows
+kept_floor before after run ps rows fits rise settled = record {
   fell = subst (λ (lens : List ℕ). DidNotFall lens (lens_seen after)) (sym settled.lens) run.grows.fell;
   floor = λ atoms.
-      grown_bounds (system_of before ps) (system_of after ps) (settled.system atoms) (system_grows before after run.grows ps fits) rows settled.lens (settled.least atoms);
+      grown_bounds (system_of before ps) (system_of after ps) (settled.system atoms) (system_grows before after run.grows ps fits rise) rows settled.lens (settled.least atoms);
   stays = λ atoms. record {
     each = λ process count there some few within.
-        first_final (system_of before ps) (system_of after ps) (settled.system atoms) (system_grows before after run.grows ps fits) (system_stays before after run.stays ps fits) rows settled.lens
+        first_final (system_of before ps) (system_of after ps) (settled.system atoms) (system_grows before after run.grows ps fits rise) (system_stays before after run.stays ps fits) rows settled.lens
         (settled.least atoms) process count (omega (arith, there, run.grows.fell.count)) some (omega (arith, few, ap (λ (lens : List ℕ). get_or lens process 0) settled.lens))
         (subst (λ (lens : List ℕ). IsWithin (row_at lens rows.words (sum (take process lens) + count)) lens) settled.lens within);
   };
 }
 
-kept_floors : (before after : Observed) → RunGrows before after → (cs : List (List Piece)) (rows : List RowsView) → AllFit (scope_seen before) cs → AreSettled before cs rows
+kept_floors : (before after : Observed) → RunGrows before after → (cs : List (List Piece)) (rows : List RowsView) → AllFit (scope_seen before) cs → EachRises after cs → AreSettled before cs rows
     → AreFloors after rows cs
-kept_floors before after run [] [] fits h = tt
-kept_floors before after run [] (r ∷ rows) fits h = tt
-kept_floors before after run (c ∷ cs) [] fits h = tt
-kept_floors before after run (c ∷ cs) (r ∷ rows) fits h = (kept_floor before after run c r fits.0 h.0, kept_floors before after run cs rows fits.1 h.1)
+kept_floors before after run [] [] fits rise h = tt
+kept_floors before after run [] (r ∷ rows) fits rise h = tt
+kept_floors before after run (c ∷ cs) [] fits rise h = tt
+kept_floors before after run (c ∷ cs) (r ∷ rows) fits rise h = (kept_floor before after run c r fits.0 rise.0 h.0, kept_floors before after run cs rows fits.1 rise.1 h.1)
 
 -- ---- each conjunction is made for what the formula is made for
 
@@ -150,18 +152,26 @@ longer_first before after later =
     let more = later.events.each 0 in
     omega (arith, lens-get_or before.trace.states.events 0, lens-get_or after.trace.states.events 0, ap length more.1, length-append (get_or before.trace.states.events 0 []) more.0)
 
-atoms_grow : (before after : Observed) → IsTrace before.trace.states → IsTrace after.trace.states → AreFull before → IsLater before after → (a : Atom) → AtomFits (scope_seen before) a
+atoms_grow : (before after : Observed) → IsTrace before.trace.states → IsTrace after.trace.states → AreFull before → IsLater before after → (a : Atom) → AtomFits (scope_seen before) a → AllRise after (counters_of_atom a)
     → PullsGrow (lens_of before.trace.states) (lens_of after.trace.states) (pulls_of_atom before a) (pulls_of_atom after a)
-atoms_grow before after old new full later (local None e) fits = never_grow (lens_of before.trace.states) (lens_of after.trace.states) (longer_first before after later) (constant_truth e)
-atoms_grow before after old new full later (local (Some p) e) fits =
+atoms_grow before after old new full later (local None e) fits rise = never_grow (lens_of before.trace.states) (lens_of after.trace.states) (longer_first before after later) (constant_truth e)
+atoms_grow before after old new full later (local (Some p) e) fits rise =
     grow_one (lens_of before.trace.states) (lens_of after.trace.states) _ _
     (local_grows before.trace.states after.trace.states before.watch_process before.watch_rows after.watch_rows p e (has_grown_at before after old new full later p (there before old p fits.1))
     (fits_process before p e fits.2))
-atoms_grow before after old new full later (at_most p q k) fits =
+atoms_grow before after old new full later (at_most p q k) fits rise =
     grow_one (lens_of before.trace.states) (lens_of after.trace.states) _ _ (at_most_grows before.trace.states after.trace.states p q k later.events)
-atoms_grow before after old new full later (at_least p q k) fits =
+atoms_grow before after old new full later (at_least p q k) fits rise =
     grow_one (lens_of before.trace.states) (lens_of after.trace.states) _ _ (at_least_grows before.trace.states after.trace.states p q k later.events)
-atoms_grow before after old new full later never fits = never_grow (lens_of before.trace.states) (lens_of after.trace.states) (longer_first before after later) false
+atoms_grow before after old new full later never fits rise = never_grow (lens_of before.trace.states) (lens_of after.trace.states) (longer_first before after later) false
+atoms_grow before after old new full later (diff_at_most p x q y k) fits rise =
+    grow_one (lens_of before.trace.states) (lens_of after.trace.states) _ _
+    (counter_growing.at_most_grows before.trace.states after.trace.states (counter p x) (counter q y) k (more_events before after later) old.whole new.whole (is_variable before old p x fits.0) (is_variable before old q y fits.1)
+    (left_rises after (counter p x) (counter q y) rise) (right_rises after (counter p x) (counter q y) rise))
+atoms_grow before after old new full later (diff_at_least p x q y k) fits rise =
+    grow_one (lens_of before.trace.states) (lens_of after.trace.states) _ _
+    (counter_growing.at_least_grows before.trace.states after.trace.states (counter p x) (counter q y) k (more_events before after later) old.whole new.whole (is_variable before old p x fits.0) (is_variable before old q y fits.1)
+    (left_rises after (counter p x) (counter q y) rise) (right_rises after (counter p x) (counter q y) rise))
 
 pub order_grows : (before after : Observed) → IsTrace before.trace.states → IsTrace after.trace.states → AreFull before → IsLater before after → OrderGrows before after
 order_grows before after old new full later = record {
@@ -173,13 +183,13 @@ order_grows before after old new full later = record {
     count = order_count (clocks_seen before) (clocks_seen after) later.clocks;
     each = order_each (clocks_seen before) (clocks_seen after) (is_order after new) later.clocks;
   };
-  atoms = λ a fits.
+  atoms = λ a fits rise.
       subst (λ (lens : List ℕ). PullsGrow (lens_seen before) lens (pulls_of_atom before a) (pulls_of_atom after a)) (sym (lens_same after new))
-      (subst (λ (lens : List ℕ). PullsGrow lens (lens_of after.trace.states) (pulls_of_atom before a) (pulls_of_atom after a)) (sym (lens_same before old)) (atoms_grow before after old new full later a fits));
+      (subst (λ (lens : List ℕ). PullsGrow lens (lens_of after.trace.states) (pulls_of_atom before a) (pulls_of_atom after a)) (sym (lens_same before old)) (atoms_grow before after old new full later a fits rise));
 }
 
 -- rows that were settled are rows from which the same conjunctions may begin later
 pub settled_are_floors : (before after : Observed) (ds : List (List Piece)) (rows : List RowsView) → IsTrace before.trace.states → IsTrace after.trace.states → AreFull before → IsLater before after
-    → AllFit (scope_seen before) ds → AreSettled before (all_conjunctions ds) rows → AreFloors after rows (all_conjunctions ds)
-settled_are_floors before after ds rows old new full later fits settled =
-    kept_floors before after (record { grows = order_grows before after old new full later; stays = orders_stay before after old new full later }) (all_conjunctions ds) rows (conjunctions_fit (scope_seen before) ds fits) settled
+    → AllFit (scope_seen before) ds → CountersRise after ds → AreSettled before (all_conjunctions ds) rows → AreFloors after rows (all_conjunctions ds)
+settled_are_floors before after ds rows old new full later fits rise settled =
+    kept_floors before after (record { grows = order_grows before after old new full later; stays = orders_stay before after old new full later }) (all_conjunctions ds) rows (conjunctions_fit (scope_seen before) ds fits) (conjunctions_rise after ds rise) settled

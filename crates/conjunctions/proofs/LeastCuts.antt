@@ -1,13 +1,11 @@
 -- From the least closed vectors of a system to the least cuts of a set.
-use Rattle.std.proofs.Common.{◌≡◌, ℕ, ◌+◌, ◌<◌, ◌≤◌, List, length, slice_index, sum, refl, sym, ◌∙◌, ap, subst, arith}
+use Rattle.std.proofs.Common.{◌≡◌, ℕ, ◌≤◌, List, length, sum, sym, ◌∙◌, ap, subst, arith}
 use Rattle.std.specs.Prelude.{◌↔◌}
-use Rattle.run_model.specs.Cut.{Cut, Clocks, count, IsWithin, lengths}
+use Rattle.run_model.specs.Cut.{Cut, Clocks, IsWithin, lengths}
 use Rattle.run_model.specs.Consistent.{IsConsistent}
-use Rattle.run_model.specs.Sublattice.{IsLeast}
 use Rattle.run_model.proofs.Counts.{length-lengths}
 use Rattle.pull_system.specs.Vector.{IsVector}
-use Rattle.pull_system.specs.Vector as vector
-use Rattle.pull_system.specs.System.{SystemView, IsClosed, IsClosedFrom, IsLeastFrom}
+use Rattle.pull_system.specs.System.{SystemView, IsClosed, IsLeastFrom}
 use Rattle.pull_system.specs.Rows.{AreLeastRows, row_at, start_of}
 use Rattle.slice_graph.specs.Fitting.{HasOrder}
 use Rattle.conjunctions.specs.Settling.{Above, IsLeastOrNone, AreLeastCuts}

@@ -1,12 +1,16 @@
 mod InTurn
+mod Ordering
+mod Rising
 mod Adding
 mod LeastCuts
 mod Settled
 mod Staying
 mod Later
 mod FinalRows
+mod Kept
 mod Finals
 mod Operators
+mod Asking
 mod Joining
 mod Atoms
 mod Parts

@@ -1,10 +1,9 @@
 -- What an operator makes of two sets that have the same consistent cuts.
-use Rattle.std.proofs.Common.{◌≡◌, List, [], ◌∷◌, refl, sym, ◌∙◌, ap, subst}
-use Rattle.std.specs.Prelude.{◌↔◌}
-use Rattle.run_model.specs.Cut.{Cut, Clocks, lengths}
-use Rattle.run_model.specs.Consistent.{IsConsistent, PathIn, IsPath}
+use Rattle.std.proofs.Common.{ℕ, List, [], ◌∷◌, subst}
+use Rattle.run_model.specs.Cut.{Cut, Clocks, lengths, with_next}
+use Rattle.run_model.specs.Consistent.{IsConsistent, IsPath}
 use Rattle.run_model.specs.Sublattice.{AllIn}
-use Rattle.run_model.specs.Operators.{SomeTime, EachTime, Staying}
+use Rattle.run_model.specs.Operators.{SomeTime, EachTime, Staying, NextTime}
 
 -- both ends of a path are consistent
 path_ends : (o : Clocks) (c : Cut) (es : List Cut) (d : Cut) → IsPath o c es d → IsConsistent o d
@@ -24,3 +23,6 @@ each_time_same o A B same c each es d path = all_same o A B same c es d path (ea
 
 pub staying_same : (o : Clocks) (A B : Cut → Type 0) → ((c : Cut) → IsConsistent o c → A c → B c) → (c : Cut) → Staying o A c → Staying o B c
 staying_same o A B same c (es, path, all) = (es, path, all_same o A B same c es (lengths o) path all)
+
+pub next_time_same : (o : Clocks) (i : ℕ) (A B : Cut → Type 0) → ((c : Cut) → IsConsistent o c → A c → B c) → (c : Cut) → NextTime o i A c → NextTime o i B c
+next_time_same o i A B same c (there, path, here) = (there, path, same (with_next c i) (path_ends o c (with_next c i ∷ []) (with_next c i) path) here)

@@ -1,38 +1,41 @@
 -- What one part adds to the pulls of a conjunction.
-use Rattle.std.proofs.Common.{◌≡◌, ℕ, suc, zero, ◌+◌, ◌*◌, ◌<◌, ◌≤◌, Bool, true, false, List, [], ◌∷◌, ◌++◌, length, flat_map, All, Option, Some, None, refl, sym, ◌∙◌, ap, subst, arith, append_assoc, append-nil}
-use Rattle.std.specs.Prelude.{◌↔◌, IsTrue, ◌&&◌}
-use Rattle.run_model.specs.Cut.{Cut, Clocks, initial, lengths, IsWithin}
+use Rattle.std.proofs.Common.{◌≡◌, ℕ, ◌+◌, ◌<◌, ◌≤◌, Bool, true, false, List, [], ◌∷◌, ◌++◌, length, flat_map, All, Option, Some, None, refl, sym, ◌∙◌, ap, subst, arith, append-nil}
+use Rattle.std.specs.Prelude.{◌↔◌, IsTrue, ◌&&◌, ◌||◌}
+use Rattle.run_model.specs.Cut.{Cut, initial, IsWithin}
 use Rattle.run_model.specs.Consistent.{IsConsistent}
 use Rattle.run_model.specs.Slice.{Cuts}
 use Rattle.run_model.specs.Meaning.{Sat}
-use Rattle.run_model.specs.Class.{is_analysed}
-use Rattle.run_model.proofs.Orders.{initial_consistent}
+use Rattle.run_model.specs.Operators.{NextTime}
+use Rattle.run_model.specs.Run as run
+use Rattle.event_log.specs.declared.log.Event.{Event}
+use Rattle.event_log.proofs.NameNumbers.{names_are, number_again}
+use Rattle.trace_growth.specs.Growing.{IsTrace}
+use Rattle.std.proofs.lemmas.List.{length-map}
 use Rattle.run_model.proofs.Counts.{length-lengths}
 use Rattle.rctl_grammar.specs.declared.tree.Operator.{Operator}
 use Rattle.rctl_grammar.specs.declared.tree.Operator.TheVariants as operator
-use Rattle.rctl_grammar.specs.Shape.{model_operator}
 use Rattle.pull_system.specs.declared.pull.Pull.{Pull}
 use Rattle.pull_system.specs.System.{IsPull}
 use Rattle.pull_system.specs.Pulls.{ClosedUnder}
-use Rattle.slice_graph.specs.Views.{SliceView, slice_of, IsCut}
-use Rattle.slice_graph.specs.Fitting.{FitsOrder}
-use Rattle.rctl_parts.specs.Pieces.{Atom, Piece, Pieces, atom, temporal, none, more, pieces, listed}
-use Rattle.rctl_parts.specs.MadeFor.{PieceFits, PiecesFit, EachFits, Scope, part_count, operand_count, parts_count}
-use Rattle.rctl_parts.specs.Spelled.{formula_of, conjunction_of}
+use Rattle.slice_graph.specs.Views.{SliceView, slice_of}
+use Rattle.rctl_parts.specs.Pieces.{Atom, Piece, atom, temporal, pieces, listed}
+use Rattle.rctl_parts.specs.MadeFor.{PieceFits, OperatorFits, PiecesFit, EachFits, Scope, part_count, operand_count, parts_count}
+use Rattle.rctl_parts.specs.Spelled.{formula_of, conjunction_of, name_at}
 use Rattle.rctl_parts.proofs.Spelling.{listed-pieces}
 use Rattle.conjunctions.specs.declared.observed.Observed.{Observed}
 use Rattle.conjunctions.specs.declared.answer.PartAnswer.{PartAnswer}
-use Rattle.conjunctions.specs.Observing.{Reading, AreAnswers, clocks_seen, lens_seen, run_seen, names_seen}
-use Rattle.conjunctions.specs.Numbering.{is_atom, within, within_operand, conjunctions_in, all_atoms}
+use Rattle.conjunctions.specs.Observing.{Reading, AreAnswers, clocks_seen, lens_seen, run_seen, names_seen, scope_seen}
+use Rattle.conjunctions.specs.Numbering.{is_atom, part_gives_order, within, within_operand, conjunctions_in}
 use Rattle.conjunctions.specs.Counting.{room_of}
 use Rattle.pull_system.specs.Rows.{RowsView}
 use Rattle.conjunctions.specs.Rounds.{RoundView}
 use Rattle.conjunctions.specs.Settling.{AreFloors, Settles}
-use Rattle.conjunctions.specs.Operating.{Operated}
+use Rattle.conjunctions.specs.Operating.{Operated, FitsProcesses, AddsOperator}
 use Rattle.conjunctions.specs.Systems.{AddsPulls, IsAtomOf, pulls_of_part}
-use Rattle.conjunctions.specs.Answering.{IsSliceOf, HoldsAtFirst, IsPartAnswer, IsOperand, Place, place}
+use Rattle.conjunctions.specs.Answering.{IsSliceOf, HoldsAtFirst, IsPartAnswer, IsOperand, place}
 use Rattle.conjunctions.proofs.InTurn.{settles_none}
-use Rattle.conjunctions.proofs.Operators.{some_time_same, each_time_same, staying_same}
+use Rattle.conjunctions.proofs.Operators.{some_time_same, each_time_same, staying_same, next_time_same}
+use Rattle.conjunctions.proofs.Atoms.{there, lens_same}
 
 -- ---- operands
 
@@ -58,7 +61,7 @@ count_pieces (p ∷ ps) = ap (λ n. part_count p + n) (count_pieces ps)
 pub one_adds : (seen : Observed) (old new added : List Pull) (p : Piece) → new ≡ old ++ added → All (IsPull (lens_seen seen)) added
     → length added ≤ room_of (length (lens_seen seen)) p
     → ((reading : Reading) → AreAnswers seen reading → (c : Cut) → IsConsistent (clocks_seen seen) c → ClosedUnder added c ↔ Sat (run_seen seen reading) (formula_of (names_seen seen reading) p) c)
-    → (is_atom p ≡ false → (c : Cut) → length c ≡ length (clocks_seen seen) → IsWithin c (lens_seen seen) → ClosedUnder added c → IsConsistent (clocks_seen seen) c)
+    → (part_gives_order p ≡ true → (c : Cut) → length c ≡ length (clocks_seen seen) → IsWithin c (lens_seen seen) → ClosedUnder added c → IsConsistent (clocks_seen seen) c)
     → (is_atom p ≡ true → added ≡ pulls_of_part seen p) → AddsPulls seen old new (p ∷ [])
 one_adds seen old new added p is fit few meaning orders own = record {
   added = added;
@@ -66,13 +69,13 @@ one_adds seen old new added p is fit few meaning orders own = record {
   fit = fit;
   few = omega arith;
   meaning = λ reading are c consistent. let part = meaning reading are c consistent in (λ h. (part.0 h, tt), λ h. part.1 h.0);
-  orders = λ temporal. orders (other (is_atom p) temporal);
+  orders = λ gives. orders (other (part_gives_order p) gives);
   own = λ atoms. own (first (is_atom p) atoms) ∙ sym (append-nil (pulls_of_part seen p));
 }
   where
-    other : (b : Bool) → (b && true) ≡ false → b ≡ false
-    other true h = h
-    other false h = refl
+    other : (b : Bool) → (b || false) ≡ true → b ≡ true
+    other true h = refl
+    other false h = h
 
     first : (b : Bool) → (b && true) ≡ true → b ≡ true
     first true h = refl
@@ -81,24 +84,25 @@ one_adds seen old new added p is fit few meaning orders own = record {
 pub atom_adds : (seen : Observed) (old new added : List Pull) (truth : Bool) (a : Atom) → new ≡ old ++ added → IsAtomOf seen a added truth → AddsPulls seen old new (atom a ∷ [])
 atom_adds seen old new added truth a is atom_is = one_adds seen old new added (atom a) is atom_is.fit atom_is.few atom_is.meaning (λ h. absurd (cc)) (λ h. atom_is.own)
 
--- a cut of the order's lengths is one of the slice's
-cut_of_lengths : (o : Clocks) (slice : SliceView) → FitsOrder o slice → (c : Cut) → length c ≡ length o → IsWithin c (lengths o) → IsCut slice.lens c
-cut_of_lengths o slice fits c shaped within = record {
-  size = shaped ∙ sym (length-lengths o) ∙ ap length (sym fits.shape);
-  within = subst (λ (lens : List ℕ). IsWithin c lens) (sym fits.shape) within;
-}
-
-pub cut_is : (o : Clocks) (slice : SliceView) → FitsOrder o slice → (c : Cut) → IsConsistent o c → IsCut slice.lens c
-cut_is o slice fits c consistent = cut_of_lengths o slice fits c consistent.shaped consistent.within
+-- the name of a process's number stands for the process
+number_is : (seen : Observed) → IsTrace seen.trace.states → (reading : Reading) (p : ℕ) → p < length seen.trace.states.events
+    → (run_seen seen reading).process (name_at (names_seen seen reading).processes p) ≡ p
+number_is seen trace reading p there =
+    let whole = trace.whole in
+    ap (run.number_of (name_at (names_seen seen reading).processes p)) (names_are seen.trace.states whole.header.vars whole.events)
+    ∙ number_again seen.trace.states.header.procs p whole.header.distinct (omega (arith, whole.events, there))
 
 -- the operator over the operand's slice is true exactly where the part is
-pub operator_means : (seen : Observed) (o : Operator) (ps : List Piece) (operand : SliceView) → IsTrue (is_analysed (model_operator o)) → IsSliceOf seen operand ps
+pub operator_means : (seen : Observed) → IsTrace seen.trace.states → (o : Operator) (ps : List Piece) (operand : SliceView) → OperatorFits (scope_seen seen) o → IsSliceOf seen operand ps
     → (reading : Reading) → AreAnswers seen reading → (c : Cut)
     → Operated o (clocks_seen seen) (Cuts (clocks_seen seen) (slice_of operand)) c ↔ Sat (run_seen seen reading) (formula_of (names_seen seen reading) (temporal o (pieces ps))) c
-operator_means seen o ps operand analysed is reading are c = by_operator o analysed
+operator_means seen trace o ps operand fits is reading are c = by_operator o fits
   where
     A : Cut → Type 0
     A = Cuts (clocks_seen seen) (slice_of operand)
+
+    B : Cut → Type 0
+    B = Sat (run_seen seen reading) (conjunction_of (names_seen seen reading) ps)
 
     to : (d : Cut) → IsConsistent (clocks_seen seen) d → Cuts (clocks_seen seen) (slice_of operand) d → Sat (run_seen seen reading) (conjunction_of (names_seen seen reading) ps) d
     to d consistent h = ((is.cuts reading are d).0 h).1
@@ -106,7 +110,7 @@ operator_means seen o ps operand analysed is reading are c = by_operator o analy
     from : (d : Cut) → IsConsistent (clocks_seen seen) d → Sat (run_seen seen reading) (conjunction_of (names_seen seen reading) ps) d → Cuts (clocks_seen seen) (slice_of operand) d
     from d consistent h = (is.cuts reading are d).1 (consistent, h)
 
-    by_operator : (o : Operator) → IsTrue (is_analysed (model_operator o))
+    by_operator : (o : Operator) → OperatorFits (scope_seen seen) o
         → Operated o (clocks_seen seen) (Cuts (clocks_seen seen) (slice_of operand)) c ↔ Sat (run_seen seen reading) (formula_of (names_seen seen reading) (temporal o (pieces ps))) c
     by_operator operator.Ef h = (
       some_time_same (clocks_seen seen) (Cuts (clocks_seen seen) (slice_of operand)) (Sat (run_seen seen reading) (conjunction_of (names_seen seen reading) ps)) to c,
@@ -120,44 +124,36 @@ operator_means seen o ps operand analysed is reading are c = by_operator o analy
       staying_same (clocks_seen seen) (Cuts (clocks_seen seen) (slice_of operand)) (Sat (run_seen seen reading) (conjunction_of (names_seen seen reading) ps)) to c,
       staying_same (clocks_seen seen) (Sat (run_seen seen reading) (conjunction_of (names_seen seen reading) ps)) (Cuts (clocks_seen seen) (slice_of operand)) from c,
     )
-    by_operator (operator.Ex process) h = absurd (cc)
-    by_operator operator.Af h = absurd (cc)
-    by_operator operator.Ax h = absurd (cc)
+    by_operator (operator.Ex process) h =
+        let number = number_is seen trace reading process (there seen trace process h) in (
+          λ w. subst (λ (i : ℕ). NextTime (clocks_seen seen) i (Sat (run_seen seen reading) (conjunction_of (names_seen seen reading) ps)) c) (sym number)
+              (next_time_same (clocks_seen seen) process (Cuts (clocks_seen seen) (slice_of operand)) (Sat (run_seen seen reading) (conjunction_of (names_seen seen reading) ps)) to c w),
+          λ w. next_time_same (clocks_seen seen) process (Sat (run_seen seen reading) (conjunction_of (names_seen seen reading) ps)) (Cuts (clocks_seen seen) (slice_of operand)) from c
+              (subst (λ (i : ℕ). NextTime (clocks_seen seen) i (Sat (run_seen seen reading) (conjunction_of (names_seen seen reading) ps)) c) number w),
+        )
+    by_operator operator.Af h = absurd h
+    by_operator operator.Ax h = absurd h
 
--- what calls told of the slice of a temporal part
-pub record IsOperated (seen : Observed) (o : Operator) (operand slice : SliceView) : Type 0 where
-  pub fits : FitsOrder (clocks_seen seen) slice
-  pub cuts : (c : Cut) → IsConsistent (clocks_seen seen) c → Cuts (clocks_seen seen) (slice_of slice) c ↔ Operated o (clocks_seen seen) (Cuts (clocks_seen seen) (slice_of operand)) c
-
--- and of its pulls
-pub record ArePullsOf (seen : Observed) (slice : SliceView) (pulls : List Pull) : Type 0 where
-  pub fit : All (IsPull (lens_seen seen)) pulls
-  pub count : length pulls ≡ length (lens_seen seen) * length (lens_seen seen)
-  pub closed : (c : Cut) → IsConsistent (clocks_seen seen) c → ClosedUnder pulls c ↔ Cuts (clocks_seen seen) (slice_of slice) c
-  pub orders : (c : Cut) → length c ≡ length (clocks_seen seen) → IsWithin c (lens_seen seen) → ClosedUnder pulls c → IsConsistent (clocks_seen seen) c
-
-pub temporal_adds : (seen : Observed) (o : Operator) (ps : List Piece) (operand slice : SliceView) (old new added : List Pull) → IsTrue (is_analysed (model_operator o)) → IsSliceOf seen operand ps
-    → IsOperated seen o operand slice → ArePullsOf seen slice added → new ≡ old ++ added → AddsPulls seen old new (temporal o (pieces ps) ∷ [])
-temporal_adds seen o ps operand slice old new added analysed is operated pulls at =
-    one_adds seen old new added (temporal o (pieces ps)) at pulls.fit (let n = pulls.count in omega arith)
+-- an operator over an operand adds what the part asks
+pub temporal_adds : (seen : Observed) → IsTrace seen.trace.states → (o : Operator) (ps : List Piece) (operand : SliceView) (old new : List Pull) → OperatorFits (scope_seen seen) o → IsSliceOf seen operand ps
+    → AddsOperator (clocks_seen seen) o operand old new → AddsPulls seen old new (temporal o (pieces ps) ∷ [])
+temporal_adds seen trace o ps operand old new fits is adds =
+    one_adds seen old new adds.added (temporal o (pieces ps)) adds.is adds.fit (let n = adds.count in omega arith)
     (λ reading are c consistent.
-    let means = operator_means seen o ps operand analysed is reading are c in
-    let cuts = operated.cuts c consistent in
-    let closed = pulls.closed c consistent in
-    (λ h. means.0 (cuts.0 (closed.0 h)), λ h. closed.1 (cuts.1 (means.1 h))))
-    (λ h. pulls.orders) (λ h. absurd (cc))
+    let means = operator_means seen trace o ps operand fits is reading are c in
+    let closed = adds.closed c consistent in
+    (λ h. means.0 (closed.0 h), λ h. closed.1 (means.1 h)))
+    adds.orders (λ h. absurd (cc))
 
-pub temporal_answer : (seen : Observed) (o : Operator) (ps : List Piece) (operand slice : SliceView) (d k : ℕ) (answer : PartAnswer) → IsTrue (is_analysed (model_operator o))
-    → IsSliceOf seen operand ps → IsOperated seen o operand slice → answer.disjunct ≡ d → answer.part ≡ k → answer.operator ≡ Some o → answer.operand ≡ Some operand
-    → IsTrue answer.truth ↔ Cuts (clocks_seen seen) (slice_of slice) (initial (clocks_seen seen)) → IsPartAnswer seen (place d k (temporal o (pieces ps))) answer
-temporal_answer seen o ps operand slice d k answer analysed is operated of_disjunct of_part operator_is operand_is truth = record {
+pub temporal_answer : (seen : Observed) → IsTrace seen.trace.states → (o : Operator) (ps : List Piece) (operand : SliceView) (d k : ℕ) (answer : PartAnswer) → OperatorFits (scope_seen seen) o
+    → IsSliceOf seen operand ps → answer.disjunct ≡ d → answer.part ≡ k → answer.operator ≡ Some o → answer.operand ≡ Some operand
+    → IsTrue answer.truth ↔ Operated o (clocks_seen seen) (Cuts (clocks_seen seen) (slice_of operand)) (initial (clocks_seen seen)) → IsPartAnswer seen (place d k (temporal o (pieces ps))) answer
+temporal_answer seen trace o ps operand d k answer fits is of_disjunct of_part operator_is operand_is truth = record {
   of_disjunct = of_disjunct;
   of_part = of_part;
   truth = λ reading are.
-      let first = initial (clocks_seen seen) in
-      let means = operator_means seen o ps operand analysed is reading are first in
-      let cuts = operated.cuts first (initial_consistent (clocks_seen seen)) in
-      (λ h. means.0 (cuts.0 (truth.0 h)), λ h. truth.1 (cuts.1 (means.1 h)));
+      let means = operator_means seen trace o ps operand fits is reading are (initial (clocks_seen seen)) in
+      (λ h. means.0 (truth.0 h), λ h. truth.1 (means.1 h));
   operand =
       subst (λ (found : Option SliceView). IsOperand seen (temporal o (pieces ps)) answer.operator found) (sym operand_is)
       (operator_is, subst (IsSliceOf seen operand) (sym (listed-pieces ps)) is);
@@ -171,7 +167,7 @@ atom_answer seen (temporal o ps) d k answer h of_disjunct of_part operator_is op
 
 -- ---- a part that is temporal, by what it is
 
-pub temporal_fits : (scope : Scope) (p : Piece) (o : Operator) (ps : List Piece) → p ≡ temporal o (pieces ps) → PieceFits scope p → IsTrue (is_analysed (model_operator o)) × EachFits scope ps
+pub temporal_fits : (scope : Scope) (p : Piece) (o : Operator) (ps : List Piece) → p ≡ temporal o (pieces ps) → PieceFits scope p → OperatorFits scope o × EachFits scope ps
 temporal_fits scope p o ps is fits = let both = subst (PieceFits scope) is fits in (both.0, operand_fits scope ps both.1)
 
 pub temporal_count : (p : Piece) (o : Operator) (ps : List Piece) → p ≡ temporal o (pieces ps) → part_count p ≤ 128 → parts_count ps ≤ 128
@@ -192,23 +188,12 @@ none_within (temporal o ps) h = absurd (cc)
 pub atom_settles : (seen : Observed) (workers : ℕ) (round : RoundView) (s : ℕ) (p : Piece) → is_atom p ≡ true → Settles seen workers round round s s (within p)
 atom_settles seen workers round s p h = subst (Settles seen workers round round s s) (sym (none_within p h)) (settles_none seen workers round s)
 
--- what calls told by an order that is the run's
-pub operated_by : (seen : Observed) (o : Operator) (operand slice : SliceView) (order : Clocks) → order ≡ clocks_seen seen → FitsOrder order slice
-    → ((c : Cut) → IsConsistent order c → Cuts order (slice_of slice) c ↔ Operated o order (Cuts order (slice_of operand)) c) → IsOperated seen o operand slice
-operated_by seen o operand slice order is fits cuts =
-    let P : Clocks → Type 0 = λ k. (c : Cut) → IsConsistent k c → Cuts k (slice_of slice) c ↔ Operated o k (Cuts k (slice_of operand)) c in
-    record { fits = subst (λ (k : Clocks). FitsOrder k slice) is fits; cuts = subst P is cuts }
-
-pub pulls_of_fitting : (seen : Observed) (slice : SliceView) (pulls : List Pull) → FitsOrder (clocks_seen seen) slice → All (IsPull slice.lens) pulls
-    → length pulls ≡ length slice.lens * length slice.lens
-    → ((c : Cut) → IsCut slice.lens c → ClosedUnder pulls c ↔ Cuts (clocks_seen seen) (slice_of slice) c) → ArePullsOf seen slice pulls
-pulls_of_fitting seen slice pulls fits fit count closed = record {
-  fit = subst (λ (lens : List ℕ). All (IsPull lens) pulls) fits.shape fit;
-  count = count ∙ ap (λ (lens : List ℕ). length lens * length lens) fits.shape;
-  closed = λ c consistent. closed c (cut_is (clocks_seen seen) slice fits c consistent);
-  orders = λ c shaped within h. ((closed c (cut_of_lengths (clocks_seen seen) slice fits c shaped within)).0 h).consistent;
-}
-
--- the initial cut is one of a fitting slice's lengths
-pub first_is_cut : (seen : Observed) (slice : SliceView) → FitsOrder (clocks_seen seen) slice → (c : Cut) → c ≡ initial (clocks_seen seen) → IsCut slice.lens c
-first_is_cut seen slice fits c is = subst (IsCut slice.lens) (sym is) (cut_is (clocks_seen seen) slice fits (initial (clocks_seen seen)) (initial_consistent (clocks_seen seen)))
+-- the process of EX is one of the run's
+pub processes_fit : (seen : Observed) → IsTrace seen.trace.states → (o : Operator) → OperatorFits (scope_seen seen) o → FitsProcesses (length (clocks_seen seen)) o
+processes_fit seen trace operator.Ef h = tt
+processes_fit seen trace operator.Ag h = tt
+processes_fit seen trace operator.Eg h = tt
+processes_fit seen trace (operator.Ex process) h =
+    omega (arith, there seen trace process h, length-lengths (clocks_seen seen), ap length (lens_same seen trace), length-map seen.trace.states.events (λ (es : List Event). length es))
+processes_fit seen trace operator.Af h = absurd h
+processes_fit seen trace operator.Ax h = absurd h

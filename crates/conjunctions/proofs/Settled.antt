@@ -1,10 +1,10 @@
 -- A conjunction whose pulls were gathered is settled.
 use Rattle.std.proofs.Common.{◌≡◌, ℕ, ◌+◌, ◌-◌, ◌*◌, ◌≤◌, Bool, true, false, List, [], ◌∷◌, ◌++◌, length, sum, All, refl, sym, ◌∙◌, ap, subst, arith, length-append, Option}
 use Rattle.std.specs.Prelude.{◌↔◌}
-use Rattle.std.proofs.Math.Nat.{mul-le-mul_left, mul-le-mul_right}
+use Rattle.std.proofs.Math.Nat.{mul-le-mul_right}
 use Rattle.run_model.specs.Cut.{Cut, Clocks, IsWithin, lengths}
-use Rattle.run_model.specs.Consistent.{IsOrder, IsConsistent}
-use Rattle.run_model.specs.Slice.{Slice, Cuts}
+use Rattle.run_model.specs.Consistent.{IsConsistent}
+use Rattle.run_model.specs.Slice.{Cuts}
 use Rattle.run_model.proofs.Counts.{length-lengths}
 use Rattle.run_model.proofs.SliceLemmas.{stands_same}
 use Rattle.pull_system.specs.declared.pull.Pull.{Pull}
@@ -16,23 +16,23 @@ use Rattle.slice_graph.specs.Views.{SliceView, slice_of}
 use Rattle.slice_graph.specs.Fitting.{FitsOrder, HasOrder}
 use Rattle.slice_graph.specs.PullLists.{pulls_of_order}
 use Rattle.rctl_parts.specs.Pieces.{Piece}
-use Rattle.rctl_parts.specs.Spelled.{conjunction_of}
 use Rattle.conjunctions.specs.declared.observed.Observed.{Observed}
-use Rattle.conjunctions.specs.Observing.{Reading, AreAnswers, Satisfying, clocks_seen, lens_seen, run_seen, names_seen}
-use Rattle.conjunctions.specs.Numbering.{all_atoms}
-use Rattle.conjunctions.specs.Counting.{pulls_bound, rooms_of, steps_for, bound_of, first_of, floor_words}
-use Rattle.conjunctions.specs.Systems.{AddsPulls, ordered_system, system_of, first_pulls, pulls_of_parts}
+use Rattle.conjunctions.specs.Observing.{Reading, AreAnswers, Satisfying, clocks_seen, lens_seen}
+use Rattle.conjunctions.specs.Numbering.{all_atoms, gives_order}
+use Rattle.conjunctions.specs.Counting.{pulls_bound, steps_for, first_of, floor_words}
+use Rattle.conjunctions.specs.Systems.{AddsPulls, first_pulls, pulls_of_parts}
 use Rattle.conjunctions.specs.Rounds.{RoundView}
 use Rattle.conjunctions.specs.Settling.{IsSettled, Settles, SettlesOne}
 use Rattle.conjunctions.specs.Answering.{IsSliceOf}
 use Rattle.conjunctions.proofs.LeastCuts.{least_cuts}
+use Rattle.conjunctions.proofs.Ordering.{atoms_give_none}
 
 -- what is known of the pulls that a conjunction begins with
-pub record AreFirstPulls (o : Clocks) (atoms : Bool) : Type 0 where
-  pub fit : All (IsPull (lengths o)) (first_pulls o atoms)
-  pub count : length (first_pulls o atoms) ≤ length o * (length o - 1)
-  pub closed : (c : Cut) → IsConsistent o c → ClosedUnder (first_pulls o atoms) c
-  pub orders : atoms ≡ true → (c : Cut) → length c ≡ length o → IsWithin c (lengths o) → ClosedUnder (first_pulls o atoms) c → IsConsistent o c
+pub record AreFirstPulls (o : Clocks) (gives : Bool) : Type 0 where
+  pub fit : All (IsPull (lengths o)) (first_pulls o gives)
+  pub count : length (first_pulls o gives) ≤ length o * (length o - 1)
+  pub closed : (c : Cut) → IsConsistent o c → ClosedUnder (first_pulls o gives) c
+  pub orders : gives ≡ false → (c : Cut) → length c ≡ length o → IsWithin c (lengths o) → ClosedUnder (first_pulls o gives) c → IsConsistent o c
 
 -- a slice is that of the parts by its cuts
 pub slice_is : (seen : Observed) (slice : SliceView) (ps : List Piece) → FitsOrder (clocks_seen seen) slice
@@ -49,8 +49,8 @@ more_steps few many true lens before rows h = mul-le-mul_right ((sum lens + 1) +
 more_steps few many false lens before rows h = mul-le-mul_right ((length lens + 1) * (sum lens + length lens)) h
 
 -- the gathered pulls are closed at a consistent cut exactly where all parts are true there
-members : (seen : Observed) (pulls : List Pull) (ps : List Piece) → AreFirstPulls (clocks_seen seen) (all_atoms ps)
-    → AddsPulls seen (first_pulls (clocks_seen seen) (all_atoms ps)) pulls ps → (reading : Reading) → AreAnswers seen reading
+members : (seen : Observed) (pulls : List Pull) (ps : List Piece) → AreFirstPulls (clocks_seen seen) (gives_order ps)
+    → AddsPulls seen (first_pulls (clocks_seen seen) (gives_order ps)) pulls ps → (reading : Reading) → AreAnswers seen reading
     → (c : Cut) → Satisfying seen reading ps c ↔ (IsConsistent (clocks_seen seen) c × IsClosed (record { lens = lens_seen seen; pulls = pulls }) c)
 members seen pulls ps order adds reading are c =
     let o = clocks_seen seen in
@@ -60,25 +60,25 @@ members seen pulls ps order adds reading are c =
           let consistent : IsConsistent o c = h.0 in
           let by_order = order.closed c consistent in
           let by_parts = (adds.meaning reading are c consistent).1 h.1 in
-          (consistent, (closed_under system c).1 (subst P (sym adds.is) (closed_both (first_pulls o (all_atoms ps)) adds.added c by_order by_parts))),
+          (consistent, (closed_under system c).1 (subst P (sym adds.is) (closed_both (first_pulls o (gives_order ps)) adds.added c by_order by_parts))),
       λ h.
-          let all : ClosedUnder (first_pulls o (all_atoms ps) ++ adds.added) c = subst P adds.is ((closed_under system c).0 h.1) in
-          (h.0, (adds.meaning reading are c h.0).0 (closed_right (first_pulls o (all_atoms ps)) adds.added c all)),
+          let all : ClosedUnder (first_pulls o (gives_order ps) ++ adds.added) c = subst P adds.is ((closed_under system c).0 h.1) in
+          (h.0, (adds.meaning reading are c h.0).0 (closed_right (first_pulls o (gives_order ps)) adds.added c all)),
     )
 
--- what is closed under them is consistent: by the pulls of the order, or by those of a temporal part
-pub has_order : (seen : Observed) (pulls : List Pull) (ps : List Piece) → AreFirstPulls (clocks_seen seen) (all_atoms ps)
-    → AddsPulls seen (first_pulls (clocks_seen seen) (all_atoms ps)) pulls ps → HasOrder (clocks_seen seen) (record { lens = lens_seen seen; pulls = pulls })
+-- what is closed under them is consistent: by the pulls of the order, or by those of a part that gives it
+pub has_order : (seen : Observed) (pulls : List Pull) (ps : List Piece) → AreFirstPulls (clocks_seen seen) (gives_order ps)
+    → AddsPulls seen (first_pulls (clocks_seen seen) (gives_order ps)) pulls ps → HasOrder (clocks_seen seen) (record { lens = lens_seen seen; pulls = pulls })
 has_order seen pulls ps order adds c shaped within closed =
     let P : List Pull → Type 0 = λ list. ClosedUnder list c in
-    ordered (all_atoms ps) refl (subst P adds.is ((closed_under (record { lens = lens_seen seen; pulls = pulls }) c).0 closed))
+    ordered (gives_order ps) refl (subst P adds.is ((closed_under (record { lens = lens_seen seen; pulls = pulls }) c).0 closed))
   where
-    ordered : (atoms : Bool) → all_atoms ps ≡ atoms → ClosedUnder (first_pulls (clocks_seen seen) (all_atoms ps) ++ adds.added) c → IsConsistent (clocks_seen seen) c
-    ordered true is all = order.orders is c shaped within (closed_left (first_pulls (clocks_seen seen) (all_atoms ps)) adds.added c all)
-    ordered false is all = adds.orders is c shaped within (closed_right (first_pulls (clocks_seen seen) (all_atoms ps)) adds.added c all)
+    ordered : (gives : Bool) → gives_order ps ≡ gives → ClosedUnder (first_pulls (clocks_seen seen) (gives_order ps) ++ adds.added) c → IsConsistent (clocks_seen seen) c
+    ordered true is all = adds.orders is c shaped within (closed_right (first_pulls (clocks_seen seen) (gives_order ps)) adds.added c all)
+    ordered false is all = order.orders is c shaped within (closed_left (first_pulls (clocks_seen seen) (gives_order ps)) adds.added c all)
 
 pub slice_settled : (seen : Observed) (pulls : List Pull) (ps : List Piece) (workers : ℕ) (old new : RoundView) (s t : ℕ) (slice : SliceView)
-    → AreFirstPulls (clocks_seen seen) (all_atoms ps) → AddsPulls seen (first_pulls (clocks_seen seen) (all_atoms ps)) pulls ps
+    → AreFirstPulls (clocks_seen seen) (gives_order ps) → AddsPulls seen (first_pulls (clocks_seen seen) (gives_order ps)) pulls ps
     → SettlesOne (clocks_seen seen) pulls (all_atoms ps) workers old new s t slice → IsSliceOf seen slice ps
 slice_settled seen pulls ps workers old new s t slice order adds one =
     slice_is seen slice ps one.fits
@@ -87,18 +87,18 @@ slice_settled seen pulls ps workers old new s t slice order adds one =
     (λ h. is.1 (h.consistent, (one.cuts c h.consistent).0 h), λ h. (one.cuts c h.0).1 ((is.0 h).1)))
 
 -- how many pulls there are
-pub few_pulls : (seen : Observed) (pulls : List Pull) (ps : List Piece) → AreFirstPulls (clocks_seen seen) (all_atoms ps)
-    → AddsPulls seen (first_pulls (clocks_seen seen) (all_atoms ps)) pulls ps → length pulls ≤ pulls_bound (length (lens_seen seen)) ps
+pub few_pulls : (seen : Observed) (pulls : List Pull) (ps : List Piece) → AreFirstPulls (clocks_seen seen) (gives_order ps)
+    → AddsPulls seen (first_pulls (clocks_seen seen) (gives_order ps)) pulls ps → length pulls ≤ pulls_bound (length (lens_seen seen)) ps
 few_pulls seen pulls ps order adds =
     let o = clocks_seen seen in
     let wide : length (lens_seen seen) ≡ length o = length-lengths o in
     let square : length (lens_seen seen) * (length (lens_seen seen) - 1) ≡ length o * (length o - 1) = ap (λ n. n * (n - 1)) wide in
     let few = adds.few in
     let count = order.count in
-    omega (arith, square, ap length adds.is, length-append (first_pulls o (all_atoms ps)) adds.added)
+    omega (arith, square, ap length adds.is, length-append (first_pulls o (gives_order ps)) adds.added)
 
 pub rows_settled : (seen : Observed) (pulls : List Pull) (ps : List Piece) (workers : ℕ) (old new : RoundView) (s t : ℕ) (slice : SliceView)
-    → AreFirstPulls (clocks_seen seen) (all_atoms ps) → AddsPulls seen (first_pulls (clocks_seen seen) (all_atoms ps)) pulls ps
+    → AreFirstPulls (clocks_seen seen) (gives_order ps) → AddsPulls seen (first_pulls (clocks_seen seen) (gives_order ps)) pulls ps
     → SettlesOne (clocks_seen seen) pulls (all_atoms ps) workers old new s t slice → Settles seen workers old new s t (ps ∷ [])
 rows_settled seen pulls ps workers old new s t slice order adds one = record {
   before = one.before;
@@ -115,7 +115,7 @@ rows_settled seen pulls ps workers old new s t slice order adds one = record {
     o = clocks_seen seen
 
     own : all_atoms ps ≡ true → pulls ≡ pulls_of_order (clocks_seen seen) ++ pulls_of_parts seen ps
-    own atoms = adds.is ∙ ap (λ b. first_pulls (clocks_seen seen) b ++ adds.added) atoms ∙ ap (λ list. pulls_of_order (clocks_seen seen) ++ list) (adds.own atoms)
+    own atoms = adds.is ∙ ap (λ b. first_pulls (clocks_seen seen) b ++ adds.added) (atoms_give_none ps atoms) ∙ ap (λ list. pulls_of_order (clocks_seen seen) ++ list) (adds.own atoms)
 
     is_settled : IsSettled seen ps one.rows
     is_settled = record {

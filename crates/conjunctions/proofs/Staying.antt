@@ -1,12 +1,11 @@
 -- What a later run asks of the cuts of the earlier one: no more, where what was there met it.
-use Rattle.std.proofs.Common.{◌≡◌, ℕ, ◌<◌, Bool, true, false, List, [], ◌∷◌, length, Option, Some, None, sym, subst}
+use Rattle.std.proofs.Common.{ℕ, ◌<◌, Bool, true, false, List, [], ◌∷◌, length, Some, None, sym, subst}
 use Rattle.trace_growth.specs.Growing.{IsTrace}
-use Rattle.pull_system.specs.System.{SystemView}
 use Rattle.pull_system.specs.Growth.{Stays}
 use Rattle.pull_system.proofs.Staying.{AllStay, stay_none, stay_one, stay_on}
 use Rattle.slice_graph.specs.PullLists.{pulls_of_order}
 use Rattle.slice_graph.proofs.OrderGrowing.{order_stays}
-use Rattle.rctl_parts.specs.Pieces.{Atom, Piece, atom, temporal, local, at_most, at_least, never}
+use Rattle.rctl_parts.specs.Pieces.{Atom, Piece, atom, temporal, local, at_most, at_least, never, diff_at_most, diff_at_least}
 use Rattle.rctl_parts.specs.MadeFor.{AtomFits, PieceFits, EachFits}
 use Rattle.local_preds.specs.LocalPulls.{never_pull, constant_pulls_of}
 use Rattle.local_preds.specs.LocalRuns.{HasGrownAt, constant_truth}
@@ -17,7 +16,10 @@ use Rattle.conjunctions.specs.declared.observed.Observed.{Observed}
 use Rattle.conjunctions.specs.Observing.{clocks_seen, lens_seen, scope_seen, AreFull}
 use Rattle.conjunctions.specs.Systems.{pulls_of_atom, pulls_of_part, pulls_of_parts, system_of}
 use Rattle.conjunctions.specs.Settling.{IsLater}
-use Rattle.conjunctions.proofs.Atoms.{lens_same, there, fits_process}
+use Rattle.conjunctions.proofs.Atoms.{lens_same, there, fits_process, is_variable}
+use Rattle.conjunctions.specs.Counters.{counter}
+use Rattle.counter_preds.specs.Truth as counters
+use Rattle.counter_preds.proofs.Growing as counter_growing
 
 -- a process of the earlier run has grown
 pub has_grown_at : (before after : Observed) → IsTrace before.trace.states → IsTrace after.trace.states → AreFull before → IsLater before after → (p : ℕ) → p < length before.trace.states.events
@@ -31,6 +33,10 @@ has_grown_at before after old new full later p there = record {
   full = full.each p;
   rows = λ w on. later.rows w p on;
 }
+
+-- both runs have the same header, and each process its old events
+pub more_events : (before after : Observed) → IsLater before after → counters.HasMoreEvents before.trace.states after.trace.states
+more_events before after later = record { header = later.header; each = later.events.each }
 
 -- the pulls of two runs stay: those of the order, and of each atom that is made for them
 pub record OrderStays (before after : Observed) : Type 0 where
@@ -71,6 +77,12 @@ atoms_stay before after old new full later (at_most p q k) fits =
 atoms_stay before after old new full later (at_least p q k) fits =
     stay_one (lens_of before.trace.states) _ _ (at_least_stays before.trace.states after.trace.states p q k later.events)
 atoms_stay before after old new full later never fits = constant_stays (lens_of before.trace.states) (lens_of after.trace.states) false
+atoms_stay before after old new full later (diff_at_most p x q y k) fits =
+    stay_one (lens_of before.trace.states) _ _
+    (counter_growing.at_most_stays before.trace.states after.trace.states (counter p x) (counter q y) k (more_events before after later) old.whole new.whole (is_variable before old p x fits.0) (is_variable before old q y fits.1))
+atoms_stay before after old new full later (diff_at_least p x q y k) fits =
+    stay_one (lens_of before.trace.states) _ _
+    (counter_growing.at_least_stays before.trace.states after.trace.states (counter p x) (counter q y) k (more_events before after later) old.whole new.whole (is_variable before old p x fits.0) (is_variable before old q y fits.1))
 
 pub orders_stay : (before after : Observed) → IsTrace before.trace.states → IsTrace after.trace.states → AreFull before → IsLater before after → OrderStays before after
 orders_stay before after old new full later = record {

@@ -2,7 +2,7 @@
 -- part.
 use Rattle.std.specs.Prelude.{◌≡◌, ℕ, ◌+◌, ◌↔◌, Bool, List, [], ◌∷◌, ◌++◌, Option, None, Some}
 use Rattle.std.specs.Prelude.{IsTrue}
-use Rattle.run_model.specs.Cut.{Cut, Clocks, initial}
+use Rattle.run_model.specs.Cut.{Cut, initial}
 use Rattle.run_model.specs.Sublattice.{Smallest}
 use Rattle.run_model.specs.Slice.{StandsFor, Cuts}
 use Rattle.run_model.specs.Meaning.{Sat, Family}

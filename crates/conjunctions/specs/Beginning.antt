@@ -10,7 +10,7 @@ use Rattle.slice_graph.specs.PullLists.{pulls_of_order}
 use Rattle.slice_graph.specs.Starting.{AreWithinClosed}
 
 -- what the parts so far ask of cuts, where there are some, rows to begin from, and whether one
--- temporal part alone asks it
+-- operator's slice alone asks it
 pub record GatheredView : Type 0 where
   pub pulls : List Pull
   pub floor : Option RowsView
@@ -67,7 +67,7 @@ abbrev pub FinalsOfAtoms : Option RowsView → List ℕ → Type 0
 FinalsOfAtoms None finals = AreNone finals
 FinalsOfAtoms (Some rows) finals = HaveCuts rows finals
 
--- where one temporal part asks alone, all rows that were gathered may be final, and else none
+-- where one slice asks alone, all rows that were gathered may be final, and else none
 abbrev pub GatheredFinals : List ℕ → Bool → List ℕ → Type 0
 GatheredFinals lens false finals = AreNone finals
 GatheredFinals lens true finals = AreWithin lens finals

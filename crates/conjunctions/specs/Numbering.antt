@@ -1,6 +1,8 @@
 -- The conjunctions of a formula in the order of their numbers: each disjunct, and before it the
 -- operands of its temporal parts in the order of the parts, each behind the operands within it.
-use Rattle.std.specs.Prelude.{Bool, true, false, ◌&&◌, List, [], ◌∷◌, ◌++◌, flat_map}
+use Rattle.std.specs.Prelude.{Bool, true, false, ◌&&◌, ◌||◌, List, [], ◌∷◌, ◌++◌, flat_map}
+use Rattle.rctl_grammar.specs.declared.tree.Operator.{Operator}
+use Rattle.rctl_grammar.specs.declared.tree.Operator.TheVariants as operator
 use Rattle.rctl_parts.specs.Pieces.{Piece, Pieces, atom, temporal, none, more, listed}
 
 abbrev mutual
@@ -29,3 +31,23 @@ is_atom (temporal operator ps) = false
 abbrev pub all_atoms : List Piece → Bool
 all_atoms [] = true
 all_atoms (p ∷ ps) = is_atom p && all_atoms ps
+
+-- EF, AG and EG give the order: only consistent cuts are closed under the pulls of their slices. A
+-- cut that is closed under those of EX need not be consistent, though the cut with the next event
+-- is
+abbrev pub operator_gives_order : Operator → Bool
+operator_gives_order operator.Ef = true
+operator_gives_order operator.Ag = true
+operator_gives_order operator.Eg = true
+operator_gives_order (operator.Ex process) = false
+operator_gives_order operator.Af = false
+operator_gives_order operator.Ax = false
+
+abbrev pub part_gives_order : Piece → Bool
+part_gives_order (atom a) = false
+part_gives_order (temporal o ps) = operator_gives_order o
+
+-- some part is EF, AG or EG
+abbrev pub gives_order : List Piece → Bool
+gives_order [] = false
+gives_order (p ∷ ps) = part_gives_order p || gives_order ps

@@ -10,15 +10,18 @@ use Rattle.pull_system.specs.Pulls.{ClosedUnder}
 use Rattle.slice_graph.specs.PullLists.{pulls_of_order}
 use Rattle.rctl_parts.specs.Exprs.{Expr}
 use Rattle.rctl_parts.specs.Pieces.{Atom, Piece, atom, temporal, local, at_most, at_least, never}
+use Rattle.rctl_parts.specs.Pieces.{diff_at_most, diff_at_least}
 use Rattle.local_preds.specs.LocalRuns.{local_pulls, constant_truth}
 use Rattle.local_preds.specs.LocalPulls.{constant_pulls_of}
 use Rattle.channel_preds.specs.Truth.{lens_of, at_most_pulls, at_least_pulls}
+use Rattle.counter_preds.specs.Truth as counters
 use Rattle.rctl_parts.specs.Spelled.{conjunction_of, atom_formula}
 use Rattle.conjunctions.specs.declared.observed.Observed.{Observed}
 use Rattle.conjunctions.specs.Observing.{Reading, AreAnswers, clocks_seen, lens_seen, run_seen}
 use Rattle.conjunctions.specs.Observing.{names_seen}
-use Rattle.conjunctions.specs.Numbering.{all_atoms}
+use Rattle.conjunctions.specs.Numbering.{all_atoms, gives_order}
 use Rattle.conjunctions.specs.Counting.{rooms_of}
+use Rattle.conjunctions.specs.Counters.{counter}
 
 -- the pulls of a local part: of its truths along its process, or of a constant
 abbrev pub pulls_of_local : Observed → Option ℕ → Expr → List Pull
@@ -31,8 +34,12 @@ pulls_of_atom seen (local process e) = pulls_of_local seen process e
 pulls_of_atom seen (at_most p q k) = at_most_pulls seen.trace.states p q k
 pulls_of_atom seen (at_least p q k) = at_least_pulls seen.trace.states p q k
 pulls_of_atom seen never = constant_pulls_of (lens_of seen.trace.states) false
+pulls_of_atom seen (diff_at_most p x q y k) =
+    counters.at_most_pulls seen.trace.states (counter p x) (counter q y) k
+pulls_of_atom seen (diff_at_least p x q y k) =
+    counters.at_least_pulls seen.trace.states (counter p x) (counter q y) k
 
--- a temporal part has none of its own: its operand's slice gives them
+-- a temporal part has none of its own: they come from its operand's slice
 abbrev pub pulls_of_part : Observed → Piece → List Pull
 pulls_of_part seen (atom a) = pulls_of_atom seen a
 pulls_of_part seen (temporal operator ps) = []
@@ -51,14 +58,14 @@ ordered_system seen added = record {
 abbrev pub system_of : Observed → List Piece → SystemView
 system_of seen ps = ordered_system seen (pulls_of_parts seen ps)
 
--- the pulls that a conjunction begins with: those of the order where all of its parts are atoms,
--- and else none, since only consistent cuts are closed under the pulls of a temporal part
+-- the pulls that a conjunction begins with: none where a part gives the order, and else those of
+-- the order
 abbrev pub first_pulls : Clocks → Bool → List Pull
-first_pulls o true = pulls_of_order o
-first_pulls o false = []
+first_pulls o true = []
+first_pulls o false = pulls_of_order o
 
 -- the pulls of these parts stand behind those that were there: a consistent cut is closed under
--- them exactly where all parts are true, and where a part is temporal only consistent cuts are
+-- them exactly where all parts are true, and where a part gives the order only consistent cuts are
 -- closed under them
 pub record AddsPulls (seen : Observed) (old new : List Pull) (ps : List Piece) : Type 0 where
   pub added : List Pull
@@ -69,7 +76,7 @@ pub record AddsPulls (seen : Observed) (old new : List Pull) (ps : List Piece) :
       → IsConsistent (clocks_seen seen) c
       → ClosedUnder added c ↔ Sat (run_seen seen reading)
       (conjunction_of (names_seen seen reading) ps) c
-  pub orders : all_atoms ps ≡ false → (c : Cut) → length c ≡ length (clocks_seen seen)
+  pub orders : gives_order ps ≡ true → (c : Cut) → length c ≡ length (clocks_seen seen)
       → IsWithin c (lens_seen seen) → ClosedUnder added c → IsConsistent (clocks_seen seen) c
   pub own : all_atoms ps ≡ true → added ≡ pulls_of_parts seen ps
 

@@ -1,10 +1,10 @@
 //! Conjunctions, each behind those within it.
 ghost use Rattle.std.specs.Prelude.{◌≡◌, ◌∷◌, [], ◌+◌, ◌<◌, ◌≤◌, true, false, length, IfOk, OnOk};
-ghost use Rattle.run_model.specs.Cut.{initial};
 ghost use Rattle.rctl_parts.specs.Pieces.{piece_of, pieces_of};
 ghost use Rattle.rctl_parts.specs.MadeFor.{PieceFits, EachFits, part_count, parts_count};
 ghost use Rattle.conjunctions.specs.Observing.{IsReady, scope_seen, clocks_seen, lens_seen};
 ghost use Rattle.conjunctions.specs.Numbering.{within, conjunctions_in};
+ghost use Rattle.conjunctions.specs.Counters.{AllRise, counters_of_part, counters_of_parts};
 ghost use Rattle.conjunctions.specs.Systems.{AddsPulls};
 ghost use Rattle.conjunctions.specs.Beginning.{FloorFits};
 ghost use Rattle.conjunctions.specs.Settling.{AreFloors, Settles};
@@ -14,15 +14,15 @@ ghost use Rattle.conjunctions.specs.Answering.{place};
 use crate::answer::PartAnswer;
 use crate::atom::add_atom;
 use crate::gathered::Gathered;
+use crate::kinds::are_atoms;
+use crate::means::Means;
 use crate::observed::Observed;
-use crate::operator::operate;
+use crate::operator::add_operator;
 use crate::round::Round;
-use crate::settling::{are_atoms, settle_gathered};
-use cut_lattice::Cut;
+use crate::settling::settle_gathered;
 use pota_base::{Gate, List, NoMemory, Steps};
 use rctl_parts::Part;
 use slice_graph::Slice;
-use std::alloc::Global;
 use std::sync::ledger::Ledger;
 use std::thread::Threads;
 
@@ -30,124 +30,100 @@ use std::thread::Threads;
 /// answers of the parts, as those of a disjunct of this number, are put behind the others.
 #[cycle(conjunction)]
 pub fn settle_conjunction<R: Threads + Sync, G: Gate, L: Ledger>(
-    rt: &R,
-    alloc: Global,
+    means: &Means<R, G>,
     seen: &Observed,
     parts: &[Part],
     disjunct: u32,
-    start: &Cut,
     round: &mut Round,
     answers: &mut List<PartAnswer>,
-    workers: u32,
-    gate: &G,
     steps: &mut Steps<L>,
 ) -> Result<Slice, NoMemory>
     requires ready { IsReady seen.now }
     requires fits { EachFits (scope_seen seen.now) (pieces_of parts.now) }
     requires count { parts_count (pieces_of parts.now) ≤ 128 }
-    requires start { start.now ≡ initial (clocks_seen seen.now) }
+    requires counters { AllRise seen.now (counters_of_parts (pieces_of parts.now)) }
     requires floors { AreFloors seen.now round.old.before (conjunctions_in (pieces_of parts.now)) }
-    requires some { 1 ≤ workers }
-    requires few { workers ≤ 16 }
     ensures slice { IfOk result (λ slice. IsSliceOf seen.now slice (pieces_of parts.now)) }
-    ensures settles { OnOk result (Settles seen.now workers round.old round.new steps.old steps.new
-        (conjunctions_in (pieces_of parts.now))) }
+    ensures settles { OnOk result (Settles seen.now means.now.workers round.old round.new steps.old
+        steps.new (conjunctions_in (pieces_of parts.now))) }
     ensures answers { OnOk result (AddsAnswers seen.now answers.old answers.new
         (places_from disjunct 1 (pieces_of parts.now))) }
 {
-    let atoms = are_atoms(parts);
-    let mut gathered = Gathered::new(alloc, seen.trace.order(), atoms)?;
+    let order = seen.trace.order();
+    let mut gathered = Gathered::new(means.alloc, order, parts)?;
     'parts: for (index, part) in parts.iter().enumerate() {
+        let number = index as u32 + 1;
         let answer = add_part(
-            rt,
-            alloc,
+            means,
             seen,
             part,
             disjunct,
-            index as u32 + 1,
-            start,
+            number,
             round,
             &mut gathered,
-            workers,
-            gate,
             steps,
         )?;
         answers.push(answer)?;
     }
-    settle_gathered(
-        rt,
-        alloc,
-        seen.trace.order(),
-        gathered,
-        atoms,
-        round,
-        workers,
-        gate,
-        steps,
-    )
+    settle_gathered(means, order, gathered, are_atoms(parts), round, steps)
 }
 
 /// Settles the conjunctions within a part, and gathers what the part asks. It gives the part's
 /// answer.
 #[cycle(conjunction)]
 fn add_part<R: Threads + Sync, G: Gate, L: Ledger>(
-    rt: &R,
-    alloc: Global,
+    means: &Means<R, G>,
     seen: &Observed,
     part: &Part,
     disjunct: u32,
     number: u32,
-    start: &Cut,
     round: &mut Round,
     gathered: &mut Gathered,
-    workers: u32,
-    gate: &G,
     steps: &mut Steps<L>,
 ) -> Result<PartAnswer, NoMemory>
     requires ready { IsReady seen.now }
     requires fits { PieceFits (scope_seen seen.now) (piece_of part.now) }
     requires count { part_count (piece_of part.now) ≤ 128 }
-    requires start { start.now ≡ initial (clocks_seen seen.now) }
+    requires counters { AllRise seen.now (counters_of_part (piece_of part.now)) }
     requires floors { AreFloors seen.now round.old.before (within (piece_of part.now)) }
     requires floor { FloorFits (lens_seen seen.now) gathered.old }
-    requires some { 1 ≤ workers }
-    requires few { workers ≤ 16 }
     ensures answer { IfOk result
         (IsPartAnswer seen.now (place disjunct number (piece_of part.now))) }
     ensures pulls { OnOk result
         (AddsPulls seen.now gathered.old.pulls gathered.new.pulls (piece_of part.now ∷ [])) }
     ensures floor { OnOk result (FloorFits (lens_seen seen.now) gathered.new) }
-    ensures settles { OnOk result (Settles seen.now workers round.old round.new steps.old steps.new
-        (within (piece_of part.now))) }
+    ensures settles { OnOk result (Settles seen.now means.now.workers round.old round.new steps.old
+        steps.new (within (piece_of part.now))) }
 {
     match part {
         Part::Temporal { operator, parts } => {
-            let mut within = List::new(alloc);
+            let order = seen.trace.order();
+            let mut within = List::new(means.alloc);
             let operand = settle_conjunction(
-                rt,
-                alloc,
+                means,
                 seen,
                 parts.as_slice(),
                 disjunct,
-                start,
                 round,
                 &mut within,
-                workers,
-                gate,
                 steps,
             )?;
-            let slice = operate(alloc, seen.trace.order(), *operator, &operand)?;
-            gathered.add_slice(alloc, &slice)?;
+            let truth = add_operator(means.alloc, order, *operator, &operand, gathered)?;
             Ok(PartAnswer {
                 disjunct,
                 part: number,
                 operator: Some(*operator),
-                truth: slice.has(start),
+                truth,
                 operand: Some(operand),
             })
         }
-        Part::Local { .. } | Part::AtMost { .. } | Part::AtLeast { .. } | Part::Never => {
-            let truth = add_atom(alloc, seen, part, gathered)?;
+        Part::Local { .. }
+        | Part::AtMost { .. }
+        | Part::AtLeast { .. }
+        | Part::Never
+        | Part::DiffAtMost { .. }
+        | Part::DiffAtLeast { .. } => {
+            let truth = add_atom(means.alloc, seen, part, gathered)?;
             Ok(PartAnswer {
                 disjunct,
                 part: number,

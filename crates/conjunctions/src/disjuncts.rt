@@ -4,6 +4,7 @@ ghost use Rattle.graft.specs.Joined.{joined_views};
 ghost use Rattle.rctl_parts.specs.Pieces.{disjuncts_of};
 ghost use Rattle.rctl_parts.specs.MadeFor.{AreMadeFor};
 ghost use Rattle.conjunctions.specs.Observing.{IsReady, scope_seen};
+ghost use Rattle.conjunctions.specs.Counters.{CountersRise};
 ghost use Rattle.conjunctions.specs.Numbering.{all_conjunctions};
 ghost use Rattle.conjunctions.specs.Settling.{AreFloors, Settles};
 ghost use Rattle.conjunctions.specs.Answering.{IsAnswer};
@@ -11,9 +12,10 @@ ghost use Rattle.conjunctions.specs.Joining.{so_far};
 
 use crate::answer::Answer;
 use crate::conjunction::settle_conjunction;
+use crate::means::Means;
 use crate::observed::Observed;
+use crate::operator::has_initial;
 use crate::round::Round;
-use cut_lattice::Cut;
 use graft::join_slices;
 use pota_base::{Gate, List, NoMemory, Shape, Steps};
 use rctl_parts::Part;
@@ -62,6 +64,7 @@ pub fn answer_all<R: Threads + Sync, G: Gate, L: Ledger>(
 ) -> Result<Answer, NoMemory>
     requires ready { IsReady seen.now }
     requires made { AreMadeFor (scope_seen seen.now) (disjuncts_of disjuncts.now) }
+    requires counters { CountersRise seen.now (disjuncts_of disjuncts.now) }
     requires floors { AreFloors seen.now round.old.before
         (all_conjunctions (disjuncts_of disjuncts.now)) }
     requires some { 1 ≤ workers }
@@ -71,25 +74,20 @@ pub fn answer_all<R: Threads + Sync, G: Gate, L: Ledger>(
         (all_conjunctions (disjuncts_of disjuncts.now))) }
 {
     let shape = seen.trace.order().shape();
-    let start = Cut::new(alloc, shape.procs())?;
+    let means = Means {
+        rt,
+        alloc,
+        workers,
+        gate,
+    };
     let mut parts = List::new(alloc);
     let mut truth = false;
     let mut joined = None;
     'disjuncts: for (index, disjunct) in disjuncts.iter().enumerate() {
-        let one = settle_conjunction(
-            rt,
-            alloc,
-            seen,
-            disjunct.as_slice(),
-            index as u32 + 1,
-            &start,
-            round,
-            &mut parts,
-            workers,
-            gate,
-            steps,
-        )?;
-        truth |= one.has(&start);
+        let number = index as u32 + 1;
+        let disjunct = disjunct.as_slice();
+        let one = settle_conjunction(&means, seen, disjunct, number, round, &mut parts, steps)?;
+        truth |= has_initial(alloc, &one)?;
         let more = join_disjunct(alloc, joined, one)?;
         joined = Some(more);
     }

@@ -111,7 +111,7 @@ pub fn beginning_of(
     }
 }
 
-/// Which of the rows that were gathered are final: all where one temporal part asks alone.
+/// Which of the rows that were gathered are final: all where one slice asks alone.
 fn gathered_finals(shape: &Shape, alone: bool) -> [u32; 32]
     ensures { GatheredFinals shape.now alone result }
 {

@@ -6,24 +6,29 @@ ghost use Rattle.pull_system.specs.Fans.{pulls_of_fans};
 ghost use Rattle.slice_graph.specs.Views.{AreRows};
 ghost use Rattle.slice_graph.specs.Fitting.{FitsOrder};
 ghost use Rattle.slice_graph.specs.PullLists.{pulls_of_slice};
+ghost use Rattle.rctl_parts.specs.Pieces.{pieces_of};
+ghost use Rattle.conjunctions.specs.Numbering.{gives_order};
 ghost use Rattle.conjunctions.specs.Systems.{first_pulls};
 ghost use Rattle.conjunctions.specs.Beginning.{FloorFits};
 
+use crate::kinds::{are_atoms, give_order};
 use causal_order::Order;
 use pota_base::{List, NoMemory, Shape};
 use pull_system::{Fan, Floor, Pull};
-use slice_graph::{Slice, order_fans};
+use rctl_parts::Part;
+use slice_graph::{Slice, order_fans, order_rows};
 use std::alloc::Global;
 use std::marker::Model;
 
 /// What the parts so far ask of cuts. Contracts see the pulls of the fans, one after the other, the
-/// floor, and whether one temporal part asks alone.
+/// floor, and whether one slice asks alone.
 #[derive(Debug, Drop)]
 pub struct Gathered {
     fans: List<Fan>,
-    /// The rows of the first temporal part's slice, from which the conjunction may begin.
+    /// Rows from which the conjunction may begin: the clocks, or the rows of the first slice of an
+    /// operator.
     floor: Option<Floor>,
-    /// Whether that part asks alone, so that these rows are the least already.
+    /// Whether one slice asks alone, so that these rows, its own, are the least already.
     alone: bool,
 }
 
@@ -41,23 +46,27 @@ impl Model for Gathered {
 }
 
 impl Gathered {
-    /// What a conjunction begins with: the pulls of the order where it is one of atoms, and else
-    /// nothing, since only consistent cuts are closed under a temporal part's pulls.
-    pub fn new(alloc: Global, order: &Order, atoms: bool) -> Result<Gathered, NoMemory>
-        ensures pulls { IfOk result (λ gathered. gathered.pulls ≡ first_pulls order.now atoms) }
-        ensures floor { IfOk result (λ gathered. gathered.floor ≡ None) }
-        ensures alone { IfOk result (λ gathered. gathered.alone ≡ false) }
+    /// What a conjunction of these parts begins with: nothing where a part gives the order, and else
+    /// the pulls of the order. The clocks are the rows to begin from, but where all parts are atoms:
+    /// these have rows of their own.
+    pub fn new(alloc: Global, order: &Order, parts: &[Part]) -> Result<Gathered, NoMemory>
+        ensures pulls { IfOk result (λ gathered. gathered.pulls
+            ≡ first_pulls order.now (gives_order (pieces_of parts.now))) }
+        ensures floor { IfOk result (FloorFits (lengths order.now)) }
     {
-        let fans = if atoms {
-            order_fans(alloc, order)?
-        } else {
-            List::new(alloc)
-        };
-        Ok(Gathered {
-            fans,
+        let mut gathered = Gathered {
+            fans: List::new(alloc),
             floor: None,
             alone: false,
-        })
+        };
+        if give_order(parts) {
+            return Ok(gathered);
+        }
+        gathered.fans = order_fans(alloc, order)?;
+        if !are_atoms(parts) {
+            gathered.floor = Some(order_rows(alloc, order)?);
+        }
+        Ok(gathered)
     }
 
     /// Puts pulls behind the others.
@@ -80,8 +89,8 @@ impl Gathered {
         Ok(())
     }
 
-    /// Puts the pulls of a temporal part's slice behind the others, and keeps the rows of the first
-    /// such slice. Where nothing was asked before, the part asks alone.
+    /// Puts the pulls of an operator's slice behind the others, and keeps the rows of the first such
+    /// slice. Where nothing was asked before, the slice asks alone.
     pub fn add_slice(&mut self, alloc: Global, slice: &Slice) -> Result<(), NoMemory>
         ensures pulls { OnOk result (self.new.pulls ≡ self.old.pulls ++ pulls_of_slice slice.now) }
         ensures floor { (o : Clocks) → FitsOrder o slice.now → FloorFits (lengths o) self.old
@@ -99,10 +108,12 @@ impl Gathered {
     }
 
     /// Puts fans behind the others.
-    fn add_fans(&mut self, added: List<Fan>) -> Result<(), NoMemory>
+    pub fn add_fans(&mut self, added: List<Fan>) -> Result<(), NoMemory>
         ensures pulls { OnOk result (self.new.pulls ≡ self.old.pulls ++ pulls_of_fans added) }
         ensures floor { self.new.floor ≡ self.old.floor }
+        ensures alone { self.new.alone ≡ false }
     {
+        self.alone = false;
         for fan in added.into_vec() {
             self.fans.push(fan)?;
         }
@@ -117,7 +128,7 @@ impl Gathered {
         self.floor.is_none() && self.fans.is_empty()
     }
 
-    /// Whether one temporal part asks alone.
+    /// Whether one slice asks alone.
     pub fn is_alone(&self) -> bool
         ensures { result ≡ self.now.alone }
     {

@@ -1,5 +1,6 @@
 //! Laws on answers and on kept rows. The functions do nothing.
 ghost use Rattle.std.specs.Prelude.{◌≡◌, ℕ, ◌≤◌, true, List, sum, Some};
+ghost use Rattle.run_model.specs.Class.{IsKeptFor};
 ghost use Rattle.trace_growth.specs.Growing.{IsTrace};
 ghost use Rattle.pull_system.specs.Vector.{IsWithin};
 ghost use Rattle.pull_system.specs.Rows.{RowsView, IsLeast, row_at};
@@ -8,7 +9,10 @@ ghost use Rattle.rctl_parts.specs.Pieces.{Piece};
 ghost use Rattle.rctl_parts.specs.MadeFor.{AllFit, EachFits};
 ghost use Rattle.conjunctions.specs.declared.observed.Observed.{Observed};
 ghost use Rattle.conjunctions.specs.declared.answer.Answer.{Answer};
-ghost use Rattle.conjunctions.specs.Observing.{AreFull, scope_seen, lens_seen};
+ghost use Rattle.rctl_parts.specs.Spelled.{disjunction_of};
+ghost use Rattle.conjunctions.specs.Observing.{AreFull, Reading, scope_seen, lens_seen};
+ghost use Rattle.conjunctions.specs.Observing.{run_seen, names_seen};
+ghost use Rattle.conjunctions.specs.Counters.{AllRise, CountersRise, counters_of_parts};
 ghost use Rattle.conjunctions.specs.Numbering.{all_conjunctions, all_atoms};
 ghost use Rattle.conjunctions.specs.Systems.{system_of};
 ghost use Rattle.conjunctions.specs.Settling.{AreSettled, IsSettled, AreFloors, IsLater};
@@ -23,12 +27,12 @@ pub fn one_answer()
         → IsAnswer seen ds a → IsAnswer seen ds b → a ≡ b }
 {}
 
-/// The rows of conjunctions may be begun from once more was observed: grown, they lie between the
-/// starts and the least rows.
+/// The rows of conjunctions may be begun from once more was observed, and no counter fell: grown,
+/// they lie between the starts and the least rows.
 pub fn settled_rows_are_kept()
     ensures { (before after : Observed) (ds : List (List Piece)) (rows : List RowsView)
         → IsTrace before.trace.states → IsTrace after.trace.states → AreFull before
-        → IsLater before after → AllFit (scope_seen before) ds
+        → IsLater before after → AllFit (scope_seen before) ds → CountersRise after ds
         → AreSettled before (all_conjunctions ds) rows
         → AreFloors after rows (all_conjunctions ds) }
 {}
@@ -38,18 +42,28 @@ pub fn settled_rows_are_kept()
 pub fn rows_with_a_cut_are_final()
     ensures same { (before after : Observed) (ps : List Piece) (old new : RowsView)
         → IsTrace before.trace.states → IsTrace after.trace.states → AreFull before
-        → IsLater before after → EachFits (scope_seen before) ps → all_atoms ps ≡ true
+        → IsLater before after → EachFits (scope_seen before) ps
+        → AllRise after (counters_of_parts ps) → all_atoms ps ≡ true
         → IsSettled before ps old → IsSettled after ps new
         → (row kept : ℕ) → row ≤ sum new.lens → old_row old.lens new.lens row ≡ Some kept
         → IsWithin (row_at old.lens old.words kept) old.lens
         → row_at new.lens new.words row ≡ row_at old.lens old.words kept }
     ensures floor { (before after : Observed) (ps : List Piece) (old : RowsView)
         → IsTrace before.trace.states → IsTrace after.trace.states → AreFull before
-        → IsLater before after → EachFits (scope_seen before) ps → all_atoms ps ≡ true
+        → IsLater before after → EachFits (scope_seen before) ps
+        → AllRise after (counters_of_parts ps) → all_atoms ps ≡ true
         → IsSettled before ps old
         → (row kept : ℕ) → row ≤ sum (lens_seen after)
         → old_row old.lens (lens_seen after) row ≡ Some kept
         → IsWithin (row_at old.lens old.words kept) old.lens
         → IsLeast (system_of after ps) row
         (row_at (lens_seen after) (grown_words (lens_seen after) old) row) }
+{}
+
+/// Where no counter of the disjuncts falls in what was observed, none that their formula names
+/// falls in the run, whatever the watches answer.
+pub fn counters_are_kept()
+    ensures { (seen : Observed) (reading : Reading) (ds : List (List Piece))
+        → IsTrace seen.trace.states → AllFit (scope_seen seen) ds → CountersRise seen ds
+        → IsKeptFor (run_seen seen reading) (disjunction_of (names_seen seen reading) ds) }
 {}

@@ -10,17 +10,25 @@
 //! `settles`). What was observed has one answer (`one_answer`), and the rows of before may be begun
 //! from once more was observed (`settled_rows_are_kept`).
 //!
+//! A difference of counters is an atom. Its pulls say what it means where neither counter ever
+//! falls, which the caller has to show (clause `counters`; `counters_are_kept` hands it on). EX asks
+//! by the slice of its operand and has none of its own: a cut that is closed under its pulls need
+//! not be consistent, so a conjunction whose operators are all EX begins with the order's pulls.
+//!
 //! Nothing is said of the time or the memory that a call takes, nor of the steps of several
 //! workers.
 #![tactic(auto)]
 
 mod answer;
 mod atom;
+mod atom_pulls;
 mod conjunction;
 mod disjuncts;
 mod floors;
 mod gathered;
+mod kinds;
 mod laws;
+mod means;
 mod observed;
 mod operator;
 mod round;
@@ -28,6 +36,6 @@ mod settling;
 
 pub use answer::{Answer, PartAnswer};
 pub use disjuncts::answer_all;
-pub use laws::{one_answer, rows_with_a_cut_are_final, settled_rows_are_kept};
+pub use laws::{counters_are_kept, one_answer, rows_with_a_cut_are_final, settled_rows_are_kept};
 pub use observed::Observed;
 pub use round::Round;

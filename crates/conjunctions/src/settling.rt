@@ -3,60 +3,31 @@ ghost use Rattle.std.specs.Prelude.{◌≡◌, ◌^◌, ◌<◌, ◌≤◌, true
 ghost use Rattle.run_model.specs.Cut.{lengths};
 ghost use Rattle.pull_system.specs.System.{IsPull};
 ghost use Rattle.slice_graph.specs.Fitting.{HasOrder};
-ghost use Rattle.rctl_parts.specs.Pieces.{piece_of, pieces_of};
 ghost use Rattle.conjunctions.specs.Counting.{first_of};
-ghost use Rattle.conjunctions.specs.Numbering.{is_atom, all_atoms};
 ghost use Rattle.conjunctions.specs.Beginning.{BeginsWithOrder, FloorFits};
 ghost use Rattle.conjunctions.specs.Settling.{CanBegin, SettlesOne};
 
 use crate::floors::{Beginning, beginning_of};
 use crate::gathered::Gathered;
+use crate::means::Means;
 use crate::round::Round;
 use bound_table::BoundTable;
 use causal_order::Order;
 use pota_base::{Gate, NoMemory, Steps};
 use pull_system::System;
-use rctl_parts::Part;
 use slice_graph::Slice;
 use slice_workers::settle_behind;
-use std::alloc::Global;
 use std::sync::ledger::Ledger;
 use std::thread::Threads;
-
-/// Whether the part isn't temporal.
-#[tactic(auto, using(rctl_parts::proofs::Rules::pieces))]
-fn is_atom(part: &Part) -> bool
-    ensures { result ≡ is_atom (piece_of part.now) }
-{
-    match part {
-        Part::Temporal { .. } => false,
-        Part::Local { .. } | Part::AtMost { .. } | Part::AtLeast { .. } | Part::Never => true,
-    }
-}
-
-/// Whether none of the parts is temporal.
-pub fn are_atoms(parts: &[Part]) -> bool
-    ensures { result ≡ all_atoms (pieces_of parts.now) }
-{
-    for part in parts {
-        if !is_atom(part) {
-            return false;
-        }
-    }
-    true
-}
 
 /// Settles the rows of the conjunction that has what was gathered, from its rows of before where
 /// they are kept, and gives its slice. Rows that are final where it begins are not settled again.
 pub fn settle_gathered<R: Threads + Sync, G: Gate, L: Ledger>(
-    rt: &R,
-    alloc: Global,
+    means: &Means<R, G>,
     order: &Order,
     gathered: Gathered,
     keeps: bool,
     round: &mut Round,
-    workers: u32,
-    gate: &G,
     steps: &mut Steps<L>,
 ) -> Result<Slice, NoMemory>
     requires fit { All (IsPull (lengths order.now)) gathered.pulls }
@@ -67,11 +38,10 @@ pub fn settle_gathered<R: Threads + Sync, G: Gate, L: Ledger>(
     requires before { CanBegin (record { lens = lengths order.now; pulls = gathered.pulls }) keeps
         (first_of round.old.before) }
     requires floor { FloorFits (lengths order.now) gathered }
-    requires some { 1 ≤ workers }
-    requires few { workers ≤ 16 }
-    ensures { IfOk result (SettlesOne order.now gathered.pulls keeps workers round.old round.new
-        steps.old steps.new) }
+    ensures { IfOk result (SettlesOne order.now gathered.pulls keeps means.now.workers round.old
+        round.new steps.old steps.new) }
 {
+    let alloc = means.alloc;
     let alone = gathered.is_alone();
     let (fans, floor) = gathered.into_fans();
     let system = System::of_fans(alloc, order.shape(), fans)?;
@@ -79,7 +49,16 @@ pub fn settle_gathered<R: Threads + Sync, G: Gate, L: Ledger>(
     let Beginning { floor, finals } = begins;
     let (table, mut seat) = BoundTable::begun(alloc, system, floor)?;
     let finals = &finals[..order.shape().procs() as usize];
-    let settled = settle_behind(rt, alloc, &table, &mut seat, finals, workers, gate, steps)?;
+    let settled = settle_behind(
+        means.rt,
+        alloc,
+        &table,
+        &mut seat,
+        finals,
+        means.workers,
+        means.gate,
+        steps,
+    )?;
     drop(table.close(seat));
     let slice = Slice::from_rows(alloc, order, settled.rows())?;
     round.keep(settled)?;

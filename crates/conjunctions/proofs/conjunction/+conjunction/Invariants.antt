@@ -1,6 +1,6 @@
 use Rattle.std.proofs.Common.{take}
 use Rattle.rctl_parts.specs.Pieces.{pieces_of}
-use Rattle.conjunctions.specs.Numbering.{all_atoms}
+use Rattle.conjunctions.specs.Numbering.{gives_order}
 use Rattle.conjunctions.specs.Observing.{clocks_seen}
 use Rattle.conjunctions.specs.Systems.{first_pulls}
 use Rattle.conjunctions.proofs.Gathering.{PartsAdded}
@@ -8,5 +8,5 @@ use Rattle.conjunctions.proofs.conjunction.+conjunction.Given as goal
 
 abbrev pub invariant-settle_conjunction-parts : goal.invariant-settle_conjunction-parts
 invariant-settle_conjunction-parts g l =
-    PartsAdded l.seen l.workers l.disjunct l.fn.round l.round l.fn.steps l.steps l.fn.answers l.answers
-    (first_pulls (clocks_seen l.seen) (all_atoms (pieces_of l.parts))) l.gathered (pieces_of (take l.index l.parts))
+    PartsAdded l.seen l.means.workers l.disjunct l.fn.round l.round l.fn.steps l.steps l.fn.answers l.answers
+    (first_pulls (clocks_seen l.seen) (gives_order (pieces_of l.parts))) l.gathered (pieces_of (take l.index l.parts))

@@ -1,8 +1,7 @@
-use Rattle.std.proofs.Common.{◌≡◌, ℕ, ◌+◌, ◌<◌, ◌≤◌, false, List, [], None, take, length, refl, sym, ◌∙◌, ap, subst, arith}
-use Rattle.std.specs.Prelude.{◌↔◌, ◌||◌, IsTrue}
-use Rattle.run_model.specs.Cut.{Cut, Clocks, initial, lengths}
-use Rattle.run_model.specs.Slice.{Cuts}
-use Rattle.slice_graph.specs.Views.{SliceView, slice_of}
+use Rattle.std.proofs.Common.{◌≡◌, ℕ, ◌+◌, false, List, [], None, take, length, refl, sym, ◌∙◌, ap, subst, arith}
+use Rattle.std.specs.Prelude.{◌||◌}
+use Rattle.run_model.specs.Cut.{lengths}
+use Rattle.slice_graph.specs.Views.{SliceView}
 use Rattle.conjunctions.specs.declared.answer.PartAnswer.{PartAnswer}
 use Rattle.conjunctions.specs.Answering.{IsSliceOf, AddsAnswers, places_from}
 use Rattle.conjunctions.specs.Settling.{AreFloors, Settles}
@@ -13,9 +12,10 @@ use Rattle.rctl_parts.specs.MadeFor.{AllFit, EachFits, parts_count, disjuncts_co
 use Rattle.conjunctions.specs.Observing.{clocks_seen, lens_seen, scope_seen}
 use Rattle.conjunctions.specs.Numbering.{conjunctions_in, all_conjunctions}
 use Rattle.conjunctions.specs.Joining.{so_far}
+use Rattle.conjunctions.specs.Counters.{AllRise, CountersRise, counters_of_parts}
 use Rattle.conjunctions.proofs.Ending.{is_order}
-use Rattle.conjunctions.proofs.Parts.{first_is_cut}
-use Rattle.conjunctions.proofs.Answered.{Answered, answered_none, answered_more, answered_all, disjunct_at, disjuncts_taken, length-disjuncts, all_taken, disjunct_fits, disjunct_count, disjunct_floors, initial_is, joins, same_lens}
+use Rattle.conjunctions.proofs.Rising.{disjunct_rises}
+use Rattle.conjunctions.proofs.Answered.{Answered, answered_none, answered_more, answered_all, disjunct_at, disjuncts_taken, length-disjuncts, all_taken, disjunct_fits, disjunct_count, disjunct_floors, joins, same_lens}
 use Rattle.conjunctions.proofs.disjuncts.answer_all.Goals as goal
 
 pub disjuncts-init : goal.disjuncts-init
@@ -29,7 +29,7 @@ settle_conjunction-requires-clause-fits g c = λ κs lives.
     let splits = disjunct_at c.args.disjuncts.now c.disjuncts.index c.index-disjuncts-index.result c.disjuncts-test.true c.index-disjuncts-index.is in
     let fits = disjunct_fits (scope_seen c.args.seen.now) (disjuncts_of (take c.disjuncts.index c.args.disjuncts.now)) (pieces_of c.index-disjuncts-index.result) splits.later
     (subst (AllFit (scope_seen c.args.seen.now)) splits.is c.requires.made.fit) in
-    subst (λ (parts : List Part). EachFits (scope_seen c.args.seen.now) (pieces_of parts)) (sym c.as_slice.ensures) fits
+    subst (λ (parts : List Part). EachFits (scope_seen c.args.seen.now) (pieces_of parts)) (sym c.as_slice-disjunct.ensures) fits
 
 pub settle_conjunction-requires-clause-count : goal.settle_conjunction-requires-clause-count
 settle_conjunction-requires-clause-count g c = λ κs lives.
@@ -39,13 +39,8 @@ settle_conjunction-requires-clause-count g c = λ κs lives.
       ap disjuncts_count splits.is,
       disjunct_count (disjuncts_of (take c.disjuncts.index c.args.disjuncts.now)) (pieces_of c.index-disjuncts-index.result) splits.later,
       c.requires.made.parts,
-      ap (λ (parts : List Part). parts_count (pieces_of parts)) c.as_slice.ensures,
+      ap (λ (parts : List Part). parts_count (pieces_of parts)) c.as_slice-disjunct.ensures,
     )
-
-pub settle_conjunction-requires-clause-start : goal.settle_conjunction-requires-clause-start
-settle_conjunction-requires-clause-start g c = λ κs lives.
-    let lens = c.shape-shape.ensures.lens ∙ ap lengths (c.order.ensures.order ∙ sym c.order.ensures.trace.clocks) in
-    c.in_ok-start.ensures ∙ initial_is c.args.seen.now c.procs.result (c.procs.ensures.count ∙ ap (length {A = ℕ}) lens)
 
 pub settle_conjunction-requires-clause-floors : goal.settle_conjunction-requires-clause-floors
 settle_conjunction-requires-clause-floors g c = λ κs lives.
@@ -53,7 +48,14 @@ settle_conjunction-requires-clause-floors g c = λ κs lives.
     let splits = disjunct_at c.args.disjuncts.now c.disjuncts.index c.index-disjuncts-index.result c.disjuncts-test.true c.index-disjuncts-index.is in
     let floors = disjunct_floors seen c.args.workers c.args.round.now c.disjuncts.round c.args.steps.now c.disjuncts.steps (disjuncts_of (take c.disjuncts.index c.args.disjuncts.now)) (pieces_of c.index-disjuncts-index.result) splits.later
     (subst (λ (ds : List (List Piece)). AreFloors seen c.args.round.now.before (all_conjunctions ds)) splits.is c.requires.floors) c.disjuncts.invariant.settles in
-    subst (λ (parts : List Part). AreFloors seen c.disjuncts.round.before (conjunctions_in (pieces_of parts))) (sym c.as_slice.ensures) floors
+    subst (λ (parts : List Part). AreFloors seen c.disjuncts.round.before (conjunctions_in (pieces_of parts))) (sym c.as_slice-disjunct.ensures) floors
+
+pub settle_conjunction-requires-clause-counters : goal.settle_conjunction-requires-clause-counters
+settle_conjunction-requires-clause-counters g c = λ κs lives.
+    let seen = c.args.seen.now in
+    let splits = disjunct_at c.args.disjuncts.now c.disjuncts.index c.index-disjuncts-index.result c.disjuncts-test.true c.index-disjuncts-index.is in
+    let rise = disjunct_rises seen (disjuncts_of (take c.disjuncts.index c.args.disjuncts.now)) (pieces_of c.index-disjuncts-index.result) splits.later (subst (CountersRise seen) splits.is c.requires.counters) in
+    subst (λ (parts : List Part). AllRise seen (counters_of_parts (pieces_of parts))) (sym c.as_slice-disjunct.ensures) rise
 
 pub disjuncts-preserved : goal.disjuncts-preserved
 disjuncts-preserved g c =
@@ -64,30 +66,28 @@ disjuncts-preserved g c =
     let d = pieces_of c.index-disjuncts-index.result in
     let there = c.disjuncts-test.true in
     let order = is_order seen c.order.ensures.trace in
-    let lens = c.shape-shape.ensures.lens ∙ ap lengths (c.order.ensures.order ∙ sym c.order.ensures.trace.clocks) in
-    let start : c.in_ok-start.start ≡ initial o = c.in_ok-start.ensures ∙ initial_is seen c.procs.result (c.procs.ensures.count ∙ ap (length {A = ℕ}) lens) in
     let number : c.disjuncts.index + 1 ≡ 1 + length ds = omega (arith, length-disjuncts all c.disjuncts.index (omega (arith, there))) in
     let settles = subst (λ (parts : List Part). Settles seen c.args.workers c.disjuncts.round c.settle_conjunction.new.round c.disjuncts.steps c.settle_conjunction.new.steps (conjunctions_in (pieces_of parts)))
-    c.as_slice.ensures c.in_ok-one.ensures.settles in
+    c.as_slice-disjunct.ensures c.in_ok-one.ensures.settles in
     let told = subst (λ (k : ℕ). AddsAnswers seen c.disjuncts.parts c.settle_conjunction.new.answers (places_from k 1 d)) number
-    (subst (λ (parts : List Part). AddsAnswers seen c.disjuncts.parts c.settle_conjunction.new.answers (places_from (c.disjuncts.index + 1) 1 (pieces_of parts))) c.as_slice.ensures c.in_ok-one.ensures.answers) in
-    let is = subst (λ (parts : List Part). IsSliceOf seen c.in_ok-one.one (pieces_of parts)) c.as_slice.ensures c.in_ok-one.ensures.slice in
+    (subst (λ (parts : List Part). AddsAnswers seen c.disjuncts.parts c.settle_conjunction.new.answers (places_from (c.disjuncts.index + 1) 1 (pieces_of parts))) c.as_slice-disjunct.ensures c.in_ok-one.ensures.answers) in
+    let is = subst (λ (parts : List Part). IsSliceOf seen c.in_ok-one.one (pieces_of parts)) c.as_slice-disjunct.ensures c.in_ok-one.ensures.slice in
     let joined = joins o order c.disjuncts.joined c.in_ok-one.one c.in_ok-more.more c.disjuncts.invariant.fits is.fits c.in_ok-more.ensures in
-    let has = subst (λ (cut : Cut). IsTrue c.has-truth.result ↔ Cuts o (slice_of c.in_ok-one.one) cut) start (c.has-truth.ensures.cuts o is.fits) in
-    subst (Answered seen c.args.workers c.args.round.now c.settle_conjunction.new.round c.args.steps.now c.settle_conjunction.new.steps c.settle_conjunction.new.answers (c.disjuncts.truth || c.has-truth.result) c.in_ok-more.more)
+    let has = c.in_ok-truth.ensures o is.fits in
+    subst (Answered seen c.args.workers c.args.round.now c.settle_conjunction.new.round c.args.steps.now c.settle_conjunction.new.steps c.settle_conjunction.new.answers (c.disjuncts.truth || c.in_ok-truth.field-0) c.in_ok-more.more)
     (sym (disjuncts_taken all c.disjuncts.index c.index-disjuncts-index.result there c.index-disjuncts-index.is))
     (answered_more seen order c.args.workers c.args.round.now c.disjuncts.round c.settle_conjunction.new.round c.args.steps.now c.disjuncts.steps c.settle_conjunction.new.steps c.disjuncts.parts c.settle_conjunction.new.answers
-    c.disjuncts.truth c.has-truth.result (so_far (lens_seen seen) c.disjuncts.joined) c.in_ok-one.one c.in_ok-more.more ds d c.disjuncts.invariant settles told is has
+    c.disjuncts.truth c.in_ok-truth.field-0 (so_far (lens_seen seen) c.disjuncts.joined) c.in_ok-one.one c.in_ok-more.more ds d c.disjuncts.invariant settles told is has
     joined.fits joined.stands)
 
 pub join_disjunct-requires : goal.join_disjunct-requires
 join_disjunct-requires g c = same_lens (clocks_seen c.args.seen.now) c.disjuncts.joined c.in_ok-one.one c.disjuncts.invariant.fits c.in_ok-one.ensures.slice.fits
 
-pub overflow_cast-index : goal.overflow_cast-index
-overflow_cast-index g c = omega (arith, length-map c.args.disjuncts.now pieces_of, c.requires.made.few, c.disjuncts-test.true)
+pub overflow_cast-number : goal.overflow_cast-number
+overflow_cast-number g c = omega (arith, length-map c.args.disjuncts.now pieces_of, c.requires.made.few, c.disjuncts-test.true)
 
-pub overflow_add-index : goal.overflow_add-index
-overflow_add-index g c = omega (arith, length-map c.args.disjuncts.now pieces_of, c.requires.made.few, c.disjuncts-test.true)
+pub overflow_add-number : goal.overflow_add-number
+overflow_add-number g c = omega (arith, length-map c.args.disjuncts.now pieces_of, c.requires.made.few, c.disjuncts-test.true)
 
 pub returns-clause-answer : goal.returns-clause-answer
 returns-clause-answer g c =

@@ -1,7 +1,7 @@
 use Rattle.std.proofs.Common.{◌≡◌, true, take}
 use Rattle.rctl_parts.specs.Pieces.{pieces_of}
 use Rattle.conjunctions.specs.Numbering.{all_atoms}
-use Rattle.conjunctions.proofs.settling.are_atoms.Given as goal
+use Rattle.conjunctions.proofs.kinds.are_atoms.Given as goal
 
 abbrev pub invariant-loop-part : goal.invariant-loop-part
 invariant-loop-part l = all_atoms (pieces_of (take l.part-index l.parts)) ≡ true

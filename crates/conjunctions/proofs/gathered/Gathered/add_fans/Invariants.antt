@@ -1,6 +1,6 @@
-use Rattle.std.proofs.Common.{◌≡◌, ◌++◌}
+use Rattle.std.proofs.Common.{◌≡◌, ◌++◌, false}
 use Rattle.pull_system.specs.Fans.{pulls_of_fans}
 use Rattle.conjunctions.proofs.gathered.Gathered.add_fans.Given as goal
 
 abbrev pub invariant-loop-fan : goal.invariant-loop-fan
-invariant-loop-fan l = (pulls_of_fans l.self-inside.fans ≡ pulls_of_fans l.initial.self-inside.fans ++ pulls_of_fans l.yielded) × (l.self-inside.floor ≡ l.initial.self-inside.floor)
+invariant-loop-fan l = (pulls_of_fans l.self-inside.fans ≡ pulls_of_fans l.initial.self-inside.fans ++ pulls_of_fans l.yielded) × ((l.self-inside.floor ≡ l.initial.self-inside.floor) × (l.self-inside.alone ≡ false))

@@ -1,4 +1,4 @@
-use Rattle.std.proofs.Common.{◌≡◌, ℕ, true, List, [], ◌++◌, Option, Some, None, sym, ◌∙◌, ap, subst, rules}
+use Rattle.std.proofs.Common.{◌≡◌, true, List, [], ◌++◌, Option, Some, None, sym, ◌∙◌, ap, subst, rules}
 use Rattle.std.specs.Prelude.{IfSome}
 use Rattle.run_model.specs.Cut.{lengths}
 use Rattle.pull_system.specs.declared.pull.Pull.{Pull}

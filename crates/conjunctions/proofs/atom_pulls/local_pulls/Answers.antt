@@ -1,4 +1,4 @@
-use Rattle.std.proofs.Common.{◌≡◌, ℕ, ◌+◌, ◌≤◌, Bool, true, List, [], ◌∷◌, length, map, get_or, Option, Some, None, All, refl, sym, ◌∙◌, ap, subst, arith}
+use Rattle.std.proofs.Common.{◌≡◌, ℕ, ◌+◌, ◌≤◌, Bool, true, List, [], ◌∷◌, length, get_or, Option, All, sym, ◌∙◌, ap, subst}
 use Rattle.std.specs.Prelude.{unwrap_or, ◌↔◌, false}
 use Rattle.pull_system.specs.Pulls.{ClosedUnder}
 use Rattle.local_preds.specs.LocalPulls.{local_pull, constant_pulls_of}
@@ -15,8 +15,8 @@ use Rattle.channel_preds.proofs.Growing.{lens-get_or}
 use Rattle.conjunctions.specs.Observing.{scope_seen}
 use Rattle.conjunctions.specs.Systems.{IsAtomOf}
 use Rattle.conjunctions.proofs.Atoms.{readable, local_some, local_none}
-use Rattle.conjunctions.proofs.atom.local_pulls.Goals as goal
-use Rattle.conjunctions.proofs.atom.local_pulls.Goals.{in-Some+in_ok-pulls-in-Some, in-None+in_ok-pulls-in-None}
+use Rattle.conjunctions.proofs.atom_pulls.local_pulls.Goals as goal
+use Rattle.conjunctions.proofs.atom_pulls.local_pulls.Goals.{in-Some+in_ok-pulls-in-Some, in-None+in_ok-pulls-in-None}
 
 pub truth_row-requires-clause-readable : goal.truth_row-requires-clause-readable
 truth_row-requires-clause-readable c =

@@ -1,0 +1,5 @@
+use Rattle.conjunctions.proofs.Kept.{kept_for}
+use Rattle.conjunctions.proofs.laws.counters_are_kept.Goals as goal
+
+pub returns : goal.returns
+returns c = kept_for
