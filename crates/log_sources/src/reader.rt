@@ -155,8 +155,9 @@ impl SourceReader {
     }
 
     /// Reads one piece more. Gives the first fault of the bytes so far, where they have one. After
-    /// want of memory the reader is of no further use.
+    /// want of memory it can't be called again.
     pub fn feed(&mut self, piece: &[u8]) -> Result<Option<MergeFault>, NoMemory>
+        // It has read some sources, and met no want of memory.
         requires at { (s : Sources) × HasReadSources self.old s }
         ensures fault { IfOk result (λ fault. (s : Sources) → HasReadSources self.old s
             → fault ≡ (after s piece.now).fault) }
