@@ -1,4 +1,5 @@
-//! Tests of the lowest crates: numbers, lists and shapes, streams, watches, and cuts.
+//! Tests of the lowest crates: numbers, lists and shapes, streams, inputs that are read, watches,
+//! and cuts.
 //!
 //! They stand apart from what they test, so that each crate is proved once.
 #![tactic(auto)]
@@ -7,6 +8,8 @@
 mod base;
 #[cfg(test)]
 mod cuts;
+#[cfg(test)]
+mod inputs;
 #[cfg(test)]
 mod streams;
 #[cfg(test)]

@@ -1,0 +1,72 @@
+//! Reading until no further byte matters.
+
+ghost use Rattle.std.specs.Prelude.{ℕ, ◌<◌, List, length, IfOk, OnErr};
+ghost use Rattle.input_reading.specs.Intakes.{Turns, ReadsAll, ReadsShort};
+
+use crate::intake::{Intake, Turn};
+use pota_base::{NoMemory, Source};
+use std::alloc::Global;
+
+/// The most bytes that one read takes.
+const PIECE: usize = 65_536;
+
+/// Why no more is read.
+#[derive(Clone, Copy, Debug, PartialEq, Eq)]
+pub enum End {
+    /// The input has ended.
+    Ended,
+    /// No byte behind those that were read matters.
+    Done,
+    /// A read failed.
+    Failed,
+}
+
+// Reads once. The answer is why no more is read, or `None` where there may be more.
+fn take_turn<S: Source, I: Intake>(
+    source: &mut S,
+    intake: &mut I,
+    room: &mut [u8],
+) -> Result<Option<End>, NoMemory>
+    requires room { 0 < length room.old }
+    requires at { (bytes : List ℕ) × I.open_ intake.old bytes }
+    ensures turn { IfOk result (λ end. (bytes : List ℕ) → I.open_ intake.old bytes
+        → Turns (S.left source.old) (S.left source.new) (S.faults source.old) (S.faults source.new)
+        (I.open_ intake.new) (I.done intake.new) (I.room intake.old) (I.room intake.new)
+        bytes end) }
+    ensures short { OnErr result (ReadsShort (S.left source.old) (S.left source.new)
+        (S.faults source.old) (S.faults source.new)) }
+{
+    match source.read(room) {
+        Ok(0) => Ok(Some(End::Ended)),
+        Ok(count) => match intake.take(&room[..count]) {
+            Ok(Turn::More) => Ok(None),
+            Ok(Turn::Done) => Ok(Some(End::Done)),
+            Err(short) => Err(short),
+        },
+        Err(_) => Ok(Some(End::Failed)),
+    }
+}
+
+/// Reads into the intake until it is done, the input has ended, or a read failed.
+pub fn read_all<S: Source, I: Intake>(
+    alloc: Global,
+    source: &mut S,
+    intake: &mut I,
+) -> Result<End, NoMemory>
+    requires { (bytes : List ℕ) × I.open_ intake.old bytes }
+    ensures reads { IfOk result (λ end. (bytes : List ℕ) → I.open_ intake.old bytes
+        → ReadsAll (S.left source.old) (S.left source.new) (S.faults source.old)
+        (S.faults source.new) (I.open_ intake.new) (I.done intake.new) bytes end) }
+    ensures short { OnErr result (ReadsShort (S.left source.old) (S.left source.new)
+        (S.faults source.old) (S.faults source.new)) }
+{
+    let mut buffer = vec![in alloc; 0u8; PIECE]?;
+    let room = buffer.as_mut_slice();
+    'turns: loop {
+        match take_turn(source, intake, room) {
+            Ok(None) => {}
+            Ok(Some(end)) => return Ok(end),
+            Err(short) => return Err(short),
+        }
+    }
+}

@@ -1,0 +1,15 @@
+pub mod LineSteps
+pub mod Firsts
+pub mod HostLaws
+pub mod Clashes
+pub mod Filling
+pub mod ScanSteps
+pub mod Inserting
+pub mod MadeSteps
+pub mod Placed
+pub mod OrderLaw
+pub mod Fits
+pub mod LongTexts
+pub mod LineLists
+pub mod ClockLaws
+pub mod ImportSteps

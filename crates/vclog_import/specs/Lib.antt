@@ -1,0 +1,9 @@
+pub mod Clock
+pub mod Faults
+pub mod Hosts
+pub mod Imported
+pub mod Laws
+pub mod Lines
+pub mod Made
+pub mod Reading
+pub mod Scans
