@@ -1,4 +1,5 @@
 pub mod Choices
+pub mod Named
 pub mod Parts
 pub mod Texts
 pub mod Slices

@@ -1,5 +1,5 @@
 -- What is answered of the parts of disjuncts: which numbers they have, and the witness of each.
-use Rattle.std.proofs.Common.{◌≡◌, ℕ, ◌+◌, true, false, List, [], ◌∷◌, ◌++◌, Option, Some, None, refl, sym, ◌∙◌, ap, subst, arith}
+use Rattle.std.proofs.Common.{◌≡◌, ℕ, ◌+◌, true, false, List, [], ◌∷◌, ◌++◌, length, Option, Some, None, refl, sym, ◌∙◌, ap, subst, arith}
 use Rattle.std.specs.Prelude.{◌↔◌, IfSome}
 use Rattle.std.specs.List.{AllByRecursion}
 use Rattle.std.proofs.lemmas.Bool.{false≢true}
@@ -16,12 +16,11 @@ use Rattle.run_model.proofs.Orders.{initial_consistent}
 use Rattle.run_model.proofs.SliceLemmas.{stands_same}
 use Rattle.rctl_grammar.specs.declared.tree.Operator.{Operator}
 use Rattle.rctl_grammar.specs.declared.tree.Operator.TheVariants as operator
-use Rattle.rctl_grammar.specs.Shape.{model_operator}
 use Rattle.rctl_parts.specs.Exprs as expr
 use Rattle.rctl_parts.specs.Exprs.{Expr}
 use Rattle.rctl_parts.specs.Pieces as piece
 use Rattle.rctl_parts.specs.Pieces.{Atom, Piece, Pieces, atom, temporal, pieces, listed}
-use Rattle.rctl_parts.specs.Spelled.{Names, formula_in, atom_formula, formula_of, formulas_of}
+use Rattle.rctl_parts.specs.Spelled.{Names, name_at, formula_in, atom_formula, operated, formula_of, formulas_of}
 use Rattle.rctl_parts.proofs.Spelling.{pieces-listed}
 use Rattle.rctl_class.specs.Classed as class
 use Rattle.rctl_class.specs.Classed.{MeanTheSame, Head, head_of, HaveOneHead, Alike}
@@ -32,6 +31,7 @@ use Rattle.conjunctions.specs.declared.answer.PartAnswer.{PartAnswer}
 use Rattle.conjunctions.specs.Observing.{Reading, AreAnswers, Satisfying, clocks_seen, run_seen, names_seen}
 use Rattle.conjunctions.specs.Answering.{IsSliceOf, Place, places_from, all_places, IsOperand, IsPartAnswer, ArePartAnswers}
 use Rattle.answer_report.specs.Showing.{HasOperand, IsGivenFor}
+use Rattle.answer_report.proofs.Named.{AreOfOneProcess, same_next}
 use Rattle.answer_report.proofs.Choices.{AreOf, AreFrom, of_from, from_from, from_joined}
 
 -- ---- numbers
@@ -81,6 +81,13 @@ operands_fit seen (p ∷ places) (a ∷ parts) h = (operand_fits seen p.piece a.
 
 -- ---- the witness of a part
 
+-- what was observed has an order, the reading answers what stands in the rows, and the name of a
+-- process's number stands for the process
+pub record IsReadIn (seen : Observed) (reading : Reading) : Type 0 where
+  pub order : IsOrder (clocks_seen seen)
+  pub are : AreAnswers seen reading
+  pub named : (p : ℕ) → AreOfOneProcess (length (clocks_seen seen)) p ((run_seen seen reading).process (name_at (names_seen seen reading).processes p))
+
 no_operator_in : (variables watches : List Name) (process : Name) (e : Expr) → head_of (formula_in variables watches process e) ≡ class.bare
 no_operator_in variables watches process (expr.truth value) = refl
 no_operator_in variables watches process (expr.comparison left compare right) = refl
@@ -95,31 +102,54 @@ no_operator_at names (piece.local (Some p) e) = no_operator_in _ _ _ e
 no_operator_at names (piece.at_most p q k) = refl
 no_operator_at names (piece.at_least p q k) = refl
 no_operator_at names piece.never = refl
+no_operator_at names (piece.diff_at_most p x q y k) = refl
+no_operator_at names (piece.diff_at_least p x q y k) = refl
 
--- a formula without an operator at its head gets none
-none_of : (r : Run) (f : Formula) (w : witness.Witness) → HaveOneHead class.bare (head_of f) → w ≡ witness.Nothing → IsWitnessOf r f w
-none_of r (model.Truth b) w h e = e
-none_of r (model.Comparison process variable relation side) w h e = e
-none_of r (model.Watched process watch) w h e = e
-none_of r (model.InTransit sender receiver relation k) w h e = e
-none_of r (model.Empty sender receiver) w h e = e
-none_of r (model.Difference left_process left right_process right relation k) w h e = e
-none_of r (model.Not f) w h e = e
-none_of r (model.And fs) w h e = e
-none_of r (model.Or fs) w h e = e
-none_of r (model.Temporal op f) w h e = absurd h
-none_of r (model.Next process f) w h e = absurd h
-none_of r (model.Until all left right) w h e = e
+-- the witness of each formula with this head over an operand that means the same
+abbrev WitnessBy : Run → Head → witness.Witness → Type 0
+WitnessBy r class.bare w = w ≡ witness.Nothing
+WitnessBy r (class.operated op g) w = (f : Formula) → MeanTheSame g f → IsWitnessOf r (model.Temporal op f) w
+WitnessBy r (class.stepped process g) w = (f : Formula) → MeanTheSame g f → IsWitnessOf r (model.Next process f) w
 
--- the witness by a slice that stands for the family of an operand
-by_slice : (r : Run) (op : Operator) (s : SliceView) (f : Formula) (w : witness.Witness) → StandsFor r.clocks (slice_of s) (Family r f)
-    → IsGivenFor r.clocks (Some op) (Some s) w → IsWitnessOf r (model.Temporal (model_operator op) f) w
-by_slice r operator.Ef s f w stands h = (slice_of s, stands, h)
-by_slice r operator.Ag s f w stands h = (slice_of s, stands, h)
-by_slice r operator.Eg s f w stands h = (slice_of s, stands, h)
-by_slice r (operator.Ex process) s f w stands h = h
-by_slice r operator.Af s f w stands h = h
-by_slice r operator.Ax s f w stands h = h
+by_bare : (r : Run) (h : Head) (w : witness.Witness) → HaveOneHead h class.bare → WitnessBy r h w → w ≡ witness.Nothing
+by_bare r class.bare w same is = is
+by_bare r (class.operated op g) w same is = absurd same
+by_bare r (class.stepped process g) w same is = absurd same
+
+by_operated : (r : Run) (h : Head) (op : model.Operator) (f : Formula) (w : witness.Witness) → HaveOneHead h (class.operated op f) → WitnessBy r h w → IsWitnessOf r (model.Temporal op f) w
+by_operated r class.bare op f w same is = absurd same
+by_operated r (class.operated o g) op f w same is = subst (λ (m : model.Operator). IsWitnessOf r (model.Temporal m f) w) same.0 (is f same.1)
+by_operated r (class.stepped process g) op f w same is = absurd same
+
+by_stepped : (r : Run) (h : Head) (process : Name) (f : Formula) (w : witness.Witness) → HaveOneHead h (class.stepped process f) → WitnessBy r h w → IsWitnessOf r (model.Next process f) w
+by_stepped r class.bare process f w same is = absurd same
+by_stepped r (class.operated op g) process f w same is = absurd same
+by_stepped r (class.stepped name g) process f w same is = subst (λ (n : Name). IsWitnessOf r (model.Next n f) w) same.0 (is f same.1)
+
+by_head : (r : Run) (h : Head) (f : Formula) (w : witness.Witness) → HaveOneHead h (head_of f) → WitnessBy r h w → IsWitnessOf r f w
+by_head r h (model.Truth b) w same is = by_bare r h w same is
+by_head r h (model.Comparison process variable relation side) w same is = by_bare r h w same is
+by_head r h (model.Watched process watch) w same is = by_bare r h w same is
+by_head r h (model.InTransit sender receiver relation k) w same is = by_bare r h w same is
+by_head r h (model.Empty sender receiver) w same is = by_bare r h w same is
+by_head r h (model.Difference left_process left right_process right relation k) w same is = by_bare r h w same is
+by_head r h (model.Not f) w same is = by_bare r h w same is
+by_head r h (model.And fs) w same is = by_bare r h w same is
+by_head r h (model.Or fs) w same is = by_bare r h w same is
+by_head r h (model.Temporal op f) w same is = by_operated r h op f w same is
+by_head r h (model.Next process f) w same is = by_stepped r h process f w same is
+by_head r h (model.Until all left right) w same is = by_bare r h w same is
+
+-- the witness by a slice that stands for the family of what means the same as the operand
+by_slice : (r : Run) (names : Names) (op : Operator) (s : SliceView) (g : Formula) → ((f : Formula) → MeanTheSame g f → StandsFor r.clocks (slice_of s) (Family r f))
+    → ((p : ℕ) → AreOfOneProcess (length r.clocks) p (r.process (name_at names.processes p)))
+    → (w : witness.Witness) → IsGivenFor r.clocks (Some op) (Some s) w → WitnessBy r (head_of (operated names op g)) w
+by_slice r names operator.Ef s g stands named w h = λ f same. (slice_of s, stands f same, h)
+by_slice r names operator.Ag s g stands named w h = λ f same. (slice_of s, stands f same, h)
+by_slice r names operator.Eg s g stands named w h = λ f same. (slice_of s, stands f same, h)
+by_slice r names (operator.Ex p) s g stands named w h = λ f same. (slice_of s, stands f same, same_next r.clocks (slice_of s) p (r.process (name_at names.processes p)) (named p) w h)
+by_slice r names operator.Af s g stands named w h = λ f same. h
+by_slice r names operator.Ax s g stands named w h = λ f same. h
 
 -- the operand's slice stands for the family of what means the same
 operand_stands : (seen : Observed) (reading : Reading) → IsOrder (clocks_seen seen) → AreAnswers seen reading → (s : SliceView) (ps : Pieces) → IsSliceOf seen s (listed ps) → (f : Formula)
@@ -138,35 +168,20 @@ operand_stands seen reading order are s ps is f means =
       λ h. (spelled c).1 (h.0, (means (run_seen seen reading) order c h.0).1 h.1),
     )
 
--- of a formula with the same operator over an operand that means the same
-of_temporal : (seen : Observed) (reading : Reading) → IsOrder (clocks_seen seen) → AreAnswers seen reading → (op : Operator) (s : SliceView) (ps : Pieces) → IsSliceOf seen s (listed ps) → (f : Formula)
-    → HaveOneHead (class.operated (model_operator op) (model.And (formulas_of (names_seen seen reading) ps))) (head_of f)
-    → (w : witness.Witness) → IsGivenFor (clocks_seen seen) (Some op) (Some s) w → IsWitnessOf (run_seen seen reading) f w
-of_temporal seen reading order are op s ps is (model.Truth b) h w k = absurd h
-of_temporal seen reading order are op s ps is (model.Comparison process variable relation side) h w k = absurd h
-of_temporal seen reading order are op s ps is (model.Watched process watch) h w k = absurd h
-of_temporal seen reading order are op s ps is (model.InTransit sender receiver relation n) h w k = absurd h
-of_temporal seen reading order are op s ps is (model.Empty sender receiver) h w k = absurd h
-of_temporal seen reading order are op s ps is (model.Difference left_process left right_process right relation n) h w k = absurd h
-of_temporal seen reading order are op s ps is (model.Not f) h w k = absurd h
-of_temporal seen reading order are op s ps is (model.And fs) h w k = absurd h
-of_temporal seen reading order are op s ps is (model.Or fs) h w k = absurd h
-of_temporal seen reading order are op s ps is (model.Temporal o f) h w k =
-    let P : model.Operator → Type 0 = λ m. IsWitnessOf (run_seen seen reading) (model.Temporal m f) w in
-    subst P h.0 (by_slice (run_seen seen reading) op s f w (operand_stands seen reading order are s ps is f h.1) k)
-of_temporal seen reading order are op s ps is (model.Next process f) h w k = absurd h
-of_temporal seen reading order are op s ps is (model.Until all left right) h w k = absurd h
-
 -- the witness that is given for a part is that of each formula that the part stands for
-pub given_is : (seen : Observed) (reading : Reading) → IsOrder (clocks_seen seen) → AreAnswers seen reading → (p : Piece) (o : Option Operator) (s : Option SliceView) → IsOperand seen p o s
+pub given_is : (seen : Observed) (reading : Reading) → IsReadIn seen reading → (p : Piece) (o : Option Operator) (s : Option SliceView) → IsOperand seen p o s
     → (f : Formula) → Alike (formula_of (names_seen seen reading) p) f
     → (w : witness.Witness) → IsGivenFor (clocks_seen seen) o s w → IsWitnessOf (run_seen seen reading) f w
-given_is seen reading order are (atom a) o s h f alike w k =
+given_is seen reading known (atom a) o s h f alike w k =
     let nothing : w ≡ witness.Nothing = subst (λ (op : Option Operator). IsGivenFor (clocks_seen seen) op s w) h.0 k in
-    none_of (run_seen seen reading) f w (subst (λ (h : Head). HaveOneHead h (head_of f)) (no_operator_at (names_seen seen reading) a) alike.head) nothing
-given_is seen reading order are (temporal op ps) o None h f alike w k = absurd h
-given_is seen reading order are (temporal op ps) o (Some s) h f alike w k =
-    of_temporal seen reading order are op s ps h.1 f alike.head w (subst (λ (op : Option Operator). IsGivenFor (clocks_seen seen) op (Some s) w) h.0 k)
+    by_head (run_seen seen reading) class.bare f w (subst (λ (h : Head). HaveOneHead h (head_of f)) (no_operator_at (names_seen seen reading) a) alike.head) nothing
+given_is seen reading known (temporal op ps) o None h f alike w k = absurd h
+given_is seen reading known (temporal op ps) o (Some s) h f alike w k =
+    let names = names_seen seen reading in
+    let operand : Formula = model.And (formulas_of names ps) in
+    by_head (run_seen seen reading) (head_of (operated names op operand)) f w alike.head
+    (by_slice (run_seen seen reading) names op s operand (operand_stands seen reading known.order known.are s ps h.1) known.named w
+    (subst (λ (op : Option Operator). IsGivenFor (clocks_seen seen) op (Some s) w) h.0 k))
 
 -- ---- the truth of a part
 

@@ -1,6 +1,7 @@
 -- What a report says is so of the run.
 use Rattle.std.proofs.Common.{◌≡◌, ℕ, Bool, true, false, List, [], refl, sym, ◌∙◌, subst, arith}
 use Rattle.std.specs.Prelude.{◌↔◌}
+use Rattle.std.specs.List.{AllByRecursion}
 use Rattle.std.proofs.lemmas.Bool.{false≢true}
 use Rattle.run_model.specs.Cut.{Cut, lengths, initial}
 use Rattle.run_model.specs.Run.{Run}
@@ -8,6 +9,7 @@ use Rattle.run_model.specs.Meaning.{IsRun, Sat}
 use Rattle.run_model.specs.Class.{disjuncts, SatDisjuncts}
 use Rattle.run_model.proofs.Orders.{initial_consistent}
 use Rattle.run_model.proofs.DisjunctLemmas.{disjuncts_mean}
+use Rattle.pota_names.specs.Names.{is_name}
 use Rattle.trace_growth.specs.Growing.{IsTrace}
 use Rattle.report.specs.declared.report.Report.{Report}
 use Rattle.run_report.specs.Reports.{Asked, IsReportOn, IsSliceShown}
@@ -19,7 +21,9 @@ use Rattle.answer_report.specs.declared.wanted.Wanted.{Wanted}
 use Rattle.answer_report.specs.Asking.{IsAskedOf}
 use Rattle.answer_report.specs.Choosing.{chosen}
 use Rattle.answer_report.specs.Showing.{IsSliceTold, TellAll}
-use Rattle.answer_report.proofs.Texts.{IsReadIn, texts_of_true, texts_of_false}
+use Rattle.answer_report.proofs.Named.{named}
+use Rattle.answer_report.proofs.Parts.{IsReadIn}
+use Rattle.answer_report.proofs.Texts.{texts_of_true, texts_of_false}
 use Rattle.answer_report.proofs.Slices.{same_truth, slice_shown}
 
 -- what a report was made of
@@ -32,9 +36,9 @@ pub record IsMadeOf (seen : Observed) (answer : Answer) (wanted : Wanted) (text 
   pub witnesses : wanted.witness ≡ true → TellAll (clocks_seen seen) (chosen answer.truth answer.parts) report.witnesses
   pub unwanted : wanted.witness ≡ false → report.witnesses ≡ []
 
-pub says : (seen : Observed) → IsTrace seen.trace.states → (answer : Answer) (wanted : Wanted) (text : List ℕ) (report : Report) → IsMadeOf seen answer wanted text report
+pub says : (seen : Observed) → IsTrace seen.trace.states → AllByRecursion (λ n. is_name n ≡ true) seen.trace.states.header.procs → (answer : Answer) (wanted : Wanted) (text : List ℕ) (report : Report) → IsMadeOf seen answer wanted text report
     → (reading : Reading) (q : Asked) → IsAskedOf seen answer wanted text reading q → IsReportOn q seen.trace.batches (trace_seen seen) reading.watches report
-says seen trace answer wanted text report made reading q asked = record {
+says seen trace spelled answer wanted text report made reading q asked = record {
   number = made.number;
   lengths_are = made.lengths_are;
   formula = made.formula ∙ sym asked.text_is;
@@ -52,7 +56,7 @@ says seen trace answer wanted text report made reading q asked = record {
     run = trace.run.run reading.watches
 
     known : IsReadIn seen reading
-    known = record { order = run.order; are = asked.watches }
+    known = record { order = run.order; are = asked.watches; named = named seen trace reading spelled }
 
     first : Cut
     first = initial (clocks_seen seen)

@@ -21,12 +21,7 @@ use Rattle.run_report.specs.Witnesses.{IsTextFor, ArePartTexts, AreTextsOfTrue, 
 use Rattle.answer_report.specs.Choosing.{of_disjunct, first_true, first_false}
 use Rattle.answer_report.specs.Showing.{Tells, TellAll}
 use Rattle.answer_report.proofs.Choices.{AreOf, all_true, true_stays, later_stays, false_moves, first_true_from, just_mine, just_later, true_left, false_taken, mine_left}
-use Rattle.answer_report.proofs.Parts.{part_answers, are_of, are_from, given_is, true_part, false_part}
-
--- what was observed has an order, and the reading answers what stands in the rows
-pub record IsReadIn (seen : Observed) (reading : Reading) : Type 0 where
-  pub order : IsOrder (clocks_seen seen)
-  pub are : AreAnswers seen reading
+use Rattle.answer_report.proofs.Parts.{IsReadIn, part_answers, are_of, are_from, given_is, true_part, false_part}
 
 -- the initial cut
 abbrev first_cut : Observed → Cut
@@ -39,7 +34,7 @@ text_for : (seen : Observed) (reading : Reading) → IsReadIn seen reading → (
 text_for seen reading known n k p a is f alike w tells = record {
   disjunct = tells.disjunct ∙ is.of_disjunct;
   part = tells.number ∙ is.of_part;
-  witness = given_is seen reading known.order known.are p a.operator a.operand is.operand f alike (witness_of w.witness) tells.witness;
+  witness = given_is seen reading known p a.operator a.operand is.operand f alike (witness_of w.witness) tells.witness;
 }
 
 texts_for : (seen : Observed) (reading : Reading) → IsReadIn seen reading → (n k : ℕ) (ps : List Piece) (parts : List PartAnswer) → ArePartAnswers seen (places_from n k ps) parts

@@ -5,7 +5,7 @@ use Rattle.run_model.specs.Cut.{Clocks, lengths}
 use Rattle.run_model.specs.Slice.{Cuts, IsTextOf}
 use Rattle.run_model.specs.Witness as model
 use Rattle.run_model.specs.Witness.{WitnessOperator, ExistsFinally, AlwaysGlobally, ExistsGlobally}
-use Rattle.run_model.specs.Witness.{IsCanonical}
+use Rattle.run_model.specs.Witness.{ExistsNext, IsCanonical}
 use Rattle.rctl_grammar.specs.declared.tree.Operator.{Operator}
 use Rattle.rctl_grammar.specs.declared.tree.Operator.TheVariants as operator
 use Rattle.slice_graph.specs.Views.{SliceView, slice_of}
@@ -28,7 +28,7 @@ abbrev pub explained : Operator → Option WitnessOperator
 explained operator.Ef = Some ExistsFinally
 explained operator.Ag = Some AlwaysGlobally
 explained operator.Eg = Some ExistsGlobally
-explained (operator.Ex process) = None
+explained (operator.Ex process) = Some (ExistsNext process)
 explained operator.Af = None
 explained operator.Ax = None
 

@@ -32,7 +32,8 @@ fn witness_of(alloc: Global, order: &Order, part: &PartAnswer) -> Result<Witness
         Operator::Ef => explain(alloc, order, Explained::ExistsFinally, operand),
         Operator::Ag => explain(alloc, order, Explained::AlwaysGlobally, operand),
         Operator::Eg => explain(alloc, order, Explained::ExistsGlobally, operand),
-        Operator::Ex(_) | Operator::Af | Operator::Ax => Ok(Witness::Nothing),
+        Operator::Ex(process) => explain(alloc, order, Explained::ExistsNext(process), operand),
+        Operator::Af | Operator::Ax => Ok(Witness::Nothing),
     }
 }
 

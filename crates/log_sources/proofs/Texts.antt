@@ -11,17 +11,19 @@ use Rattle.event_log.specs.Feeding.{Past}
 use Rattle.event_log.specs.LogText.{onto}
 use Rattle.event_log.specs.LogEnd.{is_whole}
 use Rattle.event_log.specs.Faults.{first_fault, end_fault}
-use Rattle.event_log.specs.Laws.{IsWellFormed}
-use Rattle.event_log.proofs.Lists.{all_push}
+use Rattle.event_log.specs.declared.log.Log.{Log}
+use Rattle.event_log.specs.Laws.{IsTextOf}
 use Rattle.log_merge.specs.declared.fault.MergeFault.{MergeFault}
-use Rattle.log_merge.specs.Sources.{IsSource}
+use Rattle.log_merge.specs.Sources.{IsSource, in_one_batch}
+use Rattle.log_merge.proofs.Fits.{logs_are_sources}
+use Rattle.log_merge.proofs.OneBatch.{batches_do_not_matter}
 use Rattle.log_merge.specs.Faults.{merge_fault, source_fault, fault_from, placed}
 use Rattle.log_merge.proofs.Judged.{map_nothing, none_more}
 use Rattle.log_sources.specs.Sources.{Sources, no_sources, of_source, log_at, turned, input_fault, join_fault, fault_behind, judged, step, after, last_fault}
 use Rattle.log_sources.specs.Reading.{CanMerge}
-use Rattle.log_sources.specs.Laws.{FaultlessAreFew, FaultlessAreTexts}
+use Rattle.log_sources.specs.Laws.{FaultlessAreFew, AreTextsOf, FaultlessAreTexts}
 use Rattle.log_sources.proofs.Stepping.{empty_open, turned_whole, turned_same, turned_total, step_free, taken_fault, taken_byte, after_none, after_next, stays, behind_own, behind_whole}
-use Rattle.log_sources.proofs.WholeSources.{well_formed, whole_source, whole_end, bytes_back}
+use Rattle.log_sources.proofs.WholeSources.{whole_log, whole_end}
 
 -- ---- a byte without a fault
 
@@ -86,9 +88,9 @@ joined_text texts = flat_map (λ (text : List ℕ). text) texts
 -- the bytes are texts of logs that can be merged, and those of the source that is read
 pub record HasTexts (s : Sources) (bytes : List ℕ) : Type 0 where
   pub texts : List (List ℕ)
-  pub before_is : s.before ≡ map (λ (text : List ℕ). onto text []) texts
-  pub each : AllByRecursion IsWellFormed texts
-  pub sources : AllByRecursion IsSource (map log_at s.before)
+  pub logs : List Log
+  pub texts_are : AreTextsOf texts logs
+  pub given : map log_at s.before ≡ map in_one_batch logs
   pub text_is : bytes ≡ joined_text texts ++ onto s.now []
   pub faultless : merge_fault (map log_at s.before) ≡ None
   pub own : first_fault s.now ≡ None
@@ -101,16 +103,29 @@ no_join : (before : List Past) (now : Past) → join_fault before now ≡ None �
 unfolding join_fault
 no_join before now none = map_nothing (placed (length before + 1)) (source_fault (map log_at before) (log_at now)) none
 
+one_text_more : (texts : List (List ℕ)) (logs : List Log) (text : List ℕ) (log : Log) → AreTextsOf texts logs → IsTextOf text log → AreTextsOf (texts ++ text ∷ []) (logs ++ log ∷ [])
+one_text_more [] [] text log are is = (is, tt)
+one_text_more [] (l ∷ logs) text log are is = absurd are
+one_text_more (t ∷ texts) [] text log are is = absurd are
+one_text_more (t ∷ texts) (l ∷ logs) text log are is = (are.0, one_text_more texts logs text log are.1 is)
+
+logs_source : (texts : List (List ℕ)) (logs : List Log) → AreTextsOf texts logs → AllByRecursion IsSource logs
+logs_source [] [] are = tt
+logs_source [] (l ∷ logs) are = absurd are
+logs_source (t ∷ texts) [] are = absurd are
+logs_source (t ∷ texts) (l ∷ logs) are = ((logs_are_sources l are.0.log_is.fits are.0.lines_are).0, logs_source texts logs are.1)
+
 -- the source is whole, and the next one begins
 next_source : (s : Sources) (bytes : List ℕ) → HasTexts s bytes → is_whole s.now ≡ true → HasTexts (record s { before = s.before ++ s.now ∷ []; now = [] }) bytes
 unfolding first_fault
 next_source s bytes has whole =
     let pushed : map log_at (s.before ++ s.now ∷ []) ≡ map log_at s.before ++ log_at s.now ∷ [] = map_push log_at s.before s.now in
+    let w = whole_log s.now has.own whole in
     record {
       texts = has.texts ++ onto s.now [] ∷ [];
-      before_is = ap (λ (ps : List Past). ps ++ s.now ∷ []) has.before_is ∙ ap (λ (p : Past). map (λ (t : List ℕ). onto t []) has.texts ++ p ∷ []) (sym (bytes_back s.now)) ∙ sym (map_push (λ (t : List ℕ). onto t []) has.texts (onto s.now []));
-      each = all_push IsWellFormed has.texts (onto s.now []) has.each (well_formed s.now has.own whole);
-      sources = subst (AllByRecursion IsSource) (sym pushed) (all_push IsSource (map log_at s.before) (log_at s.now) has.sources (whole_source s.now has.own whole));
+      logs = has.logs ++ w.log ∷ [];
+      texts_are = one_text_more has.texts has.logs (onto s.now []) w.log has.texts_are w.text;
+      given = pushed ∙ ap (λ (ls : List Log). ls ++ log_at s.now ∷ []) has.given ∙ ap (λ (l : Log). map in_one_batch has.logs ++ l ∷ []) w.given ∙ sym (map_push in_one_batch has.logs w.log);
       text_is = has.text_is ∙ sym (joined_text-push has.texts (onto s.now [])) ∙ sym (append-nil (joined_text (has.texts ++ onto s.now [] ∷ [])));
       faultless = ap merge_fault pushed ∙ none_more (map log_at s.before) (log_at s.now) has.faultless (no_join s.before s.now (has.joins whole));
       own = refl;
@@ -135,9 +150,9 @@ byte_texts t b bytes has none =
     let own = own_none t.before (b ∷ t.now) none in
     record {
       texts = has.texts;
-      before_is = has.before_is;
-      each = has.each;
-      sources = has.sources;
+      logs = has.logs;
+      texts_are = has.texts_are;
+      given = has.given;
       text_is = ap (λ (xs : List ℕ). xs ++ b ∷ []) has.text_is ∙ append_assoc (joined_text has.texts) (onto t.now []) (b ∷ []) ∙ ap (λ (xs : List ℕ). joined_text has.texts ++ xs) (sym (onto_end t.now b));
       faultless = has.faultless;
       own = own;
@@ -167,7 +182,7 @@ sources_after s seen (b ∷ bytes) are none =
 none_yet : AreSources no_sources []
 unfolding first_fault fault_from
 none_yet = record {
-  has = record { texts = []; before_is = refl; each = tt; sources = tt; text_is = refl; faultless = refl; own = refl; joins = λ w. absurd (cc (w, empty_open)) };
+  has = record { texts = []; logs = []; texts_are = tt; given = refl; text_is = refl; faultless = refl; own = refl; joins = λ w. absurd (cc (w, empty_open)) };
   few = omega arith;
 }
 
@@ -191,11 +206,7 @@ faultless_are_texts bytes none =
     let are = sources_after no_sources [] bytes none_yet ended.faultless in
     let whole = whole_end (after no_sources bytes).now are.has.own ended.ended in
     let all = next_source (after no_sources bytes) bytes are.has whole in
-    let logs : map log_at ((after no_sources bytes).before ++ (after no_sources bytes).now ∷ []) ≡ map (λ (text : List ℕ). log_at (onto text [])) all.texts = ap (map log_at) all.before_is ∙ map_map all.texts in
-    let count : length (map log_at ((after no_sources bytes).before ++ (after no_sources bytes).now ∷ [])) ≡ length (after no_sources bytes).before + 1 = length-map ((after no_sources bytes).before ++ (after no_sources bytes).now ∷ []) log_at ∙ length-append (after no_sources bytes).before ((after no_sources bytes).now ∷ []) in
-    let can : CanMerge (map log_at ((after no_sources bytes).before ++ (after no_sources bytes).now ∷ [])) = record { some = omega (arith, count); few = omega (arith, count, are.few); each = all.sources; faultless = all.faultless } in
-    (all.texts, record { text_is = all.text_is ∙ append-nil (joined_text all.texts); each = all.each; can_merge = subst CanMerge logs can })
-  where
-    map_map : (texts : List (List ℕ)) → map log_at (map (λ (text : List ℕ). onto text []) texts) ≡ map (λ (text : List ℕ). log_at (onto text [])) texts
-    map_map [] = refl
-    map_map (t ∷ texts) = ap (λ xs. log_at (onto t []) ∷ xs) (map_map texts)
+    let count : length all.logs ≡ length (after no_sources bytes).before + 1 = sym (length-map all.logs in_one_batch) ∙ ap length (sym all.given) ∙ length-map ((after no_sources bytes).before ++ (after no_sources bytes).now ∷ []) log_at ∙ length-append (after no_sources bytes).before ((after no_sources bytes).now ∷ []) in
+    let free : merge_fault all.logs ≡ None = sym (batches_do_not_matter all.logs).0 ∙ ap merge_fault (sym all.given) ∙ all.faultless in
+    let can : CanMerge all.logs = record { some = omega (arith, count); few = omega (arith, count, are.few); each = logs_source all.texts all.logs all.texts_are; faultless = free } in
+    (all.texts, all.logs, record { text_is = all.text_is ∙ append-nil (joined_text all.texts); texts_are = all.texts_are; can_merge = can; given = all.given })

@@ -94,3 +94,7 @@ after s (b ∷ bytes) = after (step s b) bytes
 unfoldable pub last_fault : Sources → Option MergeFault
 last_fault s =
     choose s.fault (λ f. Some f) (option_map (of_source s.before) (end_fault s.now))
+
+-- the logs of all sources, each with its events in one batch
+abbrev pub logs_of : Sources → List Log
+logs_of s = map log_at (s.before ++ s.now ∷ [])

@@ -19,6 +19,7 @@ pub fn faultless_are_few()
 {}
 
 /// An input without a fault is the texts of 1 to 32 logs one behind another, which can be merged.
+/// These are the logs that the reader gives, but for their batches.
 pub fn faultless_are_texts()
     ensures { FaultlessAreTexts }
 {}

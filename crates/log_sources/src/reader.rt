@@ -1,7 +1,6 @@
 //! The reader of sources in pieces.
 
-ghost use Rattle.std.specs.Prelude.{◌≡◌, ◌+◌, ◌∷◌, ◌++◌, ◌<◌, ◌≤◌, [], false, length, map, None, IfOk};
-ghost use Rattle.std.specs.Prelude.{OnOk};
+ghost use Rattle.std.specs.Prelude.{◌≡◌, ◌+◌, ◌<◌, ◌≤◌, false, length, None, IfOk, OnOk};
 
 use crate::draft::Draft;
 use event_log::{Log, Reader};
@@ -42,7 +41,7 @@ impl SourceReader {
     ghost use Rattle.event_log.specs.Feeding.{Past};
     ghost use Rattle.event_log.specs.Reader.{HasRead};
     ghost use Rattle.log_sources.specs.Sources.{Sources, no_sources, input_fault, judged};
-    ghost use Rattle.log_sources.specs.Sources.{after, last_fault, log_at};
+    ghost use Rattle.log_sources.specs.Sources.{after, last_fault, logs_of};
     ghost use Rattle.log_sources.specs.Reading.{HasReadSources, ReadsOn, TakesBytes, CanMerge};
 
     /// A reader that has read nothing. It takes no memory.
@@ -194,7 +193,7 @@ impl SourceReader {
     /// fault.
     pub fn into_logs(self) -> List<Log>
         ensures logs { (s : Sources) → HasReadSources self s → last_fault s ≡ None
-            → result ≡ map log_at (s.before ++ s.now ∷ []) }
+            → result ≡ logs_of s }
         ensures can_merge { (s : Sources) → HasReadSources self s → last_fault s ≡ None
             → CanMerge result }
     {

@@ -27,7 +27,9 @@ returns-clause-says c =
     let seen = c.args.seen.now in
     let answer = c.args.answer.now in
     let order = c.order-order.ensures.order ∙ sym c.order-order.ensures.trace.clocks in
-    says seen c.order-order.ensures.trace answer c.args.wanted c.args.text.now _ (record {
+    let names = c.in_ok-copy_names.ensures.copies ∙ c.as_slice.ensures ∙ ap (λ (h : Header). h.procs) c.header.ensures in
+    let spelled = subst (AllByRecursion (λ (n : List ℕ). is_name n ≡ true)) names c.in_ok-copy_names.ensures.names in
+    says seen c.order-order.ensures.trace spelled answer c.args.wanted c.args.text.now _ (record {
       number = c.batches.ensures;
       lengths_are = c.in_ok-cut_of.ensures ∙ c.lens.ensures.lens ∙ c.shape.ensures.lens ∙ ap lengths order;
       formula = c.in_ok-copy_text.ensures;

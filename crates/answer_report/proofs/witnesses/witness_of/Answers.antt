@@ -1,5 +1,5 @@
 use Rattle.std.proofs.lemmas.Result.{IfOk-weaker}
-use Rattle.run_model.specs.Witness.{ExistsFinally, AlwaysGlobally, ExistsGlobally}
+use Rattle.run_model.specs.Witness.{ExistsFinally, AlwaysGlobally, ExistsGlobally, ExistsNext}
 use Rattle.slice_graph.specs.Views.{slice_of}
 use Rattle.answer_report.proofs.Spelled.{canonical_fits}
 use Rattle.answer_report.proofs.witnesses.witness_of.Goals as goal
@@ -12,3 +12,7 @@ returns-in-Ag-clause-fits c = IfOk-weaker c.explain-in-Ag.result _ _ (canonical_
 
 pub returns-in-Eg-clause-fits : goal.returns-in-Eg-clause-fits
 returns-in-Eg-clause-fits c = IfOk-weaker c.explain-in-Eg.result _ _ (canonical_fits c.args.order.now (slice_of c.in-Some-Some.operand) ExistsGlobally) c.explain-in-Eg.ensures.canonical
+
+pub returns-in-Ex-clause-fits : goal.returns-in-Ex-clause-fits
+returns-in-Ex-clause-fits c =
+    IfOk-weaker c.explain-in-Ex.result _ _ (canonical_fits c.args.order.now (slice_of c.in-Some-Some.operand) (ExistsNext c.in-Ex.process)) c.explain-in-Ex.ensures.canonical
