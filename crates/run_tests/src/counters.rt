@@ -1,0 +1,146 @@
+ghost use Rattle.std.specs.Prelude.{◌≡◌, ◌∷◌, [], length, IfOk, IfSome};
+ghost use Rattle.event_log.specs.States.{AreNamedApart};
+ghost use Rattle.counter_preds.specs.Counters.{IsVariable, IsCounter};
+
+use counter_preds::{Variable, a_header_has_counters, diff_at_least, diff_at_most, first_fall};
+use event_log::{
+    Assign, Binding, Event, Header, Kind, LogCode, LogFault, Name, States, var_lines_of,
+};
+use pota_base::{List, NoMemory};
+use pull_system::Pull;
+use std::alloc::Global;
+use std::test::Fail;
+
+const X: Variable = Variable {
+    process: 0,
+    number: 0,
+};
+
+const Y: Variable = Variable {
+    process: 1,
+    number: 0,
+};
+
+fn one<T: Drop>(alloc: Global, item: T) -> Result<List<T>, NoMemory>
+    ensures { IfOk result (λ list. list ≡ item ∷ []) }
+{
+    let mut list = List::new(alloc);
+    list.push(item)?;
+    Ok(list)
+}
+
+// `x=3`, or `y=0`.
+fn opening(alloc: Global, name: Name, value: i64) -> Result<List<Binding>, NoMemory>
+    ensures apart { IfOk result AreNamedApart }
+    ensures one { IfOk result (λ bindings. length bindings ≡ 1) }
+{
+    one(alloc, Binding { name, value })
+}
+
+// `procs P Q`, `vars P x=3`, `vars Q y=0`
+fn two_counters(alloc: Global) -> Result<Option<States>, NoMemory>
+    ensures there { IfOk result (λ o. IfSome o (λ s. IsVariable s X × IsVariable s Y)) }
+    ensures rise { IfOk result (λ o. IfSome o (λ s. IsCounter s X × IsCounter s Y)) }
+{
+    let (Some(p), Some(q)) = (Name::new(alloc, b"P")?, Name::new(alloc, b"Q")?) else {
+        return Ok(None);
+    };
+    let (Some(x), Some(y)) = (Name::new(alloc, b"x")?, Name::new(alloc, b"y")?) else {
+        return Ok(None);
+    };
+    let mut procs = List::new(alloc);
+    procs.push(p)?;
+    procs.push(q)?;
+    let mut vars = List::new(alloc);
+    vars.push(opening(alloc, x, 3)?)?;
+    vars.push(opening(alloc, y, 0)?)?;
+    let var_lines = var_lines_of(alloc, vars.as_slice())?;
+    a_header_has_counters();
+    let states = States::new(
+        alloc,
+        Header {
+            version: 1,
+            procs,
+            vars,
+            var_lines,
+        },
+    )?;
+    Ok(Some(states))
+}
+
+// Whether there is one pull, from the one process to the other, with this table.
+fn is_only(pulls: &List<Pull>, src: u32, dst: u32, table: &[u32]) -> bool {
+    match pulls.as_slice() {
+        [pull] => pull.src == src && pull.dst == dst && pull.table.as_slice() == table,
+        _ => false,
+    }
+}
+
+#[test]
+fn at_most_at_the_opening(rt: HostRuntime) -> Result<(), Fail> {
+    let states = two_counters(rt.alloc())?.ok_or("names")?;
+    let low = diff_at_most(rt.alloc(), &states, X, Y, 2)?;
+    assert!(rt; is_only(&low, 0, 1, &[1, 1]));
+    let enough = diff_at_most(rt.alloc(), &states, X, Y, 3)?;
+    assert!(rt; is_only(&enough, 0, 1, &[0, 0]));
+    Ok(())
+}
+
+#[test]
+fn at_least_at_the_opening(rt: HostRuntime) -> Result<(), Fail> {
+    let states = two_counters(rt.alloc())?.ok_or("names")?;
+    let enough = diff_at_least(rt.alloc(), &states, X, Y, 3)?;
+    assert!(rt; is_only(&enough, 1, 0, &[0, 0]));
+    let high = diff_at_least(rt.alloc(), &states, X, Y, 4)?;
+    assert!(rt; is_only(&high, 1, 0, &[1, 1]));
+    Ok(())
+}
+
+// `ev P int x=4` or the like, at its line.
+fn sets(alloc: Global, process: u32, line: u32, value: i64) -> Result<Event, NoMemory> {
+    Ok(Event {
+        process,
+        line,
+        clock: List::new(alloc),
+        kind: Kind::Internal,
+        assigns: one(alloc, Assign { variable: 0, value })?,
+    })
+}
+
+// `x=4`, `y=1` and `x=4` at the lines 5 to 7, then `x=3` and `y=0`, which fall.
+fn falling_batch(alloc: Global) -> Result<Vec<Event>, NoMemory> {
+    let mut batch = Vec::new(alloc);
+    batch.push(sets(alloc, 0, 5, 4)?)?;
+    batch.push(sets(alloc, 1, 6, 1)?)?;
+    batch.push(sets(alloc, 0, 7, 4)?)?;
+    batch.push(sets(alloc, 0, 8, 3)?)?;
+    batch.push(sets(alloc, 1, 9, 0)?)?;
+    Ok(batch)
+}
+
+// The fault of a counter that falls at this line.
+fn falls(line: u32) -> Option<LogFault> {
+    Some(LogFault {
+        code: LogCode::CounterFalls,
+        line,
+    })
+}
+
+#[test]
+fn a_counter_falls(rt: HostRuntime) -> Result<(), Fail> {
+    let states = two_counters(rt.alloc())?.ok_or("names")?;
+    let batch = falling_batch(rt.alloc())?;
+    assert_eq!(rt; first_fall(&states, &batch, &[Y, X]), falls(8));
+    assert_eq!(rt; first_fall(&states, &batch, &[Y]), falls(9));
+    assert_eq!(rt; first_fall(&states, &batch, &[]), None);
+    Ok(())
+}
+
+#[test]
+fn no_counter_falls(rt: HostRuntime) -> Result<(), Fail> {
+    let states = two_counters(rt.alloc())?.ok_or("names")?;
+    let mut batch = falling_batch(rt.alloc())?;
+    batch.truncate(3);
+    assert_eq!(rt; first_fall(&states, &batch, &[X, Y]), None);
+    Ok(())
+}
