@@ -5,7 +5,6 @@ use Rattle.std.proofs.lemmas.Bool.{cases_Bool, and_parts, false≢true}
 use Rattle.run_model.specs.Cut.{Cut, Clocks, initial}
 use Rattle.run_model.specs.Run.{Run}
 use Rattle.run_model.specs.Formula.{Formula}
-use Rattle.run_model.specs.Consistent.{IsOrder}
 use Rattle.run_model.specs.Meaning.{Sat}
 use Rattle.run_model.specs.Class.{SatParts, SatDisjuncts}
 use Rattle.rctl_parts.specs.Pieces.{Piece}
@@ -13,7 +12,7 @@ use Rattle.rctl_parts.specs.Spelled.{formula_of, part_formulas}
 use Rattle.rctl_class.specs.Classed.{Alike, PartsAlike, EachAlike}
 use Rattle.conjunctions.specs.declared.observed.Observed.{Observed}
 use Rattle.conjunctions.specs.declared.answer.PartAnswer.{PartAnswer}
-use Rattle.conjunctions.specs.Observing.{Reading, AreAnswers, clocks_seen, run_seen, names_seen}
+use Rattle.conjunctions.specs.Observing.{Reading, clocks_seen, run_seen, names_seen}
 use Rattle.conjunctions.specs.Answering.{place, places_from, all_places, IsPartAnswer, ArePartAnswers}
 use Rattle.witness_kinds.specs.Views.{witness_of}
 use Rattle.report_lines.specs.declared.kinds.WitnessText.{WitnessText}
