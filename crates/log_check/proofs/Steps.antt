@@ -114,14 +114,14 @@ trace_closed old new log batch since is same next =
     next ∙ ap (λ (t : TraceView). with_trace_batch t batch) is ∙ ap (with_trace_batch (trace_after log)) same ∙ trace-followed log since
 
 -- the fault of the session is that of the judgement
-pub same_fault : (aim : Aim) (growing : GrowingView) (log : Prefix) (batch since : List Event) → HaveCounters log.header (formula_of aim.node) (piece.disjuncts_of growing.disjuncts)
-    → growing.seen.trace ≡ trace_after log → batch ≡ since → first_fault growing batch ≡ fault_behind (counters_in (formula_of aim.node) log.header) log (with_clocks log since)
-same_fault aim growing log batch since have is same =
-    let counters = parts.counters_of (piece.disjuncts_of growing.disjuncts) in
+pub same_fault : (aim : Aim) (g : GrowingView) (log : Prefix) (batch since : List Event) → HaveCounters log.header (formula_of aim.node) (piece.disjuncts_of g.disjuncts)
+    → g.seen.trace ≡ trace_after log → batch ≡ since → first_fault g batch ≡ fault_behind (counters_in (formula_of aim.node) log.header) log (with_clocks log since)
+same_fault aim g log batch since have is same =
+    let counters = parts.counters_of (piece.disjuncts_of g.disjuncts) in
     let full = with_clocks log since in
     let fault : TraceView → List Event → Option LogFault = λ t b. choose (fall_fault t.states counters (filled_for t b)) (λ f. Some f) (trace_fault t b) in
     ap (λ (t : TraceView). fault t batch) is ∙ ap (fault (trace_after log)) same
-    ∙ ap (λ (o : Option LogFault). choose o (λ f. Some f) (clock_fault log full)) (falls_are log.header (formula_of aim.node) (piece.disjuncts_of growing.disjuncts) have (states_of log) full)
+    ∙ ap (λ (o : Option LogFault). choose o (λ f. Some f) (clock_fault log full)) (falls_are log.header (formula_of aim.node) (piece.disjuncts_of g.disjuncts) have (states_of log) full)
 
 -- ---- watches by name
 
