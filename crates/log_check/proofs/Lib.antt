@@ -1,4 +1,4 @@
-pub mod Decided
+pub mod Counters
 pub mod Following
 pub mod Steps
 pub mod Moves

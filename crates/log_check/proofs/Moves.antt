@@ -15,7 +15,7 @@ use Rattle.event_log.specs.LogText.{HeaderFits, EventFits, event_count}
 use Rattle.event_log.specs.States.{with_batch}
 use Rattle.event_log.proofs.Lists.{all_push}
 use Rattle.vector_clock.proofs.FilledBatches.{length-fill_from}
-use Rattle.trace_growth.specs.Growing.{TraceView, FitsTrace, trace_fault}
+use Rattle.trace_growth.specs.Growing.{TraceView, FitsTrace}
 use Rattle.rctl_parts.specs.declared.part.Part.{Part}
 use Rattle.rctl_parts.specs.declared.part.Resolved.{Resolved}
 use Rattle.rctl_parts.specs.Pieces as piece
@@ -36,17 +36,21 @@ use Rattle.conjunctions.specs.Observing.{AreAnswers}
 use Rattle.log_judgement.specs.declared.refusal.Refusal.{Refusal}
 use Rattle.log_judgement.specs.declared.refusal.Refusal.TheVariants as refusal
 use Rattle.rctl_grammar.specs.declared.fault.FormulaFault.{FormulaFault}
-use Rattle.log_judgement.specs.Judgement.{Prefix, followed_by, clock_fault, events_of, with_clocks, Judgement, waiting, growing, finished, refused, opened, judge}
+use Rattle.log_judgement.specs.Judgement.{Prefix, followed_by, fault_behind, events_of, with_clocks, Judgement, waiting, growing, finished, refused, opened, judge}
+use Rattle.log_judgement.specs.Counters.{counters_in}
 use Rattle.log_judgement.specs.Due.{after_each, closed_of, batches_of}
 use Rattle.log_judgement.proofs.Items.{after_each-push}
 use Rattle.watch.specs.declared.predicate.Handed.{Handed}
 use Rattle.session.specs.declared.session.Session.{Session}
-use Rattle.session.specs.Growing.{GrowingView, TakesBatch, opened_growing}
+use Rattle.session.specs.Growing.{GrowingView, TakesBatch, first_fault, opened_growing}
 use Rattle.session.specs.Fed.{AreFedFrom, AnswersAs}
 use Rattle.log_check.specs.declared.check.LogCheck.{LogCheck}
 use Rattle.log_check.specs.Aims.{Says, Aim, rules_of, aim_of, names_of, watches_of, AreWatches}
-use Rattle.log_check.specs.Keeping.{reading_of, HasTaken, AreHanded, HasSince}
+use Rattle.log_check.specs.Keeping.{reading_of, HaveCounters, HasTaken, AreHanded, HasSince}
 use Rattle.log_check.specs.Checking.{MayFollow, IsCheckOf, end_item, GoesOn, IsRefusedAs}
+use Rattle.event_log.proofs.NameNumbers.{header_known}
+use Rattle.rctl_class.specs.Counters.{counters_of, disjuncts_counters, HaveSameMembers}
+use Rattle.log_check.proofs.Counters.{have_counters}
 use Rattle.log_check.proofs.Following.{event_count-push}
 use Rattle.log_check.proofs.Steps.{batch_fits, trace_closed, same_fault, counted-push, answers_named, unknown_is}
 
@@ -105,6 +109,9 @@ module _ {X : Type 0} {P : X → Type 0} (says : Says X P) where
     trace = ap (λ (x : GrowingView). x.seen.trace) opened_;
     meaning = subst (λ (x : GrowingView). EachAlike (part_formulas (names.names_of header aim.names) (piece.disjuncts_of x.disjuncts)) (disjuncts true (formula_of aim.node))) (sym opened_)
         (subst (λ (fs : List (List Formula)). EachAlike fs (disjuncts true (formula_of aim.node))) (sym is.spelled) classed.meaning);
+    counters = subst (λ (x : GrowingView). HaveCounters header (formula_of aim.node) (piece.disjuncts_of x.disjuncts)) (sym opened_)
+        (have_counters header aim.names resolved.watch_process (formula_of aim.node) (piece.disjuncts_of resolved.disjuncts) (header_known header fits) is.made_for.fit
+        (subst (λ (fs : List (List Formula)). HaveSameMembers (disjuncts_counters fs) (counters_of (formula_of aim.node))) (sym is.spelled) classed.counters));
     watched = λ some. absurd (omega (arith, some));
   }
 
@@ -264,11 +271,11 @@ module _ {X : Type 0} {P : X → Type 0} (says : Says X P) where
     number_is : check.batches ≡ counted c.log.batches
     number_is = is.batches ∙ ap batches_of c.is
 
-    fault_is : trace_fault session.growing.seen.trace batch ≡ clock_fault c.log (with_clocks c.log c.since)
-    fault_is = same_fault session.growing.seen.trace c.log batch c.since c.taken.trace since_is
+    fault_is : first_fault session.growing batch ≡ fault_behind (counters_in (formula_of aim.node) c.log.header) c.log (with_clocks c.log c.since)
+    fault_is = same_fault aim session.growing c.log batch c.since c.taken.counters c.taken.trace since_is
 
-    -- a fault of its clocks and messages
-    pub close_refuses : (f : LogFault) → trace_fault session.growing.seen.trace batch ≡ Some f → IsRefusedAs j (judge (rules_of aim) j (end_item last)) check.batches (refusal.Log f)
+    -- a fault of the batch
+    pub close_refuses : (f : LogFault) → first_fault session.growing batch ≡ Some f → IsRefusedAs j (judge (rules_of aim) j (end_item last)) check.batches (refusal.Log f)
     close_refuses f found =
         let e = refused_now last in
         record {
@@ -285,7 +292,7 @@ module _ {X : Type 0} {P : X → Type 0} (says : Says X P) where
         refused_now : (l : Bool) → judge (rules_of aim) j (end_item l) ≡ refused (Some c.log) (refusal.Log f)
         refused_now l = ap (λ (x : Judgement). judge (rules_of aim) x (end_item l)) c.is ∙ refused_so l
 
-    module _ (next : Session X P) (free : trace_fault session.growing.seen.trace batch ≡ None) (takes : TakesBatch session.growing next.growing batch) (unspent : next.growing.spent ≡ false)
+    module _ (next : Session X P) (free : first_fault session.growing batch ≡ None) (takes : TakesBatch session.growing next.growing batch) (unspent : next.growing.spent ≡ false)
         (fed : (handed : List (Handed X P)) → AreFedFrom says handed session.watches.items session.growing.seen → AreFedFrom says handed next.watches.items next.growing.seen)
         (answers : AreAnswers next.growing.seen (reading_of aim)) (count : ℕ) (counts : count ≡ min (check.batches + 1) 4294967295) (es : List Event) (none : es ≡ []) where
       abbrev after : Prefix
@@ -297,6 +304,7 @@ module _ {X : Type 0} {P : X → Type 0} (says : Says X P) where
         unspent = unspent;
         trace = trace_closed session.growing.seen.trace next.growing.seen.trace c.log batch c.since c.taken.trace since_is takes.trace;
         meaning = subst (λ (ps : List (List Part)). EachAlike (part_formulas (names.names_of c.log.header aim.names) (piece.disjuncts_of ps)) (disjuncts true (formula_of aim.node))) (sym takes.disjuncts) c.taken.meaning;
+        counters = subst (λ (ps : List (List Part)). HaveCounters c.log.header (formula_of aim.node) (piece.disjuncts_of ps)) (sym takes.disjuncts) c.taken.counters;
         watched = λ some_now. record { taken = omega (arith, ap (λ (t : TraceView). t.batches) takes.trace); watches = answers; full = takes.full };
       }
 

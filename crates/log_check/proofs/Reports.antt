@@ -2,10 +2,9 @@
 use Rattle.std.proofs.Common.{◌≡◌, ℕ, ◌<◌, ◌≤◌, true, false, Some, None, List, length, refl, sym, ap, subst, ◌∙◌, arith}
 use Rattle.std.proofs.lemmas.List.{length_push}
 use Rattle.std.proofs.lemmas.Option.{none-some, same_Some}
-use Rattle.run_model.specs.Run.{Run}
 use Rattle.run_model.specs.Class.{disjuncts, IsKeptFor}
 use Rattle.event_log.specs.declared.log.Event.{Event}
-use Rattle.event_log.specs.States.{trace_of}
+use Rattle.event_log.specs.States.{AreWhole, trace_of}
 use Rattle.trace_growth.specs.Growing.{TraceView}
 use Rattle.rctl_parts.specs.declared.part.Part.{Part}
 use Rattle.rctl_parts.specs.Pieces as piece
@@ -16,7 +15,8 @@ use Rattle.rctl_names.specs.Seen as names
 use Rattle.report.specs.declared.report.Report.{Report}
 use Rattle.conjunctions.specs.declared.answer.Answer.{Answer}
 use Rattle.conjunctions.specs.declared.observed.Observed.{Observed}
-use Rattle.conjunctions.specs.Observing.{Reading, AreAnswers, IsReady, trace_seen}
+use Rattle.conjunctions.specs.Counters.{CountersRise}
+use Rattle.conjunctions.specs.Observing.{Reading, AreAnswers, IsReady, trace_seen, run_seen}
 use Rattle.conjunctions.specs.Answering.{IsAnswer}
 use Rattle.run_report.specs.Reports.{Asked, IsReportOn}
 use Rattle.answer_report.specs.declared.wanted.Wanted.{Wanted}
@@ -28,7 +28,9 @@ use Rattle.session.specs.Fed.{AreFedFrom}
 use Rattle.watch.specs.declared.predicate.Handed.{Handed}
 use Rattle.log_check.specs.declared.check.LogCheck.{LogCheck}
 use Rattle.log_check.specs.Aims.{Says, Aim, asked_of, IsReportFor}
-use Rattle.log_check.specs.Keeping.{trace_after, reading_of, IsWatched, HasTaken, AreHanded, IsOpen, HasSince, HasAnswered, Keeps}
+use Rattle.log_judgement.proofs.Rising.{whole_log}
+use Rattle.log_check.proofs.Counters.{rising_kept}
+use Rattle.log_check.specs.Keeping.{trace_after, reading_of, IsWatched, HaveCounters, HasTaken, AreHanded, IsOpen, HasSince, HasAnswered, Keeps}
 use Rattle.log_check.specs.Checking.{HasClosed, IsCheckOf}
 
 module _ {X : Type 0} {P : X → Type 0} (says : Says X P) (aim : Aim) (check : LogCheck X P) where
@@ -64,12 +66,19 @@ module _ {X : Type 0} {P : X → Type 0} (says : Says X P) (aim : Aim) (check : 
 
   module _ (text : List ℕ) (log : Prefix) (session : Session X P) (seen : Observed) (answer : Answer) (report : Report) (wanted : Wanted) (h : HasReport log session) (same : seen ≡ session.growing.seen)
       (aimed : aim.text ≡ text) (sliced : wanted.slice ≡ aim.slice) (witnessed : wanted.witness ≡ aim.witness)
-      (kept : (r : Run) → IsKeptFor r (formula_of aim.node)) where
+      (rise : CountersRise session.growing.seen (piece.disjuncts_of session.growing.disjuncts)) where
     now_seen : (Q : Observed → Type 0) → Q session.growing.seen → Q seen
     now_seen Q q = subst Q (sym same) q
 
     trace_is : seen.trace ≡ trace_after log
     trace_is = ap (λ (s : Observed). s.trace) same ∙ h.taken.trace
+
+    -- no counter of the formula falls
+    kept : IsKeptFor (run_seen session.growing.seen (reading_of aim)) (formula_of aim.node)
+    kept =
+        let whole = subst (λ (t : TraceView). AreWhole t.states) (sym h.taken.trace) (whole_log log h.taken.fits) in
+        rising_kept log.header (formula_of aim.node) (piece.disjuncts_of session.growing.disjuncts) h.taken.counters session.growing.seen.trace.states aim.watches whole
+        (ap (λ (t : TraceView). t.states.header) h.taken.trace) rise
 
     asked : IsAnswer session.growing.seen (piece.disjuncts_of session.growing.disjuncts) answer → IsAskedOf seen answer wanted text (reading_of aim) (asked_of aim)
     asked is = record {
@@ -80,7 +89,7 @@ module _ {X : Type 0} {P : X → Type 0} (says : Says X P) (aim : Aim) (check : 
       pieces = piece.disjuncts_of session.growing.disjuncts;
       answered = now_seen (λ s. IsAnswer s (piece.disjuncts_of session.growing.disjuncts) answer) is;
       meaning = subst (λ (t : TraceView). EachAlike (part_formulas (names.names_of t.states.header aim.names) (piece.disjuncts_of session.growing.disjuncts)) (disjuncts true (formula_of aim.node))) (sym trace_is) h.taken.meaning;
-      kept = kept _;
+      kept = now_seen (λ s. IsKeptFor (run_seen s (reading_of aim)) (formula_of aim.node)) kept;
     }
 
     pub reported : IsAnswer session.growing.seen (piece.disjuncts_of session.growing.disjuncts) answer → report.procs ≡ seen.trace.states.header.procs
@@ -117,6 +126,7 @@ module _ {X : Type 0} {P : X → Type 0} (says : Says X P) (aim : Aim) (check : 
       unspent = unspent;
       trace = ap (λ (s : Observed). s.trace) seen ∙ taken.trace;
       meaning = subst (λ (ps : List (List Part)). EachAlike (part_formulas (names.names_of log.header aim.names) (piece.disjuncts_of ps)) (disjuncts true (formula_of aim.node))) (sym disjuncts_are) taken.meaning;
+      counters = subst (λ (ps : List (List Part)). HaveCounters log.header (formula_of aim.node) (piece.disjuncts_of ps)) (sym disjuncts_are) taken.counters;
       watched = λ some. subst (IsWatched aim) (sym seen) (taken.watched some);
     }
 

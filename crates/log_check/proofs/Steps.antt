@@ -1,5 +1,5 @@
 -- How a check follows the judgement.
-use Rattle.std.proofs.Common.{◌≡◌, ℕ, zero, suc, ◌+◌, ◌<◌, ◌≤◌, ℤ, true, false, Some, None, List, [], ◌∷◌, ◌++◌, length, get_or, map, sum, take, refl, sym, ap, subst, ◌∙◌, arith, inl, inr}
+use Rattle.std.proofs.Common.{◌≡◌, ℕ, zero, suc, ◌+◌, ◌<◌, ◌≤◌, ℤ, true, false, Option, Some, None, List, [], ◌∷◌, ◌++◌, length, get_or, map, sum, take, refl, sym, ap, subst, ◌∙◌, arith, inl, inr}
 use Rattle.std.specs.Prelude.{min, is_some, not, slice_get}
 use Rattle.std.specs.Str.{bytes_eq}
 use Rattle.std.specs.List.{AllByRecursion}
@@ -9,6 +9,8 @@ use Rattle.std.proofs.lemmas.List.{length_push, length-set, length-replicate}
 use Rattle.std.proofs.lemmas.Option.{none-some, same_Some}
 use Rattle.run_model.specs.Run.{Name, Watches}
 use Rattle.log_lines.specs.Names.{place_of, place_from, are_distinct}
+use Rattle.log_lines.specs.Reading.{choose}
+use Rattle.event_log.specs.declared.item.LogFault.{LogFault}
 use Rattle.rctl_grammar.specs.declared.fault.FormulaFault.{FormulaFault}
 use Rattle.event_log.specs.Numbers.{variables_at}
 use Rattle.event_log.specs.declared.log.Binding.{Binding}
@@ -20,10 +22,16 @@ use Rattle.event_log.specs.States.{IsKnown, with_event, with_batch, with_batches
 use Rattle.event_log.proofs.Keeping.{sum_batch}
 use Rattle.vector_clock.specs.Events.{EventStands, no_events}
 use Rattle.vector_clock.proofs.BatchLaws.{events_stand}
-use Rattle.trace_growth.specs.Growing.{TraceView, FitsTrace, opened_trace, trace_fault, with_trace_batch}
+use Rattle.trace_growth.specs.Growing.{TraceView, FitsTrace, opened_trace, filled_for, trace_fault, with_trace_batch}
 use Rattle.run_report.specs.Reports.{counted}
 use Rattle.log_judgement.specs.declared.refusal.Refusal.TheVariants as refusal
-use Rattle.log_judgement.specs.Judgement.{Prefix, followed_by, clock_fault, with_clocks, waiting, growing, refused, opened}
+use Rattle.counter_preds.specs.Falls.{fall_fault}
+use Rattle.rctl_parts.specs.Pieces as piece
+use Rattle.rctl_class.specs.Nodes.{formula_of}
+use Rattle.conjunctions.specs.Counters as parts
+use Rattle.session.specs.Growing.{GrowingView, first_fault}
+use Rattle.log_judgement.specs.Counters.{counters_in}
+use Rattle.log_judgement.specs.Judgement.{Prefix, followed_by, states_of, clock_fault, fault_behind, with_clocks, waiting, growing, refused, opened}
 use Rattle.log_judgement.specs.Due.{closed_of, batches_of}
 use Rattle.rctl_class.specs.Nodes.{Node}
 use Rattle.rctl_class.specs.NamedParts.{Piece, disjuncts_uses}
@@ -37,7 +45,8 @@ use Rattle.watch.specs.declared.predicate.Handed.{Handed}
 use Rattle.session.specs.Fed.{AnswersAs}
 use Rattle.log_check.specs.Aims.{Says, Aim, names_of, watches_of, unknown_name, rules_of}
 use Rattle.log_check.specs.Checking.{IsRefusedAs}
-use Rattle.log_check.specs.Keeping.{trace_after, reading_of}
+use Rattle.log_check.specs.Keeping.{trace_after, reading_of, HaveCounters}
+use Rattle.log_check.proofs.Counters.{falls_are}
 
 -- ---- events of a log fit its trace
 
@@ -104,10 +113,15 @@ pub trace_closed : (old new : TraceView) (log : Prefix) (batch since : List Even
 trace_closed old new log batch since is same next =
     next ∙ ap (λ (t : TraceView). with_trace_batch t batch) is ∙ ap (with_trace_batch (trace_after log)) same ∙ trace-followed log since
 
--- the fault of the trace is that of the judgement
-pub same_fault : (t : TraceView) (log : Prefix) (batch since : List Event) → t ≡ trace_after log → batch ≡ since → trace_fault t batch ≡ clock_fault log (with_clocks log since)
-same_fault t log batch since is same =
-    ap (λ (x : TraceView). trace_fault x batch) is ∙ ap (trace_fault (trace_after log)) same
+-- the fault of the session is that of the judgement
+pub same_fault : (aim : Aim) (g : GrowingView) (log : Prefix) (batch since : List Event) → HaveCounters log.header (formula_of aim.node) (piece.disjuncts_of g.disjuncts)
+    → g.seen.trace ≡ trace_after log → batch ≡ since → first_fault g batch ≡ fault_behind (counters_in (formula_of aim.node) log.header) log (with_clocks log since)
+same_fault aim g log batch since have is same =
+    let counters = parts.counters_of (piece.disjuncts_of g.disjuncts) in
+    let full = with_clocks log since in
+    let fault : TraceView → List Event → Option LogFault = λ t b. choose (fall_fault t.states counters (filled_for t b)) (λ f. Some f) (trace_fault t b) in
+    ap (λ (t : TraceView). fault t batch) is ∙ ap (fault (trace_after log)) same
+    ∙ ap (λ (o : Option LogFault). choose o (λ f. Some f) (clock_fault log full)) (falls_are log.header (formula_of aim.node) (piece.disjuncts_of g.disjuncts) have (states_of log) full)
 
 -- ---- watches by name
 

@@ -16,7 +16,8 @@ use Rattle.report.specs.declared.report.Report.{Report}
 use Rattle.run_report.specs.Reports.{Asked, IsReportOf, trace_so_far}
 use Rattle.run_request.specs.declared.formula.Stated.{Stated}
 use Rattle.watch.specs.declared.predicate.Handed.{Handed}
-use Rattle.log_judgement.specs.Judgement.{Prefix, Rules, with_names}
+use Rattle.log_judgement.specs.Judgement.{Prefix, Rules, with_rules}
+use Rattle.log_judgement.specs.Counters.{counters_in}
 
 -- what a watch that was handed in says of states
 abbrev pub Says : (X : Type 0) → (X → Type 0) → Type 0
@@ -63,9 +64,10 @@ asked_of aim = record {
   witness = aim.witness;
 }
 
--- names are judged by the formula and the watches, and batches by their clocks and messages
+-- names are judged by the formula and the watches, and batches by the formula's counters, their
+-- clocks and their messages
 abbrev pub rules_of : Aim → Rules
-rules_of aim = with_names (unknown_name aim.node aim.names)
+rules_of aim = with_rules (unknown_name aim.node aim.names) (counters_in (formula_of aim.node))
 
 -- what is asked of a formula that was read and classified
 abbrev pub aim_of : Stated → (slice witness : Bool) → List Name → Watches → Aim

@@ -1,20 +1,26 @@
 -- What a check keeps of a log: the session behind the header, and the events since.
-use Rattle.std.specs.Prelude.{◌≡◌, ◌+◌, ◌<◌, ◌≤◌, true, false, List, [], length, None, Some}
+use Rattle.std.specs.Prelude.{◌≡◌, ◌+◌, ◌<◌, ◌≤◌, true, false, List, [], length, map, None, Some}
 use Rattle.std.specs.List.{AllByRecursion}
 use Rattle.run_model.specs.Class.{disjuncts}
+use Rattle.run_model.specs.Formula.{Formula}
 use Rattle.event_log.specs.declared.log.Event.{Event}
+use Rattle.event_log.specs.declared.log.Header.{Header}
 use Rattle.event_log.specs.LogText.{HeaderFits, EventFits, event_count}
 use Rattle.event_log.specs.States.{with_batches}
 use Rattle.vector_clock.specs.Events.{no_events}
 use Rattle.trace_growth.specs.Growing.{TraceView}
 use Rattle.rctl_parts.specs.Pieces as piece
+use Rattle.rctl_parts.specs.Pieces.{Piece}
 use Rattle.rctl_parts.specs.Spelled.{part_formulas}
 use Rattle.rctl_class.specs.Classed.{EachAlike}
+use Rattle.rctl_class.specs.Counters.{Counter, counters_of, HaveSameMembers}
 use Rattle.rctl_class.specs.Nodes.{formula_of}
 use Rattle.rctl_names.specs.Seen as names
 use Rattle.conjunctions.specs.declared.observed.Observed.{Observed}
+use Rattle.conjunctions.specs.Counters as parts
 use Rattle.conjunctions.specs.Observing.{Reading, AreAnswers, AreFull}
 use Rattle.run_report.specs.Reports.{counted}
+use Rattle.log_judgement.specs.Counters.{variable_in}
 use Rattle.log_judgement.specs.Judgement.{Prefix, followed_by, Judgement, waiting, growing}
 use Rattle.log_judgement.specs.Judgement.{finished, refused}
 use Rattle.session.specs.declared.session.Session.{Session}
@@ -45,6 +51,12 @@ pub record IsWatched (aim : Aim) (seen : Observed) : Type 0 where
   pub watches : AreAnswers seen (reading_of aim)
   pub full : AreFull seen
 
+-- the counters of the parts, by their numbers, are those of the formula, each as often as it likes
+pub record HaveCounters (h : Header) (f : Formula) (ds : List (List Piece)) : Type 0 where
+  pub named : List Counter
+  pub numbered : parts.counters_of ds ≡ map (variable_in h) named
+  pub same : HaveSameMembers named (counters_of f)
+
 -- the batches of the log were taken, for parts that mean what the formula does
 pub record HasTaken (aim : Aim) (growing : GrowingView) (log : Prefix) : Type 0 where
   pub fits : HeaderFits log.header
@@ -52,6 +64,8 @@ pub record HasTaken (aim : Aim) (growing : GrowingView) (log : Prefix) : Type 0 
   pub trace : growing.seen.trace ≡ trace_after log
   pub meaning : EachAlike (part_formulas (names.names_of log.header aim.names)
       (piece.disjuncts_of growing.disjuncts)) (disjuncts true (formula_of aim.node))
+  pub counters : HaveCounters log.header (formula_of aim.node)
+      (piece.disjuncts_of growing.disjuncts)
   pub watched : 0 < length log.batches → IsWatched aim growing.seen
 
 -- the watches answer as those that were handed in, which were fed the states of the log so far

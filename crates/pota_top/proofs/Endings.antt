@@ -7,20 +7,23 @@ use Rattle.event_log.specs.declared.item.LogFault.{LogFault}
 use Rattle.log_judgement.specs.Judgement.{Prefix, followed_by, Judgement, waiting, growing, finished, refused}
 use Rattle.log_judgement.specs.Due.{closed_of, whole_of, fault_in, at_end, told}
 use Rattle.log_judgement.specs.Texts.{listed, reported}
+use Rattle.log_judgement.specs.Counters.{counters_in}
+use Rattle.log_judgement.specs.Readings.{log_reading}
 use Rattle.log_judgement.specs.WholeLogs.{all_of}
+use Rattle.rctl_class.specs.Nodes.{formula_of}
 use Rattle.vector_clock.specs.Filled.{filled_log}
 use Rattle.log_judgement.proofs.Logs.{log_due, due_log}
 use Rattle.log_check.specs.Aims.{Says, Aim, unknown_name}
 use Rattle.log_check.specs.Checking.{IsCheckOf, HasClosed}
 use Rattle.log_check.specs.declared.check.LogCheck.{LogCheck}
-use Rattle.pota_top.specs.declared.outcome.Fault.{Fault}
-use Rattle.pota_top.specs.declared.outcome.Fault.TheVariants as fault
-use Rattle.pota_top.specs.declared.outcome.Stop.{Stop}
-use Rattle.pota_top.specs.declared.outcome.Verdict.{Verdict}
-use Rattle.pota_top.specs.Checking.{closed_in, AreTexts, ReportStops, Reports}
-use Rattle.pota_top.specs.Reading.{due_in, judgement_in, IsWhole, StopsAt, HasReadLog, IsVerdictOn, ChecksTo, HasChecked}
-use Rattle.pota_top.proofs.Items.{texts_as, part_of_more, front_of_more}
-use Rattle.pota_top.proofs.ReadingSteps.{reported_open, none_told}
+use Rattle.log_answers.specs.declared.stop.StopCause.{StopCause}
+use Rattle.log_answers.specs.declared.stop.StopCause.TheVariants as causes
+use Rattle.log_answers.specs.declared.stop.Stop.{Stop}
+use Rattle.log_answers.specs.declared.stop.Verdict.{Verdict}
+use Rattle.log_answers.specs.Checking.{closed_in, AreReportsFor, ReportStops, Reports}
+use Rattle.pota_top.specs.Reading.{due_in, judgement_in, IsWhole, StopsAt, HasReadLog, IsVerdictBy, ChecksBy, HasChecked}
+use Rattle.log_answers.proofs.Items.{texts_as, part_of_more, front_of_more}
+use Rattle.pota_top.proofs.ReadingSteps.{as_is, of_text, reported_open, free_told}
 
 -- ---- the last batch of a log without a fault was closed
 
@@ -31,7 +34,7 @@ whole_closed (finished so_far last) log h = sym (same_Some (followed_by so_far l
 whole_closed (refused so_far why) log h = absurd (none-some log h)
 
 reported_whole : (each : Bool) (j : Judgement) (log : Prefix) → whole_of j ≡ Some log
-    → reported each (told true j None) ≡ closed_in each j ++ log ∷ []
+    → reported each (told true as_is j None) ≡ closed_in each j ++ log ∷ []
 reported_whole false j log h = ap listed h
 reported_whole true j log h = ap (λ (o : Option Prefix). closed_of j ++ listed o) h
 
@@ -39,33 +42,34 @@ module _ {X : Type 0} {P : X → Type 0} (says : Says X P) (aim : Aim) (each : B
   abbrev j : Judgement
   j = judgement_in aim bytes
 
-  free_told : (due_in aim true bytes).fault ≡ None
-  free_told = ap (fault_in j) w.free ∙ none_told j w.stands.check_is.free
+  none_due : (due_in aim true bytes).fault ≡ None
+  none_due = ap (λ (o : Option LogFault). fault_in as_is j (of_text o)) w.free ∙ free_told as_is j None w.stands.check_is.free
 
   pub whole_log : (log : Prefix) × (whole_of j ≡ Some log)
   whole_log =
       let names = unknown_name aim.node aim.names in
-      let found = due_log names bytes free_told in
-      let due_is = log_due names bytes found.0 found.1 in
-      (all_of (filled_log found.0), sym (ap (λ (o : Option LogFault). at_end true o (whole_of j)) w.free) ∙ due_is.whole)
+      let counters = counters_in (formula_of aim.node) in
+      let found = due_log names counters bytes none_due in
+      let due_is = log_due names counters bytes found.0 found.1 in
+      (all_of (filled_log found.0), sym (ap (λ (o : Option LogFault). at_end true (of_text o) (whole_of j)) w.free) ∙ due_is.whole)
 
   pub closed_log : HasClosed j whole_log.0
   closed_log = whole_closed j whole_log.0 whole_log.1
 
   whole_due : (due_in aim true bytes).whole ≡ Some whole_log.0
-  whole_due = ap (λ (o : Option LogFault). at_end true o (whole_of j)) w.free ∙ whole_log.1
+  whole_due = ap (λ (o : Option LogFault). at_end true (of_text o) (whole_of j)) w.free ∙ whole_log.1
 
   all_reported : reported each (due_in aim true bytes) ≡ closed_in each j ++ whole_log.0 ∷ []
-  all_reported = ap (λ (o : Option LogFault). reported each (told true j o)) w.free ∙ reported_whole each j whole_log.0 whole_log.1
+  all_reported = ap (λ (o : Option LogFault). reported each (told true as_is j (of_text o))) w.free ∙ reported_whole each j whole_log.0 whole_log.1
 
   module _ (held held' : Option (List ℕ)) (of of' : ℕ) where
     abbrev Reported : Result Verdict Stop → Type 0
     Reported result = Reports held held' of of' aim check.batches (closed_in each j) whole_log.0 text result
 
-    verdict_on : (v : Verdict) → (r : Reported (Ok v)) → IsVerdictOn aim each bytes (text ++ r.written) v
+    verdict_on : (v : Verdict) → (r : Reported (Ok v)) → IsVerdictBy log_reading aim each bytes (text ++ r.written) v
     verdict_on v r = record {
       told = record {
-        fault = free_told;
+        fault = none_due;
         count = r.to.2 ∙ w.stands.check_is.batches;
         texts = texts_as aim _ _ (text ++ r.written) all_reported r.to.0;
       };
@@ -74,27 +78,25 @@ module _ {X : Type 0} {P : X → Type 0} (says : Says X P) (aim : Aim) (each : B
       truth = r.to.1;
     }
 
-    report_stops : (left : Option (List ℕ)) (lf lf' : ℕ) → IsAtEnd left → (f : Fault) (n : ℕ) (t : List ℕ) → ReportStops f n of of' aim (closed_in each j) whole_log.0 t
+    report_stops : (left : Option (List ℕ)) (lf lf' : ℕ) → IsAtEnd left → (f : StopCause) (n : ℕ) (t : List ℕ) → ReportStops f n of of' aim (closed_in each j) whole_log.0 t
         → StopsAt f n left lf lf' of of' aim each bytes t
-    report_stops left lf lf' ended fault.Write n t h =
+    report_stops left lf lf' ended causes.Write n t h =
         (true, λ e. ended, part_of_more aim (closed_in each j ++ whole_log.0 ∷ []) [] _ t n (all_reported ∙ sym (append-nil (closed_in each j ++ whole_log.0 ∷ []))) h.0, h.1)
-    report_stops left lf lf' ended fault.Memory n t h =
-        front_of_more aim (closed_in each j) [] _ t n (reported_open each j _ ∙ sym (append-nil (closed_in each j))) h
-    report_stops left lf lf' ended fault.Usage n t h = absurd h
-    report_stops left lf lf' ended (fault.Formula f) n t h = absurd h
-    report_stops left lf lf' ended (fault.Log f) n t h = absurd h
-    report_stops left lf lf' ended fault.Read n t h = absurd h
+    report_stops left lf lf' ended causes.Memory n t h =
+        front_of_more aim (closed_in each j) [] _ t n (reported_open as_is each j _ ∙ sym (append-nil (closed_in each j))) h
+    report_stops left lf lf' ended (causes.Refused r) n t h = absurd h
+    report_stops left lf lf' ended causes.Read n t h = absurd h
 
     pub reported_to : (left : Option (List ℕ)) (lf lf' : ℕ) → IsAtEnd left → (result : Result Verdict Stop) → (r : Reported result)
-        → ChecksTo left lf lf' of of' aim each bytes (text ++ r.written) result
+        → ChecksBy log_reading left lf lf' of of' aim each bytes (text ++ r.written) result
     reported_to left lf lf' ended (Ok v) r = (ended, verdict_on v r)
-    reported_to left lf lf' ended (Err stop) r = report_stops left lf lf' ended stop.fault stop.batches (text ++ r.written) r.to
+    reported_to left lf lf' ended (Err stop) r = report_stops left lf lf' ended stop.cause stop.batches (text ++ r.written) r.to
 
 -- ---- the log was read, and its last report was to be written
 
 module _ {X : Type 0} {P : X → Type 0} (says : Says X P) (aim : Aim) (each : Bool) (check : LogCheck X P) (left left' held now held' : Option (List ℕ)) (lf lf' of of_now of' : ℕ) where
   pub checks : {T : Type 0} (x : T) (result : Result Verdict Stop) → (h : HasReadLog left left' held now lf lf' of of_now says aim each check (Ok x))
-      → ((j : Judgement) (log : Prefix) → IsCheckOf says aim check j → HasClosed j log → (before : List Prefix) (text : List ℕ) → AreTexts aim before text
+      → ((j : Judgement) (log : Prefix) → IsCheckOf says aim check j → HasClosed j log → (before : List Prefix) (text : List ℕ) → AreReportsFor aim before text
       → Reports now held' of_now of' aim check.batches before log text result)
       → HasChecked left left' held held' lf lf' of of' aim each result
   checks x result h reports =
@@ -111,17 +113,15 @@ module _ {X : Type 0} {P : X → Type 0} (says : Says X P) (aim : Aim) (each : B
         to = earlier result h.read (h.written ++ r.written) (reported_to says aim each check h.read h.written w now held' of_now of' left' lf lf' h.to.0 result r);
       }
     where
-      stops : (f : Fault) (n : ℕ) (bytes text : List ℕ) → StopsAt f n left' lf lf' of_now of' aim each bytes text → StopsAt f n left' lf lf' of of' aim each bytes text
-      stops (fault.Formula y) n bytes text k = k
-      stops (fault.Log y) n bytes text k = k
-      stops fault.Read n bytes text k = k
-      stops fault.Write n bytes text k = (k.0, k.1, k.2, let e = k.3 in omega (arith, e, h.out_later))
-      stops fault.Memory n bytes text k = k
-      stops fault.Usage n bytes text k = absurd k
+      stops : (f : StopCause) (n : ℕ) (bytes text : List ℕ) → StopsAt f n left' lf lf' of_now of' aim each bytes text → StopsAt f n left' lf lf' of of' aim each bytes text
+      stops (causes.Refused r) n bytes text k = k
+      stops causes.Read n bytes text k = k
+      stops causes.Write n bytes text k = (k.0, k.1, k.2, let e = k.3 in omega (arith, e, h.out_later))
+      stops causes.Memory n bytes text k = k
 
-      earlier : (y : Result Verdict Stop) (bytes text : List ℕ) → ChecksTo left' lf lf' of_now of' aim each bytes text y → ChecksTo left' lf lf' of of' aim each bytes text y
+      earlier : (y : Result Verdict Stop) (bytes text : List ℕ) → ChecksBy log_reading left' lf lf' of_now of' aim each bytes text y → ChecksBy log_reading left' lf lf' of of' aim each bytes text y
       earlier (Ok v) bytes text k = k
-      earlier (Err stop) bytes text k = stops stop.fault stop.batches bytes text k
+      earlier (Err stop) bytes text k = stops stop.cause stop.batches bytes text k
 
   pub checks_stop : {T : Type 0} (stop : Stop) → HasReadLog {T = T} left left' held now lf lf' of of_now says aim each check (Err stop)
       → HasChecked left left' held now lf lf' of of_now aim each (Err stop)

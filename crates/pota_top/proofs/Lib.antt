@@ -1,9 +1,6 @@
-pub mod Telling
-pub mod Items
-pub mod Reporting
 pub mod ReadingSteps
 pub mod Endings
 pub mod Running
-pub mod Clauses
 pub mod Words
+pub mod NoFall
 pub mod Benching

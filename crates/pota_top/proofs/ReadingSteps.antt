@@ -1,5 +1,6 @@
 -- How reading follows what is due.
 use Rattle.std.proofs.Common.{◌≡◌, ℕ, ◌-◌, ◌<◌, ◌≤◌, Bool, true, false, Option, Some, None, Result, Ok, Err, List, [], ◌++◌, length, take, length-append, refl, sym, ap, subst, ◌∙◌, arith, append-nil}
+use Rattle.std.specs.Option.{option_map}
 use Rattle.std.specs.Io.KnownBytes.{Appends, Consumes, IsAtEnd, Keeps}
 use Rattle.std.proofs.KnownBytes.{Appends-nil, Appends-trans, Consumes-nil, Consumes-trans}
 use Rattle.std.proofs.lemmas.List.{length-take-le}
@@ -18,7 +19,8 @@ use Rattle.event_log.proofs.Lists.{onto-append, length-onto}
 use Rattle.log_judgement.specs.declared.refusal.Refusal.{Refusal}
 use Rattle.log_judgement.specs.declared.refusal.Refusal.TheVariants as refusal
 use Rattle.log_judgement.specs.Judgement.{Prefix, Judgement, waiting, growing, finished, refused, judged}
-use Rattle.log_judgement.specs.Due.{closed_of, fault_in, text_fault, told}
+use Rattle.log_judgement.specs.Readings.{text_fault}
+use Rattle.log_judgement.specs.Due.{closed_of, placed, fault_in, told}
 use Rattle.log_judgement.specs.Texts.{reported}
 use Rattle.log_judgement.proofs.Items.{judged-append}
 use Rattle.log_judgement.proofs.Readings.{log_is_read}
@@ -26,45 +28,56 @@ use Rattle.log_check.specs.Aims.{Says, Aim, rules_of}
 use Rattle.log_check.specs.Checking.{IsCheckOf, IsFree, MayFollow}
 use Rattle.log_check.specs.declared.check.LogCheck.{LogCheck}
 use Rattle.log_check.proofs.Following.{follows_all}
-use Rattle.pota_top.specs.declared.outcome.Fault.{Fault}
-use Rattle.pota_top.specs.declared.outcome.Fault.TheVariants as fault
-use Rattle.pota_top.specs.declared.outcome.Stop.{Stop}
+use Rattle.log_answers.specs.declared.stop.StopCause.{StopCause}
+use Rattle.log_answers.specs.declared.stop.StopCause.TheVariants as causes
+use Rattle.log_answers.specs.declared.stop.Stop.{Stop}
 use Rattle.pota_top.specs.declared.reading.Turn.{Turn}
 use Rattle.pota_top.specs.declared.reading.Turn.TheVariants as turn
-use Rattle.pota_top.specs.Checking.{closed_in, AreTexts, HasFrontOf, Stands, StopsIn, TakesItems}
+use Rattle.log_answers.specs.Checking.{closed_in, AreReportsFor, HasFrontOf, Stands, StopsIn, TakesItems}
 use Rattle.pota_top.specs.Reading.{due_in, judgement_in, HasJudged, IsWhole, TellsDue, StopsAt, PieceTo, TakesPiece, Finishes, TurnsTo, Turns, HasReadLog}
-use Rattle.pota_top.proofs.Items.{closed_more, texts_as, part_of_more, front_of_more}
+use Rattle.log_answers.proofs.Items.{closed_more, texts_as, part_of_more, front_of_more}
 
 -- ---- what is told of a judgement
 
 -- while more may come, or behind a fault of the text, the closed batches alone have reports
-pub reported_open : (each : Bool) (j : Judgement) (text : Option LogFault)
-    → reported each (told false j text) ≡ closed_in each j
-reported_open false j text = refl
-reported_open true j text = append-nil (closed_of j)
+-- how a fault of a batch is told
+abbrev Place : Type 0
+Place = LogFault → Refusal
 
-pub reported_faulty : (each ended : Bool) (j : Judgement) (f : LogFault)
-    → reported each (told ended j (Some f)) ≡ closed_in each j
-reported_faulty false false j f = refl
-reported_faulty false true j f = refl
-reported_faulty true false j f = append-nil (closed_of j)
-reported_faulty true true j f = append-nil (closed_of j)
+pub reported_open : (place : Place) (each : Bool) (j : Judgement) (fault : Option Refusal)
+    → reported each (told false place j fault) ≡ closed_in each j
+reported_open place false j fault = refl
+reported_open place true j fault = append-nil (closed_of j)
 
-pub fault_told : (j : Judgement) (f : LogFault) → IsFree j → fault_in j (Some f) ≡ Some (refusal.Log f)
-fault_told waiting f free = refl
-fault_told (growing log since) f free = refl
-fault_told (finished log last) f free = refl
-fault_told (refused log why) f free = absurd free
+pub reported_faulty : (place : Place) (each ended : Bool) (j : Judgement) (f : Refusal)
+    → reported each (told ended place j (Some f)) ≡ closed_in each j
+reported_faulty place false false j f = refl
+reported_faulty place false true j f = refl
+reported_faulty place true false j f = append-nil (closed_of j)
+reported_faulty place true true j f = append-nil (closed_of j)
 
-pub none_told : (j : Judgement) → IsFree j → fault_in j None ≡ None
-none_told waiting free = refl
-none_told (growing log since) free = refl
-none_told (finished log last) free = refl
-none_told (refused log why) free = absurd free
+-- a judgement without a fault has that of the bytes, or none
+pub free_told : (place : Place) (j : Judgement) (fault : Option Refusal) → IsFree j → fault_in place j fault ≡ fault
+free_told place waiting fault free = refl
+free_told place (growing log since) fault free = refl
+free_told place (finished log last) fault free = refl
+free_told place (refused log why) fault free = absurd free
 
-pub refused_told : (j : Judgement) (log : Option Prefix) (why : Refusal) (text : Option LogFault)
-    → j ≡ refused log why → fault_in j text ≡ Some why
-refused_told j log why text is = ap (λ (k : Judgement). fault_in k text) is
+pub refused_told : (place : Place) (j : Judgement) (log : Option Prefix) (why : Refusal) (fault : Option Refusal)
+    → j ≡ refused log why → fault_in place j fault ≡ Some (placed place why)
+refused_told place j log why fault is = ap (λ (k : Judgement). fault_in place k fault) is
+
+-- the text of a log has its own lines
+abbrev pub as_is : LogFault → Refusal
+as_is f = refusal.Log f
+
+pub placed_as_is : (why : Refusal) → placed as_is why ≡ why
+placed_as_is (refusal.Formula f) = refl
+placed_as_is (refusal.Log f) = refl
+
+-- a fault of the text of a log, as a refusal
+abbrev pub of_text : Option LogFault → Option Refusal
+of_text fault = option_map as_is fault
 
 module _ {X : Type 0} {P : X → Type 0} (says : Says X P) (aim : Aim) (each : Bool) where
   -- ---- more bytes
@@ -72,7 +85,7 @@ module _ {X : Type 0} {P : X → Type 0} (says : Says X P) (aim : Aim) (each : B
   pub grows : (bytes more : List ℕ) → (rest : List Prefix)
       × (closed_in each (judgement_in aim (bytes ++ more)) ≡ closed_in each (judgement_in aim bytes) ++ rest)
   grows bytes more =
-      let others = log_is_read.items_stay bytes more in
+      let others = log_is_read.items_stay false bytes more in
       let j = judgement_in aim bytes in
       let grown = closed_more each (rules_of aim) j others.0 in (
         grown.0,
@@ -82,7 +95,7 @@ module _ {X : Type 0} {P : X → Type 0} (says : Says X P) (aim : Aim) (each : B
 
   -- ---- a stop at items, and one behind them
 
-  pub items_stop : (f : Fault) (n of of' : ℕ) (bytes text : List ℕ) (left : Option (List ℕ)) (lf lf' : ℕ)
+  pub items_stop : (f : StopCause) (n of of' : ℕ) (bytes text : List ℕ) (left : Option (List ℕ)) (lf lf' : ℕ)
       → StopsIn f n of of' aim each (judgement_in aim bytes) text
       → StopsAt f n left lf lf' of of' aim each bytes text
   items_stop f n of of' bytes text left lf lf' stop = go f stop
@@ -91,37 +104,27 @@ module _ {X : Type 0} {P : X → Type 0} (says : Says X P) (aim : Aim) (each : B
       j = judgement_in aim bytes
 
       open_ : reported each (due_in aim false bytes) ≡ closed_in each (judgement_in aim bytes)
-      open_ = reported_open each (judgement_in aim bytes) (fault_of bytes)
+      open_ = reported_open as_is each (judgement_in aim bytes) (of_text (fault_of bytes))
 
-      go : (g : Fault) → StopsIn g n of of' aim each (judgement_in aim bytes) text
+      go : (g : StopCause) → StopsIn g n of of' aim each (judgement_in aim bytes) text
           → StopsAt g n left lf lf' of of' aim each bytes text
-      go (fault.Formula x) h = (
+      go (causes.Refused r) h = (
         false,
         λ e. absurd (cc),
         record {
-          fault = refused_told (judgement_in aim bytes) h.log (refusal.Formula x) (fault_of bytes) h.is;
+          fault = refused_told as_is (judgement_in aim bytes) h.log r (of_text (fault_of bytes)) h.is ∙ ap (λ (x : Refusal). Some x) (placed_as_is r);
           count = h.count;
           texts = texts_as aim _ _ text open_ h.texts;
         },
       )
-      go (fault.Log x) h = (
-        false,
-        λ e. absurd (cc),
-        record {
-          fault = refused_told (judgement_in aim bytes) h.log (refusal.Log x) (fault_of bytes) h.is;
-          count = h.count;
-          texts = texts_as aim _ _ text open_ h.texts;
-        },
-      )
-      go fault.Write h = (
+      go causes.Write h = (
         false,
         λ e. absurd (cc),
         part_of_more aim (closed_in each (judgement_in aim bytes)) [] _ text n (open_ ∙ sym (append-nil (closed_in each (judgement_in aim bytes)))) h.0,
         h.1,
       )
-      go fault.Memory h = front_of_more aim (closed_in each (judgement_in aim bytes)) [] _ text n (open_ ∙ sym (append-nil (closed_in each (judgement_in aim bytes)))) h
-      go fault.Usage h = absurd h
-      go fault.Read h = absurd h
+      go causes.Memory h = front_of_more aim (closed_in each (judgement_in aim bytes)) [] _ text n (open_ ∙ sym (append-nil (closed_in each (judgement_in aim bytes)))) h
+      go causes.Read h = absurd h
 
   -- a fault of the text behind all items
   pub text_stops : (ended : Bool) (bytes text : List ℕ) (f : LogFault) (check : LogCheck X P) → text_fault ended bytes ≡ Some f
@@ -130,9 +133,9 @@ module _ {X : Type 0} {P : X → Type 0} (says : Says X P) (aim : Aim) (each : B
   text_stops ended bytes text f check some stands =
       let j = judgement_in aim bytes in
       record {
-        fault = ap (fault_in j) some ∙ fault_told j f stands.check_is.free;
+        fault = ap (λ (o : Option LogFault). fault_in as_is j (of_text o)) some ∙ free_told as_is j (Some (refusal.Log f)) stands.check_is.free;
         count = stands.check_is.batches;
-        texts = texts_as aim _ _ text (ap (λ (o : Option LogFault). reported each (told ended j o)) some ∙ reported_faulty each ended j f) stands.texts;
+        texts = texts_as aim _ _ text (ap (λ (o : Option LogFault). reported each (told ended as_is j (of_text o))) some ∙ reported_faulty as_is each ended j (refusal.Log f)) stands.texts;
       }
 
   -- no fault so far
@@ -141,9 +144,9 @@ module _ {X : Type 0} {P : X → Type 0} (says : Says X P) (aim : Aim) (each : B
   nothing_told bytes text check none stands =
       let j = judgement_in aim bytes in
       record {
-        fault = ap (fault_in j) none ∙ none_told j stands.check_is.free;
+        fault = ap (λ (o : Option LogFault). fault_in as_is j (of_text o)) none ∙ free_told as_is j None stands.check_is.free;
         count = stands.check_is.batches;
-        texts = texts_as aim _ _ text (reported_open each j (fault_of bytes)) stands.texts;
+        texts = texts_as aim _ _ text (reported_open as_is each j (of_text (fault_of bytes))) stands.texts;
       }
 
   -- ---- one piece
@@ -178,8 +181,8 @@ module _ {X : Type 0} {P : X → Type 0} (says : Says X P) (aim : Aim) (each : B
         written = took.written;
         wrote = took.wrote;
         later = took.later;
-        to = λ left lf lf'. items_stop stop.fault stop.batches of of' (bytes ++ piece) (text ++ took.written) left lf lf'
-            (subst (λ (k : Judgement). StopsIn stop.fault stop.batches of of' aim each k (text ++ took.written)) (sym judgement_now) took.to);
+        to = λ left lf lf'. items_stop stop.cause stop.batches of of' (bytes ++ piece) (text ++ took.written) left lf lf'
+            (subst (λ (k : Judgement). StopsIn stop.cause stop.batches of of' aim each k (text ++ took.written)) (sym judgement_now) took.to);
       }
 
       stands_now : {T : Type 0} (x : T) → (took : Took (Ok x)) → Stands says aim each now (judgement_in aim (bytes ++ piece)) (text ++ took.written)
@@ -187,13 +190,13 @@ module _ {X : Type 0} {P : X → Type 0} (says : Says X P) (aim : Aim) (each : B
 
       -- a fault behind the items
       pub piece_faults : {T : Type 0} (x : T) (f : LogFault) (stop : Stop) → Took (Ok x) → fed.fault ≡ Some f
-          → stop ≡ record { batches = now.batches; fault = fault.Log f }
+          → stop ≡ record { batches = now.batches; cause = causes.Refused (refusal.Log f) }
           → TakesPiece held held' of of' says aim each new now (bytes ++ piece) text (Err stop)
       piece_faults x f stop took some is = record {
         written = took.written;
         wrote = took.wrote;
         later = took.later;
-        to = λ left lf lf'. subst (λ (s : Stop). StopsAt s.fault s.batches left lf lf' of of' aim each (bytes ++ piece) (text ++ took.written)) (sym is)
+        to = λ left lf lf'. subst (λ (s : Stop). StopsAt s.cause s.batches left lf lf' of of' aim each (bytes ++ piece) (text ++ took.written)) (sym is)
             (false, λ e. absurd (cc), text_stops false (bytes ++ piece) (text ++ took.written) f now (fault_now ∙ some) (stands_now x took));
       }
 
@@ -213,13 +216,13 @@ module _ {X : Type 0} {P : X → Type 0} (says : Says X P) (aim : Aim) (each : B
 
   -- there was no memory for the items of the piece
   pub piece_short : (held : Option (List ℕ)) (of : ℕ) (r new : Reader) (check now : LogCheck X P) (bytes piece text : List ℕ) (stop : Stop)
-      → HasJudged says aim each r check bytes text → stop ≡ record { batches = 0; fault = fault.Memory }
+      → HasJudged says aim each r check bytes text → stop ≡ record { batches = 0; cause = causes.Memory }
       → TakesPiece held held of of says aim each new now (bytes ++ piece) text (Err stop)
   piece_short held of r new check now bytes piece text stop known is = record {
     written = [];
     wrote = Appends-nil held;
     later = omega arith;
-    to = λ left lf lf'. subst (λ (s : Stop). StopsAt s.fault s.batches left lf lf' of of aim each (bytes ++ piece) (text ++ [])) (sym is) front;
+    to = λ left lf lf'. subst (λ (s : Stop). StopsAt s.cause s.batches left lf lf' of of aim each (bytes ++ piece) (text ++ [])) (sym is) front;
   }
     where
       front : HasFrontOf aim (reported each (due_in aim false (bytes ++ piece))) (text ++ []) 0
@@ -228,8 +231,8 @@ module _ {X : Type 0} {P : X → Type 0} (says : Says X P) (aim : Aim) (each : B
           record {
             front = closed_in each (judgement_in aim bytes);
             rest = grown.0;
-            are = reported_open each (judgement_in aim (bytes ++ piece)) (fault_of (bytes ++ piece)) ∙ grown.1;
-            texts = subst (AreTexts aim (closed_in each (judgement_in aim bytes))) (sym (append-nil text)) known.stands.texts;
+            are = reported_open as_is each (judgement_in aim (bytes ++ piece)) (of_text (fault_of (bytes ++ piece))) ∙ grown.1;
+            texts = subst (AreReportsFor aim (closed_in each (judgement_in aim bytes))) (sym (append-nil text)) known.stands.texts;
             count = refl;
           }
 
@@ -241,10 +244,10 @@ module _ {X : Type 0} {P : X → Type 0} (says : Says X P) (aim : Aim) (each : B
       record { free = sym (finishes (onto bytes []) known.read) ∙ none; stands = known.stands }
 
   pub end_faults : (r : Reader) (check : LogCheck X P) (bytes text : List ℕ) (of : ℕ) (o : Option LogFault) (f : LogFault) (stop : Stop) → HasJudged says aim each r check bytes text
-      → ((past : List ℕ) → HasRead r past → o ≡ end_fault past) → o ≡ Some f → stop ≡ record { batches = check.batches; fault = fault.Log f }
+      → ((past : List ℕ) → HasRead r past → o ≡ end_fault past) → o ≡ Some f → stop ≡ record { batches = check.batches; cause = causes.Refused (refusal.Log f) }
       → Finishes of says aim each check bytes text (Err stop)
   end_faults r check bytes text of o f stop known finishes some is left lf lf' ended =
-      subst (λ (s : Stop). StopsAt s.fault s.batches left lf lf' of of aim each bytes text) (sym is)
+      subst (λ (s : Stop). StopsAt s.cause s.batches left lf lf' of of aim each bytes text) (sym is)
       (true, λ e. ended, text_stops true bytes text f check (sym (finishes (onto bytes []) known.read) ∙ some) known.stands)
 
   -- ---- one turn
@@ -283,7 +286,7 @@ module _ {X : Type 0} {P : X → Type 0} (says : Says X P) (aim : Aim) (each : B
         go : (x : Result Turn Stop) → Finishes of says aim each check bytes text x → TurnsTo left' lf lf' of of says aim each r check bytes [] text x
         go (Ok turn.More) h = absurd h
         go (Ok turn.End) h = (ended, subst (λ (xs : List ℕ). IsWhole says aim each check xs text) same h)
-        go (Err stop) h = subst (λ (xs : List ℕ). StopsAt stop.fault stop.batches left' lf lf' of of aim each xs text) same (h left' lf lf' ended)
+        go (Err stop) h = subst (λ (xs : List ℕ). StopsAt stop.cause stop.batches left' lf lf' of of aim each xs text) same (h left' lf lf' ended)
 
     -- nothing more was there
     pub turn_ends : (room : List ℕ) (count : ℕ) (result : Result Turn Stop) → count ≡ 0 → 0 < length room → Consumes left left' (take count room) × (count ≡ 0 → 0 < length room → IsAtEnd left') → lf ≤ lf'
@@ -307,7 +310,7 @@ module _ {X : Type 0} {P : X → Type 0} (says : Says X P) (aim : Aim) (each : B
 
     -- the read failed
     pub turn_fails : (stop : Stop) → HasJudged says aim each r check bytes text → Keeps left left' → lf ≤ lf' → Rose lf lf'
-        → stop ≡ record { batches = check.batches; fault = fault.Read } → Turns left left' held held lf lf' of of says aim each r check bytes text (Err stop)
+        → stop ≡ record { batches = check.batches; cause = causes.Read } → Turns left left' held held lf lf' of of says aim each r check bytes text (Err stop)
     turn_fails stop known keeps later rose is =
         let now : TellsDue aim each false (bytes ++ []) (text ++ []) None check.batches =
         subst (λ (xs : List ℕ). TellsDue aim each false xs (text ++ []) None check.batches) (sym (append-nil bytes))
@@ -319,7 +322,7 @@ module _ {X : Type 0} {P : X → Type 0} (says : Says X P) (aim : Aim) (each : B
           wrote = Appends-nil held;
           log_later = later;
           out_later = omega arith;
-          to = subst (λ (s : Stop). StopsAt s.fault s.batches left' lf lf' of of aim each (bytes ++ []) (text ++ [])) (sym is) (now, rose);
+          to = subst (λ (s : Stop). StopsAt s.cause s.batches left' lf lf' of of aim each (bytes ++ []) (text ++ [])) (sym is) (now, rose);
         }
 
   -- ---- all turns
@@ -339,7 +342,7 @@ module _ {X : Type 0} {P : X → Type 0} (says : Says X P) (aim : Aim) (each : B
       let fed = known.read.feeds (known.read.fault_is ∙ known.free) in
       fed.counts.total_is ∙ length-onto bytes [] ∙ omega arith
 
-  nothing_closed : (e : Bool) → AreTexts aim (closed_in e waiting) []
+  nothing_closed : (e : Bool) → AreReportsFor aim (closed_in e waiting) []
   nothing_closed false = refl
   nothing_closed true = refl
 
@@ -382,13 +385,11 @@ module _ {X : Type 0} {P : X → Type 0} (says : Says X P) (aim : Aim) (each : B
         let limit = free_small (onto (h.bytes ++ t.read) []) t.to.1.free in
         omega (arith, before, after, limit, length-onto (h.bytes ++ t.read) [], length-append h.bytes t.read, t.to.0)
 
-    stopped_at : (f : Fault) (n : ℕ) (bytes text : List ℕ) → StopsAt f n left' lf_now lf' of_now of' aim each bytes text → StopsAt f n left' lf lf' of of' aim each bytes text
-    stopped_at (fault.Formula x) n bytes text k = k
-    stopped_at (fault.Log x) n bytes text k = k
-    stopped_at fault.Read n bytes text k = (k.0, let e = k.1 in omega (arith, e, h.log_later))
-    stopped_at fault.Write n bytes text k = (k.0, k.1, k.2, let e = k.3 in omega (arith, e, h.out_later))
-    stopped_at fault.Memory n bytes text k = k
-    stopped_at fault.Usage n bytes text k = absurd k
+    stopped_at : (f : StopCause) (n : ℕ) (bytes text : List ℕ) → StopsAt f n left' lf_now lf' of_now of' aim each bytes text → StopsAt f n left' lf lf' of of' aim each bytes text
+    stopped_at (causes.Refused r) n bytes text k = k
+    stopped_at causes.Read n bytes text k = (k.0, let e = k.1 in omega (arith, e, h.log_later))
+    stopped_at causes.Write n bytes text k = (k.0, k.1, k.2, let e = k.3 in omega (arith, e, h.out_later))
+    stopped_at causes.Memory n bytes text k = k
 
     pub turns_end : {T : Type 0} (y : T) (x : Turn) → x ≡ turn.End → Turned (Ok x) → HasReadLog left left' held held' lf lf' of of' says aim each check' (Ok y)
     turns_end y x is turned =
@@ -411,12 +412,12 @@ module _ {X : Type 0} {P : X → Type 0} (says : Says X P) (aim : Aim) (each : B
       wrote = Appends-trans held held_now held' h.text t.written h.wrote t.wrote;
       log_later = omega (arith, h.log_later, t.log_later);
       out_later = omega (arith, h.out_later, t.out_later);
-      to = stopped_at stop.fault stop.batches (h.bytes ++ t.read) (h.text ++ t.written) t.to;
+      to = stopped_at stop.cause stop.batches (h.bytes ++ t.read) (h.text ++ t.written) t.to;
     }
 
   -- no memory for the room
   pub no_room : {T : Type 0} (left held : Option (List ℕ)) (lf of : ℕ) (check : LogCheck X P) (stop : Stop) → IsCheckOf says aim check waiting
-      → stop ≡ record { batches = 0; fault = fault.Memory } → HasReadLog {T = T} left left held held lf lf of of says aim each check (Err stop)
+      → stop ≡ record { batches = 0; cause = causes.Memory } → HasReadLog {T = T} left left held held lf lf of of says aim each check (Err stop)
   unfolding items judged
   no_room left held lf of check stop is memory = record {
     read = [];
@@ -425,7 +426,7 @@ module _ {X : Type 0} {P : X → Type 0} (says : Says X P) (aim : Aim) (each : B
     wrote = Appends-nil held;
     log_later = omega arith;
     out_later = omega arith;
-    to = subst (λ (s : Stop). StopsAt s.fault s.batches left lf lf of of aim each [] []) (sym memory) (record {
+    to = subst (λ (s : Stop). StopsAt s.cause s.batches left lf lf of of aim each [] []) (sym memory) (record {
       front = [];
       rest = reported each (due_in aim false []);
       are = refl;

@@ -8,9 +8,15 @@ use Rattle.pota_base.specs.Outside.{IsPrefix}
 use Rattle.pota_base.specs.declared.status.Status.TheVariants as status
 use Rattle.run_model.specs.Class.{IsOfClass}
 use Rattle.run_model.specs.Run.{Name, Watches}
+use Rattle.rctl_grammar.specs.declared.tree.Tree.{Tree}
 use Rattle.rctl_class.specs.Nodes.{node_of, formula_of}
 use Rattle.rctl_class.proofs.Class.{of_the_class}
 use Rattle.command_words.specs.declared.request.Task.TheVariants as task
+use Rattle.command_words.specs.declared.request.Form.{Form}
+use Rattle.command_words.specs.declared.request.Form.TheVariants as form
+use Rattle.command_words.specs.declared.request.Product.{Product}
+use Rattle.command_words.specs.declared.request.Inquiry.{Inquiry}
+use Rattle.command_words.specs.declared.request.Product.TheVariants as product
 use Rattle.command_words.specs.declared.request.Shown.{Shown}
 use Rattle.command_words.specs.declared.request.Sizes.{Sizes}
 use Rattle.run_request.specs.declared.formula.Stated.{Stated}
@@ -18,32 +24,35 @@ use Rattle.run_request.specs.declared.question.QuestionFault.{QuestionFault}
 use Rattle.run_request.specs.declared.question.QuestionFault.TheVariants as question
 use Rattle.run_request.specs.Questions.{IsQuestionFault, IsStated, AsksFor}
 use Rattle.run_report.specs.Reports.{Asked, IsReportOf}
+use Rattle.report.specs.Spelling.{report_text}
 use Rattle.run_report.specs.Benches.{IsSummaryOf}
 use Rattle.log_judgement.specs.declared.refusal.Refusal.{Refusal}
 use Rattle.log_judgement.specs.declared.refusal.Refusal.TheVariants as refusal
 use Rattle.log_judgement.specs.Judgement.{Prefix}
+use Rattle.log_judgement.specs.Readings.{Reading}
 use Rattle.log_judgement.specs.WholeLogs.{all_of}
-use Rattle.log_judgement.specs.Texts.{reported, AreReports, IsKept}
+use Rattle.log_judgement.specs.Counters.{counters_in}
+use Rattle.log_judgement.specs.Texts.{reported, IsReportText, AreReports}
 use Rattle.log_judgement.proofs.Dues.{due_grows}
 use Rattle.log_judgement.proofs.Orders.{IsOrdered, all_ordered}
-use Rattle.log_judgement.proofs.Readings.{log_is_read}
-use Rattle.log_judgement.proofs.Texts.{reports_split, one_text}
-use Rattle.log_check.proofs.Decided.{stated_kept, each_kept}
+use Rattle.log_judgement.proofs.Rising.{IsKept, all_kept}
+use Rattle.log_judgement.proofs.Texts.{texts_split, one_text}
 use Rattle.log_check.specs.Aims.{Says, Aim, asked_of, aim_of, names_of, watches_of, rules_of, unknown_name}
 use Rattle.watch.specs.declared.predicate.Handed.{Handed}
-use Rattle.pota_top.specs.declared.outcome.Fault.{Fault}
-use Rattle.pota_top.specs.declared.outcome.Fault.TheVariants as fault
-use Rattle.pota_top.specs.declared.outcome.Outcome.{Outcome}
-use Rattle.pota_top.specs.declared.outcome.Stop.{Stop}
-use Rattle.pota_top.specs.declared.outcome.Verdict.{Verdict}
-use Rattle.pota_top.specs.Outcome.{status_of, fault_of_question, fault_of_refusal, outcome_of}
-use Rattle.pota_top.specs.Asking.{Handing, handing_of, asked_by, asked}
-use Rattle.pota_top.specs.Checking.{AreTexts, HasPartOf, HasFrontOf}
-use Rattle.pota_top.specs.Reading.{due_in, TellsDue, StopsAt, IsVerdictOn, ChecksTo, HasChecked}
+use Rattle.fault_line.specs.Faults.{status_of, fault_of_question, fault_of_refusal}
+use Rattle.log_answers.specs.declared.stop.StopCause.{StopCause}
+use Rattle.log_answers.specs.declared.stop.StopCause.TheVariants as causes
+use Rattle.log_answers.specs.declared.stop.Stop.{Stop}
+use Rattle.log_answers.specs.declared.stop.Verdict.{Verdict}
+use Rattle.run_promise.specs.declared.outcome.Outcome.{Outcome}
+use Rattle.pota_top.specs.Outcome.{fault_of, faulty_outcome, outcome_of}
+use Rattle.run_promise.specs.Asking.{Handing, handing_of, asked_by, asked, reading_of}
+use Rattle.log_answers.specs.Checking.{AreReportsFor, HasPartOf, HasFrontOf}
+use Rattle.pota_top.specs.Reading.{due_by, TellsDueBy, StopsBy, IsVerdictBy, ChecksBy, HasCheckedBy}
 use Rattle.pota_top.specs.Benching.{IsSummary, missing_name, IsBenchOf, BenchStops, BenchesTo, HasMade}
 use Rattle.run_report.proofs.Telling.{told_denotes, told_kinds}
-use Rattle.pota_top.proofs.Clauses.{not_both}
-use Rattle.pota_top.specs.Run.{AllTell, IsTold, IsTrueAtStart, HasVerdict, IsRefused, HasPart, IsBenched, HasBenched, IsWholeDue, sizes_of, made_by, Answer, Ran}
+use Rattle.run_promise.proofs.Clauses.{not_both, form_is_read}
+use Rattle.run_promise.specs.Run.{Tells, AllTell, IsTold, IsTrueAtStart, HasVerdict, IsRefused, HasPart, IsBenched, HasBenched, IsWholeDue, sizes_of, made_by, Answer, Ran}
 
 -- ---- a formula that is stated is asked
 
@@ -52,68 +61,93 @@ stated_asked : (s : Stated) (slice witness : Bool) (names : List Name) (watches 
 stated_asked s slice witness names watches text is =
     ap (λ (t : List ℕ). let q : Asked = record { formula = formula_of (node_of s.formula.tree); text = t; slice = slice; witness = witness } in q) is.printed
 
-both_halves : (xs ys : List Prefix) → AllByRecursion IsOrdered (xs ++ ys) → AllByRecursion IsOrdered xs
-both_halves [] ys h = tt
-both_halves (x ∷ xs) ys h = (h.0, both_halves xs ys h.1)
+front_half : (Good : Prefix → Type 0) (xs ys : List Prefix) → AllByRecursion Good (xs ++ ys) → AllByRecursion Good xs
+front_half Good [] ys h = tt
+front_half Good (x ∷ xs) ys h = (h.0, front_half Good xs ys h.1)
 
--- each report on logs whose clocks are an order tells of the run
-all_tell : (q : Asked) (watches : Watches) → IsOfClass q.formula → (logs : List Prefix) → AllByRecursion IsOrdered logs → AllByRecursion (IsKept q watches) logs → AllTell q watches logs
-all_tell q watches class [] ordered kept = tt
-all_tell q watches class (log ∷ logs) ordered kept = (
-  λ report is. record {
-    ordered = ordered.0;
-    denotes = told_denotes q log.header log.batches watches ordered.0 kept.0 report is;
-    kinds = told_kinds q log.header log.batches watches class ordered.0 kept.0 report is;
-  },
-  all_tell q watches class logs ordered.1 kept.1,
-)
+-- each report on logs whose clocks are an order, and in which no counter falls, tells of the run
+all_tell : (t : Tree) (shown : Shown) (watches : Watches) → IsOfClass (asked_by t shown).formula → (logs : List Prefix) → AllByRecursion IsOrdered logs
+    → AllByRecursion (IsKept (asked_by t shown) watches) logs → AllTell watches t (product.Reports shown) logs
+all_tell t shown watches class [] ordered kept = tt
+all_tell t shown watches class (log ∷ logs) ordered kept =
+    let q = asked_by t shown in
+    let here : Tells watches t (product.Reports shown) log = λ report is. record {
+      ordered = ordered.0;
+      denotes = told_denotes q log.header log.batches watches ordered.0 kept.0 report is;
+      kinds = told_kinds q log.header log.batches watches class ordered.0 kept.0 report is;
+    } in
+    (here, all_tell t shown watches class logs ordered.1 kept.1)
 
 nothing_front : (text : List ℕ) → IsPrefix [] text
 nothing_front text = (text, refl)
 
--- ---- a check
+-- reports on the text of a log are all that is asked of an input
+only_text : (f : Form) → f ≡ form.Text
+only_text form.Text = refl
 
-module _ {X : Type 0} {P : X → Type 0} (says : Says X P) (s : Stated) (shown : Shown) (handed : List (Handed X P)) (words : List (List ℕ)) (formula : List ℕ) (is : IsStated formula s) (asks : AsksFor words (task.Check shown) s.formula.tree) where
+pub asked_so : (words : List (List ℕ)) (t : Tree) (i : Inquiry) (shown : Shown) → i.product ≡ product.Reports shown → AsksFor words (task.Read i) t
+    → AsksFor words (task.Read (record { form = form.Text; product = product.Reports shown })) t
+asked_so words t i shown is asks =
+    subst (λ (p : Product). AsksFor words (task.Read (record { form = form.Text; product = p })) t) is
+    (subst (λ (f : Form). AsksFor words (task.Read (record { form = f; product = i.product })) t) (only_text i.form) asks)
+
+-- ---- reports on an input that is read
+
+module _ {X : Type 0} {P : X → Type 0} (says : Says X P) (s : Stated) (read_as : Form) (shown : Shown) (handed : List (Handed X P)) (words : List (List ℕ)) (formula : List ℕ) (is : IsStated formula s)
+    (asks : AsksFor words (task.Read (record { form = read_as; product = product.Reports shown })) s.formula.tree) where
   abbrev aim : Aim
   aim = aim_of s shown.slice shown.witness (names_of handed) (watches_of says handed)
 
   abbrev on : Handing
   on = handing_of says handed
 
+  abbrev inquiry : Inquiry
+  inquiry = record { form = read_as; product = product.Reports shown }
+
+  abbrev reading : Reading
+  reading = reading_of read_as
+
   abbrev each : Bool
   each = shown.each_batch
+
+  abbrev q : Asked
+  q = asked_by s.formula.tree shown
 
   same : asked_of (aim_of s shown.slice shown.witness (names_of handed) (watches_of says handed)) ≡ asked_by s.formula.tree shown
   same = stated_asked s shown.slice shown.witness (names_of handed) (watches_of says handed) formula is
 
-  texts_asked : (logs : List Prefix) (text : List ℕ) → AreTexts aim logs text
-      → AreReports (asked_by s.formula.tree shown) (watches_of says handed) logs text
-  texts_asked logs text h = subst (λ (q : Asked). AreReports q (watches_of says handed) logs text) same h
+  texts_asked : (logs : List Prefix) (text : List ℕ) → AreReportsFor aim logs text → AreReports q (watches_of says handed) logs text
+  texts_asked logs text h = subst (λ (a : Asked). AreReports a (watches_of says handed) logs text) same h
 
   class_asked : IsOfClass (asked_by s.formula.tree shown).formula
-  class_asked = ((of_the_class (node_of s.formula.tree)).0 is.classed.free).0
+  class_asked = (of_the_class (node_of s.formula.tree)).0 is.classed.free
 
-  due_tell : (ended : Bool) (bytes : List ℕ) → AllTell (asked_by s.formula.tree shown) (watches_of says handed) (reported each (due_in aim ended bytes))
+  due_ordered : (ended : Bool) (bytes : List ℕ) → AllByRecursion IsOrdered (reported each (due_by reading aim ended bytes))
+  due_ordered ended bytes = all_ordered (unknown_name aim.node (names_of handed)) (counters_in (formula_of aim.node)) 67108864 reading (form_is_read read_as) each ended bytes
+
+  due_kept : (ended : Bool) (bytes : List ℕ) → AllByRecursion (IsKept q (watches_of says handed)) (reported each (due_by reading aim ended bytes))
+  due_kept ended bytes = all_kept q (watches_of says handed) 67108864 reading (form_is_read read_as) (unknown_name aim.node (names_of handed)) each ended bytes
+
+  due_tell : (ended : Bool) (bytes : List ℕ) → AllTell (watches_of says handed) s.formula.tree (product.Reports shown) (reported each (due_by reading aim ended bytes))
   due_tell ended bytes =
-      all_tell (asked_by s.formula.tree shown) (watches_of says handed) class_asked (reported each (due_in aim ended bytes)) (all_ordered (unknown_name aim.node (names_of handed)) each ended bytes)
-      (each_kept (asked_by s.formula.tree shown) (watches_of says handed) (stated_kept formula s is) (reported each (due_in aim ended bytes)))
+      all_tell s.formula.tree shown (watches_of says handed) class_asked (reported each (due_by reading aim ended bytes)) (due_ordered ended bytes) (due_kept ended bytes)
 
-  abbrev told_of : (ended : Bool) (bytes text : List ℕ) (n : ℕ) → n ≡ (due_in aim ended bytes).batches
-      → AreTexts aim (reported each (due_in aim ended bytes)) text → IsTold on words ended bytes text n
+  abbrev told_of : (ended : Bool) (bytes text : List ℕ) (n : ℕ) → n ≡ (due_by reading aim ended bytes).batches
+      → AreReportsFor aim (reported each (due_by reading aim ended bytes)) text → IsTold on words ended bytes text n
   told_of ended bytes text n count texts = record {
     tree = s.formula.tree;
-    shown = shown;
+    inquiry = inquiry;
     asks = asks;
-    text = texts_asked (reported each (due_in aim ended bytes)) text texts;
+    text = texts_asked (reported each (due_by reading aim ended bytes)) text texts;
     telling = due_tell ended bytes;
     count = count;
   }
 
   has_part : (left : Option (List ℕ)) (ended : Bool) (bytes text : List ℕ) (n : ℕ) → (ended ≡ true → IsAtEnd left)
-      → HasPartOf aim (reported each (due_in aim ended bytes)) text n → HasPart left on words bytes text n
+      → HasPartOf aim (reported each (due_by reading aim ended bytes)) text n → HasPart left on words bytes text n
   has_part left ended bytes text n at h = record {
     tree = s.formula.tree;
-    shown = shown;
+    inquiry = inquiry;
     asks = asks;
     ended = ended;
     at_end = at;
@@ -121,11 +155,11 @@ module _ {X : Type 0} {P : X → Type 0} (says : Says X P) (s : Stated) (shown :
     log = h.log;
     behind = h.behind;
     due_are = h.are;
-    telling = subst (AllTell (asked_by s.formula.tree shown) (watches_of says handed)) h.are (due_tell ended bytes);
+    telling = subst (AllTell (watches_of says handed) s.formula.tree (product.Reports shown)) h.are (due_tell ended bytes);
     text = h.whole;
     texts = texts_asked h.before h.whole h.texts;
-    report = h.report;
-    says = subst (λ (q : Asked). IsReportOf q h.log.header h.log.batches (watches_of says handed) h.report) same h.report_is;
+    whole = report_text h.report;
+    is = (h.report, subst (λ (a : Asked). IsReportOf a h.log.header h.log.batches (watches_of says handed) h.report) same h.report_is, refl);
     part = h.part;
     part_of = h.part_of;
     wrote = h.wrote;
@@ -133,49 +167,47 @@ module _ {X : Type 0} {P : X → Type 0} (says : Says X P) (s : Stated) (shown :
   }
 
   -- what was written is the front of each text that may be due
-  front_of : (bytes text : List ℕ) (n : ℕ) → HasFrontOf aim (reported each (due_in aim false bytes)) text n
+  front_of : (bytes text : List ℕ) (n : ℕ) → HasFrontOf aim (reported each (due_by reading aim false bytes)) text n
       → (whole : List ℕ) (batches : ℕ) → IsWholeDue on words bytes whole batches → IsPrefix text whole × (n ≤ batches)
   front_of bytes text n h whole batches w =
-      let due_is = w.checked s.formula.tree shown asks in
+      let due_is = w.inquired s.formula.tree inquiry asks in
       let ended = due_is.0 in
       let all = bytes ++ due_is.1 in
-      let q = asked_by s.formula.tree shown in
       let watches = watches_of says handed in
-      let grown = due_grows 67108864 _ log_is_read (rules_of aim) each ended bytes due_is.1 in
-      let logs : reported each (due_in aim ended all) ≡ h.front ++ (h.rest ++ grown.0) =
+      let grown = due_grows 67108864 reading (form_is_read read_as) (rules_of aim) each ended bytes due_is.1 in
+      let logs : reported each (due_by reading aim ended all) ≡ h.front ++ (h.rest ++ grown.0) =
       grown.1 ∙ ap (λ (ps : List Prefix). ps ++ grown.0) h.are ∙ append_assoc h.front h.rest grown.0 in
-      let parts = reports_split q watches h.front (h.rest ++ grown.0) whole (subst (λ (ps : List Prefix). AreReports q watches ps whole) logs due_is.2) in
-      let ordered = both_halves h.front (h.rest ++ grown.0) (subst (AllByRecursion IsOrdered) logs (all_ordered (unknown_name aim.node (names_of handed)) each ended all)) in
-      let kept = each_kept q watches (stated_kept formula s is) h.front in
+      let parts = texts_split (IsReportText q watches) h.front (h.rest ++ grown.0) whole (subst (λ (ps : List Prefix). AreReports q watches ps whole) logs due_is.2) in
+      let ordered = front_half IsOrdered h.front (h.rest ++ grown.0) (subst (AllByRecursion IsOrdered) logs (due_ordered ended all)) in
+      let kept = front_half (IsKept q watches) h.front (h.rest ++ grown.0) (subst (AllByRecursion (IsKept q watches)) logs (due_kept ended all)) in
       let one = one_text q watches class_asked h.front ordered kept parts.0 text parts.2 (texts_asked h.front text h.texts) in
       ((parts.1, parts.4 ∙ ap (λ (t : List ℕ). t ++ parts.1) one), omega (arith, h.count))
 
   module _ (left : Option (List ℕ)) (lf lf' of of' : ℕ) (read written : List ℕ) where
-    refused_by : (r : Refusal) (f : Fault) (n : ℕ) (o : Outcome) → o.batches ≡ n → o.fault ≡ Some (fault_of_refusal r)
-        → (ended : Bool) → (ended ≡ true → IsAtEnd left) → TellsDue aim each ended read written (Some r) n → IsRefused left on words read written o r
-    refused_by r f n o count fault_is ended at told = record {
+    refused_by : (r : Refusal) (n : ℕ) (ended : Bool) → (ended ≡ true → IsAtEnd left) → TellsDueBy reading aim each ended read written (Some r) n
+        → IsRefused left on words read written (faulty_outcome n (fault_of_refusal r)) r
+    refused_by r n ended at told = record {
       ended = ended;
       at_end = at;
-      told = told_of ended read written o.batches (count ∙ told.count) told.texts;
+      told = told_of ended read written n told.count told.texts;
       due_is = told.fault;
-      fault = fault_is;
-    }
-
-    stop_answer : (f : Fault) (n : ℕ) → StopsAt f n left lf lf' of of' aim each read written
-        → Answer (status_of f) left lf lf' of of' on words read written (record { status = status_of f; batches = n; fault = Some f })
-    stop_answer (fault.Formula x) n h = (x, inr (inl (refused_by (refusal.Formula x) (fault.Formula x) n (record { status = status.Formula; batches = n; fault = Some (fault.Formula x) }) refl refl h.0 h.1 h.2)))
-    stop_answer (fault.Log x) n h = (x, refused_by (refusal.Log x) (fault.Log x) n (record { status = status.Log; batches = n; fault = Some (fault.Log x) }) refl refl h.0 h.1 h.2)
-    stop_answer fault.Read n h = (record { told = told_of false read written n h.0.count h.0.texts; free = h.0.fault; fault = refl }, h.1)
-    stop_answer fault.Write n h = (inl (has_part left h.0 read written n h.1 h.2), refl, h.3)
-    stop_answer fault.Memory n h = record {
-      front = front_of read written n h;
-      unread = λ t sizes k. absurd (not_both words shown sizes s.formula.tree t asks k);
-      unnamed = λ t sizes f k. absurd (not_both words shown sizes s.formula.tree t asks k);
       fault = refl;
     }
-    stop_answer fault.Usage n h = absurd h
 
-    verdict_of : (b : Bool) (v : Verdict) → v.truth ≡ b → IsAtEnd left → IsVerdictOn aim each read written v
+    stop_answer : (why : StopCause) (n : ℕ) → StopsBy reading why n left lf lf' of of' aim each read written
+        → Answer (status_of (fault_of why)) left lf lf' of of' on words read written (faulty_outcome n (fault_of why))
+    stop_answer (causes.Refused (refusal.Formula x)) n h = (x, inr (inl (refused_by (refusal.Formula x) n h.0 h.1 h.2)))
+    stop_answer (causes.Refused (refusal.Log x)) n h = (refusal.Log x, refl, refused_by (refusal.Log x) n h.0 h.1 h.2)
+    stop_answer causes.Read n h = (record { told = told_of false read written n h.0.count h.0.texts; free = h.0.fault; fault = refl }, h.1)
+    stop_answer causes.Write n h = (inl (has_part left h.0 read written n h.1 h.2), refl, h.3)
+    stop_answer causes.Memory n h = record {
+      front = front_of read written n h;
+      unread = λ t sizes k. absurd (not_both words inquiry sizes s.formula.tree t asks k);
+      unnamed = λ t sizes f k. absurd (not_both words inquiry sizes s.formula.tree t asks k);
+      fault = refl;
+    }
+
+    verdict_of : (b : Bool) (v : Verdict) → v.truth ≡ b → IsAtEnd left → IsVerdictBy reading aim each read written v
         → HasVerdict left on words read written (record { status = if b then status.True else status.False; batches = v.batches; fault = None }) b
     verdict_of b v same_truth ended h = record {
       ended = ended;
@@ -187,17 +219,17 @@ module _ {X : Type 0} {P : X → Type 0} (says : Says X P) (s : Stated) (shown :
       fault = refl;
     }
 
-    verdict_answer : (b : Bool) (v : Verdict) → v.truth ≡ b → IsAtEnd left → IsVerdictOn aim each read written v
+    verdict_answer : (b : Bool) (v : Verdict) → v.truth ≡ b → IsAtEnd left → IsVerdictBy reading aim each read written v
         → Answer (if b then status.True else status.False) left lf lf' of of' on words read written (record { status = if b then status.True else status.False; batches = v.batches; fault = None })
     verdict_answer true v e ended h = inl (verdict_of true v e ended h)
     verdict_answer false v e ended h = inl (verdict_of false v e ended h)
 
-    answer_of : (result : Result Verdict Stop) → ChecksTo left lf lf' of of' aim each read written result
+    answer_of : (result : Result Verdict Stop) → ChecksBy reading left lf lf' of of' aim each read written result
         → Answer (outcome_of result).status left lf lf' of of' on words read written (outcome_of result)
     answer_of (Ok v) h = verdict_answer v.truth v refl h.0 h.1
-    answer_of (Err stop) h = stop_answer stop.fault stop.batches h
+    answer_of (Err stop) h = stop_answer stop.cause stop.batches h
 
-  pub ran_checked : (left left' held held' : Option (List ℕ)) (lf lf' of of' : ℕ) (result : Result Verdict Stop) → HasChecked left left' held held' lf lf' of of' aim each result
+  pub ran_checked : (left left' held held' : Option (List ℕ)) (lf lf' of of' : ℕ) (result : Result Verdict Stop) → HasCheckedBy reading left left' held held' lf lf' of of' aim each result
       → Ran left left' held held' lf lf' of of' on words (outcome_of result)
   ran_checked left left' held held' lf lf' of of' result h = record {
     read = h.read;
@@ -236,9 +268,9 @@ module _ {X : Type 0} {P : X → Type 0} (says : Says X P) (s : Stated) (sizes :
   }
 
   module _ (left : Option (List ℕ)) (lf of of' : ℕ) (written : List ℕ) where
-    bench_stop : (f : Fault) (n : ℕ) → BenchStops f n of of' bench_aim sizes written
-        → Answer (status_of f) left lf lf of of' bench_on words [] written (record { status = status_of f; batches = n; fault = Some f })
-    bench_stop (fault.Formula x) n h = (
+    bench_stop : (why : StopCause) (n : ℕ) → BenchStops why n of of' bench_aim sizes written
+        → Answer (status_of (fault_of why)) left lf lf of of' bench_on words [] written (faulty_outcome n (fault_of why))
+    bench_stop (causes.Refused (refusal.Formula x)) n h = (
       x,
       inr (inr (record {
         tree = s.formula.tree;
@@ -250,7 +282,8 @@ module _ {X : Type 0} {P : X → Type 0} (says : Says X P) (s : Stated) (sizes :
         fault = refl;
       })),
     )
-    bench_stop fault.Write n h = (
+    bench_stop (causes.Refused (refusal.Log x)) n h = absurd h
+    bench_stop causes.Write n h = (
       inr (record {
         nothing = refl;
         summary = h.0.summary;
@@ -262,15 +295,13 @@ module _ {X : Type 0} {P : X → Type 0} (says : Says X P) (s : Stated) (sizes :
       refl,
       h.1,
     )
-    bench_stop fault.Memory n h = record {
+    bench_stop causes.Memory n h = record {
       front = λ text batches w. (subst (λ (t : List ℕ). IsPrefix t text) (sym h.0) (nothing_front text), let none = h.1 in omega (arith, none));
       unread = λ t sizes k. refl;
       unnamed = λ t sizes f k lacks. h;
       fault = refl;
     }
-    bench_stop fault.Usage n h = absurd h
-    bench_stop (fault.Log x) n h = absurd h
-    bench_stop fault.Read n h = absurd h
+    bench_stop causes.Read n h = absurd h
 
     bench_of : (b : Bool) (v : Verdict) → v.truth ≡ b → IsBenchOf bench_aim sizes written v
         → HasBenched bench_on words [] written (record { status = if b then status.True else status.False; batches = v.batches; fault = None }) b
@@ -289,7 +320,7 @@ module _ {X : Type 0} {P : X → Type 0} (says : Says X P) (s : Stated) (sizes :
     bench_answer : (result : Result Verdict Stop) → BenchesTo of of' bench_aim sizes written result
         → Answer (outcome_of result).status left lf lf of of' bench_on words [] written (outcome_of result)
     bench_answer (Ok v) h = bench_verdict v.truth v refl h
-    bench_answer (Err stop) h = bench_stop stop.fault stop.batches h
+    bench_answer (Err stop) h = bench_stop stop.cause stop.batches h
 
   pub ran_made : (left held held' : Option (List ℕ)) (lf of of' : ℕ) (result : Result Verdict Stop) → HasMade held held' of of' bench_aim sizes result
       → Ran left left held held' lf lf of of' bench_on words (outcome_of result)
@@ -305,36 +336,36 @@ module _ {X : Type 0} {P : X → Type 0} (says : Says X P) (s : Stated) (sizes :
 
 -- ---- nothing was done
 
-pub ran_short : (left held : Option (List ℕ)) (lf of : ℕ) (on : Handing) (words : List (List ℕ)) (stop : Stop) → stop ≡ record { batches = 0; fault = fault.Memory }
-    → Ran left left held held lf lf of of on words (outcome_of (Err stop))
-ran_short left held lf of on words stop is = subst (λ (x : Stop). Ran left left held held lf lf of of on words (outcome_of (Err x))) (sym is) (record {
+ran_nothing : (left held : Option (List ℕ)) (lf of : ℕ) (on : Handing) (words : List (List ℕ)) (o : Outcome) → Answer o.status left lf lf of of on words [] [] o
+    → Ran left left held held lf lf of of on words o
+ran_nothing left held lf of on words o answer = record {
   read = [];
   written = [];
   consumed = Consumes-nil left;
   wrote = Appends-nil held;
   log_later = omega arith;
   out_later = omega arith;
-  answer = record {
-    front = λ text batches w. (nothing_front text, omega arith);
-    unread = λ t sizes k. refl;
-    unnamed = λ t sizes f k lacks. (refl, refl);
-    fault = refl;
-  };
-})
+  answer = answer;
+}
+
+pub ran_short : (left held : Option (List ℕ)) (lf of : ℕ) (on : Handing) (words : List (List ℕ)) (stop : Stop) → stop ≡ record { batches = 0; cause = causes.Memory }
+    → Ran left left held held lf lf of of on words (outcome_of (Err stop))
+ran_short left held lf of on words stop is =
+    subst (λ (x : Stop). Ran left left held held lf lf of of on words (outcome_of (Err x))) (sym is)
+    (ran_nothing left held lf of on words (outcome_of (Err (record { batches = 0; cause = causes.Memory }))) (record {
+      front = λ text batches w. (nothing_front text, omega arith);
+      unread = λ t sizes k. refl;
+      unnamed = λ t sizes f k lacks. (refl, refl);
+      fault = refl;
+    }))
 
 misasked_answer : (words : List (List ℕ)) (left : Option (List ℕ)) (lf of : ℕ) (on : Handing) (f : QuestionFault) → IsQuestionFault words f
-    → Answer (status_of (fault_of_question f)) left lf lf of of on words [] [] (record { status = status_of (fault_of_question f); batches = 0; fault = Some (fault_of_question f) })
+    → Answer (status_of (fault_of_question f)) left lf lf of of on words [] [] (faulty_outcome 0 (fault_of_question f))
 misasked_answer words left lf of on question.Usage is = record { fault_is = is; nothing = (refl, refl); batches = refl; fault = refl }
 misasked_answer words left lf of on (question.Formula f) is = (f, inl (record { fault_is = is; nothing = (refl, refl); batches = refl; fault = refl }))
 
-pub ran_misasked : (left held : Option (List ℕ)) (lf of : ℕ) (on : Handing) (words : List (List ℕ)) (f : QuestionFault) (stop : Stop) → IsQuestionFault words f
-    → stop ≡ record { batches = 0; fault = fault_of_question f } → Ran left left held held lf lf of of on words (outcome_of (Err stop))
-ran_misasked left held lf of on words f stop is ended = subst (λ (x : Stop). Ran left left held held lf lf of of on words (outcome_of (Err x))) (sym ended) (record {
-  read = [];
-  written = [];
-  consumed = Consumes-nil left;
-  wrote = Appends-nil held;
-  log_later = omega arith;
-  out_later = omega arith;
-  answer = misasked_answer words left lf of on f is;
-})
+pub ran_misasked : (left held : Option (List ℕ)) (lf of : ℕ) (on : Handing) (words : List (List ℕ)) (f : QuestionFault) (o : Outcome) → IsQuestionFault words f
+    → o ≡ faulty_outcome 0 (fault_of_question f) → Ran left left held held lf lf of of on words o
+ran_misasked left held lf of on words f o is ended =
+    subst (Ran left left held held lf lf of of on words) (sym ended)
+    (ran_nothing left held lf of on words (faulty_outcome 0 (fault_of_question f)) (misasked_answer words left lf of on f is))

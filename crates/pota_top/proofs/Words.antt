@@ -8,9 +8,11 @@ use Rattle.std.proofs.lemmas.Option.{none-some, same_Some}
 use Rattle.pota_base.specs.Number.{number_at, whole}
 use Rattle.command_words.specs.declared.request.Sizes.{Sizes}
 use Rattle.command_words.specs.declared.request.Task.{Task}
-use Rattle.command_words.specs.declared.request.Task.TheVariants.{Check, Bench}
+use Rattle.command_words.specs.declared.request.Form.TheVariants as form
+use Rattle.command_words.specs.declared.request.Product.TheVariants.{Reports}
+use Rattle.command_words.specs.declared.request.Task.TheVariants.{Read, Bench}
 use Rattle.command_words.specs.Numbers.{number, workers_of, needed, sizes_of}
-use Rattle.command_words.specs.Request.{Values, values_of, check_of, bench_of, task_of, Wanted, wanted, request_of}
+use Rattle.command_words.specs.Request.{Values, values_of, shown_of, check_of, bench_of, task_of, Wanted, wanted, request_of}
 use Rattle.command_words.specs.Rule.{Text, given}
 use Rattle.run_request.specs.declared.question.Question.{Question}
 use Rattle.run_request.specs.Questions.{IsQuestion}
@@ -74,7 +76,7 @@ bench_can v s h = elim (cases_Bool (v.slice || v.witness || v.each_batch)) [
 check_not : (v : Values) (s : Sizes) → check_of v ≡ Some (Bench s) → ⊥
 check_not v s h = elim (cases_Bool (is_some v.seed || is_some v.procs || is_some v.events)) [
   | inl it ↦ none-some (Bench s) (sym (rw it refl) ∙ h)
-  | inr no_ ↦ let e : Some (Check (record { slice = v.slice; witness = v.witness; each_batch = v.each_batch })) ≡ Some (Bench s) = sym (rw no_ refl) ∙ h in absurd cc
+  | inr no_ ↦ let e : Some (Read (record { form = form.Text; product = Reports (shown_of v) })) ≡ Some (Bench s) = sym (rw no_ refl) ∙ h in absurd cc
 ]
 
 task_can : (command : Text) (v : Values) (s : Sizes) → task_of command v ≡ Some (Bench s) → CanBeMade s

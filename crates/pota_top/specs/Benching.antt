@@ -5,13 +5,14 @@ use Rattle.pota_base.specs.Outside.{Rose, IsPrefix}
 use Rattle.rctl_grammar.specs.declared.fault.FormulaFault.{FormulaFault}
 use Rattle.command_words.specs.declared.request.Sizes.{Sizes}
 use Rattle.run_report.specs.Benches.{IsSummaryOf}
+use Rattle.log_judgement.specs.declared.refusal.Refusal.TheVariants as refusal
 use Rattle.log_judgement.specs.WholeLogs.{all_of}
 use Rattle.log_check.specs.Aims.{Aim, asked_of, unknown_name, IsTrueSoFar}
-use Rattle.pota_top.specs.declared.outcome.Fault.{Fault}
-use Rattle.pota_top.specs.declared.outcome.Fault.TheVariants as fault
-use Rattle.pota_top.specs.declared.outcome.Stop.{Stop}
-use Rattle.pota_top.specs.declared.outcome.Verdict.{Verdict}
-use Rattle.pota_top.specs.Run.{sizes_of, made_by}
+use Rattle.log_answers.specs.declared.stop.StopCause.{StopCause}
+use Rattle.log_answers.specs.declared.stop.StopCause.TheVariants as causes
+use Rattle.log_answers.specs.declared.stop.Stop.{Stop}
+use Rattle.log_answers.specs.declared.stop.Verdict.{Verdict}
+use Rattle.run_promise.specs.Run.{sizes_of, made_by}
 
 -- the summary of a bench of the log that is made
 abbrev pub IsSummary : Aim → Sizes → List ℕ → Type 0
@@ -41,20 +42,19 @@ pub record IsBenchPart (aim : Aim) (sizes : Sizes) (text : List ℕ) (batches : 
   pub part : IsPrefix text summary
   pub count : batches ≡ 1
 
-abbrev pub BenchStops : Fault → ℕ → ℕ → ℕ → Aim → Sizes → List ℕ → Type 0
-BenchStops (fault.Formula f) n of of' aim sizes text =
+abbrev pub BenchStops : StopCause → ℕ → ℕ → ℕ → Aim → Sizes → List ℕ → Type 0
+BenchStops (causes.Refused (refusal.Formula f)) n of of' aim sizes text =
     (missing_name aim sizes ≡ Some f) × (text ≡ []) × (n ≡ 0)
-BenchStops fault.Write n of of' aim sizes text =
+BenchStops (causes.Refused (refusal.Log f)) n of of' aim sizes text = ⊥
+BenchStops causes.Write n of of' aim sizes text =
     IsBenchPart aim sizes text n × Rose of of'
-BenchStops fault.Memory n of of' aim sizes text = (text ≡ []) × (n ≡ 0)
-BenchStops fault.Usage n of of' aim sizes text = ⊥
-BenchStops (fault.Log f) n of of' aim sizes text = ⊥
-BenchStops fault.Read n of of' aim sizes text = ⊥
+BenchStops causes.Memory n of of' aim sizes text = (text ≡ []) × (n ≡ 0)
+BenchStops causes.Read n of of' aim sizes text = ⊥
 
 abbrev pub BenchesTo : ℕ → ℕ → Aim → Sizes → List ℕ → Result Verdict Stop → Type 0
 BenchesTo of of' aim sizes text (Ok v) = IsBenchOf aim sizes text v
 BenchesTo of of' aim sizes text (Err stop) =
-    BenchStops stop.fault stop.batches of of' aim sizes text
+    BenchStops stop.cause stop.batches of of' aim sizes text
 
 -- a bench was done
 pub record HasMade (held held' : Option (List ℕ)) (of of' : ℕ) (aim : Aim)

@@ -3,22 +3,24 @@ ghost use Rattle.std.specs.Prelude.{◌≡◌, ◌≤◌, ◌<◌, ◌++◌, [],
 ghost use Rattle.std.specs.Prelude.{Option, IfOk, OnOk};
 ghost use Rattle.event_log.specs.LogText.{log_items, event_items};
 ghost use Rattle.log_judgement.specs.Judgement.{waiting};
-ghost use Rattle.command_words.specs.declared.request.Task.TheVariants.{Bench, Check};
+ghost use Rattle.command_words.specs.declared.request.Task.TheVariants.{Bench, Read};
+ghost use Rattle.command_words.specs.declared.request.Form.TheVariants.{Text};
+ghost use Rattle.command_words.specs.declared.request.Product.TheVariants.{Reports};
 ghost use Rattle.run_request.specs.Questions.{AsksFor, IsStated};
 ghost use Rattle.log_check.specs.Aims.{Aim, AreWatches, aim_of};
 ghost use Rattle.log_check.specs.Checking.{IsCheckOf};
-ghost use Rattle.pota_top.specs.Asking.{handing_of};
+ghost use Rattle.run_promise.specs.Asking.{handing_of};
 ghost use Rattle.pota_top.specs.Outcome.{outcome_of};
 ghost use Rattle.pota_top.specs.Reading.{HasChecked};
-ghost use Rattle.pota_top.specs.Run.{Ran, made_by};
-ghost use Rattle.pota_top.specs.Checking.{IsBenchAim};
+ghost use Rattle.run_promise.specs.Run.{Ran, made_by, sizes_of};
+ghost use Rattle.bench_summary.specs.Views.{sizes_of as summed_sizes};
+ghost use Rattle.log_answers.specs.Checking.{IsBenchAim};
 ghost use Rattle.pota_top.specs.Benching.{CanBeMade, HasMade};
 
-use crate::checking::{Checking, Means, put};
-use crate::outcome::{Stop, Verdict};
 use crate::reading::read_log;
-use command_words::{Shown, Sizes};
+use command_words::{Form, Inquiry, Product, Shown, Sizes};
 use event_log::{Event, Item, Log};
+use log_answers::{Checking, Means, Stop, Verdict};
 use log_check::LogCheck;
 use pota_base::{Gate, List, NoMemory, Sink, Source, Steps};
 use run_request::Stated;
@@ -122,6 +124,17 @@ fn make_items(alloc: Global, sizes: Sizes) -> Result<List<Item>, NoMemory>
     )
 }
 
+// The sizes as a summary has them.
+fn summary_sizes(sizes: Sizes) -> bench_summary::Sizes
+    ensures { summed_sizes result ≡ sizes_of sizes }
+{
+    bench_summary::Sizes {
+        seed: sizes.seed,
+        procs: sizes.procs,
+        events: sizes.events,
+    }
+}
+
 // Takes the items of the log that is made, and writes its summary.
 fn bench_all<R: Threads + Sync, G: Gate, L: Ledger, O: Sink>(
     means: &Means<'_, R, G>,
@@ -145,7 +158,7 @@ fn bench_all<R: Threads + Sync, G: Gate, L: Ledger, O: Sink>(
     if let Err(stop) = checking.take_all(means, items, out) {
         return Err(stop);
     }
-    checking.sum_up(means, sizes, out)
+    checking.sum_up(means, summary_sizes(sizes), out)
 }
 
 // Checks the log that is made, and writes its summary.
@@ -182,8 +195,8 @@ fn bench_log<R: Threads + Sync, G: Gate, L: Ledger, O: Sink>(
     verdict
 }
 
-/// Answers a check on the log that the source has.
-pub fn answer_check<R: Threads + Sync, G: Gate, S: Source, O: Sink>(
+// Writes reports on the log whose text the source has.
+fn answer_text<R: Threads + Sync, G: Gate, S: Source, O: Sink>(
     means: &Means<'_, R, G>,
     stated: Stated,
     shown: Shown,
@@ -197,7 +210,7 @@ pub fn answer_check<R: Threads + Sync, G: Gate, S: Source, O: Sink>(
     requires watches { AreWatches watches.items }
     requires stated { (text : ListOf ℕ) × IsStated text stated }
     ensures { (words : ListOf (ListOf ℕ)) (text : ListOf ℕ) → IsStated text stated
-        → AsksFor words (Check shown) stated.formula.tree
+        → AsksFor words (Read (record { form = Text; product = Reports shown })) stated.formula.tree
         → Ran (S.left log.old) (S.left log.new) (O.held out.old) (O.held out.new) (S.faults log.old)
         (S.faults log.new) (O.faults out.old) (O.faults out.new)
         (handing_of
@@ -215,6 +228,49 @@ pub fn answer_check<R: Threads + Sync, G: Gate, S: Source, O: Sink>(
         log,
         out,
     )
+}
+
+// What the reports on an input show.
+fn shown_in(product: Product) -> Shown
+    ensures { product ≡ Reports result }
+{
+    match product {
+        Product::Reports(shown) => shown,
+    }
+}
+
+/// Answers what is asked of the input that the source has.
+pub fn answer_inquiry<R: Threads + Sync, G: Gate, S: Source, O: Sink>(
+    means: &Means<'_, R, G>,
+    stated: Stated,
+    inquiry: Inquiry,
+    workers: u32,
+    watches: Vec<Handed>,
+    log: &mut S,
+    out: &mut O,
+) -> Result<Verdict, Stop>
+    requires some { 1 ≤ workers }
+    requires few { workers ≤ 16 }
+    requires watches { AreWatches watches.items }
+    requires stated { (text : ListOf ℕ) × IsStated text stated }
+    ensures { (words : ListOf (ListOf ℕ)) (text : ListOf ℕ) → IsStated text stated
+        → AsksFor words (Read inquiry) stated.formula.tree
+        → Ran (S.left log.old) (S.left log.new) (O.held out.old) (O.held out.new) (S.faults log.old)
+        (S.faults log.new) (O.faults out.old) (O.faults out.new)
+        (handing_of
+        (λ h. answers (h.watch.vtable, h.watch.value)) watches.items) words (outcome_of result) }
+{
+    match inquiry.form {
+        Form::Text => answer_text(
+            means,
+            stated,
+            shown_in(inquiry.product),
+            workers,
+            watches,
+            log,
+            out,
+        ),
+    }
 }
 
 /// Answers a bench. It reads nothing.

@@ -23,12 +23,10 @@
 #![tactic(auto)]
 
 mod answering;
-mod checking;
-mod line;
 mod outcome;
 mod reading;
-mod texts;
 mod top;
 
-pub use outcome::{Fault, Outcome};
+pub use fault_line::Fault;
+pub use run_promise::Outcome;
 pub use top::pota;

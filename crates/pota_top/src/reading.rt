@@ -5,9 +5,9 @@ ghost use Rattle.log_check.specs.Aims.{Aim};
 ghost use Rattle.log_check.specs.Checking.{IsCheckOf};
 ghost use Rattle.pota_top.specs.Reading.{Finishes, HasJudged, HasReadLog, TakesPiece, Turns};
 
-use crate::checking::{Checking, Means};
-use crate::outcome::{Fault, Stop};
 use event_log::{Fed, Reader};
+use log_answers::{Checking, Means, Stop, StopCause};
+use log_judgement::Refusal;
 use pota_base::{Gate, Sink, Source};
 use std::sync::ledger::Ledger;
 use std::thread::Threads;
@@ -53,7 +53,7 @@ fn take_piece<R: Threads + Sync, G: Gate, L: Ledger, O: Sink>(
         return Err(stop);
     }
     match fault {
-        Some(fault) => Err(checking.stop(Fault::Log(fault))),
+        Some(fault) => Err(checking.stop(StopCause::Refused(Refusal::Log(fault)))),
         None => Ok(Turn::More),
     }
 }
@@ -74,7 +74,7 @@ fn finish<L: Ledger>(reader: &mut Reader, checking: &Checking<L>) -> Result<Turn
         bytes text result }
 {
     match reader.finish() {
-        Some(fault) => Err(checking.stop(Fault::Log(fault))),
+        Some(fault) => Err(checking.stop(StopCause::Refused(Refusal::Log(fault)))),
         None => Ok(Turn::End),
     }
 }
@@ -107,7 +107,7 @@ fn take_turn<R: Threads + Sync, G: Gate, L: Ledger, S: Source, O: Sink>(
     match log.read(room) {
         Ok(0) => finish(reader, checking),
         Ok(count) => take_piece(means, reader, checking, &room[..count], out),
-        Err(_) => Err(checking.stop(Fault::Read)),
+        Err(_) => Err(checking.stop(StopCause::Read)),
     }
 }
 

@@ -4,17 +4,19 @@ ghost use Rattle.pota_base.specs.Outside.{Rose};
 ghost use Rattle.pota_base.specs.declared.status.Status.TheVariants.{ReadFault, WriteFault};
 ghost use Rattle.run_request.specs.Questions.{IsQuestion};
 ghost use Rattle.log_check.specs.Aims.{AreWatches};
-ghost use Rattle.pota_top.specs.Outcome.{Told, line_of, outcome_of};
-ghost use Rattle.pota_top.specs.Asking.{handing_of};
-ghost use Rattle.pota_top.specs.Run.{IsBenchAnswered, IsCalm, IsDecided, IsRefusedAsAsked};
-ghost use Rattle.pota_top.specs.Run.{IsRefusedAsDue, Ran};
+ghost use Rattle.fault_line.specs.Lines.{Told};
+ghost use Rattle.run_promise.specs.Asking.{handing_of};
+ghost use Rattle.run_promise.specs.Run.{IsBenchAnswered, IsCalm, IsDecided, IsRefusedAsAsked};
+ghost use Rattle.run_promise.specs.Run.{IsRefusedAsDue, Ran};
+ghost use Rattle.pota_top.specs.Outcome.{line_of, outcome_of};
 
-use crate::answering::{answer_bench, answer_check};
-use crate::checking::Means;
-use crate::line::tell;
-use crate::outcome::{Fault, Outcome, Stop, Verdict};
+use crate::answering::{answer_bench, answer_inquiry};
+use crate::outcome::{faulty, outcome_of};
 use command_words::Task;
+use fault_line::{Fault, tell};
+use log_answers::{Means, Stop, Verdict};
 use pota_base::{Gate, Refused, Sink, Source};
+use run_promise::Outcome;
 use run_request::{Question, read_question};
 use std::alloc::Global;
 use std::thread::Threads;
@@ -42,38 +44,13 @@ fn answer_question<R: Threads + Sync, G: Gate, S: Source, O: Sink>(
         stated,
     } = question;
     match task {
-        Task::Check(shown) => answer_check(means, stated, shown, workers, watches, log, out),
+        Task::Read(inquiry) => answer_inquiry(means, stated, inquiry, workers, watches, log, out),
         Task::Bench(sizes) => answer_bench(means, stated, sizes, workers, watches, out),
     }
 }
 
-// Answers the words on the log that the source has.
+// Answers the words on the input that the source has, and says how that ended.
 fn answer_words<R: Threads + Sync, G: Gate, S: Source, O: Sink>(
-    means: &Means<'_, R, G>,
-    words: &[String],
-    watches: Vec<Handed>,
-    log: &mut S,
-    out: &mut O,
-) -> Result<Verdict, Stop>
-    requires watches { AreWatches watches.items }
-    ensures { Ran (S.left log.old) (S.left log.new) (O.held out.old) (O.held out.new)
-        (S.faults log.old) (S.faults log.new) (O.faults out.old) (O.faults out.new)
-        (handing_of
-        (λ h. answers (h.watch.vtable, h.watch.value)) watches.items) (map string_bytes words.now)
-        (outcome_of result) }
-{
-    match read_question(means.alloc, words) {
-        Ok(question) => answer_question(means, question, watches, log, out),
-        Err(Refused::Fault(fault)) => Err(Stop {
-            batches: 0,
-            fault: Fault::of_question(fault),
-        }),
-        Err(Refused::NoMemory) => Err(Stop::without_memory()),
-    }
-}
-
-// Answers the words, and says how that ended.
-fn run<R: Threads + Sync, G: Gate, S: Source, O: Sink>(
     means: &Means<'_, R, G>,
     words: &[String],
     watches: Vec<Handed>,
@@ -87,7 +64,11 @@ fn run<R: Threads + Sync, G: Gate, S: Source, O: Sink>(
         (λ h. answers (h.watch.vtable, h.watch.value)) watches.items) (map string_bytes words.now)
         result }
 {
-    Outcome::of(answer_words(means, words, watches, log, out))
+    match read_question(means.alloc, words) {
+        Ok(question) => outcome_of(answer_question(means, question, watches, log, out)),
+        Err(Refused::Fault(fault)) => faulty(0, Fault::of_question(fault)),
+        Err(Refused::NoMemory) => outcome_of(Err(Stop::without_memory())),
+    }
 }
 
 /// Answers what the words ask: a formula over all global states of the run that the log has, or of
@@ -140,7 +121,7 @@ pub fn pota<R: Threads + Sync, S: Source, O: Sink, D: Sink, G: Gate>(
         alloc,
         gate,
     };
-    let outcome = run(&means, words, watches, log, out);
-    tell(diag, &outcome);
+    let outcome = answer_words(&means, words, watches, log, out);
+    tell(diag, b"pota", &outcome.fault);
     outcome
 }

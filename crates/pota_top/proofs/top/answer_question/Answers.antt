@@ -4,10 +4,10 @@ use Rattle.run_request.specs.Questions.{AsksFor}
 use Rattle.run_request.proofs.OneQuestion.{question_asks}
 use Rattle.pota_top.proofs.top.answer_question.Goals as goal
 
-pub returns-in-Check : goal.returns-in-Check
-returns-in-Check g c words is =
-    c.answer_check.ensures words is.wanted.formula is.stated
-    (subst (λ (t : Task). AsksFor words t c.args.question.stated.formula.tree) c.in-Check.is
+pub returns-in-Read : goal.returns-in-Read
+returns-in-Read g c words is =
+    c.answer_inquiry.ensures words is.wanted.formula is.stated
+    (subst (λ (t : Task). AsksFor words t c.args.question.stated.formula.tree) c.in-Read.is
     (question_asks words c.args.question is))
 
 pub returns-in-Bench : goal.returns-in-Bench

@@ -1,0 +1,186 @@
+-- A log that is checked item by item: what is known of it, and what its calls lead to.
+use Rattle.std.specs.Prelude.{◌≡◌, ℕ, ◌≤◌, ◌↔◌, Bool, true, false, List, [], ◌∷◌, ◌++◌, Option}
+use Rattle.std.specs.Prelude.{Result, Ok, Err}
+use Rattle.std.specs.Io.KnownBytes.{Appends}
+use Rattle.pota_base.specs.Outside.{Rose, IsPrefix}
+use Rattle.report.specs.declared.report.Report.{Report}
+use Rattle.report.specs.Spelling.{report_text}
+use Rattle.run_report.specs.Reports.{counted}
+use Rattle.run_report.specs.Benches.{IsSummaryOf}
+use Rattle.run_report.specs.Benches as bench
+use Rattle.log_judgement.specs.declared.refusal.Refusal.{Refusal}
+use Rattle.log_judgement.specs.Judgement.{Prefix, Judgement, refused}
+use Rattle.log_judgement.specs.Due.{closed_of, batches_of}
+use Rattle.log_judgement.specs.Texts.{AreReports}
+use Rattle.log_check.specs.Aims.{Says, Aim, asked_of, IsReportFor, IsTrueSoFar}
+use Rattle.log_check.specs.Checking.{IsCheckOf, GoesOn, IsRefusedAs}
+use Rattle.log_check.specs.declared.check.LogCheck.{LogCheck}
+use Rattle.log_answers.specs.declared.stop.StopCause.{StopCause}
+use Rattle.log_answers.specs.declared.stop.StopCause.TheVariants as causes
+use Rattle.log_answers.specs.declared.stop.Stop.{Stop}
+use Rattle.log_answers.specs.declared.stop.Verdict.{Verdict}
+
+-- ---- reports
+
+-- the log after each batch that has a report so far
+abbrev pub closed_in : (each : Bool) → Judgement → List Prefix
+closed_in false j = []
+closed_in true j = closed_of j
+
+-- the text is that of the reports on these
+abbrev pub AreReportsFor : Aim → List Prefix → List ℕ → Type 0
+AreReportsFor aim logs text = AreReports (asked_of aim) aim.watches logs text
+
+-- the reports before that on one of these, and a prefix of that one, which has so many batches
+pub record HasPartOf (aim : Aim) (logs : List Prefix) (text : List ℕ) (batches : ℕ)
+    : Type 0 where
+  pub before : List Prefix
+  pub log : Prefix
+  pub behind : List Prefix
+  pub are : logs ≡ before ++ log ∷ behind
+  pub whole : List ℕ
+  pub texts : AreReportsFor aim before whole
+  pub report : Report
+  pub report_is : IsReportFor aim log report
+  pub part : List ℕ
+  pub part_of : IsPrefix part (report_text report)
+  pub wrote : text ≡ whole ++ part
+  pub count : batches ≡ counted log.batches
+
+-- the reports on the first of these; no batch is told
+pub record HasFrontOf (aim : Aim) (logs : List Prefix) (text : List ℕ) (batches : ℕ)
+    : Type 0 where
+  pub front : List Prefix
+  pub rest : List Prefix
+  pub are : logs ≡ front ++ rest
+  pub texts : AreReportsFor aim front text
+  pub count : batches ≡ 0
+
+-- the report on this log could not be written behind those before, or there was no memory for it
+abbrev pub ReportStops : StopCause → ℕ → ℕ → ℕ → Aim → List Prefix → Prefix → List ℕ → Type 0
+ReportStops causes.Write n of of' aim before log text =
+    HasPartOf aim (before ++ log ∷ []) text n × Rose of of'
+ReportStops causes.Memory n of of' aim before log text = HasFrontOf aim before text n
+ReportStops (causes.Refused r) n of of' aim before log text = ⊥
+ReportStops causes.Read n of of' aim before log text = ⊥
+
+-- the report on this log was written, with its verdict, or not
+abbrev pub ReportsTo : ℕ → ℕ → Aim → ℕ → List Prefix → Prefix → List ℕ
+    → Result Verdict Stop → Type 0
+ReportsTo of of' aim batches before log text (Ok v) =
+    AreReportsFor aim (before ++ log ∷ []) text
+    × ((v.truth ≡ true) ↔ IsTrueSoFar aim log) × (v.batches ≡ batches)
+ReportsTo of of' aim batches before log text (Err stop) =
+    ReportStops stop.cause stop.batches of of' aim before log text
+
+-- behind this text the report on this log was to be written
+pub record Reports (held held' : Option (List ℕ)) (of of' : ℕ) (aim : Aim)
+    (batches : ℕ) (before : List Prefix) (log : Prefix) (text : List ℕ)
+    (result : Result Verdict Stop) : Type 0 where
+  pub written : List ℕ
+  pub wrote : Appends held held' written
+  pub later : of ≤ of'
+  pub to : ReportsTo of of' aim batches before log (text ++ written) result
+
+-- a text was to be written
+abbrev pub PutsTo : {T : Type 0} → ℕ → ℕ → List ℕ → ℕ → List ℕ → Result T Stop → Type 0
+PutsTo of of' text batches written (Ok x) = written ≡ text
+PutsTo of of' text batches written (Err stop) =
+    (stop ≡ record { batches = batches; cause = causes.Write }) × IsPrefix written text
+    × Rose of of'
+
+pub record Puts {T : Type 0} (held held' : Option (List ℕ)) (of of' : ℕ) (text : List ℕ)
+    (batches : ℕ) (result : Result T Stop) : Type 0 where
+  pub written : List ℕ
+  pub wrote : Appends held held' written
+  pub later : of ≤ of'
+  pub to : PutsTo of of' text batches written result
+
+-- ---- items
+
+-- the check is at this judgement, and the text of the reports so far was written
+pub record Stands {X : Type 0} {P : X → Type 0} (says : Says X P) (aim : Aim) (each : Bool)
+    (check : LogCheck X P) (j : Judgement) (text : List ℕ) : Type 0 where
+  pub check_is : IsCheckOf says aim check j
+  pub texts : AreReportsFor aim (closed_in each j) text
+
+-- the judgement is this refusal, behind so many batches
+pub record IsRefusedAt (aim : Aim) (each : Bool) (j : Judgement) (text : List ℕ)
+    (why : Refusal) (batches : ℕ) : Type 0 where
+  pub log : Option Prefix
+  pub is : j ≡ refused log why
+  pub texts : AreReportsFor aim (closed_in each j) text
+  pub count : batches ≡ batches_of j
+
+-- an item led from one judgement to the next, and a `batch` line closed a batch or not
+abbrev pub JudgeStops : StopCause → ℕ → Judgement → Judgement → Type 0
+JudgeStops (causes.Refused r) n before after = IsRefusedAs before after n r
+JudgeStops causes.Memory n before after = n ≡ 0
+JudgeStops causes.Read n before after = ⊥
+JudgeStops causes.Write n before after = ⊥
+
+abbrev pub Judges : {X : Type 0} {P : X → Type 0} → Says X P → Aim → LogCheck X P → Judgement
+    → Judgement → Result Bool Stop → Type 0
+Judges says aim check before after (Ok closed) = GoesOn says aim check before after closed
+Judges says aim check before after (Err stop) =
+    JudgeStops stop.cause stop.batches before after
+
+-- a stop at this judgement
+abbrev pub StopsIn : StopCause → ℕ → ℕ → ℕ → Aim → Bool → Judgement → List ℕ → Type 0
+StopsIn (causes.Refused r) n of of' aim each j text = IsRefusedAt aim each j text r n
+StopsIn causes.Write n of of' aim each j text =
+    HasPartOf aim (closed_in each j) text n × Rose of of'
+StopsIn causes.Memory n of of' aim each j text =
+    HasFrontOf aim (closed_in each j) text n
+StopsIn causes.Read n of of' aim each j text = ⊥
+
+abbrev pub ItemsTo : {T X : Type 0} {P : X → Type 0} → ℕ → ℕ → Says X P → Aim → Bool → LogCheck X P
+    → Judgement → List ℕ
+    → Result T Stop → Type 0
+ItemsTo of of' says aim each check j text (Ok x) = Stands says aim each check j text
+ItemsTo of of' says aim each check j text (Err stop) =
+    StopsIn stop.cause stop.batches of of' aim each j text
+
+-- items led to this judgement, behind this text
+pub record TakesItems {T X : Type 0} {P : X → Type 0} (held held' : Option (List ℕ)) (of of' : ℕ)
+    (says : Says X P)
+    (aim : Aim) (each : Bool) (check : LogCheck X P) (j : Judgement) (text : List ℕ)
+    (result : Result T Stop) : Type 0 where
+  pub written : List ℕ
+  pub wrote : Appends held held' written
+  pub later : of ≤ of'
+  pub to : ItemsTo of of' says aim each check j (text ++ written) result
+
+-- ---- the summary of a bench
+
+-- a bench shows the slice and no witnesses
+pub record IsBenchAim (aim : Aim) : Type 0 where
+  pub slice : aim.slice ≡ true
+  pub witness : aim.witness ≡ false
+
+-- a summary could not be written, or there was no memory for it
+abbrev pub SummaryStops : StopCause → ℕ → ℕ → ℕ → Aim → ℕ → Prefix → bench.Sizes
+    → List ℕ → Type 0
+SummaryStops causes.Write n of of' aim batches log sizes text =
+    (whole : List ℕ)
+    × IsSummaryOf sizes (asked_of aim) log.header log.batches aim.watches whole
+    × IsPrefix text whole × (n ≡ batches) × Rose of of'
+SummaryStops causes.Memory n of of' aim batches log sizes text = (text ≡ []) × (n ≡ 0)
+SummaryStops (causes.Refused r) n of of' aim batches log sizes text = ⊥
+SummaryStops causes.Read n of of' aim batches log sizes text = ⊥
+
+abbrev pub SumsUpTo : ℕ → ℕ → Aim → ℕ → Prefix → bench.Sizes → List ℕ
+    → Result Verdict Stop → Type 0
+SumsUpTo of of' aim batches log sizes text (Ok v) =
+    IsSummaryOf sizes (asked_of aim) log.header log.batches aim.watches text
+    × ((v.truth ≡ true) ↔ IsTrueSoFar aim log) × (v.batches ≡ batches)
+SumsUpTo of of' aim batches log sizes text (Err stop) =
+    SummaryStops stop.cause stop.batches of of' aim batches log sizes text
+
+pub record SumsUp (held held' : Option (List ℕ)) (of of' : ℕ) (aim : Aim)
+    (batches : ℕ) (log : Prefix) (sizes : bench.Sizes) (result : Result Verdict Stop) : Type 0
+  where
+    pub written : List ℕ
+    pub wrote : Appends held held' written
+    pub later : of ≤ of'
+    pub to : SumsUpTo of of' aim batches log sizes written result

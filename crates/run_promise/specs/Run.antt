@@ -1,0 +1,325 @@
+-- What a run of the analyser promises: the answer to the words and the bytes of the log.
+use Rattle.std.specs.Prelude.{◌≡◌, ℕ, ◌≤◌, ◌⊎◌, ◌↔◌, Bool, true, false, List, [], ◌∷◌, ◌++◌, Option}
+use Rattle.std.specs.Prelude.{Some, None, if◌then◌else◌}
+use Rattle.std.specs.Io.KnownBytes.{Appends, Consumes, IsAtEnd}
+use Rattle.std.specs.List.{AllByRecursion}
+use Rattle.run_model.specs.Cut.{Cut, initial}
+use Rattle.run_model.specs.Run.{Watches, run_of, clocks_of}
+use Rattle.run_model.specs.Consistent.{IsOrder}
+use Rattle.run_model.specs.Meaning.{Sat}
+use Rattle.run_model.specs.Class.{Shown as ShownFor}
+use Rattle.run_model.specs.Slice.{DenotedBy}
+use Rattle.pota_base.specs.Outside.{Rose, IsPrefix}
+use Rattle.pota_base.specs.declared.status.Status.{Status}
+use Rattle.pota_base.specs.declared.status.Status.TheVariants as status
+use Rattle.event_log.specs.declared.log.Log.{Log}
+use Rattle.rctl_grammar.specs.declared.fault.FormulaFault.{FormulaFault}
+use Rattle.rctl_grammar.specs.declared.tree.Tree.{Tree}
+use Rattle.command_words.specs.declared.request.Task.TheVariants as task
+use Rattle.command_words.specs.declared.request.Inquiry.{Inquiry}
+use Rattle.command_words.specs.declared.request.Product.{Product}
+use Rattle.command_words.specs.declared.request.Product.TheVariants as product
+use Rattle.command_words.specs.declared.request.Sizes.{Sizes}
+use Rattle.run_request.specs.declared.question.QuestionFault.{QuestionFault}
+use Rattle.run_request.specs.declared.question.QuestionFault.TheVariants as question
+use Rattle.run_request.specs.Questions.{IsQuestionFault, AsksFor}
+use Rattle.report.specs.declared.report.Report.{Report}
+use Rattle.report.specs.declared.report.SliceText.{SliceText}
+use Rattle.run_report.specs.Reports.{Asked, trace_so_far, text_seen, IsReportOf, counted}
+use Rattle.run_report.specs.Witnesses.{IsShownFor}
+use Rattle.run_report.specs.Benches.{IsSummaryOf}
+use Rattle.run_report.specs.Benches as bench
+use Rattle.log_judgement.specs.declared.refusal.Refusal.{Refusal}
+use Rattle.log_judgement.specs.declared.refusal.Refusal.TheVariants as refusal
+use Rattle.log_judgement.specs.Judgement.{Prefix}
+use Rattle.log_judgement.specs.Texts.{AreTexts, reported}
+use Rattle.rctl_class.specs.Nodes.{node_of}
+use Rattle.log_check.specs.Aims.{unknown_name}
+use Rattle.trace_gen.specs.Generated.{generated}
+use Rattle.fault_line.specs.declared.fault.Fault.{Fault}
+use Rattle.fault_line.specs.declared.fault.Fault.TheVariants as fault
+use Rattle.fault_line.specs.Faults.{status_of, fault_of_question, fault_of_refusal}
+use Rattle.run_promise.specs.declared.outcome.Outcome.{Outcome}
+use Rattle.run_promise.specs.Asking.{Handing, asked, asked_by, each_of, Writes, due_of, IsDueText}
+
+-- ---- what a report tells of the run
+
+-- The clocks of the run are an order. The text of the report's slice denotes the set of consistent
+-- cuts that is shown, and each of its witnesses is the canonical one of a part, and of its kind.
+pub record TellsOfRun (q : Asked) (watches : Watches) (log : Prefix) (report : Report) : Type 0
+  where
+    pub ordered : IsOrder (clocks_of (trace_so_far log.header log.batches))
+    pub denotes : (text : SliceText) → report.slice ≡ Some text → (c : Cut)
+        → ShownFor (run_of (trace_so_far log.header log.batches) watches) q.formula c
+        ↔ DenotedBy (clocks_of (trace_so_far log.header log.batches)) (text_seen text) c
+    pub kinds : AllByRecursion
+        (IsShownFor (run_of (trace_so_far log.header log.batches) watches) q.formula)
+        report.witnesses
+
+-- each report on the log does
+abbrev pub Tells : Watches → Tree → Product → Prefix → Type 0
+Tells watches t (product.Reports shown) log =
+    (report : Report) → IsReportOf (asked_by t shown) log.header log.batches watches report
+    → TellsOfRun (asked_by t shown) watches log report
+
+-- so of each of these logs
+abbrev pub AllTell : Watches → Tree → Product → List Prefix → Type 0
+AllTell watches t p logs = AllByRecursion (Tells watches t p) logs
+
+-- ---- an input that is read
+
+-- the words ask this of an input, these bytes of it were read, the text that is due of them was
+-- written, and so many batches are due
+pub record IsTold (on : Handing) (words : List (List ℕ)) (ended : Bool) (read written : List ℕ)
+    (batches : ℕ) : Type 0 where
+  pub tree : Tree
+  pub inquiry : Inquiry
+  pub asks : AsksFor words (task.Read inquiry) tree
+  pub text : IsDueText on.watches tree inquiry (due_of on.names tree inquiry ended read) written
+  pub telling : AllTell on.watches tree inquiry.product
+      (reported (each_of inquiry.product) (due_of on.names tree inquiry ended read))
+  pub count : batches ≡ (due_of on.names tree inquiry ended read).batches
+
+-- the formula is true at the initial cut of the run of this log
+abbrev pub IsTrueAtStart : Watches → Tree → Prefix → Type 0
+IsTrueAtStart watches t log =
+    Sat (run_of (trace_so_far log.header log.batches) watches) (asked t false false).formula
+    (initial (clocks_of (trace_so_far log.header log.batches)))
+
+-- the log was read to its end and has no fault, and the formula is true there or isn't
+pub record HasVerdict (left : Option (List ℕ)) (on : Handing) (words : List (List ℕ))
+    (read written : List ℕ) (o : Outcome) (verdict : Bool) : Type 0 where
+  pub ended : IsAtEnd left
+  pub told : IsTold on words true read written o.batches
+  pub free : (due_of on.names told.tree told.inquiry true read).fault ≡ None
+  pub log : Prefix
+  pub whole : (due_of on.names told.tree told.inquiry true read).whole ≡ Some log
+  pub truth : (verdict ≡ true) ↔ IsTrueAtStart on.watches told.tree log
+  pub fault : o.fault ≡ None
+
+-- this is the first fault of the bytes that were read
+pub record IsRefused (left : Option (List ℕ)) (on : Handing) (words : List (List ℕ))
+    (read written : List ℕ) (o : Outcome) (r : Refusal) : Type 0 where
+  pub ended : Bool
+  pub at_end : ended ≡ true → IsAtEnd left
+  pub told : IsTold on words ended read written o.batches
+  pub due_is : (due_of on.names told.tree told.inquiry ended read).fault ≡ Some r
+  pub fault : o.fault ≡ Some (fault_of_refusal r)
+
+-- the bytes that were read have no fault
+pub record IsCutShort (on : Handing) (words : List (List ℕ)) (read written : List ℕ) (o : Outcome)
+    : Type 0 where
+  pub told : IsTold on words false read written o.batches
+  pub free : (due_of on.names told.tree told.inquiry false read).fault ≡ None
+  pub fault : o.fault ≡ Some fault.Read
+
+-- the texts that are due before that of this batch were written, and a prefix of that one
+pub record HasPart (left : Option (List ℕ)) (on : Handing) (words : List (List ℕ))
+    (read written : List ℕ) (batches : ℕ) : Type 0 where
+  pub tree : Tree
+  pub inquiry : Inquiry
+  pub asks : AsksFor words (task.Read inquiry) tree
+  pub ended : Bool
+  pub at_end : ended ≡ true → IsAtEnd left
+  pub before : List Prefix
+  pub log : Prefix
+  pub behind : List Prefix
+  pub due_are : reported (each_of inquiry.product) (due_of on.names tree inquiry ended read)
+      ≡ before ++ log ∷ behind
+  pub telling : AllTell on.watches tree inquiry.product (before ++ log ∷ behind)
+  pub text : List ℕ
+  pub texts : AreTexts (Writes on.watches tree inquiry.product) before text
+  pub whole : List ℕ
+  pub is : Writes on.watches tree inquiry.product log whole
+  pub part : List ℕ
+  pub part_of : IsPrefix part whole
+  pub wrote : written ≡ text ++ part
+  pub count : batches ≡ counted log.batches
+
+-- ---- a log that is made
+
+abbrev pub sizes_of : Sizes → bench.Sizes
+sizes_of s = record { seed = s.seed; procs = s.procs; events = s.events }
+
+abbrev pub made_by : Sizes → Log
+made_by s = generated s.seed s.procs s.events
+
+-- the summary of a bench, of the log that is made, whose verdict this is
+pub record IsBenched (on : Handing) (words : List (List ℕ)) (summary : List ℕ) (verdict : Bool)
+    : Type 0 where
+  pub tree : Tree
+  pub sizes : Sizes
+  pub asks : AsksFor words (task.Bench sizes) tree
+  pub named : unknown_name (node_of tree) on.names (made_by sizes).header ≡ None
+  pub says : IsSummaryOf (sizes_of sizes) (asked tree true false) (made_by sizes).header
+      (made_by sizes).batches on.watches summary
+  pub truth : (verdict ≡ true)
+      ↔ IsTrueAtStart on.watches tree
+      (record { header = (made_by sizes).header; batches = (made_by sizes).batches })
+
+-- it was written, and nothing was read
+pub record HasBenched (on : Handing) (words : List (List ℕ)) (read written : List ℕ) (o : Outcome)
+    (verdict : Bool) : Type 0 where
+  pub nothing : read ≡ []
+  pub summary : IsBenched on words written verdict
+  pub batches : o.batches ≡ 1
+  pub fault : o.fault ≡ None
+
+-- the log that is made lacks this name
+pub record LacksName (on : Handing) (words : List (List ℕ)) (read written : List ℕ) (o : Outcome)
+    (f : FormulaFault) : Type 0 where
+  pub tree : Tree
+  pub sizes : Sizes
+  pub asks : AsksFor words (task.Bench sizes) tree
+  pub missing : unknown_name (node_of tree) on.names (made_by sizes).header ≡ Some f
+  pub nothing : (read ≡ []) × (written ≡ [])
+  pub batches : o.batches ≡ 0
+  pub fault : o.fault ≡ Some (fault.Formula f)
+
+-- a prefix of the summary was written
+pub record HasSummaryPart (on : Handing) (words : List (List ℕ)) (read written : List ℕ)
+    (o : Outcome) : Type 0 where
+  pub nothing : read ≡ []
+  pub summary : List ℕ
+  pub verdict : Bool
+  pub is : IsBenched on words summary verdict
+  pub part : IsPrefix written summary
+  pub batches : o.batches ≡ 1
+
+-- ---- what each status says
+
+-- the words or their formula have this fault, and nothing was read or written
+pub record IsMisasked (words : List (List ℕ)) (read written : List ℕ) (o : Outcome)
+    (f : QuestionFault) : Type 0 where
+  pub fault_is : IsQuestionFault words f
+  pub nothing : (read ≡ []) × (written ≡ [])
+  pub batches : o.batches ≡ 0
+  pub fault : o.fault ≡ Some (fault_of_question f)
+
+-- the text and the number of batches that are due of the words and of the whole input, where these
+-- bytes are the front of it
+pub record IsWholeDue (on : Handing) (words : List (List ℕ)) (read text : List ℕ) (batches : ℕ)
+    : Type 0 where
+  pub inquired : (t : Tree) (i : Inquiry) → AsksFor words (task.Read i) t
+      → (ended : Bool) × (more : List ℕ)
+      × IsDueText on.watches t i (due_of on.names t i ended (read ++ more)) text
+      × (batches ≡ (due_of on.names t i ended (read ++ more)).batches)
+  pub benched : (t : Tree) (sizes : Sizes) → AsksFor words (task.Bench sizes) t
+      → (verdict : Bool) × IsBenched on words text verdict × (batches ≡ 1)
+
+-- Memory ran out; what was written is the front of each text that may be due. Nothing is read for a
+-- bench, and nothing is written where the log that is made lacks a name.
+pub record IsOutOfMemory (on : Handing) (words : List (List ℕ)) (read written : List ℕ)
+    (o : Outcome) : Type 0 where
+  pub front : (text : List ℕ) (batches : ℕ) → IsWholeDue on words read text batches
+      → IsPrefix written text × (o.batches ≤ batches)
+  pub unread : (t : Tree) (sizes : Sizes) → AsksFor words (task.Bench sizes) t → read ≡ []
+  pub unnamed : (t : Tree) (sizes : Sizes) (f : FormulaFault) → AsksFor words (task.Bench sizes) t
+      → unknown_name (node_of t) on.names (made_by sizes).header ≡ Some f
+      → (written ≡ []) × (o.batches ≡ 0)
+  pub fault : o.fault ≡ Some fault.Memory
+
+-- What a status says, by what the source has left, the counts of faults before and after, the
+-- watches, the words, and the bytes read and written.
+abbrev pub Answer : Status → Option (List ℕ) → ℕ → ℕ → ℕ → ℕ → Handing → List (List ℕ) → List ℕ
+    → List ℕ → Outcome → Type 0
+Answer status.True left lf lf' of of' on words read written o =
+    HasVerdict left on words read written o true ⊎ HasBenched on words read written o true
+Answer status.False left lf lf' of of' on words read written o =
+    HasVerdict left on words read written o false ⊎ HasBenched on words read written o false
+Answer status.Usage left lf lf' of of' on words read written o =
+    IsMisasked words read written o question.Usage
+Answer status.Formula left lf lf' of of' on words read written o =
+    (f : FormulaFault) × (IsMisasked words read written o (question.Formula f)
+    ⊎ (IsRefused left on words read written o (refusal.Formula f)
+    ⊎ LacksName on words read written o f))
+Answer status.Log left lf lf' of of' on words read written o =
+    (r : Refusal) × (status_of (fault_of_refusal r) ≡ status.Log)
+    × IsRefused left on words read written o r
+Answer status.ReadFault left lf lf' of of' on words read written o =
+    IsCutShort on words read written o × Rose lf lf'
+Answer status.WriteFault left lf lf' of of' on words read written o =
+    (HasPart left on words read written o.batches ⊎ HasSummaryPart on words read written o)
+    × (o.fault ≡ Some fault.Write) × Rose of of'
+Answer status.OutOfMemory left lf lf' of of' on words read written o =
+    IsOutOfMemory on words read written o
+
+-- a whole run: what was read and written in it, that no count fell, and what its status says
+pub record Ran (left left' held held' : Option (List ℕ)) (lf lf' of of' : ℕ) (on : Handing)
+    (words : List (List ℕ)) (o : Outcome) : Type 0 where
+  pub read : List ℕ
+  pub written : List ℕ
+  pub consumed : Consumes left left' read
+  pub wrote : Appends held held' written
+  pub log_later : lf ≤ lf'
+  pub out_later : of ≤ of'
+  pub answer : Answer o.status left' lf lf' of of' on words read written o
+
+-- ---- for a source that tells its bytes, where neither count rose and memory was there
+
+abbrev pub IsCalm : ℕ → ℕ → ℕ → ℕ → Outcome → Type 0
+IsCalm lf lf' of of' o = (Rose lf lf' → ⊥) × (Rose of of' → ⊥) × (o.status ≡ status.OutOfMemory → ⊥)
+
+-- the text that is due is written, and so many batches are due
+pub record WritesAsDue (on : Handing) (t : Tree) (i : Inquiry) (bytes : List ℕ)
+    (held held' : Option (List ℕ)) (o : Outcome) : Type 0 where
+  pub text : List ℕ
+  pub due_is : IsDueText on.watches t i (due_of on.names t i true bytes) text
+  pub written : Appends held held' text
+  pub batches : o.batches ≡ (due_of on.names t i true bytes).batches
+
+-- the status is the truth of the formula
+pub record TellsTruth (watches : Watches) (t : Tree) (log : Prefix) (o : Outcome) : Type 0 where
+  pub verdict : Bool
+  pub status : o.status ≡ (if verdict then status.True else status.False)
+  pub truth : (verdict ≡ true) ↔ IsTrueAtStart watches t log
+  pub fault : o.fault ≡ None
+
+-- the status and the line are those of this fault
+pub record TellsFault (f : Fault) (o : Outcome) : Type 0 where
+  pub status : o.status ≡ status_of f
+  pub fault : o.fault ≡ Some f
+
+-- a log of which no fault is due is decided
+abbrev pub IsDecided : Option (List ℕ) → Handing → List (List ℕ) → Option (List ℕ)
+    → Option (List ℕ) → Outcome → Type 0
+IsDecided left on words held held' o =
+    (bytes : List ℕ) (t : Tree) (i : Inquiry) → left ≡ Some bytes
+    → AsksFor words (task.Read i) t → (due_of on.names t i true bytes).fault ≡ None
+    → (log : Prefix) → (due_of on.names t i true bytes).whole ≡ Some log
+    → WritesAsDue on t i bytes held held' o × TellsTruth on.watches t log o
+
+-- a fault that is due of the bytes is the answer
+abbrev pub IsRefusedAsDue : Option (List ℕ) → Handing → List (List ℕ) → Option (List ℕ)
+    → Option (List ℕ) → Outcome → Type 0
+IsRefusedAsDue left on words held held' o =
+    (bytes : List ℕ) (t : Tree) (i : Inquiry) (r : Refusal) → left ≡ Some bytes
+    → AsksFor words (task.Read i) t → (due_of on.names t i true bytes).fault ≡ Some r
+    → WritesAsDue on t i bytes held held' o × TellsFault (fault_of_refusal r) o
+
+-- a fault of the words or their formula is the answer, and nothing is written
+abbrev pub IsRefusedAsAsked : List (List ℕ) → Option (List ℕ) → Option (List ℕ) → Outcome → Type 0
+IsRefusedAsAsked words held held' o =
+    (f : QuestionFault) → IsQuestionFault words f
+    → Appends held held' [] × (o.batches ≡ 0) × TellsFault (fault_of_question f) o
+
+-- the log that is made has the names: its summary is written
+pub record Benches (on : Handing) (words : List (List ℕ)) (held held' : Option (List ℕ))
+    (o : Outcome) : Type 0 where
+  pub summary : List ℕ
+  pub verdict : Bool
+  pub is : IsBenched on words summary verdict
+  pub written : Appends held held' summary
+  pub batches : o.batches ≡ 1
+  pub status : o.status ≡ (if verdict then status.True else status.False)
+  pub fault : o.fault ≡ None
+
+-- a bench is answered, or the name that the log lacks is
+pub record IsBenchAnswered (on : Handing) (words : List (List ℕ)) (held held' : Option (List ℕ))
+    (o : Outcome) : Type 0 where
+  pub named : (t : Tree) (sizes : Sizes) → AsksFor words (task.Bench sizes) t
+      → unknown_name (node_of t) on.names (made_by sizes).header ≡ None
+      → Benches on words held held' o
+  pub missing : (t : Tree) (sizes : Sizes) (f : FormulaFault) → AsksFor words (task.Bench sizes) t
+      → unknown_name (node_of t) on.names (made_by sizes).header ≡ Some f
+      → Appends held held' [] × (o.batches ≡ 0) × TellsFault (fault.Formula f) o
