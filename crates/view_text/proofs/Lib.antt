@@ -1,0 +1,4 @@
+pub mod Folds
+pub mod Names
+pub mod Settings
+pub mod Walks

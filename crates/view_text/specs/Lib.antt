@@ -1,0 +1,5 @@
+pub mod Folding
+pub mod Named
+pub mod Claims
+pub mod Latest
+pub mod Text

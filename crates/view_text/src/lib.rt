@@ -1,0 +1,22 @@
+//! A view of a run as text for a terminal: what a report says of the run, with the lines of its
+//! log, and the values at the goals of its witnesses.
+//!
+//! `view_text` gives the one text that a run and a report of it have (`view`): each step has the
+//! line of its event, and the values at a goal are those after the cut's counts, with the event
+//! that last set each. No line has more than 100 columns (`short`).
+//!
+//! Not said: how much memory there is, and how long a call takes.
+#![tactic(auto)]
+
+mod claims;
+mod columns;
+mod events;
+mod folding;
+mod latest;
+mod named;
+mod slices;
+mod values;
+mod view;
+mod witnesses;
+
+pub use view::view_text;
