@@ -33,24 +33,28 @@ struct Stumbling {
 }
 
 impl Stumbling {
-    fn step(&mut self, count: usize) -> io::Result<usize> {
+    // One call more. Says whether it fails.
+    fn fails(&mut self) -> bool {
         self.calls = self.calls.saturating_add(1);
-        if self.calls % 2 == 0 {
-            return Err(io::Error::from(io::ErrorKind::Interrupted));
-        }
-        Ok(count)
+        self.calls % 2 == 0
     }
 }
 
 impl Read for Stumbling {
     fn read(&mut self, into: &mut [u8]) -> io::Result<usize> {
-        self.step(into.len())
+        if self.fails() {
+            return Err(io::Error::from(io::ErrorKind::Interrupted));
+        }
+        Ok(into.len())
     }
 }
 
 impl Write for Stumbling {
     fn write(&mut self, piece: &[u8]) -> io::Result<usize> {
-        self.step(piece.len())
+        if self.fails() {
+            return Err(io::Error::from(io::ErrorKind::Interrupted));
+        }
+        Ok(piece.len())
     }
 
     fn flush(&mut self) -> io::Result<()> {

@@ -54,6 +54,7 @@ impl Write for Counted<'_> {
 }
 
 const FIRST: &[u8] = b"pota-log 1\nprocs P Q\nvars P x=0\nev P 1,0 int x=1\nbatch\n";
+
 const SECOND: &[u8] = b"ev P 2,0 int x=2\nend\n";
 
 /// How a run of the call over the two pieces went.
@@ -67,9 +68,9 @@ struct Went {
 // Asks of the two pieces, with one word more.
 fn ask<R: Threads + Sync>(rt: &R, alloc: Global, last: &str) -> Result<Went, AllocError> {
     let mut words = Vec::new(alloc);
-    for word in ["check", "EF P.x = 2", last] {
-        words.push(String::from_str(alloc, word)?)?;
-    }
+    words.push(String::from_str(alloc, "check")?)?;
+    words.push(String::from_str(alloc, "EF P.x = 2")?)?;
+    words.push(String::from_str(alloc, last)?)?;
     let written = Cell::new(0);
     let mut log = TwoPieces {
         pieces: [FIRST, SECOND],
