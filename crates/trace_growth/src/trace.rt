@@ -6,6 +6,7 @@ ghost use Rattle.run_model.specs.Run.{state_after, process_at};
 ghost use Rattle.pota_base.specs.Shape.{HasEvent};
 ghost use Rattle.event_log.specs.States.{IsHeader, trace_of};
 ghost use Rattle.vector_clock.specs.Events.{clocks_of};
+ghost use Rattle.vector_clock.specs.Messages.{first_send};
 ghost use Rattle.vector_clock.specs.Admitted.{IfFault, IfWantsMemory};
 ghost use Rattle.trace_growth.specs.Growing.{opened_trace, with_trace_batch, one_more, FitsTrace};
 ghost use Rattle.trace_growth.specs.Growing.{IsTrace, trace_fault};
@@ -15,7 +16,7 @@ use event_log::{Event, Header, LogFault, States};
 use pota_base::{EventId, List, NoMemory, Refused};
 use std::alloc::Global;
 use std::marker::Model;
-use vector_clock::{Clocks, filled};
+use vector_clock::{Clocks, Message, filled};
 
 /// The trace of a log: the data of its events and their order, batch by batch.
 ///
@@ -157,6 +158,16 @@ impl Trace {
             variable (pos 0) }
     {
         self.states.value(process, position, variable)
+    }
+
+    /// The position of the event that sends the message of this number from the one process to the
+    /// other, among those of the sender.
+    pub fn place_sent(&self, sender: u32, receiver: u32, id: u64) -> Option<u32>
+        requires { self.now.spent ≡ false }
+        ensures { result ≡ first_send self.now.states.events
+            (record { sender = sender; receiver = receiver; id = id }) }
+    {
+        self.clocks.place_sent(&Message::new(sender, receiver, id))
     }
 
     /// The event at a position of a process.

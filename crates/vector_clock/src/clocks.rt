@@ -8,9 +8,11 @@ ghost use Rattle.vector_clock.specs.Events.{raised};
 ghost use Rattle.vector_clock.specs.Filled.{filled_batch};
 ghost use Rattle.vector_clock.specs.Faults.{batch_fault};
 ghost use Rattle.vector_clock.specs.Admitted.{HasAdmitted, HasMessages, IfFault};
+ghost use Rattle.vector_clock.specs.Messages.{first_send};
 
 use crate::counts::{clocks_of, copy_filled};
 use crate::judging::{first_fault, set_counts};
+use crate::message::Message;
 use crate::messages::Messages;
 use crate::nodes::{nodes_in, readers_of, sends_in};
 use causal_order::Order;
@@ -133,6 +135,14 @@ impl Clocks {
         }
         self.order.extend(batch)?;
         Ok(())
+    }
+
+    /// The position of the event that sends the message, among those of its sender.
+    pub fn place_sent(&self, message: &Message) -> Option<u32>
+        ensures { (events : Events) → HasAdmitted self.now events
+            → result ≡ first_send events message.now }
+    {
+        self.messages.place_sent(message)
     }
 
     /// The order of all events that were admitted.

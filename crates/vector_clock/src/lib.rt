@@ -36,3 +36,4 @@ pub use laws::{
     only_new_names_count, worked_clocks, worked_faults, written_clocks_stay,
 };
 pub use left_out::{check, filled};
+pub use message::Message;

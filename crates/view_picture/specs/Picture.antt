@@ -1,0 +1,186 @@
+-- A view of a run as one SVG image.
+use Rattle.std.specs.Prelude.{◌≡◌, ℕ, ◌+◌, ◌-◌, ◌*◌, Bool, true, false, ◌==◌, List, [], ◌∷◌}
+use Rattle.std.specs.Prelude.{◌++◌}
+use Rattle.std.specs.Prelude.{length, map, take, codes, Option, None, Some, if◌then◌else◌}
+use Rattle.std.specs.List.{flat_map, find}
+use Rattle.std.specs.Fmt.{decimal}
+use Rattle.run_model.specs.Cut.{Cut}
+use Rattle.event_log.specs.States.{StatesView}
+use Rattle.vector_clock.specs.Events.{clocks_of}
+use Rattle.witness_kinds.specs.declared.Witness.{Witness}
+use Rattle.witness_kinds.specs.declared.Witness.TheVariants as witness
+use Rattle.slice_graph.specs.declared.edges.Edge.{Edge}
+use Rattle.report_lines.specs.declared.kinds.WitnessText.{WitnessText}
+use Rattle.report_lines.specs.Spelling.{truth_text}
+use Rattle.report.specs.declared.report.SliceText.{SliceText}
+use Rattle.report.specs.declared.report.Report.{Report}
+use Rattle.view_parts.specs.Each.{each_below, places}
+use Rattle.view_picture.specs.declared.frame.Frame.{Frame}
+use Rattle.view_picture.specs.Columns.{Rows, AreColumns}
+use Rattle.view_picture.specs.Svg.{attribute, line, text, escaped}
+use Rattle.view_picture.specs.Frame.{frame_of}
+use Rattle.view_picture.specs.Drawing.{point, lane_drawn, arrow_to, edge_drawn, mark, cut_drawn}
+use Rattle.view_picture.specs.Drawing.{least_look, greatest_look, goal_look, witness_drawn}
+
+-- ---- the heading
+
+abbrev pub size : Frame → List ℕ
+size f = attribute (codes "width") f.width ++ attribute (codes "height") f.height
+
+abbrev pub box_text : Frame → List ℕ
+box_text f =
+    codes " viewBox='0 0 " ++ decimal f.width ++ 32 ∷ [] ++ decimal f.height ++ 39 ∷ []
+
+-- the tag that opens the image, and the white behind it
+abbrev pub opening : Frame → List ℕ
+opening f =
+    codes "<svg xmlns='http://www.w3.org/2000/svg' version='1.1'" ++ size f ++ box_text f
+    ++ (codes " font-family='sans-serif'>" ++ 10 ∷ codes "<rect") ++ size f
+    ++ (codes " fill='#ffffff'/>" ++ 10 ∷ [])
+
+-- the head of an arrow of this name and color, whose tip is at the rim of a mark
+abbrev pub arrow_head : List ℕ → List ℕ → List ℕ
+arrow_head name color =
+    codes "<marker id='" ++ name
+    ++ codes "' viewBox='0 0 20 8' refX='20' refY='4' markerWidth='20' markerHeight='8'"
+    ++ codes " markerUnits='userSpaceOnUse' orient='auto'><path d='M0 0 L8 4 L0 8 z' fill='"
+    ++ color ++ (codes "'/></marker>" ++ 10 ∷ [])
+
+abbrev pub arrow_heads : List ℕ
+arrow_heads =
+    (codes "<defs>" ++ 10 ∷ []) ++ arrow_head (codes "message") (codes "#555555")
+    ++ arrow_head (codes "edge") (codes "#7a3db8") ++ (codes "</defs>" ++ 10 ∷ [])
+
+abbrev pub verdict_drawn : Bool → List ℕ
+verdict_drawn verdict = text (point 20 34) (codes " font-size='20'") (truth_text verdict)
+
+-- the text of the formula has no markup in it
+abbrev pub formula_drawn : List ℕ → List ℕ
+formula_drawn formula =
+    text (point 20 60) (codes " font-size='14' font-family='monospace'") (escaped formula)
+
+-- the size of the picture, the verdict and the formula
+abbrev pub heading : Frame → Report → List ℕ
+heading f r =
+    opening f ++ arrow_heads ++ verdict_drawn r.verdict ++ formula_drawn r.formula
+
+-- ---- the slice
+
+abbrev pub top_of_bounds : Option (Cut × Cut) → Option Cut
+top_of_bounds None = None
+top_of_bounds (Some bounds) = Some bounds.1
+
+-- the greatest cut of the slice, where it has one
+abbrev pub top_of : Option SliceText → Option Cut
+top_of None = None
+top_of (Some slice) = top_of_bounds slice.bounds
+
+abbrev pub edges_of : Option SliceText → List Edge
+edges_of None = []
+edges_of (Some slice) = slice.edges
+
+-- ---- what the lines across mean, below the lanes
+
+-- the height of a row below the lanes
+abbrev pub row_at : Frame → ℕ → ℕ
+row_at f row = f.height - 86 + 20 * row
+
+abbrev pub sample_line : ℕ → List ℕ → List ℕ
+sample_line y look = line (point 20 y) (point 70 y) look
+
+abbrev pub sample_text : ℕ → List ℕ → List ℕ
+sample_text y meaning = text (point 80 (y + 4)) (codes " font-size='12'") meaning
+
+-- a line with its look, and what it means, on a row of its own
+abbrev pub sample : Frame → ℕ → List ℕ → List ℕ → List ℕ
+sample f row look meaning = sample_line (row_at f row) look ++ sample_text (row_at f row) meaning
+
+abbrev pub note : Frame → ℕ → List ℕ → List ℕ
+note f from_below meaning =
+    text (point 20 (f.height - from_below)) (codes " font-size='12'") meaning
+
+-- the bounds of a slice, or that it is empty
+abbrev pub bounds_drawn : Frame → Rows → Option (Cut × Cut) → List ℕ
+bounds_drawn f rows None = note f 82 (codes "slice empty")
+bounds_drawn f rows (Some bounds) =
+    cut_drawn f rows bounds.0 18 least_look ++ cut_drawn f rows bounds.1 25 greatest_look
+    ++ sample f 0 least_look (codes "least cut of the slice")
+    ++ sample f 1 greatest_look (codes "greatest cut of the slice")
+
+abbrev pub slice_drawn : Frame → Rows → Option SliceText → List ℕ
+slice_drawn f rows None = []
+slice_drawn f rows (Some slice) = bounds_drawn f rows slice.bounds
+
+-- so many edges are drawn
+abbrev pub most_edges : ℕ
+most_edges = 40
+
+-- how many edges are not drawn
+abbrev pub edges_note : Frame → ℕ → List ℕ
+edges_note f left_out =
+    if left_out == 0 then []
+    else note f 22 (codes "edges that are not drawn: " ++ decimal left_out)
+
+-- ---- the witness that is drawn
+
+abbrev pub is_drawn : Witness → Bool
+is_drawn witness.Nothing = false
+is_drawn (witness.Reach path) = true
+is_drawn (witness.Against path) = true
+is_drawn (witness.Always path) = true
+is_drawn witness.StuckStart = false
+is_drawn witness.StuckFinish = false
+is_drawn (witness.StuckPair first other) = true
+
+-- the first of the witnesses of which something is drawn
+abbrev pub first_drawn : List WitnessText → Option WitnessText
+first_drawn witnesses = find (λ (w : WitnessText). is_drawn w.witness) witnesses
+
+-- what is drawn of a witness, in words
+abbrev pub meaning_of : Witness → List ℕ
+meaning_of witness.Nothing = codes "there is nothing to show"
+meaning_of (witness.Reach path) = codes "goal of the numbered steps: the operand holds there"
+meaning_of (witness.Against path) =
+    codes "goal of the numbered steps: the operand does not hold there"
+meaning_of (witness.Always path) =
+    codes "goal of the numbered steps: the operand holds at each cut on the way"
+meaning_of witness.StuckStart = codes "the operand does not hold where nothing has happened yet"
+meaning_of witness.StuckFinish = codes "the operand does not hold at the end"
+meaning_of (witness.StuckPair first other) =
+    codes "rings: a cut where the operand holds has both events or neither"
+
+-- `witness I.J, MEANING`
+abbrev pub witness_meaning : WitnessText → List ℕ
+witness_meaning w =
+    codes "witness " ++ decimal w.disjunct ++ codes "." ++ decimal w.part ++ codes ", "
+    ++ meaning_of w.witness
+
+abbrev pub one_drawn : Frame → Rows → Option WitnessText → List ℕ
+one_drawn f rows None = []
+one_drawn f rows (Some w) =
+    witness_drawn f rows w.witness ++ sample f 2 goal_look (witness_meaning w)
+
+-- ---- the whole
+
+-- each lane, then the arrows below the marks, and what stands above them
+abbrev pub body : StatesView → Frame → Rows → Report → List ℕ
+body s f rows r =
+    each_below (length s.header.procs) (lane_drawn s f)
+    ++ flat_map (arrow_to s f rows) (places (map length s.events))
+    ++ flat_map (edge_drawn f rows) (take most_edges (edges_of r.slice))
+    ++ flat_map (mark s f rows (top_of r.slice)) (places (map length s.events))
+    ++ slice_drawn f rows r.slice
+    ++ one_drawn f rows (first_drawn r.witnesses)
+    ++ edges_note f (length (edges_of r.slice) - most_edges)
+
+-- the picture of a run by a report of it, where these are the columns of its events
+abbrev pub picture : StatesView → Rows → Report → List ℕ
+picture s rows r =
+    heading (frame_of s rows r) r ++ body s (frame_of s rows r) rows r
+    ++ (codes "</svg>" ++ 10 ∷ [])
+
+-- the bytes are the picture, with the columns of the run
+pub record IsPictureOf (s : StatesView) (r : Report) (bytes : List ℕ) : Type 0 where
+  pub rows : Rows
+  pub columns : AreColumns (clocks_of s.events) rows
+  pub text_is : bytes ≡ picture s rows r

@@ -1,0 +1,28 @@
+//! Laws of the picture, as contracts of functions that do nothing.
+ghost use Rattle.view_picture.specs.Laws.{EachEventOnce, MarksAreApart, MarksAreInside};
+ghost use Rattle.view_picture.specs.Laws.{ColumnsAreOne, EscapedHasNoTag};
+
+/// Each event gets one mark, and one arrow if it receives something.
+pub fn each_event_once()
+    ensures { EachEventOnce }
+{}
+
+/// A run has one assignment of columns.
+pub fn columns_are_one()
+    ensures { ColumnsAreOne }
+{}
+
+/// No two marks lie on each other.
+pub fn marks_are_apart()
+    ensures { MarksAreApart }
+{}
+
+/// All marks lie within the picture.
+pub fn marks_are_inside()
+    ensures { MarksAreInside }
+{}
+
+/// A formula adds no tag to the picture.
+pub fn escaped_has_no_tag()
+    ensures { EscapedHasNoTag }
+{}

@@ -1,0 +1,185 @@
+//! Cuts as lines across the lanes, and the witness that is drawn.
+ghost use Rattle.std.specs.Prelude.{◌≡◌, ◌+◌, ◌<◌, ◌≤◌, ◌^◌, ◌++◌, length, OnOk};
+ghost use Rattle.view_picture.specs.Drawing.{corner, corners, cut_drawn, numeral, numbered};
+ghost use Rattle.view_picture.specs.Drawing.{steps_drawn, ring, path_drawn, witness_drawn};
+ghost use Rattle.view_picture.specs.Drawing.{HasFewProcesses};
+
+use crate::columns::Columns;
+use crate::frame::Frame;
+use crate::svg::{Point, put_circle, put_text};
+use cut_lattice::Cut;
+use pota_base::{Bytes, EventId, NoMemory, put_u64};
+use std::alloc::Global;
+use witness_kinds::{Path, Witness};
+
+// Appends ` X,Y`.
+fn put_corner(out: &mut Bytes, x: u64, y: u64) -> Result<(), NoMemory>
+    ensures { OnOk result (out.new ≡ out.old ++ corner x y) }
+{
+    out.push(b' ')?;
+    put_u64(out, x)?;
+    out.push(b',')?;
+    put_u64(out, y)
+}
+
+// Appends the two corners of the line of a cut on the lane of a process.
+fn put_corners(
+    out: &mut Bytes,
+    columns: &Columns,
+    frame: &Frame,
+    cut: &Cut,
+    shift: u64,
+    process: u32,
+) -> Result<(), NoMemory>
+    requires process { process < length cut.now }
+    requires shift { shift ≤ 100 }
+    ensures { OnOk result (out.new
+        ≡ out.old ++ corners frame.now columns.now cut.now shift process) }
+{
+    let last = frame.behind(columns, process, cut.get(process));
+    put_corner(out, last.x + shift, last.y.saturating_sub(32))?;
+    put_corner(out, last.x + shift, last.y + 32)
+}
+
+/// Appends the line of a cut: on each lane it runs so far behind the last event that is in.
+pub fn put_cut(
+    out: &mut Bytes,
+    columns: &Columns,
+    frame: &Frame,
+    cut: &Cut,
+    shift: u64,
+    look: &[u8],
+) -> Result<(), NoMemory>
+    requires few { length cut.now ≤ 32 }
+    requires shift { shift ≤ 100 }
+    ensures { OnOk result (out.new
+        ≡ out.old ++ cut_drawn frame.now columns.now cut.now shift look.now) }
+{
+    out.extend_from_slice(b"<polyline points='")?;
+    for process in 0..cut.as_slice().len() as u32 {
+        put_corners(out, columns, frame, cut, shift, process)?;
+    }
+    out.extend_from_slice(b"' fill='none'")?;
+    out.extend_from_slice(look)?;
+    out.extend_from_slice(b"/>\n")
+}
+
+// Appends a number at the upper left of a mark.
+fn put_numeral(
+    out: &mut Bytes,
+    alloc: Global,
+    at: Point,
+    number: u64,
+    look: &[u8],
+) -> Result<(), NoMemory>
+    ensures { OnOk result (out.new ≡ out.old ++ numeral at number look.now) }
+{
+    let mut digits = Bytes::new(alloc);
+    put_u64(&mut digits, number)?;
+    let corner = Point {
+        x: at.x.saturating_sub(8),
+        y: at.y.saturating_sub(13),
+    };
+    put_text(out, corner, look, digits.as_slice())
+}
+
+// Appends the number of a step at its mark, on white, since arrows run behind it.
+fn put_numbered(out: &mut Bytes, alloc: Global, at: Point, number: u64) -> Result<(), NoMemory>
+    ensures { OnOk result (out.new ≡ out.old ++ numbered at number) }
+{
+    put_numeral(
+        out,
+        alloc,
+        at,
+        number,
+        b" font-size='12' text-anchor='end' fill='#ffffff' stroke='#ffffff' stroke-width='5'",
+    )?;
+    put_numeral(
+        out,
+        alloc,
+        at,
+        number,
+        b" font-size='12' font-weight='bold' text-anchor='end' fill='#b35900'",
+    )
+}
+
+// Appends the numbers of the steps of a path.
+fn put_steps(
+    out: &mut Bytes,
+    alloc: Global,
+    columns: &Columns,
+    frame: &Frame,
+    steps: &[EventId],
+) -> Result<(), NoMemory>
+    ensures { OnOk result (out.new ≡ out.old ++ steps_drawn frame.now columns.now steps.now) }
+{
+    for k in 0..steps.len() {
+        put_numbered(out, alloc, frame.at(columns, steps[k]), k as u64 + 1)?;
+    }
+    Ok(())
+}
+
+// Appends a ring round the mark of an event.
+fn put_ring(
+    out: &mut Bytes,
+    columns: &Columns,
+    frame: &Frame,
+    event: EventId,
+) -> Result<(), NoMemory>
+    ensures { OnOk result (out.new ≡ out.old ++ ring frame.now columns.now event) }
+{
+    put_circle(
+        out,
+        frame.at(columns, event),
+        16,
+        b" fill='none' stroke='#b35900' stroke-width='2.5'",
+    )
+}
+
+// Appends the steps and the goal of a path.
+fn put_path(
+    out: &mut Bytes,
+    alloc: Global,
+    columns: &Columns,
+    frame: &Frame,
+    path: &Path,
+) -> Result<(), NoMemory>
+    requires { length path.now.goal ≤ 32 }
+    ensures { OnOk result (out.new ≡ out.old
+        ++ path_drawn frame.now columns.now path.now.steps path.now.goal) }
+{
+    put_steps(out, alloc, columns, frame, path.steps.as_slice())?;
+    put_cut(
+        out,
+        columns,
+        frame,
+        &path.goal,
+        32,
+        b" stroke='#b35900' stroke-width='2.5'",
+    )
+}
+
+/// Appends what is drawn of a witness: its steps and its goal, or rings round a pair.
+pub fn put_witness(
+    out: &mut Bytes,
+    alloc: Global,
+    columns: &Columns,
+    frame: &Frame,
+    witness: &Witness,
+) -> Result<(), NoMemory>
+    requires { HasFewProcesses witness.now }
+    ensures { OnOk result (out.new ≡ out.old ++ witness_drawn frame.now columns.now witness.now) }
+{
+    match witness {
+        Witness::Reach(path) => put_path(out, alloc, columns, frame, path),
+        Witness::Against(path) => put_path(out, alloc, columns, frame, path),
+        Witness::Always(path) => put_path(out, alloc, columns, frame, path),
+        Witness::StuckPair(first, other) => {
+            put_ring(out, columns, frame, *first)?;
+            put_ring(out, columns, frame, *other)
+        }
+        Witness::Nothing => Ok(()),
+        Witness::StuckStart => Ok(()),
+        Witness::StuckFinish => Ok(()),
+    }
+}
