@@ -16,10 +16,10 @@ use Rattle.report_lines.specs.Formula.{IsCanonical}
 use Rattle.report_lines.specs.Spelling.{WitnessTextFits}
 use Rattle.report.specs.declared.report.Report.{Report}
 use Rattle.report.specs.Spelling.{SliceFits, IsWellFormed}
-use Rattle.conjunctions.specs.declared.observed.Observed.{Observed}
+use Rattle.part_pulls.specs.declared.observed.Observed.{Observed}
 use Rattle.conjunctions.specs.declared.answer.PartAnswer.{PartAnswer}
 use Rattle.conjunctions.specs.declared.answer.Answer.{Answer}
-use Rattle.conjunctions.specs.Observing.{clocks_seen}
+use Rattle.part_pulls.specs.Observing.{clocks_seen}
 use Rattle.conjunctions.specs.Answering.{IsAnswer, places_from, all_places, ArePartAnswers}
 use Rattle.answer_report.specs.declared.wanted.Wanted.{Wanted}
 use Rattle.answer_report.specs.Choosing.{of_disjunct, first_true, first_false, chosen}

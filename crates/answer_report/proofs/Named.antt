@@ -15,8 +15,8 @@ use Rattle.event_log.proofs.NameNumbers.{names_are, number_again}
 use Rattle.trace_growth.specs.Growing.{IsTrace}
 use Rattle.vector_clock.proofs.Growth.{length-clocks_of}
 use Rattle.rctl_parts.specs.Spelled.{name_at}
-use Rattle.conjunctions.specs.declared.observed.Observed.{Observed}
-use Rattle.conjunctions.specs.Observing.{Reading, clocks_seen, run_seen, names_seen}
+use Rattle.part_pulls.specs.declared.observed.Observed.{Observed}
+use Rattle.part_pulls.specs.Observing.{Reading, clocks_seen, run_seen, names_seen}
 
 -- of so many processes both numbers are that of one, or neither is that of any
 abbrev pub AreOfOneProcess : ℕ → ℕ → ℕ → Type 0

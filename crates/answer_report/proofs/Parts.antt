@@ -26,9 +26,9 @@ use Rattle.rctl_class.specs.Classed as class
 use Rattle.rctl_class.specs.Classed.{MeanTheSame, Head, head_of, HaveOneHead, Alike}
 use Rattle.slice_graph.specs.Views.{SliceView, slice_of}
 use Rattle.slice_graph.specs.Fitting.{FitsOrder}
-use Rattle.conjunctions.specs.declared.observed.Observed.{Observed}
+use Rattle.part_pulls.specs.declared.observed.Observed.{Observed}
 use Rattle.conjunctions.specs.declared.answer.PartAnswer.{PartAnswer}
-use Rattle.conjunctions.specs.Observing.{Reading, AreAnswers, Satisfying, clocks_seen, run_seen, names_seen}
+use Rattle.part_pulls.specs.Observing.{Reading, AreAnswers, Satisfying, clocks_seen, run_seen, names_seen}
 use Rattle.conjunctions.specs.Answering.{IsSliceOf, Place, places_from, all_places, IsOperand, IsPartAnswer, ArePartAnswers}
 use Rattle.answer_report.specs.Showing.{HasOperand, IsGivenFor}
 use Rattle.answer_report.proofs.Named.{AreOfOneProcess, same_next}

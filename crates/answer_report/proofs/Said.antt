@@ -14,9 +14,9 @@ use Rattle.trace_growth.specs.Growing.{IsTrace}
 use Rattle.report.specs.declared.report.Report.{Report}
 use Rattle.run_report.specs.Reports.{Asked, IsReportOn, IsSliceShown}
 use Rattle.run_report.specs.Witnesses.{AreWitnesses}
-use Rattle.conjunctions.specs.declared.observed.Observed.{Observed}
+use Rattle.part_pulls.specs.declared.observed.Observed.{Observed}
 use Rattle.conjunctions.specs.declared.answer.Answer.{Answer}
-use Rattle.conjunctions.specs.Observing.{Reading, clocks_seen, run_seen, trace_seen}
+use Rattle.part_pulls.specs.Observing.{Reading, clocks_seen, run_seen, trace_seen}
 use Rattle.answer_report.specs.declared.wanted.Wanted.{Wanted}
 use Rattle.answer_report.specs.Asking.{IsAskedOf}
 use Rattle.answer_report.specs.Choosing.{chosen}

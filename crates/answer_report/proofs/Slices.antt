@@ -22,9 +22,9 @@ use Rattle.rctl_class.proofs.Alike.{alike_disjuncts_mean}
 use Rattle.slice_graph.specs.Views.{slice_of}
 use Rattle.report.specs.declared.report.SliceText.{SliceText}
 use Rattle.run_report.specs.Reports.{text_seen, IsSliceShown}
-use Rattle.conjunctions.specs.declared.observed.Observed.{Observed}
+use Rattle.part_pulls.specs.declared.observed.Observed.{Observed}
 use Rattle.conjunctions.specs.declared.answer.Answer.{Answer}
-use Rattle.conjunctions.specs.Observing.{Reading, AreAnswers, clocks_seen, run_seen, names_seen}
+use Rattle.part_pulls.specs.Observing.{Reading, AreAnswers, clocks_seen, run_seen, names_seen}
 use Rattle.conjunctions.specs.Answering.{IsAnswer}
 use Rattle.answer_report.specs.Showing.{IsSliceTold}
 

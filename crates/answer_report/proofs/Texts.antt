@@ -10,9 +10,9 @@ use Rattle.run_model.specs.Class.{SatParts, SatDisjuncts}
 use Rattle.rctl_parts.specs.Pieces.{Piece}
 use Rattle.rctl_parts.specs.Spelled.{formula_of, part_formulas}
 use Rattle.rctl_class.specs.Classed.{Alike, PartsAlike, EachAlike}
-use Rattle.conjunctions.specs.declared.observed.Observed.{Observed}
+use Rattle.part_pulls.specs.declared.observed.Observed.{Observed}
 use Rattle.conjunctions.specs.declared.answer.PartAnswer.{PartAnswer}
-use Rattle.conjunctions.specs.Observing.{Reading, clocks_seen, run_seen, names_seen}
+use Rattle.part_pulls.specs.Observing.{Reading, clocks_seen, run_seen, names_seen}
 use Rattle.conjunctions.specs.Answering.{place, places_from, all_places, IsPartAnswer, ArePartAnswers}
 use Rattle.witness_kinds.specs.Views.{witness_of}
 use Rattle.report_lines.specs.declared.kinds.WitnessText.{WitnessText}

@@ -4,9 +4,9 @@ use Rattle.run_model.specs.Class.{disjuncts, IsKeptFor}
 use Rattle.rctl_parts.specs.Pieces.{Piece}
 use Rattle.rctl_parts.specs.Spelled.{part_formulas}
 use Rattle.rctl_class.specs.Classed.{EachAlike}
-use Rattle.conjunctions.specs.declared.observed.Observed.{Observed}
+use Rattle.part_pulls.specs.declared.observed.Observed.{Observed}
 use Rattle.conjunctions.specs.declared.answer.Answer.{Answer}
-use Rattle.conjunctions.specs.Observing.{Reading, AreAnswers, names_seen, run_seen}
+use Rattle.part_pulls.specs.Observing.{Reading, AreAnswers, names_seen, run_seen}
 use Rattle.conjunctions.specs.Answering.{IsAnswer}
 use Rattle.run_report.specs.Reports.{Asked}
 use Rattle.answer_report.specs.declared.wanted.Wanted.{Wanted}

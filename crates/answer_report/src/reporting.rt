@@ -1,7 +1,7 @@
 //! The report of a run from the answer of a formula.
 ghost use Rattle.std.specs.Prelude.{◌≡◌, ◌≤◌, List, IfOk};
 ghost use Rattle.rctl_parts.specs.Pieces.{Piece};
-ghost use Rattle.conjunctions.specs.Observing.{Reading, IsReady, trace_seen};
+ghost use Rattle.part_pulls.specs.Observing.{Reading, IsReady, trace_seen};
 ghost use Rattle.conjunctions.specs.Answering.{IsAnswer};
 ghost use Rattle.report_lines.specs.Formula.{IsCanonical};
 ghost use Rattle.report.specs.Spelling.{IsWellFormed};
@@ -12,7 +12,8 @@ use crate::copies::{copy_names, copy_text, cut_of};
 use crate::shown_slice::slice_told;
 use crate::wanted::Wanted;
 use crate::witnesses::witnesses_told;
-use conjunctions::{Answer, Observed};
+use conjunctions::Answer;
+use part_pulls::Observed;
 use pota_base::{Bytes, NoMemory};
 use report::Report;
 use std::alloc::Global;

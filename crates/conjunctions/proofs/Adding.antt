@@ -13,12 +13,13 @@ use Rattle.pull_system.specs.System.{IsPull}
 use Rattle.pull_system.specs.Pulls.{HoldsAt, ClosedUnder}
 use Rattle.rctl_parts.specs.Pieces.{Piece, pieces}
 use Rattle.rctl_parts.specs.Spelled.{Names, formulas_of}
-use Rattle.conjunctions.specs.declared.observed.Observed.{Observed}
+use Rattle.part_pulls.specs.declared.observed.Observed.{Observed}
 use Rattle.conjunctions.specs.declared.answer.PartAnswer.{PartAnswer}
-use Rattle.conjunctions.specs.Observing.{clocks_seen, lens_seen, run_seen, names_seen}
-use Rattle.conjunctions.specs.Numbering.{is_atom, all_atoms, gives_order}
+use Rattle.part_pulls.specs.Observing.{clocks_seen, lens_seen, run_seen, names_seen}
+use Rattle.part_pulls.specs.Systems.{is_atom, pulls_of_part, pulls_of_parts}
+use Rattle.conjunctions.specs.Numbering.{all_atoms, gives_order}
 use Rattle.conjunctions.specs.Counting.{rooms_of}
-use Rattle.conjunctions.specs.Systems.{AddsPulls, pulls_of_part, pulls_of_parts}
+use Rattle.conjunctions.specs.Gathering.{AddsPulls}
 use Rattle.conjunctions.specs.Answering.{Place, places_from, ArePartAnswers, AddsAnswers}
 use Rattle.conjunctions.proofs.Ordering.{gives_right}
 

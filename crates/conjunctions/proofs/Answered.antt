@@ -1,9 +1,9 @@
 -- The disjuncts of a formula, one after the other.
-use Rattle.std.proofs.Common.{◌≡◌, ◌⊎◌, ℕ, suc, zero, ◌+◌, ◌<◌, ◌≤◌, Bool, true, false, List, [], ◌∷◌, ◌++◌, length, take, drop, get_or, sum, replicate, Option, Some, None, refl, sym, ◌∙◌, ap, subst, arith, append_assoc, append-nil, add-one, inl, inr, rules}
+use Rattle.std.proofs.Common.{◌≡◌, ◌⊎◌, ℕ, suc, zero, ◌+◌, ◌≤◌, Bool, true, false, List, [], ◌∷◌, ◌++◌, length, take, drop, get_or, sum, replicate, Option, Some, None, refl, sym, ◌∙◌, ap, subst, arith, append_assoc, append-nil, inl, inr, rules}
 use Rattle.std.specs.Prelude.{◌↔◌, ◌||◌, IsTrue}
 use Rattle.std.proofs.lemmas.Grind.{flat_map-append}
 use Rattle.std.proofs.lemmas.List.Concat.{flat_map-cons}
-use Rattle.std.proofs.lemmas.List.{length-map, length-take-le, take_all, length-replicate}
+use Rattle.std.proofs.lemmas.List.{length-replicate}
 use Rattle.run_model.specs.Cut.{Cut, Clocks, initial, lengths}
 use Rattle.run_model.specs.Consistent.{IsOrder}
 use Rattle.run_model.specs.Sublattice.{Smallest, Either}
@@ -14,14 +14,12 @@ use Rattle.run_model.proofs.JoinLemmas.{smallest_in}
 use Rattle.pull_system.specs.Rows.{RowsView}
 use Rattle.slice_graph.specs.Views.{SliceView, slice_of, no_row}
 use Rattle.slice_graph.specs.Fitting.{FitsOrder}
-use Rattle.rctl_parts.specs.declared.part.Part.{Part}
-use Rattle.rctl_parts.specs.Pieces.{Piece, pieces_of, disjuncts_of}
-use Rattle.rctl_parts.specs.MadeFor.{Scope, EachFits, AllFit, parts_count, disjuncts_count}
+use Rattle.rctl_parts.specs.Pieces.{Piece}
 use Rattle.rctl_parts.specs.Spelled.{disjunction_of}
-use Rattle.conjunctions.specs.declared.observed.Observed.{Observed}
+use Rattle.part_pulls.specs.declared.observed.Observed.{Observed}
 use Rattle.conjunctions.specs.declared.answer.PartAnswer.{PartAnswer}
 use Rattle.conjunctions.specs.declared.answer.Answer.{Answer}
-use Rattle.conjunctions.specs.Observing.{Reading, AreAnswers, clocks_seen, lens_seen, run_seen, names_seen}
+use Rattle.part_pulls.specs.Observing.{Reading, AreAnswers, clocks_seen, lens_seen, run_seen, names_seen}
 use Rattle.conjunctions.specs.Numbering.{conjunctions_in, all_conjunctions}
 use Rattle.conjunctions.specs.Rounds.{RoundView}
 use Rattle.conjunctions.specs.Settling.{AreFloors, Settles}
@@ -164,42 +162,7 @@ answered_all seen workers round now s t answer ds batch is = record {
   parts = subst (ArePartAnswers seen (all_places 1 ds)) (sym is.told.is) is.told.answers;
 }
 
--- ---- the disjunct that comes next
-
-pub record SplitsAt (all ds : List (List Piece)) (d : List Piece) : Type 0 where
-  pub later : List (List Piece)
-  pub is : all ≡ ds ++ d ∷ later
-
-pub disjunct_at : (disjuncts : List (List Part)) (i : ℕ) (disjunct : List Part) → i < length disjuncts → disjunct ≡ get_or disjuncts i disjunct
-    → SplitsAt (disjuncts_of disjuncts) (disjuncts_of (take i disjuncts)) (pieces_of disjunct)
-disjunct_at [] i disjunct h at = absurd (omega arith)
-disjunct_at (q ∷ disjuncts) zero disjunct h at = record { later = disjuncts_of disjuncts; is = ap (λ r. pieces_of r ∷ disjuncts_of disjuncts) (sym at) }
-disjunct_at (q ∷ disjuncts) (suc i) disjunct h at =
-    let later = disjunct_at disjuncts i disjunct (omega arith) at in record { later = later.later; is = ap (λ ds. pieces_of q ∷ ds) later.is }
-
-pub disjuncts_taken : (disjuncts : List (List Part)) (i : ℕ) (disjunct : List Part) → i < length disjuncts → disjunct ≡ get_or disjuncts i disjunct
-    → disjuncts_of (take (i + 1) disjuncts) ≡ disjuncts_of (take i disjuncts) ++ pieces_of disjunct ∷ []
-disjuncts_taken disjuncts i disjunct h at = ap (λ n. disjuncts_of (take n disjuncts)) (add-one i) ∙ taken disjuncts i disjunct h at
-  where
-    taken : (disjuncts : List (List Part)) (i : ℕ) (disjunct : List Part) → i < length disjuncts → disjunct ≡ get_or disjuncts i disjunct
-        → disjuncts_of (take (suc i) disjuncts) ≡ disjuncts_of (take i disjuncts) ++ pieces_of disjunct ∷ []
-    taken [] i disjunct h at = absurd (omega arith)
-    taken (q ∷ disjuncts) zero disjunct h at = ap (λ r. pieces_of r ∷ []) (sym at)
-    taken (q ∷ disjuncts) (suc i) disjunct h at = ap (λ ds. pieces_of q ∷ ds) (taken disjuncts i disjunct (omega arith) at)
-
-pub length-disjuncts : (disjuncts : List (List Part)) (i : ℕ) → i ≤ length disjuncts → length (disjuncts_of (take i disjuncts)) ≡ i
-length-disjuncts disjuncts i h = length-map (take i disjuncts) pieces_of ∙ length-take-le i disjuncts h
-
-pub all_taken : (disjuncts : List (List Part)) (i : ℕ) → length disjuncts ≤ i → disjuncts_of (take i disjuncts) ≡ disjuncts_of disjuncts
-all_taken disjuncts i h = ap disjuncts_of (take_all i disjuncts h)
-
-pub disjunct_fits : (scope : Scope) (ds : List (List Piece)) (d : List Piece) (later : List (List Piece)) → AllFit scope (ds ++ d ∷ later) → EachFits scope d
-disjunct_fits scope [] d later h = h.0
-disjunct_fits scope (e ∷ ds) d later h = disjunct_fits scope ds d later h.1
-
-pub disjunct_count : (ds : List (List Piece)) (d : List Piece) (later : List (List Piece)) → parts_count d ≤ disjuncts_count (ds ++ d ∷ later)
-disjunct_count [] d later = omega arith
-disjunct_count (e ∷ ds) d later = omega (arith, disjunct_count ds d later)
+-- ---- the rows that the next disjunct may begin from
 
 pub disjunct_floors : (seen : Observed) (workers : ℕ) (round now : RoundView) (s t : ℕ) (ds : List (List Piece)) (d : List Piece) (later : List (List Piece))
     → AreFloors seen round.before (all_conjunctions (ds ++ d ∷ later)) → Settles seen workers round now s t (all_conjunctions ds) → AreFloors seen now.before (conjunctions_in d)

@@ -1,11 +1,10 @@
 -- A conjunction once all of its parts were added.
-use Rattle.std.proofs.Common.{◌≡◌, ℕ, ◌-◌, ◌*◌, ◌<◌, ◌≤◌, Bool, true, false, List, [], ◌∷◌, ◌++◌, length, take, All, Some, refl, sym, ◌∙◌, ap, subst, arith}
+use Rattle.std.proofs.Common.{◌≡◌, ℕ, ◌-◌, ◌*◌, ◌<◌, ◌≤◌, Bool, true, false, List, [], ◌∷◌, ◌++◌, length, All, Some, refl, sym, ◌∙◌, ap, subst, arith}
 use Rattle.std.specs.Prelude.{◌&&◌}
-use Rattle.std.proofs.lemmas.List.{length-map, take_all}
+use Rattle.std.proofs.lemmas.List.{length-map}
 use Rattle.std.proofs.lemmas.List.Elements.{All-append}
 use Rattle.std.proofs.Math.Nat.{mul-le-mul}
 use Rattle.run_model.specs.Cut.{Clocks, lengths}
-use Rattle.run_model.specs.Consistent.{IsOrder}
 use Rattle.trace_growth.specs.Growing.{IsTrace}
 use Rattle.pull_system.specs.declared.pull.Pull.{Pull}
 use Rattle.pull_system.specs.System.{IsPull}
@@ -20,21 +19,20 @@ use Rattle.rctl_parts.specs.declared.part.Part.{Part}
 use Rattle.rctl_parts.specs.Pieces.{Piece, atom, temporal, piece_of, pieces_of}
 use Rattle.rctl_parts.specs.MadeFor.{parts_count}
 use Rattle.event_log.specs.declared.log.Event.{Event}
-use Rattle.conjunctions.specs.declared.observed.Observed.{Observed}
-use Rattle.conjunctions.specs.Observing.{clocks_seen, lens_seen}
-use Rattle.conjunctions.specs.Numbering.{is_atom, all_atoms, gives_order}
+use Rattle.part_pulls.specs.declared.observed.Observed.{Observed}
+use Rattle.part_pulls.specs.Observing.{clocks_seen, lens_seen}
+use Rattle.part_pulls.specs.Systems.{is_atom, pulls_of_parts}
+use Rattle.conjunctions.specs.Numbering.{all_atoms, gives_order}
 use Rattle.conjunctions.specs.Counting.{rooms_of, first_of}
 use Rattle.conjunctions.specs.Rounds.{RoundView}
-use Rattle.conjunctions.specs.Systems.{AddsPulls, first_pulls, pulls_of_parts}
+use Rattle.conjunctions.specs.Gathering.{AddsPulls, first_pulls}
 use Rattle.conjunctions.specs.Beginning.{BeginsWithOrder}
 use Rattle.conjunctions.specs.Settling.{CanBegin, CutsStay, AreFloors, SettlesOne}
 use Rattle.conjunctions.proofs.Settled.{AreFirstPulls, few_pulls, has_order}
 use Rattle.conjunctions.proofs.Adding.{closed_none}
-use Rattle.conjunctions.proofs.Atoms.{lens_same}
+use Rattle.part_pulls.proofs.Atoms.{lens_same}
+use Rattle.part_pulls.proofs.Readings.{is_order}
 use Rattle.conjunctions.proofs.Ordering.{atoms_give_none}
-
-pub is_order : (seen : Observed) → IsTrace seen.trace.states → IsOrder (clocks_seen seen)
-is_order seen trace = (trace.run.run (λ name states. [])).order
 
 pub first_pulls_are : (seen : Observed) → IsTrace seen.trace.states → (gives : Bool) → AreFirstPulls (clocks_seen seen) gives
 first_pulls_are seen trace true = record {
@@ -130,9 +128,6 @@ settles_one_by seen pulls ps workers old new s t slice order is keeps keeps_is o
     (subst (λ (o : Clocks). SettlesOne o pulls keeps workers old new s t slice) is one)
 
 -- all parts were taken
-pub taken_all : (parts : List Part) (i : ℕ) → length parts ≤ i → pieces_of (take i parts) ≡ pieces_of parts
-taken_all parts i h = ap pieces_of (take_all i parts h)
-
 pub few_parts : (parts : List Part) → parts_count (pieces_of parts) ≤ 128 → length parts ≤ 128
 few_parts parts few = omega (arith, length_count (pieces_of parts), length-map parts piece_of)
 

@@ -8,11 +8,11 @@ use Rattle.pull_system.proofs.Existence.{least_unique}
 use Rattle.pull_system.proofs.Final.{final_row, final_vector}
 use Rattle.rctl_parts.specs.Pieces.{Piece}
 use Rattle.rctl_parts.specs.MadeFor.{EachFits}
-use Rattle.conjunctions.specs.declared.observed.Observed.{Observed}
-use Rattle.conjunctions.specs.Observing.{lens_seen, scope_seen, AreFull}
+use Rattle.part_pulls.specs.declared.observed.Observed.{Observed}
+use Rattle.part_pulls.specs.Observing.{lens_seen, scope_seen, AreFull}
 use Rattle.conjunctions.specs.Numbering.{all_atoms}
-use Rattle.conjunctions.specs.Counters.{AllRise, counters_of_parts}
-use Rattle.conjunctions.specs.Systems.{system_of}
+use Rattle.part_pulls.specs.Counters.{AllRise, counters_of_parts}
+use Rattle.part_pulls.specs.Systems.{system_of}
 use Rattle.conjunctions.specs.Settling.{IsSettled, IsLater}
 use Rattle.conjunctions.proofs.Later.{order_grows, system_grows}
 use Rattle.conjunctions.proofs.Staying.{orders_stay, system_stays}

@@ -1,5 +1,5 @@
 -- Which rows are final where a conjunction begins.
-use Rattle.std.proofs.Common.{◌≡◌, ℕ, zero, suc, ◌+◌, ◌<◌, ◌≤◌, inl, inr, Bool, true, false, List, [], ◌∷◌, length, sum, take, replicate, get_or, Option, Some, None, refl, sym, subst, arith}
+use Rattle.std.proofs.Common.{◌≡◌, ℕ, zero, suc, ◌+◌, ◌<◌, ◌≤◌, inl, inr, Bool, true, false, List, [], ◌∷◌, length, sum, take, get_or, Option, Some, None, refl, sym, subst, arith}
 use Rattle.std.specs.Prelude.{IfSome}
 use Rattle.std.proofs.lemmas.Bool.{cases_lt}
 use Rattle.std.proofs.lemmas.List.{get_or-take, length-take-le}
@@ -16,14 +16,6 @@ use Rattle.conjunctions.specs.Beginning.{GatheredView, FloorFits, BeginsAtoms, B
 use Rattle.conjunctions.specs.Settling.{CanBegin, CutsStay}
 
 -- ---- counts of rows, process by process
-
-abbrev pub zeros : ℕ → List ℕ
-zeros n = replicate n 0
-
-pub zero_at : (n p : ℕ) → get_or (zeros n) p 0 ≡ 0
-zero_at zero p = refl
-zero_at (suc n) zero = refl
-zero_at (suc n) (suc p) = zero_at n p
 
 -- where no row is known to be final
 pub none_within : (lens finals : List ℕ) → AreNone finals → AreWithin lens finals

@@ -1,20 +1,17 @@
 -- The parts of a conjunction, one after the other.
-use Rattle.std.proofs.Common.{◌≡◌, ℕ, suc, zero, ◌+◌, ◌<◌, ◌≤◌, List, [], ◌∷◌, ◌++◌, length, take, drop, get_or, flat_map, sym, ◌∙◌, ap, subst, arith, append_assoc, append-nil, add-one}
-use Rattle.std.proofs.lemmas.List.{length-map, length-take-le}
+use Rattle.std.proofs.Common.{◌≡◌, ℕ, ◌+◌, List, [], ◌∷◌, ◌++◌, length, drop, flat_map, sym, ◌∙◌, ap, subst, arith, append_assoc, append-nil}
 use Rattle.std.proofs.lemmas.Grind.{flat_map-append}
 use Rattle.std.proofs.lemmas.List.Concat.{flat_map-cons}
 use Rattle.pull_system.specs.declared.pull.Pull.{Pull}
 use Rattle.pull_system.specs.Rows.{RowsView}
-use Rattle.rctl_parts.specs.declared.part.Part.{Part}
-use Rattle.rctl_parts.specs.Pieces.{Piece, piece_of, pieces_of}
-use Rattle.rctl_parts.specs.MadeFor.{Scope, PieceFits, EachFits, part_count, parts_count}
-use Rattle.conjunctions.specs.declared.observed.Observed.{Observed}
+use Rattle.rctl_parts.specs.Pieces.{Piece}
+use Rattle.part_pulls.specs.declared.observed.Observed.{Observed}
 use Rattle.conjunctions.specs.declared.answer.PartAnswer.{PartAnswer}
-use Rattle.conjunctions.specs.Observing.{lens_seen}
+use Rattle.part_pulls.specs.Observing.{lens_seen}
 use Rattle.conjunctions.specs.Numbering.{within, conjunctions_in}
 use Rattle.conjunctions.specs.Beginning.{GatheredView, FloorFits}
 use Rattle.conjunctions.specs.Rounds.{RoundView}
-use Rattle.conjunctions.specs.Systems.{AddsPulls}
+use Rattle.conjunctions.specs.Gathering.{AddsPulls}
 use Rattle.conjunctions.specs.Settling.{AreFloors, Settles}
 use Rattle.conjunctions.specs.Answering.{places_from, place, IsPartAnswer, AddsAnswers}
 use Rattle.conjunctions.proofs.InTurn.{settles_none, settles_on, floors_left, floors_right}
@@ -55,19 +52,6 @@ added_more seen workers disjunct round now next s t u a b c begun gathered more 
     one : AddsAnswers seen b c (places_from disjunct (1 + length ps) (p ∷ []))
     one = record { added = answer ∷ []; is = c_is; answers = (subst (λ (k : ℕ). IsPartAnswer seen (place disjunct k p) answer) (omega arith) is, tt) }
 
--- the part that comes next, among all of them
-pub record Splits (all ps : List Piece) (p : Piece) : Type 0 where
-  pub later : List Piece
-  pub is : all ≡ ps ++ p ∷ later
-
-pub fits_at : (scope : Scope) (ps : List Piece) (p : Piece) (later : List Piece) → EachFits scope (ps ++ p ∷ later) → PieceFits scope p
-fits_at scope [] p later h = h.0
-fits_at scope (q ∷ ps) p later h = fits_at scope ps p later h.1
-
-pub count_at : (ps : List Piece) (p : Piece) (later : List Piece) → part_count p ≤ parts_count (ps ++ p ∷ later)
-count_at [] p later = omega arith
-count_at (q ∷ ps) p later = omega (arith, count_at ps p later)
-
 -- the rows of before that the conjunctions within the next part may begin from
 pub floors_at : (seen : Observed) (workers : ℕ) (round now : RoundView) (s t : ℕ) (ps : List Piece) (p : Piece) (later : List Piece)
     → AreFloors seen round.before (conjunctions_in (ps ++ p ∷ later)) → Settles seen workers round now s t (flat_map within ps) → AreFloors seen now.before (within p)
@@ -88,23 +72,3 @@ pub floors_last : (seen : Observed) (workers : ℕ) (round now : RoundView) (s t
     → AreFloors seen round.before (conjunctions_in ps) → Settles seen workers round now s t (flat_map within ps) → AreFloors seen now.before (ps ∷ [])
 floors_last seen workers round now s t ps floors settles =
     subst (λ (before : List RowsView). AreFloors seen before (ps ∷ [])) (sym settles.before) (floors_right seen round.before (flat_map within ps) (ps ∷ []) floors)
-
--- what comes before a place, what stands there, and what comes behind it
-pub splits_at : (parts : List Part) (i : ℕ) (part : Part) → i < length parts → part ≡ get_or parts i part → Splits (pieces_of parts) (pieces_of (take i parts)) (piece_of part)
-splits_at [] i part h at = absurd (omega arith)
-splits_at (q ∷ parts) zero part h at = record { later = pieces_of parts; is = ap (λ r. piece_of r ∷ pieces_of parts) (sym at) }
-splits_at (q ∷ parts) (suc i) part h at =
-    let later = splits_at parts i part (omega arith) at in
-    record { later = later.later; is = ap (λ ps. piece_of q ∷ ps) later.is }
-
--- one part more was taken
-pub taken_more : (parts : List Part) (i : ℕ) (part : Part) → i < length parts → part ≡ get_or parts i part → pieces_of (take (i + 1) parts) ≡ pieces_of (take i parts) ++ piece_of part ∷ []
-taken_more parts i part h at = ap (λ n. pieces_of (take n parts)) (add-one i) ∙ taken parts i part h at
-  where
-    taken : (parts : List Part) (i : ℕ) (part : Part) → i < length parts → part ≡ get_or parts i part → pieces_of (take (suc i) parts) ≡ pieces_of (take i parts) ++ piece_of part ∷ []
-    taken [] i part h at = absurd (omega arith)
-    taken (q ∷ parts) zero part h at = ap (λ r. piece_of r ∷ []) (sym at)
-    taken (q ∷ parts) (suc i) part h at = ap (λ ps. piece_of q ∷ ps) (taken parts i part (omega arith) at)
-
-pub length-taken : (parts : List Part) (i : ℕ) → i ≤ length parts → length (pieces_of (take i parts)) ≡ i
-length-taken parts i h = length-map (take i parts) piece_of ∙ length-take-le i parts h

@@ -3,8 +3,8 @@ use Rattle.std.proofs.Common.{◌≡◌, ℕ, suc, zero, ◌+◌, List, [], ◌�
 use Rattle.std.proofs.lemmas.List.{drop-drop}
 use Rattle.pull_system.specs.Rows.{RowsView}
 use Rattle.rctl_parts.specs.Pieces.{Piece}
-use Rattle.conjunctions.specs.declared.observed.Observed.{Observed}
-use Rattle.conjunctions.specs.Observing.{lens_seen}
+use Rattle.part_pulls.specs.declared.observed.Observed.{Observed}
+use Rattle.part_pulls.specs.Observing.{lens_seen}
 use Rattle.conjunctions.specs.Counting.{bounds}
 use Rattle.conjunctions.specs.Rounds.{RoundView}
 use Rattle.conjunctions.specs.Settling.{AreSettled, AreFloors, Settles}

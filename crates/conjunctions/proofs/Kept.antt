@@ -13,11 +13,11 @@ use Rattle.rctl_parts.specs.Exprs.{Expr, Exprs}
 use Rattle.rctl_parts.specs.Pieces.{Atom, Piece, Pieces, none, more, pieces, atom, temporal, local, at_most, at_least, never, diff_at_most, diff_at_least}
 use Rattle.rctl_parts.specs.MadeFor.{AtomFits, PieceFits, PiecesFit, EachFits, AllFit, VariableFits}
 use Rattle.rctl_parts.specs.Spelled.{Names, name_at, variable_at, formula_in, formulas_in, operated, atom_formula, formula_of, formulas_of, conjunctions_of, disjunction_of}
-use Rattle.conjunctions.specs.declared.observed.Observed.{Observed}
-use Rattle.conjunctions.specs.Observing.{Reading, scope_seen, run_seen, names_seen}
-use Rattle.conjunctions.specs.Counters.{AllRise, CountersRise, counter, counters_of_atom, counters_of_part, counters_of_operand, counters_of_parts}
-use Rattle.conjunctions.proofs.Atoms.{is_variable, variable_name}
-use Rattle.conjunctions.proofs.Rising.{rise_left, rise_right, left_rises, right_rises, first_rises, others_rise, first_disjunct_rises, other_disjuncts_rise}
+use Rattle.part_pulls.specs.declared.observed.Observed.{Observed}
+use Rattle.part_pulls.specs.Observing.{Reading, scope_seen, run_seen, names_seen}
+use Rattle.part_pulls.specs.Counters.{AllRise, CountersRise, counter, counters_of_atom, counters_of_part, counters_of_operand, counters_of_parts}
+use Rattle.part_pulls.proofs.Atoms.{is_variable, variable_name}
+use Rattle.part_pulls.proofs.Rising.{rise_left, rise_right, left_rises, right_rises, first_rises, others_rise, first_disjunct_rises, other_disjuncts_rise}
 
 -- a local expression has no counters
 mutual

@@ -20,17 +20,18 @@ use Rattle.local_preds.specs.LocalRuns.{constant_truth}
 use Rattle.local_preds.proofs.Growing.{local_grows, never_grows}
 use Rattle.channel_preds.specs.Truth.{lens_of}
 use Rattle.channel_preds.proofs.Growing.{at_most_grows, at_least_grows, lens-get_or}
-use Rattle.conjunctions.specs.declared.observed.Observed.{Observed}
-use Rattle.conjunctions.specs.Observing.{clocks_seen, lens_seen, scope_seen, AreFull}
+use Rattle.part_pulls.specs.declared.observed.Observed.{Observed}
+use Rattle.part_pulls.specs.Observing.{clocks_seen, lens_seen, scope_seen, AreFull}
 use Rattle.conjunctions.specs.Numbering.{within, within_operand, conjunctions_in, all_conjunctions}
-use Rattle.conjunctions.specs.Systems.{pulls_of_atom, pulls_of_part, pulls_of_parts, system_of}
+use Rattle.part_pulls.specs.Systems.{pulls_of_atom, pulls_of_part, pulls_of_parts, system_of}
 use Rattle.conjunctions.specs.Settling.{IsSettled, AreSettled, IsFloor, AreFloors, IsLater}
-use Rattle.conjunctions.proofs.Atoms.{lens_same, there, fits_process, is_variable}
-use Rattle.conjunctions.specs.Counters.{AllRise, CountersRise, counter, counters_of_atom, counters_of_part, counters_of_parts}
-use Rattle.conjunctions.proofs.Rising.{EachRises, conjunctions_rise, first_rises, others_rise, left_rises, right_rises}
+use Rattle.part_pulls.proofs.Atoms.{lens_same, there, fits_process, is_variable}
+use Rattle.part_pulls.specs.Counters.{AllRise, CountersRise, counter, counters_of_atom, counters_of_part, counters_of_parts}
+use Rattle.part_pulls.proofs.Rising.{first_rises, others_rise, left_rises, right_rises}
+use Rattle.conjunctions.proofs.EachRising.{EachRises, conjunctions_rise}
 use Rattle.counter_preds.proofs.Growing as counter_growing
 use Rattle.conjunctions.proofs.Staying.{has_grown_at, more_events, OrderStays, system_stays, orders_stay}
-use Rattle.conjunctions.proofs.Ending.{is_order}
+use Rattle.part_pulls.proofs.Readings.{is_order}
 
 -- as many pulls, and each asks for no less
 pub record PullsGrow (old lens : List ℕ) (before after : List Pull) : Type 0 where

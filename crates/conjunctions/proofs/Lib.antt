@@ -1,6 +1,6 @@
 mod InTurn
 mod Ordering
-mod Rising
+mod EachRising
 mod Adding
 mod LeastCuts
 mod Settled
@@ -9,10 +9,8 @@ mod Later
 mod FinalRows
 mod Kept
 mod Finals
-mod Operators
 mod Asking
 mod Joining
-mod Atoms
 mod Parts
 mod Gathering
 mod Beginning

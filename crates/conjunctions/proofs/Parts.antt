@@ -1,41 +1,34 @@
 -- What one part adds to the pulls of a conjunction.
-use Rattle.std.proofs.Common.{◌≡◌, ℕ, ◌+◌, ◌<◌, ◌≤◌, Bool, true, false, List, [], ◌∷◌, ◌++◌, length, flat_map, All, Option, Some, None, refl, sym, ◌∙◌, ap, subst, arith, append-nil}
+use Rattle.std.proofs.Common.{◌≡◌, ℕ, ◌+◌, ◌≤◌, Bool, true, false, List, [], ◌∷◌, ◌++◌, length, flat_map, All, Option, Some, None, refl, sym, ◌∙◌, ap, subst, arith, append-nil}
 use Rattle.std.specs.Prelude.{◌↔◌, IsTrue, ◌&&◌, ◌||◌}
 use Rattle.run_model.specs.Cut.{Cut, initial, IsWithin}
 use Rattle.run_model.specs.Consistent.{IsConsistent}
 use Rattle.run_model.specs.Slice.{Cuts}
 use Rattle.run_model.specs.Meaning.{Sat}
-use Rattle.run_model.specs.Operators.{NextTime}
-use Rattle.run_model.specs.Run as run
-use Rattle.event_log.specs.declared.log.Event.{Event}
-use Rattle.event_log.proofs.NameNumbers.{names_are, number_again}
 use Rattle.trace_growth.specs.Growing.{IsTrace}
-use Rattle.std.proofs.lemmas.List.{length-map}
-use Rattle.run_model.proofs.Counts.{length-lengths}
 use Rattle.rctl_grammar.specs.declared.tree.Operator.{Operator}
-use Rattle.rctl_grammar.specs.declared.tree.Operator.TheVariants as operator
 use Rattle.pull_system.specs.declared.pull.Pull.{Pull}
 use Rattle.pull_system.specs.System.{IsPull}
 use Rattle.pull_system.specs.Pulls.{ClosedUnder}
 use Rattle.slice_graph.specs.Views.{SliceView, slice_of}
 use Rattle.rctl_parts.specs.Pieces.{Atom, Piece, atom, temporal, pieces, listed}
 use Rattle.rctl_parts.specs.MadeFor.{PieceFits, OperatorFits, PiecesFit, EachFits, Scope, part_count, operand_count, parts_count}
-use Rattle.rctl_parts.specs.Spelled.{formula_of, conjunction_of, name_at}
+use Rattle.rctl_parts.specs.Spelled.{formula_of, conjunction_of}
 use Rattle.rctl_parts.proofs.Spelling.{listed-pieces}
-use Rattle.conjunctions.specs.declared.observed.Observed.{Observed}
+use Rattle.part_pulls.specs.declared.observed.Observed.{Observed}
 use Rattle.conjunctions.specs.declared.answer.PartAnswer.{PartAnswer}
-use Rattle.conjunctions.specs.Observing.{Reading, AreAnswers, clocks_seen, lens_seen, run_seen, names_seen, scope_seen}
-use Rattle.conjunctions.specs.Numbering.{is_atom, part_gives_order, within, within_operand, conjunctions_in}
+use Rattle.part_pulls.specs.Observing.{Reading, AreAnswers, clocks_seen, lens_seen, run_seen, names_seen, scope_seen}
+use Rattle.part_pulls.specs.Systems.{is_atom, IsAtomOf, pulls_of_part}
+use Rattle.conjunctions.specs.Numbering.{part_gives_order, within, within_operand, conjunctions_in}
 use Rattle.conjunctions.specs.Counting.{room_of}
 use Rattle.pull_system.specs.Rows.{RowsView}
 use Rattle.conjunctions.specs.Rounds.{RoundView}
 use Rattle.conjunctions.specs.Settling.{AreFloors, Settles}
-use Rattle.conjunctions.specs.Operating.{Operated, FitsProcesses, AddsOperator}
-use Rattle.conjunctions.specs.Systems.{AddsPulls, IsAtomOf, pulls_of_part}
+use Rattle.part_pulls.specs.Operating.{Operated}
+use Rattle.conjunctions.specs.Gathering.{AddsOperator, AddsPulls}
 use Rattle.conjunctions.specs.Answering.{IsSliceOf, HoldsAtFirst, IsPartAnswer, IsOperand, place}
 use Rattle.conjunctions.proofs.InTurn.{settles_none}
-use Rattle.conjunctions.proofs.Operators.{some_time_same, each_time_same, staying_same, next_time_same}
-use Rattle.conjunctions.proofs.Atoms.{there, lens_same}
+use Rattle.part_pulls.proofs.Operators.{operated_means}
 
 -- ---- operands
 
@@ -84,55 +77,15 @@ one_adds seen old new added p is fit few meaning orders own = record {
 pub atom_adds : (seen : Observed) (old new added : List Pull) (truth : Bool) (a : Atom) → new ≡ old ++ added → IsAtomOf seen a added truth → AddsPulls seen old new (atom a ∷ [])
 atom_adds seen old new added truth a is atom_is = one_adds seen old new added (atom a) is atom_is.fit atom_is.few atom_is.meaning (λ h. absurd (cc)) (λ h. atom_is.own)
 
--- the name of a process's number stands for the process
-number_is : (seen : Observed) → IsTrace seen.trace.states → (reading : Reading) (p : ℕ) → p < length seen.trace.states.events
-    → (run_seen seen reading).process (name_at (names_seen seen reading).processes p) ≡ p
-number_is seen trace reading p there =
-    let whole = trace.whole in
-    ap (run.number_of (name_at (names_seen seen reading).processes p)) (names_are seen.trace.states whole.header.vars whole.events)
-    ∙ number_again seen.trace.states.header.procs p whole.header.distinct (omega (arith, whole.events, there))
-
 -- the operator over the operand's slice is true exactly where the part is
 pub operator_means : (seen : Observed) → IsTrace seen.trace.states → (o : Operator) (ps : List Piece) (operand : SliceView) → OperatorFits (scope_seen seen) o → IsSliceOf seen operand ps
     → (reading : Reading) → AreAnswers seen reading → (c : Cut)
     → Operated o (clocks_seen seen) (Cuts (clocks_seen seen) (slice_of operand)) c ↔ Sat (run_seen seen reading) (formula_of (names_seen seen reading) (temporal o (pieces ps))) c
-operator_means seen trace o ps operand fits is reading are c = by_operator o fits
+operator_means seen trace o ps operand fits is reading are c =
+    operated_means seen trace o (conjunction_of (names_seen seen reading) ps) (Cuts (clocks_seen seen) (slice_of operand)) fits reading same c
   where
-    A : Cut → Type 0
-    A = Cuts (clocks_seen seen) (slice_of operand)
-
-    B : Cut → Type 0
-    B = Sat (run_seen seen reading) (conjunction_of (names_seen seen reading) ps)
-
-    to : (d : Cut) → IsConsistent (clocks_seen seen) d → Cuts (clocks_seen seen) (slice_of operand) d → Sat (run_seen seen reading) (conjunction_of (names_seen seen reading) ps) d
-    to d consistent h = ((is.cuts reading are d).0 h).1
-
-    from : (d : Cut) → IsConsistent (clocks_seen seen) d → Sat (run_seen seen reading) (conjunction_of (names_seen seen reading) ps) d → Cuts (clocks_seen seen) (slice_of operand) d
-    from d consistent h = (is.cuts reading are d).1 (consistent, h)
-
-    by_operator : (o : Operator) → OperatorFits (scope_seen seen) o
-        → Operated o (clocks_seen seen) (Cuts (clocks_seen seen) (slice_of operand)) c ↔ Sat (run_seen seen reading) (formula_of (names_seen seen reading) (temporal o (pieces ps))) c
-    by_operator operator.Ef h = (
-      some_time_same (clocks_seen seen) (Cuts (clocks_seen seen) (slice_of operand)) (Sat (run_seen seen reading) (conjunction_of (names_seen seen reading) ps)) to c,
-      some_time_same (clocks_seen seen) (Sat (run_seen seen reading) (conjunction_of (names_seen seen reading) ps)) (Cuts (clocks_seen seen) (slice_of operand)) from c,
-    )
-    by_operator operator.Ag h = (
-      each_time_same (clocks_seen seen) (Cuts (clocks_seen seen) (slice_of operand)) (Sat (run_seen seen reading) (conjunction_of (names_seen seen reading) ps)) to c,
-      each_time_same (clocks_seen seen) (Sat (run_seen seen reading) (conjunction_of (names_seen seen reading) ps)) (Cuts (clocks_seen seen) (slice_of operand)) from c,
-    )
-    by_operator operator.Eg h = (
-      staying_same (clocks_seen seen) (Cuts (clocks_seen seen) (slice_of operand)) (Sat (run_seen seen reading) (conjunction_of (names_seen seen reading) ps)) to c,
-      staying_same (clocks_seen seen) (Sat (run_seen seen reading) (conjunction_of (names_seen seen reading) ps)) (Cuts (clocks_seen seen) (slice_of operand)) from c,
-    )
-    by_operator (operator.Ex process) h =
-        let number = number_is seen trace reading process (there seen trace process h) in (
-          λ w. subst (λ (i : ℕ). NextTime (clocks_seen seen) i (Sat (run_seen seen reading) (conjunction_of (names_seen seen reading) ps)) c) (sym number)
-              (next_time_same (clocks_seen seen) process (Cuts (clocks_seen seen) (slice_of operand)) (Sat (run_seen seen reading) (conjunction_of (names_seen seen reading) ps)) to c w),
-          λ w. next_time_same (clocks_seen seen) process (Sat (run_seen seen reading) (conjunction_of (names_seen seen reading) ps)) (Cuts (clocks_seen seen) (slice_of operand)) from c
-              (subst (λ (i : ℕ). NextTime (clocks_seen seen) i (Sat (run_seen seen reading) (conjunction_of (names_seen seen reading) ps)) c) number w),
-        )
-    by_operator operator.Af h = absurd h
-    by_operator operator.Ax h = absurd h
+    same : (d : Cut) → IsConsistent (clocks_seen seen) d → Cuts (clocks_seen seen) (slice_of operand) d ↔ Sat (run_seen seen reading) (conjunction_of (names_seen seen reading) ps) d
+    same d consistent = let both = is.cuts reading are d in (λ h. (both.0 h).1, λ h. both.1 (consistent, h))
 
 -- an operator over an operand adds what the part asks
 pub temporal_adds : (seen : Observed) → IsTrace seen.trace.states → (o : Operator) (ps : List Piece) (operand : SliceView) (old new : List Pull) → OperatorFits (scope_seen seen) o → IsSliceOf seen operand ps
@@ -187,13 +140,3 @@ none_within (temporal o ps) h = absurd (cc)
 
 pub atom_settles : (seen : Observed) (workers : ℕ) (round : RoundView) (s : ℕ) (p : Piece) → is_atom p ≡ true → Settles seen workers round round s s (within p)
 atom_settles seen workers round s p h = subst (Settles seen workers round round s s) (sym (none_within p h)) (settles_none seen workers round s)
-
--- the process of EX is one of the run's
-pub processes_fit : (seen : Observed) → IsTrace seen.trace.states → (o : Operator) → OperatorFits (scope_seen seen) o → FitsProcesses (length (clocks_seen seen)) o
-processes_fit seen trace operator.Ef h = tt
-processes_fit seen trace operator.Ag h = tt
-processes_fit seen trace operator.Eg h = tt
-processes_fit seen trace (operator.Ex process) h =
-    omega (arith, there seen trace process h, length-lengths (clocks_seen seen), ap length (lens_same seen trace), length-map seen.trace.states.events (λ (es : List Event). length es))
-processes_fit seen trace operator.Af h = absurd h
-processes_fit seen trace operator.Ax h = absurd h

@@ -12,12 +12,12 @@ use Rattle.local_preds.specs.LocalRuns.{HasGrownAt, constant_truth}
 use Rattle.local_preds.proofs.Growing.{local_stays, never_stays}
 use Rattle.channel_preds.specs.Truth.{lens_of}
 use Rattle.channel_preds.proofs.Growing.{at_most_stays, at_least_stays}
-use Rattle.conjunctions.specs.declared.observed.Observed.{Observed}
-use Rattle.conjunctions.specs.Observing.{clocks_seen, lens_seen, scope_seen, AreFull}
-use Rattle.conjunctions.specs.Systems.{pulls_of_atom, pulls_of_part, pulls_of_parts, system_of}
+use Rattle.part_pulls.specs.declared.observed.Observed.{Observed}
+use Rattle.part_pulls.specs.Observing.{clocks_seen, lens_seen, scope_seen, AreFull}
+use Rattle.part_pulls.specs.Systems.{pulls_of_atom, pulls_of_part, pulls_of_parts, system_of}
 use Rattle.conjunctions.specs.Settling.{IsLater}
-use Rattle.conjunctions.proofs.Atoms.{lens_same, there, fits_process, is_variable}
-use Rattle.conjunctions.specs.Counters.{counter}
+use Rattle.part_pulls.proofs.Atoms.{lens_same, there, fits_process, is_variable}
+use Rattle.part_pulls.specs.Counters.{counter}
 use Rattle.counter_preds.specs.Truth as counters
 use Rattle.counter_preds.proofs.Growing as counter_growing
 

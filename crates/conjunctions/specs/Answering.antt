@@ -11,11 +11,11 @@ use Rattle.slice_graph.specs.Views.{SliceView, slice_of}
 use Rattle.slice_graph.specs.Fitting.{FitsOrder}
 use Rattle.rctl_parts.specs.Pieces.{Piece, atom, temporal, listed}
 use Rattle.rctl_parts.specs.Spelled.{formula_of, disjunction_of}
-use Rattle.conjunctions.specs.declared.observed.Observed.{Observed}
+use Rattle.part_pulls.specs.declared.observed.Observed.{Observed}
 use Rattle.conjunctions.specs.declared.answer.PartAnswer.{PartAnswer}
 use Rattle.conjunctions.specs.declared.answer.Answer.{Answer}
-use Rattle.conjunctions.specs.Observing.{Reading, AreAnswers, Satisfying, clocks_seen, run_seen}
-use Rattle.conjunctions.specs.Observing.{names_seen}
+use Rattle.part_pulls.specs.Observing.{Reading, AreAnswers, Satisfying, clocks_seen, run_seen}
+use Rattle.part_pulls.specs.Observing.{names_seen}
 
 -- the slice is that of the consistent cuts at which all of the parts are true
 pub record IsSliceOf (seen : Observed) (slice : SliceView) (ps : List Piece) : Type 0 where

@@ -1,11 +1,8 @@
 pub mod Rounds
-pub mod Observing
-pub mod Counters
 pub mod Numbering
-pub mod Systems
 pub mod Counting
+pub mod Gathering
 pub mod Beginning
 pub mod Settling
 pub mod Answering
-pub mod Operating
 pub mod Joining

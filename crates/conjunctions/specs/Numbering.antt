@@ -1,9 +1,9 @@
 -- The conjunctions of a formula in the order of their numbers: each disjunct, and before it the
 -- operands of its temporal parts in the order of the parts, each behind the operands within it.
 use Rattle.std.specs.Prelude.{Bool, true, false, ◌&&◌, ◌||◌, List, [], ◌∷◌, ◌++◌, flat_map}
-use Rattle.rctl_grammar.specs.declared.tree.Operator.{Operator}
-use Rattle.rctl_grammar.specs.declared.tree.Operator.TheVariants as operator
 use Rattle.rctl_parts.specs.Pieces.{Piece, Pieces, atom, temporal, none, more, listed}
+use Rattle.part_pulls.specs.Systems.{is_atom}
+use Rattle.part_pulls.specs.Operating.{operator_gives_order}
 
 abbrev mutual
   -- the conjunctions within a part: those within its operand, and then the operand
@@ -23,26 +23,12 @@ conjunctions_in ps = flat_map within ps ++ ps ∷ []
 abbrev pub all_conjunctions : List (List Piece) → List (List Piece)
 all_conjunctions ds = flat_map conjunctions_in ds
 
-abbrev pub is_atom : Piece → Bool
-is_atom (atom a) = true
-is_atom (temporal operator ps) = false
-
 -- none of the parts is temporal
 abbrev pub all_atoms : List Piece → Bool
 all_atoms [] = true
 all_atoms (p ∷ ps) = is_atom p && all_atoms ps
 
--- EF, AG and EG give the order: only consistent cuts are closed under the pulls of their slices. A
--- cut that is closed under those of EX need not be consistent, though the cut with the next event
--- is
-abbrev pub operator_gives_order : Operator → Bool
-operator_gives_order operator.Ef = true
-operator_gives_order operator.Ag = true
-operator_gives_order operator.Eg = true
-operator_gives_order (operator.Ex process) = false
-operator_gives_order operator.Af = false
-operator_gives_order operator.Ax = false
-
+-- the part is one of the operators whose pulls give the order
 abbrev pub part_gives_order : Piece → Bool
 part_gives_order (atom a) = false
 part_gives_order (temporal o ps) = operator_gives_order o

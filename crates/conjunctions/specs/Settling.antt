@@ -16,14 +16,14 @@ use Rattle.pull_system.specs.Vector.{IsWithin as IsVectorWithin}
 use Rattle.raise_machine.specs.Bounds.{AreBounds}
 use Rattle.slice_workers.specs.Reaching.{ReachesFirst}
 use Rattle.rctl_parts.specs.Pieces.{Piece}
-use Rattle.conjunctions.specs.declared.observed.Observed.{Observed}
+use Rattle.part_pulls.specs.declared.observed.Observed.{Observed}
 use Rattle.causal_order.specs.Growth.{HasGrown}
 use Rattle.trace_growth.specs.Laws.{StatesHaveGrown}
 use Rattle.channel_preds.specs.Truth.{HasMoreEvents}
-use Rattle.conjunctions.specs.Observing.{Reading, AreAnswers, Satisfying, clocks_seen, lens_seen}
-use Rattle.conjunctions.specs.Observing.{trace_seen}
+use Rattle.part_pulls.specs.Observing.{Reading, AreAnswers, Satisfying, clocks_seen, lens_seen}
+use Rattle.part_pulls.specs.Observing.{trace_seen}
 use Rattle.conjunctions.specs.Numbering.{all_atoms}
-use Rattle.conjunctions.specs.Systems.{system_of}
+use Rattle.part_pulls.specs.Systems.{system_of}
 use Rattle.conjunctions.specs.Rounds.{RoundView}
 use Rattle.conjunctions.specs.Counting.{bounds, first_of, steps_for}
 

@@ -8,7 +8,7 @@ ghost use Rattle.slice_graph.specs.Fitting.{FitsOrder};
 ghost use Rattle.slice_graph.specs.PullLists.{pulls_of_slice};
 ghost use Rattle.rctl_parts.specs.Pieces.{pieces_of};
 ghost use Rattle.conjunctions.specs.Numbering.{gives_order};
-ghost use Rattle.conjunctions.specs.Systems.{first_pulls};
+ghost use Rattle.conjunctions.specs.Gathering.{first_pulls};
 ghost use Rattle.conjunctions.specs.Beginning.{FloorFits};
 
 use crate::kinds::{are_atoms, give_order};

@@ -1,7 +1,9 @@
 //! What the parts of a conjunction are: atoms, and operators that give the order.
 ghost use Rattle.std.specs.Prelude.{◌≡◌};
 ghost use Rattle.rctl_parts.specs.Pieces.{piece_of, pieces_of};
-ghost use Rattle.conjunctions.specs.Numbering.{is_atom, all_atoms, operator_gives_order};
+ghost use Rattle.part_pulls.specs.Operating.{operator_gives_order};
+ghost use Rattle.part_pulls.specs.Systems.{is_atom};
+ghost use Rattle.conjunctions.specs.Numbering.{all_atoms};
 ghost use Rattle.conjunctions.specs.Numbering.{part_gives_order, gives_order};
 
 use rctl_grammar::Operator;

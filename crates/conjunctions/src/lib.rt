@@ -21,7 +21,6 @@
 
 mod answer;
 mod atom;
-mod atom_pulls;
 mod conjunction;
 mod disjuncts;
 mod floors;
@@ -29,7 +28,6 @@ mod gathered;
 mod kinds;
 mod laws;
 mod means;
-mod observed;
 mod operator;
 mod round;
 mod settling;
@@ -37,5 +35,4 @@ mod settling;
 pub use answer::{Answer, PartAnswer};
 pub use disjuncts::answer_all;
 pub use laws::{counters_are_kept, one_answer, rows_with_a_cut_are_final, settled_rows_are_kept};
-pub use observed::Observed;
 pub use round::Round;

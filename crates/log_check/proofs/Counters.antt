@@ -32,7 +32,7 @@ use Rattle.rctl_parts.specs.Spelled.{formula_in, formulas_in, local_formula, ato
 use Rattle.rctl_class.specs.Counters.{Counter, counters_of, all_counters, parts_counters, disjuncts_counters, HaveSameMembers}
 use Rattle.rctl_names.specs.Seen.{names_of, variables_in}
 use Rattle.rctl_names.specs.Resolving.{scope_of}
-use Rattle.conjunctions.specs.Counters as parts
+use Rattle.part_pulls.specs.Counters as parts
 use Rattle.log_judgement.specs.Counters.{variable_in, counters_in}
 use Rattle.log_judgement.proofs.Rising.{Rises, kept_for}
 use Rattle.log_check.specs.Keeping.{HaveCounters}

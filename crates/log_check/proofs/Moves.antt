@@ -32,7 +32,7 @@ use Rattle.report_lines.specs.Formula.{IsCanonical}
 use Rattle.run_request.specs.declared.formula.Stated.{Stated}
 use Rattle.run_request.specs.Questions.{IsStated}
 use Rattle.run_report.specs.Reports.{counted}
-use Rattle.conjunctions.specs.Observing.{AreAnswers}
+use Rattle.part_pulls.specs.Observing.{AreAnswers}
 use Rattle.log_judgement.specs.declared.refusal.Refusal.{Refusal}
 use Rattle.log_judgement.specs.declared.refusal.Refusal.TheVariants as refusal
 use Rattle.rctl_grammar.specs.declared.fault.FormulaFault.{FormulaFault}

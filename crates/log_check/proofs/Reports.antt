@@ -14,9 +14,9 @@ use Rattle.rctl_class.specs.Nodes.{formula_of}
 use Rattle.rctl_names.specs.Seen as names
 use Rattle.report.specs.declared.report.Report.{Report}
 use Rattle.conjunctions.specs.declared.answer.Answer.{Answer}
-use Rattle.conjunctions.specs.declared.observed.Observed.{Observed}
-use Rattle.conjunctions.specs.Counters.{CountersRise}
-use Rattle.conjunctions.specs.Observing.{Reading, AreAnswers, IsReady, trace_seen, run_seen}
+use Rattle.part_pulls.specs.declared.observed.Observed.{Observed}
+use Rattle.part_pulls.specs.Counters.{CountersRise}
+use Rattle.part_pulls.specs.Observing.{Reading, AreAnswers, IsReady, trace_seen, run_seen}
 use Rattle.conjunctions.specs.Answering.{IsAnswer}
 use Rattle.run_report.specs.Reports.{Asked, IsReportOn}
 use Rattle.answer_report.specs.declared.wanted.Wanted.{Wanted}

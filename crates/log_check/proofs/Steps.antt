@@ -28,7 +28,7 @@ use Rattle.log_judgement.specs.declared.refusal.Refusal.TheVariants as refusal
 use Rattle.counter_preds.specs.Falls.{fall_fault}
 use Rattle.rctl_parts.specs.Pieces as piece
 use Rattle.rctl_class.specs.Nodes.{formula_of}
-use Rattle.conjunctions.specs.Counters as parts
+use Rattle.part_pulls.specs.Counters as parts
 use Rattle.session.specs.Growing.{GrowingView, first_fault}
 use Rattle.log_judgement.specs.Counters.{counters_in}
 use Rattle.log_judgement.specs.Judgement.{Prefix, followed_by, states_of, clock_fault, fault_behind, with_clocks, waiting, growing, refused, opened}

@@ -16,9 +16,9 @@ use Rattle.rctl_class.specs.Classed.{EachAlike}
 use Rattle.rctl_class.specs.Counters.{Counter, counters_of, HaveSameMembers}
 use Rattle.rctl_class.specs.Nodes.{formula_of}
 use Rattle.rctl_names.specs.Seen as names
-use Rattle.conjunctions.specs.declared.observed.Observed.{Observed}
-use Rattle.conjunctions.specs.Counters as parts
-use Rattle.conjunctions.specs.Observing.{Reading, AreAnswers, AreFull}
+use Rattle.part_pulls.specs.declared.observed.Observed.{Observed}
+use Rattle.part_pulls.specs.Counters as parts
+use Rattle.part_pulls.specs.Observing.{Reading, AreAnswers, AreFull}
 use Rattle.run_report.specs.Reports.{counted}
 use Rattle.log_judgement.specs.Counters.{variable_in}
 use Rattle.log_judgement.specs.Judgement.{Prefix, followed_by, Judgement, waiting, growing}

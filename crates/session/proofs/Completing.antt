@@ -3,7 +3,7 @@ use Rattle.std.proofs.Common.{◌≡◌, ℕ, Bool, List, Option, refl, subst}
 use Rattle.event_log.specs.States.{StatesView}
 use Rattle.local_preds.specs.LocalRuns as local
 use Rattle.watch_feeding.specs.Fed.{RowsHaveGrown}
-use Rattle.conjunctions.specs.declared.observed.Observed.{Observed}
+use Rattle.part_pulls.specs.declared.observed.Observed.{Observed}
 use Rattle.session.specs.Growing.{Completes}
 
 -- what was observed, with other rows

@@ -11,8 +11,8 @@ use Rattle.vector_clock.proofs.Receipts.{run_events}
 use Rattle.trace_growth.specs.Growing.{TraceView, IsTrace}
 use Rattle.local_preds.specs.Rows.{len_at}
 use Rattle.watch_feeding.specs.Fed.{HaveRows}
-use Rattle.conjunctions.specs.declared.observed.Observed.{Observed}
-use Rattle.conjunctions.specs.Observing.{Reading, AreAnswers, AreFull, states_seen}
+use Rattle.part_pulls.specs.declared.observed.Observed.{Observed}
+use Rattle.part_pulls.specs.Observing.{Reading, AreAnswers, AreFull, states_seen}
 use Rattle.conjunctions.specs.Settling.{IsLater}
 use Rattle.session.specs.Fed.{row_of, Feeds, AreFedFrom, AnswersAs}
 

@@ -19,11 +19,11 @@ use Rattle.rctl_parts.specs.declared.part.Part.{Part}
 use Rattle.rctl_parts.specs.Pieces.{Piece, disjuncts_of}
 use Rattle.rctl_parts.specs.MadeFor.{AllFit, AreMadeFor}
 use Rattle.watch_feeding.specs.Fed.{HaveRows}
-use Rattle.conjunctions.specs.declared.observed.Observed.{Observed}
+use Rattle.part_pulls.specs.declared.observed.Observed.{Observed}
 use Rattle.conjunctions.specs.declared.answer.Answer.{Answer}
-use Rattle.conjunctions.specs.Observing.{AreFull, scope_seen}
+use Rattle.part_pulls.specs.Observing.{AreFull, scope_seen}
 use Rattle.conjunctions.specs.Numbering.{all_conjunctions}
-use Rattle.conjunctions.specs.Counters.{CountersRise, counters_of}
+use Rattle.part_pulls.specs.Counters.{CountersRise, counters_of}
 use Rattle.conjunctions.specs.Settling.{IsSettled, AreSettled, AreFloors, IsLater}
 use Rattle.conjunctions.specs.Answering.{IsAnswer}
 use Rattle.session.specs.Growing.{GrowingView, counter_fault, opened_observed, Stands, Keeps, Completes, TakesBatch, HasAnswer}

@@ -11,10 +11,10 @@ use Rattle.local_preds.specs.Rows.{len_at}
 use Rattle.rctl_grammar.specs.declared.tree.Operator.{Operator}
 use Rattle.rctl_parts.specs.Pieces.{Piece, atom, temporal, listed}
 use Rattle.slice_graph.specs.Views.{SliceView}
-use Rattle.conjunctions.specs.declared.observed.Observed.{Observed}
+use Rattle.part_pulls.specs.declared.observed.Observed.{Observed}
 use Rattle.conjunctions.specs.declared.answer.Answer.{Answer}
 use Rattle.conjunctions.specs.declared.answer.PartAnswer.{PartAnswer}
-use Rattle.conjunctions.specs.Observing.{clocks_seen, states_seen}
+use Rattle.part_pulls.specs.Observing.{clocks_seen, states_seen}
 use Rattle.conjunctions.specs.Settling.{IsLater}
 use Rattle.conjunctions.specs.Answering.{IsSliceOf, Place, IsOperand, IsPartAnswer, ArePartAnswers, IsAnswer, all_places}
 use Rattle.session.specs.Fed.{row_of, IsOneTrace}

@@ -20,10 +20,10 @@ use Rattle.counter_preds.proofs.Clockless.{same_fall}
 use Rattle.rctl_parts.specs.Pieces.{Atom, Piece, Pieces, atom, temporal, none, more, disjuncts_of}
 use Rattle.rctl_parts.specs.Pieces.{local, at_most, at_least, never, diff_at_most, diff_at_least}
 use Rattle.rctl_parts.specs.MadeFor.{VariableFits, AtomFits, PieceFits, PiecesFit, EachFits, AllFit}
-use Rattle.conjunctions.specs.declared.observed.Observed.{Observed}
-use Rattle.conjunctions.specs.Observing.{scope_seen}
+use Rattle.part_pulls.specs.declared.observed.Observed.{Observed}
+use Rattle.part_pulls.specs.Observing.{scope_seen}
 use Rattle.session.specs.Growing.{GrowingView, Keeps, counter_fault, first_fault}
-use Rattle.conjunctions.specs.Counters.{CountersRise, counter, counters_of_atom, counters_of_part, counters_of_operand, counters_of_parts, counters_of}
+use Rattle.part_pulls.specs.Counters.{CountersRise, counter, counters_of_atom, counters_of_part, counters_of_operand, counters_of_parts, counters_of}
 
 -- ---- each counter is a variable of the trace
 

@@ -12,7 +12,7 @@ use Rattle.channel_preds.specs.Truth.{HasMoreEvents}
 use Rattle.trace_growth.specs.Growing.{TraceView, FitsTrace, IsTrace, filled_for, with_trace_batch}
 use Rattle.trace_growth.specs.Laws.{StatesHaveGrown}
 use Rattle.trace_growth.proofs.Taken.{clocks_grow, states_grow}
-use Rattle.conjunctions.specs.declared.observed.Observed.{Observed}
+use Rattle.part_pulls.specs.declared.observed.Observed.{Observed}
 use Rattle.conjunctions.specs.Settling.{IsLater}
 use Rattle.session.specs.Fed.{row_of}
 

@@ -1,8 +1,8 @@
 -- Watches that are fed the states of their processes batch by batch.
 use Rattle.std.specs.Prelude.{◌≡◌, ℕ, ℤ, Bool, List, [], ◌++◌, length, take, drop, get_or}
 use Rattle.std.specs.Prelude.{slice_get, None, Some}
-use Rattle.conjunctions.specs.declared.observed.Observed.{Observed}
-use Rattle.conjunctions.specs.Observing.{Reading, AreFull, states_seen}
+use Rattle.part_pulls.specs.declared.observed.Observed.{Observed}
+use Rattle.part_pulls.specs.Observing.{Reading, AreFull, states_seen}
 use Rattle.rctl_parts.specs.Spelled.{name_at}
 
 -- the row of a watch

@@ -13,10 +13,10 @@ use Rattle.rctl_parts.specs.declared.part.Part.{Part}
 use Rattle.rctl_parts.specs.Pieces.{Piece, disjuncts_of}
 use Rattle.rctl_parts.specs.MadeFor.{AreMadeFor}
 use Rattle.watch_feeding.specs.Fed.{HaveRows, RowsHaveGrown}
-use Rattle.conjunctions.specs.declared.observed.Observed.{Observed}
+use Rattle.part_pulls.specs.declared.observed.Observed.{Observed}
 use Rattle.conjunctions.specs.declared.answer.Answer.{Answer}
-use Rattle.conjunctions.specs.Observing.{AreFull, scope_seen}
-use Rattle.conjunctions.specs.Counters.{CountersRise, counters_of}
+use Rattle.part_pulls.specs.Observing.{AreFull, scope_seen}
+use Rattle.part_pulls.specs.Counters.{CountersRise, counters_of}
 use Rattle.conjunctions.specs.Numbering.{all_conjunctions}
 use Rattle.conjunctions.specs.Settling.{AreSettled, AreFloors, IsLater}
 use Rattle.conjunctions.specs.Answering.{IsAnswer}

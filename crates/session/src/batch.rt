@@ -3,8 +3,8 @@
 ghost use Rattle.std.specs.Prelude.{◌≡◌, ◌+◌, ◌≤◌, [], false, length, IfOk, OnOk, OnErr};
 ghost use Rattle.rctl_parts.specs.Pieces.{disjuncts_of};
 ghost use Rattle.rctl_parts.specs.MadeFor.{AreMadeFor};
-ghost use Rattle.conjunctions.specs.Observing.{IsReady, lens_seen, scope_seen};
-ghost use Rattle.conjunctions.specs.Counters.{CountersRise};
+ghost use Rattle.part_pulls.specs.Observing.{IsReady, lens_seen, scope_seen};
+ghost use Rattle.part_pulls.specs.Counters.{CountersRise};
 ghost use Rattle.conjunctions.specs.Numbering.{all_conjunctions};
 ghost use Rattle.conjunctions.specs.Counting.{bounds};
 ghost use Rattle.conjunctions.specs.Settling.{AreFloors, AreSettled};
@@ -13,7 +13,8 @@ ghost use Rattle.watch_feeding.specs.Fed.{HaveRows};
 ghost use Rattle.session.specs.Growing.{Completes};
 ghost use Rattle.session.specs.Fed.{Feeds};
 
-use conjunctions::{Answer, Observed, Round, answer_all};
+use conjunctions::{Answer, Round, answer_all};
+use part_pulls::Observed;
 use pota_base::{Gate, List, NoMemory, Steps};
 use rctl_parts::Part;
 use slice_workers::Settled;

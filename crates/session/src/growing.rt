@@ -3,13 +3,14 @@ ghost use Rattle.std.specs.Prelude.{◌≡◌, false, [], replicate, IfOk, List 
 ghost use Rattle.event_log.specs.States.{IsHeader};
 ghost use Rattle.rctl_parts.specs.Pieces.{disjuncts_of};
 ghost use Rattle.rctl_parts.specs.MadeFor.{AreMadeFor};
-ghost use Rattle.conjunctions.specs.Observing.{scope_seen};
+ghost use Rattle.part_pulls.specs.Observing.{scope_seen};
 ghost use Rattle.session.specs.Growing.{opened_observed, opened_growing, counter_fault};
 
 use crate::counters::counters_of;
-use conjunctions::{Answer, Observed};
+use conjunctions::Answer;
 use counter_preds::{Variable, first_fall};
 use event_log::{Event, Header, LogFault};
+use part_pulls::Observed;
 use pota_base::{List, NoMemory};
 use rctl_parts::{Part, Resolved};
 use slice_workers::Settled;
@@ -37,7 +38,7 @@ impl Model for Growing {
     ghost use Rattle.std.specs.Coded.{codes};
     ghost use Rattle.rctl_parts.specs.contracts.part.Part as e;
     ghost use Rattle.rctl_parts.specs.Pieces.{disjuncts_of};
-    ghost use Rattle.conjunctions.specs.Counters.{counters_of};
+    ghost use Rattle.part_pulls.specs.Counters.{counters_of};
     ghost use Rattle.session.specs.Growing.{GrowingView, Keeps};
 
     ghost Value = { GrowingView };

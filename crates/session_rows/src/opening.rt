@@ -6,7 +6,7 @@ ghost use Rattle.rctl_parts.specs.Pieces.{disjuncts_of as pieces_of};
 ghost use Rattle.rctl_parts.specs.MadeFor.{AreMadeFor};
 ghost use Rattle.rctl_class.specs.NamedParts.{AreDisjuncts, disjuncts_of};
 ghost use Rattle.rctl_class.specs.Nodes.{IsWithinLimits, node_of};
-ghost use Rattle.conjunctions.specs.Observing.{scope_seen};
+ghost use Rattle.part_pulls.specs.Observing.{scope_seen};
 ghost use Rattle.session.specs.Growing.{opened_observed};
 
 use event_log::Header;

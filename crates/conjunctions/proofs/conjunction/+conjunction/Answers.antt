@@ -13,24 +13,27 @@ use Rattle.rctl_parts.proofs.Rules as rules_of
 use Rattle.std.proofs.lemmas.Result.{IfOk-weaker}
 use Rattle.pull_system.specs.declared.pull.Pull.{Pull}
 use Rattle.rctl_parts.specs.MadeFor.{EachFits, parts_count}
-use Rattle.conjunctions.specs.declared.observed.Observed.{Observed}
+use Rattle.part_pulls.specs.declared.observed.Observed.{Observed}
 use Rattle.conjunctions.specs.Rounds.{RoundView}
 use Rattle.conjunctions.specs.Settling.{AreFloors, Settles}
 use Rattle.conjunctions.specs.Beginning.{FloorFits}
 use Rattle.conjunctions.proofs.Beginning.{floor_more}
 use Rattle.conjunctions.proofs.InTurn.{settles_on}
 use Rattle.conjunctions.proofs.Settled.{slice_settled, rows_settled}
-use Rattle.conjunctions.proofs.Gathering.{PartsAdded, added_none, added_more, splits_at, taken_more, length-taken, fits_at, count_at, floors_at, floors_last}
-use Rattle.conjunctions.proofs.Ending.{begins_with_order, first_pulls_are, pulls_fit, pulls_count, pulls_have_order, can_begin_by, settles_one_by, taken_all, few_parts}
+use Rattle.part_pulls.proofs.Taken.{splits_at, taken_more, length-taken, fits_at, count_at, taken_all}
+use Rattle.conjunctions.proofs.Gathering.{PartsAdded, added_none, added_more, floors_at, floors_last}
+use Rattle.conjunctions.proofs.Ending.{begins_with_order, first_pulls_are, pulls_fit, pulls_count, pulls_have_order, can_begin_by, settles_one_by, few_parts}
 use Rattle.conjunctions.specs.declared.answer.PartAnswer.{PartAnswer}
-use Rattle.conjunctions.specs.Numbering.{is_atom, gives_order, within, conjunctions_in}
+use Rattle.part_pulls.specs.Systems.{is_atom}
+use Rattle.conjunctions.specs.Numbering.{gives_order, within, conjunctions_in}
 use Rattle.conjunctions.specs.Answering.{IsSliceOf, IsPartAnswer, place}
-use Rattle.conjunctions.specs.Observing.{clocks_seen, lens_seen, scope_seen}
-use Rattle.conjunctions.specs.Systems.{AddsPulls, first_pulls}
-use Rattle.conjunctions.specs.Counters.{AllRise, counters_of_parts}
-use Rattle.conjunctions.specs.Operating.{Operated, FitsProcesses, AddsOperator}
-use Rattle.conjunctions.proofs.Rising.{temporal_rises, rises_at}
-use Rattle.conjunctions.proofs.Parts.{temporal_fits, temporal_count, temporal_floors, temporal_settles, atom_settles, processes_fit, temporal_adds, temporal_answer, atom_answer}
+use Rattle.part_pulls.specs.Observing.{clocks_seen, lens_seen, scope_seen}
+use Rattle.conjunctions.specs.Gathering.{AddsPulls, first_pulls, AddsOperator}
+use Rattle.part_pulls.specs.Counters.{AllRise, counters_of_parts}
+use Rattle.part_pulls.specs.Operating.{Operated, FitsProcesses}
+use Rattle.part_pulls.proofs.Rising.{temporal_rises, rises_at}
+use Rattle.part_pulls.proofs.Operators.{processes_fit}
+use Rattle.conjunctions.proofs.Parts.{temporal_fits, temporal_count, temporal_floors, temporal_settles, atom_settles, temporal_adds, temporal_answer, atom_answer}
 use Rattle.conjunctions.proofs.conjunction.+conjunction.Goals as goal
 
 pub add_part-settle_conjunction-requires-clause-fits : goal.add_part-settle_conjunction-requires-clause-fits

@@ -9,13 +9,14 @@ use Rattle.rctl_parts.specs.Pieces.{Piece, pieces_of, disjuncts_of}
 use Rattle.std.proofs.lemmas.List.{length-map}
 use Rattle.rctl_parts.specs.declared.part.Part.{Part}
 use Rattle.rctl_parts.specs.MadeFor.{AllFit, EachFits, parts_count, disjuncts_count}
-use Rattle.conjunctions.specs.Observing.{clocks_seen, lens_seen, scope_seen}
+use Rattle.part_pulls.specs.Observing.{clocks_seen, lens_seen, scope_seen}
 use Rattle.conjunctions.specs.Numbering.{conjunctions_in, all_conjunctions}
 use Rattle.conjunctions.specs.Joining.{so_far}
-use Rattle.conjunctions.specs.Counters.{AllRise, CountersRise, counters_of_parts}
-use Rattle.conjunctions.proofs.Ending.{is_order}
-use Rattle.conjunctions.proofs.Rising.{disjunct_rises}
-use Rattle.conjunctions.proofs.Answered.{Answered, answered_none, answered_more, answered_all, disjunct_at, disjuncts_taken, length-disjuncts, all_taken, disjunct_fits, disjunct_count, disjunct_floors, joins, same_lens}
+use Rattle.part_pulls.specs.Counters.{AllRise, CountersRise, counters_of_parts}
+use Rattle.part_pulls.proofs.Readings.{is_order}
+use Rattle.part_pulls.proofs.Rising.{disjunct_rises}
+use Rattle.part_pulls.proofs.Taken.{disjunct_at, disjuncts_taken, length-disjuncts, all_taken, disjunct_fits, disjunct_count}
+use Rattle.conjunctions.proofs.Answered.{Answered, answered_none, answered_more, answered_all, disjunct_floors, joins, same_lens}
 use Rattle.conjunctions.proofs.disjuncts.answer_all.Goals as goal
 
 pub disjuncts-init : goal.disjuncts-init

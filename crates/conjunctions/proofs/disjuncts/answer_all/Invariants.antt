@@ -1,6 +1,6 @@
 use Rattle.std.proofs.Common.{take}
 use Rattle.rctl_parts.specs.Pieces.{disjuncts_of}
-use Rattle.conjunctions.specs.Observing.{lens_seen}
+use Rattle.part_pulls.specs.Observing.{lens_seen}
 use Rattle.conjunctions.specs.Joining.{so_far}
 use Rattle.conjunctions.proofs.Answered.{Answered}
 use Rattle.conjunctions.proofs.disjuncts.answer_all.Given as goal

@@ -1,5 +1,5 @@
 use Rattle.std.proofs.Common.{refl}
-use Rattle.conjunctions.proofs.Finals.{zero_at}
+use Rattle.part_pulls.proofs.Firsts.{zero_at}
 use Rattle.conjunctions.proofs.floors.no_rows.Goals as goal
 
 pub returns : goal.returns

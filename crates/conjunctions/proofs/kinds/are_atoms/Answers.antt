@@ -1,7 +1,7 @@
 use Rattle.std.proofs.Common.{take, sym, ◌∙◌, ap}
 use Rattle.rctl_parts.specs.Pieces.{piece_of, pieces_of}
 use Rattle.conjunctions.specs.Numbering.{all_atoms}
-use Rattle.conjunctions.proofs.Gathering.{splits_at, taken_more}
+use Rattle.part_pulls.proofs.Taken.{splits_at, taken_more}
 use Rattle.conjunctions.proofs.Ending.{some_temporal, all_and_one}
 use Rattle.conjunctions.proofs.kinds.are_atoms.Goals as goal
 

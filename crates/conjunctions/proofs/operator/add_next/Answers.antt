@@ -5,7 +5,8 @@ use Rattle.run_model.proofs.Counts.{length-lengths}
 use Rattle.slice_graph.specs.Views.{slice_of}
 use Rattle.pull_system.specs.Fans.{pulls_of_fans}
 use Rattle.conjunctions.proofs.Beginning.{floor_more}
-use Rattle.conjunctions.proofs.Asking.{next_adds, first_next}
+use Rattle.part_pulls.proofs.Firsts.{first_next}
+use Rattle.conjunctions.proofs.Asking.{next_adds}
 use Rattle.conjunctions.proofs.operator.add_next.Goals as goal
 
 pub ex_fans-requires-clause-process : goal.ex_fans-requires-clause-process

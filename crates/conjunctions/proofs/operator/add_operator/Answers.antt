@@ -4,7 +4,7 @@ use Rattle.run_model.specs.Cut.{initial}
 use Rattle.run_model.specs.Slice.{Cuts}
 use Rattle.rctl_grammar.specs.declared.tree.Operator.{Operator}
 use Rattle.slice_graph.specs.Views.{slice_of}
-use Rattle.conjunctions.specs.Operating.{Operated}
+use Rattle.part_pulls.specs.Operating.{Operated}
 use Rattle.conjunctions.proofs.operator.add_operator.Goals as goal
 
 pub returns-in-Ex-clause-truth : goal.returns-in-Ex-clause-truth

@@ -1,6 +1,6 @@
 use Rattle.std.proofs.Common.{◌≡◌, ◌++◌, take}
 use Rattle.rctl_parts.specs.Pieces.{pieces_of}
-use Rattle.conjunctions.specs.Counters.{counters_of_parts}
+use Rattle.part_pulls.specs.Counters.{counters_of_parts}
 use Rattle.session.proofs.counters.+counters.Given as goal
 
 abbrev pub invariant-push_counters-parts : goal.invariant-push_counters-parts

@@ -1,6 +1,6 @@
 use Rattle.std.proofs.Common.{◌∙◌, ap}
 use Rattle.rctl_parts.specs.Pieces.{disjuncts_of}
-use Rattle.conjunctions.specs.Counters.{counters_of}
+use Rattle.part_pulls.specs.Counters.{counters_of}
 use Rattle.session.proofs.Going.{keeps_new}
 use Rattle.session.proofs.growing.Growing.new.Goals as goal
 

@@ -1,6 +1,6 @@
 use Rattle.std.proofs.Common.{sym, subst}
-use Rattle.conjunctions.specs.declared.observed.Observed.{Observed}
-use Rattle.conjunctions.specs.Observing.{AreAnswers}
+use Rattle.part_pulls.specs.declared.observed.Observed.{Observed}
+use Rattle.part_pulls.specs.Observing.{AreAnswers}
 use Rattle.session.proofs.session.Session.extend.Goals as goal
 
 pub returns-clause-answers : goal.returns-clause-answers

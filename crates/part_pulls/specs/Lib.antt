@@ -1,0 +1,4 @@
+pub mod Observing
+pub mod Counters
+pub mod Systems
+pub mod Operating
