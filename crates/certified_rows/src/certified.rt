@@ -1,10 +1,11 @@
 //! Rows that are begun and raised.
 ghost use Rattle.std.specs.Prelude.{◌≡◌, ◌↔◌, ◌+◌, ◌<◌, ◌≤◌, false, length, sum, IfOk, IsTrue};
-ghost use Rattle.pull_system.specs.System.{HoldsPull, IsClosed};
+ghost use Rattle.pull_system.specs.System.{HoldsPull, IsClosed, source_of};
 ghost use Rattle.pull_system.specs.Rows.{AreLeastRows};
-ghost use Rattle.certified_rows.specs.Begun.{AreOfOneProcess, IsWhole, LastIsClosed, MayBegin};
-ghost use Rattle.certified_rows.specs.Begun.{MayFollow, MayRaise, fresh_rows, present_row};
-ghost use Rattle.certified_rows.specs.Begun.{with_raise, with_row};
+ghost use Rattle.raise_machine.specs.Bounds.{word_at};
+ghost use Rattle.certified_rows.specs.Begun.{AreCertified, AreOfOneProcess, IsWhole, LastIsClosed};
+ghost use Rattle.certified_rows.specs.Begun.{MayBegin, MayFollow, MayRaise, fresh_rows, present};
+ghost use Rattle.certified_rows.specs.Begun.{present_row, with_raise, with_row};
 
 use crate::lending::lend_from;
 use pota_base::{NoMemory, Steps};
@@ -58,9 +59,17 @@ impl CertifiedRows {
         if !self.may_begin(row, after, steps) {
             return false;
         }
+        self.begin_next(row, after);
+        true
+    }
+
+    /// Begins the row, which may begin behind the other. It looks up no pull.
+    pub fn begin_next(&mut self, row: u32, after: Option<u32>)
+        requires { MayBegin self.old row after }
+        ensures { self.new ≡ with_row self.old row after }
+    {
         lend_from(&mut self.rows, after, row);
         self.begun += 1;
-        true
     }
 
     /// Raises the present row by what pull `k` asks for at `x`, and says whether it may. It looks up
@@ -97,9 +106,17 @@ impl CertifiedRows {
         self.begun == self.system.shape().events() + 1 && self.last_is_closed(steps)
     }
 
+    /// How many rows were begun.
+    pub fn begun(&self) -> u32
+        ensures { result ≡ self.now.begun }
+    {
+        self.begun
+    }
+
     /// Lends the system.
     pub fn system(&self) -> &System
-        ensures { result.now ≡ self.now.system }
+        ensures system { result.now ≡ self.now.system }
+        ensures certified { AreCertified self.now }
     {
         &self.system
     }
@@ -165,7 +182,7 @@ impl CertifiedRows {
     }
 
     /// Whether pull `k` holds at the present row.
-    fn holds<L: Ledger>(&self, k: u32, steps: &mut Steps<L>) -> bool
+    pub fn holds<L: Ledger>(&self, k: u32, steps: &mut Steps<L>) -> bool
         requires begun { 0 < self.now.begun }
         requires pull { k < length self.now.system.pulls }
         ensures holds { IsTrue result ↔ HoldsPull self.now.system (present_row self.now) k }
@@ -175,5 +192,16 @@ impl CertifiedRows {
         let (source, target) = self.system.ends(k);
         let reached = self.rows.word(row, source);
         self.system.pull(k, reached, steps) <= self.rows.word(row, target)
+    }
+
+    /// The number of the present row at the source of pull `k`.
+    pub fn reached(&self, k: u32) -> u32
+        requires begun { 0 < self.now.begun }
+        requires pull { k < length self.now.system.pulls }
+        ensures { result ≡ word_at self.now.system.lens self.now.words (present self.now)
+            (source_of self.now.system k) }
+    {
+        let (source, _) = self.system.ends(k);
+        self.rows.word(self.begun - 1, source) as u32
     }
 }
