@@ -1,0 +1,4 @@
+mod Picks
+pub mod Lines
+pub mod Accepting
+pub mod OneAnswer

@@ -1,0 +1,65 @@
+-- The bytes of a certificate up to the end of the input: those that are accepted, and the line at
+-- which others are refused.
+use Rattle.std.specs.Prelude.{◌≡◌, ◌⊎◌, ℕ, ◌+◌, ◌<◌, ◌≤◌, ◌==◌, Bool, true, false, List, [], ◌∷◌, ◌++◌}
+use Rattle.std.specs.Prelude.{length}
+use Rattle.std.specs.List.{AllByRecursion}
+use Rattle.certificate_lines.specs.declared.line.Line.{Line}
+use Rattle.certificate_text.specs.declared.said.Stage.{Stage}
+use Rattle.certificate_text.specs.declared.said.Stage.TheVariants as stage
+use Rattle.certificate_text.specs.Taking.{VerifierView, Justifies, IsUnjustified}
+
+-- ---- lines
+
+abbrev pub HasNoFeed : List ℕ → Type 0
+HasNoFeed bytes = AllByRecursion (λ b. b == 10 ≡ false) bytes
+
+-- no byte is a line feed, and there are at most 8,192
+pub record IsLine (bytes : List ℕ) : Type 0 where
+  pub one : HasNoFeed bytes
+  pub short : length bytes ≤ 8192
+
+abbrev pub AreLines : List (List ℕ) → Type 0
+AreLines lines = AllByRecursion IsLine lines
+
+-- ---- what is accepted
+
+-- the first where the test holds, else the other
+abbrev pub pick : Bool → Type 0 → Type 0 → Type 0
+pick true A B = A
+pick false A B = B
+
+-- accepted with this truth: from what the lines before left, with the bytes of a line so far, by
+-- the bytes that are left
+abbrev pub Judged : {N : Type 0} → (N → Line → N → Type 0) → List ℕ → VerifierView N
+    → List ℕ → Bool → Type 0
+Judged follows [] v line told = (v.stage ≡ stage.Accepted told) × (line ≡ [])
+Judged follows (b ∷ bytes) v line told = pick (b == 10)
+    ((after : VerifierView _) × Justifies follows v line after × Judged follows bytes after [] told)
+    ((length line < 8192) × Judged follows bytes v (line ++ b ∷ []) told)
+
+-- ---- what is refused
+
+abbrev pub IsAccepted : Stage → Type 0
+IsAccepted at = (told : Bool) × (at ≡ stage.Accepted told)
+
+-- no line is due any more, or the line is as long as a line may be
+abbrev pub IsFull : {N : Type 0} → VerifierView N → List ℕ → Type 0
+IsFull v line = IsAccepted v.stage ⊎ (length line ≡ 8192)
+
+-- Refused at the line of this number, from 1: it is not justified, a byte of it is one too many, or
+-- the input ends before the text does.
+abbrev pub RefusedAt : {N : Type 0} → (N → Line → N → Type 0) → List ℕ → VerifierView N
+    → List ℕ → ℕ → Type 0
+RefusedAt follows [] v line n =
+    (n ≡ v.lines + 1) × (IsAccepted v.stage → line ≡ [] → ⊥)
+RefusedAt follows (b ∷ bytes) v line n = pick (b == 10)
+    (((n ≡ v.lines + 1) × IsUnjustified follows v line)
+    ⊎ ((after : VerifierView _) × Justifies follows v line after
+    × RefusedAt follows bytes after [] n))
+    (((n ≡ v.lines + 1) × IsFull v line)
+    ⊎ ((IsFull v line → ⊥) × RefusedAt follows bytes v (line ++ b ∷ []) n))
+
+-- a line leaves one thing alone
+abbrev pub OneFollows : {N : Type 0} → (N → Line → N → Type 0) → Type 0
+OneFollows follows =
+    (v : _) (said : Line) (a b : _) → follows v said a → follows v said b → a ≡ b

@@ -1,0 +1,2 @@
+mod LittleLonger
+mod OneLine
