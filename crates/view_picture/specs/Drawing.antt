@@ -139,11 +139,20 @@ assigned s process a = variable_name s process a.variable ++ 61 ∷ signed_decim
 abbrev pub assign_text : StatesView → EventId → ℕ → List ℕ
 assign_text s e k = short (assigned s e.process (get_or (event_at s e).assigns k no_assign))
 
--- a row under the mark of an event
+abbrev pub under_back_look : List ℕ
+under_back_look =
+    codes " font-size='12' text-anchor='middle' fill='#ffffff' stroke='#ffffff' stroke-width='4'"
+
+abbrev pub under_look : List ℕ
+under_look = codes " font-size='12' text-anchor='middle' fill='#333333'"
+
+-- a row under the mark of an event, with a look
+abbrev pub row_under : Point → ℕ → List ℕ → List ℕ → List ℕ
+row_under p row look shown = text (point p.x (p.y + 33 + 12 * row)) look shown
+
+-- the row on white
 abbrev pub under : Point → ℕ → List ℕ → List ℕ
-under p row shown =
-    text (point p.x (p.y + 25 + 12 * row))
-    (codes " font-size='12' text-anchor='middle' fill='#333333'") shown
+under p row shown = row_under p row under_back_look shown ++ row_under p row under_look shown
 
 -- that there are more assignments than are shown
 abbrev pub more_under : Point → ℕ → List ℕ
@@ -201,9 +210,9 @@ step_back_look =
 abbrev pub step_look : List ℕ
 step_look = codes " font-size='12' font-weight='bold' text-anchor='end' fill='#b35900'"
 
--- a number at the upper left of a mark
+-- a number at the left of a mark
 abbrev pub numeral : Point → ℕ → List ℕ → List ℕ
-numeral p number look = text (point (p.x - 8) (p.y - 13)) look (decimal number)
+numeral p number look = text (point (p.x - 14) (p.y + 4)) look (decimal number)
 
 -- the number of a step at its mark, on white
 abbrev pub numbered : Point → ℕ → List ℕ

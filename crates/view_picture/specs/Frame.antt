@@ -40,7 +40,7 @@ frame_of s rows r = record {
   wide = are_wide rows;
   width =
       max (max (column_at (left_of s) (are_wide rows) (most rows) + 60) (heading_width r)) 440;
-  height = 150 + 96 * length s.header.procs + 50;
+  height = 150 + 96 * length s.header.procs + 60;
 }
 
 abbrev pub lane : ℕ → ℕ

@@ -162,15 +162,15 @@ one_drawn f rows (Some w) =
 
 -- ---- the whole
 
--- each lane, then the arrows below the marks, and what stands above them
+-- each lane, then what runs across them, and above that the marks
 abbrev pub body : StatesView → Frame → Rows → Report → List ℕ
 body s f rows r =
     each_below (length s.header.procs) (lane_drawn s f)
     ++ flat_map (arrow_to s f rows) (places (map length s.events))
     ++ flat_map (edge_drawn f rows) (take most_edges (edges_of r.slice))
-    ++ flat_map (mark s f rows (top_of r.slice)) (places (map length s.events))
     ++ slice_drawn f rows r.slice
     ++ one_drawn f rows (first_drawn r.witnesses)
+    ++ flat_map (mark s f rows (top_of r.slice)) (places (map length s.events))
     ++ edges_note f (length (edges_of r.slice) - most_edges)
 
 -- the picture of a run by a report of it, where these are the columns of its events

@@ -79,7 +79,7 @@ impl Frame {
             width: (Frame::column_at(left, wide, most) + 60)
                 .max(heading)
                 .max(440),
-            height: TOP + LANE * procs.len() as u64 + 50,
+            height: TOP + LANE * procs.len() as u64 + 60,
         }
     }
 

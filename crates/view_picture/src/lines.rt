@@ -64,7 +64,7 @@ pub fn put_cut(
     out.extend_from_slice(b"/>\n")
 }
 
-// Appends a number at the upper left of a mark.
+// Appends a number at the left of a mark.
 fn put_numeral(
     out: &mut Bytes,
     alloc: Global,
@@ -72,19 +72,21 @@ fn put_numeral(
     number: u64,
     look: &[u8],
 ) -> Result<(), NoMemory>
+    requires { at.y < 2 ^ 40 }
     ensures { OnOk result (out.new ≡ out.old ++ numeral at number look.now) }
 {
     let mut digits = Bytes::new(alloc);
     put_u64(&mut digits, number)?;
     let corner = Point {
-        x: at.x.saturating_sub(8),
-        y: at.y.saturating_sub(13),
+        x: at.x.saturating_sub(14),
+        y: at.y + 4,
     };
     put_text(out, corner, look, digits.as_slice())
 }
 
-// Appends the number of a step at its mark, on white, since arrows run behind it.
+// Appends the number of a step at its mark, on white, since its lane runs behind it.
 fn put_numbered(out: &mut Bytes, alloc: Global, at: Point, number: u64) -> Result<(), NoMemory>
+    requires { at.y < 2 ^ 40 }
     ensures { OnOk result (out.new ≡ out.old ++ numbered at number) }
 {
     put_numeral(

@@ -149,7 +149,7 @@ fn assign_text(alloc: Global, states: &States, event: EventId, k: usize) -> Resu
     Ok(text)
 }
 
-// Appends a row under the mark of an event.
+// Appends a row under the mark of an event, on white, since arrows and cuts run behind it.
 fn put_under(out: &mut Bytes, at: Point, row: usize, shown: &[u8]) -> Result<(), NoMemory>
     requires high { at.y < 2 ^ 40 }
     requires row { row ≤ 3 }
@@ -157,8 +157,14 @@ fn put_under(out: &mut Bytes, at: Point, row: usize, shown: &[u8]) -> Result<(),
 {
     let below = Point {
         x: at.x,
-        y: at.y + 25 + 12 * row as u64,
+        y: at.y + 33 + 12 * row as u64,
     };
+    put_text(
+        out,
+        below,
+        b" font-size='12' text-anchor='middle' fill='#ffffff' stroke='#ffffff' stroke-width='4'",
+        shown,
+    )?;
     put_text(
         out,
         below,

@@ -173,7 +173,6 @@ fn put_body(
     put_lanes(out, states, frame)?;
     put_arrows(out, trace, columns, frame)?;
     put_edges(out, columns, frame, edges)?;
-    put_marks(out, &marked)?;
     put_slice(out, columns, frame, &report.slice)?;
     put_one(
         out,
@@ -182,6 +181,7 @@ fn put_body(
         frame,
         first_drawn(report.witnesses.as_slice()),
     )?;
+    put_marks(out, &marked)?;
     put_edges_note(out, alloc, frame, edges.len().saturating_sub(MOST_EDGES))
 }
 
