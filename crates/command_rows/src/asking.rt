@@ -3,8 +3,18 @@
 use command_words::{Form, Inquiry, Product, Request, Shown, Sizes, Task, read_request};
 use std::alloc::{AllocError, Global};
 
-fn shown_text(alloc: Global, shown: &Shown) -> Result<String, AllocError> {
+// How the input is read, where that isn't as the text of one log.
+fn form_text(form: Form) -> &'static str {
+    match form {
+        Form::Text => "",
+        Form::Clocks => " vclog",
+        Form::Merged => " merged",
+    }
+}
+
+fn reports_text(alloc: Global, form: Form, shown: &Shown) -> Result<String, AllocError> {
     let mut text = String::from_str(alloc, "check")?;
+    text.push_str(form_text(form))?;
     if shown.slice {
         text.push_str(" slice")?;
     }
@@ -18,8 +28,8 @@ fn shown_text(alloc: Global, shown: &Shown) -> Result<String, AllocError> {
 }
 
 fn inquiry_text(alloc: Global, inquiry: &Inquiry) -> Result<String, AllocError> {
-    match (&inquiry.form, &inquiry.product) {
-        (Form::Text, Product::Reports(shown)) => shown_text(alloc, shown),
+    match &inquiry.product {
+        Product::Reports(shown) => reports_text(alloc, inquiry.form, shown),
     }
 }
 

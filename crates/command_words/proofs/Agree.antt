@@ -97,6 +97,8 @@ values_agree words g e = ap values_in (matches_end words g e) ∙ same
       slice = flag_stands (codes "slice") top.rules g.uses i;
       witness = flag_stands (codes "witness") top.rules g.uses i;
       each_batch = flag_stands (codes "each-batch") top.rules g.uses i;
+      vclog = flag_stands (codes "vclog") top.rules g.uses i;
+      merged = flag_stands (codes "merged") top.rules g.uses i;
     }
 
 -- `clap` takes the words of the rule

@@ -33,10 +33,16 @@ witness = record { spells = record { long = refl; other = refl }; long = refl; c
 each_batch : IsFlag top (codes "each-batch")
 each_batch = record { spells = record { long = refl; other = refl }; long = refl; command = refl; formula = refl }
 
+vclog : IsFlag top (codes "vclog")
+vclog = record { spells = record { long = refl; other = refl }; long = refl; command = refl; formula = refl }
+
+merged : IsFlag top (codes "merged")
+merged = record { spells = record { long = refl; other = refl }; long = refl; command = refl; formula = refl }
+
 pub arguments : HasArguments top
 arguments = record {
   of_options = (workers, (seed, (procs, (events, tt))));
-  of_flags = (slice, (witness, (each_batch, tt)));
+  of_flags = (slice, (witness, (each_batch, (vclog, (merged, tt)))));
   first = record { index = refl; id = refl };
   second = record { index = refl; id = refl };
 }

@@ -66,4 +66,6 @@ values_in rows = record {
   slice = stands_in (codes "slice") rows;
   witness = stands_in (codes "witness") rows;
   each_batch = stands_in (codes "each-batch") rows;
+  vclog = stands_in (codes "vclog") rows;
+  merged = stands_in (codes "merged") rows;
 }

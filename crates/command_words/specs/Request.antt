@@ -4,6 +4,7 @@ use Rattle.std.specs.Prelude.{option_and_then, codes, if◌then◌else◌}
 use Rattle.std.specs.Str.{bytes_eq}
 use Rattle.command_words.specs.declared.request.Task.{Task}
 use Rattle.command_words.specs.declared.request.Task.TheVariants.{Read, Bench}
+use Rattle.command_words.specs.declared.request.Form.{Form}
 use Rattle.command_words.specs.declared.request.Form.TheVariants as form
 use Rattle.command_words.specs.declared.request.Product.TheVariants.{Reports}
 use Rattle.command_words.specs.declared.request.Shown.{Shown}
@@ -21,6 +22,8 @@ pub record Values : Type 0 where
   pub slice : Bool
   pub witness : Bool
   pub each_batch : Bool
+  pub vclog : Bool
+  pub merged : Bool
 
 -- the values that the rule gives
 abbrev pub values_of : Given → Values
@@ -34,20 +37,35 @@ values_of g = record {
   slice = is_used (codes "slice") g.uses;
   witness = is_used (codes "witness") g.uses;
   each_batch = is_used (codes "each-batch") g.uses;
+  vclog = is_used (codes "vclog") g.uses;
+  merged = is_used (codes "merged") g.uses;
 }
 
 -- what the flags show
 abbrev pub shown_of : Values → Shown
 shown_of v = record { slice = v.slice; witness = v.witness; each_batch = v.each_batch }
 
+-- one of the three options of `bench` stands
+abbrev pub has_sizes : Values → Bool
+has_sizes v = is_some v.seed || is_some v.procs || is_some v.events
+
+-- a flag stands
+abbrev pub has_flags : Values → Bool
+has_flags v = v.slice || v.witness || v.each_batch || v.vclog || v.merged
+
+-- how the input is read; several logs have no records of two lines, and no reports batch by batch
+abbrev pub form_of : Values → Option Form
+form_of v = if v.merged then (if v.vclog || v.each_batch then None else Some form.Merged)
+    else if v.vclog then Some form.Clocks else Some form.Text
+
 -- `check` takes the flags, and none of the three options of `bench`
 abbrev pub check_of : Values → Option Task
-check_of v = if is_some v.seed || is_some v.procs || is_some v.events then None
-    else Some (Read (record { form = form.Text; product = Reports (shown_of v) }))
+check_of v = if has_sizes v then None
+    else option_map (λ f. Read (record { form = f; product = Reports (shown_of v) })) (form_of v)
 
 -- `bench` takes no flag, and wants its three options
 abbrev pub bench_of : Values → Option Task
-bench_of v = if v.slice || v.witness || v.each_batch then None
+bench_of v = if has_flags v then None
     else option_map Bench (sizes_of v.seed v.procs v.events)
 
 abbrev pub task_of : Text → Values → Option Task

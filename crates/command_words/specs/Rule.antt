@@ -15,7 +15,7 @@ options = codes "workers" ∷ codes "seed" ∷ codes "procs" ∷ codes "events" 
 
 -- a flag stands by itself
 abbrev pub flags : List Text
-flags = codes "slice" ∷ codes "witness" ∷ codes "each-batch" ∷ []
+flags = codes "slice" ∷ codes "witness" ∷ codes "each-batch" ∷ codes "vclog" ∷ codes "merged" ∷ []
 
 -- the word that stands for an option or a flag: its name behind `--`
 abbrev pub spelled : Text → Text

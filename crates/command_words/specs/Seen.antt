@@ -45,6 +45,8 @@ values_seen v = record {
   slice = v.slice;
   witness = v.witness;
   each_batch = v.each_batch;
+  vclog = v.vclog;
+  merged = v.merged;
 }
 
 abbrev pub request_seen : Request → Wanted

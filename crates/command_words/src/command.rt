@@ -100,7 +100,9 @@ fn with_flags<'a>(alloc: Global, command: Command<'a>) -> Result<Command<'a>, Al
 {
     let command = with_flag(alloc, command, "slice")?;
     let command = with_flag(alloc, command, "witness")?;
-    with_flag(alloc, command, "each-batch")
+    let command = with_flag(alloc, command, "each-batch")?;
+    let command = with_flag(alloc, command, "vclog")?;
+    with_flag(alloc, command, "merged")
 }
 
 /// The command with all its arguments.

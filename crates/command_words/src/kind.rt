@@ -44,6 +44,10 @@ pub fn kind_of(word: &str) -> WordKind
         WordKind::Flag("witness")
     } else if word == "--each-batch" {
         WordKind::Flag("each-batch")
+    } else if word == "--vclog" {
+        WordKind::Flag("vclog")
+    } else if word == "--merged" {
+        WordKind::Flag("merged")
     } else if begins_dash(word) {
         WordKind::Unknown
     } else {

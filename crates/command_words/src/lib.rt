@@ -12,7 +12,7 @@
 //! What a flag more needs, a line each: its name in `flags` of `specs/Rule.antt`; its spelling in
 //! `kind_of` of `src/kind.rt`; `with_flag` in `src/command.rt` and in that function's proof; its
 //! look-ups in `proofs/Names.antt`; its field in `Values` (`specs/Request.antt`), `TextValues` and
-//! `values_in` of both sides, and where the command takes it (`check_of`, `bench_of`). An option is
+//! `values_in` of both sides, and what it means (`shown_of`, `form_of`, `has_flags`). An option is
 //! the same, in `options` and `with_options`. A command more is a line in `task_of` and in
 //! `task_named`, and a variant of `Task`; one that reads its input is a variant of `Product`, and a
 //! form of input more is a variant of `Form`.

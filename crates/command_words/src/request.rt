@@ -3,7 +3,8 @@ ghost use Rattle.std.specs.Prelude.{◌≡◌, IfOk, IfErr, Some, List, option_m
 ghost use Rattle.std.specs.String.{string_bytes};
 ghost use Rattle.clap.specs.Words.{found_of, kind_of, rows_of};
 ghost use Rattle.command_words.specs.ByClap.{values_in};
-ghost use Rattle.command_words.specs.Request.{values_of, check_of, bench_of, task_of, wanted};
+ghost use Rattle.command_words.specs.Request.{values_of, has_sizes, has_flags, form_of};
+ghost use Rattle.command_words.specs.Request.{check_of, bench_of, task_of, wanted};
 ghost use Rattle.command_words.specs.Request.{request_of};
 ghost use Rattle.command_words.specs.Rule.{Given, given};
 ghost use Rattle.command_words.specs.Seen.{values_seen, request_seen};
@@ -22,6 +23,10 @@ use std::alloc::Global;
 pub enum Form {
     /// As the text of one log.
     Text,
+    /// As records of two lines, of which the first has a vector clock.
+    Clocks,
+    /// As the texts of several logs one behind another, which are merged.
+    Merged,
 }
 
 /// What the reports on a log show beside the verdict.
@@ -78,19 +83,51 @@ pub struct Request<'a> {
     pub task: Task,
 }
 
+// Whether an option stands that sizes the log of a bench.
+fn has_sizes(values: &TextValues<'_>) -> bool
+    ensures { result ≡ has_sizes (values_seen values.now) }
+{
+    values.seed.is_some() || values.procs.is_some() || values.events.is_some()
+}
+
+// Whether a flag stands.
+fn has_flags(values: &TextValues<'_>) -> bool
+    ensures { result ≡ has_flags (values_seen values.now) }
+{
+    values.slice || values.witness || values.each_batch || values.vclog || values.merged
+}
+
+// How the input is read. Several logs have no records of two lines, and no reports batch by batch.
+fn form_of(values: &TextValues<'_>) -> Option<Form>
+    ensures { result ≡ form_of (values_seen values.now) }
+{
+    if values.merged {
+        if values.vclog || values.each_batch {
+            None
+        } else {
+            Some(Form::Merged)
+        }
+    } else if values.vclog {
+        Some(Form::Clocks)
+    } else {
+        Some(Form::Text)
+    }
+}
+
 fn check_task(values: &TextValues<'_>) -> Option<Task>
     ensures { result ≡ check_of (values_seen values.now) }
 {
-    if values.seed.is_some() || values.procs.is_some() || values.events.is_some() {
+    if has_sizes(values) {
         return None;
     }
+    let form = form_of(values)?;
     let shown = Shown {
         slice: values.slice,
         witness: values.witness,
         each_batch: values.each_batch,
     };
     Some(Task::Read(Inquiry {
-        form: Form::Text,
+        form,
         product: Product::Reports(shown),
     }))
 }
@@ -98,7 +135,7 @@ fn check_task(values: &TextValues<'_>) -> Option<Task>
 fn bench_task(values: &TextValues<'_>) -> Option<Task>
     ensures { result ≡ bench_of (values_seen values.now) }
 {
-    if values.slice || values.witness || values.each_batch {
+    if has_flags(values) {
         return None;
     }
     let sizes = sizes(values.seed, values.procs, values.events)?;

@@ -19,6 +19,8 @@ pub struct TextValues<'a> {
     pub slice: bool,
     pub witness: bool,
     pub each_batch: bool,
+    pub vclog: bool,
+    pub merged: bool,
 }
 
 // The value of an option or a positional.
@@ -59,5 +61,7 @@ pub fn values_in<'a>(matches: &ArgMatches<'a>) -> TextValues<'a>
         slice: stands(matches, "slice"),
         witness: stands(matches, "witness"),
         each_batch: stands(matches, "each-batch"),
+        vclog: stands(matches, "vclog"),
+        merged: stands(matches, "merged"),
     }
 }

@@ -20,6 +20,14 @@ four_texts a b c d e x y z w p q r s =
     s ∙ ap (λ (t : List ℕ). t ++ w) (r ∙ ap (λ (t : List ℕ). t ++ z) (q ∙ ap (λ (t : List ℕ). t ++ y) p))
     ∙ append_assoc ((a ++ x) ++ y) z w ∙ append_assoc (a ++ x) y (z ++ w) ∙ append_assoc a x (y ++ (z ++ w))
 
+-- six texts
+pub six_texts : (a b c d e f g u v w x y z : List ℕ) → b ≡ a ++ u → c ≡ b ++ v → d ≡ c ++ w → e ≡ d ++ x → f ≡ e ++ y → g ≡ f ++ z
+    → g ≡ a ++ (u ++ (v ++ (w ++ (x ++ (y ++ z)))))
+six_texts a b c d e f g u v w x y z p q r s t last =
+    let rest = w ++ (x ++ (y ++ z)) in
+    four_texts c d e f g w x y z r s t last ∙ ap (λ (k : List ℕ). k ++ rest) (q ∙ ap (λ (k : List ℕ). k ++ v) p)
+    ∙ append_assoc (a ++ u) v rest ∙ append_assoc a u (v ++ rest)
+
 pub told_line : {T E : Type 0} (r : Result T E) (old new : Option (List ℕ)) (before now : ℕ) (fault : Fault) (program a b c d text : List ℕ)
     → a ≡ [] ++ program → b ≡ a ++ codes ": " → c ≡ b ++ cause_of fault → d ≡ c ++ 10 ∷ [] → text ≡ d
     → OnOk r (Appends old new text) → OnErr r (AppendsPrefix old new text) → HasCause before now r → Told old new before now (line_by program (Some fault))

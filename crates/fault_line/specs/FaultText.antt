@@ -1,7 +1,11 @@
--- What is wrong with a formula or a log, in words.
+-- What is wrong with a formula, a log, or a text that is read as one, in words.
 use Rattle.std.specs.Prelude.{ℕ, List, codes}
 use Rattle.event_log.specs.declared.item.LogCode.{LogCode}
 use Rattle.event_log.specs.declared.item.LogCode.TheVariants as log
+use Rattle.log_merge.specs.declared.fault.MergeCode.{MergeCode}
+use Rattle.log_merge.specs.declared.fault.MergeCode.TheVariants as merging
+use Rattle.vclog_import.specs.declared.fault.ImportCode.{ImportCode}
+use Rattle.vclog_import.specs.declared.fault.ImportCode.TheVariants as importing
 use Rattle.rctl_grammar.specs.declared.fault.FormulaCode.{FormulaCode}
 use Rattle.rctl_grammar.specs.declared.fault.FormulaCode.TheVariants as formula
 use Rattle.rctl_grammar.specs.declared.fault.Outside.{Outside}
@@ -50,3 +54,22 @@ log_code_text log.TooManyEvents = codes "L18 too many events"
 log_code_text log.LineTooLong = codes "L19 line too long"
 log_code_text log.LogTooLong = codes "L20 log too long"
 log_code_text log.CounterFalls = codes "L21 counter falls"
+
+abbrev pub import_code_text : ImportCode → List ℕ
+import_code_text importing.BadHostLine = codes "I1 bad host line"
+import_code_text importing.BadClock = codes "I2 bad clock"
+import_code_text importing.TooManyHosts = codes "I3 too many hosts"
+import_code_text importing.TooManyEvents = codes "I4 too many events"
+import_code_text importing.Truncated = codes "I5 truncated"
+import_code_text importing.TooLong = codes "I6 log too long"
+import_code_text importing.HostClash = codes "I7 host names clash"
+import_code_text importing.UnknownHost = codes "I8 unknown host"
+
+abbrev pub merge_code_text : MergeCode → List ℕ
+merge_code_text (merging.Log c) = log_code_text c
+merge_code_text merging.HeaderDiffers = codes "M1 header differs"
+merge_code_text merging.TwoProcesses = codes "M2 two processes in one source"
+merge_code_text merging.ProcessTwice = codes "M3 process in two sources"
+merge_code_text merging.TooManySources = codes "M4 too many sources"
+merge_code_text merging.TooManyEvents = codes "M5 too many events"
+merge_code_text merging.TooLong = codes "M6 logs too long"

@@ -13,6 +13,8 @@ abbrev pub status_of : Fault → Status
 status_of fault.Usage = status.Usage
 status_of (fault.Formula f) = status.Formula
 status_of (fault.Log f) = status.Log
+status_of (fault.Import f) = status.Log
+status_of (fault.Merge f) = status.Log
 status_of fault.Read = status.ReadFault
 status_of fault.Write = status.WriteFault
 status_of fault.Memory = status.OutOfMemory
@@ -26,3 +28,5 @@ fault_of_question (question.Formula f) = fault.Formula f
 abbrev pub fault_of_refusal : Refusal → Fault
 fault_of_refusal (refusal.Formula f) = fault.Formula f
 fault_of_refusal (refusal.Log f) = fault.Log f
+fault_of_refusal (refusal.Import f) = fault.Import f
+fault_of_refusal (refusal.Merge f) = fault.Merge f

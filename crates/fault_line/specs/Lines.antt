@@ -5,7 +5,10 @@ use Rattle.std.specs.Io.KnownBytes.{Appends}
 use Rattle.pota_base.specs.Outside.{Rose, AppendsPrefix}
 use Rattle.event_log.specs.declared.item.LogFault.{LogFault}
 use Rattle.rctl_grammar.specs.declared.fault.FormulaFault.{FormulaFault}
+use Rattle.log_merge.specs.declared.fault.MergeFault.{MergeFault}
+use Rattle.vclog_import.specs.declared.fault.ImportFault.{ImportFault}
 use Rattle.fault_line.specs.FaultText.{formula_code_text, log_code_text}
+use Rattle.fault_line.specs.FaultText.{import_code_text, merge_code_text}
 use Rattle.fault_line.specs.declared.fault.Fault.{Fault}
 use Rattle.fault_line.specs.declared.fault.Fault.TheVariants as fault
 
@@ -13,6 +16,7 @@ use Rattle.fault_line.specs.declared.fault.Fault.TheVariants as fault
 abbrev pub usage_text : List ℕ
 usage_text =
     codes "usage: pota check FORMULA [--workers N] [--slice] [--witness] [--each-batch]"
+    ++ codes " [--vclog] [--merged]"
     ++ codes " or pota bench FORMULA --seed N --procs N --events N [--workers N]"
 
 -- the byte of the formula, and what is wrong there
@@ -24,10 +28,21 @@ formula_text f = codes "formula byte "
 abbrev pub log_text : LogFault → List ℕ
 log_text f = codes "log line " ++ (decimal f.line ++ (codes ": " ++ log_code_text f.code))
 
+-- the line of the text of two-line records, and what is wrong there
+abbrev pub import_text : ImportFault → List ℕ
+import_text f = codes "log line " ++ (decimal f.line ++ (codes ": " ++ import_code_text f.code))
+
+-- the source and the line in it, and what is wrong there
+abbrev pub merge_text : MergeFault → List ℕ
+merge_text f = codes "log source " ++ (decimal f.source
+    ++ (codes " line " ++ (decimal f.line ++ (codes ": " ++ merge_code_text f.code))))
+
 abbrev pub cause_of : Fault → List ℕ
 cause_of fault.Usage = usage_text
 cause_of (fault.Formula f) = formula_text f
 cause_of (fault.Log f) = log_text f
+cause_of (fault.Import f) = import_text f
+cause_of (fault.Merge f) = merge_text f
 cause_of fault.Read = codes "read fault"
 cause_of fault.Write = codes "write fault"
 cause_of fault.Memory = codes "out of memory"

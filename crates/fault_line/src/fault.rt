@@ -4,9 +4,11 @@ ghost use Rattle.fault_line.specs.Faults.{status_of, fault_of_question, fault_of
 
 use event_log::LogFault;
 use log_judgement::Refusal;
+use log_merge::MergeFault;
 use pota_base::Status;
 use rctl_parse::FormulaFault;
 use run_request::QuestionFault;
+use vclog_import::ImportFault;
 
 /// Why a run gave no verdict.
 #[derive(Clone, Copy, Debug, PartialEq, Eq)]
@@ -17,6 +19,10 @@ pub enum Fault {
     Formula(FormulaFault),
     /// The log is faulty.
     Log(LogFault),
+    /// The text of two-line records is faulty.
+    Import(ImportFault),
+    /// The logs that are to be merged are faulty.
+    Merge(MergeFault),
     /// The log could not be read.
     Read,
     /// The report could not be written.
@@ -43,6 +49,8 @@ impl Fault {
         match refusal {
             Refusal::Formula(fault) => Fault::Formula(fault),
             Refusal::Log(fault) => Fault::Log(fault),
+            Refusal::Import(fault) => Fault::Import(fault),
+            Refusal::Merge(fault) => Fault::Merge(fault),
         }
     }
 
@@ -54,6 +62,8 @@ impl Fault {
             Fault::Usage => Status::Usage,
             Fault::Formula(_) => Status::Formula,
             Fault::Log(_) => Status::Log,
+            Fault::Import(_) => Status::Log,
+            Fault::Merge(_) => Status::Log,
             Fault::Read => Status::ReadFault,
             Fault::Write => Status::WriteFault,
             Fault::Memory => Status::OutOfMemory,

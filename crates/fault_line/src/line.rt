@@ -1,14 +1,16 @@
 //! The one line that tells of a run without a verdict. It takes no memory.
 ghost use Rattle.std.specs.Prelude.{◌≡◌, ◌+◌, ◌≤◌, ◌++◌, [], List, length, take};
-ghost use Rattle.fault_line.specs.Lines.{usage_text, formula_text, log_text, line_by, cause_of};
-ghost use Rattle.fault_line.specs.Lines.{Told};
+ghost use Rattle.fault_line.specs.Lines.{usage_text, formula_text, log_text, import_text};
+ghost use Rattle.fault_line.specs.Lines.{merge_text, line_by, cause_of, Told};
 
 use crate::fault::Fault;
-use crate::texts::{formula_code_text, log_code_text};
+use crate::texts::{formula_code_text, import_code_text, log_code_text, merge_code_text};
 use event_log::LogFault;
+use log_merge::MergeFault;
 use pota_base::{Sink, write_all};
 use rctl_grammar::FormulaFault;
 use std::marker::Model;
+use vclog_import::ImportFault;
 
 const ROOM: usize = 256;
 
@@ -61,6 +63,7 @@ fn put_usage(line: &mut Line)
     ensures room { length line.new ≤ 224 }
 {
     line.push(b"usage: pota check FORMULA [--workers N] [--slice] [--witness] [--each-batch]");
+    line.push(b" [--vclog] [--merged]");
     line.push(b" or pota bench FORMULA --seed N --procs N --events N [--workers N]");
 }
 
@@ -88,6 +91,32 @@ fn put_log_fault(line: &mut Line, fault: &LogFault)
     line.push(log_code_text(fault.code));
 }
 
+fn put_import_fault(line: &mut Line, fault: &ImportFault)
+    requires { length line.old ≤ 16 }
+    ensures text { line.new ≡ line.old ++ import_text fault.now }
+    ensures room { length line.new ≤ 224 }
+{
+    let mut digits = itoa::Buffer::new();
+    line.push(b"log line ");
+    line.push(digits.format(fault.line).as_bytes());
+    line.push(b": ");
+    line.push(import_code_text(fault.code));
+}
+
+fn put_merge_fault(line: &mut Line, fault: &MergeFault)
+    requires { length line.old ≤ 16 }
+    ensures text { line.new ≡ line.old ++ merge_text fault.now }
+    ensures room { length line.new ≤ 224 }
+{
+    let mut digits = itoa::Buffer::new();
+    line.push(b"log source ");
+    line.push(digits.format(fault.source).as_bytes());
+    line.push(b" line ");
+    line.push(digits.format(fault.line).as_bytes());
+    line.push(b": ");
+    line.push(merge_code_text(fault.code));
+}
+
 fn put_cause(line: &mut Line, fault: &Fault)
     requires { length line.old ≤ 16 }
     ensures text { line.new ≡ line.old ++ cause_of fault.now }
@@ -97,6 +126,8 @@ fn put_cause(line: &mut Line, fault: &Fault)
         Fault::Usage => put_usage(line),
         Fault::Formula(fault) => put_formula_fault(line, fault),
         Fault::Log(fault) => put_log_fault(line, fault),
+        Fault::Import(fault) => put_import_fault(line, fault),
+        Fault::Merge(fault) => put_merge_fault(line, fault),
         Fault::Read => line.push(b"read fault"),
         Fault::Write => line.push(b"write fault"),
         Fault::Memory => line.push(b"out of memory"),

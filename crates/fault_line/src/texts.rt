@@ -1,9 +1,12 @@
 //! What is wrong with a log or a formula, in words.
 ghost use Rattle.std.specs.Prelude.{◌≡◌, ◌≤◌, length};
 ghost use Rattle.fault_line.specs.FaultText.{formula_code_text, log_code_text, outside_text};
+ghost use Rattle.fault_line.specs.FaultText.{import_code_text, merge_code_text};
 
 use event_log::LogCode;
+use log_merge::MergeCode;
 use rctl_grammar::{FormulaCode, Outside};
+use vclog_import::ImportCode;
 
 // An operator outside the class.
 fn outside_text(outside: Outside) -> &'static [u8]
@@ -67,5 +70,38 @@ pub fn log_code_text(code: LogCode) -> &'static [u8]
         LogCode::LineTooLong => b"L19 line too long",
         LogCode::LogTooLong => b"L20 log too long",
         LogCode::CounterFalls => b"L21 counter falls",
+    }
+}
+
+/// What is wrong with a text of two-line records.
+pub fn import_code_text(code: ImportCode) -> &'static [u8]
+    ensures text { result.now ≡ import_code_text code }
+    ensures short { length result.now ≤ 64 }
+{
+    match code {
+        ImportCode::BadHostLine => b"I1 bad host line",
+        ImportCode::BadClock => b"I2 bad clock",
+        ImportCode::TooManyHosts => b"I3 too many hosts",
+        ImportCode::TooManyEvents => b"I4 too many events",
+        ImportCode::Truncated => b"I5 truncated",
+        ImportCode::TooLong => b"I6 log too long",
+        ImportCode::HostClash => b"I7 host names clash",
+        ImportCode::UnknownHost => b"I8 unknown host",
+    }
+}
+
+/// What is wrong with logs that are to be merged: with one of them, or with them together.
+pub fn merge_code_text(code: MergeCode) -> &'static [u8]
+    ensures text { result.now ≡ merge_code_text code }
+    ensures short { length result.now ≤ 64 }
+{
+    match code {
+        MergeCode::Log(code) => log_code_text(code),
+        MergeCode::HeaderDiffers => b"M1 header differs",
+        MergeCode::TwoProcesses => b"M2 two processes in one source",
+        MergeCode::ProcessTwice => b"M3 process in two sources",
+        MergeCode::TooManySources => b"M4 too many sources",
+        MergeCode::TooManyEvents => b"M5 too many events",
+        MergeCode::TooLong => b"M6 logs too long",
     }
 }

@@ -44,6 +44,8 @@ AreAlike p q = (f : LogFault) → p f ≡ q f
 placed_alike : (p q : Place) → AreAlike p q → (why : Refusal) → placed p why ≡ placed q why
 placed_alike p q alike (refusal.Formula f) = refl
 placed_alike p q alike (refusal.Log f) = alike f
+placed_alike p q alike (refusal.Import f) = refl
+placed_alike p q alike (refusal.Merge f) = refl
 
 fault_alike : (p q : Place) → AreAlike p q → (j : Judgement) (fault : Option Refusal) → fault_in p j fault ≡ fault_in q j fault
 fault_alike p q alike waiting fault = refl

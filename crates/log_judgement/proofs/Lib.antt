@@ -5,4 +5,5 @@ pub mod Sound
 pub mod Orders
 pub mod Rising
 pub mod Logs
+pub mod WholeReadings
 pub mod Texts

@@ -60,14 +60,14 @@ unfolding judged
 closes rules log b [] rest = refl
 closes rules log b (c ∷ bs) rest = refl
 
-judged-batch : (rules : Rules) (log : Prefix) (b : List Event) (bs : List (List Event))
+pub judged-batch : (rules : Rules) (log : Prefix) (b : List Event) (bs : List (List Event))
     → judged rules (growing log []) (batch_items (b ∷ bs))
     ≡ judged rules (closing rules log (with_clocks log b) (next_of log (with_clocks log b) bs)) (batch_items bs)
 judged-batch rules log b bs =
     judged-events rules log [] b (closing_item bs ∷ batch_items bs)
     ∙ closes rules log b bs (batch_items bs)
 
-judged-none : (rules : Rules) (j : Judgement) → judged rules j [] ≡ j
+pub judged-none : (rules : Rules) (j : Judgement) → judged rules j [] ≡ j
 unfolding judged
 judged-none rules j = refl
 

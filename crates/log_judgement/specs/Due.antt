@@ -54,6 +54,8 @@ batches_of (refused (Some log) why) = counted log.batches
 abbrev pub placed : (place : LogFault → Refusal) → Refusal → Refusal
 placed place (refusal.Formula f) = refusal.Formula f
 placed place (refusal.Log f) = place f
+placed place (refusal.Import f) = refusal.Import f
+placed place (refusal.Merge f) = refusal.Merge f
 
 -- the fault of an item comes before that of the bytes, which stands behind the items
 abbrev pub fault_in : (place : LogFault → Refusal) → Judgement → Option Refusal → Option Refusal
@@ -78,6 +80,10 @@ pub record Due : Type 0 where
   -- how many batches were closed without fault, by `batch` lines and by the `end` line
   pub batches : ℕ
   pub fault : Option Refusal
+
+-- nothing but a fault, if there is one
+abbrev pub fault_alone : Option Refusal → Due
+fault_alone fault = record { closed = []; whole = None; batches = 0; fault = fault }
 
 -- of a judgement of all items, and the fault of the bytes themselves
 abbrev pub told : Bool → (place : LogFault → Refusal) → Judgement → Option Refusal → Due

@@ -1,5 +1,6 @@
 -- The text that is due: the reports on the log after some of its batches, one after the other.
-use Rattle.std.specs.Prelude.{◌≡◌, ℕ, Bool, true, false, List, [], ◌∷◌, ◌++◌, Option, None, Some}
+use Rattle.std.specs.Prelude.{◌≡◌, ℕ, Bool, true, false, List, [], ◌∷◌, ◌++◌, length}
+use Rattle.std.specs.Prelude.{Option, None, Some}
 use Rattle.run_model.specs.Run.{Watches}
 use Rattle.report.specs.declared.report.Report.{Report}
 use Rattle.report.specs.Spelling.{report_text}
@@ -15,6 +16,11 @@ listed (Some log) = log ∷ []
 abbrev pub reported : (each : Bool) → Due → List Prefix
 reported false d = listed d.whole
 reported true d = d.closed ++ listed d.whole
+
+-- no log but the whole one gets a report, and where it does one batch is due, else none
+pub record HasOneReport (d : Due) : Type 0 where
+  pub closed : d.closed ≡ []
+  pub batches : d.batches ≡ length (listed d.whole)
 
 -- the text is that of these logs, one behind the other, where this says which text each may have
 abbrev pub AreTexts : (Prefix → List ℕ → Type 0) → List Prefix → List ℕ → Type 0

@@ -6,7 +6,8 @@
 // header lacks and which of its variables are counters are arguments: `specs/Readings.antt` has the
 // reading of one log's text, item by item, and that of a log that stands once all bytes are there.
 // The laws say what more bytes change, that logs without a fault are those of which none is due,
-// and that there is one due text at most.
+// that there is one due text at most, and that a fault of the bytes comes before names and batches
+// where the log stands only at the end.
 //
 // Not said here: how the text is made and written.
 #![tactic(auto)]

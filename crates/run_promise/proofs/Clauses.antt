@@ -26,6 +26,8 @@ use Rattle.log_judgement.specs.Due.{Due}
 use Rattle.log_judgement.specs.Readings.{IsReading}
 use Rattle.log_judgement.proofs.Dues.{due_stays}
 use Rattle.log_judgement.proofs.Readings.{log_is_read}
+use Rattle.form_readings.proofs.Imports.{clocks_are_read}
+use Rattle.form_readings.proofs.Merging.{sources_are_read}
 use Rattle.log_check.specs.Aims.{unknown_name}
 use Rattle.fault_line.specs.declared.fault.Fault.TheVariants as fault
 use Rattle.fault_line.specs.Faults.{status_of, fault_of_question, fault_of_refusal}
@@ -56,6 +58,8 @@ reads_one words a b t u h k =
 -- each form is read as a log
 pub form_is_read : (f : Form) → IsReading 67108864 (reading_of f)
 form_is_read form.Text = log_is_read
+form_is_read form.Clocks = clocks_are_read
+form_is_read form.Merged = sources_are_read
 
 benches_one : (words : List (List ℕ)) (a b : Sizes) (t u : Tree) → AsksFor words (task.Bench a) t → AsksFor words (task.Bench b) u → (a ≡ b) × (t ≡ u)
 benches_one words a b t u h k =

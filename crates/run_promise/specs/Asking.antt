@@ -19,6 +19,8 @@ use Rattle.log_judgement.specs.Counters.{counters_in}
 use Rattle.log_judgement.specs.Readings.{Reading, log_reading}
 use Rattle.log_judgement.specs.Due.{Due, due}
 use Rattle.log_judgement.specs.Texts.{AreTexts, IsReportText, reported}
+use Rattle.form_readings.specs.Clocks.{clocks_reading}
+use Rattle.form_readings.specs.Sources.{merged_reading}
 use Rattle.log_check.specs.Aims.{Says, names_of, watches_of, unknown_name}
 
 -- the names of the watches that were handed in, and what the watch of each name says of states
@@ -45,8 +47,11 @@ asked_by t shown = asked t shown.slice shown.witness
 
 -- ---- how an input is read
 
+-- as the text of one log, as records of two lines, or as the texts of several logs
 abbrev pub reading_of : Form → Reading
 reading_of form.Text = log_reading
+reading_of form.Clocks = clocks_reading
+reading_of form.Merged = merged_reading
 
 -- the first name that a header lacks comes before all faults of batches, and no variable of the
 -- formula's differences may fall

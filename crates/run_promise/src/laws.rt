@@ -2,10 +2,17 @@
 ghost use Rattle.std.specs.Prelude.{◌≡◌, ℕ, List, Option};
 ghost use Rattle.pota_base.specs.Outside.{Rose};
 ghost use Rattle.pota_base.specs.declared.status.Status.TheVariants.{ReadFault, WriteFault};
+ghost use Rattle.command_words.specs.declared.request.Form.{Form};
+ghost use Rattle.log_judgement.specs.Readings.{IsReading};
 ghost use Rattle.run_promise.specs.declared.outcome.Outcome.{Outcome as OutcomeIs};
-ghost use Rattle.run_promise.specs.Asking.{Handing};
+ghost use Rattle.run_promise.specs.Asking.{Handing, reading_of};
 ghost use Rattle.run_promise.specs.Run.{IsBenchAnswered, IsCalm, IsDecided, IsRefusedAsAsked};
 ghost use Rattle.run_promise.specs.Run.{IsRefusedAsDue, Ran};
+
+/// An input of each form is read so that a fault stays, and without one has at most 64 MiB.
+pub fn each_form_is_read()
+    ensures { (f : Form) → IsReading 67108864 (reading_of f) }
+{}
 
 /// A read or write fault is answered only where that object's count of faults rose.
 pub fn faults_have_a_cause()
