@@ -4,3 +4,4 @@ pub mod ReadingOn
 pub mod Stepping
 pub mod Texts
 pub mod WholeSources
+pub mod Taking

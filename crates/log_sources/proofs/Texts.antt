@@ -77,6 +77,17 @@ faultless_few s (b ∷ bytes) small none =
     let more = faultless_few (step s b) bytes (omega (arith, total, room.bytes, turned_total s)) (ap (λ (t : Sources). t.fault) (sym (after_next s b bytes)) ∙ none) in
     omega (arith, more, total)
 
+-- all of them are counted
+pub total_after : (s : Sources) (bytes : List ℕ) → (after s bytes).fault ≡ None → (after s bytes).total ≡ s.total + length bytes
+total_after s [] none = let same = ap (λ (t : Sources). t.total) (after_none s) in omega (arith, same)
+total_after s (b ∷ bytes) none =
+    let fine = fine_byte s b bytes none in
+    let total : (step s b).total ≡ s.total + 1 = ap (λ (t : Sources). t.total) fine.next_is ∙ ap (λ (n : ℕ). n + 1) (turned_total s) in
+    let next = after_next s b bytes in
+    let more = total_after (step s b) bytes (ap (λ (t : Sources). t.fault) (sym next) ∙ none) in
+    let same = ap (λ (t : Sources). t.total) next in
+    omega (arith, same, more, total)
+
 pub faultless_are_few : FaultlessAreFew
 faultless_are_few bytes none = let few : 0 + length bytes ≤ 67108864 = faultless_few no_sources bytes (omega arith) none in omega arith
 

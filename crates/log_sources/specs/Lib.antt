@@ -2,3 +2,4 @@ pub mod Drafts
 pub mod Sources
 pub mod Reading
 pub mod Laws
+pub mod Gathering

@@ -8,12 +8,18 @@
 //! without a fault are few (`faultless_are_few`), and an input without a fault is the texts of logs
 //! that can be merged (`faultless_are_texts`).
 //!
+//! `gather` reads the sources of an input: it gives their logs where the input ended without a
+//! fault, else the first fault of its bytes, and a failed read only where the bytes before it have
+//! none.
+//!
 //! Not said: how much memory there is, and how long a call takes.
 #![tactic(auto)]
 
 mod draft;
+mod gathering;
 mod laws;
 mod reader;
 
+pub use gathering::{Gathered, gather};
 pub use laws::{a_fault_stays, faultless_are_few, faultless_are_texts, pieces_do_not_matter};
 pub use reader::SourceReader;

@@ -50,49 +50,9 @@ use Rattle.run_promise.specs.Run.{made_by, sizes_of}
 use Rattle.log_answers.specs.Checking.{closed_in, AreReportsFor, Stands, StopsIn, TakesItems, SummaryStops, SumsUpTo, SumsUp}
 use Rattle.pota_top.specs.Benching.{BenchStops, BenchesTo, HasMade, CanBeMade}
 use Rattle.pota_top.proofs.ReadingSteps.{of_text}
-use Rattle.pota_top.proofs.Endings.{whole_closed}
+use Rattle.log_answers.specs.Whole.{TakesWhole}
+use Rattle.log_answers.proofs.OneBatch.{whole_closed, no_part, no_text}
 use Rattle.pota_top.proofs.NoFall.{none_falls}
-
--- ---- the items of a log of one batch
-
-pub one_batch : (log : Log) (b : List Event) → log.batches ≡ b ∷ []
-    → log_items log ≡ item.Header log.header ∷ (event_items b ++ item.End ∷ [])
-one_batch log b is = ap (λ (bs : List (List Event)). item.Header log.header ∷ batch_items bs) is
-
--- some of the events were put behind these items
-pub record PutSoFar (before items : List Item) (events rest : List Event) : Type 0 where
-  pub done : List Event
-  pub split : events ≡ done ++ rest
-  pub put_so : items ≡ before ++ event_items done
-
-event_items-push : (es : List Event) (e : Event) → event_items (es ++ e ∷ []) ≡ event_items es ++ item.Event e ∷ []
-event_items-push [] e = refl
-event_items-push (x ∷ es) e = ap (λ (is : List Item). item.Event x ∷ is) (event_items-push es e)
-
-pub put_none : (before : List Item) (events : List Event) → PutSoFar before before events events
-put_none before events = record { done = []; split = refl; put_so = sym (append-nil before) }
-
-pub put_one : (before items now : List Item) (events : List Event) (e : Event) (rest : List Event) → PutSoFar before items events (e ∷ rest)
-    → now ≡ items ++ item.Event e ∷ [] → PutSoFar before now events rest
-put_one before items now events e rest p is = record {
-  done = p.done ++ e ∷ [];
-  split = p.split ∙ sym (append_assoc p.done (e ∷ []) rest);
-  put_so = is ∙ ap (λ (xs : List Item). xs ++ item.Event e ∷ []) p.put_so ∙ append_assoc before (event_items p.done) (item.Event e ∷ [])
-      ∙ ap (λ (xs : List Item). before ++ xs) (sym (event_items-push p.done e));
-}
-
-pub put_all : (before items : List Item) (events : List Event) → PutSoFar before items events [] → items ≡ before ++ event_items events
-put_all before items events p =
-    p.put_so ∙ ap (λ (es : List Event). before ++ event_items es) (sym (append-nil p.done) ∙ sym p.split)
-
--- a check of which no item was taken
-nothing_closed : (aim : Aim) (each : Bool) → AreReportsFor aim (closed_in each waiting) []
-nothing_closed aim false = refl
-nothing_closed aim true = refl
-
-pub begun : {X : Type 0} {P : X → Type 0} (says : Says X P) (aim : Aim) (each : Bool) (check : LogCheck X P)
-    → IsCheckOf says aim check waiting → Stands says aim each check waiting []
-begun says aim each check is = record { check_is = is; texts = nothing_closed aim each }
 
 -- ---- what the items lead to
 
@@ -189,25 +149,15 @@ module _ {X : Type 0} {P : X → Type 0} (says : Says X P) (aim : Aim) (sizes : 
   made_closed rises check is =
       whole_closed (judged (rules_of aim) waiting (log_items (made_by sizes))) (all_of (made_by sizes)) (made_whole rises (has_names check is)).whole
 
-  -- ---- all items were to be taken
-
-  pub items_follow : (items : List Item) → items ≡ log_items (made_by sizes) → MayFollow waiting items
-  items_follow items same = subst FitFirst (sym same) made_follows
-
-  pub taken_made : (items : List Item) → items ≡ log_items (made_by sizes) → (held now : Option (List ℕ)) (of of_now : ℕ) (each : Bool) → each ≡ false
-      → (first check : LogCheck X P) {T : Type 0} (result : Result T Stop) → IsCheckOf says aim first waiting
-      → ((j : Judgement) (text : List ℕ) → Stands says aim each first j text → MayFollow j items
-      → TakesItems held now of of_now says aim each check (judged (rules_of aim) j items) text result)
-      → TakesItems held now of of_now says aim false check (judged (rules_of aim) waiting (log_items (made_by sizes))) [] result
-  taken_made items same held now of of_now each last first check {T} result is takes =
-      subst (λ (e : Bool). TakesItems {T = T} held now of of_now says aim e check (judged (rules_of aim) waiting (log_items (made_by sizes))) [] result) last
-      (subst (λ (xs : List Item). TakesItems {T = T} held now of of_now says aim each check (judged (rules_of aim) waiting xs) [] result) same
-      (takes waiting [] (begun says aim each first is) (items_follow items same)))
+  -- the items of the log that was made
+  pub as_made : {T : Type 0} (made : Log) → made ≡ made_by sizes → (held now : Option (List ℕ)) (of of_now : ℕ) (check : LogCheck X P) (result : Result T Stop)
+      → TakesWhole held now of of_now says aim check made result → TakesWhole held now of of_now says aim check (made_by sizes) result
+  as_made {T} made same held now of of_now check result t = subst (λ (l : Log). TakesWhole {T = T} held now of of_now says aim check l result) same t
 
   -- ---- the summary
 
   module _ (rises : MadeRises aim sizes) (held now held' : Option (List ℕ)) (of of_now of' : ℕ) (check : LogCheck X P) {T : Type 0} (x : T)
-      (t : TakesItems held now of of_now says aim false check (judged (rules_of aim) waiting (log_items (made_by sizes))) [] (Ok x)) where
+      (t : TakesWhole held now of of_now says aim check (made_by sizes) (Ok x)) where
     count_is : check.batches ≡ 1
     count_is = t.to.check_is.batches ∙ (made_whole rises (has_names check t.to.check_is)).count
 
@@ -269,20 +219,20 @@ module _ {X : Type 0} {P : X → Type 0} (says : Says X P) (aim : Aim) (sizes : 
       let found = not_refused rises (refusal.Log x) h.log h.is in
       let same : refusal.Log x ≡ refusal.Formula found.0 = found.2 in
       absurd cc
-  stop_of rises causes.Write n of of' text h = absurd (no_part h.0.before h.0.log h.0.behind h.0.are)
-    where
-      no_part : (before : List Prefix) (l : Prefix) (behind : List Prefix) → [] ≡ before ++ l ∷ behind → ⊥
-      no_part [] l behind e = absurd cc
-      no_part (p ∷ before) l behind e = absurd cc
-  stop_of rises causes.Memory n of of' text h = (no_text h.front h.rest h.are h.texts, h.count)
-    where
-      no_text : (front rest : List Prefix) → [] ≡ front ++ rest → AreReportsFor aim front text → text ≡ []
-      no_text [] rest e texts = texts
-      no_text (p ∷ front) rest e texts = absurd cc
+  stop_of rises (causes.Refused (refusal.Import x)) n of of' text h =
+      let found = not_refused rises (refusal.Import x) h.log h.is in
+      let same : refusal.Import x ≡ refusal.Formula found.0 = found.2 in
+      absurd cc
+  stop_of rises (causes.Refused (refusal.Merge x)) n of of' text h =
+      let found = not_refused rises (refusal.Merge x) h.log h.is in
+      let same : refusal.Merge x ≡ refusal.Formula found.0 = found.2 in
+      absurd cc
+  stop_of rises causes.Write n of of' text h = no_part aim text n h.0
+  stop_of rises causes.Memory n of of' text h = (no_text aim text n h, h.count)
   stop_of rises causes.Read n of of' text h = absurd h
 
   pub made_stops : MadeRises aim sizes → {T : Type 0} (held held' : Option (List ℕ)) (of of' : ℕ) (check : LogCheck X P) (stop : Stop)
-      → TakesItems {T = T} held held' of of' says aim false check (judged (rules_of aim) waiting (log_items (made_by sizes))) [] (Err stop)
+      → TakesWhole {T = T} held held' of of' says aim check (made_by sizes) (Err stop)
       → HasMade held held' of of' aim sizes (Err stop)
   made_stops rises held held' of of' check stop t = record {
     written = t.written;

@@ -21,17 +21,13 @@ use Rattle.log_answers.specs.declared.stop.StopCause.TheVariants as causes
 use Rattle.log_answers.specs.declared.stop.Stop.{Stop}
 use Rattle.log_answers.specs.declared.stop.Verdict.{Verdict}
 use Rattle.log_answers.specs.Checking.{closed_in, AreReportsFor, ReportStops, Reports}
-use Rattle.pota_top.specs.Reading.{due_in, judgement_in, IsWhole, StopsAt, HasReadLog, IsVerdictBy, ChecksBy, HasChecked}
+use Rattle.log_answers.specs.Inputs.{IsVerdictBy, ChecksBy}
+use Rattle.pota_top.specs.Reading.{due_in, judgement_in, IsWhole, StopsAt, HasReadLog, HasChecked}
 use Rattle.log_answers.proofs.Items.{texts_as, part_of_more, front_of_more}
+use Rattle.log_answers.proofs.OneBatch.{whole_closed}
 use Rattle.pota_top.proofs.ReadingSteps.{as_is, of_text, reported_open, free_told}
 
--- ---- the last batch of a log without a fault was closed
-
-pub whole_closed : (j : Judgement) (log : Prefix) → whole_of j ≡ Some log → HasClosed j log
-whole_closed waiting log h = absurd (none-some log h)
-whole_closed (growing so_far since) log h = absurd (none-some log h)
-whole_closed (finished so_far last) log h = sym (same_Some (followed_by so_far last) log h)
-whole_closed (refused so_far why) log h = absurd (none-some log h)
+-- ---- the reports on the whole log
 
 reported_whole : (each : Bool) (j : Judgement) (log : Prefix) → whole_of j ≡ Some log
     → reported each (told true as_is j None) ≡ closed_in each j ++ log ∷ []

@@ -74,6 +74,8 @@ as_is f = refusal.Log f
 pub placed_as_is : (why : Refusal) → placed as_is why ≡ why
 placed_as_is (refusal.Formula f) = refl
 placed_as_is (refusal.Log f) = refl
+placed_as_is (refusal.Import f) = refl
+placed_as_is (refusal.Merge f) = refl
 
 -- a fault of the text of a log, as a refusal
 abbrev pub of_text : Option LogFault → Option Refusal

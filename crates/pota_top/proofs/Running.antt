@@ -13,7 +13,6 @@ use Rattle.rctl_class.specs.Nodes.{node_of, formula_of}
 use Rattle.rctl_class.proofs.Class.{of_the_class}
 use Rattle.command_words.specs.declared.request.Task.TheVariants as task
 use Rattle.command_words.specs.declared.request.Form.{Form}
-use Rattle.command_words.specs.declared.request.Form.TheVariants as form
 use Rattle.command_words.specs.declared.request.Product.{Product}
 use Rattle.command_words.specs.declared.request.Inquiry.{Inquiry}
 use Rattle.command_words.specs.declared.request.Product.TheVariants as product
@@ -48,7 +47,7 @@ use Rattle.run_promise.specs.declared.outcome.Outcome.{Outcome}
 use Rattle.pota_top.specs.Outcome.{fault_of, faulty_outcome, outcome_of}
 use Rattle.run_promise.specs.Asking.{Handing, handing_of, asked_by, asked, reading_of}
 use Rattle.log_answers.specs.Checking.{AreReportsFor, HasPartOf, HasFrontOf}
-use Rattle.pota_top.specs.Reading.{due_by, TellsDueBy, StopsBy, IsVerdictBy, ChecksBy, HasCheckedBy}
+use Rattle.log_answers.specs.Inputs.{due_by, TellsDueBy, StopsBy, IsVerdictBy, ChecksBy, HasCheckedBy}
 use Rattle.pota_top.specs.Benching.{IsSummary, missing_name, IsBenchOf, BenchStops, BenchesTo, HasMade}
 use Rattle.run_report.proofs.Telling.{told_denotes, told_kinds}
 use Rattle.run_promise.proofs.Clauses.{not_both, form_is_read}
@@ -81,15 +80,12 @@ all_tell t shown watches class (log ∷ logs) ordered kept =
 nothing_front : (text : List ℕ) → IsPrefix [] text
 nothing_front text = (text, refl)
 
--- reports on the text of a log are all that is asked of an input
-only_text : (f : Form) → f ≡ form.Text
-only_text form.Text = refl
-
-pub asked_so : (words : List (List ℕ)) (t : Tree) (i : Inquiry) (shown : Shown) → i.product ≡ product.Reports shown → AsksFor words (task.Read i) t
-    → AsksFor words (task.Read (record { form = form.Text; product = product.Reports shown })) t
-asked_so words t i shown is asks =
-    subst (λ (p : Product). AsksFor words (task.Read (record { form = form.Text; product = p })) t) is
-    (subst (λ (f : Form). AsksFor words (task.Read (record { form = f; product = i.product })) t) (only_text i.form) asks)
+-- reports are all that is asked of an input
+pub asked_so : (words : List (List ℕ)) (t : Tree) (i : Inquiry) (read_as : Form) (shown : Shown) → i.form ≡ read_as → i.product ≡ product.Reports shown → AsksFor words (task.Read i) t
+    → AsksFor words (task.Read (record { form = read_as; product = product.Reports shown })) t
+asked_so words t i read_as shown form_is is asks =
+    subst (λ (p : Product). AsksFor words (task.Read (record { form = read_as; product = p })) t) is
+    (subst (λ (f : Form). AsksFor words (task.Read (record { form = f; product = i.product })) t) form_is asks)
 
 -- ---- reports on an input that is read
 
@@ -198,6 +194,8 @@ module _ {X : Type 0} {P : X → Type 0} (says : Says X P) (s : Stated) (read_as
         → Answer (status_of (fault_of why)) left lf lf' of of' on words read written (faulty_outcome n (fault_of why))
     stop_answer (causes.Refused (refusal.Formula x)) n h = (x, inr (inl (refused_by (refusal.Formula x) n h.0 h.1 h.2)))
     stop_answer (causes.Refused (refusal.Log x)) n h = (refusal.Log x, refl, refused_by (refusal.Log x) n h.0 h.1 h.2)
+    stop_answer (causes.Refused (refusal.Import x)) n h = (refusal.Import x, refl, refused_by (refusal.Import x) n h.0 h.1 h.2)
+    stop_answer (causes.Refused (refusal.Merge x)) n h = (refusal.Merge x, refl, refused_by (refusal.Merge x) n h.0 h.1 h.2)
     stop_answer causes.Read n h = (record { told = told_of false read written n h.0.count h.0.texts; free = h.0.fault; fault = refl }, h.1)
     stop_answer causes.Write n h = (inl (has_part left h.0 read written n h.1 h.2), refl, h.3)
     stop_answer causes.Memory n h = record {
@@ -283,6 +281,8 @@ module _ {X : Type 0} {P : X → Type 0} (says : Says X P) (s : Stated) (sizes :
       })),
     )
     bench_stop (causes.Refused (refusal.Log x)) n h = absurd h
+    bench_stop (causes.Refused (refusal.Import x)) n h = absurd h
+    bench_stop (causes.Refused (refusal.Merge x)) n h = absurd h
     bench_stop causes.Write n h = (
       inr (record {
         nothing = refl;

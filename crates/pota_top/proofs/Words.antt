@@ -8,11 +8,11 @@ use Rattle.std.proofs.lemmas.Option.{none-some, same_Some}
 use Rattle.pota_base.specs.Number.{number_at, whole}
 use Rattle.command_words.specs.declared.request.Sizes.{Sizes}
 use Rattle.command_words.specs.declared.request.Task.{Task}
-use Rattle.command_words.specs.declared.request.Form.TheVariants as form
+use Rattle.command_words.specs.declared.request.Form.{Form}
 use Rattle.command_words.specs.declared.request.Product.TheVariants.{Reports}
 use Rattle.command_words.specs.declared.request.Task.TheVariants.{Read, Bench}
 use Rattle.command_words.specs.Numbers.{number, workers_of, needed, sizes_of}
-use Rattle.command_words.specs.Request.{Values, values_of, shown_of, check_of, bench_of, task_of, Wanted, wanted, request_of}
+use Rattle.command_words.specs.Request.{Values, values_of, shown_of, has_sizes, has_flags, form_of, check_of, bench_of, task_of, Wanted, wanted, request_of}
 use Rattle.command_words.specs.Rule.{Text, given}
 use Rattle.run_request.specs.declared.question.Question.{Question}
 use Rattle.run_request.specs.Questions.{IsQuestion}
@@ -61,23 +61,38 @@ sizes_can seed procs events s h =
 -- ---- the task
 
 bench_can : (v : Values) (s : Sizes) → bench_of v ≡ Some (Bench s) → CanBeMade s
-bench_can v s h = elim (cases_Bool (v.slice || v.witness || v.each_batch)) [
-  | inl it ↦ absurd (none-some (Bench s) (sym (rw it refl) ∙ h))
-  | inr no_ ↦ go (sizes_of v.seed v.procs v.events) refl (sym (rw no_ refl) ∙ h)
-]
+bench_can v s h = by_flags (has_flags v) refl
   where
-    go : (o : Option Sizes) → sizes_of v.seed v.procs v.events ≡ o → option_map Bench o ≡ Some (Bench s) → CanBeMade s
-    go None e k = absurd (none-some (Bench s) k)
-    go (Some z) e k =
+    by_sizes : (o : Option Sizes) → sizes_of v.seed v.procs v.events ≡ o → option_map Bench o ≡ Some (Bench s) → CanBeMade s
+    by_sizes None e k = absurd (none-some (Bench s) k)
+    by_sizes (Some z) e k =
         let same : Bench z ≡ Bench s = same_Some (Bench z) (Bench s) k in
         let mine : z ≡ s = cc in
         subst CanBeMade mine (sizes_can v.seed v.procs v.events z e)
 
+    flagged : Bool → Option Task
+    flagged b = if b then None else option_map Bench (sizes_of v.seed v.procs v.events)
+
+    by_flags : (b : Bool) → has_flags v ≡ b → CanBeMade s
+    by_flags true e = absurd (none-some (Bench s) (sym (ap flagged e) ∙ h))
+    by_flags false e = by_sizes (sizes_of v.seed v.procs v.events) refl (sym (ap flagged e) ∙ h)
+
 check_not : (v : Values) (s : Sizes) → check_of v ≡ Some (Bench s) → ⊥
-check_not v s h = elim (cases_Bool (is_some v.seed || is_some v.procs || is_some v.events)) [
-  | inl it ↦ none-some (Bench s) (sym (rw it refl) ∙ h)
-  | inr no_ ↦ let e : Some (Read (record { form = form.Text; product = Reports (shown_of v) })) ≡ Some (Bench s) = sym (rw no_ refl) ∙ h in absurd cc
-]
+check_not v s h = by_sizes (has_sizes v) refl
+  where
+    asked : Option Form → Option Task
+    asked o = option_map (λ f. Read (record { form = f; product = Reports (shown_of v) })) o
+
+    sized : Bool → Option Task
+    sized b = if b then None else asked (form_of v)
+
+    none_asked : (o : Option Form) → asked o ≡ Some (Bench s) → ⊥
+    none_asked None k = none-some (Bench s) k
+    none_asked (Some f) k = absurd cc
+
+    by_sizes : (b : Bool) → has_sizes v ≡ b → ⊥
+    by_sizes true e = none-some (Bench s) (sym (ap sized e) ∙ h)
+    by_sizes false e = none_asked (form_of v) (sym (ap sized e) ∙ h)
 
 task_can : (command : Text) (v : Values) (s : Sizes) → task_of command v ≡ Some (Bench s) → CanBeMade s
 task_can command v s h = elim (cases_Bool (bytes_eq command (codes "check"))) [

@@ -46,6 +46,8 @@ abbrev pub BenchStops : StopCause → ℕ → ℕ → ℕ → Aim → Sizes → 
 BenchStops (causes.Refused (refusal.Formula f)) n of of' aim sizes text =
     (missing_name aim sizes ≡ Some f) × (text ≡ []) × (n ≡ 0)
 BenchStops (causes.Refused (refusal.Log f)) n of of' aim sizes text = ⊥
+BenchStops (causes.Refused (refusal.Import f)) n of of' aim sizes text = ⊥
+BenchStops (causes.Refused (refusal.Merge f)) n of of' aim sizes text = ⊥
 BenchStops causes.Write n of of' aim sizes text =
     IsBenchPart aim sizes text n × Rose of of'
 BenchStops causes.Memory n of of' aim sizes text = (text ≡ []) × (n ≡ 0)

@@ -1,30 +1,24 @@
 -- A log that is checked as it is read: what is known between two reads, and what they lead to.
-use Rattle.std.specs.Prelude.{◌≡◌, ℕ, ◌<◌, ◌≤◌, ◌↔◌, Bool, true, false, List, [], ◌++◌, length}
-use Rattle.std.specs.Prelude.{Option, Some, None, Result, Ok, Err}
+use Rattle.std.specs.Prelude.{◌≡◌, ℕ, ◌<◌, ◌≤◌, Bool, false, List, [], ◌++◌, length, Option, None}
+use Rattle.std.specs.Prelude.{Result, Ok, Err}
 use Rattle.std.specs.Io.KnownBytes.{Appends, Consumes, IsAtEnd}
-use Rattle.pota_base.specs.Outside.{Rose}
 use Rattle.event_log.specs.declared.reader.Reader.{Reader}
 use Rattle.event_log.specs.Faults.{fault_of, end_fault}
 use Rattle.event_log.specs.LogText.{onto}
 use Rattle.event_log.specs.Reader.{HasRead}
 use Rattle.log_judgement.specs.declared.refusal.Refusal.{Refusal}
-use Rattle.log_judgement.specs.Judgement.{Prefix, Judgement}
-use Rattle.log_judgement.specs.Readings.{Reading, log_reading}
-use Rattle.log_judgement.specs.Due.{Due, judgement_of, due}
-use Rattle.log_judgement.specs.Texts.{reported}
-use Rattle.log_check.specs.Aims.{Says, Aim, rules_of, IsTrueSoFar}
+use Rattle.log_judgement.specs.Judgement.{Judgement}
+use Rattle.log_judgement.specs.Readings.{log_reading}
+use Rattle.log_judgement.specs.Due.{Due, judgement_of}
+use Rattle.log_check.specs.Aims.{Says, Aim, rules_of}
 use Rattle.log_check.specs.declared.check.LogCheck.{LogCheck}
 use Rattle.log_answers.specs.declared.stop.StopCause.{StopCause}
-use Rattle.log_answers.specs.declared.stop.StopCause.TheVariants as causes
 use Rattle.log_answers.specs.declared.stop.Stop.{Stop}
 use Rattle.log_answers.specs.declared.stop.Verdict.{Verdict}
 use Rattle.pota_top.specs.declared.reading.Turn.{Turn}
 use Rattle.pota_top.specs.declared.reading.Turn.TheVariants as turn
-use Rattle.log_answers.specs.Checking.{AreReportsFor, HasPartOf, HasFrontOf, Stands}
-
--- what is due of these bytes as they are read so
-abbrev pub due_by : Reading → Aim → (ended : Bool) → List ℕ → Due
-due_by reading aim ended bytes = due reading (rules_of aim) ended bytes
+use Rattle.log_answers.specs.Checking.{Stands}
+use Rattle.log_answers.specs.Inputs.{due_by, TellsDueBy, StopsBy, HasCheckedBy}
 
 -- what is due of the text of a log, and what its items lead to
 abbrev pub due_in : Aim → (ended : Bool) → List ℕ → Due
@@ -49,28 +43,7 @@ pub record IsWhole {X : Type 0} {P : X → Type 0} (says : Says X P) (aim : Aim)
   pub free : end_fault (onto bytes []) ≡ None
   pub stands : Stands says aim each check (judgement_in aim bytes) text
 
--- this fault, or none, is due of the bytes, with the text and so many batches
-pub record TellsDueBy (reading : Reading) (aim : Aim) (each ended : Bool) (bytes text : List ℕ)
-    (why : Option Refusal) (batches : ℕ) : Type 0 where
-  pub fault : (due_by reading aim ended bytes).fault ≡ why
-  pub count : batches ≡ (due_by reading aim ended bytes).batches
-  pub texts : AreReportsFor aim (reported each (due_by reading aim ended bytes)) text
-
--- a stop behind these bytes, with this text written
-abbrev pub StopsBy : Reading → StopCause → ℕ → Option (List ℕ) → ℕ → ℕ → ℕ → ℕ → Aim → Bool
-    → List ℕ → List ℕ → Type 0
-StopsBy reading (causes.Refused r) n left lf lf' of of' aim each bytes text =
-    (ended : Bool) × (ended ≡ true → IsAtEnd left)
-    × TellsDueBy reading aim each ended bytes text (Some r) n
-StopsBy reading causes.Read n left lf lf' of of' aim each bytes text =
-    TellsDueBy reading aim each false bytes text None n × Rose lf lf'
-StopsBy reading causes.Write n left lf lf' of of' aim each bytes text =
-    (ended : Bool) × (ended ≡ true → IsAtEnd left)
-    × HasPartOf aim (reported each (due_by reading aim ended bytes)) text n × Rose of of'
-StopsBy reading causes.Memory n left lf lf' of of' aim each bytes text =
-    HasFrontOf aim (reported each (due_by reading aim false bytes)) text n
-
--- so of the text of a log
+-- this fault, or none, is due of the text of a log, and a stop behind such bytes
 abbrev pub TellsDue : Aim → (each ended : Bool) → (bytes text : List ℕ) → Option Refusal → ℕ
     → Type 0
 TellsDue aim each ended bytes text why batches =
@@ -161,35 +134,9 @@ pub record HasReadLog {T X : Type 0} {P : X → Type 0} (left left' held held' :
     pub out_later : of ≤ of'
     pub to : ReadsTo left' lf lf' of of' says aim each check read written result
 
--- ---- however the input is read
+-- ---- the text and its report
 
--- the verdict on a log without a fault, whose reports were written
-pub record IsVerdictBy (reading : Reading) (aim : Aim) (each : Bool) (bytes text : List ℕ)
-    (v : Verdict) : Type 0 where
-  pub told : TellsDueBy reading aim each true bytes text None v.batches
-  pub log : Prefix
-  pub whole : (due_by reading aim true bytes).whole ≡ Some log
-  pub truth : (v.truth ≡ true) ↔ IsTrueSoFar aim log
-
-abbrev pub ChecksBy : Reading → Option (List ℕ) → ℕ → ℕ → ℕ → ℕ → Aim → Bool → List ℕ → List ℕ
-    → Result Verdict Stop → Type 0
-ChecksBy reading left lf lf' of of' aim each read text (Ok v) =
-    IsAtEnd left × IsVerdictBy reading aim each read text v
-ChecksBy reading left lf lf' of of' aim each read text (Err stop) =
-    StopsBy reading stop.cause stop.batches left lf lf' of of' aim each read text
-
--- the input was read and checked
-pub record HasCheckedBy (reading : Reading) (left left' held held' : Option (List ℕ))
-    (lf lf' of of' : ℕ) (aim : Aim) (each : Bool) (result : Result Verdict Stop) : Type 0 where
-  pub read : List ℕ
-  pub written : List ℕ
-  pub consumed : Consumes left left' read
-  pub wrote : Appends held held' written
-  pub log_later : lf ≤ lf'
-  pub out_later : of ≤ of'
-  pub to : ChecksBy reading left' lf lf' of of' aim each read written result
-
--- so of the text of a log
+-- the text of a log was read and checked
 abbrev pub HasChecked : (left left' held held' : Option (List ℕ)) → (lf lf' of of' : ℕ) → Aim
     → (each : Bool) → Result Verdict Stop → Type 0
 HasChecked left left' held held' lf lf' of of' aim each result =

@@ -1,10 +1,7 @@
 //! The answers to a check and to a bench.
-ghost use Rattle.std.specs.Prelude.{◌≡◌, ◌≤◌, ◌<◌, ◌++◌, [], ℕ, false, length, List as ListOf};
-ghost use Rattle.std.specs.Prelude.{Option, IfOk, OnOk};
-ghost use Rattle.event_log.specs.LogText.{log_items, event_items};
+ghost use Rattle.std.specs.Prelude.{◌≡◌, ◌≤◌, ◌<◌, ℕ, Bool, false, List as ListOf, Option};
 ghost use Rattle.log_judgement.specs.Judgement.{waiting};
 ghost use Rattle.command_words.specs.declared.request.Task.TheVariants.{Bench, Read};
-ghost use Rattle.command_words.specs.declared.request.Form.TheVariants.{Text};
 ghost use Rattle.command_words.specs.declared.request.Product.TheVariants.{Reports};
 ghost use Rattle.run_request.specs.Questions.{AsksFor, IsStated};
 ghost use Rattle.log_check.specs.Aims.{Aim, AreWatches, aim_of};
@@ -12,6 +9,9 @@ ghost use Rattle.log_check.specs.Checking.{IsCheckOf};
 ghost use Rattle.run_promise.specs.Asking.{handing_of};
 ghost use Rattle.pota_top.specs.Outcome.{outcome_of};
 ghost use Rattle.pota_top.specs.Reading.{HasChecked};
+ghost use Rattle.log_answers.specs.Inputs.{HasCheckedBy};
+ghost use Rattle.form_readings.specs.Clocks.{clocks_reading};
+ghost use Rattle.form_readings.specs.Sources.{merged_reading};
 ghost use Rattle.run_promise.specs.Run.{Ran, made_by, sizes_of};
 ghost use Rattle.bench_summary.specs.Views.{sizes_of as summed_sizes};
 ghost use Rattle.log_answers.specs.Checking.{IsBenchAim};
@@ -19,17 +19,16 @@ ghost use Rattle.pota_top.specs.Benching.{CanBeMade, HasMade};
 
 use crate::reading::read_log;
 use command_words::{Form, Inquiry, Product, Shown, Sizes};
-use event_log::{Event, Item, Log};
 use log_answers::{Checking, Means, Stop, Verdict};
 use log_check::LogCheck;
-use pota_base::{Gate, List, NoMemory, Sink, Source, Steps};
+use pota_base::{Gate, Sink, Source, Steps};
 use run_request::Stated;
-use std::alloc::Global;
 use std::marker::Brand;
 use std::sync::ledger::{Blank, Ledger};
 use std::thread::Threads;
 use trace_gen::generate;
 use watch::{Handed, Watch};
+use whole_answers::{check_clocks, check_sources};
 
 // Reads the log to its end, and writes all its reports.
 fn check_all<R: Threads + Sync, G: Gate, L: Ledger, S: Source, O: Sink>(
@@ -52,8 +51,8 @@ fn check_all<R: Threads + Sync, G: Gate, L: Ledger, S: Source, O: Sink>(
     checking.report(means, out)
 }
 
-// Checks the log that the source has.
-fn check_log<R: Threads + Sync, G: Gate, L: Ledger, S: Source, O: Sink>(
+// Checks the log whose text the source has.
+fn check_text<R: Threads + Sync, G: Gate, L: Ledger, S: Source, O: Sink>(
     blank: Blank,
     means: &Means<'_, R, G>,
     check: LogCheck,
@@ -86,42 +85,72 @@ fn check_log<R: Threads + Sync, G: Gate, L: Ledger, S: Source, O: Sink>(
     verdict
 }
 
-// Appends the events as items.
-fn put_events(items: &mut List<Item>, events: List<Event>) -> Result<(), NoMemory>
-    ensures { OnOk result (items.new ≡ items.old ++ event_items events) }
+// Checks the log that the records of the source are.
+fn check_records<R: Threads + Sync, G: Gate, L: Ledger, S: Source, O: Sink>(
+    blank: Blank,
+    means: &Means<'_, R, G>,
+    check: LogCheck,
+    workers: u32,
+    source: &mut S,
+    out: &mut O,
+) -> Result<Verdict, Stop>
+    requires name { blank.name ≡ L.name }
+    requires parts { blank.parts ≡ L.parts }
+    requires one { 0 < blank.parts }
+    requires some { 1 ≤ workers }
+    requires few { workers ≤ 16 }
+    requires check { (aim : Aim)
+        × IsCheckOf (λ h. answers (h.watch.vtable, h.watch.value)) aim check waiting }
+    ensures { (aim : Aim)
+        → IsCheckOf (λ h. answers (h.watch.vtable, h.watch.value)) aim check waiting
+        → (each : Bool)
+        → HasCheckedBy clocks_reading (S.left source.old) (S.left source.new)
+        (O.held out.old) (O.held out.new) (S.faults source.old) (S.faults source.new)
+        (O.faults out.old) (O.faults out.new) aim each result }
 {
-    let mut rest = events.into_vec().into_iter();
-    while let Some(event) = rest.next() {
-        items.push(Item::Event(event))?;
-    }
-    Ok(())
+    let mut checking = Checking {
+        check,
+        each_batch: false,
+        workers,
+        steps: Steps::<L>::new(blank),
+    };
+    let verdict = check_clocks(means, &mut checking, source, out);
+    drop(checking);
+    verdict
 }
 
-// The items of a log of one batch.
-fn items_of(alloc: Global, log: Log) -> Result<List<Item>, NoMemory>
-    requires { length log.batches ≡ 1 }
-    ensures { IfOk result (λ items. items ≡ log_items log) }
+// Checks the several logs that the source has as one.
+fn check_logs<R: Threads + Sync, G: Gate, L: Ledger, S: Source, O: Sink>(
+    blank: Blank,
+    means: &Means<'_, R, G>,
+    check: LogCheck,
+    workers: u32,
+    source: &mut S,
+    out: &mut O,
+) -> Result<Verdict, Stop>
+    requires name { blank.name ≡ L.name }
+    requires parts { blank.parts ≡ L.parts }
+    requires one { 0 < blank.parts }
+    requires some { 1 ≤ workers }
+    requires few { workers ≤ 16 }
+    requires check { (aim : Aim)
+        × IsCheckOf (λ h. answers (h.watch.vtable, h.watch.value)) aim check waiting }
+    ensures { (aim : Aim)
+        → IsCheckOf (λ h. answers (h.watch.vtable, h.watch.value)) aim check waiting
+        → (each : Bool)
+        → HasCheckedBy merged_reading (S.left source.old) (S.left source.new)
+        (O.held out.old) (O.held out.new) (S.faults source.old) (S.faults source.new)
+        (O.faults out.old) (O.faults out.new) aim each result }
 {
-    let Log { header, batches } = log;
-    let mut items = List::new(alloc);
-    items.push(Item::Header(header))?;
-    let mut batches = batches.into_vec();
-    if let Some(events) = batches.pop() {
-        put_events(&mut items, events)?;
-    }
-    items.push(Item::End)?;
-    Ok(items)
-}
-
-// The items of the log that is made.
-fn make_items(alloc: Global, sizes: Sizes) -> Result<List<Item>, NoMemory>
-    requires { CanBeMade sizes }
-    ensures { IfOk result (λ items. items ≡ log_items (made_by sizes)) }
-{
-    items_of(
-        alloc,
-        generate(alloc, sizes.seed, sizes.procs, sizes.events)?,
-    )
+    let mut checking = Checking {
+        check,
+        each_batch: false,
+        workers,
+        steps: Steps::<L>::new(blank),
+    };
+    let verdict = check_sources(means, &mut checking, source, out);
+    drop(checking);
+    verdict
 }
 
 // The sizes as a summary has them.
@@ -152,10 +181,10 @@ fn bench_all<R: Threads + Sync, G: Gate, L: Ledger, O: Sink>(
         → HasMade (O.held out.old) (O.held out.new) (O.faults out.old) (O.faults out.new)
         aim sizes result }
 {
-    let Ok(items) = make_items(means.alloc, sizes) else {
+    let Ok(log) = generate(means.alloc, sizes.seed, sizes.procs, sizes.events) else {
         return Err(Stop::without_memory());
     };
-    if let Err(stop) = checking.take_all(means, items, out) {
+    if let Err(stop) = checking.take_whole(means, log, out) {
         return Err(stop);
     }
     checking.sum_up(means, summary_sizes(sizes), out)
@@ -195,41 +224,6 @@ fn bench_log<R: Threads + Sync, G: Gate, L: Ledger, O: Sink>(
     verdict
 }
 
-// Writes reports on the log whose text the source has.
-fn answer_text<R: Threads + Sync, G: Gate, S: Source, O: Sink>(
-    means: &Means<'_, R, G>,
-    stated: Stated,
-    shown: Shown,
-    workers: u32,
-    watches: Vec<Handed>,
-    log: &mut S,
-    out: &mut O,
-) -> Result<Verdict, Stop>
-    requires some { 1 ≤ workers }
-    requires few { workers ≤ 16 }
-    requires watches { AreWatches watches.items }
-    requires stated { (text : ListOf ℕ) × IsStated text stated }
-    ensures { (words : ListOf (ListOf ℕ)) (text : ListOf ℕ) → IsStated text stated
-        → AsksFor words (Read (record { form = Text; product = Reports shown })) stated.formula.tree
-        → Ran (S.left log.old) (S.left log.new) (O.held out.old) (O.held out.new) (S.faults log.old)
-        (S.faults log.new) (O.faults out.old) (O.faults out.new)
-        (handing_of
-        (λ h. answers (h.watch.vtable, h.watch.value)) watches.items) words (outcome_of result) }
-{
-    let Ok(check) = LogCheck::new(means.alloc, stated, shown.slice, shown.witness, watches) else {
-        return Err(Stop::without_memory());
-    };
-    check_log::<R, G, Brand, S, O>(
-        Blank::new(1),
-        means,
-        check,
-        shown.each_batch,
-        workers,
-        log,
-        out,
-    )
-}
-
 // What the reports on an input show.
 fn shown_in(product: Product) -> Shown
     ensures { product ≡ Reports result }
@@ -260,16 +254,16 @@ pub fn answer_inquiry<R: Threads + Sync, G: Gate, S: Source, O: Sink>(
         (handing_of
         (λ h. answers (h.watch.vtable, h.watch.value)) watches.items) words (outcome_of result) }
 {
+    let shown = shown_in(inquiry.product);
+    let Ok(check) = LogCheck::new(means.alloc, stated, shown.slice, shown.witness, watches) else {
+        return Err(Stop::without_memory());
+    };
+    let blank = Blank::new(1);
+    let each = shown.each_batch;
     match inquiry.form {
-        Form::Text => answer_text(
-            means,
-            stated,
-            shown_in(inquiry.product),
-            workers,
-            watches,
-            log,
-            out,
-        ),
+        Form::Text => check_text::<R, G, Brand, S, O>(blank, means, check, each, workers, log, out),
+        Form::Clocks => check_records::<R, G, Brand, S, O>(blank, means, check, workers, log, out),
+        Form::Merged => check_logs::<R, G, Brand, S, O>(blank, means, check, workers, log, out),
     }
 }
 

@@ -1,5 +1,5 @@
 use Rattle.std.proofs.Common.{refl}
-use Rattle.pota_top.proofs.Running.{ran_made}
+use Rattle.pota_top.proofs.Running.{ran_made, ran_short}
 use Rattle.pota_top.proofs.answering.answer_bench.Goals as goal
 
 pub bench_log-requires-clause-check : goal.bench_log-requires-clause-check
@@ -9,3 +9,6 @@ pub returns : goal.returns
 returns g c words text is asks left lf =
     ran_made (λ h. (goal.Watch-dyn g (h.watch.vtable, h.watch.value)).answers h.watch.value) c.args.stated c.args.sizes c.args.watches.items words text is asks left _ _ lf _ _ c.bench_log.result
     (c.bench_log.ensures _ c.in-Ok.ensures (record { slice = refl; witness = refl }))
+
+pub returns-in_default : goal.returns-in_default
+returns-in_default g c words text is asks left lf = ran_short left _ lf _ _ words c.without_memory.result c.without_memory.ensures

@@ -2,6 +2,7 @@ use Rattle.std.proofs.Common.{subst}
 use Rattle.command_words.specs.declared.request.Task.{Task}
 use Rattle.run_request.specs.Questions.{AsksFor}
 use Rattle.run_request.proofs.OneQuestion.{question_asks}
+use Rattle.pota_top.proofs.Words.{question_workers, question_sizes}
 use Rattle.pota_top.proofs.top.answer_question.Goals as goal
 
 pub returns-in-Read : goal.returns-in-Read
@@ -16,3 +17,18 @@ returns-in-Bench g c words is =
     (subst (λ (t : Task). AsksFor words t c.args.question.stated.formula.tree) c.in-Bench.is
     (question_asks words c.args.question is))
     (g.S.Source.left c.args.log.now) (g.S.Source.faults c.args.log.now)
+
+pub answer_inquiry-requires-clause-some : goal.answer_inquiry-requires-clause-some
+answer_inquiry-requires-clause-some g c κs within = (question_workers c.requires.asks.0 c.args.question c.requires.asks.1).0
+
+pub answer_inquiry-requires-clause-few : goal.answer_inquiry-requires-clause-few
+answer_inquiry-requires-clause-few g c κs within = (question_workers c.requires.asks.0 c.args.question c.requires.asks.1).1
+
+pub answer_bench-requires-clause-some : goal.answer_bench-requires-clause-some
+answer_bench-requires-clause-some g c κs within = (question_workers c.requires.asks.0 c.args.question c.requires.asks.1).0
+
+pub answer_bench-requires-clause-few : goal.answer_bench-requires-clause-few
+answer_bench-requires-clause-few g c κs within = (question_workers c.requires.asks.0 c.args.question c.requires.asks.1).1
+
+pub answer_bench-requires-clause-sizes : goal.answer_bench-requires-clause-sizes
+answer_bench-requires-clause-sizes g c κs within = question_sizes c.requires.asks.0 c.args.question c.requires.asks.1 c.in-Bench.sizes c.in-Bench.is

@@ -1,7 +1,7 @@
 use Rattle.std.proofs.Common.{length}
 use Rattle.std.specs.Vec.Iter.{into_iter_items}
-use Rattle.pota_top.proofs.Benching.{PutSoFar}
-use Rattle.pota_top.proofs.answering.put_events.Given as goal
+use Rattle.log_answers.proofs.OneBatch.{PutSoFar}
+use Rattle.log_answers.proofs.whole.put_events.Given as goal
 
 abbrev pub invariant-loop-event : goal.invariant-loop-event
 invariant-loop-event l = PutSoFar l.fn.items l.items l.fn.events (into_iter_items l.rest)

@@ -1,7 +1,7 @@
 use Rattle.std.proofs.Common.{subst}
 use Rattle.std.specs.Vec.Iter.{into_iter_items}
-use Rattle.pota_top.proofs.Benching.{PutSoFar, put_one}
-use Rattle.pota_top.proofs.answering.put_events.Goals as goal
+use Rattle.log_answers.proofs.OneBatch.{PutSoFar, put_one}
+use Rattle.log_answers.proofs.whole.put_events.Goals as goal
 
 pub loop-event-preserved : goal.loop-event-preserved
 loop-event-preserved c =

@@ -1,0 +1,67 @@
+-- A log that stands whole, in one batch: what its items lead to, and its report.
+use Rattle.std.specs.Prelude.{◌≡◌, ℕ, ◌≤◌, ◌↔◌, true, false, List, [], ◌∷◌, Option, Some}
+use Rattle.std.specs.Prelude.{Result, Ok, Err}
+use Rattle.std.specs.Io.KnownBytes.{Appends}
+use Rattle.pota_base.specs.Outside.{Rose}
+use Rattle.event_log.specs.declared.log.Log.{Log}
+use Rattle.event_log.specs.LogText.{log_items}
+use Rattle.log_judgement.specs.declared.refusal.Refusal.{Refusal}
+use Rattle.log_judgement.specs.Judgement.{Prefix, Judgement, waiting, refused, judged}
+use Rattle.log_judgement.specs.Due.{whole_of, batches_of}
+use Rattle.log_check.specs.Aims.{Says, Aim, rules_of, IsTrueSoFar}
+use Rattle.log_check.specs.declared.check.LogCheck.{LogCheck}
+use Rattle.log_answers.specs.declared.stop.StopCause.{StopCause}
+use Rattle.log_answers.specs.declared.stop.StopCause.TheVariants as causes
+use Rattle.log_answers.specs.declared.stop.Stop.{Stop}
+use Rattle.log_answers.specs.declared.stop.Verdict.{Verdict}
+use Rattle.log_answers.specs.Checking.{AreReportsFor, HasPartOf, TakesItems}
+
+-- what all items of a log lead to
+abbrev pub judgement_on : Aim → Log → Judgement
+judgement_on aim log = judged (rules_of aim) waiting (log_items log)
+
+-- its items were taken, and nothing was written
+abbrev pub TakesWhole : {T X : Type 0} {P : X → Type 0} → (held held' : Option (List ℕ))
+    → (of of' : ℕ) → Says X P → Aim → LogCheck X P → Log → Result T Stop → Type 0
+TakesWhole held held' of of' says aim check log result =
+    TakesItems held held' of of' says aim false check (judgement_on aim log) [] result
+
+-- the log has no fault, its report is this text, and this is the verdict
+pub record IsWholeVerdict (aim : Aim) (log : Log) (text : List ℕ) (v : Verdict) : Type 0 where
+  pub whole : Prefix
+  pub is : whole_of (judgement_on aim log) ≡ Some whole
+  pub texts : AreReportsFor aim (whole ∷ []) text
+  pub truth : (v.truth ≡ true) ↔ IsTrueSoFar aim whole
+  pub count : v.batches ≡ batches_of (judgement_on aim log)
+
+-- this is the log's first fault, and nothing was written
+pub record IsWholeRefused (aim : Aim) (log : Log) (text : List ℕ) (why : Refusal) (batches : ℕ)
+    : Type 0 where
+  pub before : Option Prefix
+  pub is : judgement_on aim log ≡ refused before why
+  pub nothing : text ≡ []
+  pub count : batches ≡ batches_of (judgement_on aim log)
+
+-- the log has no fault, and a prefix of its report was written
+pub record IsWholePart (aim : Aim) (log : Log) (text : List ℕ) (batches : ℕ) : Type 0 where
+  pub whole : Prefix
+  pub is : whole_of (judgement_on aim log) ≡ Some whole
+  pub part : HasPartOf aim (whole ∷ []) text batches
+
+abbrev pub WholeStops : StopCause → ℕ → ℕ → ℕ → Aim → Log → List ℕ → Type 0
+WholeStops (causes.Refused r) n of of' aim log text = IsWholeRefused aim log text r n
+WholeStops causes.Write n of of' aim log text = IsWholePart aim log text n × Rose of of'
+WholeStops causes.Memory n of of' aim log text = (text ≡ []) × (n ≡ 0)
+WholeStops causes.Read n of of' aim log text = ⊥
+
+abbrev pub WholeTo : ℕ → ℕ → Aim → Log → List ℕ → Result Verdict Stop → Type 0
+WholeTo of of' aim log text (Ok v) = IsWholeVerdict aim log text v
+WholeTo of of' aim log text (Err stop) = WholeStops stop.cause stop.batches of of' aim log text
+
+-- the log was checked, and its report written
+pub record HasWhole (held held' : Option (List ℕ)) (of of' : ℕ) (aim : Aim) (log : Log)
+    (result : Result Verdict Stop) : Type 0 where
+  pub written : List ℕ
+  pub wrote : Appends held held' written
+  pub later : of ≤ of'
+  pub to : WholeTo of of' aim log written result
