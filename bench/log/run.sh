@@ -2,7 +2,9 @@
 # Prints the times of reading and of checking a log apart, and the peak of the memory: of 32 processes and 50,000 events in one
 # batch, of the same with a batch behind each event, both with their clocks and with none of them, of a chain and of a cycle of
 # 50,000 events without clocks, and of 64 MiB of empty batches. As in the product, a log comes in pieces of 64 KiB, and what a piece
-# gives is put into the trace before the next one is read. Then the time that the program takes for the texts that cost the most.
+# gives is put into the trace before the next one is read. Then the time and the peak that the program takes for the first of these
+# logs, for the same as a two-line log of 32 hosts and 50,000 records and as 32 logs of 1,562 or 1,563 events each, one behind the
+# other, and the time that it takes for the texts that cost the most.
 # It works on a scratch copy of the crates, where what is timed is proved and built.
 #
 # It is run as `bench/log/run.sh`, or as `bench/log/run.sh log`, which stops before the program is built.
@@ -43,6 +45,30 @@ cut_up() { sed '/^ev /a batch'; }
 
 # The log on standard input, in version 2 and without its clocks.
 leave_out() { sed -e '1s/1/2/' -e 's/^\(ev [^ ]*\) [^ ]*/\1 ~/'; }
+
+# The log on standard input as a two-line log, each clock with the counts that aren't 0.
+as_records() {
+    awk '
+    $1 == "procs" { for (p = 2; p <= NF; p++) name[p - 1] = $p }
+    $1 == "ev" {
+        count = split($3, clock, ",")
+        text = ""
+        for (p = 1; p <= count; p++)
+            if (clock[p] > 0) text = text (text == "" ? "" : ", ") "\"" name[p] "\":" clock[p]
+        print $2 " {" text "}"
+        print $4
+    }'
+}
+
+# as_sources FILE
+# The log as one of each process, one behind the other.
+as_sources() {
+    for process in $(sed -n '2s/^procs//p' "$1"); do
+        head -n 2 "$1"
+        grep -E "^(vars|ev) $process " "$1"
+        echo end
+    done
+}
 
 # ring SENT
 # A log without clocks whose 50,000 events are a chain. In each of 781 rounds each process receives from the one behind it and
@@ -88,6 +114,20 @@ head -c 67108864 /dev/urandom > "$scratch/garbage"
 scratch_crates $(crates_below pota | grep -vxFf <(cut -d: -f1 "$scratch/crates.txt"))
 cd "$scratch/crates/pota"
 rt run > /dev/null 2>&1 < stdin -- check 'EF (P.x = 0 & P.x = 0)' || true
+
+# timed LOG [OPTION]
+timed() {
+    echo "$1: $(wc -c < "$scratch/$1") bytes"
+    for _ in 1 2 3; do
+        /usr/bin/time -f 'peak memory: %M KiB, %e s, processor: %U s and %S s of the system' \
+            ./out/pota check true $2 < "$scratch/$1" > /dev/null
+    done
+}
+as_records < "$scratch/one_batch" > "$scratch/records"
+as_sources "$scratch/one_batch" > "$scratch/sources"
+timed one_batch
+timed records --vclog
+timed sources --merged
 for text in garbage one_line line_feeds empty_batches; do
     echo "$text: $(wc -c < "$scratch/$text") bytes"
     time ./out/pota check 'EF (P.x = 0 & P.x = 0)' < "$scratch/$text" || true

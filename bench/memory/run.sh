@@ -28,6 +28,17 @@ ev P 3,2 recv Q 2
 end
 LOG
 sed '6a batch' run.log > batches.log
+for process in P Q; do
+    head -n 2 run.log
+    grep -E "^(vars|ev) $process " run.log
+    echo end
+done > logs_of_processes
+cat > two_line.log <<'LOG'
+client {"client":1}
+start
+server {"server":1,"client":1}
+got
+LOG
 
 # A run with the growth of this number refused; 0 refuses none.
 run() {
@@ -73,5 +84,7 @@ try 0 run.log check 'empty(P,Q)' --slice --witness
 try 1 run.log check '(P.x = 1 & Q.y = 2) | (P.x = 2 & Q.y = 1)' --slice --witness
 try 0 batches.log check 'EF (P.x = 2 & Q.y = 1)' --each-batch
 try 1 batches.log check 'EG empty(P,Q)' --witness --each-batch
+try 0 two_line.log check 'EF (client.n = 1 & server.n = 0)' --vclog --slice --witness
+try 0 logs_of_processes check 'EF (P.x = 2 & Q.y = 1)' --merged --slice --witness
 try 0 run.log bench 'EF (P3.seen = 1 & P2.n = 0)' --seed 42 --procs 3 --events 6
 exit $wrong

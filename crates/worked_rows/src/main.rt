@@ -18,7 +18,7 @@ use std::{fs, io};
 use verdict::judge;
 
 /// The files of cases, in the order in which they are run.
-const FILES: [&str; 10] = [
+const FILES: [&str; 12] = [
     "first_form.cases",
     "malformed.cases",
     "words.cases",
@@ -28,6 +28,8 @@ const FILES: [&str; 10] = [
     "left_out.cases",
     "batches.cases",
     "failing.cases",
+    "two_line_logs.cases",
+    "merged_logs.cases",
     "benches.cases",
 ];
 
