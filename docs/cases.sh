@@ -6,15 +6,16 @@
 #
 # Taken from a page are:
 #
-# - in a fenced block, a line `$ pota WORD .. < FILE` or `$ head -n N FILE | pota WORD ..` with the lines behind it: what the
-#   program prints, whole. Behind `$ cat FILE` must stand the file.
+# - in a fenced block, a line `$ pota WORD .. < FILE`, `$ head -n N FILE | pota WORD ..` or `$ cat FILE .. | pota WORD ..` with the
+#   lines behind it: what the program prints, whole. Behind `$ cat FILE` must stand the file. FILE may be a pattern.
 # - a row of a table whose second cell is `formula byte ..`: the formula in the first cell gives this fault
 # - a row whose second cell is `log line N: ..`: the log gives this fault where line N, or the last where there is no such
-#   line, is the first cell. `\` and two hexadecimal digits stand for one byte
+#   line, is the first cell; `log source S line N: ..` speaks of line N of file S. `\` and two hexadecimal digits stand for one
+#   byte
 # - a row whose third cell is "true on" or "false on" and a file below examples/: the verdict of the formula in the second
 #   cell, which is canonical
 #
-# The rows of faults are tried on the log that the comment "tried on FILE" above them names.
+# The rows of faults are tried on the log that the comment "tried on FILE" or "tried with OPTION on FILE .." above them names.
 cd "$(dirname "$0")/.." || exit 1
 LC_ALL=C
 shopt -s nullglob
@@ -33,14 +34,20 @@ function code_of(cell,    from, rest) {
     return substr(rest, 1, index(rest, "`") - 1)
 }
 
-# Fills lines[1..] with the log, and gives their number.
-function read_log(path,    count) {
-    count = 0
-    while ((getline lines[count + 1] < path) > 0)
-        count++
-    close(path)
+# Fills lines[1..] with the log, or with the logs one behind the other, begins[S] with what is before log S, and gives their
+# number.
+function read_log(paths,    count, path, files, list) {
+    count = files = 0
+    list = "ls " paths
+    while ((list | getline path) > 0) {
+        begins[++files] = count
+        while ((getline lines[count + 1] < path) > 0)
+            count++
+        close(path)
+    }
+    close(list)
     if (!count)
-        complain("there is no log " path)
+        complain("there is no log " paths)
     return count
 }
 
@@ -74,9 +81,22 @@ function closed_before(path, line,    count, i, closed) {
     return closed
 }
 
-function line_of(fault) {
+# The line of a fault in the log, or in the logs one behind the other.
+function line_of(fault, path,    source) {
+    if (fault ~ /^(pota: )?log source /) {
+        read_log(path)
+        sub(/^.*log source /, "", fault)
+        source = fault + 0
+        sub(/^[0-9]+ line /, "", fault)
+        return begins[source] + fault
+    }
     sub(/^.*log line /, "", fault)
     return fault + 0
+}
+
+# The batches that are taken before a fault at this line: none of a log that is read whole first.
+function taken_before(fault, path, option) {
+    return option == "" ? closed_before(path, line_of(fault, path)) : 0
 }
 
 # Fills words[1..], and gives their number. A word may stand in single quotes.
@@ -101,8 +121,11 @@ function split_words(text,    count, at) {
 # Begins what a command of a block prints.
 function begin_command(text,    at) {
     end_command()
-    log_file = log_lines = shown_file = ""
-    if (text ~ /^cat /) {
+    log_file = log_lines = shown_file = option = ""
+    if (match(text, /^cat .* \| pota /)) {
+        log_file = substr(text, 5, RLENGTH - 12)
+        text = substr(text, RLENGTH - 4)
+    } else if (text ~ /^cat /) {
         shown_file = substr(text, 5)
         shown = read_log(shown_file)
         seen = 0
@@ -122,8 +145,11 @@ function begin_command(text,    at) {
     }
     begin_case()
     word_count = split_words(substr(text, 6))
-    for (at = 1; at <= word_count; at++)
+    for (at = 1; at <= word_count; at++) {
         print "word " words[at]
+        if (words[at] ~ /^--(vclog|merged)$/)
+            option = words[at]
+    }
     if (log_file != "")
         put_log(log_file, log_lines, 0, "")
     else
@@ -162,9 +188,9 @@ function end_command() {
         print "status 2"
     else if (diag ~ /^pota: formula byte /)
         print "status 3"
-    else if (diag ~ /^pota: log line /) {
+    else if (diag ~ /^pota: log (line|source) /) {
         print "status 4"
-        batches = closed_before(log_file, line_of(diag))
+        batches = taken_before(diag, log_file, option)
     } else if (verdict == "true")
         print "status 0"
     else if (verdict == "false")
@@ -194,37 +220,59 @@ function put_log_fault(text, fault) {
     begin_case()
     print "word check"
     print "word true"
-    put_log(tried_on, 0, line_of(fault), text)
+    if (tried_with != "")
+        print "word " tried_with
+    put_log(tried_on, 0, line_of(fault, tried_on), text)
     print "status 4"
-    print "batches " closed_before(tried_on, line_of(fault))
+    print "batches " taken_before(fault, tried_on, tried_with)
     print "diag pota: " fault
     print "end\n"
 }
 
-# The lengths of the runs of the processes in names[1..].
-function lengths_of(count, names, of,    i, j, part, events, text) {
+# Fills names[1..] with the processes of the log and events[name] with how many events each has, and gives their number. A file
+# that ends in `.vclog` has records of two lines, and its hosts are names.
+function read_processes(path, count,    i, j, of, part, name) {
+    split("", events)
+    if (path ~ /\.vclog$/) {
+        of = 0
+        for (i = 1; i <= count; i += 2) {
+            split(lines[i], part, " ")
+            if (!(part[1] in events)) {
+                for (j = ++of; j > 1 && names[j - 1] > part[1]; j--)
+                    names[j] = names[j - 1]
+                names[j] = part[1]
+            }
+            events[part[1]]++
+        }
+        return of
+    }
+    of = split(substr(lines[2], 7), names, " ")
     for (i = 1; i <= count; i++) {
         split(lines[i], part, " ")
         if (part[1] == "ev")
             events[part[2]]++
     }
-    for (j = 2; j <= of; j++)
-        text = text (j > 2 ? "," : "") events[names[j]] + 0
-    return text
+    return of
 }
 
-function put_verdict(formula, verdict, path,    count, of, i, closed) {
+function put_verdict(formula, verdict, path,    count, of, i, closed, procs, lengths) {
     begin_case()
     print "word check"
     print "word " formula
+    if (path ~ /\.vclog$/)
+        print "word --vclog"
     put_log(path, 0, 0, "")
     count = read_log(path)
-    closed = closed_before(path, count) + 1
+    closed = path ~ /\.vclog$/ ? 1 : closed_before(path, count) + 1
     print "status " (verdict == "true" ? 0 : 1)
     print "batches " closed
-    print "report pota-report 1\nreport batch " closed "\nreport " lines[2]
-    of = split(lines[2], names, " ")
-    print "report lengths " lengths_of(count, names, of)
+    of = read_processes(path, count)
+    for (i = 1; i <= of; i++) {
+        procs = procs " " names[i]
+        lengths = lengths (i > 1 ? "," : "") events[names[i]] + 0
+    }
+    print "report pota-report 1\nreport batch " closed "\nreport procs" procs
+    print "report lengths " lengths
     print "report formula " formula "\nreport verdict " verdict "\nreport end\nend\n"
 }
 
@@ -237,7 +285,7 @@ function take_row(row,    cells, second, third) {
     third = cells[4]
     if (second ~ /^formula byte /)
         put_formula_fault(code_of(cells[2]), second)
-    else if (second ~ /^log line /)
+    else if (second ~ /^log (line|source) /)
         put_log_fault(code_of(cells[2]), second)
     else if (third ~ /^ (true|false) on `/)
         put_verdict(second, third ~ /^ true/ ? "true" : "false", "examples/" code_of(third))
@@ -263,8 +311,11 @@ fenced {
     add_output($0)
     next
 }
-/^<!-- tried on / {
-    tried_on = $4
+/^<!-- tried (with --[a-z]+ )?on .* -->$/ {
+    tried_with = $3 == "with" ? $4 : ""
+    tried_on = $0
+    sub(/^.* on /, "", tried_on)
+    sub(/ -->$/, "", tried_on)
 }
 /^\|/ {
     take_row($0)
