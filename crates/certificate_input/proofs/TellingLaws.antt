@@ -1,18 +1,16 @@
 -- Reads, one after the other.
 use Rattle.std.proofs.Common.{◌≡◌, ℕ, ◌+◌, ◌*◌, ◌-◌, ◌^◌, ◌<◌, ◌≤◌, Option, None, Some, List, [], ◌++◌, length, refl, sym, ap, subst, append-nil, arith, inl, inr}
-use Rattle.std.specs.Prelude.{◌⊎◌}
-use Rattle.std.specs.Io.KnownBytes.{Consumes, IsAtEnd, Keeps}
+use Rattle.std.specs.Io.KnownBytes.{Consumes, Keeps}
 use Rattle.std.proofs.KnownBytes.{Consumes-nil, Consumes-trans, Consumes-kept}
 use Rattle.pota_base.specs.Outside.{Rose}
 use Rattle.input_reading.specs.Intakes.{ReadsShort}
 use Rattle.certificate_lines.specs.declared.line.Line.{Line}
 use Rattle.certificate_text.specs.Taking.{VerifierView}
-use Rattle.certificate_text.specs.Bytes.{RefusedAt}
 use Rattle.certificate_input.specs.declared.told.Told.{Told}
 use Rattle.certificate_input.specs.declared.told.Told.TheVariants as told
 use Rattle.certificate_input.specs.Pieces.{Reaches, RefusedWithin, accepted_at, InputView, IsReady, IsTaken}
 use Rattle.certificate_input.specs.Telling.{IsFresh, IsTold, TellsBehind, TurnsTo, Turns}
-use Rattle.certificate_input.proofs.PieceLaws.{reach_reach, reach_within, reach_refused, reach_judged, reach_further, within_at}
+use Rattle.certificate_input.proofs.PieceLaws.{reach_reach, reach_within, reach_refused, reach_judged, reach_further}
 
 -- how many bytes more there may be, before the lines can't be counted
 abbrev pub bytes_left : {N : Type 0} → InputView N → ℕ
@@ -28,24 +26,16 @@ module _ {N : Type 0} (follows : N → Line → N → Type 0) where
       → IsTold follows left early faults' v line (bytes ++ more) t
   told_behind (told.Accepted truth) left early faults faults' v line bytes mid part more few later reach h =
       (h.0, reach_judged follows bytes more v line mid part truth few reach h.1)
-  told_behind (told.Refused n) left early faults faults' v line bytes mid part more few later reach h =
-      (reach_refused follows bytes more v line mid part n reach h.0, why h.1)
-    where
-      why : IsAtEnd left ⊎ RefusedWithin follows more mid part n → IsAtEnd left ⊎ RefusedWithin follows (bytes ++ more) v line n
-      why (inl end) = inl end
-      why (inr within) = inr (reach_within follows bytes more v line mid part n reach within)
+  told_behind (told.Refused n) left early faults faults' v line bytes mid part more few later reach (inl h) =
+      inl (h.0, reach_refused follows bytes more v line mid part n reach h.1)
+  told_behind (told.Refused n) left early faults faults' v line bytes mid part more few later reach (inr h) =
+      inr (reach_within follows bytes more v line mid part n reach h)
   told_behind told.Failed left early faults faults' v line bytes mid part more few later reach h =
       (rose h.0, (h.1.0, h.1.1, reach_reach follows bytes more v line mid part h.1.0 h.1.1 reach h.1.2))
     where
       -- a rise since a later count is one since an earlier count
       rose : Rose faults faults' → Rose early faults'
       rose r = omega (arith, r, later)
-
-  -- a line of these bytes is refused
-  refused_once : (left : Option (List ℕ)) (faults faults' : ℕ) (v : VerifierView N) (line bytes : List ℕ) (n : ℕ) → RefusedWithin follows bytes v line n
-      → IsTold follows left faults faults' v line bytes (told.Refused n)
-  refused_once left faults faults' v line bytes n h =
-      (subst (λ (x : List ℕ). RefusedAt follows x v line n) (append-nil bytes) (within_at follows bytes [] v line n h), inr h)
 
   -- a read failed, and no byte came
   pub read_failed : (left left' : Option (List ℕ)) (faults faults' : ℕ) (v : InputView N) → Keeps left left' → faults ≤ faults' → Rose faults faults'
@@ -62,7 +52,7 @@ module _ {N : Type 0} (follows : N → Line → N → Type 0) where
       → IsTaken follows v read o after → Turns follows left left' faults faults' v after (Some (told.Refused n))
   turn_refused left left' faults faults' v after read n o consumed later some taken =
       let to = subst (λ (x : Option ℕ). IsTaken follows v read x after) some taken in
-      record { read = read; consumed = consumed; later = later; to = refused_once left' faults faults' v.text v.line read n to }
+      record { read = read; consumed = consumed; later = later; to = inr to }
 
   -- these bytes were read so far, and lead on
   pub record SoFar (left left' : Option (List ℕ)) (faults faults' : ℕ) (v now : InputView N) : Type 0 where
@@ -122,7 +112,7 @@ module _ {N : Type 0} (follows : N → Line → N → Type 0) where
     read = [];
     consumed = Consumes-nil left;
     later = omega arith;
-    is = refused_once left faults faults v line (front ++ []) n (subst (λ (x : List ℕ). RefusedWithin follows x v line n) (sym (append-nil front)) h);
+    is = inr (subst (λ (x : List ℕ). RefusedWithin follows x v line n) (sym (append-nil front)) h);
   }
 
 pub nothing_short : (left : Option (List ℕ)) (faults : ℕ) → ReadsShort left left faults faults

@@ -29,11 +29,15 @@ RefusedWithin follows (b ∷ bytes) v line n = pick (b == 10)
     (((n ≡ v.lines + 1) × IsFull v line)
     ⊎ ((IsFull v line → ⊥) × RefusedWithin follows bytes v (line ++ b ∷ []) n))
 
--- no line of these bytes is refused
+-- no line of these bytes is refused, behind the bytes of a line so far
 abbrev pub LeadsOn : {N : Type 0} → (N → Line → N → Type 0) → List ℕ → VerifierView N → List ℕ
     → Type 0
 LeadsOn follows bytes v line =
     (after : VerifierView _) × (rest : List ℕ) × Reaches follows bytes v line after rest
+
+-- no line of these bytes is refused
+abbrev pub NoneRefused : {N : Type 0} → (N → Line → N → Type 0) → List ℕ → VerifierView N → Type 0
+NoneRefused follows bytes v = LeadsOn follows bytes v []
 
 -- ---- what is kept between pieces
 

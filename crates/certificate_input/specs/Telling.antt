@@ -15,15 +15,14 @@ pub record IsFresh {N : Type 0} (v : VerifierView N) : Type 0 where
   pub due : v.stage ≡ stage.Title
   pub none : v.lines ≡ 0
 
--- What is told of these bytes, behind a line's bytes so far. They are accepted, and the input has
--- ended there; they are refused at the line of this number, and the input has ended there or no
--- byte behind them changes that; or no line of them is refused, and a read failed.
+-- What is told of these bytes, behind a line's bytes so far: the input has ended there, and they are
+-- accepted or refused; or a line of them is refused; or none is, and a read failed.
 abbrev pub IsTold : {N : Type 0} → (N → Line → N → Type 0) → Option (List ℕ) → ℕ → ℕ
     → VerifierView N → List ℕ → List ℕ → Told → Type 0
 IsTold follows left faults faults' v line bytes (told.Accepted truth) =
     IsAtEnd left × Judged follows bytes v line truth
 IsTold follows left faults faults' v line bytes (told.Refused n) =
-    RefusedAt follows bytes v line n × (IsAtEnd left ⊎ RefusedWithin follows bytes v line n)
+    (IsAtEnd left × RefusedAt follows bytes v line n) ⊎ RefusedWithin follows bytes v line n
 IsTold follows left faults faults' v line bytes told.Failed =
     Rose faults faults' × LeadsOn follows bytes v line
 
