@@ -9,7 +9,7 @@ use Rattle.part_pulls.specs.Observing.{clocks_seen}
 use Rattle.certificate_lines.specs.declared.line.Line.{Line}
 use Rattle.certificate_lines.specs.Spelling.{lines_text}
 use Rattle.certificate_text.specs.Running.{certificate_lines}
-use Rattle.certified_nodes.specs.Nodes.{NodesView, fresh_nodes}
+use Rattle.certified_nodes.specs.Nodes.{NodesView, AreNodes, fresh_nodes}
 use Rattle.certificate.specs.Numbering.{plan_of}
 use Rattle.canonical_text.specs.Canonical.{IsWhole}
 
@@ -18,9 +18,11 @@ abbrev pub nodes_of : Observed → List (List Piece) → NodesView
 nodes_of seen ds = fresh_nodes (clocks_seen seen) (plan_of seen ds)
 
 -- The text is the canonical certificate of the formula of these disjuncts on what was observed, and
--- tells this verdict. `formula` is the formula's line, without its line feed.
+-- tells this verdict. `formula` is the formula's line, without its line feed. The nodes stand: they
+-- are those of an order of events and of a plan that fits it.
 pub record IsCertificateOf (seen : Observed) (ds : List (List Piece)) (formula text : List ℕ)
     (told : Bool) : Type 0 where
+  pub nodes : AreNodes (nodes_of seen ds)
   pub lines : List Line
   pub whole : IsWhole (nodes_of seen ds) lines told
   pub text_is : text ≡ lines_text (certificate_lines formula lines)

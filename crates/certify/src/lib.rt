@@ -10,6 +10,9 @@
 //! (`certificates_tell_the_truth`). Nothing is said of the time or the memory that a call takes.
 #![tactic(auto)]
 
+mod laws;
 mod writing;
 
+pub use laws::{certificates_are_accepted, certificates_are_one, certificates_tell_the_truth};
+pub use laws::formula_lines_are_lines;
 pub use writing::certify;
