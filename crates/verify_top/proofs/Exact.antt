@@ -29,7 +29,7 @@ use Rattle.fault_line.specs.Faults.{fault_of_refusal}
 use Rattle.verify_top.specs.declared.answer.Answer.{Answer}
 use Rattle.verify_top.specs.declared.answer.Answer.TheVariants.{Accepted, Refused, Faulty}
 use Rattle.verify_top.specs.declared.answer.Verified.{Verified}
-use Rattle.verify_top.specs.Asking.{AsksAbout, AskNothing, HasFormulaFault, aim_for, IsStart}
+use Rattle.verify_top.specs.Asking.{AsksAbout, AskNothing, HasFormulaFault, aim_for, start_of}
 use Rattle.verify_top.specs.Verifying.{HasLog, certificate_of, IsLogRefused, IsFaulty, Says, IsTold, HasVerified}
 use Rattle.verify_top.specs.Exactness.{IsCalm, Tells, IsJudgedSo, IsDecidedSo, IsRefusedAsDue, IsRefusedAsAsked}
 use Rattle.verify_top.proofs.Asked.{some_one, not_both, about_one, about_free, fault_one}
@@ -101,10 +101,14 @@ module _ (left left' held held' : Option (List ℕ)) (lf lf' of of' : ℕ) (word
     -- ---- the certificate is judged
 
     module _ (log : Prefix) (free : (due_of_front (aim_for t) true bytes).fault ≡ None) (whole : (due_of_front (aim_for t) true bytes).whole ≡ Some log) where
-      started : (of_log : HasLog words read) → IsStart t log of_log.start
+      abbrev start : VerifierView NodesView
+      start = start_of t log
+
+      -- the certificate is that of this formula on this log
+      started : (of_log : HasLog words read) → start_of of_log.tree of_log.log ≡ start_of t log
       started of_log =
           let same : of_log.log ≡ log = some_one _ of_log.log log (ap (λ (d : Due). d.whole) (sym (due_same of_log)) ∙ of_log.whole) whole in
-          subst (λ (l : Prefix). IsStart t l of_log.start) same (subst (λ (u : Tree). IsStart u of_log.log of_log.start) (about_one words of_log.tree t of_log.asks asks) of_log.starts)
+          ap (λ (u : Tree). start_of u of_log.log) (about_one words of_log.tree t of_log.asks asks) ∙ ap (start_of t) same
 
       not_faulty : (f : Fault) → IsFaulty left' lf lf' words read f → Tells held held' (Faulty f) v → ⊥
       not_faulty fault.Usage s tells = s.0 asks.text asks.one
@@ -120,25 +124,27 @@ module _ (left left' held held' : Option (List ℕ)) (lf lf' of of' : ℕ) (word
       decided_by : (answer : Answer) → Says left' lf lf' words read answer → Tells held held' answer v → IsJudgedSo t log bytes held held' v
       decided_by (Accepted truth) s tells =
           let all = read_all left left' bytes read is h.answers.consumed s.ended in
-          let judged : Judged Follows (certificate_of bytes) s.of.start [] truth = subst (λ (xs : List ℕ). Judged Follows (certificate_of xs) s.of.start [] truth) all s.judged in
+          let judged : Judged Follows (certificate_of bytes) start [] truth =
+          subst (λ (x : VerifierView NodesView). Judged Follows (certificate_of bytes) x [] truth) (started s.of)
+          (subst (λ (xs : List ℕ). Judged Follows (certificate_of xs) (start_of s.of.tree s.of.log) [] truth) all s.judged) in
           record {
-            start = s.of.start;
-            starts = started s.of;
-            accepted = λ other j. subst (λ (b : Bool). Tells held held' (Accepted b) v) (one_truth Follows one_follows (certificate_of bytes) s.of.start [] truth other judged j) tells;
-            refused = λ n r. absurd (apart Follows one_follows (certificate_of bytes) s.of.start [] truth n judged r);
+            accepted = λ other j. subst (λ (b : Bool). Tells held held' (Accepted b) v) (one_truth Follows one_follows (certificate_of bytes) start [] truth other judged j) tells;
+            refused = λ n r. absurd (apart Follows one_follows (certificate_of bytes) start [] truth n judged r);
           }
       decided_by (Refused n) s tells =
-          let refused : RefusedAt Follows (certificate_of bytes) s.of.start [] n = at s.seen in
+          let refused : RefusedAt Follows (certificate_of bytes) start [] n =
+          subst (λ (x : VerifierView NodesView). RefusedAt Follows (certificate_of bytes) x [] n) (started s.of) (at s.seen) in
           record {
-            start = s.of.start;
-            starts = started s.of;
-            accepted = λ truth j. absurd (apart Follows one_follows (certificate_of bytes) s.of.start [] truth n j refused);
-            refused = λ m r. subst (λ (k : ℕ). Tells held held' (Refused k) v) (one_refusal Follows one_follows (certificate_of bytes) s.of.start [] n m refused r) tells;
+            accepted = λ truth j. absurd (apart Follows one_follows (certificate_of bytes) start [] truth n j refused);
+            refused = λ m r. subst (λ (k : ℕ). Tells held held' (Refused k) v) (one_refusal Follows one_follows (certificate_of bytes) start [] n m refused r) tells;
           }
         where
-          at : IsAtEnd left' ⊎ RefusedWithin Follows (certificate_of read) s.of.start [] n → RefusedAt Follows (certificate_of bytes) s.of.start [] n
-          at (inl ended) = subst (λ (xs : List ℕ). RefusedAt Follows (certificate_of xs) s.of.start [] n) (read_all left left' bytes read is h.answers.consumed ended) s.refused
-          at (inr within) = subst (λ (xs : List ℕ). RefusedAt Follows xs s.of.start [] n) (sym (certificate_is s.of)) (within_at Follows (certificate_of read) rest.0 s.of.start [] n within)
+          abbrev begun : VerifierView NodesView
+          begun = start_of s.of.tree s.of.log
+
+          at : IsAtEnd left' ⊎ RefusedWithin Follows (certificate_of read) begun [] n → RefusedAt Follows (certificate_of bytes) begun [] n
+          at (inl ended) = subst (λ (xs : List ℕ). RefusedAt Follows (certificate_of xs) begun [] n) (read_all left left' bytes read is h.answers.consumed ended) s.refused
+          at (inr within) = subst (λ (xs : List ℕ). RefusedAt Follows xs begun [] n) (sym (certificate_is s.of)) (within_at Follows (certificate_of read) rest.0 begun [] n within)
       decided_by (Faulty f) s tells = absurd (not_faulty f s tells)
 
     -- ---- the log is refused

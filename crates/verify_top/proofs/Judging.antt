@@ -13,7 +13,8 @@ use Rattle.run_request.specs.declared.formula.Stated.{Stated}
 use Rattle.run_request.specs.Questions.{IsStated}
 use Rattle.trace_growth.specs.Growing.{IsTrace}
 use Rattle.rctl_parts.specs.MadeFor.{AllFit, AreMadeFor}
-use Rattle.rctl_parts.specs.Pieces.{disjuncts_of}
+use Rattle.rctl_parts.specs.Pieces.{Piece, disjuncts_of}
+use Rattle.part_pulls.specs.declared.observed.Observed.{Observed}
 use Rattle.part_pulls.specs.Counters.{CountersRise}
 use Rattle.part_pulls.specs.Observing.{clocks_seen, scope_seen}
 use Rattle.log_judgement.specs.declared.refusal.Refusal.{Refusal}
@@ -24,7 +25,7 @@ use Rattle.log_judgement.specs.Readings.{log_reading}
 use Rattle.log_check.specs.declared.check.LogCheck.{LogCheck}
 use Rattle.log_check.specs.declared.checked.CheckedLog.{CheckedLog}
 use Rattle.log_check.specs.Aims.{Says, Aim, aim_of, rules_of, IsTrueSoFar}
-use Rattle.log_check.specs.Checked.{IsCheckedLog}
+use Rattle.log_check.specs.Checked.{IsCheckedLog, observed_alone}
 use Rattle.log_check.specs.Checking.{IsCheckOf}
 use Rattle.log_check.specs.Keeping.{reading_of}
 use Rattle.log_part.specs.Fronts.{log_front, due_of_front}
@@ -45,8 +46,8 @@ use Rattle.fault_line.specs.declared.fault.Fault.TheVariants as fault
 use Rattle.fault_line.specs.Faults.{fault_of_refusal}
 use Rattle.verify_top.specs.declared.answer.Answer.{Answer}
 use Rattle.verify_top.specs.declared.answer.Answer.TheVariants.{Accepted, Refused, Faulty}
-use Rattle.verify_top.specs.Asking.{AsksAbout, IsFormulaOf, aim_for, formula_line, IsStart}
-use Rattle.verify_top.specs.Verifying.{HasLog, IsAccepted, IsRefused, IsLogRefused, EndsInLog, EndsInCertificate, IsFaulty, Says, Answers, IsJudged, HasJudged, IsDecided, start_of}
+use Rattle.verify_top.specs.Asking.{AsksAbout, IsFormulaOf, aim_for, formula_line, start_of}
+use Rattle.verify_top.specs.Verifying.{HasLog, IsAccepted, IsRefused, IsLogRefused, EndsInLog, EndsInCertificate, IsFaulty, Says, Answers, IsJudged, HasJudged, IsDecided, start_at}
 
 -- ---- the words
 
@@ -96,12 +97,16 @@ module _ {X : Type 0} {P : X → Type 0} (says : Says X P) (words : List (List �
     due_stays : due_of_front (aim_for tree) true (bytes ++ more) ≡ due_of_front (aim_for tree) true bytes
     due_stays = ap (due log_reading (rules_of (aim_for tree)) true) (front_stays bytes more w.over)
 
-    starts : IsStart tree w.log (start_of checked)
-    starts = record {
-      checked = checked;
-      is = is;
-      begins = ap (λ (t : List ℕ). fresh (formula_line t) (fresh_nodes (clocks_seen checked.seen) (plan_of checked.seen (disjuncts_of checked.disjuncts)))) is.text;
-    }
+    abbrev start : VerifierView NodesView
+    start = start_of tree w.log
+
+    -- it is the certificate of this formula on this log
+    start_is : start_at checked ≡ start
+    unfolding start_of
+    start_is =
+        ap (λ (t : List ℕ). fresh (formula_line t) (fresh_nodes (clocks_seen checked.seen) (plan_of checked.seen (disjuncts_of checked.disjuncts)))) is.text
+        ∙ ap (λ (s : Observed). fresh (formula_line (canonical (shape_of tree))) (fresh_nodes (clocks_seen s) (plan_of s (disjuncts_of checked.disjuncts)))) (is.alone refl)
+        ∙ ap (λ (ds : List (List Piece)). fresh (formula_line (canonical (shape_of tree))) (fresh_nodes (clocks_seen (observed_alone w.log)) (plan_of (observed_alone w.log) ds))) is.split
 
     pub has_log : HasLog words (bytes ++ more)
     has_log = record {
@@ -110,38 +115,40 @@ module _ {X : Type 0} {P : X → Type 0} (says : Says X P) (words : List (List �
       log = w.log;
       whole = ap (λ (d : Due). d.whole) due_stays ∙ w.whole;
       free = ap (λ (d : Due). d.fault) due_stays ∙ w.free;
-      start = start_of checked;
-      starts = starts;
     }
 
     certificate_is : rest ++ more ≡ behind_log [] (bytes ++ more)
     certificate_is = ap (λ (xs : List ℕ). xs ++ more) w.rest_is ∙ sym (behind_stays bytes more w.over)
 
+    -- what is said of the certificate, from its start on
+    placed : (Q : List ℕ → VerifierView NodesView → Type 0) → Q (rest ++ more) (start_at checked) → Q (behind_log [] (bytes ++ more)) start
+    placed Q q = subst (Q (behind_log [] (bytes ++ more))) start_is (subst (λ (xs : List ℕ). Q xs (start_at checked)) certificate_is q)
+
     module _ (trace : IsTrace checked.seen.trace.states) (made : AreMadeFor (scope_seen checked.seen) (disjuncts_of checked.disjuncts)) (rise : CountersRise checked.seen (disjuncts_of checked.disjuncts)) where
       -- an accepted certificate tells the truth
-      truth_told : (told : Bool) → AreNodes (start_of checked).nodes → Judged Follows (rest ++ more) (start_of checked) [] told → (told ≡ true) ↔ IsTrueSoFar (aim_for tree) w.log
+      truth_told : (told : Bool) → AreNodes (start_at checked).nodes → Judged Follows (rest ++ more) (start_at checked) [] told → (told ≡ true) ↔ IsTrueSoFar (aim_for tree) w.log
       truth_told told nodes judged =
-          let lines = has_lines Follows (start_of checked) (rest ++ more) told judged in
+          let lines = has_lines Follows (start_at checked) (rest ++ more) told judged in
           let same = accepted_true checked.seen (disjuncts_of checked.disjuncts) (formula_line checked.stated.text) lines.0 told trace made.fit rise nodes lines.3 (reading_of (aim_for tree)) is.watches in
           (λ h. is.truth.0 (same.0 h), λ h. same.1 (is.truth.1 h))
 
-      pub judged_says : (left : Option (List ℕ)) (lf lf_now lf' : ℕ) → lf ≤ lf_now → (answer : Answer) → (IsDecided answer → AreNodes (start_of checked).nodes) → IsJudged left lf_now lf' (start_of checked) (rest ++ more) answer
+      pub judged_says : (left : Option (List ℕ)) (lf lf_now lf' : ℕ) → lf ≤ lf_now → (answer : Answer) → (IsDecided answer → AreNodes (start_at checked).nodes) → IsJudged left lf_now lf' (start_at checked) (rest ++ more) answer
           → Says left lf lf' words (bytes ++ more) answer
       judged_says left lf lf_now lf' later (Accepted told) nodes j = record {
         ended = j.0;
         of = has_log;
-        judged = subst (λ (xs : List ℕ). Judged Follows xs (start_of checked) [] told) certificate_is j.1;
+        judged = placed (λ xs s. Judged Follows xs s [] told) j.1;
         truth = truth_told told (nodes tt) j.1;
       }
       judged_says left lf lf_now lf' later (Refused n) nodes (inl (ended, refused)) = record {
         of = has_log;
-        refused = subst (λ (xs : List ℕ). RefusedAt Follows xs (start_of checked) [] n) certificate_is refused;
+        refused = placed (λ xs s. RefusedAt Follows xs s [] n) refused;
         seen = inl ended;
       }
       judged_says left lf lf_now lf' later (Refused n) nodes (inr within) = record {
         of = has_log;
-        refused = subst (λ (xs : List ℕ). RefusedAt Follows xs (start_of checked) [] n) certificate_is (refused_at (rest ++ more) (start_of checked) n within);
-        seen = inr (subst (λ (xs : List ℕ). RefusedWithin Follows xs (start_of checked) [] n) certificate_is within);
+        refused = placed (λ xs s. RefusedAt Follows xs s [] n) (refused_at (rest ++ more) (start_at checked) n within);
+        seen = inr (placed (λ xs s. RefusedWithin Follows xs s [] n) within);
       }
       judged_says left lf lf_now lf' later (Faulty fault.Usage) nodes j = absurd j
       judged_says left lf lf_now lf' later (Faulty (fault.Formula f)) nodes j = absurd j
@@ -149,6 +156,6 @@ module _ {X : Type 0} {P : X → Type 0} (says : Says X P) (words : List (List �
       judged_says left lf lf_now lf' later (Faulty (fault.Import f)) nodes j = absurd j
       judged_says left lf lf_now lf' later (Faulty (fault.Merge f)) nodes j = absurd j
       judged_says left lf lf_now lf' later (Faulty fault.Read) nodes j =
-          (let rose = j.0 in omega (arith, rose, later), inr (record { of = has_log; free = subst (λ (xs : List ℕ). NoneRefused Follows xs (start_of checked)) certificate_is j.1 }))
+          (let rose = j.0 in omega (arith, rose, later), inr (record { of = has_log; free = placed (λ xs s. NoneRefused Follows xs s) j.1 }))
       judged_says left lf lf_now lf' later (Faulty fault.Write) nodes j = absurd j
       judged_says left lf lf_now lf' later (Faulty fault.Memory) nodes j = tt

@@ -13,11 +13,10 @@ use Rattle.run_request.specs.Questions.{IsShortText, IsStated, IsFormulaFault}
 use Rattle.fault_line.specs.declared.fault.Fault.{Fault}
 use Rattle.fault_line.specs.declared.fault.Fault.TheVariants as fault
 use Rattle.part_pulls.specs.Observing.{clocks_seen}
-use Rattle.rctl_parts.specs.Pieces.{disjuncts_of}
+use Rattle.rctl_names.specs.Resolving.{numbered_disjuncts}
 use Rattle.log_judgement.specs.Judgement.{Prefix}
-use Rattle.log_check.specs.declared.checked.CheckedLog.{CheckedLog}
 use Rattle.log_check.specs.Aims.{Aim}
-use Rattle.log_check.specs.Checked.{IsCheckedLog}
+use Rattle.log_check.specs.Checked.{observed_alone}
 use Rattle.certificate_text.specs.Taking.{VerifierView, fresh}
 use Rattle.certified_nodes.specs.Nodes.{NodesView, fresh_nodes}
 use Rattle.certificate.specs.Numbering.{plan_of}
@@ -80,9 +79,8 @@ abbrev pub formula_line : List ℕ → List ℕ
 formula_line text = codes "formula " ++ text
 
 -- the formula's certificate on the log, before its first line: no node of the formula was begun
-pub record IsStart (t : Tree) (log : Prefix) (start : VerifierView NodesView) : Type 0 where
-  pub checked : CheckedLog
-  pub is : IsCheckedLog (aim_for t) log checked
-  pub begins : start ≡ fresh (formula_line (canonical (shape_of t)))
-      (fresh_nodes (clocks_seen checked.seen)
-      (plan_of checked.seen (disjuncts_of checked.disjuncts)))
+unfoldable pub start_of : Tree → Prefix → VerifierView NodesView
+start_of t log =
+    fresh (formula_line (canonical (shape_of t)))
+    (fresh_nodes (clocks_seen (observed_alone log))
+    (plan_of (observed_alone log) (numbered_disjuncts log.header [] (node_of t))))

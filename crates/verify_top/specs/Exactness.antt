@@ -10,9 +10,7 @@ use Rattle.rctl_grammar.specs.declared.tree.Tree.{Tree}
 use Rattle.log_judgement.specs.declared.refusal.Refusal.{Refusal}
 use Rattle.log_judgement.specs.Judgement.{Prefix}
 use Rattle.log_part.specs.Fronts.{due_of_front}
-use Rattle.certificate_text.specs.Taking.{VerifierView}
 use Rattle.certificate_text.specs.Bytes.{Judged, RefusedAt}
-use Rattle.certified_nodes.specs.Nodes.{NodesView}
 use Rattle.certificate.specs.Following.{Follows}
 use Rattle.fault_line.specs.declared.fault.Fault.{Fault}
 use Rattle.fault_line.specs.declared.fault.Fault.TheVariants as fault
@@ -20,7 +18,7 @@ use Rattle.fault_line.specs.Faults.{fault_of_refusal}
 use Rattle.verify_top.specs.declared.answer.Answer.{Answer}
 use Rattle.verify_top.specs.declared.answer.Answer.TheVariants.{Accepted, Refused, Faulty}
 use Rattle.verify_top.specs.declared.answer.Verified.{Verified}
-use Rattle.verify_top.specs.Asking.{AsksAbout, AskNothing, HasFormulaFault, aim_for, IsStart}
+use Rattle.verify_top.specs.Asking.{AsksAbout, AskNothing, HasFormulaFault, aim_for, start_of}
 use Rattle.verify_top.specs.Verifying.{certificate_of, line_of, verified_as}
 
 -- no count rose, and there was memory
@@ -37,11 +35,10 @@ pub record Tells (held held' : Option (List ℕ)) (answer : Answer) (v : Verifie
 -- lines are
 pub record IsJudgedSo (t : Tree) (log : Prefix) (bytes : List ℕ) (held held' : Option (List ℕ))
     (v : Verified) : Type 0 where
-  pub start : VerifierView NodesView
-  pub starts : IsStart t log start
-  pub accepted : (truth : Bool) → Judged Follows (certificate_of bytes) start [] truth
+  pub accepted : (truth : Bool)
+      → Judged Follows (certificate_of bytes) (start_of t log) [] truth
       → Tells held held' (Accepted truth) v
-  pub refused : (n : ℕ) → RefusedAt Follows (certificate_of bytes) start [] n
+  pub refused : (n : ℕ) → RefusedAt Follows (certificate_of bytes) (start_of t log) [] n
       → Tells held held' (Refused n) v
 
 -- behind a log without a fault the certificate is judged

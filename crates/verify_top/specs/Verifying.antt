@@ -28,7 +28,7 @@ use Rattle.fault_line.specs.Lines.{line_by}
 use Rattle.verify_top.specs.declared.answer.Answer.{Answer}
 use Rattle.verify_top.specs.declared.answer.Answer.TheVariants.{Accepted, Refused, Faulty}
 use Rattle.verify_top.specs.declared.answer.Verified.{Verified}
-use Rattle.verify_top.specs.Asking.{AsksAbout, AskNothing, HasFormulaFault, aim_for, IsStart}
+use Rattle.verify_top.specs.Asking.{AsksAbout, AskNothing, HasFormulaFault, aim_for, start_of}
 use Rattle.verify_top.specs.Asking.{formula_line}
 use Rattle.log_check.specs.declared.checked.CheckedLog.{CheckedLog}
 use Rattle.part_pulls.specs.Observing.{clocks_seen}
@@ -44,8 +44,6 @@ pub record HasLog (words : List (List ℕ)) (bytes : List ℕ) : Type 0 where
   pub log : Prefix
   pub whole : (due_of_front (aim_for tree) true bytes).whole ≡ Some log
   pub free : (due_of_front (aim_for tree) true bytes).fault ≡ None
-  pub start : VerifierView NodesView
-  pub starts : IsStart tree log start
 
 abbrev pub certificate_of : List ℕ → List ℕ
 certificate_of bytes = behind_log [] bytes
@@ -56,15 +54,15 @@ pub record IsAccepted (left : Option (List ℕ)) (words : List (List ℕ)) (read
     (told : Bool) : Type 0 where
   pub ended : IsAtEnd left
   pub of : HasLog words read
-  pub judged : Judged Follows (certificate_of read) of.start [] told
+  pub judged : Judged Follows (certificate_of read) (start_of of.tree of.log) [] told
   pub truth : (told ≡ true) ↔ IsTrueSoFar (aim_for of.tree) of.log
 
 -- the line of this number is refused: it was read, or the input has ended before it was complete
 pub record IsRefused (left : Option (List ℕ)) (words : List (List ℕ)) (read : List ℕ) (n : ℕ)
     : Type 0 where
   pub of : HasLog words read
-  pub refused : RefusedAt Follows (certificate_of read) of.start [] n
-  pub seen : IsAtEnd left ⊎ RefusedWithin Follows (certificate_of read) of.start [] n
+  pub refused : RefusedAt Follows (certificate_of read) (start_of of.tree of.log) [] n
+  pub seen : IsAtEnd left ⊎ RefusedWithin Follows (certificate_of read) (start_of of.tree of.log) [] n
 
 -- this fault is due of the log, of its bytes or because the input has ended
 pub record IsLogRefused (left : Option (List ℕ)) (words : List (List ℕ)) (read : List ℕ)
@@ -84,7 +82,7 @@ pub record EndsInLog (words : List (List ℕ)) (read : List ℕ) : Type 0 where
 -- no line of the certificate is refused
 pub record EndsInCertificate (words : List (List ℕ)) (read : List ℕ) : Type 0 where
   pub of : HasLog words read
-  pub free : NoneRefused Follows (certificate_of read) of.start
+  pub free : NoneRefused Follows (certificate_of read) (start_of of.tree of.log)
 
 -- ---- what an answer says of the words and the bytes that were read
 
@@ -192,8 +190,8 @@ pub record HasJudged (left left' : Option (List ℕ)) (lf lf' : ℕ) (start : Ve
   pub is : IsJudged left' lf lf' start (front ++ read) answer
 
 -- the formula's certificate on a log that was checked, before its first line
-abbrev pub start_of : CheckedLog → VerifierView NodesView
-start_of checked =
+abbrev pub start_at : CheckedLog → VerifierView NodesView
+start_at checked =
     fresh (formula_line checked.stated.text) (fresh_nodes (clocks_seen checked.seen)
     (plan_of checked.seen (disjuncts_of checked.disjuncts)))
 

@@ -7,7 +7,7 @@ ghost use Rattle.part_pulls.specs.Observing.{IsReady, scope_seen};
 ghost use Rattle.certified_nodes.specs.Nodes.{AreNodes};
 ghost use Rattle.certificate_input.specs.Telling.{IsFresh};
 ghost use Rattle.verify_top.specs.Asking.{formula_line};
-ghost use Rattle.verify_top.specs.Verifying.{HasJudged, IsDecided, answer_of, start_of};
+ghost use Rattle.verify_top.specs.Verifying.{HasJudged, IsDecided, answer_of, start_at};
 
 use crate::answer::Answer;
 use certificate::{CertificateNodes, nodes_for};
@@ -34,8 +34,8 @@ fn begin(alloc: Global, checked: CheckedLog) -> Result<Verifier<CertificateNodes
     requires ready { IsReady checked.seen }
     requires made { AreMadeFor (scope_seen checked.seen) (disjuncts_of checked.disjuncts) }
     requires rise { CountersRise checked.seen (disjuncts_of checked.disjuncts) }
-    ensures start { IfOk result (λ verifier. verifier ≡ start_of checked) }
-    ensures nodes { IfOk result (λ verifier. AreNodes (start_of checked).nodes) }
+    ensures start { IfOk result (λ verifier. verifier ≡ start_at checked) }
+    ensures nodes { IfOk result (λ verifier. AreNodes (start_at checked).nodes) }
 {
     let formula = formula_line(alloc, checked.stated.text.as_slice())?;
     let nodes = nodes_for(alloc, checked.seen, checked.disjuncts.as_slice())?;
@@ -86,8 +86,8 @@ pub fn judge_certificate<L: Ledger, S: Source>(
     requires made { AreMadeFor (scope_seen checked.seen) (disjuncts_of checked.disjuncts) }
     requires rise { CountersRise checked.seen (disjuncts_of checked.disjuncts) }
     ensures judged { HasJudged (S.left source.old) (S.left source.new) (S.faults source.old)
-        (S.faults source.new) (start_of checked) front.now result }
-    ensures nodes { IsDecided result → AreNodes (start_of checked).nodes }
+        (S.faults source.new) (start_at checked) front.now result }
+    ensures nodes { IsDecided result → AreNodes (start_at checked).nodes }
 {
     let Ok(verifier) = begin(alloc, checked) else {
         return Answer::Faulty(Fault::Memory);
