@@ -13,6 +13,8 @@
 mod laws;
 mod writing;
 
-pub use laws::{certificates_are_accepted, certificates_are_one, certificates_tell_the_truth};
-pub use laws::formula_lines_are_lines;
+pub use laws::{
+    certificates_are_accepted, certificates_are_one, certificates_tell_the_truth,
+    formula_lines_are_lines,
+};
 pub use writing::certify;
