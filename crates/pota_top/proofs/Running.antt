@@ -45,7 +45,7 @@ use Rattle.log_answers.specs.declared.stop.Stop.{Stop}
 use Rattle.log_answers.specs.declared.stop.Verdict.{Verdict}
 use Rattle.run_promise.specs.declared.outcome.Outcome.{Outcome}
 use Rattle.pota_top.specs.Outcome.{fault_of, faulty_outcome, outcome_of}
-use Rattle.run_promise.specs.Asking.{Handing, handing_of, asked_by, asked, reading_of}
+use Rattle.run_promise.specs.Asking.{Handing, handing_of, asked_by, asked, reading_of, due_of}
 use Rattle.log_answers.specs.Checking.{AreReportsFor, HasPartOf, HasFrontOf}
 use Rattle.log_answers.specs.Inputs.{due_by, TellsDueBy, StopsBy, IsVerdictBy, ChecksBy, HasCheckedBy}
 use Rattle.pota_top.specs.Benching.{IsSummary, missing_name, IsBenchOf, BenchStops, BenchesTo, HasMade}
@@ -130,6 +130,7 @@ module _ {X : Type 0} {P : X → Type 0} (says : Says X P) (s : Stated) (read_as
 
   abbrev told_of : (ended : Bool) (bytes text : List ℕ) (n : ℕ) → n ≡ (due_by reading aim ended bytes).batches
       → AreReportsFor aim (reported each (due_by reading aim ended bytes)) text → IsTold on words ended bytes text n
+  unfolding due_of
   told_of ended bytes text n count texts = record {
     tree = s.formula.tree;
     inquiry = inquiry;
@@ -141,6 +142,7 @@ module _ {X : Type 0} {P : X → Type 0} (says : Says X P) (s : Stated) (read_as
 
   has_part : (left : Option (List ℕ)) (ended : Bool) (bytes text : List ℕ) (n : ℕ) → (ended ≡ true → IsAtEnd left)
       → HasPartOf aim (reported each (due_by reading aim ended bytes)) text n → HasPart left on words bytes text n
+  unfolding due_of
   has_part left ended bytes text n at h = record {
     tree = s.formula.tree;
     inquiry = inquiry;
@@ -165,6 +167,7 @@ module _ {X : Type 0} {P : X → Type 0} (says : Says X P) (s : Stated) (read_as
   -- what was written is the front of each text that may be due
   front_of : (bytes text : List ℕ) (n : ℕ) → HasFrontOf aim (reported each (due_by reading aim false bytes)) text n
       → (whole : List ℕ) (batches : ℕ) → IsWholeDue on words bytes whole batches → IsPrefix text whole × (n ≤ batches)
+  unfolding due_of
   front_of bytes text n h whole batches w =
       let due_is = w.inquired s.formula.tree inquiry asks in
       let ended = due_is.0 in
@@ -182,6 +185,7 @@ module _ {X : Type 0} {P : X → Type 0} (says : Says X P) (s : Stated) (read_as
   module _ (left : Option (List ℕ)) (lf lf' of of' : ℕ) (read written : List ℕ) where
     refused_by : (r : Refusal) (n : ℕ) (ended : Bool) → (ended ≡ true → IsAtEnd left) → TellsDueBy reading aim each ended read written (Some r) n
         → IsRefused left on words read written (faulty_outcome n (fault_of_refusal r)) r
+    unfolding due_of
     refused_by r n ended at told = record {
       ended = ended;
       at_end = at;
@@ -192,6 +196,7 @@ module _ {X : Type 0} {P : X → Type 0} (says : Says X P) (s : Stated) (read_as
 
     stop_answer : (why : StopCause) (n : ℕ) → StopsBy reading why n left lf lf' of of' aim each read written
         → Answer (status_of (fault_of why)) left lf lf' of of' on words read written (faulty_outcome n (fault_of why))
+    unfolding due_of
     stop_answer (causes.Refused (refusal.Formula x)) n h = (x, inr (inl (refused_by (refusal.Formula x) n h.0 h.1 h.2)))
     stop_answer (causes.Refused (refusal.Log x)) n h = (refusal.Log x, refl, refused_by (refusal.Log x) n h.0 h.1 h.2)
     stop_answer (causes.Refused (refusal.Import x)) n h = (refusal.Import x, refl, refused_by (refusal.Import x) n h.0 h.1 h.2)
@@ -207,6 +212,7 @@ module _ {X : Type 0} {P : X → Type 0} (says : Says X P) (s : Stated) (read_as
 
     verdict_of : (b : Bool) (v : Verdict) → v.truth ≡ b → IsAtEnd left → IsVerdictBy reading aim each read written v
         → HasVerdict left on words read written (record { status = if b then status.True else status.False; batches = v.batches; fault = None }) b
+    unfolding due_of
     verdict_of b v same_truth ended h = record {
       ended = ended;
       told = told_of true read written v.batches h.told.count h.told.texts;

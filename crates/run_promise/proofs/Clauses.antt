@@ -57,6 +57,7 @@ reads_one words a b t u h k =
 
 -- each form is read as a log
 pub form_is_read : (f : Form) → IsReading 67108864 (reading_of f)
+unfolding reading_of
 form_is_read form.Text = log_is_read
 form_is_read form.Clocks = clocks_are_read
 form_is_read form.Merged = sources_are_read
@@ -101,6 +102,7 @@ module _ (left left' held held' : Option (List ℕ)) (lf lf' of of' : ℕ) (on :
   -- what was due of the bytes read is due of all bytes
   stays_due : (u : Tree) (k : Inquiry) (ended : Bool) (r : Refusal) → (ended ≡ true → IsAtEnd left') → (due_of on.names u k ended ran.read).fault ≡ Some r
       → due_of on.names u k ended ran.read ≡ due_of on.names u k true bytes
+  unfolding due_of
   stays_due u k true r at is = ap (due_of on.names u k true) (read_all left left' bytes ran.read tells ran.consumed (at refl))
   stays_due u k false r at is =
       let rest = rest_of left left' bytes ran.read tells ran.consumed in

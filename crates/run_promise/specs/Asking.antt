@@ -48,7 +48,7 @@ asked_by t shown = asked t shown.slice shown.witness
 -- ---- how an input is read
 
 -- as the text of one log, as records of two lines, or as the texts of several logs
-abbrev pub reading_of : Form → Reading
+unfoldable pub reading_of : Form → Reading
 reading_of form.Text = log_reading
 reading_of form.Clocks = clocks_reading
 reading_of form.Merged = merged_reading
@@ -76,7 +76,7 @@ Writes watches t (product.Reports shown) log text = IsReportText (asked_by t sho
 -- ---- what is due
 
 -- of these bytes
-abbrev pub due_of : List Name → Tree → Inquiry → (ended : Bool) → List ℕ → Due
+unfoldable pub due_of : List Name → Tree → Inquiry → (ended : Bool) → List ℕ → Due
 due_of watches t i ended bytes =
     due (reading_of i.form) (rules_for (watch_names i.product watches) t) ended bytes
 
