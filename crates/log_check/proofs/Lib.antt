@@ -3,3 +3,4 @@ pub mod Following
 pub mod Steps
 pub mod Moves
 pub mod Reports
+pub mod HandingOver

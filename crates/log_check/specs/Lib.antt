@@ -1,3 +1,4 @@
 pub mod Aims
 pub mod Keeping
 pub mod Checking
+pub mod Checked

@@ -10,7 +10,14 @@ ghost use Rattle.log_check.specs.Aims.{watches_of};
 ghost use Rattle.log_check.specs.Checking.{GoesOn, HasClosed, IsCheckOf, IsRefusedAs, MayFollow};
 ghost use Rattle.log_check.specs.Checking.{end_item};
 ghost use Rattle.log_check.specs.Keeping.{HasAnswered};
+ghost use Rattle.log_check.specs.Checked.{IsCheckedLog};
+ghost use Rattle.trace_growth.specs.Growing.{IsTrace};
+ghost use Rattle.rctl_parts.specs.Pieces.{disjuncts_of};
+ghost use Rattle.rctl_parts.specs.MadeFor.{AreMadeFor};
+ghost use Rattle.part_pulls.specs.Counters.{CountersRise};
+ghost use Rattle.part_pulls.specs.Observing.{IsReady, scope_seen};
 
+use crate::checked::CheckedLog;
 use answer_report::{Wanted, report_on};
 use event_log::{Event, Header, Item};
 use log_judgement::Refusal;
@@ -261,5 +268,31 @@ impl LogCheck {
         self.settle(rt, workers, gate, steps)?;
         let report = self.told(alloc)?;
         Ok(report)
+    }
+
+    /// What was observed of the log as far as the last closed batch, with the formula, which is
+    /// made for it and true of it exactly where it is true of the log.
+    pub fn into_observed(self) -> CheckedLog
+        requires check { (aim : Aim) × (j : Judgement) × (log : Prefix)
+            × IsCheckOf (λ h. answers (h.watch.vtable, h.watch.value)) aim self j
+            × HasClosed j log }
+        ensures log { (aim : Aim) (j : Judgement) (log : Prefix)
+            → IsCheckOf (λ h. answers (h.watch.vtable, h.watch.value)) aim self j
+            → HasClosed j log → IsCheckedLog aim log result }
+        ensures stated { result.stated ≡ self.stated }
+        ensures ready { IsReady result.seen }
+        ensures trace { IsTrace result.seen.trace.states }
+        ensures made { AreMadeFor (scope_seen result.seen) (disjuncts_of result.disjuncts) }
+        ensures rise { CountersRise result.seen (disjuncts_of result.disjuncts) }
+    {
+        let Some(session) = self.session else {
+            unreachable!()
+        };
+        let (seen, disjuncts) = session.into_seen();
+        CheckedLog {
+            stated: self.stated,
+            seen,
+            disjuncts,
+        }
     }
 }

@@ -6,10 +6,15 @@
 //! model of runs, whatever the workers and the gate are (`says`). The report has a text (`fits`),
 //! and more items may be taken behind it (`goes_on`).
 //!
+//! `LogCheck::into_observed` hands over the log as it was observed, with the formula by the numbers of
+//! its header (`CheckedLog`), on which it is true exactly where it is true of the log.
+//!
 //! Nothing is said of the time or the memory that a call takes, nor of what stands after want of
 //! memory.
 #![tactic(auto)]
 
 mod check;
+mod checked;
 
 pub use check::LogCheck;
+pub use checked::CheckedLog;

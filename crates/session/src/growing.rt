@@ -4,7 +4,7 @@ ghost use Rattle.event_log.specs.States.{IsHeader};
 ghost use Rattle.rctl_parts.specs.Pieces.{disjuncts_of};
 ghost use Rattle.rctl_parts.specs.MadeFor.{AreMadeFor};
 ghost use Rattle.part_pulls.specs.Observing.{scope_seen};
-ghost use Rattle.session.specs.Growing.{opened_observed, opened_growing, counter_fault};
+ghost use Rattle.session.specs.Growing.{opened_observed, opened_growing, counter_fault, Keeps};
 
 use crate::counters::counters_of;
 use conjunctions::Answer;
@@ -101,6 +101,16 @@ impl Growing {
             spent: false,
             alloc,
         })
+    }
+
+    /// What was observed so far, and the disjuncts of the formula.
+    pub(crate) fn into_seen(self) -> (Observed, List<List<Part>>)
+        ensures seen { result.0 ≡ self.seen }
+        ensures disjuncts { result.1 ≡ self.disjuncts }
+        ensures kept { self.spent ≡ false
+            → Keeps self.seen self.disjuncts self.settled self.answer }
+    {
+        (self.seen, self.disjuncts)
     }
 
     /// The fault of the first event of a batch that leaves a counter of the formula lower than it

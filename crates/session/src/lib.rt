@@ -12,6 +12,8 @@
 //! atoms are kept from answer to answer (`rows`), and one worker takes at most the steps of their
 //! rise (`looks`). So batches that nobody asks an answer for cost no look-up.
 //!
+//! `Session::into_seen` hands over what was observed, with the formula by its disjuncts.
+//!
 //! A watch that the formula names is fed each state of its process once, in order (`fed`), so its
 //! row is what it answered from the start on (`since_start`, `answers`). The others are
 //! fed nothing.

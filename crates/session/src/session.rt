@@ -5,7 +5,7 @@ ghost use Rattle.std.specs.Prelude.{OnOk, OnErr, IsOk, ◌⊎◌};
 ghost use Rattle.event_log.specs.States.{IsHeader};
 ghost use Rattle.pota_base.specs.declared.fault.Refused.TheVariants as refused;
 ghost use Rattle.vector_clock.specs.Admitted.{IfFault, IfWantsMemory};
-ghost use Rattle.trace_growth.specs.Growing.{FitsTrace};
+ghost use Rattle.trace_growth.specs.Growing.{FitsTrace, IsTrace};
 ghost use Rattle.rctl_parts.specs.Pieces.{disjuncts_of};
 ghost use Rattle.rctl_parts.specs.MadeFor.{AreMadeFor};
 ghost use Rattle.part_pulls.specs.Observing.{Reading, AreAnswers, lens_seen, scope_seen};
@@ -24,7 +24,7 @@ use conjunctions::{Answer, settled_rows_are_kept};
 use event_log::{Event, Header, LogFault};
 use part_pulls::Observed;
 use pota_base::{Gate, List, NoMemory, Refused, Steps};
-use rctl_parts::Resolved;
+use rctl_parts::{Part, Resolved};
 use slice_workers::Settled;
 use std::alloc::Global;
 use std::sync::ledger::Ledger;
@@ -279,6 +279,20 @@ impl Session {
             → CountersRise self.now.growing.seen (disjuncts_of self.now.growing.disjuncts) }
     {
         &self.growing.seen
+    }
+
+    /// What was observed so far, and the disjuncts of the formula, which is made for it. The watches
+    /// are dropped.
+    pub fn into_seen(self) -> (Observed, List<List<Part>>)
+        ensures seen { result.0 ≡ self.growing.seen }
+        ensures disjuncts { result.1 ≡ self.growing.disjuncts }
+        ensures trace { self.growing.spent ≡ false → IsTrace self.growing.seen.trace.states }
+        ensures made { self.growing.spent ≡ false → AreMadeFor (scope_seen self.growing.seen)
+            (disjuncts_of self.growing.disjuncts) }
+        ensures rise { self.growing.spent ≡ false
+            → CountersRise self.growing.seen (disjuncts_of self.growing.disjuncts) }
+    {
+        self.growing.into_seen()
     }
 
     /// The answer on the trace so far, and on what the watches answered to all its states.

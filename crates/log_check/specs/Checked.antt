@@ -1,0 +1,30 @@
+-- What a check leaves behind: a log as it was observed, and the formula on it.
+use Rattle.std.specs.Prelude.{◌≡◌, ◌↔◌}
+use Rattle.run_model.specs.Cut.{initial}
+use Rattle.run_model.specs.Meaning.{Sat}
+use Rattle.rctl_class.specs.Nodes.{node_of}
+use Rattle.rctl_parts.specs.Pieces.{disjuncts_of}
+use Rattle.rctl_parts.specs.Spelled.{disjunction_of}
+use Rattle.part_pulls.specs.Observing.{AreAnswers, clocks_seen, run_seen, names_seen}
+use Rattle.log_judgement.specs.Judgement.{Prefix}
+use Rattle.log_check.specs.declared.checked.CheckedLog.{CheckedLog}
+use Rattle.log_check.specs.Aims.{Aim, IsTrueSoFar}
+use Rattle.log_check.specs.Keeping.{trace_after, reading_of}
+
+-- the disjuncts are true at the initial cut of what was observed
+abbrev pub IsTrueOn : Aim → CheckedLog → Type 0
+IsTrueOn aim checked =
+    Sat (run_seen checked.seen (reading_of aim))
+    (disjunction_of (names_seen checked.seen (reading_of aim)) (disjuncts_of checked.disjuncts))
+    (initial (clocks_seen checked.seen))
+
+-- the trace of this log was observed, for the aim's formula and watches
+pub record IsCheckedLog (aim : Aim) (log : Prefix) (checked : CheckedLog) : Type 0 where
+  pub trace : checked.seen.trace ≡ trace_after log
+  -- the formula, and its text
+  pub node : node_of checked.stated.formula.tree ≡ aim.node
+  pub text : checked.stated.text ≡ aim.text
+  -- what the watches answered to the states of the log
+  pub watches : AreAnswers checked.seen (reading_of aim)
+  -- the disjuncts are true exactly where the formula is
+  pub truth : IsTrueOn aim checked ↔ IsTrueSoFar aim log
