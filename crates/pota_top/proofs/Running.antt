@@ -13,6 +13,7 @@ use Rattle.rctl_class.specs.Nodes.{node_of, formula_of}
 use Rattle.rctl_class.proofs.Class.{of_the_class}
 use Rattle.command_words.specs.declared.request.Task.TheVariants as task
 use Rattle.command_words.specs.declared.request.Form.{Form}
+use Rattle.command_words.specs.declared.request.Form.TheVariants as form
 use Rattle.command_words.specs.declared.request.Product.{Product}
 use Rattle.command_words.specs.declared.request.Inquiry.{Inquiry}
 use Rattle.command_words.specs.declared.request.Product.TheVariants as product
@@ -50,8 +51,9 @@ use Rattle.log_answers.specs.Checking.{AreReportsFor, HasPartOf, HasFrontOf}
 use Rattle.log_answers.specs.Inputs.{due_by, TellsDueBy, StopsBy, IsVerdictBy, ChecksBy, HasCheckedBy}
 use Rattle.pota_top.specs.Benching.{IsSummary, missing_name, IsBenchOf, BenchStops, BenchesTo, HasMade}
 use Rattle.run_report.proofs.Telling.{told_denotes, told_kinds}
-use Rattle.run_promise.proofs.Clauses.{not_both, form_is_read}
-use Rattle.run_promise.specs.Run.{Tells, AllTell, IsTold, IsTrueAtStart, HasVerdict, IsRefused, HasPart, IsBenched, HasBenched, IsWholeDue, sizes_of, made_by, Answer, Ran}
+use Rattle.run_promise.proofs.Clauses.{not_both, not_certified, form_is_read}
+use Rattle.run_promise.specs.Certificates.{IsTrueAtStart}
+use Rattle.run_promise.specs.Run.{Tells, AllTell, IsTold, HasVerdict, IsRefused, HasPart, IsBenched, HasBenched, IsWholeDue, sizes_of, made_by, Answer, Ran}
 
 -- ---- a formula that is stated is asked
 
@@ -80,10 +82,10 @@ all_tell t shown watches class (log ∷ logs) ordered kept =
 nothing_front : (text : List ℕ) → IsPrefix [] text
 nothing_front text = (text, refl)
 
--- reports are all that is asked of an input
-pub asked_so : (words : List (List ℕ)) (t : Tree) (i : Inquiry) (read_as : Form) (shown : Shown) → i.form ≡ read_as → i.product ≡ product.Reports shown → AsksFor words (task.Read i) t
-    → AsksFor words (task.Read (record { form = read_as; product = product.Reports shown })) t
-asked_so words t i read_as shown form_is is asks =
+-- what is asked of an input, by its form and its product
+pub asked_so : (words : List (List ℕ)) (t : Tree) (i : Inquiry) (read_as : Form) (written : Product) → i.form ≡ read_as → i.product ≡ written → AsksFor words (task.Read i) t
+    → AsksFor words (task.Read (record { form = read_as; product = written })) t
+asked_so words t i read_as written form_is is asks =
     subst (λ (p : Product). AsksFor words (task.Read (record { form = read_as; product = p })) t) is
     (subst (λ (f : Form). AsksFor words (task.Read (record { form = f; product = i.product })) t) form_is asks)
 
@@ -156,10 +158,12 @@ module _ {X : Type 0} {P : X → Type 0} (says : Says X P) (s : Stated) (read_as
     telling = subst (AllTell (watches_of says handed) s.formula.tree (product.Reports shown)) h.are (due_tell ended bytes);
     text = h.whole;
     texts = texts_asked h.before h.whole h.texts;
-    whole = report_text h.report;
-    is = (h.report, subst (λ (a : Asked). IsReportOf a h.log.header h.log.batches (watches_of says handed) h.report) same h.report_is, refl);
     part = h.part;
-    part_of = h.part_of;
+    is_front = (
+      report_text h.report,
+      (h.report, subst (λ (a : Asked). IsReportOf a h.log.header h.log.batches (watches_of says handed) h.report) same h.report_is, refl),
+      h.part_of,
+    );
     wrote = h.wrote;
     count = h.count;
   }
@@ -204,7 +208,8 @@ module _ {X : Type 0} {P : X → Type 0} (says : Says X P) (s : Stated) (read_as
     stop_answer causes.Read n h = (record { told = told_of false read written n h.0.count h.0.texts; free = h.0.fault; fault = refl }, h.1)
     stop_answer causes.Write n h = (inl (has_part left h.0 read written n h.1 h.2), refl, h.3)
     stop_answer causes.Memory n h = record {
-      front = front_of read written n h;
+      front = λ none. front_of read written n h;
+      certified = λ u k. absurd (not_certified words read_as shown s.formula.tree u asks k);
       unread = λ t sizes k. absurd (not_both words inquiry sizes s.formula.tree t asks k);
       unnamed = λ t sizes f k. absurd (not_both words inquiry sizes s.formula.tree t asks k);
       fault = refl;
@@ -302,7 +307,8 @@ module _ {X : Type 0} {P : X → Type 0} (says : Says X P) (s : Stated) (sizes :
       h.1,
     )
     bench_stop causes.Memory n h = record {
-      front = λ text batches w. (subst (λ (t : List ℕ). IsPrefix t text) (sym h.0) (nothing_front text), let none = h.1 in omega (arith, none));
+      front = λ other text batches w. (subst (λ (t : List ℕ). IsPrefix t text) (sym h.0) (nothing_front text), let none = h.1 in omega (arith, none));
+      certified = λ u k. absurd (not_both words (record { form = form.Text; product = product.Certificate }) sizes u s.formula.tree k asks);
       unread = λ t sizes k. refl;
       unnamed = λ t sizes f k lacks. h;
       fault = refl;
@@ -359,7 +365,8 @@ pub ran_short : (left held : Option (List ℕ)) (lf of : ℕ) (on : Handing) (wo
 ran_short left held lf of on words stop is =
     subst (λ (x : Stop). Ran left left held held lf lf of of on words (outcome_of (Err x))) (sym is)
     (ran_nothing left held lf of on words (outcome_of (Err (record { batches = 0; cause = causes.Memory }))) (record {
-      front = λ text batches w. (nothing_front text, omega arith);
+      front = λ other text batches w. (nothing_front text, omega arith);
+      certified = λ t k. (inl refl, refl);
       unread = λ t sizes k. refl;
       unnamed = λ t sizes f k lacks. (refl, refl);
       fault = refl;

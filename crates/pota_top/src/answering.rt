@@ -1,4 +1,4 @@
-//! The answers to a check and to a bench.
+//! The answers to an inquiry and to a bench.
 ghost use Rattle.std.specs.Prelude.{◌≡◌, ◌≤◌, ◌<◌, ℕ, Bool, false, List as ListOf, Option};
 ghost use Rattle.log_judgement.specs.Judgement.{waiting};
 ghost use Rattle.command_words.specs.declared.request.Task.TheVariants.{Bench, Read};
@@ -17,6 +17,7 @@ ghost use Rattle.bench_summary.specs.Views.{sizes_of as summed_sizes};
 ghost use Rattle.log_answers.specs.Checking.{IsBenchAim};
 ghost use Rattle.pota_top.specs.Benching.{CanBeMade, HasMade};
 
+use crate::certifying::answer_certificate;
 use crate::reading::read_log;
 use command_words::{Form, Inquiry, Product, Shown, Sizes};
 use log_answers::{Checking, Means, Stop, Verdict};
@@ -164,6 +165,41 @@ fn summary_sizes(sizes: Sizes) -> bench_summary::Sizes
     }
 }
 
+// Reports on the input that the source has.
+fn answer_reports<R: Threads + Sync, G: Gate, S: Source, O: Sink>(
+    means: &Means<'_, R, G>,
+    stated: Stated,
+    form: Form,
+    shown: Shown,
+    workers: u32,
+    watches: Vec<Handed>,
+    log: &mut S,
+    out: &mut O,
+) -> Result<Verdict, Stop>
+    requires some { 1 ≤ workers }
+    requires few { workers ≤ 16 }
+    requires watches { AreWatches watches.items }
+    requires stated { (text : ListOf ℕ) × IsStated text stated }
+    ensures { (words : ListOf (ListOf ℕ)) (text : ListOf ℕ) → IsStated text stated
+        → AsksFor words (Read (record { form = form; product = Reports shown }))
+        stated.formula.tree
+        → Ran (S.left log.old) (S.left log.new) (O.held out.old) (O.held out.new) (S.faults log.old)
+        (S.faults log.new) (O.faults out.old) (O.faults out.new)
+        (handing_of
+        (λ h. answers (h.watch.vtable, h.watch.value)) watches.items) words (outcome_of result) }
+{
+    let Ok(check) = LogCheck::new(means.alloc, stated, shown.slice, shown.witness, watches) else {
+        return Err(Stop::without_memory());
+    };
+    let blank = Blank::new(1);
+    let each = shown.each_batch;
+    match form {
+        Form::Text => check_text::<R, G, Brand, S, O>(blank, means, check, each, workers, log, out),
+        Form::Clocks => check_records::<R, G, Brand, S, O>(blank, means, check, workers, log, out),
+        Form::Merged => check_logs::<R, G, Brand, S, O>(blank, means, check, workers, log, out),
+    }
+}
+
 // Takes the items of the log that is made, and writes its summary.
 fn bench_all<R: Threads + Sync, G: Gate, L: Ledger, O: Sink>(
     means: &Means<'_, R, G>,
@@ -224,16 +260,8 @@ fn bench_log<R: Threads + Sync, G: Gate, L: Ledger, O: Sink>(
     verdict
 }
 
-// What the reports on an input show.
-fn shown_in(product: Product) -> Shown
-    ensures { product ≡ Reports result }
-{
-    match product {
-        Product::Reports(shown) => shown,
-    }
-}
-
-/// Answers what is asked of the input that the source has.
+/// Answers what is asked of the input that the source has. The watches that are handed in are asked
+/// for reports alone.
 pub fn answer_inquiry<R: Threads + Sync, G: Gate, S: Source, O: Sink>(
     means: &Means<'_, R, G>,
     stated: Stated,
@@ -254,16 +282,12 @@ pub fn answer_inquiry<R: Threads + Sync, G: Gate, S: Source, O: Sink>(
         (handing_of
         (λ h. answers (h.watch.vtable, h.watch.value)) watches.items) words (outcome_of result) }
 {
-    let shown = shown_in(inquiry.product);
-    let Ok(check) = LogCheck::new(means.alloc, stated, shown.slice, shown.witness, watches) else {
-        return Err(Stop::without_memory());
-    };
-    let blank = Blank::new(1);
-    let each = shown.each_batch;
-    match inquiry.form {
-        Form::Text => check_text::<R, G, Brand, S, O>(blank, means, check, each, workers, log, out),
-        Form::Clocks => check_records::<R, G, Brand, S, O>(blank, means, check, workers, log, out),
-        Form::Merged => check_logs::<R, G, Brand, S, O>(blank, means, check, workers, log, out),
+    let form = inquiry.form;
+    match inquiry.product {
+        Product::Reports(shown) => {
+            answer_reports(means, stated, form, shown, workers, watches, log, out)
+        }
+        Product::Certificate => answer_certificate(means, stated, log, out),
     }
 }
 

@@ -23,6 +23,7 @@
 #![tactic(auto)]
 
 mod answering;
+mod certifying;
 mod outcome;
 mod reading;
 mod top;
