@@ -331,6 +331,7 @@ pub classed : (n : Node) (ds : List (List Piece)) → IsWithinLimits n → first
 classed n ds limits free is =
     let whole : IsClassed n (disjuncts_from true n) = record {
       free = free;
+      split = refl;
       meaning = disjuncts_alike true n limits.counts free;
       counters = disjuncts_have true n free;
       names = disjuncts_names true n free;

@@ -12,6 +12,7 @@ use Rattle.rctl_class.specs.Uses.{Agree, uses_of}
 use Rattle.rctl_class.specs.Counters.{counters_of, disjuncts_counters, HaveSameMembers}
 use Rattle.rctl_class.specs.Faults.{first_fault}
 use Rattle.rctl_class.specs.NamedParts.{Piece, part_formula, disjuncts_uses, AreDisjuncts}
+use Rattle.rctl_class.specs.Walk.{disjuncts_from}
 
 -- two formulas are true at the same consistent cuts of every run
 abbrev pub MeanTheSame : Formula → Formula → Type 0
@@ -72,6 +73,8 @@ disjunct_formulas ds = map (map part_formula) ds
 -- the disjuncts are those of the formula, which is of the class
 pub record IsClassed (n : Node) (ds : List (List Piece)) : Type 0 where
   pub free : first_fault false true n ≡ None
+  -- they are these, in the order of the text
+  pub split : ds ≡ disjuncts_from true n
   -- part by part they mean what the formula's disjuncts do
   pub meaning : EachAlike (disjunct_formulas ds) (disjuncts true (formula_of n))
   -- they have the counters of the formula

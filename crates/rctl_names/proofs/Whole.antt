@@ -84,6 +84,7 @@ whole_resolved header watches ds resolved t can are on h =
     record {
       free = sym (same_faults names ds are.fit) ∙ h.0;
       spelled = ap (part_formulas names) h.2 ∙ disjuncts_spelled names start ds refl are.fit h.0;
+      numbered = h.2;
       made_for = subst Q (sym h.2) here;
       paired = ap length end ∙ keeps.sized ∙ length_replicated (length watches);
     }

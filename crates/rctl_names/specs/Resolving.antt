@@ -1,5 +1,6 @@
 -- The parts of a formula with numbers in the place of names.
-use Rattle.std.specs.Prelude.{◌≡◌, ℕ, ◌≤◌, List, [], map, length, get_or, Option, None, Some}
+use Rattle.std.specs.Prelude.{◌≡◌, ℕ, ◌≤◌, true, List, [], map, length, get_or, Option, None}
+use Rattle.std.specs.Prelude.{Some}
 use Rattle.run_model.specs.Run.{Name}
 use Rattle.event_log.specs.declared.log.Binding.{Binding}
 use Rattle.event_log.specs.declared.log.Header.{Header}
@@ -17,6 +18,8 @@ use Rattle.rctl_class.specs.declared.named.NamedSide.{NamedSide}
 use Rattle.rctl_class.specs.declared.named.NamedSide.TheVariants as named_side
 use Rattle.rctl_class.specs.NamedParts as named
 use Rattle.rctl_class.specs.Classed.{disjunct_formulas}
+use Rattle.rctl_class.specs.Nodes.{Node}
+use Rattle.rctl_class.specs.Walk.{disjuncts_from}
 use Rattle.rctl_grammar.specs.declared.fault.FormulaFault.{FormulaFault}
 use Rattle.rctl_class.specs.Uses.{first_unknown}
 use Rattle.rctl_names.specs.declared.process.Process.{Process}
@@ -150,6 +153,14 @@ abbrev pub scope_of : Header → List (Option ℕ) → made.Scope
 scope_of header on =
     record { variables = map (λ (bs : List Binding). length bs) header.vars; watch_process = on }
 
+-- disjuncts with the numbers of a header's names and of these watches
+abbrev pub numbered_in : Header → List Name → List (List named.Piece) → List (List piece.Piece)
+numbered_in header watches ds = map (map (piece_in (names_of header watches))) ds
+
+-- the disjuncts of a formula of the class, by the numbers of a header and of these watches
+abbrev pub numbered_disjuncts : Header → List Name → Node → List (List piece.Piece)
+numbered_disjuncts header watches n = numbered_in header watches (disjuncts_from true n)
+
 -- the parts with numbers spell the very formulas of the parts with names, and are made for the
 -- header and the watches
 pub record IsResolved (header : Header) (watches : List Name) (ds : List (List named.Piece))
@@ -157,6 +168,7 @@ pub record IsResolved (header : Header) (watches : List Name) (ds : List (List n
   pub free : first_unknown (known_in (names_of header watches)) [] (named.disjuncts_uses ds) ≡ None
   pub spelled : part_formulas (names_of header watches) (piece.disjuncts_of resolved.disjuncts)
       ≡ disjunct_formulas ds
+  pub numbered : piece.disjuncts_of resolved.disjuncts ≡ numbered_in header watches ds
   pub made_for : AreMadeFor (scope_of header resolved.watch_process)
       (piece.disjuncts_of resolved.disjuncts)
   pub paired : length resolved.watch_process ≡ length watches
