@@ -22,7 +22,7 @@ use std::alloc::Global;
 use std::thread::Threads;
 use watch::{Handed, Watch};
 
-// Answers a question, of a check on the log that the source has.
+// Answers a question, of the input that the source has or of a log that is made.
 fn answer_question<R: Threads + Sync, G: Gate, S: Source, O: Sink>(
     means: &Means<'_, R, G>,
     question: Question,
@@ -75,8 +75,8 @@ fn answer_words<R: Threads + Sync, G: Gate, S: Source, O: Sink>(
 /// one that is made.
 ///
 /// The words are the command line without the program's name. A formula may name the watches that
-/// are handed in. The reports go to `out`, and one line that tells why there is no verdict to
-/// `diag`.
+/// are handed in, but for a certificate, whose formula may name none. The reports or the certificate
+/// go to `out`, and one line that tells why there is no verdict to `diag`.
 pub fn pota<R: Threads + Sync, S: Source, O: Sink, D: Sink, G: Gate>(
     rt: &R,
     alloc: Global,
