@@ -1,5 +1,6 @@
 -- What a check hands over behind a closed batch.
-use Rattle.std.proofs.Common.{◌≡◌, true, Some, List, sym, ap, subst, ◌∙◌}
+use Rattle.std.proofs.Common.{◌≡◌, ℕ, Bool, true, Option, Some, List, [], length, sym, ap, subst, ◌∙◌}
+use Rattle.std.proofs.lemmas.List.{nil_from_length}
 use Rattle.std.specs.Prelude.{◌↔◌}
 use Rattle.run_model.specs.Cut.{initial}
 use Rattle.run_model.specs.Run.{run_of, clocks_of}
@@ -23,10 +24,18 @@ use Rattle.session.specs.declared.session.Session.{Session}
 use Rattle.log_check.specs.declared.check.LogCheck.{LogCheck}
 use Rattle.log_check.specs.declared.checked.CheckedLog.{CheckedLog}
 use Rattle.log_check.specs.Aims.{Says, Aim, IsTrueSoFar}
-use Rattle.log_check.specs.Keeping.{reading_of}
+use Rattle.log_check.specs.Keeping.{trace_after, reading_of}
 use Rattle.log_check.specs.Checking.{HasClosed, IsCheckOf}
-use Rattle.log_check.specs.Checked.{IsCheckedLog}
+use Rattle.log_check.specs.Checked.{IsCheckedLog, observed_alone}
 use Rattle.log_check.proofs.Reports.{HasReport, has_report}
+
+-- a trace without watches
+seen_alone : (log : Prefix) (seen : Observed) → seen.trace ≡ trace_after log → length seen.watch_process ≡ 0
+    → length seen.watch_rows ≡ length seen.watch_process → seen ≡ observed_alone log
+seen_alone log seen trace none rows =
+    ap (λ (t : TraceView). record { trace = t; watch_process = seen.watch_process; watch_rows = seen.watch_rows }) trace
+    ∙ ap (λ (on : List (Option ℕ)). record { trace = trace_after log; watch_process = on; watch_rows = seen.watch_rows }) (nil_from_length seen.watch_process none)
+    ∙ ap (λ (answers : List (List Bool)). record { trace = trace_after log; watch_process = []; watch_rows = answers }) (nil_from_length seen.watch_rows (rows ∙ none))
 
 module _ {X : Type 0} {P : X → Type 0} (says : Says X P) (aim : Aim) (check : LogCheck X P) where
   -- the disjuncts are true at the initial cut of what was observed
@@ -45,14 +54,17 @@ module _ {X : Type 0} {P : X → Type 0} (says : Says X P) (aim : Aim) (check : 
 
   pub handed_over : (j : Judgement) (log : Prefix) (session : Session X P) (stated : Stated) (seen : Observed) (parts : List (List Part))
       → IsCheckOf says aim check j → HasClosed j log → check.session ≡ Some session → IsTrace session.growing.seen.trace.states
+      → length session.growing.seen.watch_rows ≡ length session.growing.seen.watch_process
       → stated ≡ check.stated → seen ≡ session.growing.seen → parts ≡ session.growing.disjuncts
       → IsCheckedLog aim log (record { stated = stated; seen = seen; disjuncts = parts })
-  handed_over j log session stated seen parts is closed at trace same observed split =
+  handed_over j log session stated seen parts is closed at trace rows same observed split =
       let h = has_report says aim check j log session is closed at in
       record {
         trace = ap (λ (s : Observed). s.trace) observed ∙ h.taken.trace;
         node = ap (λ (s : Stated). node_of s.formula.tree) same ∙ sym (ap (λ (a : Aim). a.node) is.aim_is);
         text = ap (λ (s : Stated). s.text) same ∙ sym (ap (λ (a : Aim). a.text) is.aim_is);
+        split = ap (λ (ps : List (List Part)). piece.disjuncts_of ps) split ∙ h.taken.split;
+        alone = λ none. observed ∙ seen_alone log session.growing.seen h.taken.trace (h.taken.paired ∙ ap length none) rows;
         watches = subst (λ (s : Observed). AreAnswers s (reading_of aim)) (sym observed) h.watched.watches;
         truth = subst (λ (s : Observed). HoldsOn s parts ↔ IsTrueSoFar aim log) (sym observed)
             (subst (λ (ps : List (List Part)). HoldsOn session.growing.seen ps ↔ IsTrueSoFar aim log) (sym split) (true_there log session h trace));

@@ -23,7 +23,7 @@ use Rattle.rctl_parts.specs.Spelled.{part_formulas}
 use Rattle.rctl_class.specs.NamedParts as named
 use Rattle.rctl_class.specs.Classed.{IsClassed, EachAlike}
 use Rattle.rctl_class.specs.Nodes.{formula_of}
-use Rattle.rctl_names.specs.Resolving.{IsResolved}
+use Rattle.rctl_names.specs.Resolving.{IsResolved, numbered_in}
 use Rattle.rctl_names.specs.Seen as names
 use Rattle.rctl_round_trip.proofs.RoundTrips.{printed_again}
 use Rattle.rctl_print.specs.Canonical.{canonical}
@@ -112,6 +112,8 @@ module _ {X : Type 0} {P : X → Type 0} (says : Says X P) where
     counters = subst (λ (x : GrowingView). HaveCounters header (formula_of aim.node) (piece.disjuncts_of x.disjuncts)) (sym opened_)
         (have_counters header aim.names resolved.watch_process (formula_of aim.node) (piece.disjuncts_of resolved.disjuncts) (header_known header fits) is.made_for.fit
         (subst (λ (fs : List (List Formula)). HaveSameMembers (disjuncts_counters fs) (counters_of (formula_of aim.node))) (sym is.spelled) classed.counters));
+    split = ap (λ (x : GrowingView). piece.disjuncts_of x.disjuncts) opened_ ∙ (is.numbered ∙ ap (numbered_in header aim.names) classed.split);
+    paired = ap (λ (x : GrowingView). length x.seen.watch_process) opened_ ∙ is.paired;
     watched = λ some. absurd (omega (arith, some));
   }
 
@@ -305,6 +307,8 @@ module _ {X : Type 0} {P : X → Type 0} (says : Says X P) where
         trace = trace_closed session.growing.seen.trace next.growing.seen.trace c.log batch c.since c.taken.trace since_is takes.trace;
         meaning = subst (λ (ps : List (List Part)). EachAlike (part_formulas (names.names_of c.log.header aim.names) (piece.disjuncts_of ps)) (disjuncts true (formula_of aim.node))) (sym takes.disjuncts) c.taken.meaning;
         counters = subst (λ (ps : List (List Part)). HaveCounters c.log.header (formula_of aim.node) (piece.disjuncts_of ps)) (sym takes.disjuncts) c.taken.counters;
+        split = ap (λ (ps : List (List Part)). piece.disjuncts_of ps) takes.disjuncts ∙ c.taken.split;
+        paired = ap length takes.watches ∙ c.taken.paired;
         watched = λ some_now. record { taken = omega (arith, ap (λ (t : TraceView). t.batches) takes.trace); watches = answers; full = takes.full };
       }
 

@@ -127,6 +127,8 @@ module _ {X : Type 0} {P : X → Type 0} (says : Says X P) (aim : Aim) (check : 
       trace = ap (λ (s : Observed). s.trace) seen ∙ taken.trace;
       meaning = subst (λ (ps : List (List Part)). EachAlike (part_formulas (names.names_of log.header aim.names) (piece.disjuncts_of ps)) (disjuncts true (formula_of aim.node))) (sym disjuncts_are) taken.meaning;
       counters = subst (λ (ps : List (List Part)). HaveCounters log.header (formula_of aim.node) (piece.disjuncts_of ps)) (sym disjuncts_are) taken.counters;
+      split = ap (λ (ps : List (List Part)). piece.disjuncts_of ps) disjuncts_are ∙ taken.split;
+      paired = ap (λ (s : Observed). length s.watch_process) seen ∙ taken.paired;
       watched = λ some. subst (IsWatched aim) (sym seen) (taken.watched some);
     }
 

@@ -1,10 +1,12 @@
 -- What a check leaves behind: a log as it was observed, and the formula on it.
-use Rattle.std.specs.Prelude.{◌≡◌, ◌↔◌}
+use Rattle.std.specs.Prelude.{◌≡◌, ◌↔◌, []}
 use Rattle.run_model.specs.Cut.{initial}
 use Rattle.run_model.specs.Meaning.{Sat}
 use Rattle.rctl_class.specs.Nodes.{node_of}
 use Rattle.rctl_parts.specs.Pieces.{disjuncts_of}
 use Rattle.rctl_parts.specs.Spelled.{disjunction_of}
+use Rattle.rctl_names.specs.Resolving.{numbered_disjuncts}
+use Rattle.part_pulls.specs.declared.observed.Observed.{Observed}
 use Rattle.part_pulls.specs.Observing.{AreAnswers, clocks_seen, run_seen, names_seen}
 use Rattle.log_judgement.specs.Judgement.{Prefix}
 use Rattle.log_check.specs.declared.checked.CheckedLog.{CheckedLog}
@@ -18,12 +20,20 @@ IsTrueOn aim checked =
     (disjunction_of (names_seen checked.seen (reading_of aim)) (disjuncts_of checked.disjuncts))
     (initial (clocks_seen checked.seen))
 
+-- the trace of a log, and no watches
+abbrev pub observed_alone : Prefix → Observed
+observed_alone log = record { trace = trace_after log; watch_process = []; watch_rows = [] }
+
 -- the trace of this log was observed, for the aim's formula and watches
 pub record IsCheckedLog (aim : Aim) (log : Prefix) (checked : CheckedLog) : Type 0 where
   pub trace : checked.seen.trace ≡ trace_after log
   -- the formula, and its text
   pub node : node_of checked.stated.formula.tree ≡ aim.node
   pub text : checked.stated.text ≡ aim.text
+  -- the disjuncts are those of the formula, in the order of its text
+  pub split : disjuncts_of checked.disjuncts ≡ numbered_disjuncts log.header aim.names aim.node
+  -- without watches nothing but the trace was observed
+  pub alone : aim.names ≡ [] → checked.seen ≡ observed_alone log
   -- what the watches answered to the states of the log
   pub watches : AreAnswers checked.seen (reading_of aim)
   -- the disjuncts are true exactly where the formula is

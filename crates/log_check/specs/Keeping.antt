@@ -15,6 +15,7 @@ use Rattle.rctl_parts.specs.Spelled.{part_formulas}
 use Rattle.rctl_class.specs.Classed.{EachAlike}
 use Rattle.rctl_class.specs.Counters.{Counter, counters_of, HaveSameMembers}
 use Rattle.rctl_class.specs.Nodes.{formula_of}
+use Rattle.rctl_names.specs.Resolving.{numbered_disjuncts}
 use Rattle.rctl_names.specs.Seen as names
 use Rattle.part_pulls.specs.declared.observed.Observed.{Observed}
 use Rattle.part_pulls.specs.Counters as parts
@@ -66,6 +67,10 @@ pub record HasTaken (aim : Aim) (growing : GrowingView) (log : Prefix) : Type 0 
       (piece.disjuncts_of growing.disjuncts)) (disjuncts true (formula_of aim.node))
   pub counters : HaveCounters log.header (formula_of aim.node)
       (piece.disjuncts_of growing.disjuncts)
+  -- they are the disjuncts of the formula, in the order of its text
+  pub split : piece.disjuncts_of growing.disjuncts
+      ≡ numbered_disjuncts log.header aim.names aim.node
+  pub paired : length growing.seen.watch_process ≡ length aim.names
   pub watched : 0 < length log.batches → IsWatched aim growing.seen
 
 -- the watches answer as those that were handed in, which were fed the states of the log so far

@@ -291,6 +291,8 @@ impl Session {
             (disjuncts_of self.growing.disjuncts) }
         ensures rise { self.growing.spent ≡ false
             → CountersRise self.growing.seen (disjuncts_of self.growing.disjuncts) }
+        ensures rows { self.growing.spent ≡ false → length self.growing.seen.watch_rows
+            ≡ length self.growing.seen.watch_process }
     {
         self.growing.into_seen()
     }
