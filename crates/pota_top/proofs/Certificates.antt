@@ -31,7 +31,7 @@ use Rattle.log_judgement.proofs.Orders.{IsOrdered, all_ordered}
 use Rattle.log_judgement.proofs.Readings.{log_is_read}
 use Rattle.log_check.specs.Aims.{Says, Aim, rules_of, unknown_name}
 use Rattle.log_check.specs.Checking.{IsCheckOf, HasClosed}
-use Rattle.log_check.specs.Checked.{IsCheckedLog}
+use Rattle.log_check.specs.Checked.{IsCheckedLog, observed_alone}
 use Rattle.log_check.specs.declared.check.LogCheck.{LogCheck}
 use Rattle.log_check.specs.declared.checked.CheckedLog.{CheckedLog}
 use Rattle.log_answers.specs.declared.stop.StopCause.{StopCause}
@@ -46,7 +46,7 @@ use Rattle.run_promise.specs.Asking.{Handing, Writes, reading_of, due_of}
 use Rattle.certificate_lines.specs.Spelling.{formula_line}
 use Rattle.certify.specs.Certifying.{IsCertificateOf, IsFrontOfCertificate, IsCertified, HasFront, IsCut}
 use Rattle.part_pulls.specs.declared.observed.Observed.{Observed}
-use Rattle.run_promise.specs.Certificates.{IsTrueAtStart, no_watches, log_seen, disjuncts_on, line_of, IsCertificateText, IsCertificateFront}
+use Rattle.run_promise.specs.Certificates.{IsTrueAtStart, no_watches, disjuncts_on, line_of, IsCertificateText, IsCertificateFront}
 use Rattle.run_promise.specs.Run.{AllTell, IsTold, HasVerdict, IsRefused, HasPart, HasCertificateFront, AsksCertificate, Answer, Ran}
 use Rattle.run_promise.proofs.Clauses.{not_both}
 use Rattle.pota_top.specs.Outcome.{fault_of, faulty_outcome, outcome_of}
@@ -60,7 +60,7 @@ pub seen_log : (s : Stated) (formula : List ℕ) (log : Prefix) (checked : Check
     → IsLogSeen s.formula.tree log checked
 seen_log s formula log checked is h = record {
   text = h.text ∙ is.printed;
-  seen = ?;
+  seen = h.alone refl;
   split = h.split;
   answers = h.watches;
   truth = h.truth;
@@ -72,10 +72,10 @@ module _ (t : Tree) (log : Prefix) (checked : CheckedLog) (sees : IsLogSeen t lo
 
   -- what is said of what was observed is said of the log
   of_log : (Is : Observed → List (List Piece) → List ℕ → Type 0) (line : List ℕ) → line ≡ formula_line checked.stated.text → Is checked.seen ds line
-      → Is (log_seen log) (disjuncts_on log t) (line_of t)
+      → Is (observed_alone log) (disjuncts_on log t) (line_of t)
   of_log Is line line_is h =
-      subst (λ (l : List ℕ). Is (log_seen log) (disjuncts_on log t) l) (line_is ∙ ap formula_line sees.text)
-      (subst (λ (d : List (List Piece)). Is (log_seen log) d line) sees.split (subst (λ (o : Observed). Is o ds line) sees.seen h))
+      subst (λ (l : List ℕ). Is (observed_alone log) (disjuncts_on log t) l) (line_is ∙ ap formula_line sees.text)
+      (subst (λ (d : List (List Piece)). Is (observed_alone log) d line) sees.split (subst (λ (o : Observed). Is o ds line) sees.seen h))
 
   -- nothing was written yet
   pub unwritten : (held : Option (List ℕ)) (of batches : ℕ) (stop : Stop) → stop ≡ record { batches = 0; cause = causes.Memory } → Certifies held held of of t batches log (Err stop)
@@ -158,31 +158,31 @@ module _ {X : Type 0} {P : X → Type 0} (says : Says X P) (s : Stated) (check :
   t = s.formula.tree
 
   module _ {T : Type 0} (x : T) (h : HasReadLog left left' held now lf lf' of of_now says aim false check (Ok x)) where
-    abbrev log : Prefix
-    log = (whole_log says aim false check h.read h.written h.to.1).0
+    abbrev log_there : Prefix
+    log_there = (whole_log says aim false check h.read h.written h.to.1).0
 
-    has_front : (text : List ℕ) → IsCertificateFront t log text → HasFrontBy left' aim t h.read text
+    has_front : (text : List ℕ) → IsCertificateFront t log_there text → HasFrontBy left' aim t h.read text
     has_front text front = record {
       ended = h.to.0;
-      log = log;
+      log = log_there;
       whole = whole_due says aim false check h.read h.written h.to.1;
       front = front;
     }
 
-    stops : (f : StopCause) (n : ℕ) (text : List ℕ) → CertifyStops f n of_now of' t check.batches log text → CertifyStopsBy f n left' lf lf' of of' aim t h.read text
+    stops : (f : StopCause) (n : ℕ) (text : List ℕ) → CertifyStops f n of_now of' t check.batches log_there text → CertifyStopsBy f n left' lf lf' of of' aim t h.read text
     stops (causes.Refused r) n text k = absurd k
     stops causes.Read n text k = absurd k
     stops causes.Write n text k = (
       has_front text k.0,
-      k.1 ∙ h.to.1.stands.check_is.batches ∙ whole_count (judgement_in aim h.read) log (whole_log says aim false check h.read h.written h.to.1).1,
+      k.1 ∙ h.to.1.stands.check_is.batches ∙ whole_count (judgement_in aim h.read) log_there (whole_log says aim false check h.read h.written h.to.1).1,
       let e = k.2 in omega (arith, e, h.out_later),
     )
     stops causes.Memory n text k = (inr (has_front text k.0), k.1)
 
-    made : (result : Result Verdict Stop) (text : List ℕ) → CertifiesTo of_now of' t check.batches log text result → CertifiesBy left' lf lf' of of' aim t h.read text result
+    made : (result : Result Verdict Stop) (text : List ℕ) → CertifiesTo of_now of' t check.batches log_there text result → CertifiesBy left' lf lf' of of' aim t h.read text result
     made (Ok v) text k = (h.to.0, record {
       free = none_due says aim false check h.read h.written h.to.1;
-      log = log;
+      log = log_there;
       whole = whole_due says aim false check h.read h.written h.to.1;
       certificate = k.0;
       truth = k.1;
@@ -190,7 +190,7 @@ module _ {X : Type 0} {P : X → Type 0} (says : Says X P) (s : Stated) (check :
     })
     made (Err stop) text k = stops stop.cause stop.batches text k
 
-    pub certified : (result : Result Verdict Stop) → Certifies now held' of_now of' t check.batches log result → HasCertified left left' held held' lf lf' of of' aim t result
+    pub certified : (result : Result Verdict Stop) → Certifies now held' of_now of' t check.batches log_there result → HasCertified left left' held held' lf lf' of of' aim t result
     certified result r = record {
       read = h.read;
       written = h.written ++ r.written;
@@ -202,7 +202,7 @@ module _ {X : Type 0} {P : X → Type 0} (says : Says X P) (s : Stated) (check :
           (sym (ap (λ (front : List ℕ). front ++ r.written) h.to.1.stands.texts)) (made result r.written r.to);
     }
 
-    pub whole_there : (j : Judgement) × IsCheckOf says aim check j × HasClosed j log
+    pub whole_there : (j : Judgement) × IsCheckOf says aim check j × HasClosed j log_there
     whole_there = (judgement_in aim h.read, h.to.1.stands.check_is, closed_log says aim false check h.read h.written h.to.1)
 
   -- nothing is written while the log is read
@@ -232,22 +232,22 @@ abbrev certifying : Inquiry
 certifying = record { form = form.Text; product = product.Certificate }
 
 module _ (s : Stated) (words : List (List ℕ)) (asks : AsksFor words (task.Read (record { form = form.Text; product = product.Certificate })) s.formula.tree) (on : Handing) where
-  abbrev aim : Aim
-  aim = aim_for s
+  abbrev asked_aim : Aim
+  asked_aim = aim_for s
 
-  abbrev t : Tree
-  t = s.formula.tree
+  abbrev tree : Tree
+  tree = s.formula.tree
 
   abbrev due_texts : (ended : Bool) (bytes text : List ℕ) → Type 0
-  due_texts ended bytes text = AreTexts (Writes on.watches t product.Certificate) (reported false (due_by log_reading aim ended bytes)) text
+  due_texts ended bytes text = AreTexts (Writes on.watches tree product.Certificate) (reported false (due_by log_reading asked_aim ended bytes)) text
 
-  due_tell : (ended : Bool) (bytes : List ℕ) → AllTell on.watches t product.Certificate (reported false (due_by log_reading aim ended bytes))
-  due_tell ended bytes = all_ordered (unknown_name aim.node []) (counters_in (formula_of aim.node)) 67108864 log_reading log_is_read false ended bytes
+  due_tell : (ended : Bool) (bytes : List ℕ) → AllTell on.watches tree product.Certificate (reported false (due_by log_reading asked_aim ended bytes))
+  due_tell ended bytes = all_ordered (unknown_name asked_aim.node []) (counters_in (formula_of asked_aim.node)) 67108864 log_reading log_is_read false ended bytes
 
-  abbrev told_of : (ended : Bool) (bytes text : List ℕ) (n : ℕ) → n ≡ (due_by log_reading aim ended bytes).batches → due_texts ended bytes text → IsTold on words ended bytes text n
+  abbrev told_of : (ended : Bool) (bytes text : List ℕ) (n : ℕ) → n ≡ (due_by log_reading asked_aim ended bytes).batches → due_texts ended bytes text → IsTold on words ended bytes text n
   unfolding due_of reading_of
   told_of ended bytes text n count texts = record {
-    tree = t;
+    tree = tree;
     inquiry = certifying;
     asks = asks;
     text = texts;
@@ -256,23 +256,23 @@ module _ (s : Stated) (words : List (List ℕ)) (asks : AsksFor words (task.Read
   }
 
   module _ (left : Option (List ℕ)) (lf lf' of of' : ℕ) (read written : List ℕ) where
-    refused_by : (r : Refusal) (n : ℕ) (ended : Bool) → (ended ≡ true → IsAtEnd left) → TellsDueBy log_reading aim false ended read written (Some r) n
+    refused_by : (r : Refusal) (n : ℕ) (ended : Bool) → (ended ≡ true → IsAtEnd left) → TellsDueBy log_reading asked_aim false ended read written (Some r) n
         → IsRefused left on words read written (faulty_outcome n (fault_of_refusal r)) r
-    unfolding due_of reading_of
+    unfolding due_of reading_of told_of
     refused_by r n ended at told =
-        let none = ap listed (none_whole ended (log_reading.place ended read) (judgement_in aim read) (log_reading.fault ended read) r told.fault) in
+        let none = ap listed (none_whole ended (log_reading.place ended read) (judgement_in asked_aim read) (log_reading.fault ended read) r told.fault) in
         record {
           ended = ended;
           at_end = at;
-          told = told_of ended read written n told.count (of_none _ (Writes on.watches t product.Certificate) (reported false (due_by log_reading aim ended read)) written none told.texts);
+          told = told_of ended read written n told.count (of_none _ (Writes on.watches tree product.Certificate) (reported false (due_by log_reading asked_aim ended read)) written none told.texts);
           due_is = told.fault;
           fault = refl;
         }
 
-    has_part : (n : ℕ) → (h : HasFrontBy left aim t read written) → n ≡ counted h.log.batches → HasPart left on words read written n
+    has_part : (n : ℕ) → (h : HasFrontBy left asked_aim tree read written) → n ≡ counted h.log.batches → HasPart left on words read written n
     unfolding due_of reading_of
     has_part n h count = record {
-      tree = t;
+      tree = tree;
       inquiry = certifying;
       asks = asks;
       ended = true;
@@ -281,7 +281,7 @@ module _ (s : Stated) (words : List (List ℕ)) (asks : AsksFor words (task.Read
       log = h.log;
       behind = [];
       due_are = ap listed h.whole;
-      telling = subst (AllTell on.watches t product.Certificate) (ap listed h.whole) (due_tell true read);
+      telling = subst (AllTell on.watches tree product.Certificate) (ap listed h.whole) (due_tell true read);
       text = [];
       texts = refl;
       part = written;
@@ -291,17 +291,17 @@ module _ (s : Stated) (words : List (List ℕ)) (asks : AsksFor words (task.Read
     }
 
     -- words ask for one certificate
-    front_asked : (u : Tree) → AsksCertificate words u → HasCertificateFront left on t read written → HasCertificateFront left on u read written
-    front_asked u k h = subst (λ (v : Tree). HasCertificateFront left on v read written) (asks_one words (task.Read certifying) (task.Read certifying) t u asks k).1 h
+    front_asked : (u : Tree) → AsksCertificate words u → HasCertificateFront left on tree read written → HasCertificateFront left on u read written
+    front_asked u k h = subst (λ (v : Tree). HasCertificateFront left on v read written) (asks_one words (task.Read certifying) (task.Read certifying) tree u asks k).1 h
 
-    front_there : (written ≡ []) ⊎ HasFrontBy left aim t read written → HasCertificateFront left on t read written
+    front_there : (written ≡ []) ⊎ HasFrontBy left asked_aim tree read written → HasCertificateFront left on tree read written
     unfolding due_of reading_of
     front_there (inl none) = inl none
     front_there (inr h) = inr (h.ended, h.log, h.whole, h.front)
 
-    stop_answer : (why : StopCause) (n : ℕ) → CertifyStopsBy why n left lf lf' of of' aim t read written
+    stop_answer : (why : StopCause) (n : ℕ) → CertifyStopsBy why n left lf lf' of of' asked_aim tree read written
         → Answer (status_of (fault_of why)) left lf lf' of of' on words read written (faulty_outcome n (fault_of why))
-    unfolding due_of reading_of
+    unfolding due_of reading_of told_of
     stop_answer (causes.Refused (refusal.Formula x)) n h = (x, inr (inl (refused_by (refusal.Formula x) n h.0 h.1 h.2)))
     stop_answer (causes.Refused (refusal.Log x)) n h = (refusal.Log x, refl, refused_by (refusal.Log x) n h.0 h.1 h.2)
     stop_answer (causes.Refused (refusal.Import x)) n h = (refusal.Import x, refl, refused_by (refusal.Import x) n h.0 h.1 h.2)
@@ -309,38 +309,38 @@ module _ (s : Stated) (words : List (List ℕ)) (asks : AsksFor words (task.Read
     stop_answer causes.Read n h = (record { told = told_of false read written n h.0.count h.0.texts; free = h.0.fault; fault = refl }, h.1)
     stop_answer causes.Write n h = (inl (has_part n h.0 h.1), refl, h.2)
     stop_answer causes.Memory n h = record {
-      front = λ none text batches w. absurd (none t asks);
+      front = λ none text batches w. absurd (none tree asks);
       certified = λ u k. (front_asked u k (front_there h.0), h.1);
-      unread = λ u sizes k. absurd (not_both words certifying sizes t u asks k);
-      unnamed = λ u sizes f k. absurd (not_both words certifying sizes t u asks k);
+      unread = λ u sizes k. absurd (not_both words certifying sizes tree u asks k);
+      unnamed = λ u sizes f k. absurd (not_both words certifying sizes tree u asks k);
       fault = refl;
     }
 
-    verdict_of : (b : Bool) (v : Verdict) → v.truth ≡ b → IsAtEnd left → IsCertifiedBy aim t read written v
+    verdict_of : (b : Bool) (v : Verdict) → v.truth ≡ b → IsAtEnd left → IsCertifiedBy asked_aim tree read written v
         → HasVerdict left on words read written (record { status = if b then status.True else status.False; batches = v.batches; fault = None }) b
-    unfolding due_of reading_of
+    unfolding due_of reading_of told_of
     verdict_of b v same ended h = record {
       ended = ended;
       told = told_of true read written v.batches h.count
-          (subst (λ (ps : List Prefix). AreTexts (Writes on.watches t product.Certificate) ps written) (sym (ap listed h.whole)) (written, h.certificate, [], refl, sym (append-nil written)));
+          (subst (λ (ps : List Prefix). AreTexts (Writes on.watches tree product.Certificate) ps written) (sym (ap listed h.whole)) (written, h.certificate, [], refl, sym (append-nil written)));
       free = h.free;
       log = h.log;
       whole = h.whole;
-      truth = subst (λ (x : Bool). (x ≡ true) ↔ IsTrueAtStart no_watches t h.log) same h.truth;
+      truth = subst (λ (x : Bool). (x ≡ true) ↔ IsTrueAtStart no_watches tree h.log) same h.truth;
       fault = refl;
     }
 
-    verdict_answer : (b : Bool) (v : Verdict) → v.truth ≡ b → IsAtEnd left → IsCertifiedBy aim t read written v
+    verdict_answer : (b : Bool) (v : Verdict) → v.truth ≡ b → IsAtEnd left → IsCertifiedBy asked_aim tree read written v
         → Answer (if b then status.True else status.False) left lf lf' of of' on words read written (record { status = if b then status.True else status.False; batches = v.batches; fault = None })
     verdict_answer true v e ended h = inl (verdict_of true v e ended h)
     verdict_answer false v e ended h = inl (verdict_of false v e ended h)
 
-    answer_of : (result : Result Verdict Stop) → CertifiesBy left lf lf' of of' aim t read written result
+    answer_of : (result : Result Verdict Stop) → CertifiesBy left lf lf' of of' asked_aim tree read written result
         → Answer (outcome_of result).status left lf lf' of of' on words read written (outcome_of result)
     answer_of (Ok v) h = verdict_answer v.truth v refl h.0 h.1
     answer_of (Err stop) h = stop_answer stop.cause stop.batches h
 
-  pub ran_certified : (left left' held held' : Option (List ℕ)) (lf lf' of of' : ℕ) (result : Result Verdict Stop) → HasCertified left left' held held' lf lf' of of' aim t result
+  pub ran_certified : (left left' held held' : Option (List ℕ)) (lf lf' of of' : ℕ) (result : Result Verdict Stop) → HasCertified left left' held held' lf lf' of of' asked_aim tree result
       → Ran left left' held held' lf lf' of of' on words (outcome_of result)
   ran_certified left left' held held' lf lf' of of' result h = record {
     read = h.read;

@@ -189,7 +189,7 @@ module _ {X : Type 0} {P : X → Type 0} (says : Says X P) (s : Stated) (read_as
   module _ (left : Option (List ℕ)) (lf lf' of of' : ℕ) (read written : List ℕ) where
     refused_by : (r : Refusal) (n : ℕ) (ended : Bool) → (ended ≡ true → IsAtEnd left) → TellsDueBy reading aim each ended read written (Some r) n
         → IsRefused left on words read written (faulty_outcome n (fault_of_refusal r)) r
-    unfolding due_of
+    unfolding due_of told_of
     refused_by r n ended at told = record {
       ended = ended;
       at_end = at;
@@ -200,7 +200,7 @@ module _ {X : Type 0} {P : X → Type 0} (says : Says X P) (s : Stated) (read_as
 
     stop_answer : (why : StopCause) (n : ℕ) → StopsBy reading why n left lf lf' of of' aim each read written
         → Answer (status_of (fault_of why)) left lf lf' of of' on words read written (faulty_outcome n (fault_of why))
-    unfolding due_of
+    unfolding due_of told_of
     stop_answer (causes.Refused (refusal.Formula x)) n h = (x, inr (inl (refused_by (refusal.Formula x) n h.0 h.1 h.2)))
     stop_answer (causes.Refused (refusal.Log x)) n h = (refusal.Log x, refl, refused_by (refusal.Log x) n h.0 h.1 h.2)
     stop_answer (causes.Refused (refusal.Import x)) n h = (refusal.Import x, refl, refused_by (refusal.Import x) n h.0 h.1 h.2)
@@ -217,7 +217,7 @@ module _ {X : Type 0} {P : X → Type 0} (says : Says X P) (s : Stated) (read_as
 
     verdict_of : (b : Bool) (v : Verdict) → v.truth ≡ b → IsAtEnd left → IsVerdictBy reading aim each read written v
         → HasVerdict left on words read written (record { status = if b then status.True else status.False; batches = v.batches; fault = None }) b
-    unfolding due_of
+    unfolding due_of told_of
     verdict_of b v same_truth ended h = record {
       ended = ended;
       told = told_of true read written v.batches h.told.count h.told.texts;

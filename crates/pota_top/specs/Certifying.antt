@@ -19,13 +19,14 @@ use Rattle.run_request.specs.declared.formula.Stated.{Stated}
 use Rattle.log_judgement.specs.Judgement.{Prefix}
 use Rattle.log_judgement.specs.Readings.{log_reading}
 use Rattle.log_check.specs.Aims.{Aim, aim_of}
+use Rattle.log_check.specs.Checked.{observed_alone}
 use Rattle.log_check.specs.declared.checked.CheckedLog.{CheckedLog}
 use Rattle.log_answers.specs.declared.stop.StopCause.{StopCause}
 use Rattle.log_answers.specs.declared.stop.StopCause.TheVariants as causes
 use Rattle.log_answers.specs.declared.stop.Stop.{Stop}
 use Rattle.log_answers.specs.declared.stop.Verdict.{Verdict}
 use Rattle.log_answers.specs.Inputs.{due_by, TellsDueBy}
-use Rattle.run_promise.specs.Certificates.{IsTrueAtStart, no_watches, log_seen, disjuncts_on}
+use Rattle.run_promise.specs.Certificates.{IsTrueAtStart, no_watches, disjuncts_on}
 use Rattle.run_promise.specs.Certificates.{IsCertificateText, IsCertificateFront}
 
 -- what is asked of a log for the certificate of a formula
@@ -47,7 +48,7 @@ HoldsOn seen ds =
 -- the log was observed for the formula of this tree, which is true there where it is of the log
 pub record IsLogSeen (t : Tree) (log : Prefix) (checked : CheckedLog) : Type 0 where
   pub text : checked.stated.text ≡ canonical (shape_of t)
-  pub seen : checked.seen ≡ log_seen log
+  pub seen : checked.seen ≡ observed_alone log
   pub split : disjuncts_of checked.disjuncts ≡ disjuncts_on log t
   pub answers : AreAnswers checked.seen unwatched
   pub truth : HoldsOn checked.seen (disjuncts_of checked.disjuncts)

@@ -9,10 +9,9 @@ use Rattle.rctl_print.specs.Canonical.{canonical}
 use Rattle.rctl_class.specs.Nodes.{node_of, formula_of}
 use Rattle.rctl_names.specs.Resolving.{numbered_disjuncts}
 use Rattle.rctl_parts.specs.Pieces.{Piece}
-use Rattle.part_pulls.specs.declared.observed.Observed.{Observed}
 use Rattle.run_report.specs.Reports.{trace_so_far}
 use Rattle.log_judgement.specs.Judgement.{Prefix}
-use Rattle.log_check.specs.Keeping.{trace_after}
+use Rattle.log_check.specs.Checked.{observed_alone}
 use Rattle.certificate_lines.specs.Spelling.{formula_line}
 use Rattle.certify.specs.Certifying.{IsCertificateOf, IsFrontOfCertificate}
 
@@ -26,10 +25,6 @@ IsTrueAtStart watches t log =
 abbrev pub no_watches : Watches
 no_watches name states = []
 
--- the log as it is observed where nothing is a watch
-abbrev pub log_seen : Prefix → Observed
-log_seen log = record { trace = trace_after log; watch_process = []; watch_rows = [] }
-
 -- the disjuncts of the formula, by the numbers of the log's header
 abbrev pub disjuncts_on : Prefix → Tree → List (List Piece)
 disjuncts_on log t = numbered_disjuncts log.header [] (node_of t)
@@ -41,9 +36,9 @@ line_of t = formula_line (canonical (shape_of t))
 -- the text is the canonical certificate of the formula on the log, and tells the truth
 pub record IsCertificateText (t : Tree) (log : Prefix) (text : List ℕ) : Type 0 where
   pub told : Bool
-  pub is : IsCertificateOf (log_seen log) (disjuncts_on log t) (line_of t) text told
+  pub is : IsCertificateOf (observed_alone log) (disjuncts_on log t) (line_of t) text told
   pub truth : (told ≡ true) ↔ IsTrueAtStart no_watches t log
 
 -- the bytes are the front of the canonical certificate
 pub record IsCertificateFront (t : Tree) (log : Prefix) (part : List ℕ) : Type 0 where
-  pub front : IsFrontOfCertificate (log_seen log) (disjuncts_on log t) (line_of t) part
+  pub front : IsFrontOfCertificate (observed_alone log) (disjuncts_on log t) (line_of t) part
