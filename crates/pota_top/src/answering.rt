@@ -4,7 +4,7 @@ ghost use Rattle.log_judgement.specs.Judgement.{waiting};
 ghost use Rattle.command_words.specs.declared.request.Task.TheVariants.{Bench, Read};
 ghost use Rattle.command_words.specs.declared.request.Product.TheVariants.{Reports};
 ghost use Rattle.run_request.specs.Questions.{AsksFor, IsStated};
-ghost use Rattle.log_check.specs.Aims.{Aim, AreWatches, aim_of};
+ghost use Rattle.log_check.specs.Aims.{Aim, AreWatches, aim_of, said_by};
 ghost use Rattle.log_check.specs.Checking.{IsCheckOf};
 ghost use Rattle.run_promise.specs.Asking.{handing_of};
 ghost use Rattle.pota_top.specs.Outcome.{outcome_of};
@@ -38,13 +38,11 @@ fn check_all<R: Threads + Sync, G: Gate, L: Ledger, S: Source, O: Sink>(
     log: &mut S,
     out: &mut O,
 ) -> Result<Verdict, Stop>
-    requires { (aim : Aim)
-        × IsCheckOf (λ h. answers (h.watch.vtable, h.watch.value)) aim checking.old.check waiting }
-    ensures { (aim : Aim)
-        → IsCheckOf (λ h. answers (h.watch.vtable, h.watch.value)) aim checking.old.check waiting
+    requires { (aim : Aim) × IsCheckOf (said_by answers) aim checking.old.check waiting }
+    ensures { (aim : Aim) → IsCheckOf (said_by answers) aim checking.old.check waiting
         → HasChecked (S.left log.old) (S.left log.new) (O.held out.old) (O.held out.new)
-        (S.faults log.old) (S.faults log.new) (O.faults out.old) (O.faults out.new)
-        aim checking.old.each_batch result }
+        (S.faults log.old) (S.faults log.new) (O.faults out.old) (O.faults out.new) aim
+        checking.old.each_batch result }
 {
     if let Err(stop) = read_log(means, checking, log, out) {
         return Err(stop);
@@ -67,13 +65,11 @@ fn check_text<R: Threads + Sync, G: Gate, L: Ledger, S: Source, O: Sink>(
     requires one { 0 < blank.parts }
     requires some { 1 ≤ workers }
     requires few { workers ≤ 16 }
-    requires check { (aim : Aim)
-        × IsCheckOf (λ h. answers (h.watch.vtable, h.watch.value)) aim check waiting }
-    ensures { (aim : Aim)
-        → IsCheckOf (λ h. answers (h.watch.vtable, h.watch.value)) aim check waiting
+    requires check { (aim : Aim) × IsCheckOf (said_by answers) aim check waiting }
+    ensures { (aim : Aim) → IsCheckOf (said_by answers) aim check waiting
         → HasChecked (S.left log.old) (S.left log.new) (O.held out.old) (O.held out.new)
-        (S.faults log.old) (S.faults log.new) (O.faults out.old) (O.faults out.new)
-        aim each_batch result }
+        (S.faults log.old) (S.faults log.new) (O.faults out.old) (O.faults out.new) aim each_batch
+        result }
 {
     let mut checking = Checking {
         check,
@@ -100,14 +96,11 @@ fn check_records<R: Threads + Sync, G: Gate, L: Ledger, S: Source, O: Sink>(
     requires one { 0 < blank.parts }
     requires some { 1 ≤ workers }
     requires few { workers ≤ 16 }
-    requires check { (aim : Aim)
-        × IsCheckOf (λ h. answers (h.watch.vtable, h.watch.value)) aim check waiting }
-    ensures { (aim : Aim)
-        → IsCheckOf (λ h. answers (h.watch.vtable, h.watch.value)) aim check waiting
-        → (each : Bool)
-        → HasCheckedBy clocks_reading (S.left source.old) (S.left source.new)
-        (O.held out.old) (O.held out.new) (S.faults source.old) (S.faults source.new)
-        (O.faults out.old) (O.faults out.new) aim each result }
+    requires check { (aim : Aim) × IsCheckOf (said_by answers) aim check waiting }
+    ensures { (aim : Aim) → IsCheckOf (said_by answers) aim check waiting → (each : Bool)
+        → HasCheckedBy clocks_reading (S.left source.old) (S.left source.new) (O.held out.old)
+        (O.held out.new) (S.faults source.old) (S.faults source.new) (O.faults out.old)
+        (O.faults out.new) aim each result }
 {
     let mut checking = Checking {
         check,
@@ -134,14 +127,11 @@ fn check_logs<R: Threads + Sync, G: Gate, L: Ledger, S: Source, O: Sink>(
     requires one { 0 < blank.parts }
     requires some { 1 ≤ workers }
     requires few { workers ≤ 16 }
-    requires check { (aim : Aim)
-        × IsCheckOf (λ h. answers (h.watch.vtable, h.watch.value)) aim check waiting }
-    ensures { (aim : Aim)
-        → IsCheckOf (λ h. answers (h.watch.vtable, h.watch.value)) aim check waiting
-        → (each : Bool)
-        → HasCheckedBy merged_reading (S.left source.old) (S.left source.new)
-        (O.held out.old) (O.held out.new) (S.faults source.old) (S.faults source.new)
-        (O.faults out.old) (O.faults out.new) aim each result }
+    requires check { (aim : Aim) × IsCheckOf (said_by answers) aim check waiting }
+    ensures { (aim : Aim) → IsCheckOf (said_by answers) aim check waiting → (each : Bool)
+        → HasCheckedBy merged_reading (S.left source.old) (S.left source.new) (O.held out.old)
+        (O.held out.new) (S.faults source.old) (S.faults source.new) (O.faults out.old)
+        (O.faults out.new) aim each result }
 {
     let mut checking = Checking {
         check,
@@ -181,12 +171,10 @@ fn answer_reports<R: Threads + Sync, G: Gate, S: Source, O: Sink>(
     requires watches { AreWatches watches.items }
     requires stated { (text : ListOf ℕ) × IsStated text stated }
     ensures { (words : ListOf (ListOf ℕ)) (text : ListOf ℕ) → IsStated text stated
-        → AsksFor words (Read (record { form = form; product = Reports shown }))
-        stated.formula.tree
+        → AsksFor words (Read (record { form = form; product = Reports shown })) stated.formula.tree
         → Ran (S.left log.old) (S.left log.new) (O.held out.old) (O.held out.new) (S.faults log.old)
         (S.faults log.new) (O.faults out.old) (O.faults out.new)
-        (handing_of
-        (λ h. answers (h.watch.vtable, h.watch.value)) watches.items) words (outcome_of result) }
+        (handing_of (said_by answers) watches.items) words (outcome_of result) }
 {
     let Ok(check) = LogCheck::new(means.alloc, stated, shown.slice, shown.witness, watches) else {
         return Err(Stop::without_memory());
@@ -209,13 +197,11 @@ fn bench_all<R: Threads + Sync, G: Gate, L: Ledger, O: Sink>(
 ) -> Result<Verdict, Stop>
     requires sizes { CanBeMade sizes }
     requires last { checking.old.each_batch ≡ false }
-    requires check { (aim : Aim)
-        × IsCheckOf (λ h. answers (h.watch.vtable, h.watch.value)) aim checking.old.check waiting }
-    ensures { (aim : Aim)
-        → IsCheckOf (λ h. answers (h.watch.vtable, h.watch.value)) aim checking.old.check waiting
+    requires check { (aim : Aim) × IsCheckOf (said_by answers) aim checking.old.check waiting }
+    ensures { (aim : Aim) → IsCheckOf (said_by answers) aim checking.old.check waiting
         → IsBenchAim aim
-        → HasMade (O.held out.old) (O.held out.new) (O.faults out.old) (O.faults out.new)
-        aim sizes result }
+        → HasMade (O.held out.old) (O.held out.new) (O.faults out.old) (O.faults out.new) aim sizes
+        result }
 {
     let Ok(log) = generate(means.alloc, sizes.seed, sizes.procs, sizes.events) else {
         return Err(Stop::without_memory());
@@ -241,13 +227,10 @@ fn bench_log<R: Threads + Sync, G: Gate, L: Ledger, O: Sink>(
     requires some { 1 ≤ workers }
     requires few { workers ≤ 16 }
     requires sizes { CanBeMade sizes }
-    requires check { (aim : Aim)
-        × IsCheckOf (λ h. answers (h.watch.vtable, h.watch.value)) aim check waiting }
-    ensures { (aim : Aim)
-        → IsCheckOf (λ h. answers (h.watch.vtable, h.watch.value)) aim check waiting
-        → IsBenchAim aim
-        → HasMade (O.held out.old) (O.held out.new) (O.faults out.old) (O.faults out.new)
-        aim sizes result }
+    requires check { (aim : Aim) × IsCheckOf (said_by answers) aim check waiting }
+    ensures { (aim : Aim) → IsCheckOf (said_by answers) aim check waiting → IsBenchAim aim
+        → HasMade (O.held out.old) (O.held out.new) (O.faults out.old) (O.faults out.new) aim sizes
+        result }
 {
     let mut checking = Checking {
         check,
@@ -279,8 +262,7 @@ pub fn answer_inquiry<R: Threads + Sync, G: Gate, S: Source, O: Sink>(
         → AsksFor words (Read inquiry) stated.formula.tree
         → Ran (S.left log.old) (S.left log.new) (O.held out.old) (O.held out.new) (S.faults log.old)
         (S.faults log.new) (O.faults out.old) (O.faults out.new)
-        (handing_of
-        (λ h. answers (h.watch.vtable, h.watch.value)) watches.items) words (outcome_of result) }
+        (handing_of (said_by answers) watches.items) words (outcome_of result) }
 {
     let form = inquiry.form;
     match inquiry.product {
@@ -308,9 +290,7 @@ pub fn answer_bench<R: Threads + Sync, G: Gate, O: Sink>(
     ensures { (words : ListOf (ListOf ℕ)) (text : ListOf ℕ) → IsStated text stated
         → AsksFor words (Bench sizes) stated.formula.tree → (left : Option (ListOf ℕ)) (lf : ℕ)
         → Ran left left (O.held out.old) (O.held out.new) lf lf (O.faults out.old)
-        (O.faults out.new) (handing_of
-        (λ h. answers (h.watch.vtable, h.watch.value)) watches.items) words
-        (outcome_of result) }
+        (O.faults out.new) (handing_of (said_by answers) watches.items) words (outcome_of result) }
 {
     let Ok(check) = LogCheck::new(means.alloc, stated, true, false, watches) else {
         return Err(Stop::without_memory());

@@ -13,6 +13,7 @@ ghost use Rattle.run_request.specs.Questions.{AsksFor, IsStated};
 ghost use Rattle.run_request.specs.declared.formula.Stated.{Stated as StatedIs};
 ghost use Rattle.log_judgement.specs.Judgement.{Prefix, waiting};
 ghost use Rattle.log_check.specs.Checking.{IsCheckOf};
+ghost use Rattle.log_check.specs.Aims.{said_by};
 ghost use Rattle.certificate_lines.specs.Spelling.{formula_line};
 ghost use Rattle.run_promise.specs.Asking.{Handing};
 ghost use Rattle.run_promise.specs.Run.{Ran};
@@ -84,14 +85,12 @@ fn certify_log<R: Threads + Sync, G: Gate, L: Ledger, S: Source, O: Sink>(
 ) -> Result<Verdict, Stop>
     requires last { checking.each_batch ≡ false }
     requires check { (s : StatedIs) × (text : ListOf ℕ) × IsStated text s
-        × IsCheckOf (λ h. answers (h.watch.vtable, h.watch.value)) (aim_for s) checking.check
-        waiting }
+        × IsCheckOf (said_by answers) (aim_for s) checking.check waiting }
     ensures { (s : StatedIs) (text : ListOf ℕ) → IsStated text s
-        → IsCheckOf (λ h. answers (h.watch.vtable, h.watch.value)) (aim_for s) checking.check
-        waiting
+        → IsCheckOf (said_by answers) (aim_for s) checking.check waiting
         → HasCertified (S.left log.old) (S.left log.new) (O.held out.old) (O.held out.new)
-        (S.faults log.old) (S.faults log.new) (O.faults out.old) (O.faults out.new)
-        (aim_for s) s.formula.tree result }
+        (S.faults log.old) (S.faults log.new) (O.faults out.old) (O.faults out.new) (aim_for s)
+        s.formula.tree result }
 {
     let mut checking = checking;
     if let Err(stop) = read_log(means, &mut checking, log, out) {
@@ -105,8 +104,7 @@ fn certify_log<R: Threads + Sync, G: Gate, L: Ledger, S: Source, O: Sink>(
 // A check of the formula on a log that no item came of yet, where nothing is a watch.
 fn unwatched_check(alloc: Global, stated: Stated) -> Result<LogCheck, NoMemory>
     requires { (text : ListOf ℕ) × IsStated text stated }
-    ensures { IfOk result (λ check. IsCheckOf (λ h. answers (h.watch.vtable, h.watch.value))
-        (aim_for stated) check waiting) }
+    ensures { IfOk result (λ check. IsCheckOf (said_by answers) (aim_for stated) check waiting) }
 {
     let watches: Vec<Handed> = Vec::new(alloc);
     LogCheck::new(alloc, stated, false, false, watches)
@@ -124,12 +122,12 @@ fn certify_text<R: Threads + Sync, G: Gate, L: Ledger, S: Source, O: Sink>(
     requires parts { blank.parts ≡ L.parts }
     requires one { 0 < blank.parts }
     requires check { (s : StatedIs) × (text : ListOf ℕ) × IsStated text s
-        × IsCheckOf (λ h. answers (h.watch.vtable, h.watch.value)) (aim_for s) check waiting }
+        × IsCheckOf (said_by answers) (aim_for s) check waiting }
     ensures { (s : StatedIs) (text : ListOf ℕ) → IsStated text s
-        → IsCheckOf (λ h. answers (h.watch.vtable, h.watch.value)) (aim_for s) check waiting
+        → IsCheckOf (said_by answers) (aim_for s) check waiting
         → HasCertified (S.left log.old) (S.left log.new) (O.held out.old) (O.held out.new)
-        (S.faults log.old) (S.faults log.new) (O.faults out.old) (O.faults out.new)
-        (aim_for s) s.formula.tree result }
+        (S.faults log.old) (S.faults log.new) (O.faults out.old) (O.faults out.new) (aim_for s)
+        s.formula.tree result }
 {
     let checking = Checking {
         check,
