@@ -285,12 +285,15 @@ impl LogCheck {
         ensures made { AreMadeFor (scope_seen result.seen) (disjuncts_of result.disjuncts) }
         ensures rise { CountersRise result.seen (disjuncts_of result.disjuncts) }
     {
-        let Some(session) = self.session else {
+        let LogCheck {
+            stated, session, ..
+        } = self;
+        let Some(session) = session else {
             unreachable!()
         };
         let (seen, disjuncts) = session.into_seen();
         CheckedLog {
-            stated: self.stated,
+            stated,
             seen,
             disjuncts,
         }

@@ -11,10 +11,7 @@ use Rattle.event_log.specs.declared.item.LogFault.{LogFault}
 use Rattle.rctl_grammar.specs.declared.tree.Tree.{Tree}
 use Rattle.rctl_parts.specs.Pieces.{Piece, disjuncts_of}
 use Rattle.rctl_class.specs.Nodes.{formula_of}
-use Rattle.command_words.specs.declared.request.Form.TheVariants as form
-use Rattle.command_words.specs.declared.request.Inquiry.{Inquiry}
 use Rattle.command_words.specs.declared.request.Product.TheVariants as product
-use Rattle.command_words.specs.declared.request.Task.{Task}
 use Rattle.command_words.specs.declared.request.Task.TheVariants as task
 use Rattle.run_request.specs.declared.formula.Stated.{Stated}
 use Rattle.run_request.specs.Questions.{IsStated, AsksFor}
@@ -42,7 +39,7 @@ use Rattle.log_answers.specs.Checking.{AreReportsFor, HasPartOf, HasFrontOf}
 use Rattle.log_answers.specs.Inputs.{due_by, TellsDueBy}
 use Rattle.fault_line.specs.Faults.{status_of, fault_of_refusal}
 use Rattle.run_promise.specs.declared.outcome.Outcome.{Outcome}
-use Rattle.run_promise.specs.Asking.{Handing, Writes, reading_of, due_of}
+use Rattle.run_promise.specs.Asking.{Handing, Writes, certifying, reading_of, due_of}
 use Rattle.certificate_lines.specs.Spelling.{formula_line}
 use Rattle.certify.specs.Certifying.{IsCertificateOf, IsFrontOfCertificate, IsCertified, HasFront, IsCut}
 use Rattle.part_pulls.specs.declared.observed.Observed.{Observed}
@@ -228,10 +225,7 @@ module _ {X : Type 0} {P : X → Type 0} (says : Says X P) (s : Stated) (check :
 
 -- ---- the answer to the words
 
-abbrev certifying : Inquiry
-certifying = record { form = form.Text; product = product.Certificate }
-
-module _ (s : Stated) (words : List (List ℕ)) (asks : AsksFor words (task.Read (record { form = form.Text; product = product.Certificate })) s.formula.tree) (on : Handing) where
+module _ (s : Stated) (words : List (List ℕ)) (asks : AsksFor words (task.Read certifying) s.formula.tree) (on : Handing) where
   abbrev asked_aim : Aim
   asked_aim = aim_for s
 

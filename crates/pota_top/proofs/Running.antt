@@ -13,7 +13,6 @@ use Rattle.rctl_class.specs.Nodes.{node_of, formula_of}
 use Rattle.rctl_class.proofs.Class.{of_the_class}
 use Rattle.command_words.specs.declared.request.Task.TheVariants as task
 use Rattle.command_words.specs.declared.request.Form.{Form}
-use Rattle.command_words.specs.declared.request.Form.TheVariants as form
 use Rattle.command_words.specs.declared.request.Product.{Product}
 use Rattle.command_words.specs.declared.request.Inquiry.{Inquiry}
 use Rattle.command_words.specs.declared.request.Product.TheVariants as product
@@ -46,7 +45,7 @@ use Rattle.log_answers.specs.declared.stop.Stop.{Stop}
 use Rattle.log_answers.specs.declared.stop.Verdict.{Verdict}
 use Rattle.run_promise.specs.declared.outcome.Outcome.{Outcome}
 use Rattle.pota_top.specs.Outcome.{fault_of, faulty_outcome, outcome_of}
-use Rattle.run_promise.specs.Asking.{Handing, handing_of, asked_by, asked, reading_of, due_of}
+use Rattle.run_promise.specs.Asking.{Handing, handing_of, asked_by, asked, certifying, reading_of, due_of}
 use Rattle.log_answers.specs.Checking.{AreReportsFor, HasPartOf, HasFrontOf}
 use Rattle.log_answers.specs.Inputs.{due_by, TellsDueBy, StopsBy, IsVerdictBy, ChecksBy, HasCheckedBy}
 use Rattle.pota_top.specs.Benching.{IsSummary, missing_name, IsBenchOf, BenchStops, BenchesTo, HasMade}
@@ -308,7 +307,7 @@ module _ {X : Type 0} {P : X → Type 0} (says : Says X P) (s : Stated) (sizes :
     )
     bench_stop causes.Memory n h = record {
       front = λ other text batches w. (subst (λ (t : List ℕ). IsPrefix t text) (sym h.0) (nothing_front text), let none = h.1 in omega (arith, none));
-      certified = λ u k. absurd (not_both words (record { form = form.Text; product = product.Certificate }) sizes u s.formula.tree k asks);
+      certified = λ u k. absurd (not_both words certifying sizes u s.formula.tree k asks);
       unread = λ t sizes k. refl;
       unnamed = λ t sizes f k lacks. h;
       fault = refl;

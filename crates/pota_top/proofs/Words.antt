@@ -19,6 +19,7 @@ use Rattle.command_words.specs.Request.{Values, values_of, shown_of, has_sizes, 
 use Rattle.command_words.specs.Rule.{Text, given}
 use Rattle.run_request.specs.declared.question.Question.{Question}
 use Rattle.run_request.specs.Questions.{IsQuestion, AsksFor}
+use Rattle.run_promise.specs.Asking.{certifying}
 use Rattle.pota_top.specs.Benching.{CanBeMade}
 
 abbrev Then : {A B : Type 0} → Option A → (A → Option B) → B → Type 0
@@ -96,10 +97,6 @@ check_not v s h = by_sizes (has_sizes v) refl
     by_sizes : (b : Bool) → has_sizes v ≡ b → ⊥
     by_sizes true e = none-some (Bench s) (sym (ap sized e) ∙ h)
     by_sizes false e = none_asked (form_of v) (sym (ap sized e) ∙ h)
-
--- what `certify` asks
-abbrev certifying : Inquiry
-certifying = record { form = form.Text; product = Certificate }
 
 certify_is : (v : Values) (t : Task) → certify_of v ≡ Some t → t ≡ Read certifying
 certify_is v t h = by_words (has_sizes v || has_flags v) refl

@@ -1,13 +1,11 @@
 //! The certificate of a formula on a log that is read.
-ghost use Rattle.std.specs.Prelude.{◌≡◌, ◌≤◌, ◌<◌, ◌++◌, ℕ, [], false, List as ListOf, IfOk};
+ghost use Rattle.std.specs.Prelude.{◌≡◌, ◌<◌, ℕ, false, List as ListOf, IfOk};
 ghost use Rattle.trace_growth.specs.Growing.{IsTrace};
 ghost use Rattle.rctl_grammar.specs.declared.tree.Tree.{Tree};
 ghost use Rattle.rctl_parts.specs.MadeFor.{AreMadeFor};
 ghost use Rattle.rctl_parts.specs.Pieces.{disjuncts_of};
 ghost use Rattle.part_pulls.specs.Counters.{CountersRise};
 ghost use Rattle.part_pulls.specs.Observing.{IsReady, scope_seen};
-ghost use Rattle.command_words.specs.declared.request.Form.TheVariants as form;
-ghost use Rattle.command_words.specs.declared.request.Product.TheVariants as product;
 ghost use Rattle.command_words.specs.declared.request.Task.TheVariants.{Read};
 ghost use Rattle.run_request.specs.Questions.{AsksFor, IsStated};
 ghost use Rattle.run_request.specs.declared.formula.Stated.{Stated as StatedIs};
@@ -15,7 +13,7 @@ ghost use Rattle.log_judgement.specs.Judgement.{Prefix, waiting};
 ghost use Rattle.log_check.specs.Checking.{IsCheckOf};
 ghost use Rattle.log_check.specs.Aims.{said_by};
 ghost use Rattle.certificate_lines.specs.Spelling.{formula_line};
-ghost use Rattle.run_promise.specs.Asking.{Handing};
+ghost use Rattle.run_promise.specs.Asking.{Handing, certifying};
 ghost use Rattle.run_promise.specs.Run.{Ran};
 ghost use Rattle.pota_top.specs.Certifying.{aim_for, Certifies, HasCertified, IsLogSeen};
 ghost use Rattle.pota_top.specs.Outcome.{outcome_of};
@@ -147,8 +145,7 @@ pub fn answer_certificate<R: Threads + Sync, G: Gate, S: Source, O: Sink>(
 ) -> Result<Verdict, Stop>
     requires { (text : ListOf ℕ) × IsStated text stated }
     ensures { (words : ListOf (ListOf ℕ)) (text : ListOf ℕ) → IsStated text stated
-        → AsksFor words (Read (record { form = form.Text; product = product.Certificate }))
-        stated.formula.tree → (on : Handing)
+        → AsksFor words (Read certifying) stated.formula.tree → (on : Handing)
         → Ran (S.left log.old) (S.left log.new) (O.held out.old) (O.held out.new) (S.faults log.old)
         (S.faults log.new) (O.faults out.old) (O.faults out.new) on words (outcome_of result) }
 {

@@ -34,7 +34,7 @@ use Rattle.log_check.specs.Aims.{unknown_name}
 use Rattle.fault_line.specs.declared.fault.Fault.TheVariants as fault
 use Rattle.fault_line.specs.Faults.{status_of, fault_of_question, fault_of_refusal}
 use Rattle.run_promise.specs.declared.outcome.Outcome.{Outcome}
-use Rattle.run_promise.specs.Asking.{Handing, reading_of, watches_for, due_of, IsDueText}
+use Rattle.run_promise.specs.Asking.{Handing, reading_of, watches_for, certifying, due_of, IsDueText}
 use Rattle.run_promise.specs.Certificates.{IsTrueAtStart}
 use Rattle.run_promise.specs.Run.{AsksCertificate, HasVerdict, IsRefused, HasBenched, LacksName, IsMisasked, made_by, Answer, Ran, IsCalm, WritesAsDue, TellsTruth, TellsFault, IsDecided, IsRefusedAsDue, IsRefusedAsAsked, Benches, IsBenchAnswered}
 
@@ -62,10 +62,8 @@ reads_one words a b t u h k =
 pub not_certified : (words : List (List ℕ)) (f : Form) (shown : Shown) (t u : Tree)
     → AsksFor words (task.Read (record { form = f; product = product.Reports shown })) t → AsksCertificate words u → ⊥
 not_certified words f shown t u h k =
-    let a : Inquiry = record { form = f; product = product.Reports shown } in
-    let b : Inquiry = record { form = form.Text; product = product.Certificate } in
-    let same : a ≡ b = (reads_one words a b t u h k).0 in
-    let products : product.Reports shown ≡ product.Certificate = ap (λ (i : Inquiry). i.product) same in
+    let same = reads_one words (record { form = f; product = product.Reports shown }) certifying t u h k in
+    let products : product.Reports shown ≡ product.Certificate = ap (λ (i : Inquiry). i.product) same.0 in
     absurd cc
 
 -- each form is read as a log

@@ -88,6 +88,10 @@ WritesFront watches t (product.Reports shown) log part =
     (whole : List ℕ) × IsReportText (asked_by t shown) watches log whole × IsPrefix part whole
 WritesFront watches t product.Certificate log part = IsCertificateFront t log part
 
+-- what `certify` asks of an input: the certificate of the text of one log
+abbrev pub certifying : Inquiry
+certifying = record { form = form.Text; product = product.Certificate }
+
 -- ---- what is due
 
 -- of these bytes

@@ -16,7 +16,6 @@ use Rattle.event_log.specs.declared.log.Log.{Log}
 use Rattle.rctl_grammar.specs.declared.fault.FormulaFault.{FormulaFault}
 use Rattle.rctl_grammar.specs.declared.tree.Tree.{Tree}
 use Rattle.command_words.specs.declared.request.Task.TheVariants as task
-use Rattle.command_words.specs.declared.request.Form.TheVariants as form
 use Rattle.command_words.specs.declared.request.Inquiry.{Inquiry}
 use Rattle.command_words.specs.declared.request.Product.{Product}
 use Rattle.command_words.specs.declared.request.Product.TheVariants as product
@@ -43,7 +42,7 @@ use Rattle.fault_line.specs.Faults.{status_of, fault_of_question, fault_of_refus
 use Rattle.run_promise.specs.declared.outcome.Outcome.{Outcome}
 use Rattle.run_promise.specs.Certificates.{IsTrueAtStart, IsCertificateFront}
 use Rattle.run_promise.specs.Asking.{Handing, asked, asked_by, each_of, watches_for, Writes}
-use Rattle.run_promise.specs.Asking.{WritesFront, due_of, IsDueText}
+use Rattle.run_promise.specs.Asking.{WritesFront, certifying, due_of, IsDueText}
 
 -- ---- what a report tells of the run
 
@@ -207,15 +206,13 @@ pub record IsWholeDue (on : Handing) (words : List (List ℕ)) (read text : List
 
 -- the words ask for the certificate of this formula
 abbrev pub AsksCertificate : List (List ℕ) → Tree → Type 0
-AsksCertificate words t =
-    AsksFor words (task.Read (record { form = form.Text; product = product.Certificate })) t
+AsksCertificate words t = AsksFor words (task.Read certifying) t
 
 -- nothing was written, or the input was read to its end and the front of its certificate written
 abbrev pub HasCertificateFront : Option (List ℕ) → Handing → Tree → (read written : List ℕ)
     → Type 0
 HasCertificateFront left on t read written = (written ≡ []) ⊎ (IsAtEnd left × (log : Prefix)
-    × ((due_of on.names t (record { form = form.Text; product = product.Certificate }) true read)
-    .whole ≡ Some log) × IsCertificateFront t log written)
+    × ((due_of on.names t certifying true read).whole ≡ Some log) × IsCertificateFront t log written)
 
 -- Memory ran out; what was written is the front of each text that may be due, or of the certificate
 -- of the whole input. Nothing is read for a bench, and nothing is written where the log that is
