@@ -11,6 +11,10 @@
 //! was raised by (`BeginsNode`, `Concludes`); EX asks by the slice of its operand. What stands at
 //! each moment is `AreNodes`, which each justified step keeps (`justified_steps_keep_nodes`).
 //!
+//! The nodes own the trace of their run, and what they see of it is the order of its events. Lines
+//! can be made from what stands: the rows of the present node (`present`), and how many nodes were
+//! begun, and are planned (`begun`, `planned`).
+//!
 //! Look-ups are counted (`looks`); making a system or a slice takes none. Nothing is said of what
 //! stands after want of memory but `AreNodes`, nor of the time or the memory that a call takes.
 #![tactic(auto)]
@@ -19,6 +23,7 @@ mod conclusion;
 mod giving;
 mod laws;
 mod nodes;
+mod ordered;
 mod plan;
 mod present;
 mod systems;

@@ -1,33 +1,36 @@
 //! Nodes that are begun, raised and ended.
-ghost use Rattle.std.specs.Prelude.{◌≡◌, ◌↔◌, ◌+◌, ◌<◌, ◌≤◌, length, IfNone, IfOk, IfSome, IsSome};
-ghost use Rattle.std.specs.Prelude.{IsTrue, OnOk};
+ghost use Rattle.std.specs.Prelude.{◌≡◌, ◌↔◌, ◌+◌, ◌<◌, ◌≤◌, false, length, IfNone, IfOk, IfSome, IsSome};
+ghost use Rattle.std.specs.Prelude.{IsTrue, MatchOption, OnOk};
 ghost use Rattle.std.specs.Bool.{OnFalse, OnTrue};
 ghost use Rattle.run_model.specs.Cut.{lengths};
+ghost use Rattle.vector_clock.specs.Events.{clocks_of};
 ghost use Rattle.certified_rows.specs.Begun.{fresh_rows};
 ghost use Rattle.certified_nodes.specs.Plans.{IsPlan, system_at};
 ghost use Rattle.certified_nodes.specs.Given.{IsEnded};
-ghost use Rattle.certified_nodes.specs.Nodes.{BeginsNode, Concludes, GivesSlice, MayBeginNode};
+ghost use Rattle.certified_nodes.specs.Nodes.{AreNodes, BeginsNode, Concludes, GivesSlice};
+ghost use Rattle.certified_nodes.specs.Nodes.{MayBeginNode};
 ghost use Rattle.certified_nodes.specs.Nodes.{MayBeginRow, MayConclude, MayRaiseRow, disjunct_looks};
 ghost use Rattle.certified_nodes.specs.Nodes.{fresh_nodes, looks_of, nodes_begun, with_begun_row};
 ghost use Rattle.certified_nodes.specs.Nodes.{with_raised_row};
 
 use crate::conclusion::some_closes;
 use crate::giving::slice_given;
+use crate::ordered::OrderedRun;
 use crate::plan::Plan;
 use crate::present::{begin, is_ended, raise};
 use crate::systems::system_of;
-use causal_order::Order;
 use certified_rows::CertifiedRows;
 use pota_base::{List, NoMemory, Steps};
 use slice_graph::Slice;
 use std::alloc::Global;
 use std::marker::Model;
 use std::sync::ledger::Ledger;
+use trace_growth::Trace;
 
 /// The nodes of a plan on one run.
 #[derive(Debug, Drop)]
 pub struct Nodes {
-    order: Order,
+    run: OrderedRun,
     plan: Plan,
     slices: List<Slice>,
     present: Option<CertifiedRows>,
@@ -39,14 +42,14 @@ impl Model for Nodes {
     ghost Value = { NodesView };
 
     ghost view = { λ n. record {
-      order = n.order;
+      order = n.run;
       plan = n.plan;
       slices = n.slices;
       present = n.present;
     } };
 
     ghost invariant = { λ n. AreNodes (record {
-      order = n.order;
+      order = n.run;
       plan = n.plan;
       slices = n.slices;
       present = n.present;
@@ -54,14 +57,17 @@ impl Model for Nodes {
 }
 
 impl Nodes {
-    /// The nodes of a plan, before one is begun.
-    pub fn new(alloc: Global, order: Order, plan: Plan) -> Nodes
-        requires { IsPlan (lengths order) plan }
-        ensures { result ≡ fresh_nodes order plan }
+    /// The nodes of a plan on the run of this trace, before one is begun.
+    pub fn new(alloc: Global, trace: Trace, plan: Plan) -> Nodes
+        requires unspent { trace.spent ≡ false }
+        requires plan { IsPlan (lengths (clocks_of trace.states.events)) plan }
+        ensures fresh { result ≡ fresh_nodes (clocks_of trace.states.events) plan }
+        ensures nodes { AreNodes result }
     {
-        let _shape = order.shape();
+        let run = OrderedRun::new(trace);
+        let _shape = run.order().shape();
         Nodes {
-            order,
+            run,
             plan,
             slices: List::new(alloc),
             present: None,
@@ -132,12 +138,31 @@ impl Nodes {
             return Ok(None);
         }
         self.give_slice(alloc)?;
-        let found = some_closes(alloc, &self.order, &self.plan, &self.slices, steps)?;
+        let found = some_closes(alloc, self.run.order(), &self.plan, &self.slices, steps)?;
         Ok(Some(found))
     }
 
+    /// The rows of the present node, if there is one.
+    pub fn present(&self) -> Option<&CertifiedRows>
+        ensures rows { MatchOption result (self.now.present ≡ None)
+            (λ rows. self.now.present ≡ Some rows.now) }
+        ensures nodes { AreNodes self.now }
+    {
+        match &self.present {
+            None => None,
+            Some(rows) => Some(rows),
+        }
+    }
+
+    /// How many nodes the plan has.
+    pub fn planned(&self) -> usize
+        ensures { result ≡ length self.now.plan.nodes }
+    {
+        self.plan.nodes.len()
+    }
+
     /// How many nodes were begun.
-    fn begun(&self) -> u32
+    pub fn begun(&self) -> u32
         ensures count { result ≡ nodes_begun self.now }
         ensures few { result ≤ 65536 }
     {
@@ -179,7 +204,7 @@ impl Nodes {
             None => return Ok(()),
             Some(rows) => {
                 let operator = self.plan.nodes.get(self.slices.len()).operator;
-                slice_given(alloc, &self.order, operator, rows)?
+                slice_given(alloc, self.run.order(), operator, rows)?
             }
         };
         self.slices.push(slice)?;
@@ -194,7 +219,13 @@ impl Nodes {
             self.now.slices (length self.now.slices))) }
     {
         let node = self.plan.nodes.get(self.slices.len());
-        let system = system_of(alloc, &self.order, &self.plan, &self.slices, &node.parts)?;
+        let system = system_of(
+            alloc,
+            self.run.order(),
+            &self.plan,
+            &self.slices,
+            &node.parts,
+        )?;
         CertifiedRows::new(alloc, system)
     }
 }

@@ -1,5 +1,5 @@
 -- The counters of a session's parts are those of the formula, by their numbers in the header.
-use Rattle.std.proofs.Common.{◌≡◌, ◌↔◌, ℕ, zero, suc, ◌<◌, ◌≤◌, Bool, true, false, List, [], ◌∷◌, ◌++◌, length, map, get_or, flat_map, All, Contains, Option, Some, None, refl, sym, ap, ap₂, subst, ◌∙◌, arith, inl, inr}
+use Rattle.std.proofs.Common.{◌≡◌, ℕ, zero, suc, ◌<◌, Bool, true, false, List, [], ◌∷◌, ◌++◌, length, map, get_or, All, Contains, Option, Some, None, refl, sym, ap, ap₂, subst, ◌∙◌, arith, inl, inr}
 use Rattle.std.specs.Prelude.{◌||◌, if◌then◌else◌}
 use Rattle.std.specs.List.{AllByRecursion, list_any}
 use Rattle.std.proofs.lemmas.Bool.{cases_Bool, false≢true, or_parts, or_from}
@@ -25,7 +25,7 @@ use Rattle.rctl_grammar.specs.declared.tree.Operator.{Operator}
 use Rattle.rctl_grammar.specs.declared.tree.Operator.TheVariants as operator
 use Rattle.rctl_parts.specs.Exprs as expr
 use Rattle.rctl_parts.specs.Exprs.{Expr, Exprs}
-use Rattle.rctl_parts.specs.MadeFor.{Scope, AtomFits, PieceFits, PiecesFit, EachFits, AllFit}
+use Rattle.rctl_parts.specs.MadeFor.{AtomFits, PieceFits, PiecesFit, EachFits, AllFit}
 use Rattle.rctl_parts.specs.Pieces as piece
 use Rattle.rctl_parts.specs.Pieces.{Atom, Piece, Pieces}
 use Rattle.rctl_parts.specs.Spelled.{formula_in, formulas_in, local_formula, atom_formula, operated, formula_of, formulas_of, part_formulas}

@@ -22,7 +22,6 @@ use Rattle.answer_report.proofs.Slices.{same_truth}
 use Rattle.log_judgement.specs.Judgement.{Prefix, Judgement}
 use Rattle.session.specs.declared.session.Session.{Session}
 use Rattle.log_check.specs.declared.check.LogCheck.{LogCheck}
-use Rattle.log_check.specs.declared.checked.CheckedLog.{CheckedLog}
 use Rattle.log_check.specs.Aims.{Says, Aim, IsTrueSoFar}
 use Rattle.log_check.specs.Keeping.{trace_after, reading_of}
 use Rattle.log_check.specs.Checking.{HasClosed, IsCheckOf}

@@ -7,7 +7,7 @@ use Rattle.certified_nodes.proofs.nodes.Nodes.begin_node.Goals as goal
 
 pub invariant_of-self : goal.invariant_of-self
 invariant_of-self g c =
-    let v : NodesView = record { order = c.self.inside.order; plan = c.self.inside.plan; slices = c.self.inside.slices; present = c.self.inside.present } in
+    let v : NodesView = record { order = c.self.inside.run; plan = c.self.inside.plan; slices = c.self.inside.slices; present = c.self.inside.present } in
     let may : MayBeginNode c.args.self.now c.args.number = search rules in
     let less : length v.slices < length v.plan.nodes = subst (λ (u : NodesView). length u.slices < length u.plan.nodes) (sym c.self.view_is) (next_there c.args.self.now c.give_slice.new.self c.args.number may c.in_ok-give_slice.ensures) in
     let is : c.in_ok-next_rows.field-0 ≡ fresh_rows (system_at v.order v.plan v.slices (length v.slices)) =

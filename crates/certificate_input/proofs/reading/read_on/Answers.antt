@@ -1,0 +1,27 @@
+use Rattle.std.proofs.Common.{arith}
+use Rattle.certificate_input.proofs.TellingLaws.{goes_on, nearer, reads_to, short_behind}
+use Rattle.certificate_input.proofs.reading.read_on.Goals as goal
+
+pub turns-smaller : goal.turns-smaller
+turns-smaller g c =
+    nearer g.N.Said.follows (g.S.Source.left c.args.source.now) (g.S.Source.left c.turns.source) (g.S.Source.left c.take_turn.new.source) (g.S.Source.faults c.args.source.now) (g.S.Source.faults c.turns.source)
+    (g.S.Source.faults c.take_turn.new.source) c.args.input.now c.turns.input c.take_turn.new.input c.requires.ready c.turns.invariant.so_far c.in-Ok-None.field-0 c.in-Ok-None.field-0-is c.in-Ok-None.ensures.turn
+
+pub turns-preserved : goal.turns-preserved
+turns-preserved g c = record {
+  room = omega (arith, c.turns.invariant.room, c.take_turn.auto.room);
+  so_far = goes_on g.N.Said.follows (g.S.Source.left c.args.source.now) (g.S.Source.left c.turns.source) (g.S.Source.left c.take_turn.new.source) (g.S.Source.faults c.args.source.now)
+      (g.S.Source.faults c.turns.source) (g.S.Source.faults c.take_turn.new.source) c.args.input.now c.turns.input c.take_turn.new.input c.requires.ready c.turns.invariant.so_far c.in-Ok-None.field-0
+      c.in-Ok-None.field-0-is c.in-Ok-None.ensures.turn;
+}
+
+pub returns-in-Ok-Some-clause-tells : goal.returns-in-Ok-Some-clause-tells
+returns-in-Ok-Some-clause-tells g c =
+    reads_to g.N.Said.follows (g.S.Source.left c.args.source.now) (g.S.Source.left c.turns.source) (g.S.Source.left c.take_turn.new.source) (g.S.Source.faults c.args.source.now) (g.S.Source.faults c.turns.source)
+    (g.S.Source.faults c.take_turn.new.source) c.args.input.now c.turns.input c.take_turn.new.input c.requires.ready c.turns.invariant.so_far c.in-Ok-Some.told c.in-Ok-Some.field-0 c.in-Ok-Some.field-0-is
+    c.in-Ok-Some.ensures.turn
+
+pub returns-in-Err-clause-short : goal.returns-in-Err-clause-short
+returns-in-Err-clause-short g c =
+    short_behind g.N.Said.follows (g.S.Source.left c.args.source.now) (g.S.Source.left c.turns.source) (g.S.Source.left c.take_turn.new.source) (g.S.Source.faults c.args.source.now) (g.S.Source.faults c.turns.source)
+    (g.S.Source.faults c.take_turn.new.source) c.args.input.now c.turns.input c.take_turn.new.input c.requires.ready c.turns.invariant.so_far c.in-Err.ensures.short

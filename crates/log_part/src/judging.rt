@@ -1,0 +1,39 @@
+//! Items of a log, judged one after another.
+ghost use Rattle.std.specs.Prelude.{IfOk};
+ghost use Rattle.log_judgement.specs.Judgement.{Judgement, judged};
+ghost use Rattle.log_check.specs.Aims.{Aim, rules_of};
+ghost use Rattle.log_check.specs.Checking.{IsCheckOf, MayFollow};
+ghost use Rattle.log_part.specs.Reading.{JudgesTo};
+
+use event_log::Item;
+use log_check::LogCheck;
+use log_judgement::Refusal;
+use pota_base::{List, NoMemory, Refused};
+use std::alloc::Global;
+use watch::{Handed, Watch};
+
+/// Takes these items more, in their order, up to the first of which a refusal is due.
+pub fn judge_all(
+    alloc: Global,
+    check: &mut LogCheck,
+    items: List<Item>,
+) -> Result<Option<Refusal>, NoMemory>
+    requires { (aim : Aim) × (j : Judgement)
+        × IsCheckOf (λ h. answers (h.watch.vtable, h.watch.value)) aim check.old j
+        × MayFollow j items }
+    ensures { IfOk result (λ why. (aim : Aim) (j : Judgement)
+        → IsCheckOf (λ h. answers (h.watch.vtable, h.watch.value)) aim check.old j
+        → MayFollow j items
+        → JudgesTo (λ h. answers (h.watch.vtable, h.watch.value)) aim check.new
+        (judged (rules_of aim) j items) why) }
+{
+    let mut rest = items.into_vec().into_iter();
+    while let Some(item) = rest.next() {
+        match check.take(alloc, item) {
+            Ok(_) => {}
+            Err(Refused::Fault(refusal)) => return Ok(Some(refusal)),
+            Err(Refused::NoMemory) => return Err(NoMemory),
+        }
+    }
+    Ok(None)
+}
