@@ -30,6 +30,7 @@ fn reports_text(alloc: Global, form: Form, shown: &Shown) -> Result<String, Allo
 fn inquiry_text(alloc: Global, inquiry: &Inquiry) -> Result<String, AllocError> {
     match &inquiry.product {
         Product::Reports(shown) => reports_text(alloc, inquiry.form, shown),
+        Product::Certificate => String::from_str(alloc, "certify"),
     }
 }
 

@@ -6,7 +6,7 @@ use Rattle.command_words.specs.declared.request.Task.{Task}
 use Rattle.command_words.specs.declared.request.Task.TheVariants.{Read, Bench}
 use Rattle.command_words.specs.declared.request.Form.{Form}
 use Rattle.command_words.specs.declared.request.Form.TheVariants as form
-use Rattle.command_words.specs.declared.request.Product.TheVariants.{Reports}
+use Rattle.command_words.specs.declared.request.Product.TheVariants.{Reports, Certificate}
 use Rattle.command_words.specs.declared.request.Shown.{Shown}
 use Rattle.command_words.specs.Rule.{Text, Given, given, is_used, value_of}
 use Rattle.command_words.specs.Numbers.{workers_of, sizes_of}
@@ -63,6 +63,11 @@ abbrev pub check_of : Values → Option Task
 check_of v = if has_sizes v then None
     else option_map (λ f. Read (record { form = f; product = Reports (shown_of v) })) (form_of v)
 
+-- `certify` takes neither, and reads the text of one log
+abbrev pub certify_of : Values → Option Task
+certify_of v = if has_sizes v || has_flags v then None
+    else Some (Read (record { form = form.Text; product = Certificate }))
+
 -- `bench` takes no flag, and wants its three options
 abbrev pub bench_of : Values → Option Task
 bench_of v = if has_flags v then None
@@ -71,6 +76,7 @@ bench_of v = if has_flags v then None
 abbrev pub task_of : Text → Values → Option Task
 task_of command v = if bytes_eq command (codes "check") then check_of v
     else if bytes_eq command (codes "bench") then bench_of v
+    else if bytes_eq command (codes "certify") then certify_of v
     else None
 
 -- a command, its formula as it was given, and the number of workers

@@ -4,7 +4,7 @@ ghost use Rattle.std.specs.String.{string_bytes};
 ghost use Rattle.clap.specs.Words.{found_of, kind_of, rows_of};
 ghost use Rattle.command_words.specs.ByClap.{values_in};
 ghost use Rattle.command_words.specs.Request.{values_of, has_sizes, has_flags, form_of};
-ghost use Rattle.command_words.specs.Request.{check_of, bench_of, task_of, wanted};
+ghost use Rattle.command_words.specs.Request.{check_of, certify_of, bench_of, task_of, wanted};
 ghost use Rattle.command_words.specs.Request.{request_of};
 ghost use Rattle.command_words.specs.Rule.{Given, given};
 ghost use Rattle.command_words.specs.Seen.{values_seen, request_seen};
@@ -45,6 +45,8 @@ pub struct Shown {
 pub enum Product {
     /// Reports on it.
     Reports(Shown),
+    /// The certificate of the formula's truth.
+    Certificate,
 }
 
 /// What is asked of an input.
@@ -132,6 +134,18 @@ fn check_task(values: &TextValues<'_>) -> Option<Task>
     }))
 }
 
+fn certify_task(values: &TextValues<'_>) -> Option<Task>
+    ensures { result ≡ certify_of (values_seen values.now) }
+{
+    if has_sizes(values) || has_flags(values) {
+        return None;
+    }
+    Some(Task::Read(Inquiry {
+        form: Form::Text,
+        product: Product::Certificate,
+    }))
+}
+
 fn bench_task(values: &TextValues<'_>) -> Option<Task>
     ensures { result ≡ bench_of (values_seen values.now) }
 {
@@ -150,6 +164,8 @@ fn task_named(command: &str, values: &TextValues<'_>) -> Option<Task>
         check_task(values)
     } else if command == "bench" {
         bench_task(values)
+    } else if command == "certify" {
+        certify_task(values)
     } else {
         None
     }

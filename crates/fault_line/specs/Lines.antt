@@ -18,6 +18,7 @@ usage_text =
     codes "usage: pota check FORMULA [--workers N] [--slice] [--witness] [--each-batch]"
     ++ codes " [--vclog] [--merged]"
     ++ codes " or pota bench FORMULA --seed N --procs N --events N [--workers N]"
+    ++ codes " or pota certify FORMULA"
 
 -- the byte of the formula, and what is wrong there
 abbrev pub formula_text : FormulaFault → List ℕ

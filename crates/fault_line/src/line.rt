@@ -65,6 +65,7 @@ fn put_usage(line: &mut Line)
     line.push(b"usage: pota check FORMULA [--workers N] [--slice] [--witness] [--each-batch]");
     line.push(b" [--vclog] [--merged]");
     line.push(b" or pota bench FORMULA --seed N --procs N --events N [--workers N]");
+    line.push(b" or pota certify FORMULA");
 }
 
 fn put_formula_fault(line: &mut Line, fault: &FormulaFault)

@@ -3,7 +3,7 @@ ghost use Rattle.std.specs.Prelude.{◌≡◌, ◌∷◌, ◌++◌, ◌≤◌, [
 ghost use Rattle.std.specs.Prelude.{IfOk, OnOk};
 ghost use Rattle.log_judgement.specs.Judgement.{Prefix, Judgement, judge, judged};
 ghost use Rattle.report.specs.Spelling.{IsWellFormed};
-ghost use Rattle.log_check.specs.Aims.{Aim, IsReportFor, rules_of};
+ghost use Rattle.log_check.specs.Aims.{Aim, IsReportFor, rules_of, said_by};
 ghost use Rattle.log_check.specs.Checking.{HasClosed, IsCheckOf, MayFollow};
 ghost use Rattle.log_answers.specs.Checking.{AreReportsFor, IsBenchAim, Judges, Puts, Reports};
 ghost use Rattle.log_answers.specs.Checking.{Stands, SumsUp, TakesItems};
@@ -70,18 +70,14 @@ impl<L: Ledger> Checking<L> {
         means: &Means<'_, R, G>,
     ) -> Result<Report, NoMemory>
         requires { (aim : Aim) × (j : Judgement) × (log : Prefix)
-            × IsCheckOf
-            (λ h. answers (h.watch.vtable, h.watch.value)) aim self.old.check j × HasClosed j log }
+            × IsCheckOf (said_by answers) aim self.old.check j × HasClosed j log }
         ensures says { IfOk result (λ report. (aim : Aim) (j : Judgement) (log : Prefix)
-            → IsCheckOf
-            (λ h. answers (h.watch.vtable, h.watch.value)) aim self.old.check j → HasClosed j log
+            → IsCheckOf (said_by answers) aim self.old.check j → HasClosed j log
             → IsReportFor aim log report) }
         ensures fits { IfOk result IsWellFormed }
         ensures goes_on { OnOk result ((aim : Aim) (j : Judgement)
-            → IsCheckOf
-            (λ h. answers (h.watch.vtable, h.watch.value)) aim self.old.check j
-            → IsCheckOf
-            (λ h. answers (h.watch.vtable, h.watch.value)) aim self.new.check j) }
+            → IsCheckOf (said_by answers) aim self.old.check j
+            → IsCheckOf (said_by answers) aim self.new.check j) }
         ensures each { self.new.each_batch ≡ self.old.each_batch }
     {
         let steps = &mut self.steps;
@@ -95,20 +91,15 @@ impl<L: Ledger> Checking<L> {
         out: &mut O,
     ) -> Result<Verdict, Stop>
         requires { (aim : Aim) × (j : Judgement) × (log : Prefix)
-            × IsCheckOf
-            (λ h. answers (h.watch.vtable, h.watch.value)) aim self.old.check j × HasClosed j log }
+            × IsCheckOf (said_by answers) aim self.old.check j × HasClosed j log }
         ensures reports { (aim : Aim) (j : Judgement) (log : Prefix)
-            → IsCheckOf
-            (λ h. answers (h.watch.vtable, h.watch.value)) aim self.old.check j → HasClosed j log
-            → (before : ListOf Prefix) (text : ListOf ℕ)
-            → AreReportsFor aim before text
-            → Reports (O.held out.old) (O.held out.new) (O.faults out.old) (O.faults out.new)
-            aim self.old.check.batches before log text result }
+            → IsCheckOf (said_by answers) aim self.old.check j → HasClosed j log
+            → (before : ListOf Prefix) (text : ListOf ℕ) → AreReportsFor aim before text
+            → Reports (O.held out.old) (O.held out.new) (O.faults out.old) (O.faults out.new) aim
+            self.old.check.batches before log text result }
         ensures goes_on { OnOk result ((aim : Aim) (j : Judgement)
-            → IsCheckOf
-            (λ h. answers (h.watch.vtable, h.watch.value)) aim self.old.check j
-            → IsCheckOf
-            (λ h. answers (h.watch.vtable, h.watch.value)) aim self.new.check j) }
+            → IsCheckOf (said_by answers) aim self.old.check j
+            → IsCheckOf (said_by answers) aim self.new.check j) }
         ensures each { self.new.each_batch ≡ self.old.each_batch }
     {
         let batches = self.check.batches;
@@ -126,18 +117,11 @@ impl<L: Ledger> Checking<L> {
 
     // Takes one item more, and tells whether a `batch` line closed a batch.
     fn judge(&mut self, alloc: Global, item: Item) -> Result<bool, Stop>
-        requires { (aim : Aim) × (j : Judgement)
-            × IsCheckOf
-            (λ h. answers (h.watch.vtable, h.watch.value))
-            aim self.old.check j × MayFollow j (item ∷ []) }
+        requires { (aim : Aim) × (j : Judgement) × IsCheckOf (said_by answers) aim self.old.check j
+            × MayFollow j (item ∷ []) }
         ensures judged { (aim : Aim) (j : Judgement)
-            → IsCheckOf
-            (λ h. answers (h.watch.vtable, h.watch.value))
-            aim self.old.check j → MayFollow j (item ∷ [])
-            → Judges
-            (λ h. answers (h.watch.vtable, h.watch.value))
-            aim self.new.check j (judge (rules_of aim) j item)
-            result }
+            → IsCheckOf (said_by answers) aim self.old.check j → MayFollow j (item ∷ [])
+            → Judges (said_by answers) aim self.new.check j (judge (rules_of aim) j item) result }
         ensures each { self.new.each_batch ≡ self.old.each_batch }
     {
         match self.check.take(alloc, item) {
@@ -155,18 +139,14 @@ impl<L: Ledger> Checking<L> {
         out: &mut O,
     ) -> Result<(), Stop>
         requires { (aim : Aim) × (j : Judgement) × (text : ListOf ℕ)
-            × Stands
-            (λ h. answers (h.watch.vtable, h.watch.value))
-            aim self.old.each_batch self.old.check j text
+            × Stands (said_by answers) aim self.old.each_batch self.old.check j text
             × MayFollow j (item ∷ []) }
         ensures items { (aim : Aim) (j : Judgement) (text : ListOf ℕ)
-            → Stands
-            (λ h. answers (h.watch.vtable, h.watch.value))
-            aim self.old.each_batch self.old.check j text
+            → Stands (said_by answers) aim self.old.each_batch self.old.check j text
             → MayFollow j (item ∷ [])
             → TakesItems (O.held out.old) (O.held out.new) (O.faults out.old) (O.faults out.new)
-            (λ h. answers (h.watch.vtable, h.watch.value)) aim self.old.each_batch self.new.check
-            (judge (rules_of aim) j item) text result }
+            (said_by answers) aim self.old.each_batch self.new.check (judge (rules_of aim) j item)
+            text result }
         ensures each { self.new.each_batch ≡ self.old.each_batch }
     {
         let closed = match self.judge(means.alloc, item) {
@@ -194,18 +174,14 @@ impl<L: Ledger> Checking<L> {
         out: &mut O,
     ) -> Result<(), Stop>
         requires { (aim : Aim) × (j : Judgement) × (text : ListOf ℕ)
-            × Stands
-            (λ h. answers (h.watch.vtable, h.watch.value))
-            aim self.old.each_batch self.old.check j text
+            × Stands (said_by answers) aim self.old.each_batch self.old.check j text
             × MayFollow j items }
         ensures items { (aim : Aim) (j : Judgement) (text : ListOf ℕ)
-            → Stands
-            (λ h. answers (h.watch.vtable, h.watch.value))
-            aim self.old.each_batch self.old.check j text
+            → Stands (said_by answers) aim self.old.each_batch self.old.check j text
             → MayFollow j items
             → TakesItems (O.held out.old) (O.held out.new) (O.faults out.old) (O.faults out.new)
-            (λ h. answers (h.watch.vtable, h.watch.value)) aim self.old.each_batch self.new.check
-            (judged (rules_of aim) j items) text result }
+            (said_by answers) aim self.old.each_batch self.new.check (judged (rules_of aim) j items)
+            text result }
         ensures each { self.new.each_batch ≡ self.old.each_batch }
     {
         let mut rest = items.into_vec().into_iter();
@@ -225,14 +201,11 @@ impl<L: Ledger> Checking<L> {
         out: &mut O,
     ) -> Result<Verdict, Stop>
         requires { (aim : Aim) × (j : Judgement) × (log : Prefix)
-            × IsCheckOf
-            (λ h. answers (h.watch.vtable, h.watch.value)) aim self.old.check j × HasClosed j log }
+            × IsCheckOf (said_by answers) aim self.old.check j × HasClosed j log }
         ensures { (aim : Aim) (j : Judgement) (log : Prefix)
-            → IsCheckOf
-            (λ h. answers (h.watch.vtable, h.watch.value)) aim self.old.check j → HasClosed j log
-            → IsBenchAim aim
-            → SumsUp (O.held out.old) (O.held out.new) (O.faults out.old) (O.faults out.new)
-            aim self.old.check.batches log (sizes_of sizes) result }
+            → IsCheckOf (said_by answers) aim self.old.check j → HasClosed j log → IsBenchAim aim
+            → SumsUp (O.held out.old) (O.held out.new) (O.faults out.old) (O.faults out.new) aim
+            self.old.check.batches log (sizes_of sizes) result }
     {
         let batches = self.check.batches;
         let Ok(report) = self.ask(means) else {

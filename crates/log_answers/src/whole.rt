@@ -3,7 +3,7 @@ ghost use Rattle.std.specs.Prelude.{◌≡◌, ◌++◌, false, length, IfOk, On
 ghost use Rattle.event_log.specs.FittingItems.{FitFirst};
 ghost use Rattle.event_log.specs.LogText.{log_items, event_items};
 ghost use Rattle.log_judgement.specs.Judgement.{waiting};
-ghost use Rattle.log_check.specs.Aims.{Aim};
+ghost use Rattle.log_check.specs.Aims.{Aim, said_by};
 ghost use Rattle.log_check.specs.Checking.{IsCheckOf};
 ghost use Rattle.log_answers.specs.Whole.{HasWhole, TakesWhole};
 
@@ -54,13 +54,10 @@ impl<L: Ledger> Checking<L> {
         requires batch { length log.batches ≡ 1 }
         requires fits { FitFirst (log_items log) }
         requires last { self.old.each_batch ≡ false }
-        requires check { (aim : Aim) × IsCheckOf
-            (λ h. answers (h.watch.vtable, h.watch.value)) aim self.old.check waiting }
-        ensures { (aim : Aim)
-            → IsCheckOf
-            (λ h. answers (h.watch.vtable, h.watch.value)) aim self.old.check waiting
+        requires check { (aim : Aim) × IsCheckOf (said_by answers) aim self.old.check waiting }
+        ensures { (aim : Aim) → IsCheckOf (said_by answers) aim self.old.check waiting
             → TakesWhole (O.held out.old) (O.held out.new) (O.faults out.old) (O.faults out.new)
-            (λ h. answers (h.watch.vtable, h.watch.value)) aim self.new.check log result }
+            (said_by answers) aim self.new.check log result }
     {
         let Ok(items) = items_of(means.alloc, log) else {
             return Err(Stop::without_memory());
@@ -78,13 +75,10 @@ impl<L: Ledger> Checking<L> {
         requires batch { length log.batches ≡ 1 }
         requires fits { FitFirst (log_items log) }
         requires last { self.old.each_batch ≡ false }
-        requires check { (aim : Aim) × IsCheckOf
-            (λ h. answers (h.watch.vtable, h.watch.value)) aim self.old.check waiting }
-        ensures { (aim : Aim)
-            → IsCheckOf
-            (λ h. answers (h.watch.vtable, h.watch.value)) aim self.old.check waiting
-            → HasWhole (O.held out.old) (O.held out.new) (O.faults out.old) (O.faults out.new)
-            aim log result }
+        requires check { (aim : Aim) × IsCheckOf (said_by answers) aim self.old.check waiting }
+        ensures { (aim : Aim) → IsCheckOf (said_by answers) aim self.old.check waiting
+            → HasWhole (O.held out.old) (O.held out.new) (O.faults out.old) (O.faults out.new) aim
+            log result }
     {
         if let Err(stop) = self.take_whole(means, log, out) {
             return Err(stop);

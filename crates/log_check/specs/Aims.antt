@@ -23,6 +23,11 @@ use Rattle.log_judgement.specs.Counters.{counters_in}
 abbrev pub Says : (X : Type 0) → (X → Type 0) → Type 0
 Says X P = Handed X P → List (List ℤ) → List Bool
 
+-- what a watch says, by what the values behind its table answer
+abbrev pub said_by : {X : Type 0} {P : X → Type 0} → (((x : X) × P x) → List (List ℤ) → List Bool)
+    → Says X P
+said_by answers h = answers (h.watch.vtable, h.watch.value)
+
 -- the names of watches
 abbrev pub names_of : {X : Type 0} {P : X → Type 0} → List (Handed X P) → List Name
 names_of {X} {P} handed = map (λ (h : Handed X P). h.name) handed

@@ -21,7 +21,7 @@ use Rattle.log_answers.specs.declared.stop.StopCause.TheVariants as causes
 use Rattle.log_answers.specs.declared.stop.Stop.{Stop}
 use Rattle.log_answers.specs.declared.stop.Verdict.{Verdict}
 use Rattle.log_answers.specs.Checking.{closed_in, AreReportsFor, ReportStops, Reports}
-use Rattle.log_answers.specs.Inputs.{IsVerdictBy, ChecksBy}
+use Rattle.log_answers.specs.Inputs.{IsVerdictBy, StopsBy, ChecksBy}
 use Rattle.pota_top.specs.Reading.{due_in, judgement_in, IsWhole, StopsAt, HasReadLog, HasChecked}
 use Rattle.log_answers.proofs.Items.{texts_as, part_of_more, front_of_more}
 use Rattle.log_answers.proofs.OneBatch.{whole_closed}
@@ -38,7 +38,7 @@ module _ {X : Type 0} {P : X → Type 0} (says : Says X P) (aim : Aim) (each : B
   abbrev j : Judgement
   j = judgement_in aim bytes
 
-  none_due : (due_in aim true bytes).fault ≡ None
+  pub none_due : (due_in aim true bytes).fault ≡ None
   none_due = ap (λ (o : Option LogFault). fault_in as_is j (of_text o)) w.free ∙ free_told as_is j None w.stands.check_is.free
 
   pub whole_log : (log : Prefix) × (whole_of j ≡ Some log)
@@ -52,7 +52,7 @@ module _ {X : Type 0} {P : X → Type 0} (says : Says X P) (aim : Aim) (each : B
   pub closed_log : HasClosed j whole_log.0
   closed_log = whole_closed j whole_log.0 whole_log.1
 
-  whole_due : (due_in aim true bytes).whole ≡ Some whole_log.0
+  pub whole_due : (due_in aim true bytes).whole ≡ Some whole_log.0
   whole_due = ap (λ (o : Option LogFault). at_end true (of_text o) (whole_of j)) w.free ∙ whole_log.1
 
   all_reported : reported each (due_in aim true bytes) ≡ closed_in each j ++ whole_log.0 ∷ []
@@ -75,7 +75,7 @@ module _ {X : Type 0} {P : X → Type 0} (says : Says X P) (aim : Aim) (each : B
     }
 
     report_stops : (left : Option (List ℕ)) (lf lf' : ℕ) → IsAtEnd left → (f : StopCause) (n : ℕ) (t : List ℕ) → ReportStops f n of of' aim (closed_in each j) whole_log.0 t
-        → StopsAt f n left lf lf' of of' aim each bytes t
+        → StopsBy log_reading f n left lf lf' of of' aim each bytes t
     report_stops left lf lf' ended causes.Write n t h =
         (true, λ e. ended, part_of_more aim (closed_in each j ++ whole_log.0 ∷ []) [] _ t n (all_reported ∙ sym (append-nil (closed_in each j ++ whole_log.0 ∷ []))) h.0, h.1)
     report_stops left lf lf' ended causes.Memory n t h =
@@ -109,7 +109,8 @@ module _ {X : Type 0} {P : X → Type 0} (says : Says X P) (aim : Aim) (each : B
         to = earlier result h.read (h.written ++ r.written) (reported_to says aim each check h.read h.written w now held' of_now of' left' lf lf' h.to.0 result r);
       }
     where
-      stops : (f : StopCause) (n : ℕ) (bytes text : List ℕ) → StopsAt f n left' lf lf' of_now of' aim each bytes text → StopsAt f n left' lf lf' of of' aim each bytes text
+      stops : (f : StopCause) (n : ℕ) (bytes text : List ℕ) → StopsBy log_reading f n left' lf lf' of_now of' aim each bytes text
+          → StopsBy log_reading f n left' lf lf' of of' aim each bytes text
       stops (causes.Refused r) n bytes text k = k
       stops causes.Read n bytes text k = k
       stops causes.Write n bytes text k = (k.0, k.1, k.2, let e = k.3 in omega (arith, e, h.out_later))
@@ -118,6 +119,13 @@ module _ {X : Type 0} {P : X → Type 0} (says : Says X P) (aim : Aim) (each : B
       earlier : (y : Result Verdict Stop) (bytes text : List ℕ) → ChecksBy log_reading left' lf lf' of_now of' aim each bytes text y → ChecksBy log_reading left' lf lf' of of' aim each bytes text y
       earlier (Ok v) bytes text k = k
       earlier (Err stop) bytes text k = stops stop.cause stop.batches bytes text k
+
+  stops_by : (f : StopCause) (n : ℕ) (bytes text : List ℕ) → StopsAt f n left' lf lf' of of_now aim each bytes text
+      → StopsBy log_reading f n left' lf lf' of of_now aim each bytes text
+  stops_by (causes.Refused r) n bytes text k = k
+  stops_by causes.Read n bytes text k = k
+  stops_by causes.Write n bytes text k = (false, λ e. absurd (cc), k.0, k.1)
+  stops_by causes.Memory n bytes text k = k
 
   pub checks_stop : {T : Type 0} (stop : Stop) → HasReadLog {T = T} left left' held now lf lf' of of_now says aim each check (Err stop)
       → HasChecked left left' held now lf lf' of of_now aim each (Err stop)
@@ -128,7 +136,7 @@ module _ {X : Type 0} {P : X → Type 0} (says : Says X P) (aim : Aim) (each : B
     wrote = h.wrote;
     log_later = h.log_later;
     out_later = h.out_later;
-    to = h.to;
+    to = stops_by stop.cause stop.batches h.read h.written h.to;
   }
 
 -- some log is whole, which the report asks for

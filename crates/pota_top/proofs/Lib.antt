@@ -4,3 +4,4 @@ pub mod Running
 pub mod Words
 pub mod NoFall
 pub mod Benching
+pub mod Certificates

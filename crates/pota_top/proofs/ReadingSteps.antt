@@ -120,8 +120,6 @@ module _ {X : Type 0} {P : X → Type 0} (says : Says X P) (aim : Aim) (each : B
         },
       )
       go causes.Write h = (
-        false,
-        λ e. absurd (cc),
         part_of_more aim (closed_in each (judgement_in aim bytes)) [] _ text n (open_ ∙ sym (append-nil (closed_in each (judgement_in aim bytes)))) h.0,
         h.1,
       )
@@ -390,7 +388,7 @@ module _ {X : Type 0} {P : X → Type 0} (says : Says X P) (aim : Aim) (each : B
     stopped_at : (f : StopCause) (n : ℕ) (bytes text : List ℕ) → StopsAt f n left' lf_now lf' of_now of' aim each bytes text → StopsAt f n left' lf lf' of of' aim each bytes text
     stopped_at (causes.Refused r) n bytes text k = k
     stopped_at causes.Read n bytes text k = (k.0, let e = k.1 in omega (arith, e, h.log_later))
-    stopped_at causes.Write n bytes text k = (k.0, k.1, k.2, let e = k.3 in omega (arith, e, h.out_later))
+    stopped_at causes.Write n bytes text k = (k.0, let e = k.1 in omega (arith, e, h.out_later))
     stopped_at causes.Memory n bytes text k = k
 
     pub turns_end : {T : Type 0} (y : T) (x : Turn) → x ≡ turn.End → Turned (Ok x) → HasReadLog left left' held held' lf lf' of of' says aim each check' (Ok y)

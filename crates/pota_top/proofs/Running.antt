@@ -45,13 +45,14 @@ use Rattle.log_answers.specs.declared.stop.Stop.{Stop}
 use Rattle.log_answers.specs.declared.stop.Verdict.{Verdict}
 use Rattle.run_promise.specs.declared.outcome.Outcome.{Outcome}
 use Rattle.pota_top.specs.Outcome.{fault_of, faulty_outcome, outcome_of}
-use Rattle.run_promise.specs.Asking.{Handing, handing_of, asked_by, asked, reading_of}
+use Rattle.run_promise.specs.Asking.{Handing, handing_of, asked_by, asked, certifying, reading_of, due_of}
 use Rattle.log_answers.specs.Checking.{AreReportsFor, HasPartOf, HasFrontOf}
 use Rattle.log_answers.specs.Inputs.{due_by, TellsDueBy, StopsBy, IsVerdictBy, ChecksBy, HasCheckedBy}
 use Rattle.pota_top.specs.Benching.{IsSummary, missing_name, IsBenchOf, BenchStops, BenchesTo, HasMade}
 use Rattle.run_report.proofs.Telling.{told_denotes, told_kinds}
-use Rattle.run_promise.proofs.Clauses.{not_both, form_is_read}
-use Rattle.run_promise.specs.Run.{Tells, AllTell, IsTold, IsTrueAtStart, HasVerdict, IsRefused, HasPart, IsBenched, HasBenched, IsWholeDue, sizes_of, made_by, Answer, Ran}
+use Rattle.run_promise.proofs.Clauses.{not_both, not_certified, form_is_read}
+use Rattle.run_promise.specs.Certificates.{IsTrueAtStart}
+use Rattle.run_promise.specs.Run.{Tells, AllTell, IsTold, HasVerdict, IsRefused, HasPart, IsBenched, HasBenched, IsWholeDue, sizes_of, made_by, Answer, Ran}
 
 -- ---- a formula that is stated is asked
 
@@ -80,10 +81,10 @@ all_tell t shown watches class (log ∷ logs) ordered kept =
 nothing_front : (text : List ℕ) → IsPrefix [] text
 nothing_front text = (text, refl)
 
--- reports are all that is asked of an input
-pub asked_so : (words : List (List ℕ)) (t : Tree) (i : Inquiry) (read_as : Form) (shown : Shown) → i.form ≡ read_as → i.product ≡ product.Reports shown → AsksFor words (task.Read i) t
-    → AsksFor words (task.Read (record { form = read_as; product = product.Reports shown })) t
-asked_so words t i read_as shown form_is is asks =
+-- what is asked of an input, by its form and its product
+pub asked_so : (words : List (List ℕ)) (t : Tree) (i : Inquiry) (read_as : Form) (written : Product) → i.form ≡ read_as → i.product ≡ written → AsksFor words (task.Read i) t
+    → AsksFor words (task.Read (record { form = read_as; product = written })) t
+asked_so words t i read_as written form_is is asks =
     subst (λ (p : Product). AsksFor words (task.Read (record { form = read_as; product = p })) t) is
     (subst (λ (f : Form). AsksFor words (task.Read (record { form = f; product = i.product })) t) form_is asks)
 
@@ -130,6 +131,7 @@ module _ {X : Type 0} {P : X → Type 0} (says : Says X P) (s : Stated) (read_as
 
   abbrev told_of : (ended : Bool) (bytes text : List ℕ) (n : ℕ) → n ≡ (due_by reading aim ended bytes).batches
       → AreReportsFor aim (reported each (due_by reading aim ended bytes)) text → IsTold on words ended bytes text n
+  unfolding due_of
   told_of ended bytes text n count texts = record {
     tree = s.formula.tree;
     inquiry = inquiry;
@@ -141,6 +143,7 @@ module _ {X : Type 0} {P : X → Type 0} (says : Says X P) (s : Stated) (read_as
 
   has_part : (left : Option (List ℕ)) (ended : Bool) (bytes text : List ℕ) (n : ℕ) → (ended ≡ true → IsAtEnd left)
       → HasPartOf aim (reported each (due_by reading aim ended bytes)) text n → HasPart left on words bytes text n
+  unfolding due_of
   has_part left ended bytes text n at h = record {
     tree = s.formula.tree;
     inquiry = inquiry;
@@ -154,10 +157,12 @@ module _ {X : Type 0} {P : X → Type 0} (says : Says X P) (s : Stated) (read_as
     telling = subst (AllTell (watches_of says handed) s.formula.tree (product.Reports shown)) h.are (due_tell ended bytes);
     text = h.whole;
     texts = texts_asked h.before h.whole h.texts;
-    whole = report_text h.report;
-    is = (h.report, subst (λ (a : Asked). IsReportOf a h.log.header h.log.batches (watches_of says handed) h.report) same h.report_is, refl);
     part = h.part;
-    part_of = h.part_of;
+    is_front = (
+      report_text h.report,
+      (h.report, subst (λ (a : Asked). IsReportOf a h.log.header h.log.batches (watches_of says handed) h.report) same h.report_is, refl),
+      h.part_of,
+    );
     wrote = h.wrote;
     count = h.count;
   }
@@ -165,6 +170,7 @@ module _ {X : Type 0} {P : X → Type 0} (says : Says X P) (s : Stated) (read_as
   -- what was written is the front of each text that may be due
   front_of : (bytes text : List ℕ) (n : ℕ) → HasFrontOf aim (reported each (due_by reading aim false bytes)) text n
       → (whole : List ℕ) (batches : ℕ) → IsWholeDue on words bytes whole batches → IsPrefix text whole × (n ≤ batches)
+  unfolding due_of
   front_of bytes text n h whole batches w =
       let due_is = w.inquired s.formula.tree inquiry asks in
       let ended = due_is.0 in
@@ -182,6 +188,7 @@ module _ {X : Type 0} {P : X → Type 0} (says : Says X P) (s : Stated) (read_as
   module _ (left : Option (List ℕ)) (lf lf' of of' : ℕ) (read written : List ℕ) where
     refused_by : (r : Refusal) (n : ℕ) (ended : Bool) → (ended ≡ true → IsAtEnd left) → TellsDueBy reading aim each ended read written (Some r) n
         → IsRefused left on words read written (faulty_outcome n (fault_of_refusal r)) r
+    unfolding due_of told_of
     refused_by r n ended at told = record {
       ended = ended;
       at_end = at;
@@ -192,6 +199,7 @@ module _ {X : Type 0} {P : X → Type 0} (says : Says X P) (s : Stated) (read_as
 
     stop_answer : (why : StopCause) (n : ℕ) → StopsBy reading why n left lf lf' of of' aim each read written
         → Answer (status_of (fault_of why)) left lf lf' of of' on words read written (faulty_outcome n (fault_of why))
+    unfolding due_of told_of
     stop_answer (causes.Refused (refusal.Formula x)) n h = (x, inr (inl (refused_by (refusal.Formula x) n h.0 h.1 h.2)))
     stop_answer (causes.Refused (refusal.Log x)) n h = (refusal.Log x, refl, refused_by (refusal.Log x) n h.0 h.1 h.2)
     stop_answer (causes.Refused (refusal.Import x)) n h = (refusal.Import x, refl, refused_by (refusal.Import x) n h.0 h.1 h.2)
@@ -199,7 +207,8 @@ module _ {X : Type 0} {P : X → Type 0} (says : Says X P) (s : Stated) (read_as
     stop_answer causes.Read n h = (record { told = told_of false read written n h.0.count h.0.texts; free = h.0.fault; fault = refl }, h.1)
     stop_answer causes.Write n h = (inl (has_part left h.0 read written n h.1 h.2), refl, h.3)
     stop_answer causes.Memory n h = record {
-      front = front_of read written n h;
+      front = λ none. front_of read written n h;
+      certified = λ u k. absurd (not_certified words read_as shown s.formula.tree u asks k);
       unread = λ t sizes k. absurd (not_both words inquiry sizes s.formula.tree t asks k);
       unnamed = λ t sizes f k. absurd (not_both words inquiry sizes s.formula.tree t asks k);
       fault = refl;
@@ -207,6 +216,7 @@ module _ {X : Type 0} {P : X → Type 0} (says : Says X P) (s : Stated) (read_as
 
     verdict_of : (b : Bool) (v : Verdict) → v.truth ≡ b → IsAtEnd left → IsVerdictBy reading aim each read written v
         → HasVerdict left on words read written (record { status = if b then status.True else status.False; batches = v.batches; fault = None }) b
+    unfolding due_of told_of
     verdict_of b v same_truth ended h = record {
       ended = ended;
       told = told_of true read written v.batches h.told.count h.told.texts;
@@ -296,7 +306,8 @@ module _ {X : Type 0} {P : X → Type 0} (says : Says X P) (s : Stated) (sizes :
       h.1,
     )
     bench_stop causes.Memory n h = record {
-      front = λ text batches w. (subst (λ (t : List ℕ). IsPrefix t text) (sym h.0) (nothing_front text), let none = h.1 in omega (arith, none));
+      front = λ other text batches w. (subst (λ (t : List ℕ). IsPrefix t text) (sym h.0) (nothing_front text), let none = h.1 in omega (arith, none));
+      certified = λ u k. absurd (not_both words certifying sizes u s.formula.tree k asks);
       unread = λ t sizes k. refl;
       unnamed = λ t sizes f k lacks. h;
       fault = refl;
@@ -353,7 +364,8 @@ pub ran_short : (left held : Option (List ℕ)) (lf of : ℕ) (on : Handing) (wo
 ran_short left held lf of on words stop is =
     subst (λ (x : Stop). Ran left left held held lf lf of of on words (outcome_of (Err x))) (sym is)
     (ran_nothing left held lf of on words (outcome_of (Err (record { batches = 0; cause = causes.Memory }))) (record {
-      front = λ text batches w. (nothing_front text, omega arith);
+      front = λ other text batches w. (nothing_front text, omega arith);
+      certified = λ t k. (inl refl, refl);
       unread = λ t sizes k. refl;
       unnamed = λ t sizes f k lacks. (refl, refl);
       fault = refl;

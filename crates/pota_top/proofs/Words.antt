@@ -6,16 +6,20 @@ use Rattle.std.proofs.lemmas.Bool.{cases_Bool}
 use Rattle.std.proofs.lemmas.Bool.Decides.{nat_tests}
 use Rattle.std.proofs.lemmas.Option.{none-some, same_Some}
 use Rattle.pota_base.specs.Number.{number_at, whole}
+use Rattle.rctl_grammar.specs.declared.tree.Tree.{Tree}
 use Rattle.command_words.specs.declared.request.Sizes.{Sizes}
 use Rattle.command_words.specs.declared.request.Task.{Task}
 use Rattle.command_words.specs.declared.request.Form.{Form}
-use Rattle.command_words.specs.declared.request.Product.TheVariants.{Reports}
+use Rattle.command_words.specs.declared.request.Form.TheVariants as form
+use Rattle.command_words.specs.declared.request.Inquiry.{Inquiry}
+use Rattle.command_words.specs.declared.request.Product.TheVariants.{Reports, Certificate}
 use Rattle.command_words.specs.declared.request.Task.TheVariants.{Read, Bench}
 use Rattle.command_words.specs.Numbers.{number, workers_of, needed, sizes_of}
-use Rattle.command_words.specs.Request.{Values, values_of, shown_of, has_sizes, has_flags, form_of, check_of, bench_of, task_of, Wanted, wanted, request_of}
+use Rattle.command_words.specs.Request.{Values, values_of, shown_of, has_sizes, has_flags, form_of, check_of, certify_of, bench_of, task_of, Wanted, wanted, request_of}
 use Rattle.command_words.specs.Rule.{Text, given}
 use Rattle.run_request.specs.declared.question.Question.{Question}
-use Rattle.run_request.specs.Questions.{IsQuestion}
+use Rattle.run_request.specs.Questions.{IsQuestion, AsksFor}
+use Rattle.run_promise.specs.Asking.{certifying}
 use Rattle.pota_top.specs.Benching.{CanBeMade}
 
 abbrev Then : {A B : Type 0} → Option A → (A → Option B) → B → Type 0
@@ -94,12 +98,84 @@ check_not v s h = by_sizes (has_sizes v) refl
     by_sizes true e = none-some (Bench s) (sym (ap sized e) ∙ h)
     by_sizes false e = none_asked (form_of v) (sym (ap sized e) ∙ h)
 
+certify_is : (v : Values) (t : Task) → certify_of v ≡ Some t → t ≡ Read certifying
+certify_is v t h = by_words (has_sizes v || has_flags v) refl
+  where
+    asked : Bool → Option Task
+    asked b = if b then None else Some (Read certifying)
+
+    by_words : (b : Bool) → (has_sizes v || has_flags v) ≡ b → t ≡ Read certifying
+    by_words true e = absurd (none-some t (sym (ap asked e) ∙ h))
+    by_words false e = sym (same_Some (Read certifying) t (sym (ap asked e) ∙ h))
+
+certify_not : (v : Values) (s : Sizes) → certify_of v ≡ Some (Bench s) → ⊥
+certify_not v s h = let same : Bench s ≡ Read certifying = certify_is v (Bench s) h in absurd cc
+
 task_can : (command : Text) (v : Values) (s : Sizes) → task_of command v ≡ Some (Bench s) → CanBeMade s
 task_can command v s h = elim (cases_Bool (bytes_eq command (codes "check"))) [
   | inl it ↦ absurd (check_not v s (sym (rw it refl) ∙ h))
   | inr no_ ↦ elim (cases_Bool (bytes_eq command (codes "bench"))) [
     | inl bench ↦ bench_can v s (sym (rw (no_, bench) refl) ∙ h)
-    | inr other ↦ absurd (none-some (Bench s) (sym (rw (no_, other) refl) ∙ h))
+    | inr other ↦ elim (cases_Bool (bytes_eq command (codes "certify"))) [
+      | inl certify ↦ absurd (certify_not v s (sym (rw (no_, other, certify) refl) ∙ h))
+      | inr none ↦ absurd (none-some (Bench s) (sym (rw (no_, other, none) refl) ∙ h))
+    ]
+  ]
+]
+
+-- ---- a certificate is asked of the text of one log
+
+check_reports : (v : Values) (i : Inquiry) → check_of v ≡ Some (Read i) → i.product ≡ Certificate → ⊥
+check_reports v i h is = by_sizes (has_sizes v) refl
+  where
+    asked : Option Form → Option Task
+    asked o = option_map (λ f. Read (record { form = f; product = Reports (shown_of v) })) o
+
+    sized : Bool → Option Task
+    sized b = if b then None else asked (form_of v)
+
+    other_asked : (o : Option Form) → asked o ≡ Some (Read i) → ⊥
+    other_asked None k = none-some (Read i) k
+    other_asked (Some f) k =
+        let mine : Inquiry = record { form = f; product = Reports (shown_of v) } in
+        let tasks : Read mine ≡ Read i = same_Some (Read mine) (Read i) k in
+        let same : mine ≡ i = cc in
+        let products : Reports (shown_of v) ≡ Certificate = ap (λ (x : Inquiry). x.product) same ∙ is in
+        absurd cc
+
+    by_sizes : (b : Bool) → has_sizes v ≡ b → ⊥
+    by_sizes true e = none-some (Read i) (sym (ap sized e) ∙ h)
+    by_sizes false e = other_asked (form_of v) (sym (ap sized e) ∙ h)
+
+bench_reads : (v : Values) (i : Inquiry) → bench_of v ≡ Some (Read i) → ⊥
+bench_reads v i h = by_flags (has_flags v) refl
+  where
+    flagged : Bool → Option Task
+    flagged b = if b then None else option_map Bench (sizes_of v.seed v.procs v.events)
+
+    none_read : (o : Option Sizes) → option_map Bench o ≡ Some (Read i) → ⊥
+    none_read None k = none-some (Read i) k
+    none_read (Some z) k = let tasks : Bench z ≡ Read i = same_Some (Bench z) (Read i) k in absurd cc
+
+    by_flags : (b : Bool) → has_flags v ≡ b → ⊥
+    by_flags true e = none-some (Read i) (sym (ap flagged e) ∙ h)
+    by_flags false e = none_read (sizes_of v.seed v.procs v.events) (sym (ap flagged e) ∙ h)
+
+certify_text : (v : Values) (i : Inquiry) → certify_of v ≡ Some (Read i) → i.form ≡ form.Text
+certify_text v i h =
+    let tasks : Read i ≡ Read certifying = certify_is v (Read i) h in
+    let same : i ≡ certifying = cc in
+    ap (λ (x : Inquiry). x.form) same
+
+task_text : (command : Text) (v : Values) (i : Inquiry) → task_of command v ≡ Some (Read i) → i.product ≡ Certificate → i.form ≡ form.Text
+task_text command v i h is = elim (cases_Bool (bytes_eq command (codes "check"))) [
+  | inl it ↦ absurd (check_reports v i (sym (rw it refl) ∙ h) is)
+  | inr no_ ↦ elim (cases_Bool (bytes_eq command (codes "bench"))) [
+    | inl bench ↦ absurd (bench_reads v i (sym (rw (no_, bench) refl) ∙ h))
+    | inr other ↦ elim (cases_Bool (bytes_eq command (codes "certify"))) [
+      | inl certify ↦ certify_text v i (sym (rw (no_, other, certify) refl) ∙ h)
+      | inr none ↦ absurd (none-some (Read i) (sym (rw (no_, other, none) refl) ∙ h))
+    ]
   ]
 ]
 
@@ -121,6 +197,11 @@ request_found : (words : List Text) (w : Wanted) → request_of words ≡ Some w
 request_found words w h =
     let g = then_some (given words) (λ g. wanted (values_of g)) w h in
     (values_of g.0, wanted_found (values_of g.0) w g.2)
+
+pub asks_text : (words : List (List ℕ)) (i : Inquiry) (t : Tree) → AsksFor words (Read i) t → i.product ≡ Certificate → i.form ≡ form.Text
+asks_text words i t h is =
+    let found = request_found words h.wanted h.asks in
+    task_text found.1.command found.0 i (found.1.task ∙ ap (λ (x : Task). Some x) h.task_is) is
 
 module _ (words : List (List ℕ)) (q : Question) (is : IsQuestion words q) where
   found : (v : Values) × IsFound v is.wanted

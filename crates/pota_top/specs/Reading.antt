@@ -2,6 +2,7 @@
 use Rattle.std.specs.Prelude.{◌≡◌, ℕ, ◌<◌, ◌≤◌, Bool, false, List, [], ◌++◌, length, Option, None}
 use Rattle.std.specs.Prelude.{Result, Ok, Err}
 use Rattle.std.specs.Io.KnownBytes.{Appends, Consumes, IsAtEnd}
+use Rattle.pota_base.specs.Outside.{Rose}
 use Rattle.event_log.specs.declared.reader.Reader.{Reader}
 use Rattle.event_log.specs.Faults.{fault_of, end_fault}
 use Rattle.event_log.specs.LogText.{onto}
@@ -12,12 +13,14 @@ use Rattle.log_judgement.specs.Readings.{log_reading}
 use Rattle.log_judgement.specs.Due.{Due, judgement_of}
 use Rattle.log_check.specs.Aims.{Says, Aim, rules_of}
 use Rattle.log_check.specs.declared.check.LogCheck.{LogCheck}
+use Rattle.log_judgement.specs.Texts.{reported}
 use Rattle.log_answers.specs.declared.stop.StopCause.{StopCause}
+use Rattle.log_answers.specs.declared.stop.StopCause.TheVariants as causes
 use Rattle.log_answers.specs.declared.stop.Stop.{Stop}
 use Rattle.log_answers.specs.declared.stop.Verdict.{Verdict}
 use Rattle.pota_top.specs.declared.reading.Turn.{Turn}
 use Rattle.pota_top.specs.declared.reading.Turn.TheVariants as turn
-use Rattle.log_answers.specs.Checking.{Stands}
+use Rattle.log_answers.specs.Checking.{Stands, HasPartOf}
 use Rattle.log_answers.specs.Inputs.{due_by, TellsDueBy, StopsBy, HasCheckedBy}
 
 -- what is due of the text of a log, and what its items lead to
@@ -43,7 +46,8 @@ pub record IsWhole {X : Type 0} {P : X → Type 0} (says : Says X P) (aim : Aim)
   pub free : end_fault (onto bytes []) ≡ None
   pub stands : Stands says aim each check (judgement_in aim bytes) text
 
--- this fault, or none, is due of the text of a log, and a stop behind such bytes
+-- this fault, or none, is due of the text of a log, and a stop behind such bytes, before the report
+-- on the whole log
 abbrev pub TellsDue : Aim → (each ended : Bool) → (bytes text : List ℕ) → Option Refusal → ℕ
     → Type 0
 TellsDue aim each ended bytes text why batches =
@@ -51,8 +55,14 @@ TellsDue aim each ended bytes text why batches =
 
 abbrev pub StopsAt : StopCause → ℕ → Option (List ℕ) → ℕ → ℕ → ℕ → ℕ → Aim → Bool → List ℕ
     → List ℕ → Type 0
-StopsAt why n left lf lf' of of' aim each bytes text =
-    StopsBy log_reading why n left lf lf' of of' aim each bytes text
+StopsAt (causes.Refused r) n left lf lf' of of' aim each bytes text =
+    StopsBy log_reading (causes.Refused r) n left lf lf' of of' aim each bytes text
+StopsAt causes.Read n left lf lf' of of' aim each bytes text =
+    StopsBy log_reading causes.Read n left lf lf' of of' aim each bytes text
+StopsAt causes.Write n left lf lf' of of' aim each bytes text =
+    HasPartOf aim (reported each (due_in aim false bytes)) text n × Rose of of'
+StopsAt causes.Memory n left lf lf' of of' aim each bytes text =
+    StopsBy log_reading causes.Memory n left lf lf' of of' aim each bytes text
 
 -- ---- one piece and the end
 

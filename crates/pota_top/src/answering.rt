@@ -1,10 +1,10 @@
-//! The answers to a check and to a bench.
+//! The answers to an inquiry and to a bench.
 ghost use Rattle.std.specs.Prelude.{◌≡◌, ◌≤◌, ◌<◌, ℕ, Bool, false, List as ListOf, Option};
 ghost use Rattle.log_judgement.specs.Judgement.{waiting};
 ghost use Rattle.command_words.specs.declared.request.Task.TheVariants.{Bench, Read};
 ghost use Rattle.command_words.specs.declared.request.Product.TheVariants.{Reports};
 ghost use Rattle.run_request.specs.Questions.{AsksFor, IsStated};
-ghost use Rattle.log_check.specs.Aims.{Aim, AreWatches, aim_of};
+ghost use Rattle.log_check.specs.Aims.{Aim, AreWatches, aim_of, said_by};
 ghost use Rattle.log_check.specs.Checking.{IsCheckOf};
 ghost use Rattle.run_promise.specs.Asking.{handing_of};
 ghost use Rattle.pota_top.specs.Outcome.{outcome_of};
@@ -17,6 +17,7 @@ ghost use Rattle.bench_summary.specs.Views.{sizes_of as summed_sizes};
 ghost use Rattle.log_answers.specs.Checking.{IsBenchAim};
 ghost use Rattle.pota_top.specs.Benching.{CanBeMade, HasMade};
 
+use crate::certifying::answer_certificate;
 use crate::reading::read_log;
 use command_words::{Form, Inquiry, Product, Shown, Sizes};
 use log_answers::{Checking, Means, Stop, Verdict};
@@ -37,13 +38,11 @@ fn check_all<R: Threads + Sync, G: Gate, L: Ledger, S: Source, O: Sink>(
     log: &mut S,
     out: &mut O,
 ) -> Result<Verdict, Stop>
-    requires { (aim : Aim)
-        × IsCheckOf (λ h. answers (h.watch.vtable, h.watch.value)) aim checking.old.check waiting }
-    ensures { (aim : Aim)
-        → IsCheckOf (λ h. answers (h.watch.vtable, h.watch.value)) aim checking.old.check waiting
+    requires { (aim : Aim) × IsCheckOf (said_by answers) aim checking.old.check waiting }
+    ensures { (aim : Aim) → IsCheckOf (said_by answers) aim checking.old.check waiting
         → HasChecked (S.left log.old) (S.left log.new) (O.held out.old) (O.held out.new)
-        (S.faults log.old) (S.faults log.new) (O.faults out.old) (O.faults out.new)
-        aim checking.old.each_batch result }
+        (S.faults log.old) (S.faults log.new) (O.faults out.old) (O.faults out.new) aim
+        checking.old.each_batch result }
 {
     if let Err(stop) = read_log(means, checking, log, out) {
         return Err(stop);
@@ -66,13 +65,11 @@ fn check_text<R: Threads + Sync, G: Gate, L: Ledger, S: Source, O: Sink>(
     requires one { 0 < blank.parts }
     requires some { 1 ≤ workers }
     requires few { workers ≤ 16 }
-    requires check { (aim : Aim)
-        × IsCheckOf (λ h. answers (h.watch.vtable, h.watch.value)) aim check waiting }
-    ensures { (aim : Aim)
-        → IsCheckOf (λ h. answers (h.watch.vtable, h.watch.value)) aim check waiting
+    requires check { (aim : Aim) × IsCheckOf (said_by answers) aim check waiting }
+    ensures { (aim : Aim) → IsCheckOf (said_by answers) aim check waiting
         → HasChecked (S.left log.old) (S.left log.new) (O.held out.old) (O.held out.new)
-        (S.faults log.old) (S.faults log.new) (O.faults out.old) (O.faults out.new)
-        aim each_batch result }
+        (S.faults log.old) (S.faults log.new) (O.faults out.old) (O.faults out.new) aim each_batch
+        result }
 {
     let mut checking = Checking {
         check,
@@ -99,14 +96,11 @@ fn check_records<R: Threads + Sync, G: Gate, L: Ledger, S: Source, O: Sink>(
     requires one { 0 < blank.parts }
     requires some { 1 ≤ workers }
     requires few { workers ≤ 16 }
-    requires check { (aim : Aim)
-        × IsCheckOf (λ h. answers (h.watch.vtable, h.watch.value)) aim check waiting }
-    ensures { (aim : Aim)
-        → IsCheckOf (λ h. answers (h.watch.vtable, h.watch.value)) aim check waiting
-        → (each : Bool)
-        → HasCheckedBy clocks_reading (S.left source.old) (S.left source.new)
-        (O.held out.old) (O.held out.new) (S.faults source.old) (S.faults source.new)
-        (O.faults out.old) (O.faults out.new) aim each result }
+    requires check { (aim : Aim) × IsCheckOf (said_by answers) aim check waiting }
+    ensures { (aim : Aim) → IsCheckOf (said_by answers) aim check waiting → (each : Bool)
+        → HasCheckedBy clocks_reading (S.left source.old) (S.left source.new) (O.held out.old)
+        (O.held out.new) (S.faults source.old) (S.faults source.new) (O.faults out.old)
+        (O.faults out.new) aim each result }
 {
     let mut checking = Checking {
         check,
@@ -133,14 +127,11 @@ fn check_logs<R: Threads + Sync, G: Gate, L: Ledger, S: Source, O: Sink>(
     requires one { 0 < blank.parts }
     requires some { 1 ≤ workers }
     requires few { workers ≤ 16 }
-    requires check { (aim : Aim)
-        × IsCheckOf (λ h. answers (h.watch.vtable, h.watch.value)) aim check waiting }
-    ensures { (aim : Aim)
-        → IsCheckOf (λ h. answers (h.watch.vtable, h.watch.value)) aim check waiting
-        → (each : Bool)
-        → HasCheckedBy merged_reading (S.left source.old) (S.left source.new)
-        (O.held out.old) (O.held out.new) (S.faults source.old) (S.faults source.new)
-        (O.faults out.old) (O.faults out.new) aim each result }
+    requires check { (aim : Aim) × IsCheckOf (said_by answers) aim check waiting }
+    ensures { (aim : Aim) → IsCheckOf (said_by answers) aim check waiting → (each : Bool)
+        → HasCheckedBy merged_reading (S.left source.old) (S.left source.new) (O.held out.old)
+        (O.held out.new) (S.faults source.old) (S.faults source.new) (O.faults out.old)
+        (O.faults out.new) aim each result }
 {
     let mut checking = Checking {
         check,
@@ -164,6 +155,39 @@ fn summary_sizes(sizes: Sizes) -> bench_summary::Sizes
     }
 }
 
+// Reports on the input that the source has.
+fn answer_reports<R: Threads + Sync, G: Gate, S: Source, O: Sink>(
+    means: &Means<'_, R, G>,
+    stated: Stated,
+    form: Form,
+    shown: Shown,
+    workers: u32,
+    watches: Vec<Handed>,
+    log: &mut S,
+    out: &mut O,
+) -> Result<Verdict, Stop>
+    requires some { 1 ≤ workers }
+    requires few { workers ≤ 16 }
+    requires watches { AreWatches watches.items }
+    requires stated { (text : ListOf ℕ) × IsStated text stated }
+    ensures { (words : ListOf (ListOf ℕ)) (text : ListOf ℕ) → IsStated text stated
+        → AsksFor words (Read (record { form = form; product = Reports shown })) stated.formula.tree
+        → Ran (S.left log.old) (S.left log.new) (O.held out.old) (O.held out.new) (S.faults log.old)
+        (S.faults log.new) (O.faults out.old) (O.faults out.new)
+        (handing_of (said_by answers) watches.items) words (outcome_of result) }
+{
+    let Ok(check) = LogCheck::new(means.alloc, stated, shown.slice, shown.witness, watches) else {
+        return Err(Stop::without_memory());
+    };
+    let blank = Blank::new(1);
+    let each = shown.each_batch;
+    match form {
+        Form::Text => check_text::<R, G, Brand, S, O>(blank, means, check, each, workers, log, out),
+        Form::Clocks => check_records::<R, G, Brand, S, O>(blank, means, check, workers, log, out),
+        Form::Merged => check_logs::<R, G, Brand, S, O>(blank, means, check, workers, log, out),
+    }
+}
+
 // Takes the items of the log that is made, and writes its summary.
 fn bench_all<R: Threads + Sync, G: Gate, L: Ledger, O: Sink>(
     means: &Means<'_, R, G>,
@@ -173,13 +197,11 @@ fn bench_all<R: Threads + Sync, G: Gate, L: Ledger, O: Sink>(
 ) -> Result<Verdict, Stop>
     requires sizes { CanBeMade sizes }
     requires last { checking.old.each_batch ≡ false }
-    requires check { (aim : Aim)
-        × IsCheckOf (λ h. answers (h.watch.vtable, h.watch.value)) aim checking.old.check waiting }
-    ensures { (aim : Aim)
-        → IsCheckOf (λ h. answers (h.watch.vtable, h.watch.value)) aim checking.old.check waiting
+    requires check { (aim : Aim) × IsCheckOf (said_by answers) aim checking.old.check waiting }
+    ensures { (aim : Aim) → IsCheckOf (said_by answers) aim checking.old.check waiting
         → IsBenchAim aim
-        → HasMade (O.held out.old) (O.held out.new) (O.faults out.old) (O.faults out.new)
-        aim sizes result }
+        → HasMade (O.held out.old) (O.held out.new) (O.faults out.old) (O.faults out.new) aim sizes
+        result }
 {
     let Ok(log) = generate(means.alloc, sizes.seed, sizes.procs, sizes.events) else {
         return Err(Stop::without_memory());
@@ -205,13 +227,10 @@ fn bench_log<R: Threads + Sync, G: Gate, L: Ledger, O: Sink>(
     requires some { 1 ≤ workers }
     requires few { workers ≤ 16 }
     requires sizes { CanBeMade sizes }
-    requires check { (aim : Aim)
-        × IsCheckOf (λ h. answers (h.watch.vtable, h.watch.value)) aim check waiting }
-    ensures { (aim : Aim)
-        → IsCheckOf (λ h. answers (h.watch.vtable, h.watch.value)) aim check waiting
-        → IsBenchAim aim
-        → HasMade (O.held out.old) (O.held out.new) (O.faults out.old) (O.faults out.new)
-        aim sizes result }
+    requires check { (aim : Aim) × IsCheckOf (said_by answers) aim check waiting }
+    ensures { (aim : Aim) → IsCheckOf (said_by answers) aim check waiting → IsBenchAim aim
+        → HasMade (O.held out.old) (O.held out.new) (O.faults out.old) (O.faults out.new) aim sizes
+        result }
 {
     let mut checking = Checking {
         check,
@@ -224,16 +243,8 @@ fn bench_log<R: Threads + Sync, G: Gate, L: Ledger, O: Sink>(
     verdict
 }
 
-// What the reports on an input show.
-fn shown_in(product: Product) -> Shown
-    ensures { product ≡ Reports result }
-{
-    match product {
-        Product::Reports(shown) => shown,
-    }
-}
-
-/// Answers what is asked of the input that the source has.
+/// Answers what is asked of the input that the source has. The watches that are handed in are asked
+/// for reports alone.
 pub fn answer_inquiry<R: Threads + Sync, G: Gate, S: Source, O: Sink>(
     means: &Means<'_, R, G>,
     stated: Stated,
@@ -251,19 +262,14 @@ pub fn answer_inquiry<R: Threads + Sync, G: Gate, S: Source, O: Sink>(
         → AsksFor words (Read inquiry) stated.formula.tree
         → Ran (S.left log.old) (S.left log.new) (O.held out.old) (O.held out.new) (S.faults log.old)
         (S.faults log.new) (O.faults out.old) (O.faults out.new)
-        (handing_of
-        (λ h. answers (h.watch.vtable, h.watch.value)) watches.items) words (outcome_of result) }
+        (handing_of (said_by answers) watches.items) words (outcome_of result) }
 {
-    let shown = shown_in(inquiry.product);
-    let Ok(check) = LogCheck::new(means.alloc, stated, shown.slice, shown.witness, watches) else {
-        return Err(Stop::without_memory());
-    };
-    let blank = Blank::new(1);
-    let each = shown.each_batch;
-    match inquiry.form {
-        Form::Text => check_text::<R, G, Brand, S, O>(blank, means, check, each, workers, log, out),
-        Form::Clocks => check_records::<R, G, Brand, S, O>(blank, means, check, workers, log, out),
-        Form::Merged => check_logs::<R, G, Brand, S, O>(blank, means, check, workers, log, out),
+    let form = inquiry.form;
+    match inquiry.product {
+        Product::Reports(shown) => {
+            answer_reports(means, stated, form, shown, workers, watches, log, out)
+        }
+        Product::Certificate => answer_certificate(means, stated, log, out),
     }
 }
 
@@ -284,9 +290,7 @@ pub fn answer_bench<R: Threads + Sync, G: Gate, O: Sink>(
     ensures { (words : ListOf (ListOf ℕ)) (text : ListOf ℕ) → IsStated text stated
         → AsksFor words (Bench sizes) stated.formula.tree → (left : Option (ListOf ℕ)) (lf : ℕ)
         → Ran left left (O.held out.old) (O.held out.new) lf lf (O.faults out.old)
-        (O.faults out.new) (handing_of
-        (λ h. answers (h.watch.vtable, h.watch.value)) watches.items) words
-        (outcome_of result) }
+        (O.faults out.new) (handing_of (said_by answers) watches.items) words (outcome_of result) }
 {
     let Ok(check) = LogCheck::new(means.alloc, stated, true, false, watches) else {
         return Err(Stop::without_memory());

@@ -1,7 +1,7 @@
 //! Reading a log to its end, and checking it as it comes.
 ghost use Rattle.std.specs.Prelude.{◌≡◌, ◌<◌, ◌++◌, [], ℕ, List, length};
 ghost use Rattle.log_judgement.specs.Judgement.{waiting};
-ghost use Rattle.log_check.specs.Aims.{Aim};
+ghost use Rattle.log_check.specs.Aims.{Aim, said_by};
 ghost use Rattle.log_check.specs.Checking.{IsCheckOf};
 ghost use Rattle.pota_top.specs.Reading.{Finishes, HasJudged, HasReadLog, TakesPiece, Turns};
 
@@ -32,16 +32,13 @@ fn take_piece<R: Threads + Sync, G: Gate, L: Ledger, O: Sink>(
     out: &mut O,
 ) -> Result<Turn, Stop>
     requires { (aim : Aim) × (bytes : List ℕ) × (text : List ℕ)
-        × HasJudged
-        (λ h. answers (h.watch.vtable, h.watch.value)) aim checking.old.each_batch reader.old
-        checking.old.check bytes text }
+        × HasJudged (said_by answers) aim checking.old.each_batch reader.old checking.old.check
+        bytes text }
     ensures piece { (aim : Aim) (bytes text : List ℕ)
-        → HasJudged
-        (λ h. answers (h.watch.vtable, h.watch.value)) aim checking.old.each_batch reader.old
-        checking.old.check bytes text
+        → HasJudged (said_by answers) aim checking.old.each_batch reader.old checking.old.check
+        bytes text
         → TakesPiece (O.held out.old) (O.held out.new) (O.faults out.old) (O.faults out.new)
-        (λ h. answers (h.watch.vtable, h.watch.value))
-        aim checking.old.each_batch reader.new checking.new.check
+        (said_by answers) aim checking.old.each_batch reader.new checking.new.check
         (bytes ++ piece.now) text result }
     ensures each { checking.new.each_batch ≡ checking.old.each_batch }
 {
@@ -61,17 +58,13 @@ fn take_piece<R: Threads + Sync, G: Gate, L: Ledger, O: Sink>(
 // The input has ended.
 fn finish<L: Ledger>(reader: &mut Reader, checking: &Checking<L>) -> Result<Turn, Stop>
     requires { (aim : Aim) × (bytes : List ℕ) × (text : List ℕ)
-        × HasJudged
-        (λ h. answers (h.watch.vtable, h.watch.value)) aim checking.now.each_batch reader.old
-        checking.now.check bytes text }
+        × HasJudged (said_by answers) aim checking.now.each_batch reader.old checking.now.check
+        bytes text }
     ensures { (aim : Aim) (bytes text : List ℕ)
-        → HasJudged
-        (λ h. answers (h.watch.vtable, h.watch.value)) aim checking.now.each_batch reader.old
-        checking.now.check bytes text → (of : ℕ)
-        → Finishes of
-        (λ h. answers (h.watch.vtable, h.watch.value))
-        aim checking.now.each_batch checking.now.check
-        bytes text result }
+        → HasJudged (said_by answers) aim checking.now.each_batch reader.old checking.now.check
+        bytes text → (of : ℕ)
+        → Finishes of (said_by answers) aim checking.now.each_batch checking.now.check bytes text
+        result }
 {
     match reader.finish() {
         Some(fault) => Err(checking.stop(StopCause::Refused(Refusal::Log(fault)))),
@@ -90,18 +83,15 @@ fn take_turn<R: Threads + Sync, G: Gate, L: Ledger, S: Source, O: Sink>(
 ) -> Result<Turn, Stop>
     requires room { 0 < length room.old }
     requires judged { (aim : Aim) × (bytes : List ℕ) × (text : List ℕ)
-        × HasJudged
-        (λ h. answers (h.watch.vtable, h.watch.value)) aim checking.old.each_batch reader.old
-        checking.old.check bytes text }
+        × HasJudged (said_by answers) aim checking.old.each_batch reader.old checking.old.check
+        bytes text }
     ensures turn { (aim : Aim) (bytes text : List ℕ)
-        → HasJudged
-        (λ h. answers (h.watch.vtable, h.watch.value)) aim checking.old.each_batch reader.old
-        checking.old.check bytes text
+        → HasJudged (said_by answers) aim checking.old.each_batch reader.old checking.old.check
+        bytes text
         → Turns (S.left log.old) (S.left log.new) (O.held out.old) (O.held out.new)
         (S.faults log.old) (S.faults log.new) (O.faults out.old) (O.faults out.new)
-        (λ h. answers (h.watch.vtable, h.watch.value))
-        aim checking.old.each_batch reader.new checking.new.check bytes
-        text result }
+        (said_by answers) aim checking.old.each_batch reader.new checking.new.check bytes text
+        result }
     ensures each { checking.new.each_batch ≡ checking.old.each_batch }
 {
     match log.read(room) {
@@ -118,14 +108,11 @@ pub fn read_log<R: Threads + Sync, G: Gate, L: Ledger, S: Source, O: Sink>(
     log: &mut S,
     out: &mut O,
 ) -> Result<(), Stop>
-    requires { (aim : Aim)
-        × IsCheckOf (λ h. answers (h.watch.vtable, h.watch.value)) aim checking.old.check waiting }
-    ensures log { (aim : Aim)
-        → IsCheckOf (λ h. answers (h.watch.vtable, h.watch.value)) aim checking.old.check waiting
+    requires { (aim : Aim) × IsCheckOf (said_by answers) aim checking.old.check waiting }
+    ensures log { (aim : Aim) → IsCheckOf (said_by answers) aim checking.old.check waiting
         → HasReadLog (S.left log.old) (S.left log.new) (O.held out.old) (O.held out.new)
         (S.faults log.old) (S.faults log.new) (O.faults out.old) (O.faults out.new)
-        (λ h. answers (h.watch.vtable, h.watch.value))
-        aim checking.old.each_batch checking.new.check result }
+        (said_by answers) aim checking.old.each_batch checking.new.check result }
     ensures each { checking.new.each_batch ≡ checking.old.each_batch }
 {
     let Ok(mut buffer) = vec![in means.alloc; 0u8; PIECE] else {

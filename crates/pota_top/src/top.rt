@@ -3,7 +3,7 @@ ghost use Rattle.std.specs.Prelude.{◌≡◌, ℕ, List, map, string_bytes};
 ghost use Rattle.pota_base.specs.Outside.{Rose};
 ghost use Rattle.pota_base.specs.declared.status.Status.TheVariants.{ReadFault, WriteFault};
 ghost use Rattle.run_request.specs.Questions.{IsQuestion};
-ghost use Rattle.log_check.specs.Aims.{AreWatches};
+ghost use Rattle.log_check.specs.Aims.{AreWatches, said_by};
 ghost use Rattle.fault_line.specs.Lines.{Told};
 ghost use Rattle.run_promise.specs.Asking.{handing_of};
 ghost use Rattle.run_promise.specs.Run.{IsBenchAnswered, IsCalm, IsDecided, IsRefusedAsAsked};
@@ -22,7 +22,7 @@ use std::alloc::Global;
 use std::thread::Threads;
 use watch::{Handed, Watch};
 
-// Answers a question, of a check on the log that the source has.
+// Answers a question, of the input that the source has or of a log that is made.
 fn answer_question<R: Threads + Sync, G: Gate, S: Source, O: Sink>(
     means: &Means<'_, R, G>,
     question: Question,
@@ -35,8 +35,7 @@ fn answer_question<R: Threads + Sync, G: Gate, S: Source, O: Sink>(
     ensures { (words : List (List ℕ)) → IsQuestion words question
         → Ran (S.left log.old) (S.left log.new) (O.held out.old) (O.held out.new) (S.faults log.old)
         (S.faults log.new) (O.faults out.old) (O.faults out.new)
-        (handing_of
-        (λ h. answers (h.watch.vtable, h.watch.value)) watches.items) words (outcome_of result) }
+        (handing_of (said_by answers) watches.items) words (outcome_of result) }
 {
     let Question {
         task,
@@ -60,9 +59,7 @@ fn answer_words<R: Threads + Sync, G: Gate, S: Source, O: Sink>(
     requires watches { AreWatches watches.items }
     ensures { Ran (S.left log.old) (S.left log.new) (O.held out.old) (O.held out.new)
         (S.faults log.old) (S.faults log.new) (O.faults out.old) (O.faults out.new)
-        (handing_of
-        (λ h. answers (h.watch.vtable, h.watch.value)) watches.items) (map string_bytes words.now)
-        result }
+        (handing_of (said_by answers) watches.items) (map string_bytes words.now) result }
 {
     match read_question(means.alloc, words) {
         Ok(question) => outcome_of(answer_question(means, question, watches, log, out)),
@@ -75,8 +72,8 @@ fn answer_words<R: Threads + Sync, G: Gate, S: Source, O: Sink>(
 /// one that is made.
 ///
 /// The words are the command line without the program's name. A formula may name the watches that
-/// are handed in. The reports go to `out`, and one line that tells why there is no verdict to
-/// `diag`.
+/// are handed in, but for a certificate, whose formula may name none. The reports or the certificate
+/// go to `out`, and one line that tells why there is no verdict to `diag`.
 pub fn pota<R: Threads + Sync, S: Source, O: Sink, D: Sink, G: Gate>(
     rt: &R,
     alloc: Global,
@@ -90,9 +87,7 @@ pub fn pota<R: Threads + Sync, S: Source, O: Sink, D: Sink, G: Gate>(
     requires watches { AreWatches watches.items }
     ensures ran { Ran (S.left log.old) (S.left log.new) (O.held out.old) (O.held out.new)
         (S.faults log.old) (S.faults log.new) (O.faults out.old) (O.faults out.new)
-        (handing_of
-        (λ h. answers (h.watch.vtable, h.watch.value))
-        watches.items) (map string_bytes words.now) result }
+        (handing_of (said_by answers) watches.items) (map string_bytes words.now) result }
     ensures told { Told (D.held diag.old) (D.held diag.new) (D.faults diag.old) (D.faults diag.new)
         (line_of result.fault) }
     ensures read { result.status ≡ ReadFault → Rose (S.faults log.old) (S.faults log.new) }
@@ -100,21 +95,19 @@ pub fn pota<R: Threads + Sync, S: Source, O: Sink, D: Sink, G: Gate>(
     // Where no count rose and there was memory.
     ensures decided { IsCalm (S.faults log.old) (S.faults log.new) (O.faults out.old)
         (O.faults out.new) result
-        → IsDecided (S.left log.old) (handing_of
-        (λ h. answers (h.watch.vtable, h.watch.value)) watches.items)
+        → IsDecided (S.left log.old) (handing_of (said_by answers) watches.items)
         (map string_bytes words.now) (O.held out.old) (O.held out.new) result }
     ensures refused { IsCalm (S.faults log.old) (S.faults log.new) (O.faults out.old)
         (O.faults out.new) result
-        → IsRefusedAsDue (S.left log.old) (handing_of
-        (λ h. answers (h.watch.vtable, h.watch.value)) watches.items)
+        → IsRefusedAsDue (S.left log.old) (handing_of (said_by answers) watches.items)
         (map string_bytes words.now) (O.held out.old) (O.held out.new) result }
     ensures misasked { IsCalm (S.faults log.old) (S.faults log.new) (O.faults out.old)
         (O.faults out.new) result → IsRefusedAsAsked (map string_bytes words.now) (O.held out.old)
         (O.held out.new) result }
     ensures benched { IsCalm (S.faults log.old) (S.faults log.new) (O.faults out.old)
         (O.faults out.new) result
-        → IsBenchAnswered (handing_of (λ h. answers (h.watch.vtable, h.watch.value)) watches.items)
-        (map string_bytes words.now) (O.held out.old) (O.held out.new) result }
+        → IsBenchAnswered (handing_of (said_by answers) watches.items) (map string_bytes words.now)
+        (O.held out.old) (O.held out.new) result }
 {
     let means = Means {
         runtime: rt,

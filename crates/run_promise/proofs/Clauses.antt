@@ -14,6 +14,8 @@ use Rattle.command_words.specs.declared.request.Task.TheVariants as task
 use Rattle.command_words.specs.declared.request.Form.{Form}
 use Rattle.command_words.specs.declared.request.Form.TheVariants as form
 use Rattle.command_words.specs.declared.request.Inquiry.{Inquiry}
+use Rattle.command_words.specs.declared.request.Product.TheVariants as product
+use Rattle.command_words.specs.declared.request.Shown.{Shown}
 use Rattle.command_words.specs.declared.request.Sizes.{Sizes}
 use Rattle.run_request.specs.declared.question.QuestionFault.{QuestionFault}
 use Rattle.run_request.specs.declared.question.QuestionFault.TheVariants as question
@@ -32,8 +34,9 @@ use Rattle.log_check.specs.Aims.{unknown_name}
 use Rattle.fault_line.specs.declared.fault.Fault.TheVariants as fault
 use Rattle.fault_line.specs.Faults.{status_of, fault_of_question, fault_of_refusal}
 use Rattle.run_promise.specs.declared.outcome.Outcome.{Outcome}
-use Rattle.run_promise.specs.Asking.{Handing, reading_of, due_of, IsDueText}
-use Rattle.run_promise.specs.Run.{IsTrueAtStart, HasVerdict, IsRefused, HasBenched, LacksName, IsMisasked, made_by, Answer, Ran, IsCalm, WritesAsDue, TellsTruth, TellsFault, IsDecided, IsRefusedAsDue, IsRefusedAsAsked, Benches, IsBenchAnswered}
+use Rattle.run_promise.specs.Asking.{Handing, reading_of, watches_for, certifying, due_of, IsDueText}
+use Rattle.run_promise.specs.Certificates.{IsTrueAtStart}
+use Rattle.run_promise.specs.Run.{AsksCertificate, HasVerdict, IsRefused, HasBenched, LacksName, IsMisasked, made_by, Answer, Ran, IsCalm, WritesAsDue, TellsTruth, TellsFault, IsDecided, IsRefusedAsDue, IsRefusedAsAsked, Benches, IsBenchAnswered}
 
 -- ---- the bytes of a source
 
@@ -55,8 +58,17 @@ reads_one words a b t u h k =
     let e : task.Read a ≡ task.Read b = same.0 in
     (cc, same.1)
 
+-- words that ask for reports ask for no certificate
+pub not_certified : (words : List (List ℕ)) (f : Form) (shown : Shown) (t u : Tree)
+    → AsksFor words (task.Read (record { form = f; product = product.Reports shown })) t → AsksCertificate words u → ⊥
+not_certified words f shown t u h k =
+    let same = reads_one words (record { form = f; product = product.Reports shown }) certifying t u h k in
+    let products : product.Reports shown ≡ product.Certificate = ap (λ (i : Inquiry). i.product) same.0 in
+    absurd cc
+
 -- each form is read as a log
 pub form_is_read : (f : Form) → IsReading 67108864 (reading_of f)
+unfolding reading_of
 form_is_read form.Text = log_is_read
 form_is_read form.Clocks = clocks_are_read
 form_is_read form.Merged = sources_are_read
@@ -101,6 +113,7 @@ module _ (left left' held held' : Option (List ℕ)) (lf lf' of of' : ℕ) (on :
   -- what was due of the bytes read is due of all bytes
   stays_due : (u : Tree) (k : Inquiry) (ended : Bool) (r : Refusal) → (ended ≡ true → IsAtEnd left') → (due_of on.names u k ended ran.read).fault ≡ Some r
       → due_of on.names u k ended ran.read ≡ due_of on.names u k true bytes
+  unfolding due_of
   stays_due u k true r at is = ap (due_of on.names u k true) (read_all left left' bytes ran.read tells ran.consumed (at refl))
   stays_due u k false r at is =
       let rest = rest_of left left' bytes ran.read tells ran.consumed in
@@ -122,15 +135,16 @@ module _ (left left' held held' : Option (List ℕ)) (lf lf' of of' : ℕ) (on :
   verdict_as_due b h = as_due h.told.tree h.told.inquiry true ran.read h.told.asks h.told.text h.told.count (read_due b h)
 
   tells_truth : (b : Bool) → o.status ≡ (if b then status.True else status.False) → (h : HasVerdict left' on words ran.read ran.written o b)
-      → (log : Prefix) → all_due.whole ≡ Some log → TellsTruth on.watches t log o
+      → (log : Prefix) → all_due.whole ≡ Some log → TellsTruth (watches_for i.product on.watches) t log o
   tells_truth b is h log whole =
       let one = reads_one words h.told.inquiry i h.told.tree t h.told.asks asks in
       let logs : h.log ≡ log = same_Some h.log log (sym h.whole ∙ ap (λ (d : Due). d.whole) (verdict_due b h) ∙ whole) in
       record {
         verdict = b;
         status = is;
-        truth = subst (λ (v : Tree). (b ≡ true) ↔ IsTrueAtStart on.watches v log) one.1
-            (subst (λ (l : Prefix). (b ≡ true) ↔ IsTrueAtStart on.watches h.told.tree l) logs h.truth);
+        truth = subst (λ (k : Inquiry). (b ≡ true) ↔ IsTrueAtStart (watches_for k.product on.watches) t log) one.0
+            (subst (λ (v : Tree). (b ≡ true) ↔ IsTrueAtStart (watches_for h.told.inquiry.product on.watches) v log) one.1
+            (subst (λ (l : Prefix). (b ≡ true) ↔ IsTrueAtStart (watches_for h.told.inquiry.product on.watches) h.told.tree l) logs h.truth));
         fault = h.fault;
       }
 
@@ -147,7 +161,7 @@ module _ (left left' held held' : Option (List ℕ)) (lf lf' of of' : ℕ) (on :
   no_bench u sizes h = not_both words i sizes t u asks h
 
   abbrev Decided : Prefix → Type 0
-  Decided log = WritesAsDue on t i bytes held held' o × TellsTruth on.watches t log o
+  Decided log = WritesAsDue on t i bytes held held' o × TellsTruth (watches_for i.product on.watches) t log o
 
   decided_as : (st : Status) → o.status ≡ st → Answer st left' lf lf' of of' on words ran.read ran.written o → all_due.fault ≡ None → (log : Prefix) → all_due.whole ≡ Some log → Decided log
   decided_as status.True is (inl h) free log whole = (verdict_as_due true h, tells_truth true is h log whole)

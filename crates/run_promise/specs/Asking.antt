@@ -1,6 +1,7 @@
 -- What is asked of an input: a formula, how the input is read, what is written of it, and the
 -- watches that it may name; and what is due of the input's bytes then.
-use Rattle.std.specs.Prelude.{◌≡◌, ℕ, Bool, List}
+use Rattle.std.specs.Prelude.{◌≡◌, ℕ, Bool, false, List, []}
+use Rattle.pota_base.specs.Outside.{IsPrefix}
 use Rattle.run_model.specs.Run.{Name, Watches}
 use Rattle.rctl_grammar.specs.Shape.{shape_of}
 use Rattle.rctl_grammar.specs.declared.tree.Tree.{Tree}
@@ -22,6 +23,7 @@ use Rattle.log_judgement.specs.Texts.{AreTexts, IsReportText, reported}
 use Rattle.form_readings.specs.Clocks.{clocks_reading}
 use Rattle.form_readings.specs.Sources.{merged_reading}
 use Rattle.log_check.specs.Aims.{Says, names_of, watches_of, unknown_name}
+use Rattle.run_promise.specs.Certificates.{no_watches, IsCertificateText, IsCertificateFront}
 
 -- the names of the watches that were handed in, and what the watch of each name says of states
 pub record Handing : Type 0 where
@@ -48,7 +50,7 @@ asked_by t shown = asked t shown.slice shown.witness
 -- ---- how an input is read
 
 -- as the text of one log, as records of two lines, or as the texts of several logs
-abbrev pub reading_of : Form → Reading
+unfoldable pub reading_of : Form → Reading
 reading_of form.Text = log_reading
 reading_of form.Clocks = clocks_reading
 reading_of form.Merged = merged_reading
@@ -61,22 +63,39 @@ rules_for watches t =
 
 -- ---- what is written of it
 
--- the watches that the formula may name
+-- the watches that the formula may name, and what they say: a certificate's names none
 abbrev pub watch_names : Product → List Name → List Name
 watch_names (product.Reports shown) names = names
+watch_names product.Certificate names = []
+
+abbrev pub watches_for : Product → Watches → Watches
+watches_for (product.Reports shown) watches = watches
+watches_for product.Certificate watches = no_watches
 
 -- whether each batch has a text of its own, and not the whole log alone
 abbrev pub each_of : Product → Bool
 each_of (product.Reports shown) = shown.each_batch
+each_of product.Certificate = false
 
 -- this is written of a log
 abbrev pub Writes : Watches → Tree → Product → Prefix → List ℕ → Type 0
 Writes watches t (product.Reports shown) log text = IsReportText (asked_by t shown) watches log text
+Writes watches t product.Certificate log text = IsCertificateText t log text
+
+-- this is the front of what is written of a log
+abbrev pub WritesFront : Watches → Tree → Product → Prefix → List ℕ → Type 0
+WritesFront watches t (product.Reports shown) log part =
+    (whole : List ℕ) × IsReportText (asked_by t shown) watches log whole × IsPrefix part whole
+WritesFront watches t product.Certificate log part = IsCertificateFront t log part
+
+-- what `certify` asks of an input: the certificate of the text of one log
+abbrev pub certifying : Inquiry
+certifying = record { form = form.Text; product = product.Certificate }
 
 -- ---- what is due
 
 -- of these bytes
-abbrev pub due_of : List Name → Tree → Inquiry → (ended : Bool) → List ℕ → Due
+unfoldable pub due_of : List Name → Tree → Inquiry → (ended : Bool) → List ℕ → Due
 due_of watches t i ended bytes =
     due (reading_of i.form) (rules_for (watch_names i.product watches) t) ended bytes
 

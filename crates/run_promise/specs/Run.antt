@@ -40,7 +40,9 @@ use Rattle.fault_line.specs.declared.fault.Fault.{Fault}
 use Rattle.fault_line.specs.declared.fault.Fault.TheVariants as fault
 use Rattle.fault_line.specs.Faults.{status_of, fault_of_question, fault_of_refusal}
 use Rattle.run_promise.specs.declared.outcome.Outcome.{Outcome}
-use Rattle.run_promise.specs.Asking.{Handing, asked, asked_by, each_of, Writes, due_of, IsDueText}
+use Rattle.run_promise.specs.Certificates.{IsTrueAtStart, IsCertificateFront}
+use Rattle.run_promise.specs.Asking.{Handing, asked, asked_by, each_of, watches_for, Writes}
+use Rattle.run_promise.specs.Asking.{WritesFront, certifying, due_of, IsDueText}
 
 -- ---- what a report tells of the run
 
@@ -56,11 +58,13 @@ pub record TellsOfRun (q : Asked) (watches : Watches) (log : Prefix) (report : R
         (IsShownFor (run_of (trace_so_far log.header log.batches) watches) q.formula)
         report.witnesses
 
--- each report on the log does
+-- each report on the log does; a certificate is of a run whose clocks are an order
 abbrev pub Tells : Watches → Tree → Product → Prefix → Type 0
 Tells watches t (product.Reports shown) log =
     (report : Report) → IsReportOf (asked_by t shown) log.header log.batches watches report
     → TellsOfRun (asked_by t shown) watches log report
+Tells watches t product.Certificate log =
+    IsOrder (clocks_of (trace_so_far log.header log.batches))
 
 -- so of each of these logs
 abbrev pub AllTell : Watches → Tree → Product → List Prefix → Type 0
@@ -80,12 +84,6 @@ pub record IsTold (on : Handing) (words : List (List ℕ)) (ended : Bool) (read 
       (reported (each_of inquiry.product) (due_of on.names tree inquiry ended read))
   pub count : batches ≡ (due_of on.names tree inquiry ended read).batches
 
--- the formula is true at the initial cut of the run of this log
-abbrev pub IsTrueAtStart : Watches → Tree → Prefix → Type 0
-IsTrueAtStart watches t log =
-    Sat (run_of (trace_so_far log.header log.batches) watches) (asked t false false).formula
-    (initial (clocks_of (trace_so_far log.header log.batches)))
-
 -- the log was read to its end and has no fault, and the formula is true there or isn't
 pub record HasVerdict (left : Option (List ℕ)) (on : Handing) (words : List (List ℕ))
     (read written : List ℕ) (o : Outcome) (verdict : Bool) : Type 0 where
@@ -94,7 +92,8 @@ pub record HasVerdict (left : Option (List ℕ)) (on : Handing) (words : List (L
   pub free : (due_of on.names told.tree told.inquiry true read).fault ≡ None
   pub log : Prefix
   pub whole : (due_of on.names told.tree told.inquiry true read).whole ≡ Some log
-  pub truth : (verdict ≡ true) ↔ IsTrueAtStart on.watches told.tree log
+  pub truth : (verdict ≡ true)
+      ↔ IsTrueAtStart (watches_for told.inquiry.product on.watches) told.tree log
   pub fault : o.fault ≡ None
 
 -- this is the first fault of the bytes that were read
@@ -113,7 +112,7 @@ pub record IsCutShort (on : Handing) (words : List (List ℕ)) (read written : L
   pub free : (due_of on.names told.tree told.inquiry false read).fault ≡ None
   pub fault : o.fault ≡ Some fault.Read
 
--- the texts that are due before that of this batch were written, and a prefix of that one
+-- the texts that are due before that of this batch were written, and a front of that one
 pub record HasPart (left : Option (List ℕ)) (on : Handing) (words : List (List ℕ))
     (read written : List ℕ) (batches : ℕ) : Type 0 where
   pub tree : Tree
@@ -129,10 +128,8 @@ pub record HasPart (left : Option (List ℕ)) (on : Handing) (words : List (List
   pub telling : AllTell on.watches tree inquiry.product (before ++ log ∷ behind)
   pub text : List ℕ
   pub texts : AreTexts (Writes on.watches tree inquiry.product) before text
-  pub whole : List ℕ
-  pub is : Writes on.watches tree inquiry.product log whole
   pub part : List ℕ
-  pub part_of : IsPrefix part whole
+  pub is_front : WritesFront on.watches tree inquiry.product log part
   pub wrote : written ≡ text ++ part
   pub count : batches ≡ counted log.batches
 
@@ -207,12 +204,26 @@ pub record IsWholeDue (on : Handing) (words : List (List ℕ)) (read text : List
   pub benched : (t : Tree) (sizes : Sizes) → AsksFor words (task.Bench sizes) t
       → (verdict : Bool) × IsBenched on words text verdict × (batches ≡ 1)
 
--- Memory ran out; what was written is the front of each text that may be due. Nothing is read for a
--- bench, and nothing is written where the log that is made lacks a name.
-pub record IsOutOfMemory (on : Handing) (words : List (List ℕ)) (read written : List ℕ)
-    (o : Outcome) : Type 0 where
-  pub front : (text : List ℕ) (batches : ℕ) → IsWholeDue on words read text batches
+-- the words ask for the certificate of this formula
+abbrev pub AsksCertificate : List (List ℕ) → Tree → Type 0
+AsksCertificate words t = AsksFor words (task.Read certifying) t
+
+-- nothing was written, or the input was read to its end and the front of its certificate written
+abbrev pub HasCertificateFront : Option (List ℕ) → Handing → Tree → (read written : List ℕ)
+    → Type 0
+HasCertificateFront left on t read written = (written ≡ []) ⊎ (IsAtEnd left × (log : Prefix)
+    × ((due_of on.names t certifying true read).whole ≡ Some log) × IsCertificateFront t log written)
+
+-- Memory ran out; what was written is the front of each text that may be due, or of the certificate
+-- of the whole input. Nothing is read for a bench, and nothing is written where the log that is
+-- made lacks a name.
+pub record IsOutOfMemory (left : Option (List ℕ)) (on : Handing) (words : List (List ℕ))
+    (read written : List ℕ) (o : Outcome) : Type 0 where
+  pub front : ((t : Tree) → AsksCertificate words t → ⊥)
+      → (text : List ℕ) (batches : ℕ) → IsWholeDue on words read text batches
       → IsPrefix written text × (o.batches ≤ batches)
+  pub certified : (t : Tree) → AsksCertificate words t
+      → HasCertificateFront left on t read written × (o.batches ≡ 0)
   pub unread : (t : Tree) (sizes : Sizes) → AsksFor words (task.Bench sizes) t → read ≡ []
   pub unnamed : (t : Tree) (sizes : Sizes) (f : FormulaFault) → AsksFor words (task.Bench sizes) t
       → unknown_name (node_of t) on.names (made_by sizes).header ≡ Some f
@@ -242,7 +253,7 @@ Answer status.WriteFault left lf lf' of of' on words read written o =
     (HasPart left on words read written o.batches ⊎ HasSummaryPart on words read written o)
     × (o.fault ≡ Some fault.Write) × Rose of of'
 Answer status.OutOfMemory left lf lf' of of' on words read written o =
-    IsOutOfMemory on words read written o
+    IsOutOfMemory left on words read written o
 
 -- a whole run: what was read and written in it, that no count fell, and what its status says
 pub record Ran (left left' held held' : Option (List ℕ)) (lf lf' of of' : ℕ) (on : Handing)
@@ -287,7 +298,8 @@ IsDecided left on words held held' o =
     (bytes : List ℕ) (t : Tree) (i : Inquiry) → left ≡ Some bytes
     → AsksFor words (task.Read i) t → (due_of on.names t i true bytes).fault ≡ None
     → (log : Prefix) → (due_of on.names t i true bytes).whole ≡ Some log
-    → WritesAsDue on t i bytes held held' o × TellsTruth on.watches t log o
+    → WritesAsDue on t i bytes held held' o
+    × TellsTruth (watches_for i.product on.watches) t log o
 
 -- a fault that is due of the bytes is the answer
 abbrev pub IsRefusedAsDue : Option (List ℕ) → Handing → List (List ℕ) → Option (List ℕ)

@@ -1,7 +1,7 @@
 //! The check of an input once it was read.
 ghost use Rattle.std.specs.Prelude.{◌≡◌, Bool, false};
 ghost use Rattle.log_judgement.specs.Judgement.{waiting};
-ghost use Rattle.log_check.specs.Aims.{Aim};
+ghost use Rattle.log_check.specs.Aims.{Aim, said_by};
 ghost use Rattle.log_check.specs.Checking.{IsCheckOf};
 ghost use Rattle.log_answers.specs.Inputs.{HasCheckedBy};
 ghost use Rattle.form_readings.specs.Clocks.{clocks_reading};
@@ -33,12 +33,10 @@ fn check_standing<R: Threads + Sync, G: Gate, L: Ledger, O: Sink>(
 ) -> Result<Verdict, Stop>
     requires can { CanBeChecked standing }
     requires last { checking.old.each_batch ≡ false }
-    requires check { (aim : Aim) × IsCheckOf
-        (λ h. answers (h.watch.vtable, h.watch.value)) aim checking.old.check waiting }
-    ensures { (aim : Aim)
-        → IsCheckOf (λ h. answers (h.watch.vtable, h.watch.value)) aim checking.old.check waiting
-        → ChecksStanding (O.held out.old) (O.held out.new) (O.faults out.old) (O.faults out.new)
-        aim standing result }
+    requires check { (aim : Aim) × IsCheckOf (said_by answers) aim checking.old.check waiting }
+    ensures { (aim : Aim) → IsCheckOf (said_by answers) aim checking.old.check waiting
+        → ChecksStanding (O.held out.old) (O.held out.new) (O.faults out.old) (O.faults out.new) aim
+        standing result }
 {
     match standing {
         Ok(Standing::Whole(log, places)) => places.told(checking.check_whole(means, log, out)),
@@ -56,10 +54,8 @@ pub fn check_clocks<R: Threads + Sync, G: Gate, L: Ledger, S: Source, O: Sink>(
     out: &mut O,
 ) -> Result<Verdict, Stop>
     requires last { checking.old.each_batch ≡ false }
-    requires check { (aim : Aim) × IsCheckOf
-        (λ h. answers (h.watch.vtable, h.watch.value)) aim checking.old.check waiting }
-    ensures { (aim : Aim)
-        → IsCheckOf (λ h. answers (h.watch.vtable, h.watch.value)) aim checking.old.check waiting
+    requires check { (aim : Aim) × IsCheckOf (said_by answers) aim checking.old.check waiting }
+    ensures { (aim : Aim) → IsCheckOf (said_by answers) aim checking.old.check waiting
         → (each : Bool)
         → HasCheckedBy clocks_reading (S.left source.old) (S.left source.new) (O.held out.old)
         (O.held out.new) (S.faults source.old) (S.faults source.new) (O.faults out.old)
@@ -77,10 +73,8 @@ pub fn check_sources<R: Threads + Sync, G: Gate, L: Ledger, S: Source, O: Sink>(
     out: &mut O,
 ) -> Result<Verdict, Stop>
     requires last { checking.old.each_batch ≡ false }
-    requires check { (aim : Aim) × IsCheckOf
-        (λ h. answers (h.watch.vtable, h.watch.value)) aim checking.old.check waiting }
-    ensures { (aim : Aim)
-        → IsCheckOf (λ h. answers (h.watch.vtable, h.watch.value)) aim checking.old.check waiting
+    requires check { (aim : Aim) × IsCheckOf (said_by answers) aim checking.old.check waiting }
+    ensures { (aim : Aim) → IsCheckOf (said_by answers) aim checking.old.check waiting
         → (each : Bool)
         → HasCheckedBy merged_reading (S.left source.old) (S.left source.new) (O.held out.old)
         (O.held out.new) (S.faults source.old) (S.faults source.new) (O.faults out.old)

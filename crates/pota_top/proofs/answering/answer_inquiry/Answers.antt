@@ -1,30 +1,19 @@
+use Rattle.std.proofs.Common.{refl}
 use Rattle.command_words.specs.declared.request.Form.TheVariants as form
-use Rattle.pota_top.proofs.Running.{asked_so, ran_checked}
+use Rattle.command_words.specs.declared.request.Product.TheVariants as product
+use Rattle.run_promise.specs.Asking.{handing_of}
+use Rattle.pota_top.proofs.Running.{asked_so}
+use Rattle.pota_top.proofs.Words.{asks_text}
 use Rattle.pota_top.proofs.answering.answer_inquiry.Goals as goal
 
-pub check_text-requires-clause-check : goal.check_text-requires-clause-check
-check_text-requires-clause-check g c κs lives = (_, c.in-Ok.ensures)
+pub returns-in-Reports : goal.returns-in-Reports
+returns-in-Reports g c words text is asks =
+    c.answer_reports.ensures words text is
+    (asked_so words c.args.stated.formula.tree c.args.inquiry c.args.inquiry.form (product.Reports c.in-Reports.shown) refl c.in-Reports.is asks)
 
-pub check_records-requires-clause-check : goal.check_records-requires-clause-check
-check_records-requires-clause-check g c κs lives = (_, c.in-Ok.ensures)
-
-pub check_logs-requires-clause-check : goal.check_logs-requires-clause-check
-check_logs-requires-clause-check g c κs lives = (_, c.in-Ok.ensures)
-
-pub returns-in-Text : goal.returns-in-Text
-returns-in-Text g c words text is asks =
-    ran_checked (λ h. (goal.Watch-dyn g (h.watch.vtable, h.watch.value)).answers h.watch.value) c.args.stated form.Text c.shown_in-shown.result c.args.watches.items words text is
-    (asked_so words c.args.stated.formula.tree c.args.inquiry form.Text c.shown_in-shown.result c.in-Text.is c.shown_in-shown.ensures asks) _ _ _ _ _ _ _ _ c.check_text.result
-    (c.check_text.ensures _ c.in-Ok.ensures)
-
-pub returns-in-Clocks : goal.returns-in-Clocks
-returns-in-Clocks g c words text is asks =
-    ran_checked (λ h. (goal.Watch-dyn g (h.watch.vtable, h.watch.value)).answers h.watch.value) c.args.stated form.Clocks c.shown_in-shown.result c.args.watches.items words text is
-    (asked_so words c.args.stated.formula.tree c.args.inquiry form.Clocks c.shown_in-shown.result c.in-Clocks.is c.shown_in-shown.ensures asks) _ _ _ _ _ _ _ _ c.check_records.result
-    (c.check_records.ensures _ c.in-Ok.ensures c.shown_in-shown.result.each_batch)
-
-pub returns-in-Merged : goal.returns-in-Merged
-returns-in-Merged g c words text is asks =
-    ran_checked (λ h. (goal.Watch-dyn g (h.watch.vtable, h.watch.value)).answers h.watch.value) c.args.stated form.Merged c.shown_in-shown.result c.args.watches.items words text is
-    (asked_so words c.args.stated.formula.tree c.args.inquiry form.Merged c.shown_in-shown.result c.in-Merged.is c.shown_in-shown.ensures asks) _ _ _ _ _ _ _ _ c.check_logs.result
-    (c.check_logs.ensures _ c.in-Ok.ensures c.shown_in-shown.result.each_batch)
+pub returns-in-Certificate : goal.returns-in-Certificate
+returns-in-Certificate g c words text is asks =
+    c.answer_certificate.ensures words text is
+    (asked_so words c.args.stated.formula.tree c.args.inquiry form.Text product.Certificate
+    (asks_text words c.args.inquiry c.args.stated.formula.tree asks c.in-Certificate.is) c.in-Certificate.is asks)
+    (handing_of (λ h. (goal.Watch-dyn g (h.watch.vtable, h.watch.value)).answers h.watch.value) c.args.watches.items)

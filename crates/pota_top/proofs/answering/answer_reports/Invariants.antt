@@ -1,4 +1,4 @@
-use Rattle.pota_top.proofs.answering.answer_inquiry.Given as goal
+use Rattle.pota_top.proofs.answering.answer_reports.Given as goal
 
 abbrev pub ghosts-check_text : goal.ghosts-check_text
 ghosts-check_text g a = record { name = a.blank.name; parts = a.blank.parts }

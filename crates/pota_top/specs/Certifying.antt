@@ -1,0 +1,145 @@
+-- A certificate that is written of a log that was read, whose formula may name no watch.
+use Rattle.std.specs.Prelude.{◌≡◌, ℕ, ◌≤◌, ◌⊎◌, ◌↔◌, Bool, true, false, List, [], Option}
+use Rattle.std.specs.Prelude.{Some, None}
+use Rattle.std.specs.Prelude.{Result, Ok, Err}
+use Rattle.std.specs.Io.KnownBytes.{Appends, Consumes, IsAtEnd}
+use Rattle.pota_base.specs.Outside.{Rose}
+use Rattle.pota_base.specs.declared.fault.Failed.{Failed}
+use Rattle.run_model.specs.Cut.{initial}
+use Rattle.run_model.specs.Meaning.{Sat}
+use Rattle.rctl_grammar.specs.Shape.{shape_of}
+use Rattle.rctl_grammar.specs.declared.tree.Tree.{Tree}
+use Rattle.rctl_print.specs.Canonical.{canonical}
+use Rattle.rctl_parts.specs.Pieces.{Piece, disjuncts_of}
+use Rattle.rctl_parts.specs.Spelled.{disjunction_of}
+use Rattle.part_pulls.specs.declared.observed.Observed.{Observed}
+use Rattle.part_pulls.specs.Observing.{Reading, AreAnswers, clocks_seen, run_seen}
+use Rattle.part_pulls.specs.Observing.{names_seen}
+use Rattle.run_report.specs.Reports.{counted}
+use Rattle.run_request.specs.declared.formula.Stated.{Stated}
+use Rattle.log_judgement.specs.Judgement.{Prefix}
+use Rattle.log_judgement.specs.Readings.{log_reading}
+use Rattle.log_check.specs.Aims.{Aim, aim_of}
+use Rattle.log_check.specs.Checked.{observed_alone}
+use Rattle.log_check.specs.declared.checked.CheckedLog.{CheckedLog}
+use Rattle.certify.specs.Certifying.{HasFront, IsCertifying}
+use Rattle.log_answers.specs.declared.stop.StopCause.{StopCause}
+use Rattle.log_answers.specs.declared.stop.StopCause.TheVariants as causes
+use Rattle.log_answers.specs.declared.stop.Stop.{Stop}
+use Rattle.log_answers.specs.declared.stop.Verdict.{Verdict}
+use Rattle.log_answers.specs.Inputs.{due_by, TellsDueBy}
+use Rattle.run_promise.specs.Certificates.{IsTrueAtStart, no_watches, disjuncts_on}
+use Rattle.run_promise.specs.Certificates.{IsCertificateText, IsCertificateFront}
+
+-- what is asked of a log for the certificate of a formula
+abbrev pub aim_for : Stated → Aim
+aim_for s = aim_of s false false [] no_watches
+
+-- ---- behind the whole log
+
+-- the names and the answers of no watches
+abbrev pub unwatched : Reading
+unwatched = record { watch_names = []; watches = no_watches }
+
+-- the disjuncts are true at the initial cut of what was observed
+abbrev pub HoldsOn : Observed → List (List Piece) → Type 0
+HoldsOn seen ds =
+    Sat (run_seen seen unwatched) (disjunction_of (names_seen seen unwatched) ds)
+    (initial (clocks_seen seen))
+
+-- the log was observed for the formula of this tree, which is true there where it is of the log
+pub record IsLogSeen (t : Tree) (log : Prefix) (checked : CheckedLog) : Type 0 where
+  pub text : checked.stated.text ≡ canonical (shape_of t)
+  pub seen : checked.seen ≡ observed_alone log
+  pub split : disjuncts_of checked.disjuncts ≡ disjuncts_on log t
+  pub answers : AreAnswers checked.seen unwatched
+  pub truth : HoldsOn checked.seen (disjuncts_of checked.disjuncts)
+      ↔ IsTrueAtStart no_watches t log
+
+-- what the writing of a certificate of so many batches led to
+abbrev pub verdict_of : Result Bool Failed → ℕ → Result Verdict Stop
+verdict_of (Ok told) batches = Ok (record { batches = batches; truth = told })
+verdict_of (Err failed) batches = Err (record { batches = batches; cause = causes.Write })
+
+-- the certificate of the formula of these disjuncts was to be written: memory ran out, or it went on
+abbrev pub PutsCertificate : (held held' : Option (List ℕ)) → (of of' : ℕ) → Observed
+    → List (List Piece) → (line : List ℕ) → (batches : ℕ) → Result Verdict Stop → Type 0
+PutsCertificate held held' of of' seen ds line batches result =
+    ((result ≡ Err (record { batches = 0; cause = causes.Memory })) × (of' ≡ of)
+    × HasFront held held' seen ds line)
+    ⊎ ((ended : Result Bool Failed) × (result ≡ verdict_of ended batches)
+    × IsCertifying ended held held' of of' seen ds line)
+
+-- a front of the certificate was written, behind so many batches
+abbrev pub CertifyStops : StopCause → ℕ → ℕ → ℕ → Tree → ℕ → Prefix → List ℕ → Type 0
+CertifyStops causes.Write n of of' t batches log text =
+    IsCertificateFront t log text × (n ≡ batches) × Rose of of'
+CertifyStops causes.Memory n of of' t batches log text = IsCertificateFront t log text × (n ≡ 0)
+CertifyStops (causes.Refused r) n of of' t batches log text = ⊥
+CertifyStops causes.Read n of of' t batches log text = ⊥
+
+-- the certificate was written, with its verdict, or not
+abbrev pub CertifiesTo : ℕ → ℕ → Tree → ℕ → Prefix → List ℕ → Result Verdict Stop → Type 0
+CertifiesTo of of' t batches log text (Ok v) =
+    IsCertificateText t log text × ((v.truth ≡ true) ↔ IsTrueAtStart no_watches t log)
+    × (v.batches ≡ batches)
+CertifiesTo of of' t batches log text (Err stop) =
+    CertifyStops stop.cause stop.batches of of' t batches log text
+
+-- the certificate of a log of so many batches was to be written
+pub record Certifies (held held' : Option (List ℕ)) (of of' : ℕ) (t : Tree) (batches : ℕ)
+    (log : Prefix) (result : Result Verdict Stop) : Type 0 where
+  pub written : List ℕ
+  pub wrote : Appends held held' written
+  pub later : of ≤ of'
+  pub to : CertifiesTo of of' t batches log written result
+
+-- ---- the whole input
+
+-- this log is due of the whole input, and this is the front of its certificate
+pub record HasFrontBy (left : Option (List ℕ)) (aim : Aim) (t : Tree) (bytes text : List ℕ)
+    : Type 0 where
+  pub ended : IsAtEnd left
+  pub log : Prefix
+  pub whole : (due_by log_reading aim true bytes).whole ≡ Some log
+  pub front : IsCertificateFront t log text
+
+-- a stop behind these bytes, with this text written
+abbrev pub CertifyStopsBy : StopCause → ℕ → Option (List ℕ) → ℕ → ℕ → ℕ → ℕ → Aim → Tree
+    → List ℕ → List ℕ → Type 0
+CertifyStopsBy (causes.Refused r) n left lf lf' of of' aim t bytes text =
+    (ended : Bool) × (ended ≡ true → IsAtEnd left)
+    × TellsDueBy log_reading aim false ended bytes text (Some r) n
+CertifyStopsBy causes.Read n left lf lf' of of' aim t bytes text =
+    TellsDueBy log_reading aim false false bytes text None n × Rose lf lf'
+CertifyStopsBy causes.Write n left lf lf' of of' aim t bytes text =
+    (h : HasFrontBy left aim t bytes text) × (n ≡ counted h.log.batches) × Rose of of'
+CertifyStopsBy causes.Memory n left lf lf' of of' aim t bytes text =
+    ((text ≡ []) ⊎ HasFrontBy left aim t bytes text) × (n ≡ 0)
+
+-- the verdict on a log without a fault, whose certificate was written
+pub record IsCertifiedBy (aim : Aim) (t : Tree) (bytes text : List ℕ) (v : Verdict) : Type 0 where
+  pub free : (due_by log_reading aim true bytes).fault ≡ None
+  pub log : Prefix
+  pub whole : (due_by log_reading aim true bytes).whole ≡ Some log
+  pub certificate : IsCertificateText t log text
+  pub truth : (v.truth ≡ true) ↔ IsTrueAtStart no_watches t log
+  pub count : v.batches ≡ (due_by log_reading aim true bytes).batches
+
+abbrev pub CertifiesBy : Option (List ℕ) → ℕ → ℕ → ℕ → ℕ → Aim → Tree → List ℕ → List ℕ
+    → Result Verdict Stop → Type 0
+CertifiesBy left lf lf' of of' aim t read text (Ok v) =
+    IsAtEnd left × IsCertifiedBy aim t read text v
+CertifiesBy left lf lf' of of' aim t read text (Err stop) =
+    CertifyStopsBy stop.cause stop.batches left lf lf' of of' aim t read text
+
+-- the input was read and certified
+pub record HasCertified (left left' held held' : Option (List ℕ)) (lf lf' of of' : ℕ) (aim : Aim)
+    (t : Tree) (result : Result Verdict Stop) : Type 0 where
+  pub read : List ℕ
+  pub written : List ℕ
+  pub consumed : Consumes left left' read
+  pub wrote : Appends held held' written
+  pub log_later : lf ≤ lf'
+  pub out_later : of ≤ of'
+  pub to : CertifiesBy left' lf lf' of of' aim t read written result
