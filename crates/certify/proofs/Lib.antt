@@ -1,3 +1,3 @@
-mod Writing
+mod Fronts
 mod Accepting
 mod FormulaLine

@@ -1,6 +1,6 @@
 use Rattle.rctl_parts.specs.Pieces.{disjuncts_of}
 use Rattle.canonical_nodes.specs.Coming.{lines_left}
-use Rattle.certify.proofs.Writing.{Stands}
+use Rattle.certify.proofs.Fronts.{Stands}
 use Rattle.certify.proofs.writing.certify_counted.Given as goal
 
 abbrev pub invariant-lines : goal.invariant-lines
