@@ -1,56 +1,15 @@
-use Rattle.std.proofs.Common.{◌≡◌, ℕ, List, [], ◌∷◌, ◌++◌, ap, subst, ◌∙◌}
-use Rattle.rctl_parts.specs.Pieces.{disjuncts_of}
-use Rattle.certificate_lines.specs.declared.line.Line.{Line}
-use Rattle.certificate_lines.specs.declared.line.Line.TheVariants.{Verdict}
-use Rattle.certificate_lines.specs.Spelling.{line_text, lines_text, title}
-use Rattle.certified_nodes.specs.Nodes.{AreNodes}
-use Rattle.canonical_text.specs.Canonical.{IsNext}
-use Rattle.certify.specs.Certifying.{nodes_of}
-use Rattle.certify.proofs.Fronts.{stands-first, stands-more, stands-flushed, stands-cut, stands-memory, nothing_written, ended-is, is_of_node}
+use Rattle.std.proofs.Common.{◌∙◌, subst, sym}
+use Rattle.certified_nodes.specs.Nodes.{NodesView, AreNodes}
+use Rattle.certify.proofs.Fronts.{nothing_written, on_err}
+use Rattle.certify.proofs.Certified.{certified_of, memory_of, nothing_of}
 use Rattle.certify.proofs.writing.certify_counted.Goals as goal
 
-pub returns-in_err-nodes_for-clause-memory : goal.returns-in_err-nodes_for-clause-memory
-returns-in_err-nodes_for-clause-memory g c = nothing_written _ _ _ _
+pub returns-in_err-nodes-clause-memory : goal.returns-in_err-nodes-clause-memory
+returns-in_err-nodes-clause-memory g c = on_err _ (nothing_of _ _ _ _ (nothing_written _ _ _))
 
-pub returns-in_err-put_head-clause-memory : goal.returns-in_err-put_head-clause-memory
-returns-in_err-put_head-clause-memory g c = nothing_written _ _ _ _
+pub returns-clause-certified : goal.returns-clause-certified
+returns-clause-certified g c =
+    certified_of _ _ _ _ _ _ _ _ _ (c.new-lines.ensures ∙ c.in_ok-nodes.ensures.fresh) (subst AreNodes (sym c.new-lines.ensures) c.in_ok-nodes.ensures.nodes) c.write_lines.ensures.written
 
-pub lines-init : goal.lines-init
-lines-init g c =
-    stands-first _ _ _ _ _ _ _ (c.new-nodes.ensures ∙ c.in_ok-nodes_for.ensures.fresh)
-    (c.in_ok-put_head.ensures ∙ ap (λ (x : List ℕ). x ++ lines_text (title ∷ c.args.formula.now ∷ [])) c.new-text.ensures)
-
-pub returns-in_err-line-clause-memory : goal.returns-in_err-line-clause-memory
-returns-in_err-line-clause-memory g c = stands-memory _ _ _ _ _ _ _ _ _ c.lines.invariant
-
-pub returns-in_err-line-clause-calm : goal.returns-in_err-line-clause-calm
-returns-in_err-line-clause-calm g c = c.lines.invariant.calm
-
-pub returns-in_err-put_end-clause-memory : goal.returns-in_err-put_end-clause-memory
-returns-in_err-put_end-clause-memory g c = stands-memory _ _ _ _ _ _ _ _ _ c.lines.invariant
-
-pub returns-in_err-put_end-clause-calm : goal.returns-in_err-put_end-clause-calm
-returns-in_err-put_end-clause-calm g c = c.lines.invariant.calm
-
-pub returns-in-Verdict-clause-certified : goal.returns-in-Verdict-clause-certified
-returns-in-Verdict-clause-certified g c =
-    let nodes : AreNodes (nodes_of c.args.seen (disjuncts_of c.args.disjuncts.now)) = subst AreNodes c.in_ok-nodes_for.ensures.fresh c.in_ok-nodes_for.ensures.nodes in
-    let next : IsNext c.lines.nodes (Verdict c.in-Verdict.told) c.put_next.new.nodes = subst (λ (l : Line). IsNext c.lines.nodes l c.put_next.new.nodes) c.in-Verdict.is c.in_ok-line.ensures.next in
-    let text : c.put_next.new.text ≡ c.lines.text ++ lines_text (line_text (Verdict c.in-Verdict.told) ∷ []) =
-    subst (λ (l : Line). c.put_next.new.text ≡ c.lines.text ++ lines_text (line_text l ∷ [])) c.in-Verdict.is c.in_ok-line.ensures.text in
-    ended-is _ _ _ _ _ _ _ _ _ _ _ _ _ _ c.in-Verdict.told c.finish.result nodes c.lines.invariant next text (c.as_slice.ensures ∙ c.in_ok-put_end.ensures)
-    c.finish.ensures.same c.finish.ensures.whole c.finish.ensures.calm c.finish.ensures.part c.finish.ensures.cause
-
-pub lines-preserved-in-Ok : goal.lines-preserved-in-Ok
-lines-preserved-in-Ok g c =
-    let more = stands-more _ _ _ _ _ _ _ _ _ _ _ c.in_ok-line.line c.lines.invariant c.in_ok-line.ensures.next (is_of_node c.in_ok-line.line c.in_default.not-Verdict) c.in_ok-line.ensures.text in
-    stands-flushed _ _ _ _ _ _ _ _ _ _ _ _ more c.in-Ok.ensures.whole c.in-Ok.ensures.calm c.in-Ok.ensures.none
-
-pub returns-in-Err-clause-certified : goal.returns-in-Err-clause-certified
-returns-in-Err-clause-certified g c =
-    let more = stands-more _ _ _ _ _ _ _ _ _ _ _ c.in_ok-line.line c.lines.invariant c.in_ok-line.ensures.next (is_of_node c.in_ok-line.line c.in_default.not-Verdict) c.in_ok-line.ensures.text in
-    stands-cut _ _ _ _ _ _ _ _ _ _ _ more c.in-Err.ensures.part c.in-Err.ensures.cause.later c.in-Err.ensures.cause.failed
-
-pub lines-preserved : goal.lines-preserved
-lines-preserved g c =
-    stands-more _ _ _ _ _ _ _ _ _ _ _ c.in_ok-line.line c.lines.invariant c.in_ok-line.ensures.next (is_of_node c.in_ok-line.line c.in_default.not-Verdict) c.in_ok-line.ensures.text
+pub returns-clause-memory : goal.returns-clause-memory
+returns-clause-memory g c = memory_of _ _ _ _ _ _ _ (c.new-lines.ensures ∙ c.in_ok-nodes.ensures.fresh) c.write_lines.ensures.memory
