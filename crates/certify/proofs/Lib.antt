@@ -1,3 +1,4 @@
-mod Writing
+mod Fronts
+mod Certified
 mod Accepting
 mod FormulaLine

@@ -11,6 +11,7 @@ ghost use Rattle.certificate_text.specs.Running.{IsOfNode};
 ghost use Rattle.canonical_text.specs.Canonical.{IsNext};
 ghost use Rattle.canonical_nodes.specs.Coming.{lines_left};
 ghost use Rattle.certify.specs.Certifying.{HasFront, IsCertifying};
+ghost use Rattle.certify.specs.Written.{IsWritten, WroteFront};
 
 use canonical_nodes::CanonicalNodes;
 use certificate::nodes_for;
@@ -74,12 +75,29 @@ fn certify_counted<O: Sink, L: Ledger>(
         (disjuncts_of disjuncts.now) formula.now) }
     ensures calm { OnErr result (O.faults out.new ≡ O.faults out.old) }
 {
-    let mut steps = Steps::<L>::new(blank);
-    let mut nodes = CanonicalNodes::new(alloc, nodes_for(alloc, seen, disjuncts)?);
+    let nodes = nodes_for(alloc, seen, disjuncts)?;
+    let mut lines = CanonicalNodes::new(alloc, nodes);
+    write_lines(alloc, &mut lines, formula, out, &mut Steps::<L>::new(blank))
+}
+
+/// Writes the text of the nodes' canonical lines as they come, and gives the verdict.
+fn write_lines<O: Sink, L: Ledger>(
+    alloc: Global,
+    nodes: &mut CanonicalNodes,
+    formula: &[u8],
+    out: &mut O,
+    steps: &mut Steps<L>,
+) -> Result<Result<bool, Failed>, NoMemory>
+    ensures written { IfOk result (λ ended. IsWritten ended (O.held out.old) (O.held out.new)
+        (O.faults out.old) (O.faults out.new) formula.now nodes.old) }
+    ensures memory { OnErr result
+        (WroteFront (O.held out.old) (O.held out.new) formula.now nodes.old) }
+    ensures calm { OnErr result (O.faults out.new ≡ O.faults out.old) }
+{
     let mut text = Bytes::new(alloc);
     put_head(&mut text, formula)?;
     'lines: loop {
-        let line = put_next(&mut nodes, &mut text, &mut steps)?;
+        let line = put_next(nodes, &mut text, steps)?;
         if let Line::Verdict(told) = line {
             put_end(&mut text)?;
             return Ok(finish(out, text.as_slice(), told));

@@ -7,8 +7,6 @@ use Rattle.std.proofs.lemmas.List.{map-append}
 use Rattle.std.proofs.lemmas.List.Elements.{All-append, All-cons, All-nil}
 use Rattle.pota_base.specs.declared.fault.Failed.{Failed}
 use Rattle.pota_base.specs.Outside.{AppendsPrefix, HasCause, IsPrefix, Rose}
-use Rattle.rctl_parts.specs.Pieces.{Piece}
-use Rattle.part_pulls.specs.declared.observed.Observed.{Observed}
 use Rattle.certificate_lines.specs.declared.line.Line.{Line}
 use Rattle.certificate_lines.specs.declared.line.Line.TheVariants.{Node, Row, Raise, Verdict}
 use Rattle.certificate_lines.specs.Spelling.{line_text, lines_text, title, end_line}
@@ -16,7 +14,7 @@ use Rattle.certificate_text.specs.Running.{IsOfNode, certificate_lines}
 use Rattle.certified_nodes.specs.Nodes.{NodesView, AreNodes}
 use Rattle.canonical_text.specs.Canonical.{IsNext, AreNext, IsWhole}
 use Rattle.canonical_text.proofs.OneText.{is_front, one_whole}
-use Rattle.certify.specs.Certifying.{nodes_of, IsCertificateOf, IsFrontOfCertificate, IsCertified, HasFront, IsCut, IsCertifying}
+use Rattle.certify.specs.Written.{text_of, IsFrontOf, WroteAll, WroteFront, WroteUntil, IsWritten}
 
 -- ---- texts
 
@@ -46,29 +44,28 @@ whole-behind formula body more =
 
 -- ---- fronts
 
-front-of-body : (seen : Observed) (ds : List (List Piece)) (formula : List ℕ) (body : List Line) (mid : NodesView) → AreNext (nodes_of seen ds) body mid → All IsOfNode body
-    → (part rest : List ℕ) → text_so_far formula body ≡ part ++ rest → IsFrontOfCertificate seen ds formula part
-front-of-body seen ds formula body mid next of_nodes part rest e = λ text told is.
-    let found = is_front (nodes_of seen ds) body mid is.lines told is.nodes next of_nodes is.whole in
+front-of-body : (formula : List ℕ) (v : NodesView) (body : List Line) (mid : NodesView) → AreNext v body mid → All IsOfNode body
+    → (part rest : List ℕ) → text_so_far formula body ≡ part ++ rest → IsFrontOf v formula part
+front-of-body formula v body mid next of_nodes part rest e = λ lines told nodes whole.
+    let found = is_front v body mid lines told nodes next of_nodes whole in
     let tail = lines_text (spelled found.0 ++ end_line ∷ []) in (
       rest ++ tail,
-      is.text_is ∙ ap (λ (ls : List Line). lines_text (certificate_lines formula ls)) found.1 ∙ whole-behind formula body found.0
-          ∙ ap (λ (t : List ℕ). t ++ tail) e ∙ append_assoc part rest tail,
+      ap (text_of formula) found.1 ∙ whole-behind formula body found.0 ∙ ap (λ (t : List ℕ). t ++ tail) e ∙ append_assoc part rest tail,
     )
 
-front-of-whole : (seen : Observed) (ds : List (List Piece)) (formula : List ℕ) (lines : List Line) (told : Bool) → IsWhole (nodes_of seen ds) lines told
-    → (part rest : List ℕ) → lines_text (certificate_lines formula lines) ≡ part ++ rest → IsFrontOfCertificate seen ds formula part
-front-of-whole seen ds formula lines told whole part rest e = λ text truth is. (
+front-of-whole : (formula : List ℕ) (v : NodesView) (whole : List Line) (told : Bool) → IsWhole v whole told
+    → (part rest : List ℕ) → text_of formula whole ≡ part ++ rest → IsFrontOf v formula part
+front-of-whole formula v whole told is part rest e = λ lines truth nodes other. (
   rest,
-  is.text_is ∙ ap (λ (ls : List Line). lines_text (certificate_lines formula ls)) (one_whole (nodes_of seen ds) is.lines lines truth told is.nodes is.whole whole) ∙ e,
+  ap (text_of formula) (one_whole v lines whole truth told nodes other is) ∙ e,
 )
 
 -- ---- while lines come
 
 -- these lines of nodes came in their order. What was written, and what waits, is the text so far
-pub record Stands (held held' : Option (List ℕ)) (before now : ℕ) (seen : Observed) (ds : List (List Piece)) (formula waits : List ℕ) (mid : NodesView) : Type 0 where
+pub record Stands (held held' : Option (List ℕ)) (before now : ℕ) (formula waits : List ℕ) (v mid : NodesView) : Type 0 where
   pub body : List Line
-  pub next : AreNext (nodes_of seen ds) body mid
+  pub next : AreNext v body mid
   pub of_nodes : All IsOfNode body
   pub written : List ℕ
   pub grown : Appends held held' written
@@ -79,10 +76,9 @@ keeps : (held : Option (List ℕ)) → Appends held held []
 keeps None = tt
 keeps (Some xs) = sym (append-nil xs)
 
-pub stands-first : (held : Option (List ℕ)) (now : ℕ) (seen : Observed) (ds : List (List Piece)) (formula waits : List ℕ) (v : NodesView) → v ≡ nodes_of seen ds
-    → waits ≡ lines_text (title ∷ formula ∷ []) → Stands held held now now seen ds formula waits v
-stands-first held now seen ds formula waits v fresh e =
-    record { body = []; next = fresh; of_nodes = All-nil IsOfNode; written = []; grown = keeps held; text_is = sym e; calm = refl }
+pub stands-first : (held : Option (List ℕ)) (now : ℕ) (formula waits : List ℕ) (v : NodesView)
+    → waits ≡ lines_text (title ∷ formula ∷ []) → Stands held held now now formula waits v v
+stands-first held now formula waits v e = record { body = []; next = refl; of_nodes = All-nil IsOfNode; written = []; grown = keeps held; text_is = sym e; calm = refl }
 
 next-more : (v : NodesView) (ls : List Line) (mid : NodesView) (l : Line) (after : NodesView) → AreNext v ls mid → IsNext mid l after → AreNext v (ls ++ l ∷ []) after
 next-more v [] mid l after h next = (after, subst (λ (x : NodesView). IsNext x l after) h next, refl)
@@ -91,11 +87,11 @@ next-more v (k ∷ ls) mid l after h next = (h.0, h.1, next-more h.0 ls mid l af
 all-more : (ls : List Line) (l : Line) → All IsOfNode ls → IsOfNode l → All IsOfNode (ls ++ l ∷ [])
 all-more ls l h of_node = All-append IsOfNode ls (l ∷ []) h (All-cons IsOfNode l [] of_node (All-nil IsOfNode))
 
-pub stands-more : (held held' : Option (List ℕ)) (before now : ℕ) (seen : Observed) (ds : List (List Piece)) (formula waits more : List ℕ) (mid after : NodesView) (l : Line)
-    → Stands held held' before now seen ds formula waits mid → IsNext mid l after → IsOfNode l → more ≡ waits ++ lines_text (line_text l ∷ []) → Stands held held' before now seen ds formula more after
-stands-more held held' before now seen ds formula waits more mid after l h next of_node e = record {
+pub stands-more : (held held' : Option (List ℕ)) (before now : ℕ) (formula waits more : List ℕ) (v mid after : NodesView) (l : Line)
+    → Stands held held' before now formula waits v mid → IsNext mid l after → IsOfNode l → more ≡ waits ++ lines_text (line_text l ∷ []) → Stands held held' before now formula more v after
+stands-more held held' before now formula waits more v mid after l h next of_node e = record {
   body = h.body ++ l ∷ [];
-  next = next-more (nodes_of seen ds) h.body mid l after h.next next;
+  next = next-more v h.body mid l after h.next next;
   of_nodes = all-more h.body l h.of_nodes of_node;
   written = h.written;
   grown = h.grown;
@@ -104,9 +100,9 @@ stands-more held held' before now seen ds formula waits more mid after l h next 
   calm = h.calm;
 }
 
-pub stands-flushed : (held held' held'' : Option (List ℕ)) (before now now' : ℕ) (seen : Observed) (ds : List (List Piece)) (formula waits none : List ℕ) (mid : NodesView)
-    → Stands held held' before now seen ds formula waits mid → Appends held' held'' waits → now' ≡ now → none ≡ [] → Stands held held'' before now' seen ds formula none mid
-stands-flushed held held' held'' before now now' seen ds formula waits none mid h grown calm e = record {
+pub stands-flushed : (held held' held'' : Option (List ℕ)) (before now now' : ℕ) (formula waits none : List ℕ) (v mid : NodesView)
+    → Stands held held' before now formula waits v mid → Appends held' held'' waits → now' ≡ now → none ≡ [] → Stands held held'' before now' formula none v mid
+stands-flushed held held' held'' before now now' formula waits none v mid h grown calm e = record {
   body = h.body;
   next = h.next;
   of_nodes = h.of_nodes;
@@ -122,11 +118,11 @@ rose-later : (before mid now : ℕ) → mid ≡ before → Rose mid now → Rose
 rose-later before mid now same rose = subst (λ (n : ℕ). Rose n now) same rose
 
 -- a front of what waited was written
-pub stands-front : (held held' held'' : Option (List ℕ)) (before now : ℕ) (seen : Observed) (ds : List (List Piece)) (formula waits : List ℕ) (mid : NodesView)
-    → Stands held held' before now seen ds formula waits mid → AppendsPrefix held' held'' waits → HasFront held held'' seen ds formula
-stands-front held held' held'' before now seen ds formula waits mid h part = record {
+stands-front : (held held' held'' : Option (List ℕ)) (before now : ℕ) (formula waits : List ℕ) (v mid : NodesView)
+    → Stands held held' before now formula waits v mid → AppendsPrefix held' held'' waits → WroteFront held held'' formula v
+stands-front held held' held'' before now formula waits v mid h part = record {
   part = h.written ++ part.0;
-  front = front-of-body seen ds formula h.body mid h.next h.of_nodes (h.written ++ part.0) part.1.0
+  front = front-of-body formula v h.body mid h.next h.of_nodes (h.written ++ part.0) part.1.0
       (h.text_is ∙ ap (λ (t : List ℕ). h.written ++ t) part.1.1 ∙ sym (append_assoc h.written part.0 part.1.0));
   written = Appends-trans held held' held'' h.written part.0 h.grown part.2;
 }
@@ -135,20 +131,20 @@ nothing-more : (held : Option (List ℕ)) (waits : List ℕ) → AppendsPrefix h
 nothing-more held waits = ([], (waits, refl), keeps held)
 
 -- nothing more was
-pub stands-memory : (held held' : Option (List ℕ)) (before now : ℕ) (seen : Observed) (ds : List (List Piece)) (formula waits : List ℕ) (mid : NodesView)
-    → Stands held held' before now seen ds formula waits mid → HasFront held held' seen ds formula
-stands-memory held held' before now seen ds formula waits mid h = stands-front held held' held' before now seen ds formula waits mid h (nothing-more held' waits)
+pub stands-memory : (held held' : Option (List ℕ)) (before now : ℕ) (formula waits : List ℕ) (v mid : NodesView)
+    → Stands held held' before now formula waits v mid → WroteFront held held' formula v
+stands-memory held held' before now formula waits v mid h = stands-front held held' held' before now formula waits v mid h (nothing-more held' waits)
 
 -- nothing was written at all
-pub nothing-written : (held : Option (List ℕ)) (seen : Observed) (ds : List (List Piece)) (formula : List ℕ) → HasFront held held seen ds formula
-nothing-written held seen ds formula = record { part = []; front = λ text told is. (text, refl); written = keeps held }
+pub nothing_written : (held : Option (List ℕ)) (formula : List ℕ) (v : NodesView) → WroteFront held held formula v
+nothing_written held formula v = record { part = []; front = λ lines told nodes whole. (text_of formula lines, refl); written = keeps held }
 
-pub stands-cut : (held held' held'' : Option (List ℕ)) (before now now' : ℕ) (seen : Observed) (ds : List (List Piece)) (formula waits : List ℕ) (mid : NodesView)
-    → Stands held held' before now seen ds formula waits mid → AppendsPrefix held' held'' waits → now ≤ now' → Rose now now' → IsCut held held'' before now' seen ds formula
-stands-cut held held' held'' before now now' seen ds formula waits mid h part later rose = record {
+pub stands-cut : (held held' held'' : Option (List ℕ)) (before now now' : ℕ) (formula waits : List ℕ) (v mid : NodesView)
+    → Stands held held' before now formula waits v mid → AppendsPrefix held' held'' waits → now ≤ now' → Rose now now' → WroteUntil held held'' before now' formula v
+stands-cut held held' held'' before now now' formula waits v mid h part later rose = record {
   later = omega (arith, later, h.calm);
   rose = rose-later before now now' h.calm rose;
-  part = stands-front held held' held'' before now seen ds formula waits mid h part;
+  part = stands-front held held' held'' before now formula waits v mid h part;
 }
 
 -- the lines, and the verdict's behind them
@@ -160,7 +156,7 @@ whole-here v body mid after told next of_nodes verdict = record { body = body; o
 
 -- what was written, and what waits, is the whole text
 whole-text : (formula : List ℕ) (body : List Line) (told : Bool) (written waits more last : List ℕ) → text_so_far formula body ≡ written ++ waits
-    → more ≡ waits ++ lines_text (line_text (Verdict told) ∷ []) → last ≡ more ++ lines_text (end_line ∷ []) → lines_text (certificate_lines formula (all_lines body told)) ≡ written ++ last
+    → more ≡ waits ++ lines_text (line_text (Verdict told) ∷ []) → last ≡ more ++ lines_text (end_line ∷ []) → text_of formula (all_lines body told) ≡ written ++ last
 whole-text formula body told written waits more last h e f =
     let said = lines_text (line_text (Verdict told) ∷ []) in
     let end = lines_text (end_line ∷ []) in
@@ -168,28 +164,23 @@ whole-text formula body told written waits more last h e f =
     ∙ ap (λ (t : List ℕ). (written ++ waits) ++ t) (lines_text-append (line_text (Verdict told) ∷ []) (end_line ∷ []))
     ∙ append_assoc written waits (said ++ end) ∙ ap (λ (t : List ℕ). written ++ t) (sym (append_assoc waits said end) ∙ ap (λ (t : List ℕ). t ++ end) (sym e) ∙ sym f)
 
-pub ended-is : (held held' held'' : Option (List ℕ)) (before now now' : ℕ) (seen : Observed) (ds : List (List Piece)) (formula waits more last : List ℕ) (mid after : NodesView) (told : Bool) (r : Result Bool Failed)
-    → AreNodes (nodes_of seen ds) → Stands held held' before now seen ds formula waits mid → IsNext mid (Verdict told) after → more ≡ waits ++ lines_text (line_text (Verdict told) ∷ [])
+pub ended-is : (held held' held'' : Option (List ℕ)) (before now now' : ℕ) (formula waits more last : List ℕ) (v mid after : NodesView) (told : Bool) (r : Result Bool Failed)
+    → Stands held held' before now formula waits v mid → IsNext mid (Verdict told) after → more ≡ waits ++ lines_text (line_text (Verdict told) ∷ [])
     → last ≡ more ++ lines_text (end_line ∷ []) → IfOk r (λ truth. truth ≡ told) → OnOk r (Appends held' held'' last) → OnOk r (now' ≡ now) → OnErr r (AppendsPrefix held' held'' last)
-    → HasCause now now' r → IsCertifying r held held'' before now' seen ds formula
-ended-is held held' held'' before now now' seen ds formula waits more last mid after told (Ok truth) nodes h verdict e f same whole calm part cause =
-    subst (λ (b : Bool). IsCertified held held'' before now' seen ds formula b) (sym same) (record {
-      text = h.written ++ last;
-      certificate = record {
-        nodes = nodes;
-        lines = all_lines h.body told;
-        whole = whole-here (nodes_of seen ds) h.body mid after told h.next h.of_nodes verdict;
-        text_is = sym (whole-text formula h.body told h.written waits more last h.text_is e f);
-      };
-      written = Appends-trans held held' held'' h.written last h.grown whole;
+    → HasCause now now' r → IsWritten r held held'' before now' formula v
+ended-is held held' held'' before now now' formula waits more last v mid after told (Ok truth) h verdict e f same whole calm part cause =
+    subst (λ (b : Bool). WroteAll held held'' before now' formula v b) (sym same) (record {
+      lines = all_lines h.body told;
+      whole = whole-here v h.body mid after told h.next h.of_nodes verdict;
+      written = subst (λ (t : List ℕ). Appends held held'' t) (sym (whole-text formula h.body told h.written waits more last h.text_is e f)) (Appends-trans held held' held'' h.written last h.grown whole);
       calm = calm ∙ h.calm;
     })
-ended-is held held' held'' before now now' seen ds formula waits more last mid after told (Err failed) nodes h verdict e f same whole calm part cause = record {
+ended-is held held' held'' before now now' formula waits more last v mid after told (Err failed) h verdict e f same whole calm part cause = record {
   later = omega (arith, cause.later, h.calm);
   rose = rose-later before now now' h.calm cause.failed;
   part = record {
     part = h.written ++ part.0;
-    front = front-of-whole seen ds formula (all_lines h.body told) told (whole-here (nodes_of seen ds) h.body mid after told h.next h.of_nodes verdict) (h.written ++ part.0) part.1.0
+    front = front-of-whole formula v (all_lines h.body told) told (whole-here v h.body mid after told h.next h.of_nodes verdict) (h.written ++ part.0) part.1.0
         (whole-text formula h.body told h.written waits more last h.text_is e f ∙ ap (λ (t : List ℕ). h.written ++ t) part.1.1 ∙ sym (append_assoc h.written part.0 part.1.0));
     written = Appends-trans held held' held'' h.written part.0 h.grown part.2;
   };
@@ -200,3 +191,8 @@ is_of_node (Node number) h = tt
 is_of_node (Row row other) h = tt
 is_of_node (Raise k x) h = tt
 is_of_node (Verdict told) h = h told refl
+
+-- what holds anyway holds where a call fails
+pub on_err : {T E P : Type 0} → (r : Result T E) → P → OnErr r P
+on_err (Ok x) h = tt
+on_err (Err e) h = h
