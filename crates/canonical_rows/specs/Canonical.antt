@@ -41,11 +41,11 @@ abbrev pub from_target : BegunView → ℕ → ℕ
 from_target v k =
     length (numbers_from v.system.pulls (target_of v.system k) (length v.system.pulls))
 
--- what is looked up beside the doubts: nothing where no pull fails, and else the raise itself and
--- the pulls that it brings into doubt
+-- what is looked up beside the doubts: nothing where no pull fails, and else the pulls that the
+-- raise brings into doubt
 abbrev pub looks_beside : BegunView → Option Raise → ℕ
 looks_beside v None = 0
-looks_beside v (Some raise) = from_target v raise.pull + 1
+looks_beside v (Some raise) = from_target v raise.pull
 
 -- ---- how many steps are left
 

@@ -1,9 +1,9 @@
 //! The canonical raise of a row.
-ghost use Rattle.std.specs.Prelude.{◌≡◌, ◌+◌, ◌<◌, ◌≤◌, length, IfNone, IfSome};
+ghost use Rattle.std.specs.Prelude.{◌+◌, ◌<◌, ◌≤◌, length, IfNone, IfSome};
 ghost use Rattle.pull_system.specs.Climb.{marked};
 ghost use Rattle.certified_rows.specs.Begun.{LastIsClosed, with_raise};
 ghost use Rattle.canonical_rows.specs.Canonical.{AreDoubts, IsFirstFailing, from_target};
-ghost use Rattle.canonical_rows.specs.Canonical.{left_of, looks_beside};
+ghost use Rattle.canonical_rows.specs.Canonical.{looks_beside};
 
 use crate::doubts::Doubts;
 use certified_rows::CertifiedRows;
@@ -17,28 +17,26 @@ pub struct Raise {
     pub value: u32,
 }
 
-/// Raises the present row by the first pull that fails there, or says that none does. It looks up
-/// the pulls in doubt alone, which come to those from the target of the raise.
+/// The raise of the present row by the first pull that fails there, or none where no pull does. It
+/// looks up the pulls in doubt alone; the row is left as it is, and the doubts are those behind the
+/// raise, which come to the pulls from its target.
 pub fn next_raise<L: Ledger>(
-    rows: &mut CertifiedRows,
+    rows: &CertifiedRows,
     doubts: &mut Doubts,
     steps: &mut Steps<L>,
 ) -> Option<Raise>
-    requires begun { 0 < rows.old.begun }
-    requires doubts { AreDoubts rows.old doubts.old }
-    ensures first { IfSome result (λ raise. IsFirstFailing rows.old raise.pull raise.value) }
+    requires begun { 0 < rows.now.begun }
+    requires doubts { AreDoubts rows.now doubts.old }
+    ensures first { IfSome result (λ raise. IsFirstFailing rows.now raise.pull raise.value) }
     ensures raised { IfSome result
-        (λ raise. rows.new ≡ with_raise rows.old raise.pull raise.value) }
-    ensures less { IfSome result (λ _. left_of rows.new < left_of rows.old) }
-    ensures closed { IfNone result (LastIsClosed rows.old) }
-    ensures same { IfNone result (rows.new ≡ rows.old) }
-    ensures doubts { AreDoubts rows.new doubts.new }
+        (λ raise. AreDoubts (with_raise rows.now raise.pull raise.value) doubts.new) }
+    ensures closed { IfNone result (LastIsClosed rows.now) }
+    ensures same { IfNone result (AreDoubts rows.now doubts.new) }
     ensures looks { steps.new + marked doubts.new
-        ≤ steps.old + marked doubts.old + looks_beside rows.old result }
+        ≤ steps.old + marked doubts.old + looks_beside rows.now result }
 {
     let raise = first_failing(rows, doubts, steps)?;
     let (_, target) = rows.system().ends(raise.pull);
-    rows.raise(raise.pull, raise.value, steps);
     doubts.remove(raise.pull);
     doubts.add(rows.system().pulls_from(target));
     Some(raise)

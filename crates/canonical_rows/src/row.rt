@@ -1,29 +1,23 @@
 //! The canonical begin of a row.
-ghost use Rattle.std.specs.Prelude.{◌≡◌, ◌<◌, ◌≤◌, length, sum};
+ghost use Rattle.std.specs.Prelude.{◌≡◌, ◌≤◌, length, sum};
 ghost use Rattle.pull_system.specs.Climb.{marked};
-ghost use Rattle.certified_rows.specs.Begun.{LastIsClosed, with_row};
-ghost use Rattle.canonical_rows.specs.Canonical.{AreDoubts, after_of, left_of};
+ghost use Rattle.certified_rows.specs.Begun.{with_row};
+ghost use Rattle.canonical_rows.specs.Canonical.{AreDoubts, after_of};
 
 use crate::doubts::Doubts;
 use certified_rows::CertifiedRows;
 
-/// Begins the next row, where the present one is closed, and says behind which other row it begins.
-/// All pulls are in doubt again. It looks up no pull.
-pub fn next_row(rows: &mut CertifiedRows, doubts: &mut Doubts) -> Option<u32>
-    requires more { rows.old.begun ≤ sum rows.old.system.lens }
-    requires settled { LastIsClosed rows.old }
-    requires doubts { length doubts.old ≡ length rows.old.system.pulls }
-    ensures after { result ≡ after_of rows.old.system.lens rows.old.begun }
-    ensures begun { rows.new ≡ with_row rows.old rows.old.begun result }
-    ensures less { left_of rows.new < left_of rows.old }
-    ensures doubts { AreDoubts rows.new doubts.new }
-    ensures marked { marked doubts.new ≤ length rows.old.system.pulls }
+/// The row that the next one begins behind. All pulls are in doubt again, as they are behind its
+/// begin.
+pub fn next_row(rows: &CertifiedRows, doubts: &mut Doubts) -> Option<u32>
+    requires more { rows.now.begun ≤ sum rows.now.system.lens }
+    requires doubts { length doubts.old ≡ length rows.now.system.pulls }
+    ensures after { result ≡ after_of rows.now.system.lens rows.now.begun }
+    ensures begun { AreDoubts (with_row rows.now rows.now.begun result) doubts.new }
+    ensures marked { marked doubts.new ≤ length rows.now.system.pulls }
 {
-    let row = rows.begun();
-    let after = row_before(rows, row);
-    rows.begin_next(row, after);
     doubts.reset();
-    after
+    row_before(rows, rows.begun())
 }
 
 /// The row that this one begins behind.

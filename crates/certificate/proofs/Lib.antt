@@ -2,7 +2,7 @@ mod Standing
 mod Meaning
 mod Disjuncts
 mod Fitting
-mod OneSlice
+pub mod OneSlice
 mod Parts
 mod Steps
 mod Runs

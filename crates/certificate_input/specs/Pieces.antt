@@ -1,7 +1,7 @@
 -- The bytes of a certificate, piece by piece: where they lead as far as no line of them is refused,
 -- and the refusal that no byte behind them changes.
-use Rattle.std.specs.Prelude.{◌≡◌, ◌⊎◌, ℕ, ◌+◌, ◌^◌, ◌<◌, ◌≤◌, ◌==◌, Bool, List, [], ◌∷◌, ◌++◌, length}
-use Rattle.std.specs.Prelude.{Option, None, Some}
+use Rattle.std.specs.Prelude.{◌≡◌, ◌⊎◌, ℕ, ◌+◌, ◌^◌, ◌<◌, ◌≤◌, ◌==◌, Bool, List, [], ◌∷◌, ◌++◌}
+use Rattle.std.specs.Prelude.{length, Option, None, Some}
 use Rattle.certificate_lines.specs.declared.line.Line.{Line}
 use Rattle.certificate_text.specs.declared.said.Stage.{Stage}
 use Rattle.certificate_text.specs.declared.said.Stage.TheVariants as stage

@@ -15,8 +15,8 @@ pub record IsFresh {N : Type 0} (v : VerifierView N) : Type 0 where
   pub due : v.stage ≡ stage.Title
   pub none : v.lines ≡ 0
 
--- What is told of these bytes, behind a line's bytes so far: the input has ended there, and they are
--- accepted or refused; or a line of them is refused; or none is, and a read failed.
+-- What is told of these bytes, behind the bytes of a line so far: the input has ended there, and
+-- they are accepted or refused; or a line of them is refused; or none is, and a read failed.
 abbrev pub IsTold : {N : Type 0} → (N → Line → N → Type 0) → Option (List ℕ) → ℕ → ℕ
     → VerifierView N → List ℕ → List ℕ → Told → Type 0
 IsTold follows left faults faults' v line bytes (told.Accepted truth) =

@@ -53,7 +53,8 @@ fn read_on<N: Takes, S: Source, L: Ledger>(
     requires room { 0 < length room.old }
     requires ready { IsReady input.old }
     ensures tells { IfOk result (λ told. TellsBehind N.follows (S.left source.old)
-        (S.left source.new) (S.faults source.old) (S.faults source.new) input.old.text input.old.line [] told) }
+        (S.left source.new) (S.faults source.old) (S.faults source.new) input.old.text
+        input.old.line [] told) }
     ensures short { OnErr result (ReadsShort (S.left source.old) (S.left source.new)
         (S.faults source.old) (S.faults source.new)) }
 {

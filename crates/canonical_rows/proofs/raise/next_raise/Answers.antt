@@ -5,48 +5,39 @@ use Rattle.pull_system.specs.Climb.{marked}
 use Rattle.pull_system.specs.System.{SystemView, source_of, target_of, numbers_from}
 use Rattle.pull_system.proofs.Climbing.{set_case}
 use Rattle.pull_system.proofs.Numbers.{numbers_from-is, numbers_from-has}
-use Rattle.certified_rows.specs.Begun.{BegunView, with_raise}
-use Rattle.canonical_rows.specs.Canonical.{AreDoubts, left_of}
-use Rattle.canonical_rows.proofs.Ending.{raise_leaves}
+use Rattle.certified_rows.specs.Begun.{BegunView}
 use Rattle.canonical_rows.proofs.Doubting.{doubts_raised, first_doubted, marked_less}
-use Rattle.canonical_rows.proofs.Following.{raise_follows}
 use Rattle.canonical_rows.proofs.raise.next_raise.Goals as goal
 
 pub add-requires : goal.add-requires
 add-requires g c =
     let v : BegunView = c.args.rows.now in
     let k = c.in_ok-raise.raise.pull in
-    let raised : c.raise.new.self ≡ with_raise v k c.in_ok-raise.raise.value =
-    c.raise.ensures.raised (c.raise.ensures.allowed.1 (raise_follows v k c.in_ok-raise.raise.value c.requires.begun c.in_ok-raise.ensures.first)) in
-    let system : c.system-2.result.now ≡ v.system = c.system-2.ensures.system ∙ ap (λ (u : BegunView). u.system) raised in
     let target : c.ends-target.result.1 ≡ target_of v.system k = c.ends-target.ensures.target ∙ ap (λ (s : SystemView). target_of s k) c.system.ensures.system in
     let numbers : c.pulls_from.result.now ≡ numbers_from v.system.pulls (target_of v.system k) (length v.system.pulls) =
-    c.pulls_from.ensures ∙ ap (λ (s : SystemView). numbers_from s.pulls c.ends-target.result.1 (length s.pulls)) system ∙ ap (λ (p : ℕ). numbers_from v.system.pulls p (length v.system.pulls)) target in
+    c.pulls_from.ensures ∙ ap (λ (s : SystemView). numbers_from s.pulls c.ends-target.result.1 (length s.pulls)) c.system-2.ensures.system ∙ ap (λ (p : ℕ). numbers_from v.system.pulls p (length v.system.pulls)) target in
     λ i there.
     let is = numbers_from-is v.system.pulls (target_of v.system k) (length v.system.pulls) i (subst (λ (ns : List ℕ). i < length ns) numbers there) in
     let size : length c.remove.new.self ≡ length v.system.pulls = ap (λ (ds : List Bool). length ds) c.remove.ensures ∙ length-set c.first_failing.new.doubts k false ∙ c.first_failing.ensures.doubts.count in
     omega (arith, is.below, size, ap (λ (ns : List ℕ). get_or ns i 0) numbers)
 
-pub returns-clause-doubts : goal.returns-clause-doubts
-returns-clause-doubts g c =
+pub returns-clause-raised : goal.returns-clause-raised
+returns-clause-raised g c =
     let v : BegunView = c.args.rows.now in
     let k = c.in_ok-raise.raise.pull in
     let x = c.in_ok-raise.raise.value in
     let first = c.in_ok-raise.ensures.first in
     let doubts = c.first_failing.new.doubts in
-    let raised : c.raise.new.self ≡ with_raise v k x = c.raise.ensures.raised (c.raise.ensures.allowed.1 (raise_follows v k x c.requires.begun first)) in
-    let system : c.system-2.result.now ≡ v.system = c.system-2.ensures.system ∙ ap (λ (u : BegunView). u.system) raised in
     let target : c.ends-target.result.1 ≡ target_of v.system k = c.ends-target.ensures.target ∙ ap (λ (s : SystemView). target_of s k) c.system.ensures.system in
     let numbers : c.pulls_from.result.now ≡ numbers_from v.system.pulls (target_of v.system k) (length v.system.pulls) =
-    c.pulls_from.ensures ∙ ap (λ (s : SystemView). numbers_from s.pulls c.ends-target.result.1 (length s.pulls)) system ∙ ap (λ (p : ℕ). numbers_from v.system.pulls p (length v.system.pulls)) target in
+    c.pulls_from.ensures ∙ ap (λ (s : SystemView). numbers_from s.pulls c.ends-target.result.1 (length s.pulls)) c.system-2.ensures.system ∙ ap (λ (p : ℕ). numbers_from v.system.pulls p (length v.system.pulls)) target in
     let apart : (j : ℕ) → j < length v.system.pulls → get_or c.add.new.self j true ≡ false → source_of v.system j ≢ target_of v.system k =
     λ j there off same.
     let at = numbers_from-has v.system.pulls (target_of v.system k) (length v.system.pulls) j there same in
     let on = c.add.ensures.added at.index (subst (λ (ns : List ℕ). at.index < length ns) (sym numbers) at.there) in
     let here : get_or c.pulls_from.result.now at.index 0 ≡ j = ap (λ (ns : List ℕ). get_or ns at.index 0) numbers ∙ at.is in
     false≢true (sym off ∙ subst (λ (n : ℕ). get_or c.add.new.self n true ≡ true) here on) in
-    subst (λ (u : BegunView). AreDoubts u c.add.new.self) (sym raised)
-    (doubts_raised v c.system.ensures.certified c.requires.begun k x first doubts c.add.new.self c.first_failing.ensures.doubts
+    doubts_raised v c.system.ensures.certified c.requires.begun k x first doubts c.add.new.self c.first_failing.ensures.doubts
     (c.add.ensures.count ∙ ap (λ (ds : List Bool). length ds) c.remove.ensures ∙ length-set doubts k false)
     (λ j there off. (
       apart j there off,
@@ -54,7 +45,7 @@ returns-clause-doubts g c =
         | inl e ↦ inr (sym e ∙ subst (λ (ds : List Bool). get_or ds j true ≡ false) c.remove.ensures (c.add.ensures.kept j off))
         | inr e ↦ inl e.0
       ],
-    )))
+    ))
 
 pub returns-clause-looks : goal.returns-clause-looks
 returns-clause-looks g c =
@@ -63,21 +54,10 @@ returns-clause-looks g c =
     let x = c.in_ok-raise.raise.value in
     let first = c.in_ok-raise.ensures.first in
     let doubts = c.first_failing.new.doubts in
-    let raised : c.raise.new.self ≡ with_raise v k x = c.raise.ensures.raised (c.raise.ensures.allowed.1 (raise_follows v k x c.requires.begun first)) in
-    let system : c.system-2.result.now ≡ v.system = c.system-2.ensures.system ∙ ap (λ (u : BegunView). u.system) raised in
     let target : c.ends-target.result.1 ≡ target_of v.system k = c.ends-target.ensures.target ∙ ap (λ (s : SystemView). target_of s k) c.system.ensures.system in
     let numbers : c.pulls_from.result.now ≡ numbers_from v.system.pulls (target_of v.system k) (length v.system.pulls) =
-    c.pulls_from.ensures ∙ ap (λ (s : SystemView). numbers_from s.pulls c.ends-target.result.1 (length s.pulls)) system ∙ ap (λ (p : ℕ). numbers_from v.system.pulls p (length v.system.pulls)) target in
+    c.pulls_from.ensures ∙ ap (λ (s : SystemView). numbers_from s.pulls c.ends-target.result.1 (length s.pulls)) c.system-2.ensures.system ∙ ap (λ (p : ℕ). numbers_from v.system.pulls p (length v.system.pulls)) target in
     let on = first_doubted v c.system.ensures.certified k x first doubts c.first_failing.ensures.doubts in
     let less = marked_less doubts k (omega (arith, first.pull, c.first_failing.ensures.doubts.count)) on in
     let same : marked c.remove.new.self ≡ marked (set doubts k false) = ap (λ (ds : List Bool). marked ds) c.remove.ensures in
-    omega (arith, c.raise.ensures.looks, c.add.ensures.marked, less, same, c.in_ok-raise.ensures.looks, ap (λ (ns : List ℕ). length ns) numbers)
-
-pub returns-clause-less : goal.returns-clause-less
-returns-clause-less g c =
-    let v : BegunView = c.args.rows.now in
-    let k = c.in_ok-raise.raise.pull in
-    let x = c.in_ok-raise.raise.value in
-    let may = raise_follows v k x c.requires.begun c.in_ok-raise.ensures.first in
-    let raised : c.raise.new.self ≡ with_raise v k x = c.raise.ensures.raised (c.raise.ensures.allowed.1 may) in
-    subst (λ (u : BegunView). left_of u < left_of v) (sym raised) (raise_leaves v c.system.ensures.certified k x may)
+    omega (arith, c.add.ensures.marked, less, same, c.in_ok-raise.ensures.looks, ap (λ (ns : List ℕ). length ns) numbers)

@@ -1,0 +1,3 @@
+mod Keeping
+pub mod Following
+pub mod OneText

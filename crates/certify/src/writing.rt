@@ -1,0 +1,135 @@
+//! The writing of a certificate.
+ghost use Rattle.std.specs.Prelude.{◌≡◌, ◌<◌, ◌≤◌, ◌++◌, ◌∷◌, [], IfOk, OnErr, OnOk};
+ghost use Rattle.std.specs.Io.KnownBytes.{Appends};
+ghost use Rattle.pota_base.specs.Outside.{AppendsPrefix, HasCause};
+ghost use Rattle.rctl_parts.specs.Pieces.{disjuncts_of};
+ghost use Rattle.rctl_parts.specs.MadeFor.{AllFit, disjuncts_count};
+ghost use Rattle.part_pulls.specs.Observing.{IsReady, scope_seen};
+ghost use Rattle.part_pulls.specs.Counters.{CountersRise};
+ghost use Rattle.certificate_lines.specs.Spelling.{line_text, lines_text};
+ghost use Rattle.certificate_text.specs.Running.{IsOfNode};
+ghost use Rattle.canonical_text.specs.Canonical.{IsNext};
+ghost use Rattle.canonical_nodes.specs.Coming.{lines_left};
+ghost use Rattle.certify.specs.Certifying.{HasFront, IsCertifying};
+
+use canonical_nodes::CanonicalNodes;
+use certificate::nodes_for;
+use certificate_lines::{Line, put_end, put_head, put_line};
+use part_pulls::Observed;
+use pota_base::{Bytes, Failed, List, NoMemory, Sink, Steps, write_all};
+use rctl_parts::Part;
+use std::alloc::Global;
+use std::marker::Brand;
+use std::sync::ledger::{Blank, Ledger};
+
+/// So many bytes wait before they are written.
+const WAITING: usize = 65536;
+
+/// Writes the canonical certificate of the formula of these disjuncts on what was observed, and
+/// gives the verdict that it tells. `formula` is the formula's line, without its line feed. At
+/// `Ok(Err(failed))` a write failed.
+///
+/// # Errors
+///
+/// `NoMemory`.
+pub fn certify<O: Sink>(
+    alloc: Global,
+    seen: Observed,
+    disjuncts: &[List<Part>],
+    formula: &[u8],
+    out: &mut O,
+) -> Result<Result<bool, Failed>, NoMemory>
+    requires ready { IsReady seen }
+    requires fits { AllFit (scope_seen seen) (disjuncts_of disjuncts.now) }
+    requires counters { CountersRise seen (disjuncts_of disjuncts.now) }
+    requires count { disjuncts_count (disjuncts_of disjuncts.now) ≤ 128 }
+    ensures certified { IfOk result (λ ended. IsCertifying ended (O.held out.old) (O.held out.new)
+        (O.faults out.old) (O.faults out.new) seen (disjuncts_of disjuncts.now) formula.now) }
+    ensures memory { OnErr result (HasFront (O.held out.old) (O.held out.new) seen
+        (disjuncts_of disjuncts.now) formula.now) }
+    ensures calm { OnErr result (O.faults out.new ≡ O.faults out.old) }
+{
+    certify_counted::<O, Brand>(Blank::new(1), alloc, seen, disjuncts, formula, out)
+}
+
+/// The same, with look-ups counted on a counter that nobody reads.
+fn certify_counted<O: Sink, L: Ledger>(
+    blank: Blank,
+    alloc: Global,
+    seen: Observed,
+    disjuncts: &[List<Part>],
+    formula: &[u8],
+    out: &mut O,
+) -> Result<Result<bool, Failed>, NoMemory>
+    requires name { blank.name ≡ L.name }
+    requires parts { blank.parts ≡ L.parts }
+    requires some { 0 < blank.parts }
+    requires ready { IsReady seen }
+    requires fits { AllFit (scope_seen seen) (disjuncts_of disjuncts.now) }
+    requires counters { CountersRise seen (disjuncts_of disjuncts.now) }
+    requires count { disjuncts_count (disjuncts_of disjuncts.now) ≤ 128 }
+    ensures certified { IfOk result (λ ended. IsCertifying ended (O.held out.old) (O.held out.new)
+        (O.faults out.old) (O.faults out.new) seen (disjuncts_of disjuncts.now) formula.now) }
+    ensures memory { OnErr result (HasFront (O.held out.old) (O.held out.new) seen
+        (disjuncts_of disjuncts.now) formula.now) }
+    ensures calm { OnErr result (O.faults out.new ≡ O.faults out.old) }
+{
+    let mut steps = Steps::<L>::new(blank);
+    let mut nodes = CanonicalNodes::new(alloc, nodes_for(alloc, seen, disjuncts)?);
+    let mut text = Bytes::new(alloc);
+    put_head(&mut text, formula)?;
+    'lines: loop {
+        let line = put_next(&mut nodes, &mut text, &mut steps)?;
+        if let Line::Verdict(told) = line {
+            put_end(&mut text)?;
+            return Ok(finish(out, text.as_slice(), told));
+        }
+        if text.len() >= WAITING {
+            match flush(alloc, out, &mut text) {
+                Ok(()) => {}
+                Err(failed) => return Ok(Err(failed)),
+            }
+        }
+    }
+}
+
+/// Puts the next line behind the text, and gives it.
+fn put_next<L: Ledger>(
+    nodes: &mut CanonicalNodes,
+    text: &mut Bytes,
+    steps: &mut Steps<L>,
+) -> Result<Line, NoMemory>
+    ensures next { IfOk result (λ line. IsNext nodes.old line nodes.new) }
+    ensures less { IfOk result
+        (λ line. IsOfNode line → lines_left nodes.new < lines_left nodes.old) }
+    ensures text { IfOk result (λ line. text.new ≡ text.old ++ lines_text (line_text line ∷ [])) }
+{
+    let line = nodes.next_line(steps)?;
+    put_line(text, line)?;
+    Ok(line)
+}
+
+/// Writes all that waits.
+fn flush<O: Sink>(alloc: Global, out: &mut O, text: &mut Bytes) -> Result<(), Failed>
+    ensures whole { OnOk result (Appends (O.held out.old) (O.held out.new) text.old) }
+    ensures none { OnOk result (text.new ≡ []) }
+    ensures calm { OnOk result (O.faults out.new ≡ O.faults out.old) }
+    ensures part { OnErr result (AppendsPrefix (O.held out.old) (O.held out.new) text.old) }
+    ensures cause { HasCause (O.faults out.old) (O.faults out.new) result }
+{
+    write_all(out, text.as_slice())?;
+    *text = Bytes::new(alloc);
+    Ok(())
+}
+
+/// Writes what is left, and gives the verdict.
+fn finish<O: Sink>(out: &mut O, text: &[u8], told: bool) -> Result<bool, Failed>
+    ensures same { IfOk result (λ truth. truth ≡ told) }
+    ensures whole { OnOk result (Appends (O.held out.old) (O.held out.new) text.now) }
+    ensures calm { OnOk result (O.faults out.new ≡ O.faults out.old) }
+    ensures part { OnErr result (AppendsPrefix (O.held out.old) (O.held out.new) text.now) }
+    ensures cause { HasCause (O.faults out.old) (O.faults out.new) result }
+{
+    write_all(out, text)?;
+    Ok(told)
+}
