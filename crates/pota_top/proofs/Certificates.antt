@@ -178,6 +178,7 @@ module _ {X : Type 0} {P : X → Type 0} (says : Says X P) (s : Stated) (check :
     }
 
     stops : (f : StopCause) (n : ℕ) (text : List ℕ) → CertifyStops f n of_now of' t check.batches log_there text → CertifyStopsBy f n left' lf lf' of of' aim t h.read text
+    unfolding has_front
     stops (causes.Refused r) n text k = absurd k
     stops causes.Read n text k = absurd k
     stops causes.Write n text k = (
@@ -219,6 +220,7 @@ module _ {X : Type 0} {P : X → Type 0} (says : Says X P) (s : Stated) (check :
   pub certified_log : {T : Type 0} (x : T) (each : Bool) → each ≡ false → HasReadLog {T = T} left left' held now lf lf' of of_now says aim each check (Ok x) → (result : Result Verdict Stop)
       → ((j : Judgement) (log : Prefix) → IsCheckOf says aim check j → HasClosed j log → Certifies now held' of_now of' t check.batches log result)
       → HasCertified left left' held held' lf lf' of of' aim t result
+  unfolding there
   certified_log {T} x each none h result makes =
       let k = subst (λ (e : Bool). HasReadLog {T = T} left left' held now lf lf' of of_now says aim e check (Ok x)) none h in
       let w = there x k in
