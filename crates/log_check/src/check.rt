@@ -286,7 +286,9 @@ impl LogCheck {
         ensures rise { CountersRise result.seen (disjuncts_of result.disjuncts) }
     {
         let LogCheck {
-            stated, session, ..
+            stated,
+            session,
+            ..
         } = self;
         let Some(session) = session else {
             unreachable!()
