@@ -6,6 +6,7 @@ use Rattle.std.specs.Io.KnownBytes.{IsAtEnd}
 use Rattle.std.proofs.KnownBytes.{Appends-nil, Appends-trans}
 use Rattle.std.proofs.lemmas.Option.{none-some}
 use Rattle.pota_base.specs.Outside.{Rose}
+use Rattle.pota_base.specs.declared.fault.Failed.{Failed}
 use Rattle.pota_base.specs.declared.status.Status.TheVariants as status
 use Rattle.event_log.specs.declared.item.LogFault.{LogFault}
 use Rattle.rctl_grammar.specs.declared.tree.Tree.{Tree}
@@ -41,14 +42,15 @@ use Rattle.fault_line.specs.Faults.{status_of, fault_of_refusal}
 use Rattle.run_promise.specs.declared.outcome.Outcome.{Outcome}
 use Rattle.run_promise.specs.Asking.{Handing, Writes, certifying, reading_of, due_of}
 use Rattle.certificate_lines.specs.Spelling.{formula_line}
-use Rattle.certify.specs.Certifying.{IsCertificateOf, IsFrontOfCertificate, IsCertified, HasFront, IsCut}
+use Rattle.certify.specs.Certifying.{IsCertificateOf, IsFrontOfCertificate, HasFront, IsCertifying}
+use Rattle.rctl_parts.specs.declared.part.Part.{Part}
 use Rattle.part_pulls.specs.declared.observed.Observed.{Observed}
 use Rattle.run_promise.specs.Certificates.{IsTrueAtStart, no_watches, disjuncts_on, line_of, IsCertificateText, IsCertificateFront}
 use Rattle.run_promise.specs.Run.{AllTell, IsTold, HasVerdict, IsRefused, HasPart, HasCertificateFront, AsksCertificate, Answer, Ran}
 use Rattle.run_promise.proofs.Clauses.{not_both}
 use Rattle.pota_top.specs.Outcome.{fault_of, faulty_outcome, outcome_of}
 use Rattle.pota_top.specs.Reading.{judgement_in, due_in, StopsAt, HasReadLog}
-use Rattle.pota_top.specs.Certifying.{aim_for, HoldsOn, IsLogSeen, CertifyStops, CertifiesTo, Certifies, HasFrontBy, CertifyStopsBy, IsCertifiedBy, CertifiesBy, HasCertified}
+use Rattle.pota_top.specs.Certifying.{aim_for, HoldsOn, IsLogSeen, verdict_of, PutsCertificate, CertifyStops, CertifiesTo, Certifies, HasFrontBy, CertifyStopsBy, IsCertifiedBy, CertifiesBy, HasCertified}
 use Rattle.pota_top.proofs.Endings.{whole_log, closed_log, whole_due, none_due}
 
 -- ---- the log as it was observed
@@ -63,16 +65,21 @@ seen_log s formula log checked is h = record {
   truth = h.truth;
 }
 
-module _ (t : Tree) (log : Prefix) (checked : CheckedLog) (sees : IsLogSeen t log checked) where
-  abbrev ds : List (List Piece)
-  ds = disjuncts_of checked.disjuncts
+-- the same stop, as what a call led to
+abbrev erring : Stop → Result Verdict Stop
+erring stop = Err stop
 
-  -- what is said of what was observed is said of the log
-  of_log : (Is : Observed → List (List Piece) → List ℕ → Type 0) (line : List ℕ) → line ≡ formula_line checked.stated.text → Is checked.seen ds line
-      → Is (observed_alone log) (disjuncts_on log t) (line_of t)
-  of_log Is line line_is h =
-      subst (λ (l : List ℕ). Is (observed_alone log) (disjuncts_on log t) l) (line_is ∙ ap formula_line sees.text)
-      (subst (λ (d : List (List Piece)). Is (observed_alone log) d line) sees.split (subst (λ (o : Observed). Is o ds line) sees.seen h))
+pub stopped : (a b : Stop) → a ≡ b → erring a ≡ erring b
+stopped a b same = ap erring same
+
+module _ (t : Tree) (log : Prefix) (checked : CheckedLog) (sees : IsLogSeen t log checked) where
+  module _ (parts : List (List Part)) (parts_are : parts ≡ checked.disjuncts) where
+    -- what is said of what was observed is said of the log
+    of_log : (Is : Observed → List (List Piece) → List ℕ → Type 0) (line : List ℕ) → line ≡ formula_line checked.stated.text → Is checked.seen (disjuncts_of parts) line
+        → Is (observed_alone log) (disjuncts_on log t) (line_of t)
+    of_log Is line line_is h =
+        subst (λ (l : List ℕ). Is (observed_alone log) (disjuncts_on log t) l) (line_is ∙ ap formula_line sees.text)
+        (subst (λ (d : List (List Piece)). Is (observed_alone log) d line) (ap disjuncts_of parts_are ∙ sees.split) (subst (λ (o : Observed). Is o (disjuncts_of parts) line) sees.seen h))
 
   -- nothing was written yet
   pub unwritten : (held : Option (List ℕ)) (of batches : ℕ) (stop : Stop) → stop ≡ record { batches = 0; cause = causes.Memory } → Certifies held held of of t batches log (Err stop)
@@ -83,33 +90,37 @@ module _ (t : Tree) (log : Prefix) (checked : CheckedLog) (sees : IsLogSeen t lo
     to = (record { front = λ text told h. (text, refl) }, refl);
   })
 
-  module _ (line : List ℕ) (line_is : line ≡ formula_line checked.stated.text) (held held' : Option (List ℕ)) (of of' batches : ℕ) where
-    front_of : (h : HasFront held held' checked.seen ds line) → IsCertificateFront t log h.part
-    front_of h = record { front = of_log (λ o d l. IsFrontOfCertificate o d l h.part) line line_is h.front }
+  module _ (parts : List (List Part)) (parts_are : parts ≡ checked.disjuncts) (line : List ℕ) (line_is : line ≡ formula_line checked.stated.text) (held held' : Option (List ℕ)) (of of' batches : ℕ) where
+    front_of : (h : HasFront held held' checked.seen (disjuncts_of parts) line) → IsCertificateFront t log h.part
+    front_of h = record { front = of_log parts parts_are (λ o d l. IsFrontOfCertificate o d l h.part) line line_is h.front }
 
-    pub cut : IsCut held held' of of' checked.seen ds line → Certifies held held' of of' t batches log (Err (record { batches = batches; cause = causes.Write }))
-    cut h = record { written = h.part.part; wrote = h.part.written; later = h.later; to = (front_of h.part, refl, h.rose) }
-
-    pub short : (stop : Stop) → stop ≡ record { batches = 0; cause = causes.Memory } → of' ≡ of → HasFront held held' checked.seen ds line → Certifies held held' of of' t batches log (Err stop)
-    short stop is calm h = subst (λ (x : Stop). Certifies held held' of of' t batches log (Err x)) (sym is) (record {
+    short : of' ≡ of → HasFront held held' checked.seen (disjuncts_of parts) line → Certifies held held' of of' t batches log (Err (record { batches = 0; cause = causes.Memory }))
+    short calm h = record {
       written = h.part;
       wrote = h.written;
       later = omega (arith, calm);
       to = (front_of h, refl);
-    })
+    }
 
-    pub whole : (told : Bool) → ((text : List ℕ) → IsCertificateOf checked.seen ds line text told → (told ≡ true) ↔ HoldsOn checked.seen ds)
-        → IsCertified held held' of of' checked.seen ds line told → Certifies held held' of of' t batches log (Ok (record { batches = batches; truth = told }))
-    whole told means h =
-        let holds = means h.text h.certificate in
+    abbrev Means : Type 0
+    Means = (text : List ℕ) (told : Bool) → IsCertificateOf checked.seen (disjuncts_of parts) line text told → (told ≡ true) ↔ HoldsOn checked.seen (disjuncts_of checked.disjuncts)
+
+    ended_so : Means → (ended : Result Bool Failed) → IsCertifying ended held held' of of' checked.seen (disjuncts_of parts) line → Certifies held held' of of' t batches log (verdict_of ended batches)
+    ended_so means (Ok told) h =
+        let holds = means h.text told h.certificate in
         let truth : (told ≡ true) ↔ IsTrueAtStart no_watches t log = (λ e. sees.truth.0 (holds.0 e), λ x. holds.1 (sees.truth.1 x)) in
         let calm = h.calm in
         record {
           written = h.text;
           wrote = h.written;
           later = omega (arith, calm);
-          to = (record { told = told; is = of_log (λ o d l. IsCertificateOf o d l h.text told) line line_is h.certificate; truth = truth }, truth, refl);
+          to = (record { told = told; is = of_log parts parts_are (λ o d l. IsCertificateOf o d l h.text told) line line_is h.certificate; truth = truth }, truth, refl);
         }
+    ended_so means (Err failed) h = record { written = h.part.part; wrote = h.part.written; later = h.later; to = (front_of h.part, refl, h.rose) }
+
+    pub written_so : Means → (result : Result Verdict Stop) → PutsCertificate held held' of of' checked.seen (disjuncts_of parts) line batches result → Certifies held held' of of' t batches log result
+    written_so means result (inl h) = subst (λ (x : Result Verdict Stop). Certifies held held' of of' t batches log x) (sym h.0) (short h.1 h.2)
+    written_so means result (inr h) = subst (λ (x : Result Verdict Stop). Certifies held held' of of' t batches log x) (sym h.1) (ended_so means h.0 h.2)
 
 -- ---- no text is due where a fault is
 
@@ -167,6 +178,7 @@ module _ {X : Type 0} {P : X → Type 0} (says : Says X P) (s : Stated) (check :
     }
 
     stops : (f : StopCause) (n : ℕ) (text : List ℕ) → CertifyStops f n of_now of' t check.batches log_there text → CertifyStopsBy f n left' lf lf' of of' aim t h.read text
+    unfolding has_front
     stops (causes.Refused r) n text k = absurd k
     stops causes.Read n text k = absurd k
     stops causes.Write n text k = (
@@ -177,17 +189,20 @@ module _ {X : Type 0} {P : X → Type 0} (says : Says X P) (s : Stated) (check :
     stops causes.Memory n text k = (inr (has_front text k.0), k.1)
 
     made : (result : Result Verdict Stop) (text : List ℕ) → CertifiesTo of_now of' t check.batches log_there text result → CertifiesBy left' lf lf' of of' aim t h.read text result
-    made (Ok v) text k = (h.to.0, record {
-      free = none_due says aim false check h.read h.written h.to.1;
-      log = log_there;
-      whole = whole_due says aim false check h.read h.written h.to.1;
-      certificate = k.0;
-      truth = k.1;
-      count = k.2 ∙ h.to.1.stands.check_is.batches;
-    })
+    made (Ok v) text k = (
+      h.to.0,
+      record {
+        free = none_due says aim false check h.read h.written h.to.1;
+        log = log_there;
+        whole = whole_due says aim false check h.read h.written h.to.1;
+        certificate = k.0;
+        truth = k.1;
+        count = k.2 ∙ h.to.1.stands.check_is.batches;
+      },
+    )
     made (Err stop) text k = stops stop.cause stop.batches text k
 
-    pub certified : (result : Result Verdict Stop) → Certifies now held' of_now of' t check.batches log_there result → HasCertified left left' held held' lf lf' of of' aim t result
+    certified : (result : Result Verdict Stop) → Certifies now held' of_now of' t check.batches log_there result → HasCertified left left' held held' lf lf' of of' aim t result
     certified result r = record {
       read = h.read;
       written = h.written ++ r.written;
@@ -199,8 +214,20 @@ module _ {X : Type 0} {P : X → Type 0} (says : Says X P) (s : Stated) (check :
           (sym (ap (λ (front : List ℕ). front ++ r.written) h.to.1.stands.texts)) (made result r.written r.to);
     }
 
-    pub whole_there : (j : Judgement) × IsCheckOf says aim check j × HasClosed j log_there
-    whole_there = (judgement_in aim h.read, h.to.1.stands.check_is, closed_log says aim false check h.read h.written h.to.1)
+    there : (j : Judgement) × (log : Prefix) × IsCheckOf says aim check j × HasClosed j log
+    there = (judgement_in aim h.read, log_there, h.to.1.stands.check_is, closed_log says aim false check h.read h.written h.to.1)
+
+  pub whole_there : {T : Type 0} (x : T) (each : Bool) → each ≡ false → HasReadLog {T = T} left left' held now lf lf' of of_now says aim each check (Ok x) → (j : Judgement) × (log : Prefix) × IsCheckOf says aim check j × HasClosed j log
+  whole_there {T} x each none h = there x (subst (λ (e : Bool). HasReadLog {T = T} left left' held now lf lf' of of_now says aim e check (Ok x)) none h)
+
+  pub certified_log : {T : Type 0} (x : T) (each : Bool) → each ≡ false → HasReadLog {T = T} left left' held now lf lf' of of_now says aim each check (Ok x) → (result : Result Verdict Stop)
+      → ((j : Judgement) (log : Prefix) → IsCheckOf says aim check j → HasClosed j log → Certifies now held' of_now of' t check.batches log result)
+      → HasCertified left left' held held' lf lf' of of' aim t result
+  unfolding there
+  certified_log {T} x each none h result makes =
+      let k = subst (λ (e : Bool). HasReadLog {T = T} left left' held now lf lf' of of_now says aim e check (Ok x)) none h in
+      let w = there x k in
+      certified x k result (makes w.0 w.1 w.2 w.3)
 
   -- nothing is written while the log is read
   read_stops : (f : StopCause) (n : ℕ) (bytes text : List ℕ) → StopsAt f n left' lf lf' of of_now aim false bytes text
@@ -211,9 +238,9 @@ module _ {X : Type 0} {P : X → Type 0} (says : Says X P) (s : Stated) (check :
   read_stops causes.Memory n bytes text k =
       (inl (subst (λ (ps : List Prefix). AreReportsFor aim ps text) (no_front k.front k.rest k.are) k.texts), k.count)
 
-  pub not_read : {T : Type 0} (stop : Stop) → HasReadLog {T = T} left left' held now lf lf' of of_now says aim false check (Err stop)
+  not_read_so : {T : Type 0} (stop : Stop) → HasReadLog {T = T} left left' held now lf lf' of of_now says aim false check (Err stop)
       → HasCertified left left' held now lf lf' of of_now aim t (Err stop)
-  not_read stop h = record {
+  not_read_so stop h = record {
     read = h.read;
     written = h.written;
     consumed = h.consumed;
@@ -222,6 +249,11 @@ module _ {X : Type 0} {P : X → Type 0} (says : Says X P) (s : Stated) (check :
     out_later = h.out_later;
     to = read_stops stop.cause stop.batches h.read h.written h.to;
   }
+
+  pub not_read : {T : Type 0} (stop : Stop) (each : Bool) → each ≡ false → HasReadLog {T = T} left left' held now lf lf' of of_now says aim each check (Err stop)
+      → HasCertified left left' held now lf lf' of of_now aim t (Err stop)
+  not_read {T} stop each none h =
+      not_read_so {T = T} stop (subst (λ (e : Bool). HasReadLog {T = T} left left' held now lf lf' of of_now says aim e check (Err stop)) none h)
 
 -- ---- the answer to the words
 
@@ -310,10 +342,10 @@ module _ (s : Stated) (words : List (List ℕ)) (asks : AsksFor words (task.Read
       fault = refl;
     }
 
-    verdict_of : (b : Bool) (v : Verdict) → v.truth ≡ b → IsAtEnd left → IsCertifiedBy asked_aim tree read written v
+    verdict_so : (b : Bool) (v : Verdict) → v.truth ≡ b → IsAtEnd left → IsCertifiedBy asked_aim tree read written v
         → HasVerdict left on words read written (record { status = if b then status.True else status.False; batches = v.batches; fault = None }) b
     unfolding due_of reading_of told_of
-    verdict_of b v same ended h = record {
+    verdict_so b v same ended h = record {
       ended = ended;
       told = told_of true read written v.batches h.count
           (subst (λ (ps : List Prefix). AreTexts (Writes on.watches tree product.Certificate) ps written) (sym (ap listed h.whole)) (written, h.certificate, [], refl, sym (append-nil written)));
@@ -326,8 +358,8 @@ module _ (s : Stated) (words : List (List ℕ)) (asks : AsksFor words (task.Read
 
     verdict_answer : (b : Bool) (v : Verdict) → v.truth ≡ b → IsAtEnd left → IsCertifiedBy asked_aim tree read written v
         → Answer (if b then status.True else status.False) left lf lf' of of' on words read written (record { status = if b then status.True else status.False; batches = v.batches; fault = None })
-    verdict_answer true v e ended h = inl (verdict_of true v e ended h)
-    verdict_answer false v e ended h = inl (verdict_of false v e ended h)
+    verdict_answer true v e ended h = inl (verdict_so true v e ended h)
+    verdict_answer false v e ended h = inl (verdict_so false v e ended h)
 
     answer_of : (result : Result Verdict Stop) → CertifiesBy left lf lf' of of' asked_aim tree read written result
         → Answer (outcome_of result).status left lf lf' of of' on words read written (outcome_of result)

@@ -52,7 +52,7 @@ module _ {X : Type 0} {P : X → Type 0} (says : Says X P) (aim : Aim) (each : B
   pub closed_log : HasClosed j whole_log.0
   closed_log = whole_closed j whole_log.0 whole_log.1
 
-  whole_due : (due_in aim true bytes).whole ≡ Some whole_log.0
+  pub whole_due : (due_in aim true bytes).whole ≡ Some whole_log.0
   whole_due = ap (λ (o : Option LogFault). at_end true (of_text o) (whole_of j)) w.free ∙ whole_log.1
 
   all_reported : reported each (due_in aim true bytes) ≡ closed_in each j ++ whole_log.0 ∷ []

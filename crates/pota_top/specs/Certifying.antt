@@ -4,6 +4,7 @@ use Rattle.std.specs.Prelude.{Some, None}
 use Rattle.std.specs.Prelude.{Result, Ok, Err}
 use Rattle.std.specs.Io.KnownBytes.{Appends, Consumes, IsAtEnd}
 use Rattle.pota_base.specs.Outside.{Rose}
+use Rattle.pota_base.specs.declared.fault.Failed.{Failed}
 use Rattle.run_model.specs.Cut.{initial}
 use Rattle.run_model.specs.Meaning.{Sat}
 use Rattle.rctl_grammar.specs.Shape.{shape_of}
@@ -21,6 +22,7 @@ use Rattle.log_judgement.specs.Readings.{log_reading}
 use Rattle.log_check.specs.Aims.{Aim, aim_of}
 use Rattle.log_check.specs.Checked.{observed_alone}
 use Rattle.log_check.specs.declared.checked.CheckedLog.{CheckedLog}
+use Rattle.certify.specs.Certifying.{HasFront, IsCertifying}
 use Rattle.log_answers.specs.declared.stop.StopCause.{StopCause}
 use Rattle.log_answers.specs.declared.stop.StopCause.TheVariants as causes
 use Rattle.log_answers.specs.declared.stop.Stop.{Stop}
@@ -53,6 +55,20 @@ pub record IsLogSeen (t : Tree) (log : Prefix) (checked : CheckedLog) : Type 0 w
   pub answers : AreAnswers checked.seen unwatched
   pub truth : HoldsOn checked.seen (disjuncts_of checked.disjuncts)
       ↔ IsTrueAtStart no_watches t log
+
+-- what the writing of a certificate of so many batches led to
+abbrev pub verdict_of : Result Bool Failed → ℕ → Result Verdict Stop
+verdict_of (Ok told) batches = Ok (record { batches = batches; truth = told })
+verdict_of (Err failed) batches = Err (record { batches = batches; cause = causes.Write })
+
+-- the certificate of the formula of these disjuncts was to be written: memory ran out, or it went on
+abbrev pub PutsCertificate : (held held' : Option (List ℕ)) → (of of' : ℕ) → Observed
+    → List (List Piece) → (line : List ℕ) → (batches : ℕ) → Result Verdict Stop → Type 0
+PutsCertificate held held' of of' seen ds line batches result =
+    ((result ≡ Err (record { batches = 0; cause = causes.Memory })) × (of' ≡ of)
+    × HasFront held held' seen ds line)
+    ⊎ ((ended : Result Bool Failed) × (result ≡ verdict_of ended batches)
+    × IsCertifying ended held held' of of' seen ds line)
 
 -- a front of the certificate was written, behind so many batches
 abbrev pub CertifyStops : StopCause → ℕ → ℕ → ℕ → Tree → ℕ → Prefix → List ℕ → Type 0

@@ -1,8 +1,8 @@
 //! The certificate of a formula on a log that is read.
-ghost use Rattle.std.specs.Prelude.{◌≡◌, ◌<◌, ℕ, false, List as ListOf, IfOk};
+ghost use Rattle.std.specs.Prelude.{◌≡◌, ◌<◌, ◌≤◌, ℕ, false, List as ListOf, IfOk};
 ghost use Rattle.trace_growth.specs.Growing.{IsTrace};
 ghost use Rattle.rctl_grammar.specs.declared.tree.Tree.{Tree};
-ghost use Rattle.rctl_parts.specs.MadeFor.{AreMadeFor};
+ghost use Rattle.rctl_parts.specs.MadeFor.{AllFit, AreMadeFor, disjuncts_count};
 ghost use Rattle.rctl_parts.specs.Pieces.{disjuncts_of};
 ghost use Rattle.part_pulls.specs.Counters.{CountersRise};
 ghost use Rattle.part_pulls.specs.Observing.{IsReady, scope_seen};
@@ -16,13 +16,16 @@ ghost use Rattle.certificate_lines.specs.Spelling.{formula_line};
 ghost use Rattle.run_promise.specs.Asking.{Handing, certifying};
 ghost use Rattle.run_promise.specs.Run.{Ran};
 ghost use Rattle.pota_top.specs.Certifying.{aim_for, Certifies, HasCertified, IsLogSeen};
+ghost use Rattle.pota_top.specs.Certifying.{PutsCertificate, verdict_of};
 ghost use Rattle.pota_top.specs.Outcome.{outcome_of};
 
 use crate::reading::read_log;
 use certify::{certificates_tell_the_truth, certify};
 use log_answers::{Checking, Means, Stop, StopCause, Verdict};
 use log_check::{CheckedLog, LogCheck};
-use pota_base::{Bytes, Gate, List, NoMemory, Sink, Source, Steps};
+use part_pulls::Observed;
+use pota_base::{Bytes, Failed, Gate, List, NoMemory, Sink, Source, Steps};
+use rctl_parts::Part;
 use run_request::Stated;
 use std::alloc::Global;
 use std::marker::Brand;
@@ -40,6 +43,41 @@ fn formula_line(alloc: Global, text: &[u8]) -> Result<Bytes, NoMemory>
     Ok(line)
 }
 
+// How the writing of a certificate of so many batches ended.
+fn verdict_of(ended: Result<bool, Failed>, batches: u32) -> Result<Verdict, Stop>
+    ensures { result ≡ verdict_of ended batches }
+{
+    match ended {
+        Ok(truth) => Ok(Verdict { batches, truth }),
+        Err(_) => Err(Stop {
+            batches,
+            cause: StopCause::Write,
+        }),
+    }
+}
+
+// Writes the certificate of the formula of these disjuncts, whose line this is.
+fn put_certificate<O: Sink>(
+    alloc: Global,
+    seen: Observed,
+    disjuncts: &[List<Part>],
+    line: &[u8],
+    batches: u32,
+    out: &mut O,
+) -> Result<Verdict, Stop>
+    requires ready { IsReady seen }
+    requires fits { AllFit (scope_seen seen) (disjuncts_of disjuncts.now) }
+    requires rise { CountersRise seen (disjuncts_of disjuncts.now) }
+    requires count { disjuncts_count (disjuncts_of disjuncts.now) ≤ 128 }
+    ensures { PutsCertificate (O.held out.old) (O.held out.new) (O.faults out.old)
+        (O.faults out.new) seen (disjuncts_of disjuncts.now) line.now batches result }
+{
+    match certify(alloc, seen, disjuncts, line, out) {
+        Ok(ended) => verdict_of(ended, batches),
+        Err(_) => Err(Stop::without_memory()),
+    }
+}
+
 // Writes the certificate of a log of so many batches, and gives its verdict.
 fn write_certificate<O: Sink>(
     alloc: Global,
@@ -55,6 +93,7 @@ fn write_certificate<O: Sink>(
         → Certifies (O.held out.old) (O.held out.new) (O.faults out.old) (O.faults out.new) t
         batches log result }
 {
+    certificates_tell_the_truth();
     let CheckedLog {
         stated,
         seen,
@@ -63,15 +102,14 @@ fn write_certificate<O: Sink>(
     let Ok(line) = formula_line(alloc, stated.text.as_slice()) else {
         return Err(Stop::without_memory());
     };
-    certificates_tell_the_truth();
-    match certify(alloc, seen, disjuncts.as_slice(), line.as_slice(), out) {
-        Ok(Ok(truth)) => Ok(Verdict { batches, truth }),
-        Ok(Err(_)) => Err(Stop {
-            batches,
-            cause: StopCause::Write,
-        }),
-        Err(_) => Err(Stop::without_memory()),
-    }
+    put_certificate(
+        alloc,
+        seen,
+        disjuncts.as_slice(),
+        line.as_slice(),
+        batches,
+        out,
+    )
 }
 
 // Reads the log to its end, and writes its certificate.

@@ -11,8 +11,8 @@ returns-in-Reports g c words text is asks =
     c.answer_reports.ensures words text is
     (asked_so words c.args.stated.formula.tree c.args.inquiry c.args.inquiry.form (product.Reports c.in-Reports.shown) refl c.in-Reports.is asks)
 
-pub returns : goal.returns
-returns g c words text is asks =
+pub returns-in-Certificate : goal.returns-in-Certificate
+returns-in-Certificate g c words text is asks =
     c.answer_certificate.ensures words text is
     (asked_so words c.args.stated.formula.tree c.args.inquiry form.Text product.Certificate
     (asks_text words c.args.inquiry c.args.stated.formula.tree asks c.in-Certificate.is) c.in-Certificate.is asks)

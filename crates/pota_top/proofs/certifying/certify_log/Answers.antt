@@ -1,11 +1,25 @@
-use Rattle.pota_top.proofs.Certificates.{certified, not_read, whole_there, seen_log}
+use Rattle.pota_top.specs.Certifying.{aim_for}
+use Rattle.pota_top.proofs.Certificates.{certified_log, not_read, whole_there, seen_log}
 use Rattle.pota_top.proofs.certifying.certify_log.Goals as goal
 
 pub returns-in-Err : goal.returns-in-Err
 returns-in-Err g c s text stated is =
-    not_read (λ h. (goal.Watch-dyn g (h.watch.vtable, h.watch.value)).answers h.watch.value) s c.read_log.new.checking.check _ _ _ _ _ _ _ _ _ _ c.in-Err.stop (c.in-Err.ensures.log _ is)
+    not_read (λ h. (goal.Watch-dyn g (h.watch.vtable, h.watch.value)).answers h.watch.value) s c.read_log.new.checking.check (g.S.Source.left c.args.log.now) (g.S.Source.left c.read_log.new.log) (g.O.Sink.held c.args.out.now) (g.O.Sink.held c.read_log.new.out) (g.O.Sink.held c.read_log.new.out)
+    (g.S.Source.faults c.args.log.now) (g.S.Source.faults c.read_log.new.log) (g.O.Sink.faults c.args.out.now) (g.O.Sink.faults c.read_log.new.out) (g.O.Sink.faults c.read_log.new.out)
+    c.in-Err.stop c.args.checking.each_batch c.requires.last (c.in-Err.ensures.log (aim_for s) is)
+
+pub into_observed-requires : goal.into_observed-requires
+into_observed-requires g c =
+    let s = c.requires.check.0 in
+    let w = whole_there (λ h. (goal.Watch-dyn g (h.watch.vtable, h.watch.value)).answers h.watch.value) s c.read_log.new.checking.check (g.S.Source.left c.args.log.now) (g.S.Source.left c.read_log.new.log) (g.O.Sink.held c.args.out.now) (g.O.Sink.held c.read_log.new.out) (g.O.Sink.held c.read_log.new.out)
+    (g.S.Source.faults c.args.log.now) (g.S.Source.faults c.read_log.new.log) (g.O.Sink.faults c.args.out.now) (g.O.Sink.faults c.read_log.new.out) (g.O.Sink.faults c.read_log.new.out)
+    _ c.args.checking.each_batch c.requires.last (c.in_default.ensures.log (aim_for s) c.requires.check.3) in
+    record { check = (aim_for s, w.0, w.1, w.2, w.3) }
 
 pub returns : goal.returns
 returns g c s text stated is =
-    certified (λ h. (goal.Watch-dyn g (h.watch.vtable, h.watch.value)).answers h.watch.value) s c.read_log.new.checking.check _ _ _ _ _ _ _ _ _ _ _ (c.in_default.ensures.log _ is) c.write_certificate.result
-    ?
+    certified_log (λ h. (goal.Watch-dyn g (h.watch.vtable, h.watch.value)).answers h.watch.value) s c.read_log.new.checking.check (g.S.Source.left c.args.log.now) (g.S.Source.left c.read_log.new.log) (g.O.Sink.held c.args.out.now) (g.O.Sink.held c.read_log.new.out) (g.O.Sink.held c.write_certificate.new.out)
+    (g.S.Source.faults c.args.log.now) (g.S.Source.faults c.read_log.new.log) (g.O.Sink.faults c.args.out.now) (g.O.Sink.faults c.read_log.new.out) (g.O.Sink.faults c.write_certificate.new.out)
+    _ c.args.checking.each_batch c.requires.last (c.in_default.ensures.log (aim_for s) is) c.write_certificate.result
+    (λ j log check closed. c.write_certificate.ensures s.formula.tree log
+    (seen_log s text log c.into_observed.result stated (c.into_observed.ensures.log (aim_for s) j log check closed)))
