@@ -1,0 +1,99 @@
+-- What is made of an input once no more of it is read.
+use Rattle.std.specs.Prelude.{◌≡◌, ◌⊎◌, ℕ, Bool, true, false, List, [], Option, None, Some}
+use Rattle.std.specs.Io.KnownBytes.{Appends}
+use Rattle.pota_base.specs.Outside.{Rose, IsPrefix}
+use Rattle.event_log.specs.declared.reader.Reader.{Reader}
+use Rattle.event_log.specs.Faults.{fault_of, items_in}
+use Rattle.event_log.specs.LogText.{onto}
+use Rattle.event_log.specs.Reader.{HasRead}
+use Rattle.event_log.specs.States.{StatesView}
+use Rattle.input_reading.specs.declared.reading.End.{End}
+use Rattle.input_reading.specs.declared.reading.End.TheVariants as end
+use Rattle.log_judgement.specs.declared.refusal.Refusal.TheVariants as refusal
+use Rattle.log_judgement.specs.Judgement.{judged, waiting}
+use Rattle.report.specs.declared.report.Report.{Report}
+use Rattle.report.specs.Fault.{IsTextOf, IsFaultIn}
+use Rattle.view_parts.specs.Parts.{IsReportOf}
+use Rattle.view_top.specs.declared.asking.View.{View}
+use Rattle.view_top.specs.declared.fault.Fault.{Fault}
+use Rattle.view_top.specs.declared.fault.Fault.TheVariants as fault
+use Rattle.log_trace.specs.declared.trace.LogTrace.{LogTrace}
+use Rattle.log_trace.specs.Judging.{without_formula, Keeps}
+use Rattle.view_top.specs.Viewing.{report_in, log_in, log_due, IsViewOf, IsViewIn, HasNoReport}
+use Rattle.view_top.specs.Viewing.{HasOtherReport}
+
+-- ---- the log
+
+-- the log in front of the input was read and judged without a fault so far, and this is the rest
+pub record HasReadLog (reader : Reader) (kept : LogTrace) (input rest : List ℕ) : Type 0 where
+  pub rest_is : rest ≡ report_in input
+  pub read : HasRead reader (onto (log_in input) [])
+  pub free : fault_of (log_in input) ≡ None
+  pub keeps : Keeps kept (judged without_formula waiting (items_in (log_in input)))
+
+-- it has this fault, whether the input has ended or not
+abbrev pub StopsInLog : List ℕ → Fault → Type 0
+StopsInLog input fault.Usage = ⊥
+StopsInLog input (fault.Log f) =
+    (ended : Bool) → (log_due ended input).fault ≡ Some (refusal.Log f)
+StopsInLog input (fault.Report f) = ⊥
+StopsInLog input fault.TooLong = ⊥
+StopsInLog input fault.OtherLog = ⊥
+StopsInLog input fault.Read = ⊥
+StopsInLog input fault.Write = ⊥
+StopsInLog input fault.Memory = Unit {0}
+
+-- ---- the report
+
+-- the text is that of a report of the run
+pub record IsReportIn (s : StatesView) (text : List ℕ) (r : Report) : Type 0 where
+  pub text_is : IsTextOf text r
+  pub fits : IsReportOf s r
+
+-- the view of a run by the report whose text this is
+pub record IsViewBehind (asked : View) (s : StatesView) (text shown : List ℕ) : Type 0 where
+  pub report : Report
+  pub is : IsReportIn s text report
+  pub view : IsViewOf asked s report shown
+
+-- why the text is that of no report of the run
+abbrev pub NoReportIn : StatesView → List ℕ → Fault → Type 0
+NoReportIn s text fault.Usage = ⊥
+NoReportIn s text (fault.Log f) = ⊥
+NoReportIn s text (fault.Report f) = IsFaultIn text f.line
+NoReportIn s text fault.TooLong = ⊥
+NoReportIn s text fault.OtherLog =
+    (r : Report) × IsTextOf text r × (IsReportOf s r → ⊥)
+NoReportIn s text fault.Read = ⊥
+NoReportIn s text fault.Write = ⊥
+NoReportIn s text fault.Memory = Unit {0}
+
+-- ---- the input
+
+-- why there is no view of an input that is read no further for this reason
+abbrev pub NoViewIn : End → List ℕ → Fault → Type 0
+NoViewIn e input fault.Usage = ⊥
+NoViewIn e input (fault.Log f) =
+    (ended : Bool) × (ended ≡ true → e ≡ end.Ended)
+    × ((log_due ended input).fault ≡ Some (refusal.Log f))
+NoViewIn e input (fault.Report f) = (e ≡ end.Ended) × HasNoReport input f.line
+NoViewIn e input fault.TooLong = (e ≡ end.Done) × ((log_due false input).fault ≡ None)
+NoViewIn e input fault.OtherLog = (e ≡ end.Ended) × HasOtherReport input
+NoViewIn e input fault.Read = (e ≡ end.Failed) × ((log_due false input).fault ≡ None)
+NoViewIn e input fault.Write = ⊥
+NoViewIn e input fault.Memory = Unit {0}
+
+-- the view was written, or a front of it, or nothing
+abbrev pub WritesOf : View → End → List ℕ → (of of' : ℕ) → List ℕ → Option Fault → Type 0
+WritesOf asked e input of of' written None = (e ≡ end.Ended) × IsViewIn asked input written
+WritesOf asked e input of of' written (Some f) =
+    ((written ≡ []) × NoViewIn e input f)
+    ⊎ ((f ≡ fault.Write) × (e ≡ end.Ended) × (shown : List ℕ) × IsViewIn asked input shown
+    × IsPrefix written shown × Rose of of')
+
+-- what was written of an input that is read no further for this reason
+pub record PutsView (asked : View) (e : End) (input : List ℕ) (held held' : Option (List ℕ))
+    (of of' : ℕ) (fault : Option Fault) : Type 0 where
+  pub written : List ℕ
+  pub wrote : Appends held held' written
+  pub to : WritesOf asked e input of of' written fault

@@ -1,0 +1,5 @@
+pub mod Asking
+pub mod Faults
+pub mod Inputs
+pub mod Telling
+pub mod Viewing

@@ -1,0 +1,101 @@
+//! The one call that the program runs.
+ghost use Rattle.std.specs.Prelude.{◌≡◌, map, string_bytes};
+ghost use Rattle.fault_line.specs.Lines.{Told};
+ghost use Rattle.view_top.specs.Faults.{line_of, exit_status};
+ghost use Rattle.view_top.specs.Inputs.{PutsView};
+ghost use Rattle.view_top.specs.Viewing.{HasViewed};
+
+use crate::asking::{View, view_asked};
+use crate::fault::Fault;
+use crate::gathering::Gathered;
+use crate::telling::tell;
+use crate::viewing::view_in;
+use input_reading::{End, read_all};
+use pota_base::{NoMemory, Sink, Source, write_all};
+use std::alloc::Global;
+
+/// What a run tells its caller.
+#[derive(Clone, Copy, Debug, PartialEq, Eq)]
+pub struct Viewed {
+    /// None exactly where the view was written.
+    pub fault: Option<Fault>,
+}
+
+impl Viewed {
+    /// The exit status: 0 where the view was written, and else that of the fault.
+    pub fn status(&self) -> u8
+        ensures { result ≡ exit_status self.now.fault }
+    {
+        match &self.fault {
+            None => 0,
+            Some(fault) => fault.status(),
+        }
+    }
+}
+
+// Writes the view of an input that is read no further for this reason.
+fn put_view<O: Sink>(
+    alloc: Global,
+    asked: View,
+    input: &[u8],
+    end: End,
+    out: &mut O,
+) -> Option<Fault>
+    ensures { PutsView asked end input.now (O.held out.old) (O.held out.new) (O.faults out.old)
+        (O.faults out.new) result }
+{
+    let shown = match view_in(alloc, asked, input, end) {
+        Ok(shown) => shown,
+        Err(fault) => return Some(fault),
+    };
+    match write_all(out, shown.as_slice()) {
+        Ok(()) => None,
+        Err(_) => Some(Fault::Write),
+    }
+}
+
+// Reads the input and writes the view that the words ask for.
+fn answer<S: Source, O: Sink>(
+    alloc: Global,
+    words: &[String],
+    input: &mut S,
+    out: &mut O,
+) -> Option<Fault>
+    ensures { HasViewed (S.left input.old) (S.left input.new) (O.held out.old) (O.held out.new)
+        (S.faults input.old) (S.faults input.new) (O.faults out.old) (O.faults out.new)
+        (map string_bytes words.now) result }
+{
+    let Some(asked) = view_asked(words) else {
+        return Some(Fault::Usage);
+    };
+    let mut gathered = Gathered::new(alloc);
+    match read_all(alloc, input, &mut gathered) {
+        Ok(end) => put_view(alloc, asked, gathered.bytes.as_slice(), end, out),
+        Err(NoMemory) => Some(Fault::Memory),
+    }
+}
+
+/// Writes the view that the words ask for: of the log that the source has, and of the report of it
+/// that stands at once behind the log's `end` line.
+///
+/// The words are the command line without the program's name. The view goes to `out`, and one line
+/// that tells why there is none to `diag`.
+pub fn view<S: Source, O: Sink, D: Sink>(
+    alloc: Global,
+    words: &[String],
+    input: &mut S,
+    out: &mut O,
+    diag: &mut D,
+) -> Viewed
+    ensures viewed { HasViewed (S.left input.old) (S.left input.new) (O.held out.old)
+        (O.held out.new) (S.faults input.old) (S.faults input.new) (O.faults out.old)
+        (O.faults out.new) (map string_bytes words.now) result.fault }
+    ensures told { Told (D.held diag.old) (D.held diag.new) (D.faults diag.old) (D.faults diag.new)
+        (line_of result.fault) }
+{
+    let fault = answer(alloc, words, input, out);
+    if let Some(fault) = &fault {
+        tell(diag, fault);
+    }
+    Viewed { fault }
+}
