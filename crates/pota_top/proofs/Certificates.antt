@@ -178,6 +178,7 @@ module _ {X : Type 0} {P : X → Type 0} (says : Says X P) (s : Stated) (check :
     }
 
     stops : (f : StopCause) (n : ℕ) (text : List ℕ) → CertifyStops f n of_now of' t check.batches log_there text → CertifyStopsBy f n left' lf lf' of of' aim t h.read text
+    unfolding has_front
     stops (causes.Refused r) n text k = absurd k
     stops causes.Read n text k = absurd k
     stops causes.Write n text k = (
@@ -188,14 +189,17 @@ module _ {X : Type 0} {P : X → Type 0} (says : Says X P) (s : Stated) (check :
     stops causes.Memory n text k = (inr (has_front text k.0), k.1)
 
     made : (result : Result Verdict Stop) (text : List ℕ) → CertifiesTo of_now of' t check.batches log_there text result → CertifiesBy left' lf lf' of of' aim t h.read text result
-    made (Ok v) text k = (h.to.0, record {
-      free = none_due says aim false check h.read h.written h.to.1;
-      log = log_there;
-      whole = whole_due says aim false check h.read h.written h.to.1;
-      certificate = k.0;
-      truth = k.1;
-      count = k.2 ∙ h.to.1.stands.check_is.batches;
-    })
+    made (Ok v) text k = (
+      h.to.0,
+      record {
+        free = none_due says aim false check h.read h.written h.to.1;
+        log = log_there;
+        whole = whole_due says aim false check h.read h.written h.to.1;
+        certificate = k.0;
+        truth = k.1;
+        count = k.2 ∙ h.to.1.stands.check_is.batches;
+      },
+    )
     made (Err stop) text k = stops stop.cause stop.batches text k
 
     certified : (result : Result Verdict Stop) → Certifies now held' of_now of' t check.batches log_there result → HasCertified left left' held held' lf lf' of of' aim t result
@@ -219,6 +223,7 @@ module _ {X : Type 0} {P : X → Type 0} (says : Says X P) (s : Stated) (check :
   pub certified_log : {T : Type 0} (x : T) (each : Bool) → each ≡ false → HasReadLog {T = T} left left' held now lf lf' of of_now says aim each check (Ok x) → (result : Result Verdict Stop)
       → ((j : Judgement) (log : Prefix) → IsCheckOf says aim check j → HasClosed j log → Certifies now held' of_now of' t check.batches log result)
       → HasCertified left left' held held' lf lf' of of' aim t result
+  unfolding there
   certified_log {T} x each none h result makes =
       let k = subst (λ (e : Bool). HasReadLog {T = T} left left' held now lf lf' of of_now says aim e check (Ok x)) none h in
       let w = there x k in

@@ -102,7 +102,14 @@ fn write_certificate<O: Sink>(
     let Ok(line) = formula_line(alloc, stated.text.as_slice()) else {
         return Err(Stop::without_memory());
     };
-    put_certificate(alloc, seen, disjuncts.as_slice(), line.as_slice(), batches, out)
+    put_certificate(
+        alloc,
+        seen,
+        disjuncts.as_slice(),
+        line.as_slice(),
+        batches,
+        out,
+    )
 }
 
 // Reads the log to its end, and writes its certificate.

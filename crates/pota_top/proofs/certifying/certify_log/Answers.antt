@@ -14,7 +14,7 @@ into_observed-requires g c =
     let w = whole_there (λ h. (goal.Watch-dyn g (h.watch.vtable, h.watch.value)).answers h.watch.value) s c.read_log.new.checking.check (g.S.Source.left c.args.log.now) (g.S.Source.left c.read_log.new.log) (g.O.Sink.held c.args.out.now) (g.O.Sink.held c.read_log.new.out) (g.O.Sink.held c.read_log.new.out)
     (g.S.Source.faults c.args.log.now) (g.S.Source.faults c.read_log.new.log) (g.O.Sink.faults c.args.out.now) (g.O.Sink.faults c.read_log.new.out) (g.O.Sink.faults c.read_log.new.out)
     _ c.args.checking.each_batch c.requires.last (c.in_default.ensures.log (aim_for s) c.requires.check.3) in
-    (aim_for s, w.0, w.1, w.2, w.3)
+    record { check = (aim_for s, w.0, w.1, w.2, w.3) }
 
 pub returns : goal.returns
 returns g c s text stated is =
