@@ -19,7 +19,7 @@ use std::thread::Threads;
 use std::{fs, io};
 
 /// The files of cases, in the order in which they are run.
-const FILES: [&str; 10] = [
+const FILES: [&str; 11] = [
     "words.cases",
     "formulas.cases",
     "logs.cases",
@@ -30,6 +30,7 @@ const FILES: [&str; 10] = [
     "whole_language.cases",
     "two_line_logs.cases",
     "merged_logs.cases",
+    "certificates.cases",
 ];
 
 /// How many runs were made, and how many of them came out as they must.
