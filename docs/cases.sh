@@ -1,13 +1,17 @@
 #!/usr/bin/env bash
-# Prints what the pages show of the program as cases of the language that the crate `row_cases` has. They stand in
-# crates/outside_runs/data/pages.cases, whose program runs them; .ci/run compares the two, so that no page goes stale.
+# Prints what the pages show of a program as cases of the language that the crate `row_cases` has. They stand in
+# crates/outside_runs/data/pages.cases and crates/view_rows/data/pages.cases, whose programs run them; .ci/run compares both with
+# what this prints, so that no page goes stale.
 #
 #     docs/cases.sh > crates/outside_runs/data/pages.cases
+#     docs/cases.sh pota_view > crates/view_rows/data/pages.cases
 #
 # Taken from a page are:
 #
 # - in a fenced block, a line `$ pota WORD .. < FILE`, `$ head -n N FILE | pota WORD ..` or `$ cat FILE .. | pota WORD ..` with the
 #   lines behind it: what the program prints, whole. Behind `$ cat FILE` must stand the file. FILE may be a pattern.
+# - of `pota_view`, a line `$ cat LOG REPORT | pota_view WORD` with the lines behind it
+# - where `> FILE` ends the line of either, the file is what the program prints
 # - a row of a table whose second cell is `formula byte ..`: the formula in the first cell gives this fault
 # - a row whose second cell is `log line N: ..`: the log gives this fault where line N, or the last where there is no such
 #   line, is the first cell; `log source S line N: ..` speaks of line N of file S. `\` and two hexadecimal digits stand for one
@@ -19,7 +23,7 @@
 cd "$(dirname "$0")/.." || exit 1
 LC_ALL=C
 shopt -s nullglob
-awk '
+awk -v program="${1:-pota}" '
 function complain(why) {
     printf "%s, line %d: %s\n", FILENAME, FNR, why > "/dev/stderr"
     failed = 1
@@ -121,7 +125,17 @@ function split_words(text,    count, at) {
 # Begins what a command of a block prints.
 function begin_command(text,    at) {
     end_command()
-    log_file = log_lines = shown_file = option = ""
+    log_file = log_lines = shown_file = option = out_file = ""
+    if (match(text, / > [^ ]+$/)) {
+        out_file = substr(text, RSTART + 3)
+        text = substr(text, 1, RSTART - 1)
+    }
+    if (text ~ /^cat [^ ]+ [^ ]+ \| pota_view /) {
+        begin_view(text)
+        return
+    }
+    if (program != "pota")
+        return
     if (match(text, /^cat .* \| pota /)) {
         log_file = substr(text, 5, RLENGTH - 12)
         text = substr(text, RLENGTH - 4)
@@ -154,9 +168,32 @@ function begin_command(text,    at) {
         put_log(log_file, log_lines, 0, "")
     else
         put_before = ""
+    run_command()
+}
+
+# What a view is made of: a log, a report and a word.
+function begin_view(text,    part, count, i) {
+    if (program != "pota_view")
+        return
+    begin_case()
+    split(text, part, " ")
+    print "word " part[6]
+    put_before = ""
+    put_log(part[2], 0, 0, "")
+    put_log(part[3], 0, 0, "")
+    run_command()
+}
+
+# What the command prints stands behind it, or in a file.
+function run_command(    count, i) {
     running = 1
     report = diag = verdict = ""
     batches = 0
+    if (out_file == "")
+        return
+    count = read_log(out_file)
+    for (i = 1; i <= count; i++)
+        add_output(lines[i])
 }
 
 # One line more that a command prints.
@@ -184,6 +221,13 @@ function end_command() {
     if (!running)
         return
     running = 0
+    if (program == "pota_view") {
+        print "status 0"
+        print "room 1048576"
+        printf "%s", report
+        print "end\n"
+        return
+    }
     if (diag ~ /^pota: usage/)
         print "status 2"
     else if (diag ~ /^pota: formula byte /)
@@ -309,6 +353,9 @@ fenced && /^\$ / {
 }
 fenced {
     add_output($0)
+    next
+}
+program != "pota" {
     next
 }
 /^<!-- tried (with --[a-z]+ )?on .* -->$/ {
