@@ -1,5 +1,5 @@
 -- The log at the front of bytes, and what is due of it.
-use Rattle.std.proofs.Common.{◌≡◌, ℕ, Bool, true, false, Option, Some, None, List, [], ◌∷◌, ◌++◌, refl, sym, ap, ◌∙◌, inl, inr, append-nil}
+use Rattle.std.proofs.Common.{◌≡◌, ℕ, true, false, Option, Some, None, List, [], ◌∷◌, ◌++◌, refl, sym, ap, ◌∙◌, inl, inr, append-nil}
 use Rattle.std.specs.Option.{option_map}
 use Rattle.std.proofs.lemmas.Bool.{cases_Bool}
 use Rattle.std.proofs.lemmas.Option.{none-some, same_Some}
@@ -93,7 +93,7 @@ whole_closed (refused so_far why) log h = absurd (none-some log h)
 abbrev placed_at : List ℕ → LogFault
 placed_at past = text_placed past code.Truncated
 
-cut_somewhere : (past : List ℕ) → is_whole past ≡ false → (f : LogFault) × (end_fault past ≡ Some f)
+pub cut_somewhere : (past : List ℕ) → is_whole past ≡ false → (f : LogFault) × (end_fault past ≡ Some f)
 cut_somewhere past within = go (first_fault past) refl
   where
     go : (o : Option LogFault) → first_fault past ≡ o → (f : LogFault) × (end_fault past ≡ Some f)

@@ -1,14 +1,18 @@
 -- Items of a log, judged one after another.
-use Rattle.std.proofs.Common.{◌≡◌, ℕ, Bool, Option, Some, None, List, [], ◌∷◌, ◌++◌, refl, sym, ap, subst, ◌∙◌, append_assoc, append-nil}
+use Rattle.std.proofs.Common.{◌≡◌, ℕ, Bool, Result, Ok, Err, Option, Some, None, List, [], ◌∷◌, ◌++◌, refl, sym, ap, subst, ◌∙◌, append_assoc, append-nil}
 use Rattle.event_log.specs.declared.item.Item.{Item}
 use Rattle.log_judgement.specs.declared.refusal.Refusal.{Refusal}
-use Rattle.log_judgement.specs.Judgement.{Prefix, Rules, Judgement, judge, judged, refused}
+use Rattle.std.specs.Prelude.{IfOk}
+use Rattle.vector_clock.specs.Admitted.{IfFault}
+use Rattle.pota_base.specs.declared.fault.Refused.{Refused}
+use Rattle.pota_base.specs.declared.fault.Refused.TheVariants as refused
+use Rattle.log_judgement.specs.Judgement.{Rules, Judgement, judge, judged}
 use Rattle.log_judgement.proofs.Items.{judged-append, refused-stays}
 use Rattle.log_check.specs.declared.check.LogCheck.{LogCheck}
 use Rattle.log_check.specs.Aims.{Says, Aim, rules_of}
 use Rattle.log_check.specs.Checking.{IsCheckOf, GoesOn, IsRefusedAs, MayFollow}
 use Rattle.log_check.proofs.Following.{follows_first, follows_all}
-use Rattle.log_part.specs.Reading.{JudgesTo}
+use Rattle.log_part.specs.Reading.{IsRefusalIn, JudgesTo}
 
 judged-one : (rules : Rules) (j : Judgement) (i : Item) → judged rules j (i ∷ []) ≡ judge rules j i
 unfolding judged
@@ -17,6 +21,13 @@ judged-one rules j i = refl
 judged-none : (rules : Rules) (j : Judgement) → judged rules j [] ≡ j
 unfolding judged
 judged-none rules j = refl
+
+-- what holds of the fault holds of the refusal that is told
+pub refused_so : (T : Type 0) {E : Type 0} (result : Result (Option Refusal) E) (r : Refused Refusal) (Told : Option Refusal → Type 0) (Q : Refusal → Type 0) → IfOk result (IsRefusalIn r) → IfFault {T = T} (Err r) Q
+    → ((why : Refusal) → Q why → Told (Some why)) → IfOk result Told
+refused_so T (Ok why) (refused.Fault f) Told Q is told leads = subst Told (sym is) (leads f told)
+refused_so T (Ok why) refused.NoMemory Told Q is told leads = absurd is
+refused_so T (Err e) r Told Q is told leads = tt
 
 module _ {X : Type 0} {P : X → Type 0} (says : Says X P) where
   -- these items were taken, and the check is of what they lead to
@@ -67,8 +78,7 @@ module _ {X : Type 0} {P : X → Type 0} (says : Says X P) where
           → (aim : Aim) (j : Judgement) → IsCheckOf says aim first j → MayFollow j items → JudgesTo says aim next (judged (rules_of aim) j items) (Some why)
       stops next batches why takes aim j is follows =
           let t = so_far aim j is follows in
-          let refusal = takes aim (judged (rules_of aim) j t.done) t.is (next_follows aim j follows t) in
-          (
+          let refusal = takes aim (judged (rules_of aim) j t.done) t.is (next_follows aim j follows t) in (
             refusal.log,
             ap (judged (rules_of aim) j) (split_now t.done t.split) ∙ judged-append (rules_of aim) j (t.done ++ i ∷ []) rest
                 ∙ ap (λ (k : Judgement). judged (rules_of aim) k rest) (one_more aim j t.done ∙ refusal.is) ∙ refused-stays (rules_of aim) refusal.log why rest,

@@ -1,13 +1,11 @@
 -- A piece more of a log.
-use Rattle.std.proofs.Common.{◌≡◌, ℕ, ◌+◌, ◌-◌, ◌<◌, ◌≤◌, Bool, true, false, Option, Some, None, List, [], ◌∷◌, ◌++◌, length, length-append, refl, sym, ap, subst, ◌∙◌, arith, inl, inr, append_assoc, append-nil}
+use Rattle.std.proofs.Common.{◌≡◌, ℕ, ◌-◌, ◌<◌, true, false, Option, Some, None, List, [], ◌++◌, length, length-append, refl, sym, ap, subst, ◌∙◌, arith, inl, inr}
 use Rattle.std.proofs.lemmas.Bool.{cases_Bool}
 use Rattle.std.proofs.lemmas.Option.{none-some}
 use Rattle.event_log.specs.declared.item.Fed.{Fed}
-use Rattle.event_log.specs.declared.item.Item.{Item}
 use Rattle.event_log.specs.declared.item.LogFault.{LogFault}
 use Rattle.event_log.specs.declared.reader.Reader.{Reader}
 use Rattle.event_log.specs.Before.{is_ended}
-use Rattle.event_log.specs.LogText.{onto}
 use Rattle.event_log.specs.Moments.{lines}
 use Rattle.event_log.specs.LogEnd.{is_whole, log_upto, behind_log}
 use Rattle.event_log.specs.Faults.{first_fault, items, end_fault}
@@ -19,22 +17,25 @@ use Rattle.event_log.proofs.Lists.{length-onto}
 use Rattle.event_log.proofs.LogEnds.{upto_more, behind_more, behind_open, parted}
 use Rattle.log_judgement.specs.declared.refusal.Refusal.{Refusal}
 use Rattle.log_judgement.specs.declared.refusal.Refusal.TheVariants as refusal
-use Rattle.log_judgement.specs.Judgement.{Prefix, Judgement, waiting, refused, judged}
+use Rattle.log_judgement.specs.Judgement.{waiting, judged}
 use Rattle.log_judgement.proofs.Items.{judged-append}
 use Rattle.log_check.specs.declared.check.LogCheck.{LogCheck}
 use Rattle.log_check.specs.Aims.{Says, Aim, rules_of}
 use Rattle.log_check.specs.Checking.{IsCheckOf, MayFollow}
 use Rattle.log_check.proofs.Following.{follows_all}
+use Rattle.input_reading.specs.Intakes.{Takes}
+use Rattle.input_reading.specs.declared.intake.Turn.{Turn}
+use Rattle.input_reading.specs.declared.intake.Turn.TheVariants as turn
 use Rattle.log_part.specs.declared.part.LogPart.{LogPart}
 use Rattle.log_part.specs.Fronts.{due_of_front}
-use Rattle.log_part.specs.Reading.{JudgesTo, judged_front, IsOpen, IsWholeLog, IsCutShort}
-use Rattle.log_part.proofs.FrontLaws.{refused_due, free_due, end_due, stands_whole}
+use Rattle.log_part.specs.Reading.{JudgesTo, judged_front, IsOpen, IsDone, IsWholeLog, EndsLog, IsCutShort}
+use Rattle.log_part.proofs.FrontLaws.{cut_somewhere, refused_due, free_due, end_due, stands_whole}
 
 -- ---- where a log ends
 
 -- without a fault the input may not end within the log
 open_end : (past : List ℕ) → first_fault past ≡ None → is_whole past ≡ false → end_fault past ≡ None → ⊥
-open_end past free within none = absurd (none-some _ (sym none ∙ rw (free, within) refl))
+open_end past free within none = let cut = cut_somewhere past within in none-some cut.0 (sym none ∙ cut.1)
 
 whole_end : (past : List ℕ) → first_fault past ≡ None → end_fault past ≡ None → is_whole past ≡ true
 whole_end past free none = elim (cases_Bool (is_whole past)) [
@@ -45,7 +46,7 @@ whole_end past free none = elim (cases_Bool (is_whole past)) [
 within_end : (past : List ℕ) (f : LogFault) → first_fault past ≡ None → end_fault past ≡ Some f → is_whole past ≡ false
 within_end past f free some = elim (cases_Bool (is_whole past)) [
   | inr within ↦ within
-  | inl whole ↦ absurd (none-some f (sym (rw (free, whole) refl) ∙ some))
+  | inl whole ↦ let over : end_fault past ≡ None = rw (free, whole) refl in absurd (none-some f (sym over ∙ some))
 ]
 
 module _ {X : Type 0} {P : X → Type 0} (says : Says X P) (aim : Aim) where
@@ -60,15 +61,15 @@ module _ {X : Type 0} {P : X → Type 0} (says : Says X P) (aim : Aim) where
   none_faulty = refl
 
   none_whole : is_whole [] ≡ false
-  unfolding lines
+  unfolding lines is_ended
   none_whole = refl
 
   none_judged : judged (rules_of aim) waiting (items []) ≡ waiting
   unfolding judged items
   none_judged = refl
 
-  pub opens : (part : LogPart X P) → HasRead part.reader [] → IsCheckOf says aim part.check waiting → part.rest ≡ [] → IsOpen says aim part []
-  opens part read check rest =
+  pub opens : (part : LogPart X P) → HasRead part.reader [] → IsCheckOf says aim part.check waiting → part.rest ≡ [] → part.refusal ≡ None → IsOpen says aim part []
+  opens part read check rest unrefused =
       let at : [] ≡ log_upto [] [] = sym none_upto in
       record {
         read = subst (HasRead part.reader) at read;
@@ -76,6 +77,7 @@ module _ {X : Type 0} {P : X → Type 0} (says : Says X P) (aim : Aim) where
         within = subst (λ (p : List ℕ). is_whole p ≡ false) at none_whole;
         check = subst (λ (p : List ℕ). IsCheckOf says aim part.check (judged (rules_of aim) waiting (items p))) at (subst (IsCheckOf says aim part.check) (sym none_judged) check);
         rest = rest;
+        unrefused = unrefused;
       }
 
   -- ---- one piece
@@ -131,18 +133,19 @@ module _ {X : Type 0} {P : X → Type 0} (says : Says X P) (aim : Aim) where
       end_now = sym (ends (log_upto [] (bytes ++ piece)) read_now)
 
       -- the log goes on
-      pub stays_open : (new : LogPart X P) (f : LogFault) → end_ ≡ Some f → new.reader ≡ reader → new.check ≡ check → new.rest ≡ part.rest → IsOpen says aim new (bytes ++ piece)
-      stays_open new f some reader_is check_is rest_is = record {
+      pub stays_open : (new : LogPart X P) (f : LogFault) → end_ ≡ Some f → new.reader ≡ reader → new.check ≡ check → new.rest ≡ part.rest → new.refusal ≡ part.refusal → IsOpen says aim new (bytes ++ piece)
+      stays_open new f some reader_is check_is rest_is refusal_is = record {
         read = subst (λ (x : Reader). HasRead x (log_upto [] (bytes ++ piece))) (sym reader_is) read_now;
         free = free_now;
         within = within_end (log_upto [] (bytes ++ piece)) f free_now (end_now ∙ some);
         check = subst (λ (x : LogCheck X P). IsCheckOf says aim x (judged_front aim (bytes ++ piece))) (sym check_is) (checked check o none to);
         rest = rest_is ∙ known.rest;
+        unrefused = refusal_is ∙ known.unrefused;
       }
 
       -- and has less room
-      pub less_room : (f : LogFault) → end_ ≡ Some f → 0 < length piece → 67108865 - reader.feeder.total < 67108865 - part.reader.feeder.total
-      less_room f some there =
+      less_in : (f : LogFault) → end_ ≡ Some f → 0 < length piece → 67108865 - reader.feeder.total < 67108865 - part.reader.feeder.total
+      less_in f some there =
           let past = log_upto [] (bytes ++ piece) in
           let within = within_end past f free_now (end_now ∙ some) in
           let old = known.read.feeds (known.read.fault_is ∙ known.free) in
@@ -150,21 +153,24 @@ module _ {X : Type 0} {P : X → Type 0} (says : Says X P) (aim : Aim) where
           let p = parted piece before in
           let rest : behind_log before piece ≡ [] = behind_open piece before (ap is_whole (sym now_is) ∙ within) in
           omega (
-          arith,
-          old.counts.total_is,
-          new.counts.total_is,
-          free_small past free_now,
-          ap length now_is,
-          ap length p.upto_is,
-          length-onto p.front before,
-          ap length p.bytes_are,
-          length-append p.front (behind_log before piece),
-          ap length rest,
-          there
+            arith,
+            old.counts.total_is,
+            new.counts.total_is,
+            free_small past free_now,
+            ap length now_is,
+            ap length p.upto_is,
+            length-onto p.front before,
+            ap length p.bytes_are,
+            length-append p.front (behind_log before piece),
+            ap length rest,
+            there,
           )
 
+      pub less_room : (last : Reader) (f : LogFault) → last ≡ reader → end_ ≡ Some f → 0 < length piece → 67108865 - last.feeder.total < 67108865 - part.reader.feeder.total
+      less_room last f same some there = subst (λ (x : Reader). 67108865 - x.feeder.total < 67108865 - part.reader.feeder.total) (sym same) (less_in f some there)
+
       -- the log is whole
-      pub stands : (new : LogPart X P) (rest : List ℕ) → end_ ≡ None → new.check ≡ check → rest ≡ part.rest ++ behind → IsWholeLog says aim new.check rest (bytes ++ piece)
+      stands : (new : LogPart X P) (rest : List ℕ) → end_ ≡ None → new.check ≡ check → rest ≡ part.rest ++ behind → IsWholeLog says aim new.check rest (bytes ++ piece)
       stands new rest over check_is rest_is =
           let is = subst (λ (x : LogCheck X P). IsCheckOf says aim x (judged_front aim (bytes ++ piece))) (sym check_is) (checked check o none to) in
           let ended = end_now ∙ over in
@@ -179,6 +185,18 @@ module _ {X : Type 0} {P : X → Type 0} (says : Says X P) (aim : Aim) where
             over = whole_end (log_upto [] (bytes ++ piece)) free_now ended;
             rest_is = rest_is ∙ ap (λ (xs : List ℕ). xs ++ behind) known.rest ∙ r.rest_is free ∙ sym (behind_more bytes piece [] ∙ ap (λ (xs : List ℕ). xs ++ behind_log before piece) (behind_open bytes [] known.within));
           }
+
+      pub stands_done : (new : LogPart X P) → end_ ≡ None → new.check ≡ check → new.rest ≡ part.rest ++ behind → new.refusal ≡ part.refusal → IsDone says aim new (bytes ++ piece)
+      stands_done new over check_is rest_is refusal_is =
+          subst (λ (o : Option Refusal). EndsLog says aim new o (bytes ++ piece)) (sym (refusal_is ∙ known.unrefused)) (stands new new.rest over check_is rest_is)
+
+  -- ---- a fault is kept
+
+  pub refuses : (new : LogPart X P) (bytes : List ℕ) (room room' : ℕ) (why : Refusal) (t : Turn) → t ≡ turn.Done → new.refusal ≡ Some why → (due_of_front aim false bytes).fault ≡ Some why
+      → Takes (IsOpen says aim new) (IsDone says aim new) room room' bytes t
+  refuses new bytes room room' why t done kept is =
+      subst (λ (x : Turn). Takes (IsOpen says aim new) (IsDone says aim new) room room' bytes x) (sym done)
+      (subst (λ (o : Option Refusal). EndsLog says aim new o bytes) (sym kept) is)
 
   -- ---- the input ends, or a read fails, within the log
 

@@ -6,12 +6,15 @@ use Rattle.event_log.specs.LogEnd.{is_whole, log_upto, behind_log}
 use Rattle.event_log.specs.Faults.{first_fault, items}
 use Rattle.event_log.specs.Reader.{HasRead}
 use Rattle.log_judgement.specs.declared.refusal.Refusal.{Refusal}
-use Rattle.log_judgement.specs.Judgement.{Prefix, Judgement, waiting, refused, judged}
+use Rattle.pota_base.specs.declared.fault.Refused.{Refused}
+use Rattle.pota_base.specs.declared.fault.Refused.TheVariants as refused
+use Rattle.log_judgement.specs.Judgement.{Prefix, Judgement, waiting, judged}
+use Rattle.log_judgement.specs.Judgement as judgement
 use Rattle.log_check.specs.declared.check.LogCheck.{LogCheck}
 use Rattle.log_check.specs.Aims.{Says, Aim, rules_of}
 use Rattle.log_check.specs.Checking.{IsCheckOf, HasClosed}
 use Rattle.log_part.specs.declared.front.Front.{Front}
-use Rattle.log_part.specs.declared.front.Front.TheVariants.{Whole, Refused, Failed}
+use Rattle.log_part.specs.declared.front.Front.TheVariants as front
 use Rattle.log_part.specs.declared.part.LogPart.{LogPart}
 use Rattle.log_part.specs.Fronts.{due_of_front}
 
@@ -21,7 +24,12 @@ use Rattle.log_part.specs.Fronts.{due_of_front}
 abbrev pub JudgesTo : {X : Type 0} {P : X → Type 0} → Says X P → Aim → LogCheck X P → Judgement
     → Option Refusal → Type 0
 JudgesTo says aim check j None = IsCheckOf says aim check j
-JudgesTo says aim check j (Some why) = (log : Option Prefix) × (j ≡ refused log why)
+JudgesTo says aim check j (Some why) = (log : Option Prefix) × (j ≡ judgement.refused log why)
+
+-- this is the refusal; want of memory is none
+abbrev pub IsRefusalIn : Refused Refusal → Option Refusal → Type 0
+IsRefusalIn (refused.Fault f) why = why ≡ Some f
+IsRefusalIn refused.NoMemory why = ⊥
 
 -- ---- between two pieces
 
@@ -37,6 +45,7 @@ pub record IsOpen {X : Type 0} {P : X → Type 0} (says : Says X P) (aim : Aim) 
   pub within : is_whole (log_upto [] bytes) ≡ false
   pub check : IsCheckOf says aim part.check (judged_front aim bytes)
   pub rest : part.rest ≡ []
+  pub unrefused : part.refusal ≡ None
 
 -- how many bytes more the log may have
 abbrev pub room_of : {X : Type 0} {P : X → Type 0} → LogPart X P → ℕ
@@ -74,12 +83,12 @@ pub record IsCutShort (aim : Aim) (bytes : List ℕ) : Type 0 where
 -- failed within it.
 abbrev pub IsFront : {X : Type 0} {P : X → Type 0} → Says X P → Aim → Option (List ℕ)
     → (faults faults' : ℕ) → List ℕ → Front X P → Type 0
-IsFront says aim left faults faults' bytes (Whole check rest) =
+IsFront says aim left faults faults' bytes (front.Whole check rest) =
     IsWholeLog says aim check rest bytes
-IsFront says aim left faults faults' bytes (Refused why) =
+IsFront says aim left faults faults' bytes (front.Refused why) =
     (ended : Bool) × (ended ≡ true → IsAtEnd left)
     × ((due_of_front aim ended bytes).fault ≡ Some why)
-IsFront says aim left faults faults' bytes Failed =
+IsFront says aim left faults faults' bytes front.Failed =
     Rose faults faults' × IsCutShort aim bytes
 
 -- some bytes were read, and this is at their front

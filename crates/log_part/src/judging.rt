@@ -3,7 +3,7 @@ ghost use Rattle.std.specs.Prelude.{IfOk};
 ghost use Rattle.log_judgement.specs.Judgement.{Judgement, judged};
 ghost use Rattle.log_check.specs.Aims.{Aim, rules_of};
 ghost use Rattle.log_check.specs.Checking.{IsCheckOf, MayFollow};
-ghost use Rattle.log_part.specs.Reading.{JudgesTo};
+ghost use Rattle.log_part.specs.Reading.{IsRefusalIn, JudgesTo};
 
 use event_log::Item;
 use log_check::LogCheck;
@@ -11,6 +11,16 @@ use log_judgement::Refusal;
 use pota_base::{List, NoMemory, Refused};
 use std::alloc::Global;
 use watch::{Handed, Watch};
+
+// The refusal, where there was memory to tell it.
+fn refusal_in(refused: Refused<Refusal>) -> Result<Option<Refusal>, NoMemory>
+    ensures { IfOk result (IsRefusalIn refused) }
+{
+    match refused {
+        Refused::Fault(refusal) => Ok(Some(refusal)),
+        Refused::NoMemory => Err(NoMemory),
+    }
+}
 
 /// Takes these items more, in their order, up to the first of which a refusal is due.
 pub fn judge_all(
@@ -31,8 +41,7 @@ pub fn judge_all(
     while let Some(item) = rest.next() {
         match check.take(alloc, item) {
             Ok(_) => {}
-            Err(Refused::Fault(refusal)) => return Ok(Some(refusal)),
-            Err(Refused::NoMemory) => return Err(NoMemory),
+            Err(refused) => return refusal_in(refused),
         }
     }
     Ok(None)

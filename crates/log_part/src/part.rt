@@ -88,14 +88,20 @@ impl LogPart {
             → IsFront (λ h. answers (h.watch.vtable, h.watch.value)) aim left faults now bytes
             result }
     {
-        match self.refusal {
+        let LogPart {
+            check,
+            rest,
+            refusal,
+            ..
+        } = self;
+        match refusal {
             Some(refusal) => Front::Refused(refusal),
-            None => Front::Whole(self.check, self.rest),
+            None => Front::Whole(check, rest),
         }
     }
 
     /// What is told where the input has ended within the log.
-    pub fn cut_off(mut self) -> Front
+    pub fn cut_off(self) -> Front
         requires { (aim : Aim) × (bytes : ListOf ℕ)
             × IsOpen (λ h. answers (h.watch.vtable, h.watch.value)) aim self bytes }
         ensures { (aim : Aim) (bytes : ListOf ℕ)
@@ -104,9 +110,10 @@ impl LogPart {
             → IsFront (λ h. answers (h.watch.vtable, h.watch.value)) aim left faults now bytes
             result }
     {
-        match self.reader.finish() {
-            Some(fault) => Front::Refused(Refusal::Log(fault)),
-            None => unreachable!(),
-        }
+        let LogPart { mut reader, .. } = self;
+        let Some(fault) = reader.finish() else {
+            unreachable!()
+        };
+        Front::Refused(Refusal::Log(fault))
     }
 }

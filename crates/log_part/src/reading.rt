@@ -1,15 +1,11 @@
 //! Reading the log at the front of an input.
 ghost use Rattle.std.specs.Prelude.{◌<◌, [], ℕ, List as ListOf, IfOk, OnErr, length};
 ghost use Rattle.input_reading.specs.Intakes.{Turns, ReadsAll, ReadsShort};
-ghost use Rattle.log_judgement.specs.Judgement.{waiting};
 ghost use Rattle.log_check.specs.Aims.{Aim};
-ghost use Rattle.log_check.specs.Checking.{IsCheckOf};
-ghost use Rattle.log_part.specs.Reading.{HasReadFront, IsDone, IsOpen, room_of};
+ghost use Rattle.log_part.specs.Reading.{IsDone, IsOpen, room_of};
 
-use crate::front::Front;
 use crate::part::LogPart;
 use input_reading::{End, Turn};
-use log_check::LogCheck;
 use pota_base::{NoMemory, Source};
 use std::alloc::Global;
 use watch::{Handed, Watch};
@@ -46,8 +42,9 @@ fn take_turn<S: Source>(
     }
 }
 
-// Reads until the log is whole or refused, the input has ended, or a read failed.
-fn read_on<S: Source>(
+/// Reads a log and checks it as its bytes come, until it is whole or refused, the input has ended, or
+/// a read failed.
+pub fn read_on<S: Source>(
     alloc: Global,
     source: &mut S,
     part: &mut LogPart,
@@ -70,29 +67,5 @@ fn read_on<S: Source>(
             Ok(Some(end)) => return Ok(end),
             Err(short) => return Err(short),
         }
-    }
-}
-
-/// Reads the log at the front of an input and checks it as its bytes come, up to its end, its first
-/// fault, the end of the input, or a failed read.
-pub fn read_log<S: Source>(
-    alloc: Global,
-    check: LogCheck,
-    source: &mut S,
-) -> Result<Front, NoMemory>
-    requires { (aim : Aim)
-        × IsCheckOf (λ h. answers (h.watch.vtable, h.watch.value)) aim check waiting }
-    ensures reads { IfOk result (λ front. (aim : Aim)
-        → IsCheckOf (λ h. answers (h.watch.vtable, h.watch.value)) aim check waiting
-        → HasReadFront (λ h. answers (h.watch.vtable, h.watch.value)) aim (S.left source.old)
-        (S.left source.new) (S.faults source.old) (S.faults source.new) front) }
-    ensures short { OnErr result (ReadsShort (S.left source.old) (S.left source.new)
-        (S.faults source.old) (S.faults source.new)) }
-{
-    let mut part = LogPart::new(alloc, check);
-    match read_on(alloc, source, &mut part)? {
-        End::Ended => Ok(part.cut_off()),
-        End::Done => Ok(part.done()),
-        End::Failed => Ok(Front::Failed),
     }
 }

@@ -1,7 +1,11 @@
 use Rattle.std.specs.Vec.Iter.{into_iter_items}
-use Rattle.std.proofs.Common.{◌≡◌, [], rules, sym, ◌∙◌}
+use Rattle.std.proofs.Common.{◌≡◌, Bool, ◌∷◌, [], rules, sym, ◌∙◌}
+use Rattle.log_judgement.specs.Judgement.{Judgement, judge, judged}
+use Rattle.log_check.specs.Aims.{Aim, rules_of}
+use Rattle.log_check.specs.Checking.{IsCheckOf, IsRefusedAs, MayFollow}
+use Rattle.log_part.specs.Reading.{JudgesTo}
 use Rattle.std.proofs.lemmas.List.{nil_from_length}
-use Rattle.log_part.proofs.ItemSteps.{begins, may_take, goes_on, stops, all_done}
+use Rattle.log_part.proofs.ItemSteps.{begins, may_take, goes_on, refused_so, stops, all_done}
 use Rattle.log_part.proofs.judging.judge_all.Goals as goal
 
 pub loop-item-init : goal.loop-item-init
@@ -9,20 +13,26 @@ loop-item-init g c =
     begins (λ h. (goal.Watch-dyn g (h.watch.vtable, h.watch.value)).answers h.watch.value) c.args.check.now c.args.items _ (search rules)
 
 pub take-requires : goal.take-requires
-take-requires g c =
-    may_take (λ h. (goal.Watch-dyn g (h.watch.vtable, h.watch.value)).answers h.watch.value) c.args.check.now c.args.items c.loop-item.check c.in-Some.item (into_iter_items c.next.new.self)
-    (into_iter_items c.loop-item.rest) c.in-Some.ensures.items c.loop-item.invariant c.requires
+take-requires g c = record {
+  check = may_take (λ h. (goal.Watch-dyn g (h.watch.vtable, h.watch.value)).answers h.watch.value) c.args.check.now c.args.items c.loop-item.check c.in-Some.item (into_iter_items c.next.new.self)
+      (into_iter_items c.loop-item.rest) c.in-Some.ensures.items c.loop-item.invariant c.requires;
+}
 
 pub loop-item-preserved : goal.loop-item-preserved
 loop-item-preserved g c =
     goes_on (λ h. (goal.Watch-dyn g (h.watch.vtable, h.watch.value)).answers h.watch.value) c.args.check.now c.args.items c.loop-item.check c.in-Some.item (into_iter_items c.next.new.self)
     (into_iter_items c.loop-item.rest) c.in-Some.ensures.items c.loop-item.invariant c.take.new.self c.in-Ok.field-0 c.in-Ok.ensures.ok
 
-pub returns-in-Err-Fault : goal.returns-in-Err-Fault
-returns-in-Err-Fault g c aim j is follows =
-    stops (λ h. (goal.Watch-dyn g (h.watch.vtable, h.watch.value)).answers h.watch.value) c.args.check.now c.args.items c.loop-item.check c.in-Some.item (into_iter_items c.next.new.self)
-    (into_iter_items c.loop-item.rest) c.in-Some.ensures.items c.loop-item.invariant c.take.new.self _ c.in-Err-Fault.refusal
-    c.in-Err-Fault.ensures.fault aim j is follows
+pub returns-in-Err : goal.returns-in-Err
+returns-in-Err g c =
+    refused_so Bool c.refusal_in.result c.in-Err.refused
+    (λ why. (aim : Aim) (j : Judgement) → IsCheckOf (λ h. (goal.Watch-dyn g (h.watch.vtable, h.watch.value)).answers h.watch.value) aim c.args.check.now j → MayFollow j c.args.items
+    → JudgesTo (λ h. (goal.Watch-dyn g (h.watch.vtable, h.watch.value)).answers h.watch.value) aim c.take.new.self (judged (rules_of aim) j c.args.items) why)
+    (λ why. (aim : Aim) (j : Judgement) → IsCheckOf (λ h. (goal.Watch-dyn g (h.watch.vtable, h.watch.value)).answers h.watch.value) aim c.loop-item.check j → MayFollow j (c.in-Some.item ∷ [])
+    → IsRefusedAs j (judge (rules_of aim) j c.in-Some.item) c.take.new.self.batches why)
+    c.refusal_in.ensures c.in-Err.ensures.fault
+    (λ why told. stops (λ h. (goal.Watch-dyn g (h.watch.vtable, h.watch.value)).answers h.watch.value) c.args.check.now c.args.items c.loop-item.check c.in-Some.item (into_iter_items c.next.new.self)
+    (into_iter_items c.loop-item.rest) c.in-Some.ensures.items c.loop-item.invariant c.take.new.self c.take.new.self.batches why told)
 
 pub returns : goal.returns
 returns g c aim j is follows =

@@ -1,6 +1,0 @@
-pub mod Words
-pub mod Judging
-pub mod Writing
-pub mod Asked
-pub mod OneLine
-pub mod Exact
