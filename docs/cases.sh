@@ -211,6 +211,8 @@ function add_output(line) {
             batches = substr(line, 7) + 0
         if (line ~ /^pota-bench /)
             batches = 1
+        if (line ~ /^pota-cert /)
+            batches = closed_before(log_file, read_log(log_file)) + 1
     }
 }
 
