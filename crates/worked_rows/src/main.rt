@@ -18,7 +18,7 @@ use std::{fs, io};
 use verdict::judge;
 
 /// The files of cases, in the order in which they are run.
-const FILES: [&str; 13] = [
+const FILES: [&str; 12] = [
     "first_form.cases",
     "malformed.cases",
     "words.cases",
@@ -30,7 +30,6 @@ const FILES: [&str; 13] = [
     "failing.cases",
     "two_line_logs.cases",
     "merged_logs.cases",
-    "certificates.cases",
     "benches.cases",
 ];
 
