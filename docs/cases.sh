@@ -1,17 +1,19 @@
 #!/usr/bin/env bash
-# Prints what the pages show of a program as cases of the language that the crate `row_cases` has. They stand in
-# crates/outside_runs/data/pages.cases and crates/view_rows/data/pages.cases, whose programs run them; .ci/run compares both with
-# what this prints, so that no page goes stale.
+# Prints what the pages show of a program as cases of the language that the crate `row_cases` has. They stand in data/pages.cases
+# of crates/outside_runs, crates/view_rows and crates/verify_rows, whose programs run them; .ci/run compares each with what this
+# prints, so that no page goes stale.
 #
 #     docs/cases.sh > crates/outside_runs/data/pages.cases
 #     docs/cases.sh pota_view > crates/view_rows/data/pages.cases
+#     docs/cases.sh pota_verify > crates/verify_rows/data/pages.cases
 #
 # Taken from a page are:
 #
 # - in a fenced block, a line `$ pota WORD .. < FILE`, `$ head -n N FILE | pota WORD ..` or `$ cat FILE .. | pota WORD ..` with the
 #   lines behind it: what the program prints, whole. Behind `$ cat FILE` must stand the file. FILE may be a pattern.
-# - of `pota_view`, a line `$ cat LOG REPORT | pota_view WORD` with the lines behind it
-# - where `> FILE` ends the line of either, the file is what the program prints
+# - of `pota_view`, a line `$ cat LOG REPORT | pota_view WORD` with the lines behind it, and of `pota_verify` likewise
+#   `$ cat LOG CERTIFICATE | pota_verify FORMULA`
+# - where `> FILE` ends the line of any of these, the file is what the program prints
 # - a row of a table whose second cell is `formula byte ..`: the formula in the first cell gives this fault
 # - a row whose second cell is `log line N: ..`: the log gives this fault where line N, or the last where there is no such
 #   line, is the first cell; `log source S line N: ..` speaks of line N of file S. `\` and two hexadecimal digits stand for one
@@ -130,8 +132,8 @@ function begin_command(text,    at) {
         out_file = substr(text, RSTART + 3)
         text = substr(text, 1, RSTART - 1)
     }
-    if (text ~ /^cat [^ ]+ [^ ]+ \| pota_view /) {
-        begin_view(text)
+    if (match(text, /^cat [^ ]+ [^ ]+ \| pota_(view|verify) /)) {
+        begin_sister(substr(text, 1, RLENGTH - 1), substr(text, RLENGTH + 1))
         return
     }
     if (program != "pota")
@@ -171,13 +173,15 @@ function begin_command(text,    at) {
     run_command()
 }
 
-# What a view is made of: a log, a report and a word.
-function begin_view(text,    part, count, i) {
-    if (program != "pota_view")
+# What another program than `pota` reads: a log, what stands behind it, and words.
+function begin_sister(text, words_text,    part, at) {
+    split(text, part, " ")
+    if (program != part[5])
         return
     begin_case()
-    split(text, part, " ")
-    print "word " part[6]
+    word_count = split_words(words_text)
+    for (at = 1; at <= word_count; at++)
+        print "word " words[at]
     put_before = ""
     put_log(part[2], 0, 0, "")
     put_log(part[3], 0, 0, "")
@@ -188,7 +192,9 @@ function begin_view(text,    part, count, i) {
 function run_command(    count, i) {
     running = 1
     report = diag = verdict = ""
-    batches = 0
+    batches = all_batches = 0
+    if (log_file != "")
+        all_batches = closed_before(log_file, read_log(log_file)) + 1
     if (out_file == "")
         return
     count = read_log(out_file)
@@ -212,7 +218,7 @@ function add_output(line) {
         if (line ~ /^pota-bench /)
             batches = 1
         if (line ~ /^pota-cert /)
-            batches = closed_before(log_file, read_log(log_file)) + 1
+            batches = all_batches
     }
 }
 
@@ -223,8 +229,8 @@ function end_command() {
     if (!running)
         return
     running = 0
-    if (program == "pota_view") {
-        print "status 0"
+    if (program != "pota") {
+        print "status " (report ~ /^report refused line / ? 1 : 0)
         print "room 1048576"
         printf "%s", report
         print "end\n"
