@@ -80,8 +80,9 @@ fn other(alloc: Global, told: String, wanted: &str) -> Result<Option<String>, Al
 // Cuts the input of the case short at each byte.
 fn judge_fronts<R: Print>(rt: &R, alloc: Global, case: &Case, parted: &Parted) -> io::Result<()> {
     let mut tally = Tally::new();
-    for len in 0..case.text().len() {
-        let front = &case.text()[..len];
+    let text = case.text();
+    for len in 0..text.len() {
+        let front = &text[..len];
         let wanted = parted.answer_of_front(alloc, front)?;
         let said = other(alloc, told(alloc, case, front, 64)?, wanted.as_str())?;
         let name = format!(in alloc; "cut short behind {len} bytes")?;
