@@ -18,8 +18,8 @@ pub enum Answer {
 /// What a run of the verifier tells its caller.
 #[derive(Clone, Copy, Debug, PartialEq, Eq)]
 pub struct Verified {
-    /// 0 where the certificate is accepted, 1 where it is refused, else that of the fault, from 2 to
-    /// 7.
+    /// 0 where the certificate is accepted, 1 where it is refused, else that of the fault, from 2
+    /// to 7.
     pub status: u8,
     /// None exactly where the certificate is accepted or refused.
     pub fault: Option<Fault>,
