@@ -1,19 +1,20 @@
 #!/usr/bin/env bash
-# Runs the program on small logs with its growths of memory refused, one at a time, from the first
-# on up to the first run in which nothing was refused. Each time it must say that it is out of
-# memory, with a front of the report written, or do as without refusal.
+# Runs the programs on small logs with their growths of memory refused, one at a time, from the first
+# on up to the first run in which nothing was refused. Each time the program must say that it is out
+# of memory, with a front of its output written, or do as without refusal.
 #
-# bench/memory/run.sh [PROGRAM]
+# bench/memory/run.sh [CRATES]
 #
-# PROGRAM is crates/pota/out/pota where it is left out, which `rt run` in crates/pota makes.
+# CRATES is the folder crates/ where it is left out. `rt run` in CRATES/pota makes the program
+# CRATES/pota/out/pota, and so those of the other two.
 set -e
 here=$(cd "$(dirname "$0")" && pwd)
-program=${1:-$here/../../crates/pota/out/pota}
+crates=${1:-$here/../../crates}
+crates=$(cd "$crates" && pwd)
 scratch=$(mktemp -d)
 trap 'rm -rf "$scratch"' EXIT
 cc -O1 -shared -fPIC -o "$scratch/refuse.so" "$here/refuse.c" -ldl
 cd "$scratch"
-echo 'pota: out of memory' > no_memory
 
 cat > run.log <<'LOG'
 pota-log 1
@@ -40,21 +41,22 @@ server {"server":1,"client":1}
 got
 LOG
 
-# A run with the growth of this number refused; 0 refuses none.
+# A run of the program with the growth of this number refused; 0 refuses none.
 run() {
     : > mark
     status=0
     REFUSED=$1 REFUSED_MARK=$scratch/mark LD_PRELOAD=$scratch/refuse.so \
-        "$program" "${@:3}" < "$2" > written 2> told || status=$?
+        "$crates/$program/out/$program" "${@:3}" < "$2" > written 2> told || status=$?
 }
 
 wrong=0
-# try STATUS LOG WORD..
+# try STATUS INPUT WORD.., of the program of that name
 try() {
     local wanted=$1 log=$2 number=0 refused=0
+    echo "$program: out of memory" > no_memory
     run 0 "$log" "${@:3}"
     if [ "$status" != "$wanted" ]; then
-        echo "${*:3}: status $status, not $wanted"
+        echo "$program ${*:3}: status $status, not $wanted"
         wrong=1
         return
     fi
@@ -73,12 +75,13 @@ try() {
         elif [ "$status" = "$wanted" ] && cmp -s written whole && [ ! -s told ]; then
             continue
         fi
-        echo "${*:3}: growth $number refused: status $status, $(head -n 1 told)"
+        echo "$program ${*:3}: growth $number refused: status $status, $(head -n 1 told)"
         wrong=1
     done
-    echo "${*:3}: $((number - 1)) growths refused, $refused of them told"
+    echo "$program ${*:3}: $((number - 1)) growths refused, $refused of them told"
 }
 
+program=pota
 try 1 run.log check 'AG empty(P,Q)' --slice --witness
 try 0 run.log check 'empty(P,Q)' --slice --witness
 try 1 run.log check '(P.x = 1 & Q.y = 2) | (P.x = 2 & Q.y = 1)' --slice --witness
@@ -87,4 +90,12 @@ try 1 batches.log check 'EG empty(P,Q)' --witness --each-batch
 try 0 two_line.log check 'EF (client.n = 1 & server.n = 0)' --vclog --slice --witness
 try 0 logs_of_processes check 'EF (P.x = 2 & Q.y = 1)' --merged --slice --witness
 try 0 run.log bench 'EF (P3.seen = 1 & P2.n = 0)' --seed 42 --procs 3 --events 6
+try 1 run.log certify 'AG empty(P,Q)'
+{ cat run.log; cat whole; } > verified
+{ cat run.log; run 0 run.log check 'EG P.x <= 2' --slice --witness; cat written; } > viewed
+program=pota_verify
+try 0 verified 'AG empty(P,Q)'
+program=pota_view
+try 0 viewed text
+try 0 viewed svg
 exit $wrong
