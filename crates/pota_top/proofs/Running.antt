@@ -1,13 +1,12 @@
--- How the answers to a check and a bench are those to the words.
+-- How the answers to a check, and to words at fault, are those to the words.
 use Rattle.std.proofs.Common.{◌≡◌, ℕ, ◌≤◌, List, [], ◌∷◌, ◌++◌, Option, Some, None, Result, Ok, Err, refl, sym, ap, ◌∙◌, subst, arith, inl, inr, append_assoc}
 use Rattle.std.specs.Prelude.{Bool, true, false, if◌then◌else◌, ◌↔◌}
 use Rattle.std.specs.List.{AllByRecursion}
 use Rattle.std.specs.Io.KnownBytes.{IsAtEnd}
-use Rattle.std.proofs.KnownBytes.{Appends-nil, Consumes-nil}
 use Rattle.pota_base.specs.Outside.{IsPrefix}
 use Rattle.pota_base.specs.declared.status.Status.TheVariants as status
 use Rattle.run_model.specs.Class.{IsOfClass}
-use Rattle.run_model.specs.Run.{Name, Watches}
+use Rattle.run_model.specs.Run.{Watches}
 use Rattle.rctl_grammar.specs.declared.tree.Tree.{Tree}
 use Rattle.rctl_class.specs.Nodes.{node_of, formula_of}
 use Rattle.rctl_class.proofs.Class.{of_the_class}
@@ -17,19 +16,16 @@ use Rattle.command_words.specs.declared.request.Product.{Product}
 use Rattle.command_words.specs.declared.request.Inquiry.{Inquiry}
 use Rattle.command_words.specs.declared.request.Product.TheVariants as product
 use Rattle.command_words.specs.declared.request.Shown.{Shown}
-use Rattle.command_words.specs.declared.request.Sizes.{Sizes}
 use Rattle.run_request.specs.declared.formula.Stated.{Stated}
 use Rattle.run_request.specs.declared.question.QuestionFault.{QuestionFault}
 use Rattle.run_request.specs.declared.question.QuestionFault.TheVariants as question
 use Rattle.run_request.specs.Questions.{IsQuestionFault, IsStated, AsksFor}
 use Rattle.run_report.specs.Reports.{Asked, IsReportOf}
 use Rattle.report.specs.Spelling.{report_text}
-use Rattle.run_report.specs.Benches.{IsSummaryOf}
 use Rattle.log_judgement.specs.declared.refusal.Refusal.{Refusal}
 use Rattle.log_judgement.specs.declared.refusal.Refusal.TheVariants as refusal
 use Rattle.log_judgement.specs.Judgement.{Prefix}
 use Rattle.log_judgement.specs.Readings.{Reading}
-use Rattle.log_judgement.specs.WholeLogs.{all_of}
 use Rattle.log_judgement.specs.Counters.{counters_in}
 use Rattle.log_judgement.specs.Texts.{reported, IsReportText, AreReports}
 use Rattle.log_judgement.proofs.Dues.{due_grows}
@@ -44,22 +40,15 @@ use Rattle.log_answers.specs.declared.stop.StopCause.TheVariants as causes
 use Rattle.log_answers.specs.declared.stop.Stop.{Stop}
 use Rattle.log_answers.specs.declared.stop.Verdict.{Verdict}
 use Rattle.run_promise.specs.declared.outcome.Outcome.{Outcome}
-use Rattle.pota_top.specs.Outcome.{fault_of, faulty_outcome, outcome_of}
-use Rattle.run_promise.specs.Asking.{Handing, handing_of, asked_by, asked, certifying, reading_of, due_of}
+use Rattle.batch_answers.specs.Outcome.{fault_of, faulty_outcome, outcome_of}
+use Rattle.run_promise.specs.Asking.{Handing, handing_of, asked_by, reading_of, due_of}
 use Rattle.log_answers.specs.Checking.{AreReportsFor, HasPartOf, HasFrontOf}
 use Rattle.log_answers.specs.Inputs.{due_by, TellsDueBy, StopsBy, IsVerdictBy, ChecksBy, HasCheckedBy}
-use Rattle.pota_top.specs.Benching.{IsSummary, missing_name, IsBenchOf, BenchStops, BenchesTo, HasMade}
 use Rattle.run_report.proofs.Telling.{told_denotes, told_kinds}
 use Rattle.run_promise.proofs.Clauses.{not_both, not_certified, form_is_read}
 use Rattle.run_promise.specs.Certificates.{IsTrueAtStart}
-use Rattle.run_promise.specs.Run.{Tells, AllTell, IsTold, HasVerdict, IsRefused, HasPart, IsBenched, HasBenched, IsWholeDue, sizes_of, made_by, Answer, Ran}
-
--- ---- a formula that is stated is asked
-
-stated_asked : (s : Stated) (slice witness : Bool) (names : List Name) (watches : Watches) (text : List ℕ) → IsStated text s
-    → asked_of (aim_of s slice witness names watches) ≡ asked s.formula.tree slice witness
-stated_asked s slice witness names watches text is =
-    ap (λ (t : List ℕ). let q : Asked = record { formula = formula_of (node_of s.formula.tree); text = t; slice = slice; witness = witness } in q) is.printed
+use Rattle.run_promise.specs.Run.{Tells, AllTell, IsTold, HasVerdict, IsRefused, HasPart, IsWholeDue, Answer, Ran}
+use Rattle.batch_answers.proofs.Undone.{stated_asked, ran_nothing}
 
 front_half : (Good : Prefix → Type 0) (xs ys : List Prefix) → AllByRecursion Good (xs ++ ys) → AllByRecursion Good xs
 front_half Good [] ys h = tt
@@ -77,9 +66,6 @@ all_tell t shown watches class (log ∷ logs) ordered kept =
       kinds = told_kinds q log.header log.batches watches class ordered.0 kept.0 report is;
     } in
     (here, all_tell t shown watches class logs ordered.1 kept.1)
-
-nothing_front : (text : List ℕ) → IsPrefix [] text
-nothing_front text = (text, refl)
 
 -- what is asked of an input, by its form and its product
 pub asked_so : (words : List (List ℕ)) (t : Tree) (i : Inquiry) (read_as : Form) (written : Product) → i.form ≡ read_as → i.product ≡ written → AsksFor words (task.Read i) t
@@ -249,127 +235,7 @@ module _ {X : Type 0} {P : X → Type 0} (says : Says X P) (s : Stated) (read_as
     answer = answer_of left' lf lf' of of' h.read h.written result h.to;
   }
 
--- ---- a bench
-
-module _ {X : Type 0} {P : X → Type 0} (says : Says X P) (s : Stated) (sizes : Sizes) (handed : List (Handed X P)) (words : List (List ℕ)) (formula : List ℕ) (is : IsStated formula s) (asks : AsksFor words (task.Bench sizes) s.formula.tree) where
-  abbrev bench_aim : Aim
-  bench_aim = aim_of s true false (names_of handed) (watches_of says handed)
-
-  abbrev bench_on : Handing
-  bench_on = handing_of says handed
-
-  summary_asked : (text : List ℕ) → IsSummary bench_aim sizes text
-      → IsSummaryOf (sizes_of sizes) (asked s.formula.tree true false) (made_by sizes).header (made_by sizes).batches (watches_of says handed) text
-  summary_asked text h =
-      subst (λ (q : Asked). IsSummaryOf (sizes_of sizes) q (made_by sizes).header (made_by sizes).batches (watches_of says handed) text)
-      (stated_asked s true false (names_of handed) (watches_of says handed) formula is) h
-
-  abbrev benched_as : (text : List ℕ) (b : Bool) → missing_name bench_aim sizes ≡ None → IsSummary bench_aim sizes text
-      → ((b ≡ true) ↔ IsTrueAtStart (watches_of says handed) s.formula.tree (all_of (made_by sizes))) → IsBenched bench_on words text b
-  benched_as text b named summary truth = record {
-    tree = s.formula.tree;
-    sizes = sizes;
-    asks = asks;
-    named = named;
-    says = summary_asked text summary;
-    truth = truth;
-  }
-
-  module _ (left : Option (List ℕ)) (lf of of' : ℕ) (written : List ℕ) where
-    bench_stop : (why : StopCause) (n : ℕ) → BenchStops why n of of' bench_aim sizes written
-        → Answer (status_of (fault_of why)) left lf lf of of' bench_on words [] written (faulty_outcome n (fault_of why))
-    bench_stop (causes.Refused (refusal.Formula x)) n h = (
-      x,
-      inr (inr (record {
-        tree = s.formula.tree;
-        sizes = sizes;
-        asks = asks;
-        missing = h.0;
-        nothing = (refl, h.1);
-        batches = h.2;
-        fault = refl;
-      })),
-    )
-    bench_stop (causes.Refused (refusal.Log x)) n h = absurd h
-    bench_stop (causes.Refused (refusal.Import x)) n h = absurd h
-    bench_stop (causes.Refused (refusal.Merge x)) n h = absurd h
-    bench_stop causes.Write n h = (
-      inr (record {
-        nothing = refl;
-        summary = h.0.summary;
-        verdict = h.0.is.report.verdict;
-        is = benched_as h.0.summary h.0.is.report.verdict h.0.named h.0.is h.0.is.says.says.verdict;
-        part = h.0.part;
-        batches = h.0.count;
-      }),
-      refl,
-      h.1,
-    )
-    bench_stop causes.Memory n h = record {
-      front = λ other text batches w. (subst (λ (t : List ℕ). IsPrefix t text) (sym h.0) (nothing_front text), let none = h.1 in omega (arith, none));
-      certified = λ u k. absurd (not_both words certifying sizes u s.formula.tree k asks);
-      unread = λ t sizes k. refl;
-      unnamed = λ t sizes f k lacks. h;
-      fault = refl;
-    }
-    bench_stop causes.Read n h = absurd h
-
-    bench_of : (b : Bool) (v : Verdict) → v.truth ≡ b → IsBenchOf bench_aim sizes written v
-        → HasBenched bench_on words [] written (record { status = if b then status.True else status.False; batches = v.batches; fault = None }) b
-    bench_of b v same_truth h = record {
-      nothing = refl;
-      summary = benched_as written b h.named h.summary (subst (λ (x : Bool). (x ≡ true) ↔ IsTrueAtStart (watches_of says handed) s.formula.tree (all_of (made_by sizes))) same_truth h.truth);
-      batches = h.batches;
-      fault = refl;
-    }
-
-    bench_verdict : (b : Bool) (v : Verdict) → v.truth ≡ b → IsBenchOf bench_aim sizes written v
-        → Answer (if b then status.True else status.False) left lf lf of of' bench_on words [] written (record { status = if b then status.True else status.False; batches = v.batches; fault = None })
-    bench_verdict true v e h = inr (bench_of true v e h)
-    bench_verdict false v e h = inr (bench_of false v e h)
-
-    bench_answer : (result : Result Verdict Stop) → BenchesTo of of' bench_aim sizes written result
-        → Answer (outcome_of result).status left lf lf of of' bench_on words [] written (outcome_of result)
-    bench_answer (Ok v) h = bench_verdict v.truth v refl h
-    bench_answer (Err stop) h = bench_stop stop.cause stop.batches h
-
-  pub ran_made : (left held held' : Option (List ℕ)) (lf of of' : ℕ) (result : Result Verdict Stop) → HasMade held held' of of' bench_aim sizes result
-      → Ran left left held held' lf lf of of' bench_on words (outcome_of result)
-  ran_made left held held' lf of of' result h = record {
-    read = [];
-    written = h.written;
-    consumed = Consumes-nil left;
-    wrote = h.wrote;
-    log_later = omega arith;
-    out_later = h.later;
-    answer = bench_answer left lf of of' h.written result h.to;
-  }
-
--- ---- nothing was done
-
-ran_nothing : (left held : Option (List ℕ)) (lf of : ℕ) (on : Handing) (words : List (List ℕ)) (o : Outcome) → Answer o.status left lf lf of of on words [] [] o
-    → Ran left left held held lf lf of of on words o
-ran_nothing left held lf of on words o answer = record {
-  read = [];
-  written = [];
-  consumed = Consumes-nil left;
-  wrote = Appends-nil held;
-  log_later = omega arith;
-  out_later = omega arith;
-  answer = answer;
-}
-
-pub ran_short : (left held : Option (List ℕ)) (lf of : ℕ) (on : Handing) (words : List (List ℕ)) (stop : Stop) → stop ≡ record { batches = 0; cause = causes.Memory }
-    → Ran left left held held lf lf of of on words (outcome_of (Err stop))
-ran_short left held lf of on words stop is =
-    subst (λ (x : Stop). Ran left left held held lf lf of of on words (outcome_of (Err x))) (sym is)
-    (ran_nothing left held lf of on words (outcome_of (Err (record { batches = 0; cause = causes.Memory }))) (record {
-      front = λ other text batches w. (nothing_front text, omega arith);
-      certified = λ t k. (inl refl, refl);
-      unread = λ t sizes k. refl;
-      unnamed = λ t sizes f k lacks. (refl, refl);
-      fault = refl;
-    }))
+-- ---- words at fault
 
 misasked_answer : (words : List (List ℕ)) (left : Option (List ℕ)) (lf of : ℕ) (on : Handing) (f : QuestionFault) → IsQuestionFault words f
     → Answer (status_of (fault_of_question f)) left lf lf of of on words [] [] (faulty_outcome 0 (fault_of_question f))

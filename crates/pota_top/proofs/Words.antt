@@ -1,6 +1,6 @@
 -- The numbers among the words are in their ranges.
 use Rattle.std.proofs.Common.{◌≡◌, ℕ, ◌≤◌, ◌-◌, ◌^◌, Bool, true, false, Option, Some, None, List, refl, sym, ap, subst, ◌∙◌, arith, inl, inr}
-use Rattle.std.specs.Prelude.{◌&&◌, ◌||◌, nat_le, is_some, option_map, option_and_then, codes, if◌then◌else◌}
+use Rattle.std.specs.Prelude.{◌&&◌, ◌||◌, nat_le, option_map, option_and_then, codes, if◌then◌else◌}
 use Rattle.std.specs.Str.{bytes_eq}
 use Rattle.std.proofs.lemmas.Bool.{cases_Bool}
 use Rattle.std.proofs.lemmas.Bool.Decides.{nat_tests}
@@ -20,7 +20,7 @@ use Rattle.command_words.specs.Rule.{Text, given}
 use Rattle.run_request.specs.declared.question.Question.{Question}
 use Rattle.run_request.specs.Questions.{IsQuestion, AsksFor}
 use Rattle.run_promise.specs.Asking.{certifying}
-use Rattle.pota_top.specs.Benching.{CanBeMade}
+use Rattle.bench_answers.specs.Benching.{CanBeMade}
 
 abbrev Then : {A B : Type 0} → Option A → (A → Option B) → B → Type 0
 Then {A} o f b = (a : A) × (o ≡ Some a) × (f a ≡ Some b)

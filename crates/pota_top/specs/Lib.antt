@@ -1,4 +1,1 @@
-pub mod Outcome
-pub mod Reading
-pub mod Benching
-pub mod Certifying
+pub mod Telling

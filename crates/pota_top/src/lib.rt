@@ -24,9 +24,6 @@
 #![tactic(auto)]
 
 mod answering;
-mod certifying;
-mod outcome;
-mod reading;
 mod top;
 
 pub use fault_line::Fault;

@@ -8,10 +8,12 @@ ghost use Rattle.fault_line.specs.Lines.{Told};
 ghost use Rattle.run_promise.specs.Asking.{handing_of};
 ghost use Rattle.run_promise.specs.Run.{IsBenchAnswered, IsCalm, IsDecided, IsRefusedAsAsked};
 ghost use Rattle.run_promise.specs.Run.{IsRefusedAsDue, Ran};
-ghost use Rattle.pota_top.specs.Outcome.{line_of, outcome_of};
+ghost use Rattle.batch_answers.specs.Outcome.{outcome_of};
+ghost use Rattle.pota_top.specs.Telling.{line_of};
 
-use crate::answering::{answer_bench, answer_inquiry};
-use crate::outcome::{faulty, outcome_of};
+use crate::answering::answer_inquiry;
+use batch_answers::{faulty, outcome_of};
+use bench_answers::answer_bench;
 use command_words::Task;
 use fault_line::{Fault, tell};
 use log_answers::{Means, Stop, Verdict};

@@ -5,8 +5,9 @@ use Rattle.run_request.specs.Questions.{IsQuestionFault, AreFaults}
 use Rattle.run_promise.proofs.Clauses.{told_as}
 use Rattle.fault_line.specs.declared.fault.Fault.{Fault}
 use Rattle.fault_line.specs.Faults.{fault_of_question}
-use Rattle.pota_top.specs.Outcome.{faulty_outcome}
-use Rattle.pota_top.proofs.Running.{ran_misasked, ran_short}
+use Rattle.batch_answers.specs.Outcome.{faulty_outcome}
+use Rattle.batch_answers.proofs.Undone.{ran_short}
+use Rattle.pota_top.proofs.Running.{ran_misasked}
 use Rattle.pota_top.proofs.top.answer_words.Goals as goal
 
 pub returns-in-Ok : goal.returns-in-Ok

@@ -1,0 +1,3 @@
+pub mod ReadingSteps
+pub mod Endings
+pub mod Undone

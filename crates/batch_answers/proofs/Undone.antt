@@ -1,0 +1,53 @@
+-- What holds of each answer: a formula that is stated is asked, and a run that did nothing is one.
+use Rattle.std.proofs.Common.{◌≡◌, ℕ, List, [], Option, Err, refl, sym, ap, subst, arith, inl}
+use Rattle.std.specs.Prelude.{Bool}
+use Rattle.std.proofs.KnownBytes.{Appends-nil, Consumes-nil}
+use Rattle.pota_base.specs.Outside.{IsPrefix}
+use Rattle.run_model.specs.Run.{Name, Watches}
+use Rattle.rctl_class.specs.Nodes.{node_of, formula_of}
+use Rattle.run_request.specs.declared.formula.Stated.{Stated}
+use Rattle.run_request.specs.Questions.{IsStated}
+use Rattle.run_report.specs.Reports.{Asked}
+use Rattle.log_check.specs.Aims.{asked_of, aim_of}
+use Rattle.log_answers.specs.declared.stop.StopCause.TheVariants as causes
+use Rattle.log_answers.specs.declared.stop.Stop.{Stop}
+use Rattle.run_promise.specs.declared.outcome.Outcome.{Outcome}
+use Rattle.batch_answers.specs.Outcome.{outcome_of}
+use Rattle.run_promise.specs.Asking.{Handing, asked}
+use Rattle.run_promise.specs.Run.{Answer, Ran}
+
+-- ---- a formula that is stated is asked
+
+pub stated_asked : (s : Stated) (slice witness : Bool) (names : List Name) (watches : Watches) (text : List ℕ) → IsStated text s
+    → asked_of (aim_of s slice witness names watches) ≡ asked s.formula.tree slice witness
+stated_asked s slice witness names watches text is =
+    ap (λ (t : List ℕ). let q : Asked = record { formula = formula_of (node_of s.formula.tree); text = t; slice = slice; witness = witness } in q) is.printed
+
+-- ---- nothing was done
+
+pub nothing_front : (text : List ℕ) → IsPrefix [] text
+nothing_front text = (text, refl)
+
+pub ran_nothing : (left held : Option (List ℕ)) (lf of : ℕ) (on : Handing) (words : List (List ℕ)) (o : Outcome) → Answer o.status left lf lf of of on words [] [] o
+    → Ran left left held held lf lf of of on words o
+ran_nothing left held lf of on words o answer = record {
+  read = [];
+  written = [];
+  consumed = Consumes-nil left;
+  wrote = Appends-nil held;
+  log_later = omega arith;
+  out_later = omega arith;
+  answer = answer;
+}
+
+pub ran_short : (left held : Option (List ℕ)) (lf of : ℕ) (on : Handing) (words : List (List ℕ)) (stop : Stop) → stop ≡ record { batches = 0; cause = causes.Memory }
+    → Ran left left held held lf lf of of on words (outcome_of (Err stop))
+ran_short left held lf of on words stop is =
+    subst (λ (x : Stop). Ran left left held held lf lf of of on words (outcome_of (Err x))) (sym is)
+    (ran_nothing left held lf of on words (outcome_of (Err (record { batches = 0; cause = causes.Memory }))) (record {
+      front = λ other text batches w. (nothing_front text, omega arith);
+      certified = λ t k. (inl refl, refl);
+      unread = λ t sizes k. refl;
+      unnamed = λ t sizes f k lacks. (refl, refl);
+      fault = refl;
+    }))

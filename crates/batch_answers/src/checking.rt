@@ -1,0 +1,32 @@
+//! Reading a log to its end, and reporting on it.
+ghost use Rattle.std.specs.Prelude.{◌≡◌};
+ghost use Rattle.log_judgement.specs.Judgement.{waiting};
+ghost use Rattle.log_check.specs.Aims.{Aim, said_by};
+ghost use Rattle.log_check.specs.Checking.{IsCheckOf};
+ghost use Rattle.batch_answers.specs.Reading.{HasChecked};
+
+use crate::reading::read_log;
+use log_answers::{Checking, Means, Stop, Verdict};
+use pota_base::{Gate, Sink, Source};
+use std::sync::ledger::Ledger;
+use std::thread::Threads;
+use watch::{Handed, Watch};
+
+/// Reads the log to its end, and writes all its reports.
+pub fn check_all<R: Threads + Sync, G: Gate, L: Ledger, S: Source, O: Sink>(
+    means: &Means<'_, R, G>,
+    checking: &mut Checking<L>,
+    log: &mut S,
+    out: &mut O,
+) -> Result<Verdict, Stop>
+    requires { (aim : Aim) × IsCheckOf (said_by answers) aim checking.old.check waiting }
+    ensures { (aim : Aim) → IsCheckOf (said_by answers) aim checking.old.check waiting
+        → HasChecked (S.left log.old) (S.left log.new) (O.held out.old) (O.held out.new)
+        (S.faults log.old) (S.faults log.new) (O.faults out.old) (O.faults out.new) aim
+        checking.old.each_batch result }
+{
+    if let Err(stop) = read_log(means, checking, log, out) {
+        return Err(stop);
+    }
+    checking.report(means, out)
+}

@@ -1,0 +1,3 @@
+pub mod NoFall
+pub mod Benching
+pub mod Summaries

@@ -1,0 +1,13 @@
+use Rattle.certificate_answers.proofs.Certificates.{ran_certified}
+use Rattle.batch_answers.proofs.Undone.{ran_short}
+use Rattle.certificate_answers.proofs.certifying.answer_certificate.Goals as goal
+
+pub certify_text-requires-clause-check : goal.certify_text-requires-clause-check
+certify_text-requires-clause-check g c κs lives = (c.args.stated, c.requires.0, c.requires.1, c.in-Ok.ensures)
+
+pub returns : goal.returns
+returns g c words text is asks on =
+    ran_certified c.args.stated words asks on _ _ _ _ _ _ _ _ c.certify_text.result (c.certify_text.ensures c.args.stated text is c.in-Ok.ensures)
+
+pub returns-in_default : goal.returns-in_default
+returns-in_default g c words text is asks on = ran_short _ _ _ _ on words c.without_memory.result c.without_memory.ensures
