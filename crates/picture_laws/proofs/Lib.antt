@@ -1,0 +1,4 @@
+pub mod Places
+pub mod Once
+pub mod Arrows
+pub mod Dashes
