@@ -2,7 +2,8 @@
 //!
 //! Each message whose send and receipt are there has exactly one arrow, from mark to mark, and no
 //! other arrow is drawn (`messages_have_one_arrow`). Each of the first 40 edges of a report has
-//! exactly one dashed line (`first_edges_have_one_line`).
+//! exactly one dashed line (`first_edges_have_one_line`). The text of a picture is well-formed XML
+//! (`pictures_are_well_formed`).
 //!
 //! Not said: how the picture is written, and that it is this one. `view_picture` says so.
 #![tactic(auto)]
@@ -10,6 +11,7 @@
 ghost use Rattle.picture_laws.specs.Laws.{ArrowsAreDrawn, MessagesHaveOneArrow};
 ghost use Rattle.picture_laws.specs.Laws.{ArrowsAreOfMessages};
 ghost use Rattle.picture_laws.specs.Laws.{EdgeLinesAreDrawn, FirstEdgesHaveTheirLines};
+ghost use Rattle.picture_laws.specs.WellFormed.{PicturesAreWellFormed};
 
 /// A message that is sent and received has one arrow from the mark of its send to the mark of its
 /// receipt, and each arrow is one of a message.
@@ -24,4 +26,10 @@ pub fn messages_have_one_arrow()
 pub fn first_edges_have_one_line()
     ensures drawn { EdgeLinesAreDrawn }
     ensures one { FirstEdgesHaveTheirLines }
+{}
+
+/// Where processes and variables have names and the formula has printed bytes alone, the text of
+/// the picture is well-formed XML.
+pub fn pictures_are_well_formed()
+    ensures { PicturesAreWellFormed }
 {}
