@@ -7,3 +7,5 @@ pub mod Grammar
 pub mod Elements
 pub mod Parts
 pub mod WellFormed
+pub mod Printed
+pub mod OfRuns

@@ -33,6 +33,9 @@ wider p q each (x ∷ xs) h = let parts = and_parts (p x) (list_all p xs) h in a
 pub value_is_plain : (bytes : List ℕ) → IsValue bytes → IsPlain bytes
 value_is_plain = wider is_in_value is_plain (λ b h. (and_parts (is_plain b) (not (b == 39)) h).0)
 
+pub plain_is_printed : (bytes : List ℕ) → IsPlain bytes → list_all is_printed bytes ≡ true
+plain_is_printed = wider is_plain is_printed (λ b h. (and_parts (is_printed b) (not (b == 38 || (b == 60 || b == 62))) h).0)
+
 -- ---- numbers
 
 glyph_value : (d : ℕ) → d < 10 → is_in_value (digit_glyph false d) ≡ true

@@ -1,13 +1,15 @@
 -- That pictures are well-formed XML, as a statement.
-use Rattle.std.specs.Prelude.{◌≡◌, true}
+use Rattle.std.specs.Prelude.{◌≡◌, ℕ, true, List}
 use Rattle.std.specs.List.{AllByRecursion, list_all}
 use Rattle.pota_names.specs.Names.{is_name}
 use Rattle.event_log.specs.declared.log.Binding.{Binding}
 use Rattle.event_log.specs.declared.log.Header.{Header}
+use Rattle.event_log.specs.LogText.{HeaderFits}
 use Rattle.event_log.specs.States.{StatesView}
 use Rattle.report.specs.declared.report.Report.{Report}
+use Rattle.report.specs.Spelling.{IsWellFormed}
 use Rattle.view_picture.specs.Columns.{Rows}
-use Rattle.view_picture.specs.Picture.{picture}
+use Rattle.view_picture.specs.Picture.{picture, IsPictureOf}
 use Rattle.picture_laws.specs.Xml.{is_printed, IsDocument}
 
 -- the names of processes and variables are letters, digits and `_`
@@ -20,3 +22,9 @@ abbrev pub PicturesAreWellFormed : Type 0
 PicturesAreWellFormed =
     (s : StatesView) (rows : Rows) (r : Report) → HasNames s.header
     → list_all is_printed r.formula ≡ true → IsDocument (picture s rows r)
+
+-- so the picture of a run by a report of it is well-formed, where its log has a text
+abbrev pub PicturesOfRunsAreWellFormed : Type 0
+PicturesOfRunsAreWellFormed =
+    (s : StatesView) (r : Report) (bytes : List ℕ) → HeaderFits s.header → IsWellFormed r
+    → IsPictureOf s r bytes → IsDocument bytes

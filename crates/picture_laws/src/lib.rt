@@ -11,7 +11,7 @@
 ghost use Rattle.picture_laws.specs.Laws.{ArrowsAreDrawn, MessagesHaveOneArrow};
 ghost use Rattle.picture_laws.specs.Laws.{ArrowsAreOfMessages};
 ghost use Rattle.picture_laws.specs.Laws.{EdgeLinesAreDrawn, FirstEdgesHaveTheirLines};
-ghost use Rattle.picture_laws.specs.WellFormed.{PicturesAreWellFormed};
+ghost use Rattle.picture_laws.specs.WellFormed.{PicturesAreWellFormed, PicturesOfRunsAreWellFormed};
 
 /// A message that is sent and received has one arrow from the mark of its send to the mark of its
 /// receipt, and each arrow is one of a message.
@@ -29,7 +29,9 @@ pub fn first_edges_have_one_line()
 {}
 
 /// Where processes and variables have names and the formula has printed bytes alone, the text of
-/// the picture is well-formed XML.
+/// the picture is well-formed XML. So it is of each run whose log has a text, and each well-formed
+/// report.
 pub fn pictures_are_well_formed()
-    ensures { PicturesAreWellFormed }
+    ensures text { PicturesAreWellFormed }
+    ensures of_runs { PicturesOfRunsAreWellFormed }
 {}
