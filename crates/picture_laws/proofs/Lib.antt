@@ -1,0 +1,11 @@
+pub mod Places
+pub mod Once
+pub mod Arrows
+pub mod Dashes
+pub mod Plain
+pub mod Grammar
+pub mod Elements
+pub mod Parts
+pub mod WellFormed
+pub mod Printed
+pub mod OfRuns

@@ -1,0 +1,301 @@
+-- What is drawn of events, messages, cuts, witnesses and slices is content.
+use Rattle.std.proofs.Common.{◌≡◌, ℕ, zero, suc, ◌+◌, ◌-◌, ◌*◌, Bool, true, false, List, [], ◌∷◌, ◌++◌, length, take, get_or, refl, subst, append_assoc}
+use Rattle.std.specs.Prelude.{codes, min, nat_lt, nat_le, ◌==◌, Option, None, Some, if◌then◌else◌}
+use Rattle.std.specs.List.{AllByRecursion}
+use Rattle.std.specs.Fmt.{decimal, signed_decimal}
+use Rattle.run_model.specs.Cut.{Cut}
+use Rattle.log_lines.specs.Names.{is_name, are_distinct}
+use Rattle.log_lines.specs.Spelling.{values_text, clock_rest, clock_text}
+use Rattle.pota_base.specs.declared.shape.EventId.{EventId}
+use Rattle.event_log.specs.declared.log.Kind.{Kind}
+use Rattle.event_log.specs.declared.log.Kind.TheVariants as kind
+use Rattle.event_log.specs.declared.log.Assign.{Assign}
+use Rattle.event_log.specs.declared.log.Binding.{Binding}
+use Rattle.event_log.specs.Numbers.{binding_names, variables_at}
+use Rattle.event_log.specs.LogText.{name_at, action_of, named_values}
+use Rattle.event_log.specs.States.{StatesView}
+use Rattle.log_lines.specs.Spelling.{action_text}
+use Rattle.view_parts.specs.Parts.{event_at, variable_name, place_text, line_text, kind_text, assigns_text}
+use Rattle.witness_kinds.specs.declared.Witness.{Witness}
+use Rattle.witness_kinds.specs.declared.Witness.TheVariants as witness
+use Rattle.report_lines.specs.declared.kinds.WitnessText.{WitnessText}
+use Rattle.report.specs.declared.report.SliceText.{SliceText}
+use Rattle.view_picture.specs.declared.svg.Point.{Point}
+use Rattle.view_picture.specs.declared.frame.Frame.{Frame}
+use Rattle.view_picture.specs.Columns.{Rows}
+use Rattle.view_parts.specs.Each.{each_below}
+use Rattle.view_picture.specs.Svg.{line, circle, text}
+use Rattle.view_picture.specs.Frame.{lane, at}
+use Rattle.view_picture.specs.Drawing.{point, lane_drawn, send_of, arrow_from, arrow_to, title, is_beyond, cut_drawn, mark_look, number_look, disc, short, assigned, no_assign, assign_text, under_back_look, under_look, under, more_under, assigns_under, shown_under, mark, least_look, greatest_look, goal_look, step_back_look, step_look, numbered, no_place, steps_drawn, ring, path_drawn, witness_drawn}
+use Rattle.view_picture.specs.Picture.{row_at, sample, note, bounds_drawn, slice_drawn, edges_note, meaning_of, witness_meaning, one_drawn}
+use Rattle.picture_laws.specs.Xml.{Attribute, is_plain, names_of, IsContent, nothing}
+use Rattle.picture_laws.specs.WellFormed.{HasNames}
+use Rattle.picture_laws.proofs.Plain.{IsPlain, both, first_of, number_plain, signed_plain, names_plain}
+use Rattle.picture_laws.proofs.Grammar.{plain_content, one_more, each_content, feed, Look, look_of, attr, box}
+use Rattle.picture_laws.proofs.Elements.{line_content, circle_content, text_content, cut_content}
+
+either_content : (b : Bool) (xs ys : List ℕ) → IsContent xs → IsContent ys → IsContent (if b then xs else ys)
+either_content true xs ys h k = h
+either_content false xs ys h k = k
+
+-- ---- plain texts of an event
+
+process_plain : (s : StatesView) → HasNames s.header → (p : ℕ) → IsPlain (name_at s.header.procs p)
+process_plain s named p = names_plain s.header.procs p named.procs
+
+own_names : (bindings : List Binding) → AllByRecursion (λ (b : Binding). is_name b.name ≡ true) bindings → AllByRecursion (λ n. is_name n ≡ true) (binding_names bindings)
+own_names [] all = tt
+own_names (b ∷ bindings) all = (all.0, own_names bindings all.1)
+
+all_names : (vars : List (List Binding)) (p : ℕ) → AllByRecursion (AllByRecursion (λ (b : Binding). is_name b.name ≡ true)) vars → AllByRecursion (λ n. is_name n ≡ true) (binding_names (variables_at vars p))
+all_names [] p all = tt
+all_names (v ∷ vars) zero all = own_names v all.0
+all_names (v ∷ vars) (suc p) all = all_names vars p all.1
+
+variable_plain : (s : StatesView) → HasNames s.header → (p v : ℕ) → IsPlain (variable_name s p v)
+variable_plain s named p v = names_plain (binding_names (variables_at s.header.vars p)) v (all_names s.header.vars p named.variables)
+
+peer_plain : (word name : List ℕ) (id : ℕ) → IsPlain word → IsPlain name → IsPlain (word ++ (name ++ 32 ∷ decimal id))
+peer_plain word name id h k = both is_plain word (name ++ 32 ∷ decimal id) h (both is_plain name (32 ∷ decimal id) k (number_plain id))
+
+kind_plain : (s : StatesView) → HasNames s.header → (k : Kind) → IsPlain (action_text (action_of s.header.procs k))
+kind_plain s named kind.Internal = refl
+kind_plain s named (kind.Send to id) = peer_plain (codes "send ") (name_at s.header.procs to) id refl (process_plain s named to)
+kind_plain s named (kind.Receive sender id) = peer_plain (codes "recv ") (name_at s.header.procs sender) id refl (process_plain s named sender)
+
+values_plain : (s : StatesView) → HasNames s.header → (p : ℕ) (assigns : List Assign) → IsPlain (values_text (named_values (variables_at s.header.vars p) assigns))
+values_plain s named p [] = refl
+values_plain s named p (a ∷ assigns) =
+    let rest = values_text (named_values (variables_at s.header.vars p) assigns) in
+    both is_plain (variable_name s p a.variable) (61 ∷ (signed_decimal a.value ++ rest)) (variable_plain s named p a.variable) (both is_plain (signed_decimal a.value) rest (signed_plain a.value) (values_plain s named p assigns))
+
+clock_rest_plain : (ns : List ℕ) → IsPlain (clock_rest ns)
+clock_rest_plain [] = refl
+clock_rest_plain (n ∷ ns) = both is_plain (decimal n) (clock_rest ns) (number_plain n) (clock_rest_plain ns)
+
+clock_plain : (ns : List ℕ) → IsPlain (clock_text ns)
+clock_plain [] = refl
+clock_plain (n ∷ ns) = both is_plain (decimal n) (clock_rest ns) (number_plain n) (clock_rest_plain ns)
+
+short_plain : (whole : List ℕ) → IsPlain whole → IsPlain (short whole)
+short_plain whole h = by_length (nat_le (length whole) 11)
+  where
+    by_length : (b : Bool) → IsPlain (if b then whole else take 9 whole ++ codes "..")
+    by_length true = h
+    by_length false = both is_plain (take 9 whole) (codes "..") (first_of is_plain 9 whole h) refl
+
+assign_plain : (s : StatesView) → HasNames s.header → (e : EventId) (k : ℕ) → IsPlain (assign_text s e k)
+assign_plain s named e k =
+    let a = get_or (event_at s e).assigns k no_assign in
+    short_plain (assigned s e.process a) (both is_plain (variable_name s e.process a.variable) (61 ∷ signed_decimal a.value) (variable_plain s named e.process a.variable) (signed_plain a.value))
+
+-- ---- marks
+
+title_is : (head a b c d e f g h rest : List ℕ) → head ++ ((a ++ (b ++ (c ++ (d ++ (e ++ (f ++ (g ++ h))))))) ++ rest) ≡ head ++ a ++ b ++ c ++ d ++ e ++ f ++ g ++ h ++ rest
+title_is head a b c d e f g h rest = simp append_assoc
+
+title_content : (s : StatesView) → HasNames s.header → (e : EventId) → IsContent (title s e)
+title_content s named e =
+    let line = line_text s e in
+    let place = place_text s.header.procs e in
+    let kind = kind_text s e in
+    let assigns = assigns_text s e in
+    let clock = clock_text (event_at s e).clock in
+    let inner = line ++ (codes ": " ++ (place ++ (codes " " ++ (kind ++ (assigns ++ (codes " clock " ++ clock)))))) in
+    let plain : IsPlain inner =
+    both is_plain line (codes ": " ++ (place ++ (codes " " ++ (kind ++ (assigns ++ (codes " clock " ++ clock)))))) (number_plain (event_at s e).line)
+    (both is_plain place (codes " " ++ (kind ++ (assigns ++ (codes " clock " ++ clock))))
+    (both is_plain (name_at s.header.procs e.process) (32 ∷ decimal e.position) (process_plain s named e.process) (number_plain e.position))
+    (both is_plain kind (assigns ++ (codes " clock " ++ clock)) (kind_plain s named (event_at s e).kind) (both is_plain assigns (codes " clock " ++ clock) (values_plain s named e.process (event_at s e).assigns) (clock_plain (event_at s e).clock)))) in
+    subst IsContent (title_is (codes "<title>") line (codes ": ") place (codes " ") kind assigns (codes " clock ") clock (codes "</title>" ++ 10 ∷ []))
+    (box (codes "title") [] [] inner (10 ∷ []) refl (look_of [] refl) refl (plain_content inner plain) feed)
+
+mark_look_is : (beyond : Bool) → Look (codes "fill" ∷ []) (mark_look beyond)
+mark_look_is true = look_of (attr (codes "fill") (codes "#c9c9c9") ∷ []) refl
+mark_look_is false = look_of (attr (codes "fill") (codes "#2b6cb0") ∷ []) refl
+
+abbrev middle : List ℕ → List ℕ → List Attribute
+middle size fill = attr (codes "font-size") size ∷ attr (codes "text-anchor") (codes "middle") ∷ attr (codes "fill") fill ∷ []
+
+number_look_is : (beyond small : Bool) → Look (codes "font-size" ∷ codes "text-anchor" ∷ codes "fill" ∷ []) (number_look beyond small)
+number_look_is true true = look_of (middle (codes "11") (codes "#333333")) refl
+number_look_is true false = look_of (middle (codes "8") (codes "#333333")) refl
+number_look_is false true = look_of (middle (codes "11") (codes "#ffffff")) refl
+number_look_is false false = look_of (middle (codes "8") (codes "#ffffff")) refl
+
+disc_content : (p : Point) (beyond : Bool) (number : ℕ) → IsContent (disc p beyond number)
+disc_content p beyond number =
+    let small = nat_lt number 1000 in
+    one_more (circle p 11 (mark_look beyond)) (text (point p.x (p.y + 4)) (number_look beyond small) (decimal number))
+    (circle_content p 11 (codes "fill" ∷ []) (mark_look beyond) (mark_look_is beyond) refl)
+    (text_content (point p.x (p.y + 4)) (codes "font-size" ∷ codes "text-anchor" ∷ codes "fill" ∷ []) (number_look beyond small) (decimal number) (number_look_is beyond small) refl (plain_content (decimal number) (number_plain number)))
+
+abbrev on_white : List ℕ → List ℕ → List Attribute
+on_white anchor width = attr (codes "font-size") (codes "12") ∷ attr (codes "text-anchor") anchor ∷ attr (codes "fill") (codes "#ffffff") ∷ attr (codes "stroke") (codes "#ffffff") ∷ attr (codes "stroke-width") width ∷ []
+
+under_content : (p : Point) (row : ℕ) (shown : List ℕ) → IsPlain shown → IsContent (under p row shown)
+under_content p row shown h =
+    let spot = point p.x (p.y + 33 + 12 * row) in
+    let back = on_white (codes "middle") (codes "4") in
+    let front = middle (codes "12") (codes "#333333") in
+    one_more (text spot under_back_look shown) (text spot under_look shown)
+    (text_content spot (names_of back) under_back_look shown (look_of back refl) refl (plain_content shown h)) (text_content spot (names_of front) under_look shown (look_of front refl) refl (plain_content shown h))
+
+assigns_content : (s : StatesView) → HasNames s.header → (p : Point) (e : EventId) → IsContent (assigns_under s p e)
+assigns_content s named p e =
+    let count = length (event_at s e).assigns in
+    one_more (each_below (min count 3) (λ k. under p k (assign_text s e k))) (more_under p count) (each_content (λ k. under p k (assign_text s e k)) (min count 3) (λ k. under_content p k (assign_text s e k) (assign_plain s named e k)))
+    (either_content (nat_lt 3 count) (under p 3 (codes "..")) [] (under_content p 3 (codes "..") refl) nothing)
+
+shown_content : (s : StatesView) → HasNames s.header → (wide : Bool) (p : Point) (e : EventId) → IsContent (shown_under s wide p e)
+shown_content s named true p e = assigns_content s named p e
+shown_content s named false p e = nothing
+
+mark_is : (head a b c rest : List ℕ) → head ++ ((a ++ (b ++ c)) ++ rest) ≡ head ++ a ++ b ++ c ++ rest
+mark_is head a b c rest = simp append_assoc
+
+pub mark_content : (s : StatesView) → HasNames s.header → (f : Frame) (rows : Rows) (top : Option Cut) (e : EventId) → IsContent (mark s f rows top e)
+mark_content s named f rows top e =
+    let p = at f rows e in
+    let beyond = is_beyond top e in
+    subst IsContent (mark_is (codes "<g>") (title s e) (disc p beyond e.position) (shown_under s f.wide p e) (codes "</g>" ++ 10 ∷ []))
+    (box (codes "g") [] [] (title s e ++ (disc p beyond e.position ++ shown_under s f.wide p e)) (10 ∷ []) refl (look_of [] refl) refl
+    (one_more (title s e) (disc p beyond e.position ++ shown_under s f.wide p e) (title_content s named e)
+    (one_more (disc p beyond e.position) (shown_under s f.wide p e) (disc_content p beyond e.position) (shown_content s named f.wide p e)))
+    feed)
+
+-- ---- lanes and messages
+
+abbrev lane_attributes : List Attribute
+lane_attributes = attr (codes "stroke") (codes "#bbbbbb") ∷ attr (codes "stroke-width") (codes "2") ∷ []
+
+abbrev name_attributes : List Attribute
+name_attributes = attr (codes "font-size") (codes "15") ∷ attr (codes "font-weight") (codes "bold") ∷ []
+
+pub lane_content : (s : StatesView) → HasNames s.header → (f : Frame) (process : ℕ) → IsContent (lane_drawn s f process)
+lane_content s named f process =
+    let name = name_at s.header.procs process in
+    let from = point f.left (lane process) in
+    let to = point (f.width - 20) (lane process) in
+    let look = codes " stroke='#bbbbbb' stroke-width='2'" in
+    let bold = codes " font-size='15' font-weight='bold'" in
+    one_more (line from to look) (text (point 20 (lane process + 5)) bold name) (line_content from to (names_of lane_attributes) look (look_of lane_attributes refl) refl)
+    (text_content (point 20 (lane process + 5)) (names_of name_attributes) bold name (look_of name_attributes refl) refl (plain_content name (process_plain s named process)))
+
+abbrev arrow_attributes : List Attribute
+arrow_attributes = attr (codes "stroke") (codes "#555555") ∷ attr (codes "stroke-width") (codes "1.5") ∷ attr (codes "marker-end") (codes "url(#message)") ∷ []
+
+pub arrow_content : (s : StatesView) (f : Frame) (rows : Rows) (e : EventId) → IsContent (arrow_to s f rows e)
+arrow_content s f rows e = by_send (send_of s e)
+  where
+    by_send : (o : Option EventId) → IsContent (arrow_from f rows e o)
+    by_send None = nothing
+    by_send (Some send) =
+        line_content (at f rows send) (at f rows e) (names_of arrow_attributes) (codes " stroke='#555555' stroke-width='1.5' marker-end='url(#message)'") (look_of arrow_attributes refl) refl
+
+-- ---- cuts and witnesses
+
+abbrev cut_attributes : List ℕ → List Attribute
+cut_attributes dashes = attr (codes "stroke") (codes "#7a3db8") ∷ attr (codes "stroke-width") (codes "2") ∷ attr (codes "stroke-dasharray") dashes ∷ []
+
+abbrev goal_attributes : List Attribute
+goal_attributes = attr (codes "stroke") (codes "#b35900") ∷ attr (codes "stroke-width") (codes "2.5") ∷ []
+
+abbrev least_attributes : List Attribute
+least_attributes = cut_attributes (codes "8 4")
+
+abbrev greatest_attributes : List Attribute
+greatest_attributes = cut_attributes (codes "2 3")
+
+abbrev step_attributes : List Attribute
+step_attributes = attr (codes "font-size") (codes "12") ∷ attr (codes "font-weight") (codes "bold") ∷ attr (codes "text-anchor") (codes "end") ∷ attr (codes "fill") (codes "#b35900") ∷ []
+
+numbered_content : (p : Point) (number : ℕ) → IsContent (numbered p number)
+numbered_content p number =
+    let spot = point (p.x - 14) (p.y + 4) in
+    let back = on_white (codes "end") (codes "5") in
+    let shown = plain_content (decimal number) (number_plain number) in
+    one_more (text spot step_back_look (decimal number)) (text spot step_look (decimal number)) (text_content spot (names_of back) step_back_look (decimal number) (look_of back refl) refl shown)
+    (text_content spot (names_of step_attributes) step_look (decimal number) (look_of step_attributes refl) refl shown)
+
+path_content : (f : Frame) (rows : Rows) (steps : List EventId) (goal : Cut) → IsContent (path_drawn f rows steps goal)
+path_content f rows steps goal =
+    one_more (steps_drawn f rows steps) (cut_drawn f rows goal 32 goal_look)
+    (each_content (λ k. numbered (at f rows (get_or steps k no_place)) (k + 1)) (length steps) (λ k. numbered_content (at f rows (get_or steps k no_place)) (k + 1)))
+    (cut_content f rows goal 32 (names_of goal_attributes) goal_look (look_of goal_attributes refl) refl)
+
+ring_content : (f : Frame) (rows : Rows) (e : EventId) → IsContent (ring f rows e)
+ring_content f rows e =
+    let attributes = attr (codes "fill") (codes "none") ∷ goal_attributes in
+    circle_content (at f rows e) 16 (names_of attributes) (codes " fill='none' stroke='#b35900' stroke-width='2.5'") (look_of attributes refl) refl
+
+witness_content : (f : Frame) (rows : Rows) (w : Witness) → IsContent (witness_drawn f rows w)
+witness_content f rows witness.Nothing = nothing
+witness_content f rows (witness.Reach path) = path_content f rows path.steps path.goal
+witness_content f rows (witness.Against path) = path_content f rows path.steps path.goal
+witness_content f rows (witness.Always path) = path_content f rows path.steps path.goal
+witness_content f rows witness.StuckStart = nothing
+witness_content f rows witness.StuckFinish = nothing
+witness_content f rows (witness.StuckPair first other) = one_more (ring f rows first) (ring f rows other) (ring_content f rows first) (ring_content f rows other)
+
+-- ---- what is told below the lanes
+
+abbrev note_attributes : List Attribute
+note_attributes = attr (codes "font-size") (codes "12") ∷ []
+
+sample_content : (f : Frame) (row : ℕ) (names : List (List ℕ)) (look meaning : List ℕ) → Look names look → are_distinct (codes "x1" ∷ codes "y1" ∷ codes "x2" ∷ codes "y2" ∷ names) ≡ true → IsPlain meaning
+    → IsContent (sample f row look meaning)
+sample_content f row names look meaning l distinct h =
+    let y = row_at f row in
+    one_more (line (point 20 y) (point 70 y) look) (text (point 80 (y + 4)) (codes " font-size='12'") meaning) (line_content (point 20 y) (point 70 y) names look l distinct)
+    (text_content (point 80 (y + 4)) (names_of note_attributes) (codes " font-size='12'") meaning (look_of note_attributes refl) refl (plain_content meaning h))
+
+note_content : (f : Frame) (from_below : ℕ) (meaning : List ℕ) → IsPlain meaning → IsContent (note f from_below meaning)
+note_content f from_below meaning h =
+    text_content (point 20 (f.height - from_below)) (names_of note_attributes) (codes " font-size='12'") meaning (look_of note_attributes refl) refl (plain_content meaning h)
+
+bounds_content : (f : Frame) (rows : Rows) (bounds : Option (Cut × Cut)) → IsContent (bounds_drawn f rows bounds)
+bounds_content f rows None = note_content f 82 (codes "slice empty") refl
+bounds_content f rows (Some bounds) =
+    let least = cut_drawn f rows bounds.0 18 least_look in
+    let greatest = cut_drawn f rows bounds.1 25 greatest_look in
+    let least_sample = sample f 0 least_look (codes "least cut of the slice") in
+    let greatest_sample = sample f 1 greatest_look (codes "greatest cut of the slice") in
+    one_more (least ++ greatest ++ least_sample) greatest_sample
+    (one_more (least ++ greatest) least_sample
+    (one_more least greatest (cut_content f rows bounds.0 18 (names_of least_attributes) least_look (look_of least_attributes refl) refl)
+    (cut_content f rows bounds.1 25 (names_of greatest_attributes) greatest_look (look_of greatest_attributes refl) refl))
+    (sample_content f 0 (names_of least_attributes) least_look (codes "least cut of the slice") (look_of least_attributes refl) refl refl))
+    (sample_content f 1 (names_of greatest_attributes) greatest_look (codes "greatest cut of the slice") (look_of greatest_attributes refl) refl refl)
+
+pub slice_content : (f : Frame) (rows : Rows) (o : Option SliceText) → IsContent (slice_drawn f rows o)
+slice_content f rows None = nothing
+slice_content f rows (Some slice) = bounds_content f rows slice.bounds
+
+pub edges_note_content : (f : Frame) (left_out : ℕ) → IsContent (edges_note f left_out)
+edges_note_content f left_out =
+    let meaning = codes "edges that are not drawn: " ++ decimal left_out in
+    either_content (left_out == 0) [] (note f 22 meaning) nothing (note_content f 22 meaning (both is_plain (codes "edges that are not drawn: ") (decimal left_out) refl (number_plain left_out)))
+
+meaning_plain : (w : Witness) → IsPlain (meaning_of w)
+meaning_plain witness.Nothing = refl
+meaning_plain (witness.Reach path) = refl
+meaning_plain (witness.Against path) = refl
+meaning_plain (witness.Always path) = refl
+meaning_plain witness.StuckStart = refl
+meaning_plain witness.StuckFinish = refl
+meaning_plain (witness.StuckPair first other) = refl
+
+witness_plain : (w : WitnessText) → IsPlain (witness_meaning w)
+witness_plain w =
+    let disjunct = codes "witness " ++ decimal w.disjunct in
+    let part = disjunct ++ codes "." ++ decimal w.part in
+    both is_plain (part ++ codes ", ") (meaning_of w.witness)
+    (both is_plain part (codes ", ") (both is_plain (disjunct ++ codes ".") (decimal w.part) (both is_plain disjunct (codes ".") (both is_plain (codes "witness ") (decimal w.disjunct) refl (number_plain w.disjunct)) refl) (number_plain w.part)) refl)
+    (meaning_plain w.witness)
+
+pub one_content : (f : Frame) (rows : Rows) (o : Option WitnessText) → IsContent (one_drawn f rows o)
+one_content f rows None = nothing
+one_content f rows (Some w) =
+    one_more (witness_drawn f rows w.witness) (sample f 2 goal_look (witness_meaning w)) (witness_content f rows w.witness)
+    (sample_content f 2 (names_of goal_attributes) goal_look (witness_meaning w) (look_of goal_attributes refl) refl (witness_plain w))

@@ -1,0 +1,84 @@
+-- Laws of the picture, as statements.
+use Rattle.std.specs.Prelude.{◌≡◌, map, length, Some}
+use Rattle.std.specs.List.{flat_map, AllByRecursion}
+use Rattle.pota_base.specs.declared.shape.EventId.{EventId}
+use Rattle.pota_base.specs.Shape.{HasEvent}
+use Rattle.event_log.specs.States.{StatesView}
+use Rattle.vector_clock.specs.declared.message.Message.{Message}
+use Rattle.vector_clock.specs.Events.{clocks_of}
+use Rattle.vector_clock.specs.Messages.{message_sent, message_received}
+use Rattle.vector_clock.specs.Faultless.{AreFaultless}
+use Rattle.slice_graph.specs.declared.edges.Edge.{Edge}
+use Rattle.report_lines.specs.Spelling.{EdgeFits}
+use Rattle.report.specs.declared.report.Report.{Report}
+use Rattle.report.specs.Spelling.{IsWellFormed}
+use Rattle.view_parts.specs.Each.{places}
+use Rattle.view_parts.specs.Parts.{event_at, IsReportOf}
+use Rattle.view_picture.specs.declared.frame.Frame.{Frame}
+use Rattle.view_picture.specs.Columns.{Rows, AreColumns}
+use Rattle.view_picture.specs.Drawing.{arrow_to, edge_drawn}
+use Rattle.picture_laws.specs.Lines.{Ends, between, times_drawn, message_lines, arrow_along}
+use Rattle.picture_laws.specs.Lines.{first_edges, edge_lines, dashed_along, times_listed}
+
+-- the events of a run, which came without a fault, and their columns
+pub record IsDrawable (s : StatesView) (rows : Rows) : Type 0 where
+  pub faultless : AreFaultless (length s.header.procs) s.events
+  pub columns : AreColumns (clocks_of s.events) rows
+
+-- ---- messages
+
+-- the event is there and sends the message
+pub record IsSend (s : StatesView) (m : Message) (e : EventId) : Type 0 where
+  pub there : HasEvent (map length s.events) e
+  pub sends : message_sent e.process (event_at s e).kind ≡ Some m
+
+-- the event is there and receives the message
+pub record IsReceipt (s : StatesView) (m : Message) (e : EventId) : Type 0 where
+  pub there : HasEvent (map length s.events) e
+  pub receives : message_received e.process (event_at s e).kind ≡ Some m
+
+-- what is drawn of the messages is an arrow along each of these lines
+abbrev pub ArrowsAreDrawn : Type 0
+ArrowsAreDrawn =
+    (s : StatesView) (f : Frame) (rows : Rows)
+    → flat_map (arrow_to s f rows) (places (map length s.events))
+    ≡ flat_map arrow_along (message_lines s f rows)
+
+-- where send and receipt of a message are there, one of them runs from mark to mark
+abbrev pub MessagesHaveOneArrow : Type 0
+MessagesHaveOneArrow =
+    (s : StatesView) (f : Frame) (rows : Rows) → IsDrawable s rows → (m : Message)
+    (send receipt : EventId) → IsSend s m send → IsReceipt s m receipt
+    → times_drawn (between f rows send receipt) (message_lines s f rows) ≡ 1
+
+-- the line runs from the mark of the send of a message to that of its receipt
+pub record IsOfMessage (s : StatesView) (f : Frame) (rows : Rows) (l : Ends) : Type 0 where
+  pub message : Message
+  pub send : EventId
+  pub receipt : EventId
+  pub sent : IsSend s message send
+  pub received : IsReceipt s message receipt
+  pub line_is : l ≡ between f rows send receipt
+
+-- each of them is one of a message
+abbrev pub ArrowsAreOfMessages : Type 0
+ArrowsAreOfMessages =
+    (s : StatesView) (f : Frame) (rows : Rows) → IsDrawable s rows
+    → AllByRecursion (IsOfMessage s f rows) (message_lines s f rows)
+
+-- ---- edges
+
+-- what is drawn of the edges is a dashed line along each of these
+abbrev pub EdgeLinesAreDrawn : Type 0
+EdgeLinesAreDrawn =
+    (f : Frame) (rows : Rows) (r : Report)
+    → flat_map (edge_drawn f rows) (first_edges r) ≡ flat_map dashed_along (edge_lines f rows r)
+
+-- as many of them run from the mark of the cause of an edge to that of its effect as the edge
+-- stands among the first 40 of the report: one where it stands there once
+abbrev pub FirstEdgesHaveTheirLines : Type 0
+FirstEdgesHaveTheirLines =
+    (s : StatesView) (f : Frame) (rows : Rows) (r : Report) → IsDrawable s rows
+    → IsWellFormed r → IsReportOf s r → (e : Edge) → EdgeFits r.lengths e
+    → times_drawn (between f rows e.cause e.effect) (edge_lines f rows r)
+    ≡ times_listed e (first_edges r)

@@ -1,0 +1,4 @@
+pub mod Lines
+pub mod Laws
+pub mod Xml
+pub mod WellFormed

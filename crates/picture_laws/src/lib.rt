@@ -1,0 +1,37 @@
+//! Laws of the picture of a run, as contracts of functions that do nothing.
+//!
+//! Each message whose send and receipt are there has exactly one arrow, from mark to mark, and no
+//! other arrow is drawn (`messages_have_one_arrow`). Each of the first 40 edges of a report has
+//! exactly one dashed line (`first_edges_have_one_line`). The text of a picture is well-formed XML
+//! (`pictures_are_well_formed`).
+//!
+//! Not said: how the picture is written, and that it is this one. `view_picture` says so.
+#![tactic(auto)]
+
+ghost use Rattle.picture_laws.specs.Laws.{ArrowsAreDrawn, MessagesHaveOneArrow};
+ghost use Rattle.picture_laws.specs.Laws.{ArrowsAreOfMessages};
+ghost use Rattle.picture_laws.specs.Laws.{EdgeLinesAreDrawn, FirstEdgesHaveTheirLines};
+ghost use Rattle.picture_laws.specs.WellFormed.{PicturesAreWellFormed, PicturesOfRunsAreWellFormed};
+
+/// A message that is sent and received has one arrow from the mark of its send to the mark of its
+/// receipt, and each arrow is one of a message.
+pub fn messages_have_one_arrow()
+    ensures drawn { ArrowsAreDrawn }
+    ensures one { MessagesHaveOneArrow }
+    ensures no_other { ArrowsAreOfMessages }
+{}
+
+/// Among the first 40 edges of the report, an edge has one dashed line each time that it stands
+/// there, from the mark of its cause to the mark of its effect.
+pub fn first_edges_have_one_line()
+    ensures drawn { EdgeLinesAreDrawn }
+    ensures one { FirstEdgesHaveTheirLines }
+{}
+
+/// Where processes and variables have names and the formula has printed bytes alone, the text of
+/// the picture is well-formed XML. So it is of each run whose log has a text, and each well-formed
+/// report.
+pub fn pictures_are_well_formed()
+    ensures text { PicturesAreWellFormed }
+    ensures of_runs { PicturesOfRunsAreWellFormed }
+{}
