@@ -1,7 +1,7 @@
 //! Runs the verifier's one call on the cases of `data/`, and prints for each file how many of its
 //! cases came out as they must, and each case that did not. The crate `row_cases` says what the
-//! lines of a case mean: its log is the whole input, the certificate too, and its report is the line
-//! on standard output.
+//! lines of a case mean: its log is the whole input, the certificate too, and its report is the
+//! line on standard output.
 //!
 //! The certificate of `changed.cases` is then cut short at each byte, and each of its lines is
 //! changed: `changes` has what must come out of each change, in order. Behind the logs of

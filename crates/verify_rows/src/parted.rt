@@ -1,5 +1,5 @@
-//! The input of a case, taken apart into a log and the certificate behind it, and what must come out
-//! where it is cut short.
+//! The input of a case, taken apart into a log and the certificate behind it, and what must come
+//! out where it is cut short.
 
 use row_cases::Case;
 use std::alloc::{AllocError, Global};
@@ -42,8 +42,8 @@ impl Parted {
         Ok(Parted { log, certificate })
     }
 
-    /// What must be told of the first bytes of the input, where the log has no fault and each line of
-    /// the certificate is justified.
+    /// What must be told of the first bytes of the input, where the log has no fault and each line
+    /// of the certificate is justified.
     pub fn answer_of_front(&self, alloc: Global, front: &[u8]) -> Result<String, AllocError> {
         let log = self.log.as_str().as_bytes();
         let line = feeds(front).saturating_add(1);
