@@ -4,7 +4,7 @@
 set -e
 here=$(cd "$(dirname "$0")" && pwd)
 . "$here/../scratch.sh"
-scratch_crates run_model pota_base pota_names cut_lattice log_lines event_log causal_order vector_clock trace_gen
+scratch_crates $(crates_below trace_gen)
 mkdir -p "$scratch/crates/made_logs/src"
 echo "made_logs: pota_base event_log trace_gen" >> "$scratch/crates.txt"
 cp "$here/main.txt" "$scratch/crates/made_logs/src/main.rt"

@@ -5,8 +5,7 @@
 set -e
 here=$(cd "$(dirname "$0")" && pwd)
 . "$here/../scratch.sh"
-below='run_model pota_base pota_names log_lines cut_lattice event_log causal_order vector_clock pull_system least_cut slice_graph'
-scratch_crates $below temporal_slice graft witness_kinds witness slice_rows
+scratch_crates $(crates_below slice_rows)
 sed -i '/^slice_rows:/s/$/ anyhow/' "$scratch/crates.txt"
 cd "$scratch/crates/slice_rows"
 rm -r data stdout src/reading.rt src/telling.rt src/verdict.rt
