@@ -11,6 +11,7 @@
 ghost use Rattle.picture_laws.specs.Laws.{ArrowsAreDrawn, MessagesHaveOneArrow};
 ghost use Rattle.picture_laws.specs.Laws.{ArrowsAreOfMessages};
 ghost use Rattle.picture_laws.specs.Laws.{EdgeLinesAreDrawn, FirstEdgesHaveTheirLines};
+ghost use Rattle.picture_laws.specs.Laws.{EachFirstEdgeHasOneLine};
 ghost use Rattle.picture_laws.specs.WellFormed.{PicturesAreWellFormed, PicturesOfRunsAreWellFormed};
 
 /// A message that is sent and received has one arrow from the mark of its send to the mark of its
@@ -22,10 +23,12 @@ pub fn messages_have_one_arrow()
 {}
 
 /// Among the first 40 edges of the report, an edge has one dashed line each time that it stands
-/// there, from the mark of its cause to the mark of its effect.
+/// there, from the mark of its cause to the mark of its effect. So each of them has one where the
+/// report's slice is that of a run.
 pub fn first_edges_have_one_line()
     ensures drawn { EdgeLinesAreDrawn }
-    ensures one { FirstEdgesHaveTheirLines }
+    ensures as_listed { FirstEdgesHaveTheirLines }
+    ensures one { EachFirstEdgeHasOneLine }
 {}
 
 /// Where processes and variables have names and the formula has printed bytes alone, the text of
