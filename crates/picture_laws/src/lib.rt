@@ -13,6 +13,7 @@ ghost use Rattle.picture_laws.specs.Laws.{ArrowsAreOfMessages};
 ghost use Rattle.picture_laws.specs.Laws.{EdgeLinesAreDrawn, FirstEdgesHaveTheirLines};
 ghost use Rattle.picture_laws.specs.Laws.{EachFirstEdgeHasOneLine};
 ghost use Rattle.picture_laws.specs.WellFormed.{PicturesAreWellFormed, PicturesOfRunsAreWellFormed};
+ghost use Rattle.picture_laws.specs.WellFormed.{WrittenPicturesAreWellFormed};
 
 /// A message that is sent and received has one arrow from the mark of its send to the mark of its
 /// receipt, and each arrow is one of a message.
@@ -33,8 +34,9 @@ pub fn first_edges_have_one_line()
 
 /// Where processes and variables have names and the formula has printed bytes alone, the text of
 /// the picture is well-formed XML. So it is of each run whose log has a text, and each well-formed
-/// report.
+/// report; and so is each picture that the program writes, whatever it reads.
 pub fn pictures_are_well_formed()
     ensures text { PicturesAreWellFormed }
     ensures of_runs { PicturesOfRunsAreWellFormed }
+    ensures written { WrittenPicturesAreWellFormed }
 {}
