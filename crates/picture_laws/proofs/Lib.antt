@@ -10,3 +10,4 @@ pub mod Parts
 pub mod WellFormed
 pub mod Printed
 pub mod OfRuns
+pub mod Closed

@@ -14,6 +14,7 @@ ghost use Rattle.picture_laws.specs.Laws.{EdgeLinesAreDrawn, FirstEdgesHaveTheir
 ghost use Rattle.picture_laws.specs.Laws.{EachFirstEdgeHasOneLine};
 ghost use Rattle.picture_laws.specs.WellFormed.{PicturesAreWellFormed, PicturesOfRunsAreWellFormed};
 ghost use Rattle.picture_laws.specs.WellFormed.{WrittenPicturesAreWellFormed};
+ghost use Rattle.picture_laws.specs.Xml.{TagsAreClosed, DocumentsArePrinted};
 
 /// A message that is sent and received has one arrow from the mark of its send to the mark of its
 /// receipt, and each arrow is one of a message.
@@ -39,4 +40,11 @@ pub fn pictures_are_well_formed()
     ensures text { PicturesAreWellFormed }
     ensures of_runs { PicturesOfRunsAreWellFormed }
     ensures written { WrittenPicturesAreWellFormed }
+{}
+
+/// The grammar says something of the bytes: a document has as many `>` as `<`, and printed bytes
+/// and line feeds alone.
+pub fn documents_close_their_tags()
+    ensures tags { TagsAreClosed }
+    ensures printed { DocumentsArePrinted }
 {}
