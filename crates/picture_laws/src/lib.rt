@@ -1,9 +1,10 @@
 //! Laws of the picture of a run, as contracts of functions that do nothing.
 //!
 //! Each message whose send and receipt are there has exactly one arrow, from mark to mark, and no
-//! other arrow is drawn (`messages_have_one_arrow`). Each of the first 40 edges of a report has
-//! exactly one dashed line (`first_edges_have_one_line`). The text of a picture is well-formed XML
-//! (`pictures_are_well_formed`).
+//! other arrow is drawn (`messages_have_one_arrow`). Each of the first 40 edges of a run's report
+//! has exactly one dashed line (`first_edges_have_one_line`). The text of a picture is well-formed
+//! XML, and so is each picture that `view_top` writes (`pictures_are_well_formed`), by a grammar
+//! whose documents have as many `>` as `<` (`documents_close_their_tags`).
 //!
 //! Not said: how the picture is written, and that it is this one. `view_picture` says so.
 #![tactic(auto)]
