@@ -39,7 +39,7 @@ lines_counted s f rows drawable e fits (g ∷ gs) all =
     (mark_is s f rows drawable e.cause g.cause fits.cause all.0.cause) (mark_is s f rows drawable e.effect g.effect fits.effect all.0.effect))
     (lines_counted s f rows drawable e fits gs all.1)
 
-edges_fit : (lengths : List ℕ) (o : Option SliceText) → IfSome o (SliceFits lengths) → AllByRecursion (EdgeFits lengths) (edges_of o)
+pub edges_fit : (lengths : List ℕ) (o : Option SliceText) → IfSome o (SliceFits lengths) → AllByRecursion (EdgeFits lengths) (edges_of o)
 edges_fit lengths None fits = tt
 edges_fit lengths (Some slice) fits = fits.edges
 

@@ -2,6 +2,7 @@ pub mod Places
 pub mod Once
 pub mod Arrows
 pub mod Dashes
+pub mod Listed
 pub mod Plain
 pub mod Grammar
 pub mod Elements
@@ -9,3 +10,4 @@ pub mod Parts
 pub mod WellFormed
 pub mod Printed
 pub mod OfRuns
+pub mod Closed

@@ -67,7 +67,7 @@ place_is e g h =
     let parts = and_parts (g.process == e.process) (g.position == e.position) h in
     same_place g e (eqb-true g.process e.process parts.0) (eqb-true g.position e.position parts.1)
 
-place_itself : (e : EventId) → is_place e e ≡ true
+pub place_itself : (e : EventId) → is_place e e ≡ true
 place_itself e = and_from (e.process == e.process) (e.position == e.position) (eq-eqb e.process e.process refl) (eq-eqb e.position e.position refl)
 
 pub point_itself : (p : Point) → is_point p p ≡ true

@@ -26,7 +26,7 @@ first_of p zero xs h = refl
 first_of p (suc n) [] h = refl
 first_of p (suc n) (x ∷ xs) h = let parts = and_parts (p x) (list_all p xs) h in and_from (p x) (list_all p (take n xs)) parts.0 (first_of p n xs parts.1)
 
-wider : (p q : ℕ → Bool) → ((b : ℕ) → p b ≡ true → q b ≡ true) → (xs : List ℕ) → list_all p xs ≡ true → list_all q xs ≡ true
+pub wider : (p q : ℕ → Bool) → ((b : ℕ) → p b ≡ true → q b ≡ true) → (xs : List ℕ) → list_all p xs ≡ true → list_all q xs ≡ true
 wider p q each [] h = refl
 wider p q each (x ∷ xs) h = let parts = and_parts (p x) (list_all p xs) h in and_from (q x) (list_all q xs) (each x parts.0) (wider p q each xs parts.1)
 
@@ -91,7 +91,7 @@ name_byte_high b h = grind (arith, nat_tests)
 no_name_byte : (b c : ℕ) → is_name_byte c ≡ false → is_name_byte b ≡ true → b ≡ c → ⊥
 no_name_byte b c not_one h e = let same : is_name_byte b ≡ is_name_byte c = ap is_name_byte e in cc
 
-name_byte_plain : (b : ℕ) → is_name_byte b ≡ true → is_plain b ≡ true
+pub name_byte_plain : (b : ℕ) → is_name_byte b ≡ true → is_plain b ≡ true
 name_byte_plain b h = plain_between b (name_byte_low b h) (name_byte_high b h) (no_name_byte b 60 refl h) (no_name_byte b 62 refl h)
 
 pub name_plain : (n : Name) → is_name n ≡ true → IsPlain n

@@ -1,6 +1,8 @@
 -- Laws of the picture, as statements.
-use Rattle.std.specs.Prelude.{◌≡◌, map, length, Some}
+use Rattle.std.specs.Prelude.{◌≡◌, map, length, Some, Bool}
 use Rattle.std.specs.List.{flat_map, AllByRecursion}
+use Rattle.run_model.specs.Run.{Run}
+use Rattle.run_model.specs.Formula.{Formula}
 use Rattle.pota_base.specs.declared.shape.EventId.{EventId}
 use Rattle.pota_base.specs.Shape.{HasEvent}
 use Rattle.event_log.specs.States.{StatesView}
@@ -12,13 +14,14 @@ use Rattle.slice_graph.specs.declared.edges.Edge.{Edge}
 use Rattle.report_lines.specs.Spelling.{EdgeFits}
 use Rattle.report.specs.declared.report.Report.{Report}
 use Rattle.report.specs.Spelling.{IsWellFormed}
+use Rattle.run_report.specs.Reports.{IsSliceShown}
 use Rattle.view_parts.specs.Each.{places}
 use Rattle.view_parts.specs.Parts.{event_at, IsReportOf}
 use Rattle.view_picture.specs.declared.frame.Frame.{Frame}
 use Rattle.view_picture.specs.Columns.{Rows, AreColumns}
 use Rattle.view_picture.specs.Drawing.{arrow_to, edge_drawn}
 use Rattle.picture_laws.specs.Lines.{Ends, between, times_drawn, message_lines, arrow_along}
-use Rattle.picture_laws.specs.Lines.{first_edges, edge_lines, dashed_along, times_listed}
+use Rattle.picture_laws.specs.Lines.{first_edges, edge_line, edge_lines, dashed_along, times_listed}
 
 -- the events of a run, which came without a fault, and their columns
 pub record IsDrawable (s : StatesView) (rows : Rows) : Type 0 where
@@ -82,3 +85,12 @@ FirstEdgesHaveTheirLines =
     → IsWellFormed r → IsReportOf s r → (e : Edge) → EdgeFits r.lengths e
     → times_drawn (between f rows e.cause e.effect) (edge_lines f rows r)
     ≡ times_listed e (first_edges r)
+
+-- so each of the first 40 edges has one, where the slice that the report tells of is shown of a run
+abbrev pub EachFirstEdgeHasOneLine : Type 0
+EachFirstEdgeHasOneLine =
+    (s : StatesView) (f : Frame) (rows : Rows) (r : Report) → IsDrawable s rows
+    → IsWellFormed r → IsReportOf s r → (asked : Bool) (run : Run) (formula : Formula)
+    → IsSliceShown asked run formula r.slice
+    → AllByRecursion (λ e. times_drawn (edge_line f rows e) (edge_lines f rows r) ≡ 1)
+    (first_edges r)

@@ -1,4 +1,4 @@
--- That pictures are well-formed XML, as a statement.
+-- That pictures are well-formed XML, as statements.
 use Rattle.std.specs.Prelude.{◌≡◌, ℕ, true, List}
 use Rattle.std.specs.List.{AllByRecursion, list_all}
 use Rattle.pota_names.specs.Names.{is_name}
@@ -10,6 +10,8 @@ use Rattle.report.specs.declared.report.Report.{Report}
 use Rattle.report.specs.Spelling.{IsWellFormed}
 use Rattle.view_picture.specs.Columns.{Rows}
 use Rattle.view_picture.specs.Picture.{picture, IsPictureOf}
+use Rattle.view_top.specs.declared.asking.View.TheVariants as view
+use Rattle.view_top.specs.Viewing.{IsViewIn}
 use Rattle.picture_laws.specs.Xml.{is_printed, IsDocument}
 
 -- the names of processes and variables are letters, digits and `_`
@@ -28,3 +30,8 @@ abbrev pub PicturesOfRunsAreWellFormed : Type 0
 PicturesOfRunsAreWellFormed =
     (s : StatesView) (r : Report) (bytes : List ℕ) → HeaderFits s.header → IsWellFormed r
     → IsPictureOf s r bytes → IsDocument bytes
+
+-- so each picture that is written of an input is well-formed, whatever the input is
+abbrev pub WrittenPicturesAreWellFormed : Type 0
+WrittenPicturesAreWellFormed =
+    (input shown : List ℕ) → IsViewIn view.Svg input shown → IsDocument shown

@@ -2,6 +2,7 @@
 -- and printed ASCII in them. It has no comments, no declarations and no sections.
 use Rattle.std.specs.Prelude.{◌≡◌, ◌⊎◌, ℕ, Bool, true, false, not, ◌&&◌, ◌||◌, ◌==◌, nat_le}
 use Rattle.std.specs.Prelude.{List, [], ◌∷◌, ◌++◌, codes, map}
+use Rattle.std.specs.Prelude.{◌+◌, if◌then◌else◌}
 use Rattle.std.specs.List.{list_all, flat_map}
 use Rattle.pota_names.specs.Names.{is_name_start, is_name_byte}
 use Rattle.log_lines.specs.Names.{are_distinct}
@@ -92,3 +93,16 @@ pub record IsDocument (text : List ℕ) : Type 0 where
   pub root : List ℕ
   pub is_element : IsElement root
   pub text_is : text ≡ root ++ 10 ∷ []
+
+-- ---- what follows for the bytes of a document
+
+abbrev pub times_of : ℕ → List ℕ → ℕ
+times_of b [] = 0
+times_of b (x ∷ xs) = if x == b then times_of b xs + 1 else times_of b xs
+
+-- there are as many `>` as `<`
+abbrev pub TagsAreClosed : Type 0
+TagsAreClosed = (text : List ℕ) → IsDocument text → times_of 60 text ≡ times_of 62 text
+
+abbrev pub DocumentsArePrinted : Type 0
+DocumentsArePrinted = (text : List ℕ) → IsDocument text → list_all is_printed text ≡ true

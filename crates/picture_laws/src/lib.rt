@@ -1,9 +1,10 @@
 //! Laws of the picture of a run, as contracts of functions that do nothing.
 //!
 //! Each message whose send and receipt are there has exactly one arrow, from mark to mark, and no
-//! other arrow is drawn (`messages_have_one_arrow`). Each of the first 40 edges of a report has
-//! exactly one dashed line (`first_edges_have_one_line`). The text of a picture is well-formed XML
-//! (`pictures_are_well_formed`).
+//! other arrow is drawn (`messages_have_one_arrow`). Each of the first 40 edges of a run's report
+//! has exactly one dashed line (`first_edges_have_one_line`). The text of a picture is well-formed
+//! XML, and so is each picture that `view_top` writes (`pictures_are_well_formed`), by a grammar
+//! whose documents have as many `>` as `<` (`documents_close_their_tags`).
 //!
 //! Not said: how the picture is written, and that it is this one. `view_picture` says so.
 #![tactic(auto)]
@@ -11,7 +12,10 @@
 ghost use Rattle.picture_laws.specs.Laws.{ArrowsAreDrawn, MessagesHaveOneArrow};
 ghost use Rattle.picture_laws.specs.Laws.{ArrowsAreOfMessages};
 ghost use Rattle.picture_laws.specs.Laws.{EdgeLinesAreDrawn, FirstEdgesHaveTheirLines};
+ghost use Rattle.picture_laws.specs.Laws.{EachFirstEdgeHasOneLine};
 ghost use Rattle.picture_laws.specs.WellFormed.{PicturesAreWellFormed, PicturesOfRunsAreWellFormed};
+ghost use Rattle.picture_laws.specs.WellFormed.{WrittenPicturesAreWellFormed};
+ghost use Rattle.picture_laws.specs.Xml.{TagsAreClosed, DocumentsArePrinted};
 
 /// A message that is sent and received has one arrow from the mark of its send to the mark of its
 /// receipt, and each arrow is one of a message.
@@ -22,16 +26,26 @@ pub fn messages_have_one_arrow()
 {}
 
 /// Among the first 40 edges of the report, an edge has one dashed line each time that it stands
-/// there, from the mark of its cause to the mark of its effect.
+/// there, from the mark of its cause to the mark of its effect. So each of them has one where the
+/// report's slice is that of a run.
 pub fn first_edges_have_one_line()
     ensures drawn { EdgeLinesAreDrawn }
-    ensures one { FirstEdgesHaveTheirLines }
+    ensures as_listed { FirstEdgesHaveTheirLines }
+    ensures one { EachFirstEdgeHasOneLine }
 {}
 
 /// Where processes and variables have names and the formula has printed bytes alone, the text of
 /// the picture is well-formed XML. So it is of each run whose log has a text, and each well-formed
-/// report.
+/// report; and so is each picture that the program writes, whatever it reads.
 pub fn pictures_are_well_formed()
     ensures text { PicturesAreWellFormed }
     ensures of_runs { PicturesOfRunsAreWellFormed }
+    ensures written { WrittenPicturesAreWellFormed }
+{}
+
+/// The grammar says something of the bytes: a document has as many `>` as `<`, and printed bytes
+/// and line feeds alone.
+pub fn documents_close_their_tags()
+    ensures tags { TagsAreClosed }
+    ensures printed { DocumentsArePrinted }
 {}
