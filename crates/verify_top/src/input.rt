@@ -47,8 +47,14 @@ fn read_front<S: Source>(alloc: Global, check: LogCheck, input: &mut S) -> Resul
     match read_on(alloc, input, &mut part) {
         Ok(End::Done) => Ok(part.done()),
         Ok(End::Ended) => Ok(part.cut_off()),
-        Ok(End::Failed) => Ok(Front::Failed),
-        Err(short) => Err(short),
+        Ok(End::Failed) => {
+            drop(part);
+            Ok(Front::Failed)
+        }
+        Err(short) => {
+            drop(part);
+            Err(short)
+        }
     }
 }
 
