@@ -141,9 +141,6 @@ follows_rises system row a b c v w first second = record {
   ];
 }
 
-pub follows_sum : (system : SystemView) (row : ℕ) (a b c v w : List ℕ) → Follows system row a b v → Follows system row b c w → sum v ≤ sum w
-follows_sum system row a b c v w first second = sum-within v w (omega (arith, first.size, second.size)) (follows_rises system row a b c v w first second).each
-
 -- the row before the look is within what was read
 pub row_sum : (system : SystemView) (row : ℕ) (old b v : List ℕ) → row ≤ sum system.lens → AreBounds system old → Follows system row old b v → sum (row_at system.lens old row) ≤ sum v
 row_sum system row old b v row_there bounds follows =

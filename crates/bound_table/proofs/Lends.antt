@@ -9,6 +9,7 @@ use Rattle.pull_system.proofs.Climbing.{set_case}
 use Rattle.pull_system.proofs.Starts.{length-start_of, start_of-event}
 use Rattle.raise_machine.specs.Bounds.{AreBounds, word_at, has_start}
 use Rattle.raise_machine.proofs.Raising.{has_start-true, covers_row, word_above}
+use Rattle.bound_table.specs.Lending.{MayLend}
 use Rattle.bound_table.proofs.Moves.{set_both}
 use Rattle.bound_table.proofs.Floors.{within_set, within_trans, place_there, within_one}
 
@@ -16,6 +17,14 @@ use Rattle.bound_table.proofs.Floors.{within_set, within_trans, place_there, wit
 pub has_start_more : (lens words more : List ℕ) (row other : ℕ) → IsWithin words more → has_start lens words row other ≡ true → has_start lens more row other ≡ true
 has_start_more lens words more row other within start =
     covers_row lens more (start_of lens other) row (length-start_of lens other) (λ i there. omega (arith, has_start-true lens words row other start i there, within.each (place_of lens row i)))
+
+pub may_lend_more : (lens words more : List ℕ) (row other : ℕ) (lent : List ℕ) → IsWithin words more → MayLend lens words row other lent → MayLend lens more row other lent
+may_lend_more lens words more row other lent within may = record {
+  there = may.there;
+  size = may.size;
+  reached = λ i i_there. omega (arith, may.reached i i_there, within.each (place_of lens row i));
+  event = has_start_more lens words more other row within may.event;
+}
 
 -- a number is put in a place and reached there
 pub reached : (words : List ℕ) (place m : ℕ) → place < length words → get_or (set words place m) place 0 ≡ m

@@ -5,3 +5,4 @@ pub mod Reading
 pub mod Allowed
 pub mod Lends
 pub mod Claiming
+pub mod Settling

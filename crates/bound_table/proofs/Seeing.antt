@@ -11,14 +11,18 @@ use Rattle.pull_system.specs.Rows.{place_of, start_of, IsLeast}
 use Rattle.pull_system.specs.Asks.{IsAskedBy, AreAsks}
 use Rattle.pull_system.proofs.Climbing.{set_case, lt_or_le, settled_least}
 use Rattle.pull_system.proofs.Pulls.{pull-of}
-use Rattle.pull_system.proofs.Sums.{component_le, sum-within, sum-is_vector}
+use Rattle.pull_system.proofs.Sums.{component_le, sum-within, sum-set, sum-is_vector}
 use Rattle.raise_machine.specs.Bounds.{AreBounds, word_at}
 use Rattle.raise_machine.proofs.Raising.{word_in_range}
 use Rattle.bound_table.specs.Kept.{Follows}
-use Rattle.bound_table.specs.Asking.{HoldSeen, IsAsking, IsPullStep, IsRaised}
+use Rattle.bound_table.specs.Views.{TableView, SeatView, KeepsClaims}
+use Rattle.bound_table.specs.Asking.{IsSettling, HoldSeen, IsAsking, SeesMore, IsPullStep, IsRaised}
+use Rattle.bound_table.specs.Lending.{AreLeast}
+use Rattle.bound_table.proofs.Claiming.{keeps_trans}
+use Rattle.bound_table.proofs.Settling.{settling_trans, settling_again, settling_rises, settling_below}
 use Rattle.bound_table.proofs.Allowed.{pull_allowed}
 use Rattle.bound_table.proofs.Lends.{set_within}
-use Rattle.bound_table.proofs.Floors.{place_there, within_one, follows_trans, follows_again, follows_below, follows_set, follows_rises}
+use Rattle.bound_table.proofs.Floors.{place_there, within_one, within_trans, follows_set}
 
 -- a word is small enough for 16 bits
 pub word_small : (system : SystemView) → IsSystem system → (floor : List ℕ) → AreBounds system floor → (row process : ℕ) → process < length system.lens → word_at system.lens floor row process < 2 ^ 16
@@ -78,6 +82,16 @@ pub follows_raised : (system : SystemView) (row process number became : ℕ) (ol
 follows_raised system row process number became old floor floor_now v v_now row_there follows there raised same =
     follows_set system row (length system.lens) (length system.lens) process became old floor floor_now v v_now row_there follows there follows.bounds raised.floor same raised.rises raised.bounds (λ p below. inr below) (omega arith)
 
+pub settling_raised : (table : TableView) (row process number became : ℕ) (a b c : SeatView) (v v_now : List ℕ) → IsSettling table row a b v → process < length table.system.lens
+    → KeepsClaims b c → IsRaised table.system b.floor c.floor row process number became → v_now ≡ set v process became → IsSettling table row a c v_now
+settling_raised table row process number became a b c v v_now settling there keeps raised same = record {
+  system = settling.system;
+  fits = settling.fits;
+  there = settling.there;
+  keeps = keeps_trans a b c settling.keeps keeps;
+  follows = follows_raised table.system row process number became a.floor b.floor c.floor v v_now settling.there settling.follows there raised same;
+}
+
 pub raised_within_floor : (system : SystemView) (old new : List ℕ) (row process number became : ℕ) → IsRaised system old new row process number became → IsWithin old new
 raised_within_floor system old new row process number became raised = set_within old new (place_of system.lens row process) became raised.floor raised.rises
 
@@ -91,9 +105,6 @@ asked_step system is row process x target asked floor row_there less by = record
   to = by.to;
   asks = by.asks;
 }
-
-pub hold_more : (system : SystemView) (count : ℕ) (seen v w : List ℕ) → HoldSeen system count seen v → IsWithin v w → HoldSeen system count seen w
-hold_more system count seen v w held within = record { each = λ k there from. omega (arith, held.each k there from, within.each (target_of system k)) }
 
 -- the pulls from one process were looked up at x
 pub hold_put : (system : SystemView) (count count_now process x : ℕ) (seen seen_now v w : List ℕ) → HoldSeen system count seen v → IsWithin v w → process < length seen → seen_now ≡ set seen process x
@@ -125,14 +136,10 @@ hold_all system is seen v held within back k there =
     let same : get_or seen (source_of system k) 0 ≡ get_or v (source_of system k) 0 = omega (arith, within.each (source_of system k), back.each (source_of system k)) in
     omega (arith, held.each k there p.source, ap (λ n. ask system k n) same)
 
-pub asking_least : (system : SystemView) → IsSystem system → (row : ℕ) (old new v seen : List ℕ) → row ≤ sum system.lens → IsAsking system row old new v seen → IsWithin v seen → IsLeast system row v
-asking_least system is row old new v seen row_there asking back =
-    settled_least system (start_of system.lens row) v (follows_below system is row old new v row_there asking.follows) (hold_all system is seen v asking.held asking.within back)
-
 -- what was seen equals the vector
-pub asking_same : (system : SystemView) (row : ℕ) (old new v seen : List ℕ) → IsAsking system row old new v seen → IsWithin v seen → seen ≡ v
-asking_same system row old new v seen asking back =
-    ext_get_or 0 seen v (omega (arith, asking.size, asking.follows.size)) (λ i _. omega (arith, asking.within.each i, back.each i))
+pub asking_same : (table : TableView) (row : ℕ) (old new : SeatView) (v seen : List ℕ) → IsAsking table row old new v seen → IsWithin v seen → seen ≡ v
+asking_same table row old new v seen asking back =
+    ext_get_or 0 seen v (omega (arith, asking.size, asking.settling.follows.size)) (λ i _. omega (arith, asking.within.each i, back.each i))
 
 pub put_within : (seen v w : List ℕ) (process x : ℕ) → IsWithin seen v → IsWithin v w → x ≤ get_or v process 0 → IsWithin (set seen process x) w
 put_within seen v w process x within more less = record {
@@ -146,22 +153,22 @@ pub within_refl : (v : List ℕ) → IsWithin v v
 within_refl v = record { each = λ i. omega arith }
 
 -- the pulls from one process were looked up at what the vector has of it
-pub asking_put : (system : SystemView) → IsSystem system → (row process x : ℕ) (old floor floor_now v w seen seen_now : List ℕ) → row ≤ sum system.lens → IsAsking system row old floor v seen → Follows system row floor floor_now w → process < length system.lens
-    → x ≤ get_or v process 0 → seen_now ≡ set seen process x → ((k : ℕ) → k < length system.pulls → source_of system k ≡ process → ask system k x ≤ get_or w (target_of system k) 0) → IsAsking system row old floor_now w seen_now
-asking_put system is row process x old floor floor_now v w seen seen_now row_there asking follows there less same holds =
-    let more : IsWithin v w = follows_rises system row old floor floor_now v w asking.follows follows in
+pub asking_put : (table : TableView) (row process x : ℕ) (a b c : SeatView) (v w seen seen_now : List ℕ) → IsAsking table row a b v seen → IsSettling table row b c w → process < length table.system.lens
+    → x ≤ get_or v process 0 → seen_now ≡ set seen process x → ((k : ℕ) → k < length table.system.pulls → source_of table.system k ≡ process → ask table.system k x ≤ get_or w (target_of table.system k) 0) → IsAsking table row a c w seen_now
+asking_put table row process x a b c v w seen seen_now asking settling there less same holds =
+    let more : IsWithin v w = settling_rises table row a b c v w asking.settling settling in
     let P : List ℕ → Type 0 = λ s. IsWithin s w in record {
-      follows = follows_trans system row old floor floor_now v w asking.follows follows;
+      settling = settling_trans table row a b c v w asking.settling settling;
       size = ap length same ∙ length-set seen process x ∙ asking.size;
       within = subst P (sym same) (put_within seen v w process x asking.within more less);
-      held = hold_put system (length system.lens) (length system.lens) process x seen seen_now v w asking.held more (omega (arith, asking.size)) same holds (λ p below. inr below);
+      held = hold_put table.system (length table.system.lens) (length table.system.lens) process x seen seen_now v w asking.held more (omega (arith, asking.size)) same holds (λ p below. inr below);
     }
 
-pub asking_trans : (system : SystemView) (row : ℕ) (a b c v w seen seen_now : List ℕ) → IsAsking system row a b v seen → IsAsking system row b c w seen_now → IsAsking system row a c w seen_now
-asking_trans system row a b c v w seen seen_now first second = record { follows = follows_trans system row a b c v w first.follows second.follows; size = second.size; within = second.within; held = second.held }
+pub asking_trans : (table : TableView) (row : ℕ) (a b c : SeatView) (v w seen seen_now : List ℕ) → IsAsking table row a b v seen → IsAsking table row b c w seen_now → IsAsking table row a c w seen_now
+asking_trans table row a b c v w seen seen_now first second = record { settling = settling_trans table row a b c v w first.settling second.settling; size = second.size; within = second.within; held = second.held }
 
-pub asking_again : (system : SystemView) (row : ℕ) (a b v seen : List ℕ) → IsAsking system row a b v seen → IsAsking system row b b v seen
-asking_again system row a b v seen asking = record { follows = follows_again system row a b v asking.follows; size = asking.size; within = asking.within; held = asking.held }
+pub asking_again : (table : TableView) (row : ℕ) (a b : SeatView) (v seen : List ℕ) → IsAsking table row a b v seen → IsAsking table row b b v seen
+asking_again table row a b v seen asking = record { settling = settling_again table row a b v asking.settling; size = asking.size; within = asking.within; held = asking.held }
 
 -- the numbers are at most these, and the pulls hold there
 pub asks_hold : (system : SystemView) (process x k : ℕ) (asks v : List ℕ) → AreAsks system process x asks → IsWithin asks v → k < length system.pulls → source_of system k ≡ process → ask system k x ≤ get_or v (target_of system k) 0
@@ -216,11 +223,8 @@ asked_by system process x target asked has more (inl none) = absurd (omega arith
 asked_by system process x target asked has more (inr by) = by
 
 -- a row whose component has reached the value
-pub reached_word : (system : SystemView) (row process x : ℕ) (old floor v : List ℕ) → Follows system row old floor v → process < length system.lens → x ≤ get_or v process 0 → x ≤ word_at system.lens floor row process
-reached_word system row process x old floor v follows there less = omega (arith, less, follows.each process there)
-
-pub entry_there : (system : SystemView) → IsSystem system → (row process x : ℕ) (old floor v : List ℕ) → row ≤ sum system.lens → Follows system row old floor v → x ≤ get_or v process 0 → x ≤ get_or system.lens process 0 + 1
-entry_there system is row process x old floor v row_there follows less = omega (arith, less, (follows_below system is row old floor v row_there follows).vector.within process)
+pub reached_word : (table : TableView) (row process x : ℕ) (a b : SeatView) (v : List ℕ) → IsSettling table row a b v → process < length table.system.lens → x ≤ get_or v process 0 → x ≤ word_at table.system.lens b.floor row process
+reached_word table row process x a b v settling there less = omega (arith, less, settling.follows.each process there)
 
 -- the pulls from one process more
 pub first_more : (pulls : List Pull) (count process : ℕ) → pulls_from_first pulls count (process + 1) ≡ pulls_from_first pulls count process + length (numbers_from pulls process count)
@@ -236,9 +240,9 @@ pub hold_upto : (system : SystemView) (count fewer : ℕ) (seen v : List ℕ) �
 hold_upto system count fewer seen v less held = record { each = λ k there from. held.each k there (omega arith) }
 
 -- what was seen is within the vector, which has a bound
-pub asking_room : (system : SystemView) → IsSystem system → (row : ℕ) (old new v seen : List ℕ) → row ≤ sum system.lens → IsAsking system row old new v seen → sum seen ≤ sum system.lens + length system.lens
-asking_room system is row old new v seen row_there asking =
-    omega (arith, within_sum seen v (omega (arith, asking.size, asking.follows.size)) asking.within, sum-is_vector system.lens v (follows_below system is row old new v row_there asking.follows).vector)
+pub asking_room : (table : TableView) (row : ℕ) (old new : SeatView) (v seen : List ℕ) → IsAsking table row old new v seen → sum seen ≤ sum table.system.lens + length table.system.lens
+asking_room table row old new v seen asking =
+    omega (arith, within_sum seen v (omega (arith, asking.size, asking.settling.follows.size)) asking.within, sum-is_vector table.system.lens v (settling_below table row old new v asking.settling).vector)
 
 -- the first pass looks at each pull at most once
 pub first_looks : (pulls steps steps_now before seen : ℕ) → steps_now ≤ steps + pulls → before ≤ seen → steps_now + pulls * before ≤ steps + pulls * (1 + seen)
@@ -248,10 +252,39 @@ pub looks_more : (pulls start steps steps_now seen seen_now first : ℕ) → ste
 looks_more pulls start steps steps_now seen seen_now first pays before = omega arith
 
 -- a closed vector was lent to the row
-pub lent_asking : (system : SystemView) (row : ℕ) (old new lent v : List ℕ) → IsVector system.lens lent → IsClosed system lent → Follows system row old new v → IsWithin lent v → IsAsking system row new new v lent
-lent_asking system row old new lent v vector closed follows within = record {
-  follows = follows_again system row old new v follows;
+pub lent_asking : (table : TableView) (row : ℕ) (old new : SeatView) (lent v : List ℕ) → IsVector table.system.lens lent → IsClosed table.system lent → IsSettling table row old new v → IsWithin lent v → IsAsking table row new new v lent
+lent_asking table row old new lent v vector closed settling within = record {
+  settling = settling_again table row old new v settling;
   size = vector.size;
   within = within;
-  held = hold_lent system (length system.lens) lent v closed within;
+  held = hold_lent table.system (length table.system.lens) lent v closed within;
 }
+
+-- nothing more was seen
+pub sees_none : (pulls steps : ℕ) (seen : List ℕ) → SeesMore pulls 0 steps steps seen seen
+sees_none pulls steps seen = record { kept = within_refl seen; rises = omega arith; pays = omega arith }
+
+-- one number more was seen, and the pulls from it were looked up
+pub sees_put : (pulls looks steps steps_now : ℕ) (seen : List ℕ) (process x : ℕ) → process < length seen → get_or seen process 0 < x → looks ≤ pulls → steps_now ≡ steps + looks → SeesMore pulls 1 steps steps_now seen (set seen process x)
+sees_put pulls looks steps steps_now seen process x there less few took =
+    let more : sum seen + 1 ≤ sum (set seen process x) = omega (arith, sum-set seen process x there) in
+    record { kept = within_put seen process x (omega arith); rises = more; pays = look_pays pulls looks steps steps_now _ _ few took more }
+
+pub sees_trans : (pulls m n a b c : ℕ) (seen mid now : List ℕ) → SeesMore pulls m a b seen mid → SeesMore pulls n b c mid now → SeesMore pulls (m + n) a c seen now
+sees_trans pulls m n a b c seen mid now first second = record {
+  kept = within_trans seen mid now first.kept second.kept;
+  rises = omega (arith, first.rises, second.rises);
+  pays = pays_more pulls a b c (sum mid) (sum now) (sum seen) second.pays first.pays;
+}
+
+-- the two vectors are the least of the row, in the other order
+pub least_swap : (system : SystemView) (row : ℕ) (v w : List ℕ) → AreLeast system row v w → AreLeast system row w v
+least_swap system row v w are = record { least = least_along system row v w (sym are.same) are.least; same = sym are.same }
+
+-- where nothing has risen since, both vectors are the least of the row
+pub asking_done : (table : TableView) (row : ℕ) (old new : SeatView) (v seen : List ℕ) → IsAsking table row old new v seen → IsWithin v seen → AreLeast table.system row v seen
+asking_done table row old new v seen asking back =
+    let settling = asking.settling in record {
+      least = settled_least table.system (start_of table.system.lens row) v (settling_below table row old new v settling) (hold_all table.system settling.system seen v asking.held asking.within back);
+      same = asking_same table row old new v seen asking back;
+    }

@@ -1,4 +1,5 @@
 pub mod Asking
 pub mod Kept
+pub mod Lending
 pub mod Rule
 pub mod Views

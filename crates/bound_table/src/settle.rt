@@ -5,14 +5,14 @@
 //! the pulls from what rose are looked up again. A row's words fit, since a run has few events.
 ghost use Rattle.std.specs.Prelude.{◌≡◌, ◌⊎◌, ℕ, ◌+◌, ◌*◌, ◌<◌, ◌≤◌, true, length, sum};
 ghost use Rattle.std.specs.Prelude.{slice_index};
-ghost use Rattle.pull_system.specs.Vector.{IsWithin, IsVector};
-ghost use Rattle.pull_system.specs.System.{IsSystem, IsClosed, source_of, target_of, ask};
-ghost use Rattle.pull_system.specs.System.{numbers_from};
+ghost use Rattle.pull_system.specs.Vector.{IsWithin};
+ghost use Rattle.pull_system.specs.System.{source_of, target_of, ask, numbers_from};
 ghost use Rattle.pull_system.specs.Rows.{row_at, IsLeast};
 ghost use Rattle.pull_system.specs.Asks.{IsAskedBy, AreAsks};
-ghost use Rattle.raise_machine.specs.Bounds.{word_at, has_start};
-ghost use Rattle.bound_table.specs.Asking.{IsAsking};
+ghost use Rattle.raise_machine.specs.Bounds.{has_start};
+ghost use Rattle.bound_table.specs.Asking.{IsSettling, IsAsking, SeesMore};
 ghost use Rattle.bound_table.specs.Kept.{Follows};
+ghost use Rattle.bound_table.specs.Lending.{HasReached, SettlesFrom, MayLend, AreLeast};
 ghost use Rattle.bound_table.specs.Views.{KeepsClaims};
 
 use crate::narrow::widen;
@@ -70,9 +70,12 @@ impl BoundTable {
             let before = sum (row_at self.now.system.lens seat.old.floor row) in
             steps.new + pulls * before ≤ steps.old + pulls * (1 + sum into.new) }
     {
-        let procs = self.system().shape().procs() as usize;
+        seat.bounds();
         let mut seen = [0; 32];
-        self.settle_row(seat, row, into, &mut seen[..procs], steps);
+        let seen = &mut seen[..self.system().shape().procs() as usize];
+        self.look_narrow(seat, row, into);
+        self.ask_all(seat, row, into, seen, steps);
+        self.close_row(seat, row, into, seen, steps);
     }
 
     /// Settles the row as `settle` does, from its words as they were looked at last, and from a
@@ -91,25 +94,17 @@ impl BoundTable {
         into: &mut [u16],
         steps: &mut Steps<L>,
     )
-        requires fits { seat.old.table ≡ self.now }
-        requires row { row ≤ sum self.now.system.lens }
-        requires before { before ≤ sum self.now.system.lens }
-        requires vector { IsVector self.now.system.lens into.old }
-        requires closed { IsClosed self.now.system into.old }
-        requires lent { (process : ℕ) → process < length self.now.system.lens
-            → slice_index into.old process
-            ≤ word_at self.now.system.lens seat.old.floor before process }
+        requires from { SettlesFrom self.now seat.old before row looked.old into.old }
+        requires lent { HasReached self.now.system.lens seat.old.floor before into.old }
         requires event { has_start self.now.system.lens seat.old.floor row before ≡ true }
-        requires looked { looked.old ≡ row_at self.now.system.lens seat.old.floor row }
         ensures keeps { KeepsClaims seat.old seat.new }
         ensures follows { Follows self.now.system row seat.old.floor seat.new.floor into.new }
-        ensures least { IsLeast self.now.system row into.new }
+        ensures least { AreLeast self.now.system row into.new looked.new }
         ensures looks { let pulls = length self.now.system.pulls in
             let before = sum (row_at self.now.system.lens seat.old.floor row) in
             steps.new + pulls * before ≤ steps.old + pulls * (1 + sum into.new) }
         ensures pays { let pulls = length self.now.system.pulls in
             steps.new + pulls * sum into.old ≤ steps.old + pulls * sum into.new }
-        ensures looked { looked.new ≡ into.new }
     {
         seat.bounds();
         let _shape = self.system().shape();
@@ -117,47 +112,11 @@ impl BoundTable {
         self.close_row(seat, row, looked, into, steps);
     }
 
-    /// Settles the row from its own words alone.
-    fn settle_row<L: Ledger>(
-        &self,
-        seat: &mut Seat,
-        row: u32,
-        vector: &mut [u16],
-        seen: &mut [u16],
-        steps: &mut Steps<L>,
-    )
-        requires system { IsSystem self.now.system }
-        requires fits { seat.old.table ≡ self.now }
-        requires row { row ≤ sum self.now.system.lens }
-        requires vector { length vector.old ≡ length self.now.system.lens }
-        requires seen { length seen.old ≡ length self.now.system.lens }
-        ensures keeps { KeepsClaims seat.old seat.new }
-        ensures follows { Follows self.now.system row seat.old.floor seat.new.floor vector.new }
-        ensures least { IsLeast self.now.system row vector.new }
-        ensures looks { let pulls = length self.now.system.pulls in
-            let before = sum (row_at self.now.system.lens seat.old.floor row) in
-            steps.new + pulls * before ≤ steps.old + pulls * (1 + sum vector.new) }
-    {
-        seat.bounds();
-        self.look_narrow(seat, row, vector);
-        self.ask_all(seat, row, vector, seen, steps);
-        self.close_row(seat, row, vector, seen, steps);
-    }
-
     /// Raises each word of the row to at least what is lent.
     fn lend_row(&self, seat: &mut Seat, before: u32, row: u32, lent: &[u16], vector: &mut [u16])
-        requires system { IsSystem self.now.system }
-        requires fits { seat.old.table ≡ self.now }
-        requires row { row ≤ sum self.now.system.lens }
-        requires before { before ≤ sum self.now.system.lens }
-        requires size { length lent.now ≡ length self.now.system.lens }
-        requires lent { (process : ℕ) → process < length self.now.system.lens
-            → slice_index lent.now process
-            ≤ word_at self.now.system.lens seat.old.floor before process }
-        requires event { has_start self.now.system.lens seat.old.floor row before ≡ true }
-        requires follows { Follows self.now.system row seat.old.floor seat.old.floor vector.old }
-        ensures keeps { KeepsClaims seat.old seat.new }
-        ensures follows { Follows self.now.system row seat.old.floor seat.new.floor vector.new }
+        requires settling { IsSettling self.now row seat.old seat.old vector.old }
+        requires lent { MayLend self.now.system.lens seat.old.floor before row lent.now }
+        ensures settling { IsSettling self.now row seat.old seat.new vector.new }
         ensures reaches { IsWithin lent.now vector.new }
     {
         if excess(lent, vector) == 0 {
@@ -185,14 +144,9 @@ impl BoundTable {
         seen: &mut [u16],
         steps: &mut Steps<L>,
     )
-        requires system { IsSystem self.now.system }
-        requires fits { seat.old.table ≡ self.now }
-        requires row { row ≤ sum self.now.system.lens }
-        requires follows { Follows self.now.system row seat.old.floor seat.old.floor vector.old }
+        requires settling { IsSettling self.now row seat.old seat.old vector.old }
         requires seen { length seen.old ≡ length self.now.system.lens }
-        ensures keeps { KeepsClaims seat.old seat.new }
-        ensures asking { IsAsking self.now.system row seat.old.floor seat.new.floor vector.new
-            seen.new }
+        ensures asking { IsAsking self.now row seat.old seat.new vector.new seen.new }
         ensures reaches { IsWithin vector.old seen.new }
         ensures looks { steps.new ≤ steps.old + length self.now.system.pulls }
     {
@@ -212,19 +166,13 @@ impl BoundTable {
         seen: &mut [u16],
         steps: &mut Steps<L>,
     )
-        requires system { IsSystem self.now.system }
-        requires fits { seat.old.table ≡ self.now }
-        requires row { row ≤ sum self.now.system.lens }
-        requires asking { IsAsking self.now.system row seat.old.floor seat.old.floor vector.old
-            seen.old }
-        ensures keeps { KeepsClaims seat.old seat.new }
-        ensures follows { Follows self.now.system row seat.old.floor seat.new.floor vector.new }
-        ensures least { IsLeast self.now.system row vector.new }
+        requires asking { IsAsking self.now row seat.old seat.old vector.old seen.old }
+        ensures settling { IsSettling self.now row seat.old seat.new vector.new }
+        ensures least { AreLeast self.now.system row vector.new seen.new }
         ensures looks { let pulls = length self.now.system.pulls in
             steps.new + pulls * sum vector.old ≤ steps.old + pulls * (1 + sum vector.new) }
         ensures pays { let pulls = length self.now.system.pulls in
             steps.new + pulls * sum seen.old ≤ steps.old + pulls * sum vector.new }
-        ensures same { vector.new ≡ seen.new }
     {
         let mut asked = self.ask_risen(seat, row, vector, seen, steps);
         while asked > 0 {
@@ -244,20 +192,13 @@ impl BoundTable {
         seen: &mut [u16],
         steps: &mut Steps<L>,
     ) -> u32
-        requires system { IsSystem self.now.system }
-        requires fits { seat.old.table ≡ self.now }
-        requires row { row ≤ sum self.now.system.lens }
-        requires asking { IsAsking self.now.system row seat.old.floor seat.old.floor vector.old
-            seen.old }
-        ensures keeps { KeepsClaims seat.old seat.new }
-        ensures asking { IsAsking self.now.system row seat.old.floor seat.new.floor vector.new
-            seen.new }
+        requires asking { IsAsking self.now row seat.old seat.old vector.old seen.old }
+        ensures asking { IsAsking self.now row seat.old seat.new vector.new seen.new }
         ensures done { result ≡ 0 → IsWithin vector.new seen.new }
         ensures reaches { IsWithin vector.old seen.new }
-        ensures rises { sum seen.old + result ≤ sum seen.new }
+        ensures sees { SeesMore (length self.now.system.pulls) result steps.old steps.new seen.old
+            seen.new }
         ensures looks { steps.new ≤ steps.old + length self.now.system.pulls }
-        ensures pays { let pulls = length self.now.system.pulls in
-            steps.new + pulls * sum seen.old ≤ steps.old + pulls * sum seen.new }
     {
         if excess(vector, seen) == 0 {
             return 0;
@@ -279,24 +220,16 @@ impl BoundTable {
         seen: &mut [u16],
         steps: &mut Steps<L>,
     ) -> u32
-        requires system { IsSystem self.now.system }
-        requires fits { seat.old.table ≡ self.now }
-        requires row { row ≤ sum self.now.system.lens }
+        requires asking { IsAsking self.now row seat.old seat.old vector.old seen.old }
         requires process { process < length self.now.system.lens }
-        requires asking { IsAsking self.now.system row seat.old.floor seat.old.floor vector.old
-            seen.old }
         ensures few { result ≤ 1 }
-        ensures keeps { KeepsClaims seat.old seat.new }
-        ensures asking { IsAsking self.now.system row seat.old.floor seat.new.floor vector.new
-            seen.new }
+        ensures asking { IsAsking self.now row seat.old seat.new vector.new seen.new }
         ensures idle { result ≡ 0 → vector.new ≡ vector.old }
-        ensures kept { IsWithin seen.old seen.new }
         ensures reaches { slice_index vector.old process ≤ slice_index seen.new process }
-        ensures rises { sum seen.old + result ≤ sum seen.new }
+        ensures sees { SeesMore (length self.now.system.pulls) result steps.old steps.new seen.old
+            seen.new }
         ensures looks { let pulls = self.now.system.pulls in
             steps.new ≤ steps.old + length (numbers_from pulls process (length pulls)) }
-        ensures pays { let pulls = length self.now.system.pulls in
-            steps.new + pulls * sum seen.old ≤ steps.old + pulls * sum seen.new }
     {
         let x = vector[process as usize];
         if x <= seen[process as usize] {
@@ -317,14 +250,10 @@ impl BoundTable {
         vector: &mut [u16],
         steps: &mut Steps<L>,
     )
-        requires system { IsSystem self.now.system }
-        requires fits { seat.old.table ≡ self.now }
-        requires row { row ≤ sum self.now.system.lens }
+        requires settling { IsSettling self.now row seat.old seat.old vector.old }
         requires process { process < length self.now.system.lens }
-        requires follows { Follows self.now.system row seat.old.floor seat.old.floor vector.old }
         requires reached { x ≤ slice_index vector.old process }
-        ensures keeps { KeepsClaims seat.old seat.new }
-        ensures follows { Follows self.now.system row seat.old.floor seat.new.floor vector.new }
+        ensures settling { IsSettling self.now row seat.old seat.new vector.new }
         ensures holds { (k : ℕ) → k < length self.now.system.pulls
             → source_of self.now.system k ≡ process
             → ask self.now.system k x ≤ slice_index vector.new (target_of self.now.system k) }
@@ -345,15 +274,11 @@ impl BoundTable {
         asks: &[u16],
         vector: &mut [u16],
     )
-        requires system { IsSystem self.now.system }
-        requires fits { seat.old.table ≡ self.now }
-        requires row { row ≤ sum self.now.system.lens }
+        requires settling { IsSettling self.now row seat.old seat.old vector.old }
         requires process { process < length self.now.system.lens }
-        requires follows { Follows self.now.system row seat.old.floor seat.old.floor vector.old }
         requires reached { x ≤ slice_index vector.old process }
         requires asks { AreAsks self.now.system process x asks.now }
-        ensures keeps { KeepsClaims seat.old seat.new }
-        ensures follows { Follows self.now.system row seat.old.floor seat.new.floor vector.new }
+        ensures settling { IsSettling self.now row seat.old seat.new vector.new }
         ensures reaches { IsWithin asks.now vector.new }
     {
         if excess(asks, vector) == 0 {
@@ -375,16 +300,12 @@ impl BoundTable {
         asked: u16,
         vector: &mut [u16],
     )
-        requires system { IsSystem self.now.system }
-        requires fits { seat.old.table ≡ self.now }
-        requires row { row ≤ sum self.now.system.lens }
+        requires settling { IsSettling self.now row seat.old seat.old vector.old }
         requires process { process < length self.now.system.lens }
         requires target { target < length self.now.system.lens }
-        requires follows { Follows self.now.system row seat.old.floor seat.old.floor vector.old }
         requires reached { x ≤ slice_index vector.old process }
         requires asked { (asked ≡ 0) ⊎ IsAskedBy self.now.system process x target asked }
-        ensures keeps { KeepsClaims seat.old seat.new }
-        ensures follows { Follows self.now.system row seat.old.floor seat.new.floor vector.new }
+        ensures settling { IsSettling self.now row seat.old seat.new vector.new }
         ensures reaches { asked ≤ slice_index vector.new target }
     {
         if vector[target as usize] < asked {

@@ -8,6 +8,7 @@ ghost use Rattle.raise_machine.specs.Bounds.{AreBounds, word_at, has_start};
 ghost use Rattle.raise_machine.specs.Machine.{is_allowed};
 ghost use Rattle.bound_table.specs.Asking.{IsPullStep, IsRaised};
 ghost use Rattle.bound_table.specs.Kept.{Follows};
+ghost use Rattle.bound_table.specs.Lending.{AreRows};
 ghost use Rattle.bound_table.specs.Rule.{word_count};
 ghost use Rattle.bound_table.specs.Views.{KeepsClaims};
 
@@ -207,8 +208,7 @@ impl BoundTable {
     /// The seat's floor for `to_row` has the event of `from_row`, or `from_row` is the bottom's.
     pub fn lend(&self, seat: &mut Seat, from_row: u32, to_row: u32)
         requires fits { seat.old.table ≡ self.now }
-        requires from_row { from_row ≤ sum self.now.system.lens }
-        requires to_row { to_row ≤ sum self.now.system.lens }
+        requires rows { AreRows self.now.system.lens from_row to_row }
         requires event { has_start self.now.system.lens seat.old.floor to_row from_row ≡ true }
         ensures keeps { KeepsClaims seat.old seat.new }
         ensures lent { (process : ℕ) → process < length self.now.system.lens

@@ -1,5 +1,5 @@
 -- What a log is checked for: a formula, what its reports show, and the watches that it may name.
-use Rattle.std.specs.Prelude.{◌≡◌, ℕ, ℤ, ◌≤◌, true, Bool, List, [], ◌∷◌, length, map, take, Option}
+use Rattle.std.specs.Prelude.{◌≡◌, ℕ, ◌≤◌, true, Bool, List, [], ◌∷◌, length, map, take, Option}
 use Rattle.std.specs.Prelude.{if◌then◌else◌}
 use Rattle.std.specs.Str.{bytes_eq}
 use Rattle.run_model.specs.Cut.{initial}
@@ -16,17 +16,9 @@ use Rattle.report.specs.declared.report.Report.{Report}
 use Rattle.run_report.specs.Reports.{Asked, IsReportOf, trace_so_far}
 use Rattle.run_request.specs.declared.formula.Stated.{Stated}
 use Rattle.watch.specs.declared.predicate.Handed.{Handed}
+pub use Rattle.watch.specs.Saying.{Says, said_by}
 use Rattle.log_judgement.specs.Judgement.{Prefix, Rules, with_rules}
 use Rattle.log_judgement.specs.Counters.{counters_in}
-
--- what a watch that was handed in says of states
-abbrev pub Says : (X : Type 0) → (X → Type 0) → Type 0
-Says X P = Handed X P → List (List ℤ) → List Bool
-
--- what a watch says, by what the values behind its table answer
-abbrev pub said_by : {X : Type 0} {P : X → Type 0} → (((x : X) × P x) → List (List ℤ) → List Bool)
-    → Says X P
-said_by answers h = answers (h.watch.vtable, h.watch.value)
 
 -- the names of watches
 abbrev pub names_of : {X : Type 0} {P : X → Type 0} → List (Handed X P) → List Name

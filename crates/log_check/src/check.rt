@@ -6,7 +6,7 @@ ghost use Rattle.report.specs.Spelling.{IsWellFormed};
 ghost use Rattle.run_request.specs.Questions.{IsStated};
 ghost use Rattle.log_judgement.specs.Judgement.{Prefix, Judgement, judge, opened, waiting};
 ghost use Rattle.log_check.specs.Aims.{Aim, AreWatches, IsReportFor, aim_of, names_of, rules_of};
-ghost use Rattle.log_check.specs.Aims.{watches_of};
+ghost use Rattle.log_check.specs.Aims.{said_by, watches_of};
 ghost use Rattle.log_check.specs.Checking.{GoesOn, HasClosed, IsCheckOf, IsRefusedAs, MayFollow};
 ghost use Rattle.log_check.specs.Checking.{end_item};
 ghost use Rattle.log_check.specs.Keeping.{HasAnswered};
@@ -76,10 +76,9 @@ impl LogCheck {
     ) -> Result<LogCheck, NoMemory>
         requires stated { (text : ListOf ℕ) × IsStated text stated }
         requires watches { AreWatches watches.items }
-        ensures { IfOk result (λ check. IsCheckOf (λ h. answers (h.watch.vtable, h.watch.value))
+        ensures { IfOk result (λ check. IsCheckOf (said_by answers)
             (aim_of stated slice witness (names_of watches.items)
-            (watches_of (λ h. answers (h.watch.vtable, h.watch.value)) watches.items))
-            check waiting) }
+            (watches_of (said_by answers) watches.items)) check waiting) }
     {
         Ok(LogCheck {
             stated,
@@ -96,21 +95,24 @@ impl LogCheck {
 
     // The header came: the names of the formula are looked up.
     fn open(&mut self, alloc: Global, header: Header) -> Result<(), Refused<Refusal>>
-        requires check { (aim : Aim)
-            × IsCheckOf (λ h. answers (h.watch.vtable, h.watch.value)) aim self.old waiting }
+        requires check { (aim : Aim) × IsCheckOf (said_by answers) aim self.old waiting }
         requires header { HeaderFits header }
-        ensures ok { OnOk result ((aim : Aim)
-            → IsCheckOf (λ h. answers (h.watch.vtable, h.watch.value)) aim self.old waiting
-            → IsCheckOf (λ h. answers (h.watch.vtable, h.watch.value)) aim self.new
-            (opened (rules_of aim) header)) }
+        ensures ok { OnOk result ((aim : Aim) → IsCheckOf (said_by answers) aim self.old waiting
+            → IsCheckOf (said_by answers) aim self.new (opened (rules_of aim) header)) }
         ensures fault { IfFault result (λ why. (aim : Aim)
-            → IsCheckOf (λ h. answers (h.watch.vtable, h.watch.value)) aim self.old waiting
+            → IsCheckOf (said_by answers) aim self.old waiting
             → IsRefusedAs waiting (opened (rules_of aim) header) self.new.batches why) }
     {
         let resolved = match resolve(alloc, &self.stated.classed, &header, &self.names) {
             Ok(resolved) => resolved,
-            Err(Refused::Fault(fault)) => return Err(Refused::Fault(Refusal::Formula(fault))),
-            Err(Refused::NoMemory) => return Err(Refused::NoMemory),
+            Err(Refused::Fault(fault)) => {
+                drop(header);
+                return Err(Refused::Fault(Refusal::Formula(fault)));
+            }
+            Err(Refused::NoMemory) => {
+                drop(header);
+                return Err(Refused::NoMemory);
+            }
         };
         let watches = mem::replace(&mut self.watches, Vec::new(alloc));
         match Session::new(alloc, header, resolved, watches) {
@@ -125,16 +127,13 @@ impl LogCheck {
     // A batch is closed. Tells whether it was by a `batch` line.
     fn close(&mut self, alloc: Global, last: bool) -> Result<bool, Refused<Refusal>>
         requires check { (aim : Aim) × (j : Judgement)
-            × IsCheckOf (λ h. answers (h.watch.vtable, h.watch.value)) aim self.old j
-            × MayFollow j (end_item last ∷ []) }
+            × IsCheckOf (said_by answers) aim self.old j × MayFollow j (end_item last ∷ []) }
         ensures ok { IfOk result (λ closed. (aim : Aim) (j : Judgement)
-            → IsCheckOf (λ h. answers (h.watch.vtable, h.watch.value)) aim self.old j
-            → MayFollow j (end_item last ∷ [])
-            → GoesOn (λ h. answers (h.watch.vtable, h.watch.value)) aim self.new j
-            (judge (rules_of aim) j (end_item last)) closed) }
+            → IsCheckOf (said_by answers) aim self.old j → MayFollow j (end_item last ∷ [])
+            → GoesOn (said_by answers) aim self.new j (judge (rules_of aim) j (end_item last))
+            closed) }
         ensures fault { IfFault result (λ why. (aim : Aim) (j : Judgement)
-            → IsCheckOf (λ h. answers (h.watch.vtable, h.watch.value)) aim self.old j
-            → MayFollow j (end_item last ∷ [])
+            → IsCheckOf (said_by answers) aim self.old j → MayFollow j (end_item last ∷ [])
             → IsRefusedAs j (judge (rules_of aim) j (end_item last)) self.new.batches why) }
     {
         if self.ended {
@@ -159,16 +158,12 @@ impl LogCheck {
     /// answered before a report is asked for.
     pub fn take(&mut self, alloc: Global, item: Item) -> Result<bool, Refused<Refusal>>
         requires check { (aim : Aim) × (j : Judgement)
-            × IsCheckOf (λ h. answers (h.watch.vtable, h.watch.value)) aim self.old j
-            × MayFollow j (item ∷ []) }
+            × IsCheckOf (said_by answers) aim self.old j × MayFollow j (item ∷ []) }
         ensures ok { IfOk result (λ closed. (aim : Aim) (j : Judgement)
-            → IsCheckOf (λ h. answers (h.watch.vtable, h.watch.value)) aim self.old j
-            → MayFollow j (item ∷ [])
-            → GoesOn (λ h. answers (h.watch.vtable, h.watch.value)) aim self.new j
-            (judge (rules_of aim) j item) closed) }
+            → IsCheckOf (said_by answers) aim self.old j → MayFollow j (item ∷ [])
+            → GoesOn (said_by answers) aim self.new j (judge (rules_of aim) j item) closed) }
         ensures fault { IfFault result (λ why. (aim : Aim) (j : Judgement)
-            → IsCheckOf (λ h. answers (h.watch.vtable, h.watch.value)) aim self.old j
-            → MayFollow j (item ∷ [])
+            → IsCheckOf (said_by answers) aim self.old j → MayFollow j (item ∷ [])
             → IsRefusedAs j (judge (rules_of aim) j item) self.new.batches why) }
     {
         match item {
@@ -194,14 +189,13 @@ impl LogCheck {
         steps: &mut Steps<L>,
     ) -> Result<(), NoMemory>
         requires check { (aim : Aim) × (j : Judgement) × (log : Prefix)
-            × IsCheckOf (λ h. answers (h.watch.vtable, h.watch.value)) aim self.old j
-            × HasClosed j log }
+            × IsCheckOf (said_by answers) aim self.old j × HasClosed j log }
         requires some { 1 ≤ workers }
         requires few { workers ≤ 16 }
         ensures answered { OnOk result (HasAnswered self.new) }
         ensures goes_on { OnOk result ((aim : Aim) (j : Judgement)
-            → IsCheckOf (λ h. answers (h.watch.vtable, h.watch.value)) aim self.old j
-            → IsCheckOf (λ h. answers (h.watch.vtable, h.watch.value)) aim self.new j) }
+            → IsCheckOf (said_by answers) aim self.old j
+            → IsCheckOf (said_by answers) aim self.new j) }
         ensures batches { self.new.batches ≡ self.old.batches }
     {
         let Some(session) = &mut self.session else {
@@ -214,12 +208,11 @@ impl LogCheck {
     // The report of the answer that was made.
     fn told(&self, alloc: Global) -> Result<Report, NoMemory>
         requires check { (aim : Aim) × (j : Judgement) × (log : Prefix)
-            × IsCheckOf (λ h. answers (h.watch.vtable, h.watch.value)) aim self.now j
-            × HasClosed j log }
+            × IsCheckOf (said_by answers) aim self.now j × HasClosed j log }
         requires answered { HasAnswered self.now }
         ensures says { IfOk result (λ report. (aim : Aim) (j : Judgement) (log : Prefix)
-            → IsCheckOf (λ h. answers (h.watch.vtable, h.watch.value)) aim self.now j
-            → HasClosed j log → IsReportFor aim log report) }
+            → IsCheckOf (said_by answers) aim self.now j → HasClosed j log
+            → IsReportFor aim log report) }
         ensures fits { IfOk result IsWellFormed }
     {
         let Some(session) = &self.session else {
@@ -252,17 +245,16 @@ impl LogCheck {
         steps: &mut Steps<L>,
     ) -> Result<Report, NoMemory>
         requires check { (aim : Aim) × (j : Judgement) × (log : Prefix)
-            × IsCheckOf (λ h. answers (h.watch.vtable, h.watch.value)) aim self.old j
-            × HasClosed j log }
+            × IsCheckOf (said_by answers) aim self.old j × HasClosed j log }
         requires some { 1 ≤ workers }
         requires few { workers ≤ 16 }
         ensures says { IfOk result (λ report. (aim : Aim) (j : Judgement) (log : Prefix)
-            → IsCheckOf (λ h. answers (h.watch.vtable, h.watch.value)) aim self.old j
-            → HasClosed j log → IsReportFor aim log report) }
+            → IsCheckOf (said_by answers) aim self.old j → HasClosed j log
+            → IsReportFor aim log report) }
         ensures fits { IfOk result IsWellFormed }
         ensures goes_on { OnOk result ((aim : Aim) (j : Judgement)
-            → IsCheckOf (λ h. answers (h.watch.vtable, h.watch.value)) aim self.old j
-            → IsCheckOf (λ h. answers (h.watch.vtable, h.watch.value)) aim self.new j) }
+            → IsCheckOf (said_by answers) aim self.old j
+            → IsCheckOf (said_by answers) aim self.new j) }
         ensures batches { self.new.batches ≡ self.old.batches }
     {
         self.settle(rt, workers, gate, steps)?;
@@ -274,11 +266,10 @@ impl LogCheck {
     /// made for it and true of it exactly where it is true of the log.
     pub fn into_observed(self) -> CheckedLog
         requires check { (aim : Aim) × (j : Judgement) × (log : Prefix)
-            × IsCheckOf (λ h. answers (h.watch.vtable, h.watch.value)) aim self j
-            × HasClosed j log }
+            × IsCheckOf (said_by answers) aim self j × HasClosed j log }
         ensures log { (aim : Aim) (j : Judgement) (log : Prefix)
-            → IsCheckOf (λ h. answers (h.watch.vtable, h.watch.value)) aim self j
-            → HasClosed j log → IsCheckedLog aim log result }
+            → IsCheckOf (said_by answers) aim self j → HasClosed j log
+            → IsCheckedLog aim log result }
         ensures stated { result.stated ≡ self.stated }
         ensures ready { IsReady result.seen }
         ensures trace { IsTrace result.seen.trace.states }
@@ -287,9 +278,15 @@ impl LogCheck {
     {
         let LogCheck {
             stated,
+            names,
+            watches,
             session,
+            since,
             ..
         } = self;
+        drop(names);
+        drop(watches);
+        drop(since);
         let Some(session) = session else {
             unreachable!()
         };

@@ -1,7 +1,7 @@
 //! Items of a log, judged one after another.
 ghost use Rattle.std.specs.Prelude.{IfOk};
 ghost use Rattle.log_judgement.specs.Judgement.{Judgement, judged};
-ghost use Rattle.log_check.specs.Aims.{Aim, rules_of};
+ghost use Rattle.log_check.specs.Aims.{Aim, rules_of, said_by};
 ghost use Rattle.log_check.specs.Checking.{IsCheckOf, MayFollow};
 ghost use Rattle.log_part.specs.Reading.{IsRefusalIn, JudgesTo};
 
@@ -29,13 +29,10 @@ pub fn judge_all(
     items: List<Item>,
 ) -> Result<Option<Refusal>, NoMemory>
     requires { (aim : Aim) × (j : Judgement)
-        × IsCheckOf (λ h. answers (h.watch.vtable, h.watch.value)) aim check.old j
-        × MayFollow j items }
+        × IsCheckOf (said_by answers) aim check.old j × MayFollow j items }
     ensures { IfOk result (λ why. (aim : Aim) (j : Judgement)
-        → IsCheckOf (λ h. answers (h.watch.vtable, h.watch.value)) aim check.old j
-        → MayFollow j items
-        → JudgesTo (λ h. answers (h.watch.vtable, h.watch.value)) aim check.new
-        (judged (rules_of aim) j items) why) }
+        → IsCheckOf (said_by answers) aim check.old j → MayFollow j items
+        → JudgesTo (said_by answers) aim check.new (judged (rules_of aim) j items) why) }
 {
     let mut rest = items.into_vec().into_iter();
     while let Some(item) = rest.next() {

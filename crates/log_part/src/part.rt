@@ -1,9 +1,10 @@
 //! A log that comes in pieces, up to its end.
-ghost use Rattle.std.specs.Prelude.{◌≡◌, ◌<◌, ◌++◌, [], ℕ, List as ListOf, Option, Some, IfOk, length};
+ghost use Rattle.std.specs.Prelude.{◌≡◌, ◌<◌, ◌++◌, [], ℕ, List as ListOf, Option, Some, IfOk};
+ghost use Rattle.std.specs.Prelude.{length};
 ghost use Rattle.std.specs.Io.KnownBytes.{IsAtEnd};
 ghost use Rattle.input_reading.specs.Intakes.{Takes};
 ghost use Rattle.log_judgement.specs.Judgement.{waiting};
-ghost use Rattle.log_check.specs.Aims.{Aim};
+ghost use Rattle.log_check.specs.Aims.{Aim, said_by};
 ghost use Rattle.log_check.specs.Checking.{IsCheckOf};
 ghost use Rattle.log_part.specs.Reading.{IsDone, IsFront, IsOpen, room_of};
 ghost use Rattle.input_reading.specs.declared.intake.Turn.TheVariants as turn;
@@ -31,9 +32,8 @@ pub struct LogPart {
 impl LogPart {
     /// No byte came yet. It takes no memory.
     pub fn new(alloc: Global, check: LogCheck) -> LogPart
-        ensures { (aim : Aim)
-            → IsCheckOf (λ h. answers (h.watch.vtable, h.watch.value)) aim check waiting
-            → IsOpen (λ h. answers (h.watch.vtable, h.watch.value)) aim result [] }
+        ensures { (aim : Aim) → IsCheckOf (said_by answers) aim check waiting
+            → IsOpen (said_by answers) aim result [] }
     {
         LogPart {
             alloc,
@@ -58,11 +58,10 @@ impl LogPart {
     pub fn take(&mut self, piece: &[u8]) -> Result<Turn, NoMemory>
         requires some { 0 < length piece.now }
         requires at { (aim : Aim) × (bytes : ListOf ℕ)
-            × IsOpen (λ h. answers (h.watch.vtable, h.watch.value)) aim self.old bytes }
+            × IsOpen (said_by answers) aim self.old bytes }
         ensures { IfOk result (λ turn. (aim : Aim) (bytes : ListOf ℕ)
-            → IsOpen (λ h. answers (h.watch.vtable, h.watch.value)) aim self.old bytes
-            → Takes (IsOpen (λ h. answers (h.watch.vtable, h.watch.value)) aim self.new)
-            (IsDone (λ h. answers (h.watch.vtable, h.watch.value)) aim self.new)
+            → IsOpen (said_by answers) aim self.old bytes
+            → Takes (IsOpen (said_by answers) aim self.new) (IsDone (said_by answers) aim self.new)
             (room_of self.old) (room_of self.new) (bytes ++ piece.now) turn) }
     {
         let (fed, behind) = self.reader.feed_log(piece)?;
@@ -83,37 +82,37 @@ impl LogPart {
     /// What is told where no byte behind those that came matters.
     pub fn done(self) -> Front
         ensures { (aim : Aim) (bytes : ListOf ℕ)
-            → IsDone (λ h. answers (h.watch.vtable, h.watch.value)) aim self bytes
+            → IsDone (said_by answers) aim self bytes
             → (left : Option (ListOf ℕ)) (faults now : ℕ)
-            → IsFront (λ h. answers (h.watch.vtable, h.watch.value)) aim left faults now bytes
-            result }
+            → IsFront (said_by answers) aim left faults now bytes result }
     {
+        if let Some(refusal) = self.refusal {
+            drop(self);
+            return Front::Refused(refusal);
+        }
         let LogPart {
+            reader,
             check,
             rest,
-            refusal,
             ..
         } = self;
-        match refusal {
-            Some(refusal) => Front::Refused(refusal),
-            None => Front::Whole(check, rest),
-        }
+        drop(reader);
+        Front::Whole(check, rest)
     }
 
     /// What is told where the input has ended within the log.
-    pub fn cut_off(self) -> Front
+    pub fn cut_off(mut self) -> Front
         requires { (aim : Aim) × (bytes : ListOf ℕ)
-            × IsOpen (λ h. answers (h.watch.vtable, h.watch.value)) aim self bytes }
+            × IsOpen (said_by answers) aim self bytes }
         ensures { (aim : Aim) (bytes : ListOf ℕ)
-            → IsOpen (λ h. answers (h.watch.vtable, h.watch.value)) aim self bytes
+            → IsOpen (said_by answers) aim self bytes
             → (left : Option (ListOf ℕ)) (faults now : ℕ) → IsAtEnd left
-            → IsFront (λ h. answers (h.watch.vtable, h.watch.value)) aim left faults now bytes
-            result }
+            → IsFront (said_by answers) aim left faults now bytes result }
     {
-        let LogPart { mut reader, .. } = self;
-        let Some(fault) = reader.finish() else {
+        let Some(fault) = self.reader.finish() else {
             unreachable!()
         };
+        drop(self);
         Front::Refused(Refusal::Log(fault))
     }
 }

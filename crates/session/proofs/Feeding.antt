@@ -135,6 +135,10 @@ pub feeds_from : {B : Type 0} (says : B → List (List ℤ) → List Bool) (old 
     → Feeds says old new (record { trace = trace; watch_process = before.watch_process; watch_rows = before.watch_rows }) after → Feeds says old new before after
 feeds_from says old new before after trace feeds = record { count = feeds.count; rows = feeds.rows; fed = feeds.fed; others = feeds.others }
 
+pub feeds_at : {B S : Type 0} {x y : S} → x ≡ y → (seen_of : S → Observed) (boxes_of : S → List B) (says : B → List (List ℤ) → List Bool) (new : List B) (after : Observed)
+    → Feeds says (boxes_of x) new (seen_of x) after → Feeds says (boxes_of y) new (seen_of y) after
+feeds_at same seen_of boxes_of says new after feeds = subst (λ s. Feeds says (boxes_of s) new (seen_of s) after) same feeds
+
 pub fed_after : {B S : Type 0} {x y : S} → x ≡ y → (seen_of : S → Observed) (boxes_of : S → List B) (says : B → List (List ℤ) → List Bool) (handed new : List B) (after : Observed) → IsTrace after.trace.states
     → AreWithin (seen_of x) → AreFull after → IsLater (seen_of x) after → Feeds says (boxes_of x) new (seen_of x) after → AreFedFrom says handed (boxes_of y) (seen_of y) → AreFedFrom says handed new after
 fed_after same seen_of boxes_of says handed new after is within full later feeds since =

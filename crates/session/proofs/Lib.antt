@@ -2,6 +2,7 @@ mod Feeding
 mod Taking
 mod Named
 mod Rising
+mod Still
 mod Listing
 mod Going
 mod Completing

@@ -9,9 +9,11 @@ ghost use Rattle.conjunctions.specs.Numbering.{all_conjunctions};
 ghost use Rattle.conjunctions.specs.Counting.{bounds};
 ghost use Rattle.conjunctions.specs.Settling.{AreFloors, AreSettled};
 ghost use Rattle.conjunctions.specs.Answering.{IsAnswer};
+ghost use Rattle.watch.specs.Saying.{said_by};
 ghost use Rattle.watch_feeding.specs.Fed.{HaveRows};
 ghost use Rattle.session.specs.Growing.{Completes};
 ghost use Rattle.session.specs.Fed.{Feeds};
+ghost use Rattle.session.specs.Taken.{AreWorkers};
 
 use conjunctions::{Answer, Round, answer_all};
 use part_pulls::Observed;
@@ -37,8 +39,7 @@ pub(crate) fn feed_batch(
     ensures paired { length watches.new.items ≡ length watches.old.items }
     ensures watches { seen.new.watch_process ≡ seen.old.watch_process }
     ensures completes { OnOk result (Completes seen.old seen.new) }
-    ensures fed { OnOk result (Feeds
-        (λ h. answers (h.watch.vtable, h.watch.value))
+    ensures fed { OnOk result (Feeds (said_by answers)
         watches.old.items watches.new.items seen.old seen.new) }
     ensures memory { OnErr result (watches.new ≡ watches.old) }
 {
@@ -78,8 +79,7 @@ pub(crate) fn answer_seen<R: Threads + Sync, G: Gate, L: Ledger>(
     requires rise { CountersRise seen.now (disjuncts_of disjuncts.now) }
     requires floors { AreFloors seen.now settled.old
         (all_conjunctions (disjuncts_of disjuncts.now)) }
-    requires some { 1 ≤ workers }
-    requires few { workers ≤ 16 }
+    requires workers { AreWorkers workers }
     ensures answer { IfOk result (IsAnswer seen.now (disjuncts_of disjuncts.now)) }
     ensures settled { OnOk result (AreSettled seen.now
         (all_conjunctions (disjuncts_of disjuncts.now)) settled.new) }

@@ -9,6 +9,7 @@ ghost use Rattle.part_pulls.specs.declared.observed.Observed.{Observed};
 ghost use Rattle.conjunctions.specs.declared.answer.Answer.{Answer};
 ghost use Rattle.conjunctions.specs.Settling.{IsLater};
 ghost use Rattle.conjunctions.specs.Answering.{IsAnswer};
+ghost use Rattle.watch.specs.Saying.{said_by};
 ghost use Rattle.session.specs.Growing.{GrowingView, all_events, first_fault};
 ghost use Rattle.session.specs.Fed.{IsOneTrace};
 
@@ -19,8 +20,7 @@ use watch::{Handed, Watch};
 /// number of batches.
 pub fn a_fresh_start_answers_the_same(watches: &Vec<Handed>)
     ensures { (here there : _) (one other : Observed)
-        → IsOneTrace (λ h. answers (h.watch.vtable, h.watch.value))
-        watches.now.items here there one other
+        → IsOneTrace (said_by answers) watches.now.items here there one other
         → length watches.now.items ≡ length one.watch_process → IsTrace one.trace.states
         → (ds : List (List Piece)) (a b : Answer) → IsAnswer one ds a → IsAnswer other ds b
         → record a { batch = b.batch } ≡ b }

@@ -1,11 +1,12 @@
 //! A formula over a trace that grows by batches.
 //!
 //! `Session::observe` takes a batch whole, or answers exactly its first fault and is as before, and
-//! the boxes of the watches too (`ok`, `fault`). A counter that falls is judged before clocks and
-//! messages; only the variables of the formula's differences are counters. It makes no answer. `Session::settle` makes the
-//! answer on the trace so far, by however many batches it came, and does nothing where that answer
-//! is there already (`again`). `Session::extend` is the two in a row. After want of memory the
-//! session is spent: it answers that from then on and feeds nothing (`memory`, `spent`).
+//! the boxes of the watches too (`ok`, `fault`: `TakesWhole` and `RefusesBatch` of
+//! `specs/Taken.antt`). A counter that falls is judged before clocks and messages; only the
+//! variables of the formula's differences are counters. It makes no answer. `Session::settle` makes
+//! the answer on the trace so far, by however many batches it came, and does nothing where that
+//! answer is there already (`again`). `Session::extend` is the two in a row. After want of memory
+//! the session is spent: it answers that from then on and feeds nothing (`memory`, `spent`).
 //!
 //! `Session::answer` has the truth of the formula, its slice and its parts on the trace so far, and
 //! `Session::settled` the rows of each of the `Session::conjunctions`. The rows of a conjunction of
@@ -14,9 +15,9 @@
 //!
 //! `Session::into_seen` hands over what was observed, with the formula by its disjuncts.
 //!
-//! A watch that the formula names is fed each state of its process once, in order (`fed`), so its
-//! row is what it answered from the start on (`since_start`, `answers`). The others are
-//! fed nothing.
+//! A watch that the formula names is fed each state of its process once, in order
+//! (`TakesWhole.fed`), so its row is what it answered from the start on (`since_start`, `answers`).
+//! The others are fed nothing.
 //!
 //! Nothing is said of the time or the memory that a call takes, nor of the steps of several
 //! workers.

@@ -1,5 +1,5 @@
 //! A session: a formula over a growing trace, and the watches that it names.
-ghost use Rattle.std.specs.Prelude.{◌≡◌, ◌↔◌, ◌<◌, ◌≤◌, ◌-◌, ℤ, List as ListOf, [], Some, None};
+ghost use Rattle.std.specs.Prelude.{◌≡◌, ◌↔◌, ◌<◌, ◌≤◌, ◌-◌, ℤ, List as ListOf, [], None};
 ghost use Rattle.std.specs.Prelude.{true, false, length, slice_index_or, Err, ◌+◌, IsTrue, IfOk};
 ghost use Rattle.std.specs.Prelude.{OnOk, OnErr, IsOk, ◌⊎◌};
 ghost use Rattle.event_log.specs.States.{IsHeader};
@@ -14,9 +14,11 @@ ghost use Rattle.conjunctions.specs.Numbering.{all_conjunctions};
 ghost use Rattle.conjunctions.specs.Counting.{bounds};
 ghost use Rattle.conjunctions.specs.Settling.{IsSettled};
 ghost use Rattle.conjunctions.specs.Answering.{IsAnswer};
-ghost use Rattle.session.specs.Growing.{opened_observed, opened_growing, HasAnswer, TakesBatch};
-ghost use Rattle.session.specs.Growing.{first_fault};
+ghost use Rattle.watch.specs.Saying.{said_by};
+ghost use Rattle.session.specs.Growing.{opened_observed, opened_growing, HasAnswer};
 ghost use Rattle.session.specs.Fed.{Feeds, AreFedFrom, AnswersAs};
+ghost use Rattle.session.specs.Taken.{AreWorkers, TakesWhole, RefusesBatch, IsUntouched};
+ghost use Rattle.session.specs.Taken.{StandsStill};
 
 use crate::batch::{answer_seen, feed_batch};
 use crate::growing::Growing;
@@ -55,8 +57,7 @@ impl Session {
         ensures opened { IfOk result (λ session. session.growing
             ≡ opened_growing header resolved.watch_process resolved.disjuncts) }
         ensures watches { IfOk result (λ session. session.watches.items ≡ watches.items) }
-        ensures since_start { IfOk result (λ session.
-            AreFedFrom (λ h. answers (h.watch.vtable, h.watch.value))
+        ensures since_start { IfOk result (λ session. AreFedFrom (said_by answers)
             watches.items session.watches.items session.growing.seen) }
     {
         Ok(Session {
@@ -68,43 +69,23 @@ impl Session {
     /// Takes a whole batch, or none of it, and makes no answer.
     ///
     /// A fault is at the line of its event: that of the first event which leaves a counter of the
-    /// formula lower than it was, and else the first of the batch's clocks and messages. The session
-    /// is then as before, and no watch was fed. After want of memory the session is spent: it
-    /// answers that from then on, and feeds nothing.
+    /// formula lower than it was, and else the first of the batch's clocks and messages. The
+    /// session is then as before, and no watch was fed. After want of memory the session is spent:
+    /// it answers that from then on, and feeds nothing.
     pub fn observe(&mut self, batch: List<Event>) -> Result<(), Refused<LogFault>>
         requires batch { self.old.growing.spent ≡ false
             → FitsTrace self.old.growing.seen.trace batch }
-        ensures ok { OnOk result ((self.old.growing.spent ≡ false)
-            × (first_fault self.old.growing batch ≡ None)
-            × TakesBatch self.old.growing self.new.growing batch) }
-        ensures unspent { OnOk result (self.new.growing.spent ≡ false) }
+        ensures ok { OnOk result (TakesWhole (said_by answers) self.old.growing self.new.growing
+            self.old.watches.items self.new.watches.items batch) }
         ensures unanswered { OnOk result (self.new.growing.answer ≡ None) }
         ensures rows { OnOk result (self.new.growing.settled ≡ self.old.growing.settled) }
-        ensures fed { OnOk result (Feeds
-            (λ h. answers (h.watch.vtable, h.watch.value))
-            self.old.watches.items self.new.watches.items
-            self.old.growing.seen self.new.growing.seen) }
-        ensures since_start { (handed : _) → AreFedFrom
-            (λ h. answers (h.watch.vtable, h.watch.value))
-            handed self.old.watches.items self.old.growing.seen
-            → OnOk result (AreFedFrom
-            (λ h. answers (h.watch.vtable, h.watch.value))
-            handed self.new.watches.items self.new.growing.seen) }
-        ensures answers { (handed : _) (reading : Reading) → AreFedFrom
-            (λ h. answers (h.watch.vtable, h.watch.value))
-            handed self.old.watches.items self.old.growing.seen
-            → AnswersAs
-            (λ h. answers (h.watch.vtable, h.watch.value))
-            handed reading
-            → OnOk result (AreAnswers self.new.growing.seen reading) }
-        ensures fault { IfFault result (λ fault. (self.old.growing.spent ≡ false)
-            × (first_fault self.old.growing batch ≡ Some fault)
-            × (self.new.growing ≡ self.old.growing) × (self.new.watches ≡ self.old.watches)) }
-        ensures memory { IfWantsMemory result (self.new.growing.spent ≡ true) }
-        ensures unfed { IfWantsMemory result (self.new.watches ≡ self.old.watches) }
+        ensures fault { IfFault result (RefusesBatch self.old.growing self.new.growing
+            self.old.watches self.new.watches batch) }
+        ensures memory { IfWantsMemory result ((self.new.growing.spent ≡ true)
+            × (self.new.watches ≡ self.old.watches)) }
         ensures spent { self.old.growing.spent ≡ true
-            → (result ≡ Err refused.NoMemory) × (self.new.growing ≡ self.old.growing)
-            × (self.new.watches ≡ self.old.watches) }
+            → (result ≡ Err refused.NoMemory) × IsUntouched self.old.growing self.new.growing
+            self.old.watches self.new.watches }
     {
         if self.growing.spent {
             return Err(Refused::NoMemory);
@@ -148,12 +129,10 @@ impl Session {
     ) -> Result<(), NoMemory>
         requires unspent { self.old.growing.spent ≡ false }
         requires taken { 1 ≤ self.old.growing.seen.trace.batches }
-        requires some { 1 ≤ workers }
-        requires few { workers ≤ 16 }
+        requires workers { AreWorkers workers }
         ensures answer { OnOk result (HasAnswer self.new.growing) }
-        ensures seen { self.new.growing.seen ≡ self.old.growing.seen }
-        ensures disjuncts { self.new.growing.disjuncts ≡ self.old.growing.disjuncts }
-        ensures watches { self.new.watches ≡ self.old.watches }
+        ensures still { StandsStill self.old.growing self.new.growing
+            self.old.watches self.new.watches }
         ensures looks { OnOk result (workers ≡ 1 → steps.new ≤ steps.old
             + bounds (lens_seen self.old.growing.seen) self.old.growing.settled
             (all_conjunctions (disjuncts_of self.old.growing.disjuncts)) self.new.growing.settled) }
@@ -190,9 +169,9 @@ impl Session {
     /// then `settle`. It may wait for the threads that it joins.
     ///
     /// A fault is at the line of its event: that of the first event which leaves a counter of the
-    /// formula lower than it was, and else the first of the batch's clocks and messages. The session
-    /// is then as before, and no watch was fed. After want of memory the session is spent: it
-    /// answers that from then on, and feeds nothing.
+    /// formula lower than it was, and else the first of the batch's clocks and messages. The
+    /// session is then as before, and no watch was fed. After want of memory the session is spent:
+    /// it answers that from then on, and feeds nothing.
     pub fn extend<R: Threads + Sync, G: Gate, L: Ledger>(
         &mut self,
         rt: &R,
@@ -203,44 +182,22 @@ impl Session {
     ) -> Result<(), Refused<LogFault>>
         requires batch { self.old.growing.spent ≡ false
             → FitsTrace self.old.growing.seen.trace batch }
-        requires some { 1 ≤ workers }
-        requires few { workers ≤ 16 }
-        ensures ok { OnOk result ((self.old.growing.spent ≡ false)
-            × (first_fault self.old.growing batch ≡ None)
-            × TakesBatch self.old.growing self.new.growing batch) }
+        requires workers { AreWorkers workers }
+        ensures ok { OnOk result (TakesWhole (said_by answers) self.old.growing self.new.growing
+            self.old.watches.items self.new.watches.items batch) }
         ensures answer { OnOk result (HasAnswer self.new.growing) }
-        ensures fed { OnOk result (Feeds
-            (λ h. answers (h.watch.vtable, h.watch.value))
-            self.old.watches.items self.new.watches.items
-            self.old.growing.seen self.new.growing.seen) }
-        ensures since_start { (handed : _) → AreFedFrom
-            (λ h. answers (h.watch.vtable, h.watch.value))
-            handed self.old.watches.items self.old.growing.seen
-            → OnOk result (AreFedFrom
-            (λ h. answers (h.watch.vtable, h.watch.value))
-            handed self.new.watches.items self.new.growing.seen) }
-        ensures answers { (handed : _) (reading : Reading) → AreFedFrom
-            (λ h. answers (h.watch.vtable, h.watch.value))
-            handed self.old.watches.items self.old.growing.seen
-            → AnswersAs
-            (λ h. answers (h.watch.vtable, h.watch.value))
-            handed reading
-            → OnOk result (AreAnswers self.new.growing.seen reading) }
         ensures looks { OnOk result (workers ≡ 1 → steps.new ≤ steps.old
             + bounds (lens_seen self.new.growing.seen) self.old.growing.settled
             (all_conjunctions (disjuncts_of self.old.growing.disjuncts)) self.new.growing.settled) }
-        ensures fault { IfFault result (λ fault. (self.old.growing.spent ≡ false)
-            × (first_fault self.old.growing batch ≡ Some fault)
-            × (self.new.growing ≡ self.old.growing) × (self.new.watches ≡ self.old.watches)
-            × (steps.new ≡ steps.old)) }
-        ensures memory { IfWantsMemory result (self.new.growing.spent ≡ true) }
-        ensures fed_or_not { IfWantsMemory result ((self.new.watches ≡ self.old.watches)
-            ⊎ Feeds (λ h. answers (h.watch.vtable, h.watch.value))
+        ensures fault { IfFault result (λ fault. RefusesBatch self.old.growing self.new.growing
+            self.old.watches self.new.watches batch fault × (steps.new ≡ steps.old)) }
+        ensures memory { IfWantsMemory result ((self.new.growing.spent ≡ true)
+            × ((self.new.watches ≡ self.old.watches) ⊎ Feeds (said_by answers)
             self.old.watches.items self.new.watches.items
-            self.old.growing.seen self.new.growing.seen) }
-        ensures spent { self.old.growing.spent ≡ true
-            → (result ≡ Err refused.NoMemory) × (self.new.growing ≡ self.old.growing)
-            × (self.new.watches ≡ self.old.watches) × (steps.new ≡ steps.old) }
+            self.old.growing.seen self.new.growing.seen)) }
+        ensures spent { self.old.growing.spent ≡ true → (result ≡ Err refused.NoMemory)
+            × IsUntouched self.old.growing self.new.growing self.old.watches self.new.watches
+            × (steps.new ≡ steps.old) }
     {
         self.observe(batch)?;
         self.settle(rt, workers, gate, steps)?;
@@ -281,8 +238,8 @@ impl Session {
         &self.growing.seen
     }
 
-    /// What was observed so far, and the disjuncts of the formula, which is made for it. The watches
-    /// are dropped.
+    /// What was observed so far, and the disjuncts of the formula, which is made for it. The
+    /// watches are dropped.
     pub fn into_seen(self) -> (Observed, List<List<Part>>)
         ensures seen { result.0 ≡ self.growing.seen }
         ensures disjuncts { result.1 ≡ self.growing.disjuncts }
@@ -304,12 +261,9 @@ impl Session {
             (disjuncts_of self.now.growing.disjuncts) result.now }
         ensures rise { CountersRise self.now.growing.seen
             (disjuncts_of self.now.growing.disjuncts) }
-        ensures answers { (handed : _) (reading : Reading) → AreFedFrom
-            (λ h. answers (h.watch.vtable, h.watch.value))
-            handed self.now.watches.items self.now.growing.seen
-            → AnswersAs
-            (λ h. answers (h.watch.vtable, h.watch.value))
-            handed reading
+        ensures answers { (handed : _) (reading : Reading)
+            → AreFedFrom (said_by answers) handed self.now.watches.items self.now.growing.seen
+            → AnswersAs (said_by answers) handed reading
             → AreAnswers self.now.growing.seen reading }
     {
         match &self.growing.answer {

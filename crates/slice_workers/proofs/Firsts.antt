@@ -1,17 +1,16 @@
 -- The first rows of a process are final where the last of them is.
-use Rattle.std.proofs.Common.{◌≡◌, ℕ, zero, suc, ◌+◌, ◌-◌, ◌<◌, ◌≤◌, List, [], ◌∷◌, Bool, Option, Some, None, length, sum, take, set, get_or, refl, arith, sym, ap, ◌∙◌, subst, inl, inr, get_or-set_same}
+use Rattle.std.proofs.Common.{◌≡◌, ℕ, zero, suc, ◌+◌, ◌-◌, ◌<◌, ◌≤◌, List, [], ◌∷◌, Bool, Option, Some, None, length, sum, take, get_or, arith, sym, ap, ◌∙◌, subst, inl, inr, get_or-set_same}
 use Rattle.std.specs.Prelude.{nat_le, if◌then◌else◌}
 use Rattle.std.proofs.lemmas.Bool.{le-leb, lt-leb}
 use Rattle.std.proofs.lemmas.List.Sums.{sum_by-cons}
-use Rattle.pull_system.specs.Vector.{IsWithin, IsVector}
-use Rattle.pull_system.specs.System.{SystemView, IsSystem, IsClosedFrom, IsLeastFrom}
-use Rattle.pull_system.specs.Rows.{RowsView, AreLeastRows, start_of, row_at, IsLeast}
+use Rattle.pull_system.specs.Vector.{IsWithin}
+use Rattle.pull_system.specs.System.{SystemView, IsSystem}
+use Rattle.pull_system.specs.Rows.{RowsView, AreLeastRows, start_of, row_at}
 use Rattle.pull_system.specs.Growth.{Grows, Stays, old_row_from, old_row, grown_words}
 use Rattle.pull_system.proofs.Final.{final_row}
 use Rattle.pull_system.proofs.Climbing.{set_case}
 use Rattle.pull_system.proofs.Starts.{start_of-bottom, start_of-event, length-start_of, get_or-row_at}
-use Rattle.raise_machine.specs.Bounds.{word_at}
-use Rattle.slice_workers.specs.Reaching.{Reaches, ReachesFirst}
+use Rattle.slice_workers.specs.Reaching.{ReachesFirst}
 
 -- the row that an event had before
 old_row_at : (before : ℕ) (olds lens : List ℕ) (p k : ℕ) → length olds ≡ length lens → p < length lens → 1 ≤ k → k ≤ get_or olds p 0 → ((i : ℕ) → get_or olds i 0 ≤ get_or lens i 0)

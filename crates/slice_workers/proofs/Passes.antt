@@ -1,5 +1,5 @@
 -- What more processes that are settled cost.
-use Rattle.std.proofs.Common.{◌≡◌, ℕ, zero, suc, ◌+◌, ◌-◌, ◌*◌, ◌<◌, ◌≤◌, inl, inr, Bool, true, false, List, [], ◌∷◌, length, get_or, set, sum, refl, arith, ap, ◌∙◌}
+use Rattle.std.proofs.Common.{◌≡◌, ℕ, zero, suc, ◌+◌, ◌-◌, ◌*◌, ◌<◌, ◌≤◌, inl, inr, Bool, true, false, List, [], ◌∷◌, length, get_or, set, sum, refl, arith, sym, ap, subst, ◌∙◌}
 use Rattle.std.specs.Prelude.{if◌then◌else◌}
 use Rattle.std.proofs.lemmas.List.Sums.{sum_by-cons, sum_by-set}
 use Rattle.std.proofs.Math.Nat.{mul-le-mul_left}
@@ -7,24 +7,41 @@ use Rattle.pull_system.specs.Vector.{IsWithin}
 use Rattle.pull_system.specs.System.{SystemView}
 use Rattle.pull_system.specs.Climb.{marked}
 use Rattle.pull_system.proofs.Climbing.{set_case}
-use Rattle.pull_system.specs.Rows.{place_of}
-use Rattle.slice_workers.specs.Reaching.{rows_left, AreHanded, handed_events, ReachesFirst}
-use Rattle.slice_workers.specs.Settling.{IsBottom, HasSettled, process_looks}
-use Rattle.slice_workers.proofs.Reached.{handed_more, handed_set}
+use Rattle.bound_table.specs.Views.{SeatView}
+use Rattle.slice_workers.specs.Reaching.{rows_left, AreHanded, HasReached, handed_events, ReachesFirst}
+use Rattle.slice_workers.specs.Calls.{IsPaid}
+use Rattle.slice_workers.specs.Settling.{HasOnlyRisen, HasSettled, process_looks}
+use Rattle.slice_workers.proofs.Reached.{handed_more, handed_set, final_more, reached_more}
 
-pub bottom_more : (system : SystemView) (floor now bottom : List ℕ) → IsWithin floor now → IsBottom system floor bottom → IsBottom system now bottom
-bottom_more system floor now bottom within is = record { least = is.least; lent = λ i there. omega (arith, is.lent i there, within.each (place_of system.lens 0 i)) }
+pub passed_none : (system : SystemView) (finals bottom : List ℕ) (old new : SeatView) (handed : List Bool) (steps : ℕ) → new.table ≡ old.table → new.floor ≡ old.floor → AreHanded system old.floor handed → HasSettled system finals bottom old new handed handed steps steps
+passed_none system finals bottom old new handed steps table floor are =
+    let P : List ℕ → Type 0 = λ f. IsWithin old.floor f × AreHanded system f handed in
+    let now : P new.floor = subst P (sym floor) (record { each = λ i. omega arith }, are) in record {
+      table = table;
+      rises = now.0;
+      handed = now.1;
+      stays = λ p is. is;
+      looks = omega arith;
+      paid = let e : sum new.floor ≡ sum old.floor = ap (λ (f : List ℕ). sum f) floor in rw e (omega arith);
+    }
 
-pub passed_none : (system : SystemView) (left bottom floor : List ℕ) (handed : List Bool) (steps : ℕ) → AreHanded system floor handed → HasSettled system left bottom floor floor handed handed steps steps
-passed_none system left bottom floor handed steps are = record { rises = record { each = λ i. omega arith }; handed = are; stays = λ p is. is; looks = omega arith; paid = omega arith }
-
-pub passed_on : (system : SystemView) (left bottom a b c : List ℕ) (x y z : List Bool) (s t u : ℕ) → HasSettled system left bottom a b x y s t → HasSettled system left bottom b c y z t u → HasSettled system left bottom a c x z s u
-passed_on system left bottom a b c x y z s t u first second = record {
+pub passed_on : (system : SystemView) (finals bottom : List ℕ) (a b c : SeatView) (x y z : List Bool) (s t u : ℕ) → HasSettled system finals bottom a b x y s t → HasSettled system finals bottom b c y z t u → HasSettled system finals bottom a c x z s u
+passed_on system finals bottom a b c x y z s t u first second = record {
+  table = second.table ∙ first.table;
   rises = record { each = λ i. omega (arith, first.rises.each i, second.rises.each i) };
   handed = second.handed;
   stays = λ p is. second.stays p (first.stays p is);
   looks = omega (arith, first.looks, second.looks);
   paid = omega (arith, first.paid, second.paid);
+}
+
+-- what the floor had reached stays reached, and the rows of the processes that were done as well
+pub passed_reaches : (system : SystemView) (finals bottom : List ℕ) (old new : SeatView) (before after : List Bool) (steps steps_now : ℕ) → HasReached system old.floor finals bottom before → HasSettled system finals bottom old new before after steps steps_now
+    → HasReached system new.floor finals bottom after
+passed_reaches system finals bottom old new before after steps steps_now has settled = record {
+  finals = final_more system _ _ finals settled.rises has.finals;
+  bottom = reached_more system 0 _ _ bottom settled.rises has.bottom;
+  handed = settled.handed;
 }
 
 -- one mark more, where there was none
@@ -51,20 +68,37 @@ next_paid : (pulls a b rows old new before after : ℕ) → after ≡ before + r
 next_paid pulls a b rows old new before after same paid =
     let e : pulls * (new + after) ≡ pulls * (new + (before + rows)) = ap (λ n. pulls * (new + n)) same in omega (arith, paid, e)
 
+pub length-left : (lens finals : List ℕ) → length (rows_left lens finals) ≡ length lens
+length-left [] finals = refl
+length-left (len ∷ lens) [] = ap (λ (n : ℕ). suc n) (length-left lens [])
+length-left (len ∷ lens) (count ∷ finals) = ap (λ (n : ℕ). suc n) (length-left lens finals)
+
+pub get_or-left : (lens finals : List ℕ) (i : ℕ) → get_or (rows_left lens finals) i 0 ≡ get_or lens i 0 - get_or finals i 0
+get_or-left [] finals i = omega arith
+get_or-left (len ∷ lens) [] zero = omega arith
+get_or-left (len ∷ lens) [] (suc i) = get_or-left lens [] i
+get_or-left (len ∷ lens) (count ∷ finals) zero = refl
+get_or-left (len ∷ lens) (count ∷ finals) (suc i) = get_or-left lens finals i
+
 -- the rows of one process more are settled, and it is marked
-pub passed_mark : (system : SystemView) (left bottom old new : List ℕ) (handed : List Bool) (process steps steps_now : ℕ) → process < length system.lens → length left ≡ length system.lens → length system.lens ≤ 32 → AreHanded system old handed → get_or handed process false ≡ false
-    → IsWithin old new → ReachesFirst system process (get_or system.lens process 0) new
+pub passed_mark : (system : SystemView) (finals bottom : List ℕ) (old new : SeatView) (handed : List Bool) (process steps steps_now : ℕ) → process < length system.lens → length system.lens ≤ 32 → AreHanded system old.floor handed → get_or handed process false ≡ false
+    → HasOnlyRisen system old new → ReachesFirst system process (get_or system.lens process 0) new.floor
     → steps_now ≤ steps + process_looks system bottom
-    → steps_now + length system.pulls * sum old ≤ steps + length system.pulls * (get_or left process 0 + sum new)
-    → HasSettled system left bottom old new handed (set handed process true) steps steps_now
-passed_mark system left bottom old new handed process steps steps_now there size few are free rises first looks paid = record {
-  rises = rises;
-  handed = handed_set system new handed process there (handed_more system old new handed rises are) first;
-  stays = λ p is. elim (set_case handed process true p false) [ inl e ↦ e ∙ is | inr e ↦ e.1 ];
-  looks = next_mark (process_looks system bottom) steps_now steps (marked handed) (marked (set handed process true)) (marked_set handed process (omega (arith, are.size)) free) looks;
-  paid = next_paid (length system.pulls) steps_now steps (get_or left process 0) (sum old) (sum new) (handed_events left handed) (handed_events left (set handed process true))
-      (events_set left handed process (omega (arith, size, there)) (omega (arith, are.size)) free) paid;
-}
+    → IsPaid system (get_or system.lens process 0 - get_or finals process 0) old new steps steps_now
+    → HasSettled system finals bottom old new handed (set handed process true) steps steps_now
+passed_mark system finals bottom old new handed process steps steps_now there few are free risen first looks paid =
+    let left : List ℕ = rows_left system.lens finals in
+    let size : length left ≡ length system.lens = length-left system.lens finals in
+    let now : IsPaid system (get_or left process 0) old new steps steps_now =
+    let P : ℕ → Type 0 = λ n. IsPaid system n old new steps steps_now in subst P (sym (get_or-left system.lens finals process)) paid in record {
+      table = risen.keeps.table;
+      rises = risen.rises;
+      handed = handed_set system new.floor handed process there (handed_more system old.floor new.floor handed risen.rises are) first;
+      stays = λ p is. elim (set_case handed process true p false) [ inl e ↦ e ∙ is | inr e ↦ e.1 ];
+      looks = next_mark (process_looks system bottom) steps_now steps (marked handed) (marked (set handed process true)) (marked_set handed process (omega (arith, are.size)) free) looks;
+      paid = next_paid (length system.pulls) steps_now steps (get_or left process 0) (sum old.floor) (sum new.floor) (handed_events left handed) (handed_events left (set handed process true))
+          (events_set left handed process (omega (arith, size, there)) (omega (arith, are.size)) free) now;
+    }
 
 -- no more are marked than there are processes
 pub marked_few : (marks : List Bool) (n : ℕ) → ((i : ℕ) → get_or marks i false ≡ true → i < n) → marked marks ≤ n
@@ -115,18 +149,6 @@ total pulls procs top bottom marks start last one some less few took =
 
     spread_out : (p a r m : ℕ) → p * a + p * r * m ≡ p * (a + r * m)
     spread_out p a r m = grind arith
-
-pub length-left : (lens finals : List ℕ) → length (rows_left lens finals) ≡ length lens
-length-left [] finals = refl
-length-left (len ∷ lens) [] = ap (λ (n : ℕ). suc n) (length-left lens [])
-length-left (len ∷ lens) (count ∷ finals) = ap (λ (n : ℕ). suc n) (length-left lens finals)
-
-pub get_or-left : (lens finals : List ℕ) (i : ℕ) → get_or (rows_left lens finals) i 0 ≡ get_or lens i 0 - get_or finals i 0
-get_or-left [] finals i = omega arith
-get_or-left (len ∷ lens) [] zero = omega arith
-get_or-left (len ∷ lens) [] (suc i) = get_or-left lens [] i
-get_or-left (len ∷ lens) (count ∷ finals) zero = refl
-get_or-left (len ∷ lens) (count ∷ finals) (suc i) = get_or-left lens finals i
 
 pub sum-left : (lens finals : List ℕ) → sum (rows_left lens finals) ≤ sum lens
 sum-left [] finals = omega arith

@@ -13,10 +13,9 @@ use Rattle.raise_machine.specs.Bounds.{AreBounds, word_at, has_start}
 use Rattle.raise_machine.proofs.Raising.{word_below, has_start-bottom, has_start-event}
 use Rattle.bound_table.proofs.Lends.{has_start_next}
 use Rattle.bound_table.specs.Kept.{Follows}
-use Rattle.slice_workers.specs.Reaching.{Reaches, ReachesAll, ReachesFirst, AreHanded, AreFinal, row_before}
+use Rattle.slice_workers.specs.Reaching.{Reaches, IsReached, ReachesAll, ReachesFirst, AreHanded, AreFinal, HasReached, row_before}
 use Rattle.pull_system.proofs.Sums.{sum-within}
 use Rattle.pull_system.proofs.Starts.{start_of-bottom}
-use Rattle.slice_workers.specs.Settling.{IsBottom}
 
 pub reaches_more : (system : SystemView) (row : ℕ) (floor now : List ℕ) → IsWithin floor now → Reaches system row floor → Reaches system row now
 reaches_more system row floor now within reaches = record {
@@ -148,8 +147,15 @@ all_least system floor bounds all = record { each = λ row there. reached_least 
 pub follows_reaches : (system : SystemView) (row : ℕ) (old new v : List ℕ) → Follows system row old new v → IsLeast system row v → Reaches system row new
 follows_reaches system row old new v follows least = record { vector = v; is = least; below = λ process there. omega (arith, follows.each process there) }
 
-pub lent_reaches : (system : SystemView) (row : ℕ) (floor v : List ℕ) → IsLeast system row v → ((i : ℕ) → i < length system.lens → get_or v i 0 ≤ word_at system.lens floor row i) → Reaches system row floor
-lent_reaches system row floor v least lent = record { vector = v; is = least; below = lent }
+pub reaches_row : (system : SystemView) (row : ℕ) (floor v : List ℕ) → IsReached system row floor v → Reaches system row floor
+reaches_row system row floor v is = record { vector = v; is = is.least; below = is.lent }
+
+pub reached_more : (system : SystemView) (row : ℕ) (floor now v : List ℕ) → IsWithin floor now → IsReached system row floor v → IsReached system row now v
+reached_more system row floor now v within is = record { least = is.least; lent = λ i there. omega (arith, is.lent i there, within.each (place_of system.lens row i)) }
+
+-- a row, once settled
+pub settled_row : (system : SystemView) (row : ℕ) (old new v : List ℕ) → Follows system row old new v → IsLeast system row v → IsReached system row new v
+settled_row system row old new v follows least = record { least = least; lent = λ i there. omega (arith, follows.each i there) }
 
 pub within_refl : (v : List ℕ) → IsWithin v v
 within_refl v = record { each = λ i. omega arith }
@@ -177,10 +183,6 @@ pub event_lends : (lens floor : List ℕ) (row from_row process position count :
 event_lends lens floor row from_row process position count there first last few reached same =
     let event : EventId = record { process = process; position = position } in
     has_start-event lens floor row from_row event record { process = omega arith; first = first; last = last } (sym same) ∙ le-leb position (word_at lens floor row process) (omega arith)
-
--- the bottom's row, once settled
-pub settled_bottom : (system : SystemView) (old new v : List ℕ) → Follows system 0 old new v → IsLeast system 0 v → IsBottom system new v
-settled_bottom system old new v follows least = record { least = least; lent = λ i there. omega (arith, follows.each i there) }
 
 pub all_more : (system : SystemView) (floor now : List ℕ) → IsWithin floor now → ReachesAll system floor → ReachesAll system now
 all_more system floor now within all = record { each = λ row there. reaches_more system row floor now within (all.each row there) }
@@ -214,6 +216,14 @@ final_more system floor now finals within are = record {
   size = are.size;
   few = are.few;
   each = λ p there. first_more system p _ floor now within (are.each p there);
+}
+
+-- the bottom's row is settled, and what the floor had reached stays reached
+pub bottom_reaches : (system : SystemView) (old new v finals : List ℕ) (handed : List Bool) → Follows system 0 old new v → IsLeast system 0 v → AreFinal system old finals → AreHanded system old handed → HasReached system new finals v handed
+bottom_reaches system old new v finals handed follows least final are = record {
+  finals = final_more system old new finals follows.rises final;
+  bottom = settled_row system 0 old new v follows least;
+  handed = handed_more system old new handed follows.rises are;
 }
 
 pub before_is : (lens : List ℕ) (process done row : ℕ) → 1 ≤ done → row ≡ sum (take process lens) + done → row ≡ row_before lens process done

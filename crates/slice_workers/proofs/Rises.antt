@@ -11,6 +11,8 @@ use Rattle.pull_system.proofs.Starts.{get_or-row_at, length-row_at}
 use Rattle.pull_system.proofs.Sums.{sum-within}
 use Rattle.raise_machine.specs.Bounds.{AreBounds}
 use Rattle.bound_table.specs.Kept.{Follows}
+use Rattle.bound_table.specs.Views.{SeatView}
+use Rattle.slice_workers.specs.Calls.{TakesLooks}
 
 -- the sum of the first rows
 abbrev pub sum_rows : List ℕ → List ℕ → ℕ → ℕ
@@ -106,5 +108,9 @@ pub here_paid : (pulls start steps steps_now old mid new before events all : ℕ
 here_paid pulls start steps steps_now old mid new before events all few first rest = omega (arith, first, rest, mul-le-mul_left pulls few)
 
 -- a floor that rose further
-pub paid_more : (pulls start steps old mid new rows : ℕ) → mid ≤ new → steps + pulls * old ≤ start + pulls * (rows + mid) → steps + pulls * old ≤ start + pulls * (rows + new)
-paid_more pulls start steps old mid new rows more paid = omega (arith, paid, mul-le-mul_left pulls more)
+pub takes_more : (system : SystemView) (left : List ℕ) (old mid new : SeatView) (steps steps_now : ℕ) → AreBounds system mid.floor → AreBounds system new.floor → IsWithin mid.floor new.floor → TakesLooks system left old mid steps steps_now → TakesLooks system left old new steps steps_now
+takes_more system left old mid new steps steps_now bounds bounds_now rises takes =
+    let more : sum mid.floor ≤ sum new.floor = sum-within _ _ (bounds.size ∙ sym bounds_now.size) rises.each in record {
+      looks = takes.looks;
+      rises_paid = omega (arith, takes.rises_paid, mul-le-mul_left (length system.pulls) more);
+    }

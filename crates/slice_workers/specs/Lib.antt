@@ -1,3 +1,4 @@
 pub mod Reaching
+pub mod Calls
 pub mod Settling
 pub mod Jobs

@@ -3,13 +3,19 @@ use Rattle.std.specs.Prelude.{◌≡◌, ℕ, zero, suc, ◌+◌, ◌-◌, ◌<�
 use Rattle.std.specs.Prelude.{length, sum, take, slice_index, slice_index_or, if◌then◌else◌}
 use Rattle.pull_system.specs.System.{SystemView}
 use Rattle.pull_system.specs.Rows.{IsLeast}
-use Rattle.raise_machine.specs.Bounds.{word_at}
+use Rattle.raise_machine.specs.Bounds.{word_at, has_start}
 
 -- the floor has reached the least closed vector of the row
 pub record Reaches (system : SystemView) (row : ℕ) (floor : List ℕ) : Type 0 where
   pub vector : List ℕ
   pub is : IsLeast system row vector
   pub below : (process : ℕ) → process < length system.lens
+      → slice_index vector process ≤ word_at system.lens floor row process
+
+-- the vector is the least closed one of the row, and the floor has reached it
+pub record IsReached (system : SystemView) (row : ℕ) (floor vector : List ℕ) : Type 0 where
+  pub least : IsLeast system row vector
+  pub lent : (process : ℕ) → process < length system.lens
       → slice_index vector process ≤ word_at system.lens floor row process
 
 -- the floor has reached the least closed vector of each row
@@ -20,6 +26,19 @@ pub record ReachesAll (system : SystemView) (floor : List ℕ) : Type 0 where
 pub record ReachesFirst (system : SystemView) (process count : ℕ) (floor : List ℕ) : Type 0 where
   pub each : (position : ℕ) → 1 ≤ position → position ≤ count
       → Reaches system (sum (take process system.lens) + position) floor
+
+-- The rows of the process can be settled behind its first ones: the floor has reached these, and
+-- the bottom's, whose vector it is.
+pub record CanSettle (system : SystemView) (floor vector : List ℕ) (process count : ℕ) : Type 0 where
+  pub bottom : IsReached system 0 floor vector
+  pub first : count ≤ slice_index system.lens process
+  pub kept : ReachesFirst system process count floor
+
+-- both rows are there, and the floor lets the first of them lend to the other
+pub record MayLend (lens floor : List ℕ) (from_row to_row : ℕ) : Type 0 where
+  pub from : from_row ≤ sum lens
+  pub to : to_row ≤ sum lens
+  pub event : has_start lens floor to_row from_row ≡ true
 
 -- the floor has reached those of all rows of the processes that are marked, and only processes that
 -- are there are
@@ -48,6 +67,14 @@ pub record AreFinal (system : SystemView) (floor finals : List ℕ) : Type 0 whe
   pub few : (process : ℕ) → slice_index finals process ≤ slice_index system.lens process
   pub each : (process : ℕ) → process < length system.lens
       → ReachesFirst system process (slice_index finals process) floor
+
+-- what the floor has reached: the first rows of each process, the bottom's row, whose vector it is,
+-- and all rows of the processes that are marked
+pub record HasReached (system : SystemView) (floor counts vector : List ℕ) (marks : List Bool)
+    : Type 0 where
+  pub finals : AreFinal system floor counts
+  pub bottom : IsReached system 0 floor vector
+  pub handed : AreHanded system floor marks
 
 -- how many rows of each process are not final
 abbrev pub rows_left : List ℕ → List ℕ → List ℕ

@@ -1,11 +1,10 @@
 //! All rows of a shared table settled, on any number of threads.
 //!
-//! `settle_all` gives the least closed vector of each row (clause `least`), for every number of
-//! workers and each gate, and leaves the seat's floors there (clause `floor`), so the shared words
-//! hold them too. The clauses `looks` and `rises_paid` bound the look-ups of one worker.
-//! `settle_behind` does so behind rows that are final: their floors are the least already. Nothing
-//! is said of the order in which workers settle, of progress, nor that two threads ran or how long
-//! they took.
+//! `settle_all` gives the least closed vector of each row, for every number of workers and each
+//! gate, and leaves the seat's floors there, so the shared words hold them too (clause `settled`).
+//! The clause `takes` bounds the look-ups of one worker. `settle_behind` does so behind rows that
+//! are final: their floors are the least already. Nothing is said of the order in which workers
+//! settle, of progress, nor that two threads ran or how long they took.
 #![tactic(auto)]
 
 mod job;

@@ -1,11 +1,13 @@
 //! The rows of one process, settled in order, each from the one before.
-ghost use Rattle.std.specs.Prelude.{◌≡◌, ◌⊎◌, ℕ, ◌+◌, ◌-◌, ◌*◌, ◌<◌, ◌≤◌, true, false, length, sum};
-ghost use Rattle.std.specs.Prelude.{take, slice_index, slice_index_or, slice_set};
-ghost use Rattle.pull_system.specs.Vector.{IsWithin, IsVector};
-ghost use Rattle.pull_system.specs.Rows.{row_at, IsLeast};
-ghost use Rattle.raise_machine.specs.Bounds.{AreBounds, word_at, has_start};
+ghost use Rattle.std.specs.Prelude.{◌≡◌, ℕ, ◌+◌, ◌-◌, ◌*◌, ◌<◌, ◌≤◌, length, sum, slice_index};
+ghost use Rattle.pull_system.specs.Vector.{IsWithin};
+ghost use Rattle.pull_system.specs.Rows.{row_at};
+ghost use Rattle.raise_machine.specs.Bounds.{word_at};
 ghost use Rattle.bound_table.specs.Views.{KeepsClaims};
-ghost use Rattle.slice_workers.specs.Reaching.{Reaches, ReachesFirst, row_before};
+ghost use Rattle.slice_workers.specs.Reaching.{CanSettle, IsReached, MayLend, ReachesFirst};
+ghost use Rattle.slice_workers.specs.Reaching.{row_before};
+ghost use Rattle.slice_workers.specs.Calls.{IsPaid};
+ghost use Rattle.slice_workers.specs.Settling.{HasOnlyRisen, process_looks};
 
 use bound_table::{BoundTable, Seat};
 use pota_base::{EventId, Steps};
@@ -24,22 +26,14 @@ pub(crate) fn settle_process<L: Ledger>(
 )
     requires fits { seat.old.table ≡ table.now }
     requires process { process < length table.now.system.lens }
-    requires bottom { IsLeast table.now.system 0 bottom.now }
-    requires lent { (i : ℕ) → i < length table.now.system.lens
-        → slice_index bottom.now i ≤ word_at table.now.system.lens seat.old.floor 0 i }
+    requires able { CanSettle table.now.system seat.old.floor bottom.now process first }
     requires into { length into.old ≡ length table.now.system.lens }
-    requires first { first ≤ slice_index table.now.system.lens process }
-    requires kept { ReachesFirst table.now.system process first seat.old.floor }
-    ensures keeps { KeepsClaims seat.old seat.new }
-    ensures rises { IsWithin seat.old.floor seat.new.floor }
+    ensures risen { HasOnlyRisen table.now.system seat.old seat.new }
     ensures reaches { let count = slice_index table.now.system.lens process in
         ReachesFirst table.now.system process count seat.new.floor }
-    ensures looks { let lens = table.now.system.lens in
-        let rise = sum lens + length lens - sum bottom.now in
-        steps.new ≤ steps.old + length table.now.system.pulls * rise }
-    ensures rises_paid { let pulls = length table.now.system.pulls in
-        let rows = slice_index table.now.system.lens process - first in
-        steps.new + pulls * sum seat.old.floor ≤ steps.old + pulls * (rows + sum seat.new.floor) }
+    ensures looks { steps.new ≤ steps.old + process_looks table.now.system bottom.now }
+    ensures rises_paid { let rows = slice_index table.now.system.lens process - first in
+        IsPaid table.now.system rows seat.old seat.new steps.old steps.new }
 {
     seat.bounds();
     let mut before = go_behind(table, seat, process, first, bottom, into);
@@ -66,21 +60,12 @@ fn go_behind(
 ) -> u32
     requires fits { seat.old.table ≡ table.now }
     requires process { process < length table.now.system.lens }
-    requires bottom { IsLeast table.now.system 0 bottom.now }
-    requires lent { (i : ℕ) → i < length table.now.system.lens
-        → slice_index bottom.now i ≤ word_at table.now.system.lens seat.old.floor 0 i }
+    requires able { CanSettle table.now.system seat.old.floor bottom.now process first }
     requires into { length into.old ≡ length table.now.system.lens }
-    requires first { first ≤ slice_index table.now.system.lens process }
-    requires kept { ReachesFirst table.now.system process first seat.old.floor }
-    ensures keeps { KeepsClaims seat.old seat.new }
-    ensures rises { IsWithin seat.old.floor seat.new.floor }
-    ensures bounds { AreBounds table.now.system seat.new.floor }
+    ensures risen { HasOnlyRisen table.now.system seat.old seat.new }
     ensures row { result ≡ row_before table.now.system.lens process first }
     ensures there { result ≤ sum table.now.system.lens }
-    ensures least { IsLeast table.now.system result into.new }
-    ensures lent { (i : ℕ) → i < length table.now.system.lens
-        → slice_index into.new i ≤ word_at table.now.system.lens seat.new.floor result i }
-    ensures above { sum bottom.now ≤ sum into.new }
+    ensures reached { IsReached table.now.system result seat.new.floor into.new }
 {
     seat.bounds();
     if first == 0 {
@@ -107,22 +92,13 @@ fn settle_next<L: Ledger>(
 )
     requires fits { seat.old.table ≡ table.now }
     requires process { process < length table.now.system.lens }
-    requires row { row ≤ sum table.now.system.lens }
-    requires before { before ≤ sum table.now.system.lens }
-    requires least { IsLeast table.now.system before into.old }
-    requires lent { (i : ℕ) → i < length table.now.system.lens
-        → slice_index into.old i ≤ word_at table.now.system.lens seat.old.floor before i }
-    requires event { has_start table.now.system.lens seat.old.floor row before ≡ true }
-    ensures keeps { KeepsClaims seat.old seat.new }
-    ensures rises { IsWithin seat.old.floor seat.new.floor }
-    ensures least { IsLeast table.now.system row into.new }
-    ensures lent { (i : ℕ) → i < length table.now.system.lens
-        → slice_index into.new i ≤ word_at table.now.system.lens seat.new.floor row i }
+    requires lends { MayLend table.now.system.lens seat.old.floor before row }
+    requires reached { IsReached table.now.system before seat.old.floor into.old }
+    ensures risen { HasOnlyRisen table.now.system seat.old seat.new }
+    ensures reached { IsReached table.now.system row seat.new.floor into.new }
     ensures pays { let pulls = length table.now.system.pulls in
         steps.new + pulls * sum into.old ≤ steps.old + pulls * sum into.new }
-    ensures rises_paid { let pulls = length table.now.system.pulls in
-        steps.new + pulls * sum seat.old.floor ≤ steps.old + pulls * (1 + sum seat.new.floor) }
-    ensures bounds { AreBounds table.now.system seat.new.floor }
+    ensures rises_paid { IsPaid table.now.system 1 seat.old seat.new steps.old steps.new }
 {
     seat.bounds();
     let mut looked = [0; 32];
@@ -151,9 +127,7 @@ fn look_lent(
     requires row { row ≤ sum table.now.system.lens }
     requires closed { length closed.now ≡ length table.now.system.lens }
     requires looked { length looked.old ≡ length table.now.system.lens }
-    ensures keeps { KeepsClaims seat.old seat.new }
-    ensures rises { IsWithin seat.old.floor seat.new.floor }
-    ensures bounds { AreBounds table.now.system seat.new.floor }
+    ensures risen { HasOnlyRisen table.now.system seat.old seat.new }
     ensures looked { looked.new ≡ row_at table.now.system.lens seat.new.floor row }
 {
     table.look_narrow(seat, row, looked);

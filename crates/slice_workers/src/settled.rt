@@ -1,8 +1,7 @@
-ghost use Rattle.std.specs.Prelude.{◌≡◌, ℕ, ◌+◌, ◌*◌, ◌≤◌, length, sum, IfOk, OnOk};
-ghost use Rattle.pull_system.specs.Vector.{IsWithin};
+ghost use Rattle.std.specs.Prelude.{◌≡◌, ℕ, ◌≤◌, length, IfOk, OnOk};
 ghost use Rattle.pull_system.specs.System.{IsSystem};
-ghost use Rattle.pull_system.specs.Rows.{AreLeastRows};
 ghost use Rattle.slice_workers.specs.Reaching.{AreHanded, AreFinal, ReachesAll, rows_left};
+ghost use Rattle.slice_workers.specs.Calls.{HasRisen, AreSettledRows, TakesLooks};
 
 use crate::threads::{make_jobs, meet_all, run};
 use crate::workers::{none_handed, settle_claimed, settle_rest};
@@ -58,20 +57,10 @@ pub fn settle_all<R: Threads + Sync, G: Gate, L: Ledger>(
     requires fits { seat.old.table ≡ table.now }
     requires some { 1 ≤ workers }
     requires few { workers ≤ 16 }
-    ensures table { seat.new.table ≡ seat.old.table }
-    ensures lens { IfOk result (λ settled. settled.lens ≡ table.now.system.lens) }
-    ensures least { IfOk result (λ settled. AreLeastRows table.now.system settled.words) }
-    ensures floor { IfOk result (λ settled. settled.words ≡ seat.new.floor) }
-    ensures rises { IsWithin seat.old.floor seat.new.floor }
-    ensures looks { let procs = length table.now.system.lens in
-        let events = sum table.now.system.lens in
-        workers ≡ 1
-        → steps.new ≤ steps.old
-        + length table.now.system.pulls * ((procs + 1) * (events + procs)) }
-    ensures rises_paid { let pulls = length table.now.system.pulls in
-        let rows = sum table.now.system.lens + 1 in
-        workers ≡ 1
-        → steps.new + pulls * sum seat.old.floor ≤ steps.old + pulls * (rows + sum seat.new.floor) }
+    ensures risen { HasRisen seat.old seat.new }
+    ensures settled { IfOk result (AreSettledRows table.now.system seat.new.floor) }
+    ensures takes { workers ≡ 1 → TakesLooks table.now.system table.now.system.lens
+        seat.old seat.new steps.old steps.new }
 {
     let procs = table.system().shape().procs() as usize;
     let none = [0; 32];
@@ -95,20 +84,11 @@ pub fn settle_behind<R: Threads + Sync, G: Gate, L: Ledger>(
     requires finals { AreFinal table.now.system seat.old.floor finals.now }
     requires some { 1 ≤ workers }
     requires few { workers ≤ 16 }
-    ensures table { seat.new.table ≡ seat.old.table }
-    ensures lens { IfOk result (λ settled. settled.lens ≡ table.now.system.lens) }
-    ensures least { IfOk result (λ settled. AreLeastRows table.now.system settled.words) }
-    ensures floor { IfOk result (λ settled. settled.words ≡ seat.new.floor) }
-    ensures rises { IsWithin seat.old.floor seat.new.floor }
-    ensures looks { let procs = length table.now.system.lens in
-        let events = sum table.now.system.lens in
-        workers ≡ 1
-        → steps.new ≤ steps.old
-        + length table.now.system.pulls * ((procs + 1) * (events + procs)) }
-    ensures rises_paid { let pulls = length table.now.system.pulls in
-        let rows = sum (rows_left table.now.system.lens finals.now) + 1 in
-        workers ≡ 1
-        → steps.new + pulls * sum seat.old.floor ≤ steps.old + pulls * (rows + sum seat.new.floor) }
+    ensures risen { HasRisen seat.old seat.new }
+    ensures settled { IfOk result (AreSettledRows table.now.system seat.new.floor) }
+    ensures takes { workers ≡ 1
+        → TakesLooks table.now.system (rows_left table.now.system.lens finals.now)
+        seat.old seat.new steps.old steps.new }
 {
     settle_rows(rt, alloc, table, seat, finals, workers, gate, steps)?;
     seat.bounds();
@@ -129,18 +109,11 @@ fn settle_rows<R: Threads + Sync, G: Gate, L: Ledger>(
 ) -> Result<(), NoMemory>
     requires fits { seat.old.table ≡ table.now }
     requires finals { AreFinal table.now.system seat.old.floor finals.now }
-    ensures table { seat.new.table ≡ seat.old.table }
+    ensures risen { HasRisen seat.old seat.new }
     ensures reaches { OnOk result (ReachesAll table.now.system seat.new.floor) }
-    ensures rises { IsWithin seat.old.floor seat.new.floor }
-    ensures looks { let procs = length table.now.system.lens in
-        let events = sum table.now.system.lens in
-        workers ≡ 1
-        → steps.new ≤ steps.old
-        + length table.now.system.pulls * ((procs + 1) * (events + procs)) }
-    ensures rises_paid { let pulls = length table.now.system.pulls in
-        let rows = sum (rows_left table.now.system.lens finals.now) + 1 in
-        workers ≡ 1
-        → steps.new + pulls * sum seat.old.floor ≤ steps.old + pulls * (rows + sum seat.new.floor) }
+    ensures takes { workers ≡ 1
+        → TakesLooks table.now.system (rows_left table.now.system.lens finals.now)
+        seat.old seat.new steps.old steps.new }
 {
     if workers == 1 {
         settle_alone(table, seat, finals, gate, steps);
@@ -164,15 +137,10 @@ fn settle_alone<G: Gate, L: Ledger>(
 )
     requires fits { seat.old.table ≡ table.now }
     requires finals { AreFinal table.now.system seat.old.floor finals.now }
-    ensures table { seat.new.table ≡ seat.old.table }
+    ensures risen { HasRisen seat.old seat.new }
     ensures reaches { ReachesAll table.now.system seat.new.floor }
-    ensures rises { IsWithin seat.old.floor seat.new.floor }
-    ensures looks { let procs = length table.now.system.lens in
-        let events = sum table.now.system.lens in
-        steps.new ≤ steps.old + length table.now.system.pulls * ((procs + 1) * (events + procs)) }
-    ensures rises_paid { let pulls = length table.now.system.pulls in
-        let rows = sum (rows_left table.now.system.lens finals.now) + 1 in
-        steps.new + pulls * sum seat.old.floor ≤ steps.old + pulls * (rows + sum seat.new.floor) }
+    ensures takes { TakesLooks table.now.system (rows_left table.now.system.lens finals.now)
+        seat.old seat.new steps.old steps.new }
 {
     let procs = table.system().shape().procs() as usize;
     let mut bottom = [0; 32];
@@ -196,15 +164,10 @@ fn settle_here<G: Gate, L: Ledger>(
     requires finals { AreFinal table.now.system seat.old.floor finals.now }
     requires bottom { length bottom.old ≡ length table.now.system.lens }
     requires into { length into.old ≡ length table.now.system.lens }
-    ensures table { seat.new.table ≡ seat.old.table }
+    ensures risen { HasRisen seat.old seat.new }
     ensures reaches { ReachesAll table.now.system seat.new.floor }
-    ensures rises { IsWithin seat.old.floor seat.new.floor }
-    ensures looks { let procs = length table.now.system.lens in
-        let events = sum table.now.system.lens in
-        steps.new ≤ steps.old + length table.now.system.pulls * ((procs + 1) * (events + procs)) }
-    ensures rises_paid { let pulls = length table.now.system.pulls in
-        let rows = sum (rows_left table.now.system.lens finals.now) + 1 in
-        steps.new + pulls * sum seat.old.floor ≤ steps.old + pulls * (rows + sum seat.new.floor) }
+    ensures takes { TakesLooks table.now.system (rows_left table.now.system.lens finals.now)
+        seat.old seat.new steps.old steps.new }
 {
     let mut handed = none_handed();
     gate.enter(1);
@@ -224,9 +187,8 @@ fn finish<L: Ledger>(
     requires fits { seat.old.table ≡ table.now }
     requires finals { AreFinal table.now.system seat.old.floor finals.now }
     requires handed { AreHanded table.now.system seat.old.floor handed.old }
-    ensures table { seat.new.table ≡ seat.old.table }
+    ensures risen { HasRisen seat.old seat.new }
     ensures reaches { ReachesAll table.now.system seat.new.floor }
-    ensures rises { IsWithin seat.old.floor seat.new.floor }
 {
     let procs = table.system().shape().procs() as usize;
     let mut bottom = [0; 32];
@@ -251,9 +213,8 @@ fn finish_here<L: Ledger>(
     requires bottom { length bottom.old ≡ length table.now.system.lens }
     requires into { length into.old ≡ length table.now.system.lens }
     requires handed { AreHanded table.now.system seat.old.floor handed.old }
-    ensures table { seat.new.table ≡ seat.old.table }
+    ensures risen { HasRisen seat.old seat.new }
     ensures reaches { ReachesAll table.now.system seat.new.floor }
-    ensures rises { IsWithin seat.old.floor seat.new.floor }
 {
     table.settle_narrow(seat, 0, bottom, steps);
     settle_rest(table, seat, finals, bottom, into, handed, steps);

@@ -1,10 +1,8 @@
 //! Which processes a worker settles, and what is left to the calling thread.
-ghost use Rattle.std.specs.Prelude.{◌≡◌, ◌≢◌, ℕ, ◌+◌, ◌*◌, ◌<◌, ◌≤◌, true, false, length, sum};
+ghost use Rattle.std.specs.Prelude.{◌≡◌, ◌≢◌, ℕ, ◌<◌, ◌≤◌, true, false, length};
 ghost use Rattle.std.specs.Prelude.{slice_index_or, slice_set};
-ghost use Rattle.pull_system.specs.Vector.{IsWithin};
-ghost use Rattle.pull_system.specs.Climb.{marked};
-ghost use Rattle.slice_workers.specs.Reaching.{AreHanded, AreFinal, handed_events, rows_left};
-ghost use Rattle.slice_workers.specs.Settling.{IsBottom, HasSettled, process_looks};
+ghost use Rattle.slice_workers.specs.Reaching.{AreFinal, HasReached};
+ghost use Rattle.slice_workers.specs.Settling.{HasClaimed, HasSettled};
 
 use crate::process::settle_process;
 use bound_table::{BoundTable, Seat};
@@ -35,18 +33,8 @@ pub(crate) fn settle_claimed<L: Ledger>(
     requires bottom { length bottom.old ≡ length table.now.system.lens }
     requires into { length into.old ≡ length table.now.system.lens }
     requires none { (process : ℕ) → slice_index_or handed.old process false ≡ false }
-    ensures table { seat.new.table ≡ seat.old.table }
-    ensures rises { IsWithin seat.old.floor seat.new.floor }
-    ensures bottom { IsBottom table.now.system seat.new.floor bottom.new }
-    ensures handed { AreHanded table.now.system seat.new.floor handed.new }
-    ensures looks { let system = table.now.system in
-        steps.new ≤ steps.old + length system.pulls * (1 + sum bottom.new)
-        + process_looks system bottom.new * marked handed.new }
-    ensures rises_paid { let system = table.now.system in
-        let left = rows_left system.lens finals.now in
-        let rows = 1 + handed_events left handed.new in
-        steps.new + length system.pulls * sum seat.old.floor
-        ≤ steps.old + length system.pulls * (rows + sum seat.new.floor) }
+    ensures { HasClaimed table.now.system finals.now bottom.new seat.old seat.new
+        handed.new steps.old steps.new }
 {
     seat.bounds();
     table.settle_narrow(seat, 0, bottom, steps);
@@ -66,15 +54,11 @@ pub(crate) fn settle_rest<L: Ledger>(
     steps: &mut Steps<L>,
 )
     requires fits { seat.old.table ≡ table.now }
-    requires finals { AreFinal table.now.system seat.old.floor finals.now }
-    requires bottom { IsBottom table.now.system seat.old.floor bottom.now }
     requires into { length into.old ≡ length table.now.system.lens }
-    requires handed { AreHanded table.now.system seat.old.floor handed.old }
-    ensures table { seat.new.table ≡ seat.old.table }
-    ensures settled { HasSettled table.now.system
-        (rows_left table.now.system.lens finals.now) bottom.now seat.old.floor seat.new.floor
-        handed.old handed.new
-        steps.old steps.new }
+    requires reached { HasReached table.now.system seat.old.floor finals.now bottom.now
+        handed.old }
+    ensures settled { HasSettled table.now.system finals.now bottom.now seat.old seat.new
+        handed.old handed.new steps.old steps.new }
     ensures all { (process : ℕ) → process < length table.now.system.lens
         → slice_index_or handed.new process false ≡ true }
 {
@@ -95,18 +79,14 @@ fn claim_one<L: Ledger>(
     steps: &mut Steps<L>,
 )
     requires fits { seat.old.table ≡ table.now }
-    requires finals { AreFinal table.now.system seat.old.floor finals.now }
     requires few { length table.now.system.lens ≤ 32 }
     requires process { process < length table.now.system.lens }
-    requires bottom { IsBottom table.now.system seat.old.floor bottom.now }
     requires into { length into.old ≡ length table.now.system.lens }
-    requires handed { AreHanded table.now.system seat.old.floor handed.old }
+    requires reached { HasReached table.now.system seat.old.floor finals.now bottom.now
+        handed.old }
     requires free { slice_index_or handed.old process false ≡ false }
-    ensures table { seat.new.table ≡ seat.old.table }
-    ensures settled { HasSettled table.now.system
-        (rows_left table.now.system.lens finals.now) bottom.now seat.old.floor seat.new.floor
-        handed.old handed.new
-        steps.old steps.new }
+    ensures settled { HasSettled table.now.system finals.now bottom.now seat.old seat.new
+        handed.old handed.new steps.old steps.new }
     ensures others { (other : ℕ) → other ≢ process
         → slice_index_or handed.new other false ≡ slice_index_or handed.old other false }
 {
@@ -127,17 +107,13 @@ fn settle_left<L: Ledger>(
     steps: &mut Steps<L>,
 )
     requires fits { seat.old.table ≡ table.now }
-    requires finals { AreFinal table.now.system seat.old.floor finals.now }
     requires few { length table.now.system.lens ≤ 32 }
     requires process { process < length table.now.system.lens }
-    requires bottom { IsBottom table.now.system seat.old.floor bottom.now }
     requires into { length into.old ≡ length table.now.system.lens }
-    requires handed { AreHanded table.now.system seat.old.floor handed.old }
-    ensures table { seat.new.table ≡ seat.old.table }
-    ensures settled { HasSettled table.now.system
-        (rows_left table.now.system.lens finals.now) bottom.now seat.old.floor seat.new.floor
-        handed.old handed.new
-        steps.old steps.new }
+    requires reached { HasReached table.now.system seat.old.floor finals.now bottom.now
+        handed.old }
+    ensures settled { HasSettled table.now.system finals.now bottom.now seat.old seat.new
+        handed.old handed.new steps.old steps.new }
     ensures marked { slice_index_or handed.new process false ≡ true }
 {
     if !handed[process as usize] {
@@ -157,18 +133,14 @@ fn settle_marked<L: Ledger>(
     steps: &mut Steps<L>,
 )
     requires fits { seat.old.table ≡ table.now }
-    requires finals { AreFinal table.now.system seat.old.floor finals.now }
     requires few { length table.now.system.lens ≤ 32 }
     requires process { process < length table.now.system.lens }
-    requires bottom { IsBottom table.now.system seat.old.floor bottom.now }
     requires into { length into.old ≡ length table.now.system.lens }
-    requires handed { AreHanded table.now.system seat.old.floor handed.old }
+    requires reached { HasReached table.now.system seat.old.floor finals.now bottom.now
+        handed.old }
     requires free { slice_index_or handed.old process false ≡ false }
-    ensures table { seat.new.table ≡ seat.old.table }
-    ensures settled { HasSettled table.now.system
-        (rows_left table.now.system.lens finals.now) bottom.now seat.old.floor seat.new.floor
-        handed.old handed.new
-        steps.old steps.new }
+    ensures settled { HasSettled table.now.system finals.now bottom.now seat.old seat.new
+        handed.old handed.new steps.old steps.new }
     ensures marked { handed.new ≡ slice_set handed.old process true }
 {
     let first = finals[process as usize];

@@ -48,6 +48,7 @@ fn report_of(alloc: Global, trace: &Trace, text: &[u8]) -> Result<Report, Fault>
         Err(Refused::NoMemory) => return Err(Fault::Memory),
     };
     if !is_report_of(trace.states(), &report) {
+        drop(report);
         return Err(Fault::OtherLog);
     }
     Ok(report)
@@ -96,14 +97,21 @@ fn read_log<'a>(
     }
 }
 
-/// The view that is asked for of an input that is read no further for this reason.
-pub fn view_in(alloc: Global, asked: View, input: &[u8], end: End) -> Result<Bytes, Fault>
+// The view of an input, by a reader and a log that took nothing yet.
+fn view_by(
+    alloc: Global,
+    asked: View,
+    reader: &mut Reader,
+    log: &mut LogTrace,
+    input: &[u8],
+    end: End,
+) -> Result<Bytes, Fault>
+    requires read { HasRead reader.old [] }
+    requires none { Keeps log.old waiting }
     ensures view { IfOk result (λ shown. (end ≡ Ended) × IsViewIn asked input.now shown) }
     ensures fault { IfErr result (NoViewIn end input.now) }
 {
-    let mut reader = Reader::new(alloc);
-    let mut log = LogTrace::new(alloc);
-    let rest = match read_log(alloc, &mut reader, &mut log, input) {
+    let rest = match read_log(alloc, reader, log, input) {
         Ok(rest) => rest,
         Err(fault) => return Err(fault),
     };
@@ -119,4 +127,14 @@ pub fn view_in(alloc: Global, asked: View, input: &[u8], end: End) -> Result<Byt
         unreachable!()
     };
     view_behind(alloc, asked, trace, rest)
+}
+
+/// The view that is asked for of an input that is read no further for this reason.
+pub fn view_in(alloc: Global, asked: View, input: &[u8], end: End) -> Result<Bytes, Fault>
+    ensures view { IfOk result (λ shown. (end ≡ Ended) × IsViewIn asked input.now shown) }
+    ensures fault { IfErr result (NoViewIn end input.now) }
+{
+    let mut reader = Reader::new(alloc);
+    let mut log = LogTrace::new(alloc);
+    view_by(alloc, asked, &mut reader, &mut log, input, end)
 }

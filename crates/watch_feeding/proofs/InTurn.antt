@@ -3,7 +3,7 @@ use Rattle.std.proofs.Common.{◌≡◌, ℕ, zero, suc, ◌+◌, ◌<◌, ◌�
 use Rattle.std.proofs.lemmas.List.{length-set, get_or-set_same, get_or-set_other}
 use Rattle.event_log.specs.States.{StatesView}
 use Rattle.local_preds.specs.LocalRuns.{AreFull}
-use Rattle.watch_feeding.specs.Fed.{states_at, IsFed, RowsAreFed}
+use Rattle.watch_feeding.specs.Fed.{states_at, IsFed, MayBeFed, AreWithin, HaveRows, RowsAreFed}
 use Rattle.watch_feeding.proofs.Turns.{Answering}
 
 -- ---- lists in which one item was replaced
@@ -61,6 +61,16 @@ none_fed answers name states watch_process from old old_rows = record {
   above = λ w from. (refl, refl);
   others = λ w none. refl;
   names = λ w before after is are. ap name (one_value (slice_get old w) after before are is);
+}
+
+-- the next watch may be fed
+pub may_be_fed : (states : StatesView) (watch_process : List (Option ℕ)) (from : List ℕ) (old now : List (List Bool)) (w p : ℕ) → HaveRows states watch_process old → get_or watch_process w None ≡ Some p
+    → ((q : ℕ) → AreFull states watch_process old q) → AreWithin watch_process from old → RowsAreFed watch_process from old now → MayBeFed states p (get_or from w 0) (get_or now w [])
+may_be_fed states watch_process from old now w p have on full within fed = record {
+  whole = have.whole;
+  process = have.process w p on;
+  within = omega (arith, fed.size w, within.each w);
+  full = fed.size w ∙ (full p w on).1;
 }
 
 -- the next watch is on no process

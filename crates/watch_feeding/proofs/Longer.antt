@@ -1,13 +1,13 @@
 -- Rows that are lengthened.
-use Rattle.std.proofs.Common.{◌≡◌, ℕ, zero, suc, ◌+◌, ◌<◌, ◌≤◌, inl, inr, Bool, List, [], ◌∷◌, ◌++◌, Option, Some, None, length, take, drop, set, map, get_or, slice_get, refl, ap, sym, ◌∙◌, arith, append-nil}
-use Rattle.std.proofs.lemmas.List.{length-set, get_or-set_same, get_or-set_other, map_more, take_all, take-append-drop}
+use Rattle.std.proofs.Common.{◌≡◌, ℕ, zero, suc, ◌+◌, ◌<◌, ◌≤◌, inl, inr, Bool, List, [], ◌∷◌, ◌++◌, Option, Some, None, length, take, drop, set, map, get_or, slice_get, refl, ap, sym, ◌∙◌, arith, append-nil, length-append}
+use Rattle.std.proofs.lemmas.List.{length-map, length-set, get_or-set_same, get_or-set_other, map_more, take_all, take-append-drop}
 use Rattle.std.proofs.Math.Seq.{take-append_seam}
 use Rattle.std.proofs.lemmas.Option.{get_or_from_slice_get}
 use Rattle.local_preds.proofs.RowSteps.{lens-get_or}
 use Rattle.event_log.specs.States.{StatesView}
 use Rattle.local_preds.specs.Rows.{len_at}
 use Rattle.local_preds.specs.LocalRuns.{AreFull}
-use Rattle.watch_feeding.specs.Fed.{RowsHaveGrown, RowsAreFed}
+use Rattle.watch_feeding.specs.Fed.{AreWithin, RowsHaveGrown, RowsAreFed}
 use Rattle.watch_feeding.proofs.InTurn.{same_or_other, one_value, no_value}
 
 -- the rows up to a number are long enough, and the others as before
@@ -115,6 +115,20 @@ number-is old from w are = ap (λ (l : List ℕ). get_or l w 0) are ∙ at old w
     at [] v = refl
     at (row ∷ rows) zero = refl
     at (row ∷ rows) (suc v) = at rows v
+
+-- no number is above the length of its row, now that rows were lengthened
+pub begin_within : (watch_process : List (Option ℕ)) (old long : List (List Bool)) (from : List ℕ) → from ≡ map length old → length old ≡ length watch_process → RowsHaveGrown watch_process old long
+    → AreWithin watch_process from long
+begin_within watch_process old long from are size grown = record {
+  count = ap (λ (l : List ℕ). length l) are ∙ length-map old length ∙ size;
+  each = λ w. one w (get_or watch_process w None) refl;
+}
+  where
+    one : (w : ℕ) (o : Option ℕ) → get_or watch_process w None ≡ o → get_or from w 0 ≤ length (get_or long w [])
+    one w None none = omega (arith, number-is old from w are, ap (λ (r : List Bool). length r) (grown.others w none))
+    one w (Some p) on =
+        let more = grown.longer w p on in
+        omega (arith, number-is old from w are, ap (λ (r : List Bool). length r) more.1, length-append (get_or old w []) more.0)
 
 pub first_truths : (watch_process : List (Option ℕ)) (old long : List (List Bool)) (from : List ℕ) (w p : ℕ) → get_or watch_process w None ≡ Some p → from ≡ map length old → RowsHaveGrown watch_process old long
     → take (get_or from w 0) (get_or long w []) ≡ get_or old w []

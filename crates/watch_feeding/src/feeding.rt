@@ -1,9 +1,10 @@
-ghost use Rattle.std.specs.Prelude.{◌≡◌, ℕ, ◌+◌, ◌<◌, ◌≤◌, List, [], Option, Some, None, length};
+ghost use Rattle.std.specs.Prelude.{◌≡◌, ℕ, ◌+◌, ◌<◌, List, [], Option, Some, None, length};
 ghost use Rattle.std.specs.Prelude.{take, drop, get_or, slice_get, slice_set};
-ghost use Rattle.event_log.specs.States.{AreWhole};
 ghost use Rattle.local_preds.specs.Rows.{len_at};
 ghost use Rattle.local_preds.specs.LocalRuns.{AreFull};
-ghost use Rattle.watch_feeding.specs.Fed.{states_at, IsFed, HaveRows, RowsAreFed};
+ghost use Rattle.watch.specs.Saying.{said_by};
+ghost use Rattle.watch_feeding.specs.Fed.{states_at, IsFed, MayBeFed, AreWithin, HaveRows};
+ghost use Rattle.watch_feeding.specs.Fed.{RowsAreFed, KeepPlaces};
 
 use event_log::States;
 use pota_base::List;
@@ -19,10 +20,7 @@ pub fn feed_states(
     from: usize,
     row: &mut List<bool>,
 )
-    requires whole { AreWhole states.now }
-    requires process { process < length states.now.events }
-    requires from { from ≤ length row.old }
-    requires full { length row.old ≡ len_at states.now process + 1 }
+    requires { MayBeFed states.now process from row.old }
     ensures fed { IsFed
         (take from row.old)
         (drop from (states_at states.now process))
@@ -50,11 +48,8 @@ pub fn feed_row(
     w: usize,
     rows: &mut List<List<bool>>,
 )
-    requires whole { AreWhole states.now }
-    requires process { process < length states.now.events }
     requires there { w < length rows.old }
-    requires from { from ≤ length (get_or rows.old w []) }
-    requires full { length (get_or rows.old w []) ≡ len_at states.now process + 1 }
+    requires row { MayBeFed states.now process from (get_or rows.old w []) }
     ensures fed { IsFed
         (take from (get_or rows.old w []))
         (drop from (states_at states.now process))
@@ -83,8 +78,7 @@ pub fn feed_watches(
     requires rows { HaveRows states.now watch_process.now rows.old }
     requires full { (p : ℕ) → AreFull states.now watch_process.now rows.old p }
     requires watches { length watches.old.items ≡ length watch_process.now }
-    requires from { length from.now ≡ length watch_process.now }
-    requires within { (w : ℕ) → get_or from.now w 0 ≤ length (get_or rows.old w []) }
+    requires from { AreWithin watch_process.now from.now rows.old }
 
     ensures fed { (w p : ℕ) (before after : _)
         → get_or watch_process.now w None ≡ Some p
@@ -93,18 +87,12 @@ pub fn feed_watches(
         → IsFed
         (take (get_or from.now w 0) (get_or rows.old w []))
         (drop (get_or from.now w 0) (states_at states.now p))
-        (answers (before.watch.vtable, before.watch.value))
+        (said_by answers before)
         (get_or rows.new w [])
-        (answers (after.watch.vtable, after.watch.value)) }
+        (said_by answers after) }
     ensures rows { RowsAreFed watch_process.now from.now rows.old rows.new }
     ensures full { (p : ℕ) → AreFull states.now watch_process.now rows.new p }
-    ensures others { (w : ℕ) → get_or watch_process.now w None ≡ None
-        → slice_get watches.new.items w ≡ slice_get watches.old.items w }
-    ensures names { (w : ℕ) (before after : _)
-        → slice_get watches.old.items w ≡ Some before
-        → slice_get watches.new.items w ≡ Some after
-        → after.name ≡ before.name }
-    ensures count { length watches.new.items ≡ length watches.old.items }
+    ensures places { KeepPlaces watch_process.now watches.old.items watches.new.items }
 {
     for w in 0..watches.len() {
         if let Some(process) = watch_process[w] {

@@ -1,7 +1,8 @@
 ghost use Rattle.std.specs.Prelude.{◌≡◌, ℕ, List, [], Option, Some, None, length, drop, get_or};
 ghost use Rattle.std.specs.Prelude.{slice_get, OnOk, OnErr};
 ghost use Rattle.local_preds.specs.LocalRuns.{AreFull};
-ghost use Rattle.watch_feeding.specs.Fed.{states_at, IsFed, HaveRows, RowsHaveGrown};
+ghost use Rattle.watch.specs.Saying.{said_by};
+ghost use Rattle.watch_feeding.specs.Fed.{states_at, IsFed, HaveRows, RowsHaveGrown, KeepPlaces};
 
 use crate::feeding::feed_watches;
 use crate::rows::lengthen_rows;
@@ -29,18 +30,12 @@ pub fn feed_new_states(
         → IsFed
         (get_or rows.old w [])
         (drop (length (get_or rows.old w [])) (states_at states.now p))
-        (answers (before.watch.vtable, before.watch.value))
+        (said_by answers before)
         (get_or rows.new w [])
-        (answers (after.watch.vtable, after.watch.value))) }
+        (said_by answers after)) }
     ensures full { OnOk result ((p : ℕ) → AreFull states.now watch_process.now rows.new p) }
     ensures grown { RowsHaveGrown watch_process.now rows.old rows.new }
-    ensures others { (w : ℕ) → get_or watch_process.now w None ≡ None
-        → slice_get watches.new.items w ≡ slice_get watches.old.items w }
-    ensures names { (w : ℕ) (before after : _)
-        → slice_get watches.old.items w ≡ Some before
-        → slice_get watches.new.items w ≡ Some after
-        → after.name ≡ before.name }
-    ensures count { length watches.new.items ≡ length watches.old.items }
+    ensures places { KeepPlaces watch_process.now watches.old.items watches.new.items }
     ensures memory { OnErr result (watches.new ≡ watches.old) }
 {
     let lens = lengthen_rows(alloc, watch_process, states, rows)?;

@@ -71,8 +71,8 @@ returns g c =
     let made : c.in_ok-system.system ≡ system = c.in_ok-system.ensures ∙ system_by _ _ _ _ c.shape.ensures.lens c.into_fans-fans.ensures.pulls in
     let system_is : c.in_ok-table.table.system ≡ system = c.in_ok-table.ensures.system ∙ made in
     let is_system : IsSystem system = record { shape = c.shape.ensures.shape; pulls = c.requires.fit; count = c.requires.count } in
-    let least : AreLeastRows system rows.words = subst (λ (s : SystemView). AreLeastRows s rows.words) system_is c.in_ok-settled.ensures.least in
-    let lens_is : rows.lens ≡ lens = c.in_ok-settled.ensures.lens ∙ ap (λ (s : SystemView). s.lens) system_is in
+    let least : AreLeastRows system rows.words = subst (λ (s : SystemView). AreLeastRows s rows.words) system_is c.in_ok-settled.ensures.settled.least in
+    let lens_is : rows.lens ≡ lens = c.in_ok-settled.ensures.settled.lens ∙ ap (λ (s : SystemView). s.lens) system_is in
     let words = c.in_ok-begins.begins.floor.words in
     let atoms : c.args.keeps ≡ true → BeginsAtoms c.args.order.now before words = λ keeps. subst (λ (found : Option RowsView). BeginsAtoms c.args.order.now found words) c.next.ensures.next (c.in_ok-begins.ensures.atoms keeps) in
     let others : c.args.keeps ≡ false → BeginsOthers lens c.args.gathered.floor words = λ keeps. subst (λ (found : Option RowsView). BeginsOthers lens found words) c.into_fans-fans.ensures.floor (c.in_ok-begins.ensures.others keeps) in
@@ -87,14 +87,14 @@ returns g c =
       looks = λ one.
           let floor_is : c.in_ok-table.seat.floor ≡ c.in_ok-begins.begins.floor.words = ap (λ (s : SeatView). s.floor) c.in_ok-table.ensures.seat in
           let rises : sum c.in_ok-table.seat.floor ≤ sum rows.words =
-          subst (λ (words : List ℕ). sum c.in_ok-table.seat.floor ≤ sum words) (sym c.in_ok-settled.ensures.floor) (sum_rises c.in_ok-table.seat.floor _ c.in_ok-settled.ensures.rises.each) in
+          subst (λ (words : List ℕ). sum c.in_ok-table.seat.floor ≤ sum words) (sym c.in_ok-settled.ensures.settled.floor) (sum_rises c.in_ok-table.seat.floor _ c.in_ok-settled.ensures.risen.rises.each) in
           let table : SystemView = c.in_ok-table.table.system in
           let left = mul-le-mul_left (length table.pulls) (sum-left table.lens (take c.procs.result c.in_ok-begins.begins.finals)) in
           let rise = subst (λ (s : SystemView). c.settle_behind.new.steps + length s.pulls * sum c.in_ok-table.seat.floor ≤ c.args.steps.now + length s.pulls * ((sum s.lens + 1) + sum c.settle_behind.new.seat.floor)) system_is
-          (omega (arith, c.in_ok-settled.ensures.rises_paid one, left)) in
-          let lent = subst (λ (s : SystemView). c.settle_behind.new.steps ≤ c.args.steps.now + length s.pulls * ((length s.lens + 1) * (sum s.lens + length s.lens))) system_is (c.in_ok-settled.ensures.looks one) in
+          (omega (arith, (c.in_ok-settled.ensures.takes one).rises_paid, left)) in
+          let lent = subst (λ (s : SystemView). c.settle_behind.new.steps ≤ c.args.steps.now + length s.pulls * ((length s.lens + 1) * (sum s.lens + length s.lens))) system_is (c.in_ok-settled.ensures.takes one).looks in
           steps_within (length c.args.gathered.pulls) c.args.steps.now c.settle_behind.new.steps c.args.keeps lens c.in_ok-table.seat.floor before rows (λ keeps. subst (λ (v : List ℕ). sum (floor_words lens before) ≤ sum v) (sym floor_is) (floor_above c.args.order.now c.args.gathered.pulls c.args.keeps before words bounds atoms keeps)) rises
-          (subst (λ (words : List ℕ). c.settle_behind.new.steps + length c.args.gathered.pulls * sum c.in_ok-table.seat.floor ≤ c.args.steps.now + length c.args.gathered.pulls * ((sum lens + 1) + sum words)) (sym c.in_ok-settled.ensures.floor) rise)
+          (subst (λ (words : List ℕ). c.settle_behind.new.steps + length c.args.gathered.pulls * sum c.in_ok-table.seat.floor ≤ c.args.steps.now + length c.args.gathered.pulls * ((sum lens + 1) + sum words)) (sym c.in_ok-settled.ensures.settled.floor) rise)
           lent;
       fits = c.in_ok-slice.ensures.fits system is_system refl c.requires.order (subst (λ (r : RowsView). AreLeastRows system r.words) (sym c.rows.ensures) least);
       cuts = c.in_ok-slice.ensures.cuts system is_system refl c.requires.order (subst (λ (r : RowsView). AreLeastRows system r.words) (sym c.rows.ensures) least);

@@ -1,4 +1,4 @@
-use Rattle.std.proofs.Common.{rules, arith, refl, ap, sym, subst, replicate, ◌≡◌, ◌≤◌, ◌<◌, ◌∙◌, ℕ, List, take, get_or, length, sum}
+use Rattle.std.proofs.Common.{arith, ap, ◌≡◌, ◌≤◌, ◌∙◌, length}
 use Rattle.std.proofs.Math.Nat.{mul-le-mul_left}
 use Rattle.slice_workers.proofs.Passes.{sum-left}
 use Rattle.pull_system.specs.System.{SystemView}
@@ -12,7 +12,10 @@ settle_behind-requires-clause-finals g c κs within =
     let few : c.procs-procs.result ≤ 32 = omega (arith, c.procs-procs.ensures.count, c.procs-procs.ensures.shape.few) in
     none_final system _ (zeros c.procs-procs.result 32) (length-zeros c.procs-procs.result 32 few ∙ c.procs-procs.ensures.count ∙ ap length lens) (get_or-zeros c.procs-procs.result 32)
 
-pub returns-clause-rises_paid : goal.returns-clause-rises_paid
-returns-clause-rises_paid g c =
+pub returns-clause-takes : goal.returns-clause-takes
+returns-clause-takes g c = λ one.
     let system : SystemView = c.args.table.now.system in
-    λ one. omega (arith, c.settle_behind.ensures.rises_paid one, mul-le-mul_left (length system.pulls) (sum-left system.lens (zeros c.procs-procs.result 32)))
+    let takes = c.settle_behind.ensures.takes one in record {
+      looks = takes.looks;
+      rises_paid = omega (arith, takes.rises_paid, mul-le-mul_left (length system.pulls) (sum-left system.lens (zeros c.procs-procs.result 32)));
+    }

@@ -1,15 +1,14 @@
-use Rattle.std.proofs.Common.{rules, arith, ap, ◌≡◌, ◌≤◌, ◌∙◌, length, false, true, get_or}
+use Rattle.std.proofs.Common.{arith, ap, refl, ◌≡◌, ◌≤◌, ◌∙◌, length, true, false, get_or}
 use Rattle.pull_system.specs.System.{SystemView}
 use Rattle.bound_table.proofs.Seeing.{upto_next}
-use Rattle.slice_workers.proofs.Reached.{final_more}
-use Rattle.slice_workers.proofs.Passes.{passed_none, passed_on, bottom_more}
+use Rattle.slice_workers.proofs.Passes.{passed_none, passed_on, passed_reaches}
 use Rattle.slice_workers.proofs.workers.settle_rest.Goals as goal
 
 pub loop-process-init : goal.loop-process-init
 loop-process-init g c =
     let system : SystemView = c.args.table.now.system in record {
-      table = search rules;
-      settled = passed_none system _ c.args.bottom.now _ _ _ c.requires.handed;
+      reached = c.requires.reached;
+      settled = passed_none system _ _ _ _ _ _ refl refl c.requires.reached.handed;
       done = λ p below. absurd (omega arith);
     }
 
@@ -18,22 +17,13 @@ settle_left-requires-clause-few g c =
     let system : SystemView = c.args.table.now.system in
     let few : length system.lens ≤ 32 = omega (arith, c.procs-process-end.ensures.shape.few, ap length (c.shape.ensures.shape ∙ ap (λ s. s.lens) c.system.ensures)) in few
 
-pub settle_left-requires-clause-bottom : goal.settle_left-requires-clause-bottom
-settle_left-requires-clause-bottom g c =
-    let system : SystemView = c.args.table.now.system in
-    bottom_more system _ _ _ c.loop-process.invariant.settled.rises c.requires.bottom
-
-pub settle_left-requires-clause-handed : goal.settle_left-requires-clause-handed
-settle_left-requires-clause-handed g c =
-    c.loop-process.invariant.settled.handed
-
 pub loop-process-preserved : goal.loop-process-preserved
 loop-process-preserved g c =
     let system : SystemView = c.args.table.now.system in
     let inv = c.loop-process.invariant in
     let left = c.settle_left.ensures in record {
-      table = left.table ∙ inv.table;
-      settled = passed_on system _ c.args.bottom.now _ _ _ _ _ _ _ _ _ inv.settled left.settled;
+      reached = passed_reaches system _ _ _ _ _ _ _ _ inv.reached left.settled;
+      settled = passed_on system _ _ _ _ _ _ _ _ _ _ _ inv.settled left.settled;
       done = upto_next (λ p. get_or c.settle_left.new.handed p false ≡ true) c.loop-process.process (λ p below. left.settled.stays p (inv.done p below)) left.marked;
     }
 
@@ -42,8 +32,3 @@ returns-clause-all g c =
     let system : SystemView = c.args.table.now.system in
     let end : c.procs-process-end.result ≡ length system.lens = c.procs-process-end.ensures.count ∙ ap length (c.shape.ensures.shape ∙ ap (λ s. s.lens) c.system.ensures) in
     λ p there. c.loop-process.invariant.done p (omega arith)
-
-pub settle_left-requires-clause-finals : goal.settle_left-requires-clause-finals
-settle_left-requires-clause-finals g c =
-    let system : SystemView = c.args.table.now.system in
-    final_more system _ _ _ c.loop-process.invariant.settled.rises c.requires.finals

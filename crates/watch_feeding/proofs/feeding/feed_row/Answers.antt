@@ -1,7 +1,14 @@
-use Rattle.std.proofs.Common.{◌≡◌, sym, ◌∙◌, ap, set, get_or}
+use Rattle.std.proofs.Common.{◌≡◌, sym, ◌∙◌, ap, subst, set, get_or}
 use Rattle.std.specs.Prelude.{List, Bool, []}
 use Rattle.std.proofs.lemmas.List.{set-set, get_or-set_same}
+use Rattle.std.proofs.lemmas.Option.{get_or_from_slice_get}
+use Rattle.watch_feeding.specs.Fed.{MayBeFed}
 use Rattle.watch_feeding.proofs.feeding.feed_row.Goals as goal
+
+pub feed_states-requires : goal.feed_states-requires
+feed_states-requires g c =
+    subst (λ (row : List Bool). MayBeFed c.args.states.now c.args.process c.args.from row)
+    (get_or_from_slice_get c.args.rows.now c.args.w c.replace-row.result [] c.replace-row.ensures.item) c.requires.row
 
 pub returns-clause-others : goal.returns-clause-others
 returns-clause-others g c =

@@ -7,7 +7,7 @@ use Rattle.watch_feeding.proofs.feeding.feed_states.Goals as goal
 pub loop-position-init : goal.loop-position-init
 loop-position-init g c =
     let size = length-states_at c.args.states.now c.args.process c.requires.whole c.requires.process in
-    fed_none _ _ _ _ (omega (arith, size, c.requires.from, c.requires.full))
+    fed_none _ _ _ _ (omega (arith, size, c.requires.within, c.requires.full))
 
 pub loop-position-preserved : goal.loop-position-preserved
 loop-position-preserved g c =

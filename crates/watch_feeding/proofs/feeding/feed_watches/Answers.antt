@@ -1,8 +1,13 @@
 use Rattle.std.proofs.Common.{◌<◌, length, ◌∙◌, ap, sym, refl, arith}
 use Rattle.std.proofs.lemmas.Option.{slice_get_read}
-use Rattle.watch_feeding.proofs.InTurn.{turn_passes, turn_taken}
+use Rattle.watch_feeding.proofs.InTurn.{may_be_fed, turn_passes, turn_taken}
 use Rattle.watch_feeding.proofs.feeding.feed_watches.Goals as goal
 use Rattle.watch_feeding.proofs.feeding.feed_watches.Goals.{in-Some, in_default}
+
+pub feed_row-requires-clause-row : goal.feed_row-requires-clause-row
+feed_row-requires-clause-row g c =
+    may_be_fed c.args.states.now c.args.watch_process.now c.args.from.now c.args.rows.now c.loop-w.rows c.loop-w.w c.in-Some.process c.requires.rows c.in-Some.is
+    c.requires.full c.requires.from c.loop-w.invariant.rows
 
 pub loop-w-preserved : goal.loop-w-preserved
 loop-w-preserved g c = elim c.match-watch_process-w.branch [

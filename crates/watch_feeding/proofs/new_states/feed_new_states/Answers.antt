@@ -1,8 +1,12 @@
 use Rattle.std.proofs.Common.{◌∙◌, get_or, []}
 use Rattle.watch_feeding.specs.Fed.{states_at}
-use Rattle.watch_feeding.proofs.Longer.{number-is, first_truths, grown_and_fed}
+use Rattle.watch_feeding.proofs.Longer.{number-is, begin_within, first_truths, grown_and_fed}
 use Rattle.watch_feeding.proofs.Turns.{fed_behind}
 use Rattle.watch_feeding.proofs.new_states.feed_new_states.Goals as goal
+
+pub feed_watches-requires-clause-from : goal.feed_watches-requires-clause-from
+feed_watches-requires-clause-from g c =
+    begin_within c.args.watch_process.now c.args.rows.now c.lengthen_rows.new.rows c.as_slice.result.now (c.as_slice.ensures ∙ c.in_ok-lens.ensures.lens) c.requires.rows.count c.lengthen_rows.ensures.grown
 
 pub returns-clause-fed : goal.returns-clause-fed
 returns-clause-fed g c = λ w p before after on was will.

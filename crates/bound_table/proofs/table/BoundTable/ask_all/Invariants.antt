@@ -1,14 +1,11 @@
 use Rattle.std.proofs.Common.{ℕ, ◌≡◌, ◌+◌, ◌<◌, ◌≤◌, length, slice_index}
 use Rattle.pull_system.proofs.Asking.{pulls_from_first}
-use Rattle.bound_table.specs.Kept.{Follows}
-use Rattle.bound_table.specs.Asking.{HoldSeen}
-use Rattle.bound_table.specs.Views.{KeepsClaims}
+use Rattle.bound_table.specs.Asking.{IsSettling, HoldSeen}
 use Rattle.bound_table.proofs.table.BoundTable.ask_all.Given as goal
 
 abbrev pub invariant-loop-process : goal.invariant-loop-process
 invariant-loop-process g l = record {
-  keeps : KeepsClaims l.fn.seat l.seat;
-  follows : Follows l.self.system l.row l.fn.seat.floor l.seat.floor l.vector;
+  settling : IsSettling l.self l.row l.fn.seat l.seat l.vector;
   size : length l.seen ≡ length l.self.system.lens;
   within : (process : ℕ) → process < l.process → slice_index l.seen process ≤ slice_index l.vector process;
   held : HoldSeen l.self.system l.process l.seen l.vector;

@@ -1,13 +1,13 @@
 use Rattle.std.proofs.Common.{rules, subst}
 use Rattle.pull_system.specs.System.{SystemView}
 use Rattle.pull_system.specs.Asks.{AreAsks}
-use Rattle.bound_table.proofs.Seeing.{entry_there, asks_hold}
+use Rattle.bound_table.proofs.Settling.{entry_there}
+use Rattle.bound_table.proofs.Seeing.{asks_hold}
 use Rattle.bound_table.proofs.table.BoundTable.ask_from.Goals as goal
 
 pub asks-asks-requires-clause-entry : goal.asks-asks-requires-clause-entry
 asks-asks-requires-clause-entry g c =
-    let system : SystemView = c.args.self.now.system in
-    let less = entry_there system c.requires.system c.args.row c.args.process c.args.x _ _ _ c.requires.row c.requires.follows c.requires.reached in search (rules, less)
+    let less = entry_there _ c.args.row c.args.process c.args.x _ _ _ c.requires.settling c.requires.reached in search (rules, less)
 
 pub rise_to-requires-clause-asks : goal.rise_to-requires-clause-asks
 rise_to-requires-clause-asks g c =

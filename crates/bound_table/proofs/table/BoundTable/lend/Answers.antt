@@ -32,7 +32,7 @@ raise_by_lend-raised-requires-clause-found c =
     let process : ℕ = c.loop-process.process in
     let there : process < length system.lens = search rules in
     let found : IsRaised system c.load-y.new.seat.floor c.load-found.new.seat.floor c.args.to_row process 0 c.load-found.result = read_raised system _ _ c.args.to_row process _ 0 _ (omega (arith, c.begin-to.ensures.place)) c.load-found.ensures.floor c.load-found.ensures.rises (omega arith) c.load-found.ensures.bounds in
-    sym (raised_at system _ _ c.args.to_row process _ _ c.requires.to_row there found)
+    sym (raised_at system _ _ c.args.to_row process _ _ c.requires.rows.second there found)
 
 pub raise_by_lend-raised-requires-clause-step : goal.raise_by_lend-raised-requires-clause-step
 raise_by_lend-raised-requires-clause-step c =
@@ -43,8 +43,8 @@ raise_by_lend-raised-requires-clause-step c =
     let read : IsRaised system c.loop-process.seat.floor c.load-y.new.seat.floor c.args.from_row process 0 c.load-y.result = read_raised system _ _ c.args.from_row process _ 0 _ (omega (arith, c.begin-from.ensures.place)) c.load-y.ensures.floor c.load-y.ensures.rises (omega arith) c.load-y.ensures.bounds in
     let found : IsRaised system c.load-y.new.seat.floor c.load-found.new.seat.floor c.args.to_row process 0 c.load-found.result = read_raised system _ _ c.args.to_row process _ 0 _ (omega (arith, c.begin-to.ensures.place)) c.load-found.ensures.floor c.load-found.ensures.rises (omega arith) c.load-found.ensures.bounds in
     let within : IsWithin c.load-y.new.seat.floor c.load-found.new.seat.floor = raised_within_floor system _ _ c.args.to_row process _ _ found in
-    lend_allowed system c.load-found.new.seat.floor c.args.to_row c.args.from_row process c.load-y.result c.requires.to_row c.requires.from_row there
-    (omega (arith, raised_at system _ _ c.args.from_row process _ _ c.requires.from_row there read, within.each (place_of system.lens c.args.from_row process)))
+    lend_allowed system c.load-found.new.seat.floor c.args.to_row c.args.from_row process c.load-y.result c.requires.rows.second c.requires.rows.first there
+    (omega (arith, raised_at system _ _ c.args.from_row process _ _ c.requires.rows.first there read, within.each (place_of system.lens c.args.from_row process)))
     (has_start_more system.lens _ _ c.args.to_row c.args.from_row (within_trans _ _ _ (raised_within_floor system _ _ c.args.from_row process _ _ read) within) inv.event)
 
 pub loop-process-preserved : goal.loop-process-preserved
@@ -55,10 +55,10 @@ loop-process-preserved c =
     let there : process < length system.lens = search rules in
     let read : IsRaised system c.loop-process.seat.floor c.load-y.new.seat.floor c.args.from_row process 0 c.load-y.result = read_raised system _ _ c.args.from_row process _ 0 _ (omega (arith, c.begin-from.ensures.place)) c.load-y.ensures.floor c.load-y.ensures.rises (omega arith) c.load-y.ensures.bounds in
     let found : IsRaised system c.load-y.new.seat.floor c.load-found.new.seat.floor c.args.to_row process 0 c.load-found.result = read_raised system _ _ c.args.to_row process _ 0 _ (omega (arith, c.begin-to.ensures.place)) c.load-found.ensures.floor c.load-found.ensures.rises (omega arith) c.load-found.ensures.bounds in
-    let lent = raised_twice system _ _ _ c.args.to_row process _ _ _ _ c.requires.to_row there found c.raise_by_lend-raised.ensures.raised in
+    let lent = raised_twice system _ _ _ c.args.to_row process _ _ _ _ c.requires.rows.second there found c.raise_by_lend-raised.ensures.raised in
     let at : LendsAt system.lens c.loop-process.seat.floor c.load-y.new.seat.floor c.raise_by_lend-raised.new.seat.floor c.args.from_row c.args.to_row process c.load-y.result c.raise_by_lend-raised.result = record {
-      from_there = c.requires.from_row;
-      to_there = c.requires.to_row;
+      from_there = c.requires.rows.first;
+      to_there = c.requires.rows.second;
       there = there;
       size = inv.bounds.size;
       size_read = read.bounds.size;

@@ -1,19 +1,15 @@
 use Rattle.std.proofs.Common.{rules, arith, ap, ◌≡◌, ◌≤◌, ◌<◌, ◌∙◌, ℕ, length, get_or, refl}
 use Rattle.pull_system.specs.System.{SystemView}
-use Rattle.pull_system.specs.Rows.{place_of}
 use Rattle.bound_table.proofs.Allowed.{lend_allowed}
 use Rattle.bound_table.proofs.Moves.{few_words}
-use Rattle.bound_table.proofs.Lends.{has_start_more}
-use Rattle.bound_table.proofs.Seeing.{follows_raised, raised_small, raised_within_floor, put_next, within_first}
-use Rattle.bound_table.proofs.Claiming.{keeps_refl, keeps_trans}
+use Rattle.bound_table.proofs.Lends.{may_lend_more}
+use Rattle.bound_table.proofs.Seeing.{settling_raised, raised_small, raised_within_floor, put_next, within_first}
 use Rattle.bound_table.proofs.table.BoundTable.lend_row.Goals as goal
 
 pub loop-process-init : goal.loop-process-init
 loop-process-init c = record {
-  keeps = keeps_refl _;
-  event = c.requires.event;
+  settling = c.requires.settling;
   lent = c.requires.lent;
-  follows = c.requires.follows;
   reaches = λ p below. absurd (omega arith);
 }
 
@@ -21,24 +17,24 @@ pub overflow_add-word : goal.overflow_add-word
 overflow_add-word c =
     let system : SystemView = c.args.self.now.system in
     let there : c.loop-process.process < length system.lens = search rules in
-    omega (arith, there, c.begin-begin.ensures.there, few_words system.lens c.requires.system.shape)
+    omega (arith, there, c.begin-begin.ensures.there, few_words system.lens c.requires.settling.system.shape)
 
 pub raise_by_lend-became-requires-clause-found : goal.raise_by_lend-became-requires-clause-found
 raise_by_lend-became-requires-clause-found c =
-    c.loop-process.invariant.follows.each c.loop-process.process (search rules)
+    c.loop-process.invariant.settling.follows.each c.loop-process.process (search rules)
 
 pub raise_by_lend-became-requires-clause-step : goal.raise_by_lend-became-requires-clause-step
 raise_by_lend-became-requires-clause-step c =
     let system : SystemView = c.args.self.now.system in
-    let inv = c.loop-process.invariant in
+    let lent = c.loop-process.invariant.lent in
     let process : ℕ = c.loop-process.process in
     let there : process < length system.lens = search rules in
-    lend_allowed system c.loop-process.seat.floor c.args.row c.args.before process _ c.requires.row c.requires.before there (inv.lent process there) inv.event
+    lend_allowed system c.loop-process.seat.floor c.args.row c.args.before process _ c.requires.settling.there lent.there there (lent.reached process there) lent.event
 
 pub overflow_cast-vector : goal.overflow_cast-vector
 overflow_cast-vector c =
-    let system : SystemView = c.args.self.now.system in
-    omega (arith, raised_small system c.requires.system _ _ c.args.row c.loop-process.process _ _ c.requires.row (search rules) c.raise_by_lend-became.ensures.raised)
+    let settling = c.requires.settling in
+    omega (arith, raised_small c.args.self.now.system settling.system _ _ c.args.row c.loop-process.process _ _ settling.there (search rules) c.raise_by_lend-became.ensures.raised)
 
 pub loop-process-preserved : goal.loop-process-preserved
 loop-process-preserved c =
@@ -46,16 +42,13 @@ loop-process-preserved c =
     let inv = c.loop-process.invariant in
     let process : ℕ = c.loop-process.process in
     let there : process < length system.lens = search rules in
-    let raised = c.raise_by_lend-became.ensures.raised in
-    let within = raised_within_floor system _ _ c.args.row process _ _ raised in record {
-      keeps = keeps_trans _ _ _ inv.keeps c.raise_by_lend-became.ensures.keeps;
-      event = has_start_more system.lens _ _ c.args.row c.args.before within inv.event;
-      lent = λ p p_there. omega (arith, inv.lent p p_there, within.each (place_of system.lens c.args.before p));
-      follows = follows_raised system c.args.row process _ c.raise_by_lend-became.result _ _ _ _ _ c.requires.row inv.follows there raised refl;
-      reaches = put_next (λ i n. get_or c.args.lent.now i 0 ≤ n) _ _ process c.raise_by_lend-became.result (omega (arith, inv.follows.size)) refl inv.reaches raised.reaches;
+    let raise = c.raise_by_lend-became.ensures in record {
+      settling = settling_raised _ c.args.row process _ c.raise_by_lend-became.result _ _ _ _ _ inv.settling there raise.keeps raise.raised refl;
+      lent = may_lend_more system.lens _ _ c.args.before c.args.row _ (raised_within_floor system _ _ c.args.row process _ _ raise.raised) inv.lent;
+      reaches = put_next (λ i n. get_or c.args.lent.now i 0 ≤ n) _ _ process c.raise_by_lend-became.result (omega (arith, inv.settling.follows.size)) refl inv.reaches raise.raised.reaches;
     }
 
 pub returns-clause-reaches : goal.returns-clause-reaches
 returns-clause-reaches c =
     let end : c.procs-procs.result ≡ length c.args.self.now.system.lens = c.procs-procs.ensures.count ∙ ap length (c.shape.ensures.shape ∙ ap (λ s. s.lens) c.system.ensures) in
-    within_first _ _ c.loop-process.process (omega (arith, c.requires.size)) c.loop-process.invariant.reaches
+    within_first _ _ c.loop-process.process (omega (arith, c.requires.lent.size)) c.loop-process.invariant.reaches

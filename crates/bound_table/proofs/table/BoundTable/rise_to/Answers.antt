@@ -1,21 +1,18 @@
 use Rattle.std.proofs.Common.{rules, arith, ap, ◌≡◌, ◌∙◌, ◌≤◌, length, get_or}
-use Rattle.pull_system.specs.System.{SystemView}
-use Rattle.bound_table.proofs.Floors.{follows_trans, follows_again, follows_rises}
+use Rattle.bound_table.proofs.Settling.{settling_trans, settling_again, settling_rises}
 use Rattle.bound_table.proofs.Seeing.{within_first, upto_next}
-use Rattle.bound_table.proofs.Claiming.{keeps_refl, keeps_trans}
 use Rattle.bound_table.proofs.table.BoundTable.rise_to.Goals as goal
 
 pub loop-target-init : goal.loop-target-init
 loop-target-init c = record {
-  keeps = keeps_refl _;
-  follows = c.requires.follows;
+  settling = c.requires.settling;
   reached = c.requires.reached;
   reaches = λ p below. absurd (omega arith);
 }
 
-pub rise_at-requires-clause-follows : goal.rise_at-requires-clause-follows
-rise_at-requires-clause-follows c =
-    follows_again c.args.self.now.system _ _ _ _ c.loop-target.invariant.follows
+pub rise_at-requires-clause-settling : goal.rise_at-requires-clause-settling
+rise_at-requires-clause-settling c =
+    settling_again _ _ _ _ _ c.loop-target.invariant.settling
 
 pub rise_at-requires-clause-asked : goal.rise_at-requires-clause-asked
 rise_at-requires-clause-asked c =
@@ -23,11 +20,9 @@ rise_at-requires-clause-asked c =
 
 pub loop-target-preserved : goal.loop-target-preserved
 loop-target-preserved c =
-    let system : SystemView = c.args.self.now.system in
     let inv = c.loop-target.invariant in
-    let rises = follows_rises system c.args.row _ _ _ c.loop-target.vector c.rise_at.new.vector inv.follows c.rise_at.ensures.follows in record {
-      keeps = keeps_trans _ _ _ inv.keeps c.rise_at.ensures.keeps;
-      follows = follows_trans system c.args.row _ _ _ _ _ inv.follows c.rise_at.ensures.follows;
+    let rises = settling_rises _ _ _ _ _ c.loop-target.vector c.rise_at.new.vector inv.settling c.rise_at.ensures.settling in record {
+      settling = settling_trans _ _ _ _ _ _ _ inv.settling c.rise_at.ensures.settling;
       reached = omega (arith, inv.reached, rises.each c.args.process);
       reaches = upto_next (λ i. get_or c.args.asks.now i 0 ≤ get_or c.rise_at.new.vector i 0) c.loop-target.target (λ i below. omega (arith, inv.reaches i below, rises.each i)) c.rise_at.ensures.reaches;
     }

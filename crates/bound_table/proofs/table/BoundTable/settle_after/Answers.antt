@@ -2,37 +2,43 @@ use Rattle.std.proofs.Common.{rules, ap, sym, ◌≡◌, ◌≤◌, sum}
 use Rattle.pull_system.specs.System.{SystemView}
 use Rattle.pull_system.specs.Rows.{row_at}
 use Rattle.bound_table.proofs.Allowed.{bounds_along}
-use Rattle.bound_table.proofs.Floors.{follows_trans, row_follows, row_sum}
-use Rattle.bound_table.proofs.Seeing.{follows_along, least_along, lent_asking, fewer_looks}
+use Rattle.bound_table.proofs.Claiming.{keeps_refl}
+use Rattle.bound_table.proofs.Floors.{row_follows, row_sum}
+use Rattle.bound_table.proofs.Settling.{settling_trans}
+use Rattle.bound_table.proofs.Seeing.{follows_along, least_swap, lent_asking, fewer_looks}
 use Rattle.bound_table.proofs.table.BoundTable.settle_after.Goals as goal
 
-pub lend_row-requires-clause-follows : goal.lend_row-requires-clause-follows
-lend_row-requires-clause-follows g c =
-    let system : SystemView = c.args.self.now.system in
-    row_follows system c.args.row _ _ c.requires.row (bounds_along _ _ _ _ (search rules) (search rules) c.bounds.ensures) c.requires.looked
+pub lend_row-requires-clause-settling : goal.lend_row-requires-clause-settling
+lend_row-requires-clause-settling g c =
+    let from = c.requires.from in record {
+      system = search rules;
+      fits = from.fits;
+      there = from.rows.second;
+      keeps = keeps_refl _;
+      follows = row_follows c.args.self.now.system c.args.row _ _ from.rows.second (bounds_along _ _ _ _ (search rules) (search rules) c.bounds.ensures) from.looked;
+    }
 
-pub close_row-requires-clause-asking : goal.close_row-requires-clause-asking
-close_row-requires-clause-asking g c =
-    lent_asking c.args.self.now.system c.args.row _ _ _ _ c.requires.vector c.requires.closed c.lend_row.ensures.follows c.lend_row.ensures.reaches
+pub close_row-requires : goal.close_row-requires
+close_row-requires g c =
+    record { asking = lent_asking _ _ _ _ _ _ c.requires.from.vector c.requires.from.closed c.lend_row.ensures.settling c.lend_row.ensures.reaches }
 
 pub returns-clause-follows : goal.returns-clause-follows
 returns-clause-follows g c =
-    let system : SystemView = c.args.self.now.system in
-    follows_along system c.args.row _ _ _ _ c.close_row.ensures.same (follows_trans system c.args.row _ _ _ _ _ c.lend_row.ensures.follows c.close_row.ensures.follows)
+    follows_along c.args.self.now.system c.args.row _ _ _ _ (sym c.close_row.ensures.least.same) (settling_trans _ _ _ _ _ _ _ c.lend_row.ensures.settling c.close_row.ensures.settling).follows
 
 pub returns-clause-least : goal.returns-clause-least
 returns-clause-least g c =
-    least_along c.args.self.now.system c.args.row _ _ c.close_row.ensures.same c.close_row.ensures.least
+    least_swap _ _ _ _ c.close_row.ensures.least
 
 pub returns-clause-looks : goal.returns-clause-looks
 returns-clause-looks g c =
     let system : SystemView = c.args.self.now.system in
     let bounds = bounds_along _ system _ c.args.seat.now.floor (search rules) (search rules) c.bounds.ensures in
-    let before : sum (row_at system.lens c.args.seat.now.floor c.args.row) ≤ sum c.lend_row.new.vector = row_sum system c.args.row _ _ _ c.requires.row bounds c.lend_row.ensures.follows in
-    let same : sum c.close_row.new.seen ≡ sum c.close_row.new.vector = ap sum (sym c.close_row.ensures.same) in
+    let before : sum (row_at system.lens c.args.seat.now.floor c.args.row) ≤ sum c.lend_row.new.vector = row_sum system c.args.row _ _ _ c.requires.from.rows.second bounds c.lend_row.ensures.settling.follows in
+    let same : sum c.close_row.new.seen ≡ sum c.close_row.new.vector = ap sum c.close_row.ensures.least.same in
     rw same (fewer_looks _ _ _ _ _ _ c.close_row.ensures.looks before)
 
 pub returns-clause-pays : goal.returns-clause-pays
 returns-clause-pays g c =
-    let same : sum c.close_row.new.seen ≡ sum c.close_row.new.vector = ap sum (sym c.close_row.ensures.same) in
+    let same : sum c.close_row.new.seen ≡ sum c.close_row.new.vector = ap sum c.close_row.ensures.least.same in
     rw same c.close_row.ensures.pays

@@ -23,11 +23,11 @@ pub returns-clause-ok : goal.returns-clause-ok
 returns-clause-ok g c aim j is fit =
     let k = closing_of (λ h. (goal.Watch-dyn g (h.watch.vtable, h.watch.value)).answers h.watch.value) aim j c.args.last c.args.self.now c.in-Some.session is fit c.if-self.false c.in-Some.is in
     closes_now (λ h. (goal.Watch-dyn g (h.watch.vtable, h.watch.value)).answers h.watch.value) aim j c.args.last c.args.self.now c.in-Some.session c.replace-batch.result
-    is fit c.if-self.false c.in-Some.is c.replace-batch.ensures.value c.observe.new.self c.in-Ok.ensures.ok.1 c.in-Ok.ensures.ok.2 c.in-Ok.ensures.unspent (λ handed before. c.in-Ok.ensures.since_start handed before)
-    (c.in-Ok.ensures.answers k.watches.handed (reading_of aim) k.watches.fed k.watches.answers) c.saturating_add-self.result c.saturating_add-self.ensures c.replace-batch.new.dest (c.replace-batch.ensures.after ∙ c.new.ensures)
+    is fit c.if-self.false c.in-Some.is c.replace-batch.ensures.value c.observe.new.self c.in-Ok.ensures.ok.free c.in-Ok.ensures.ok.takes c.in-Ok.ensures.ok.unspent c.in-Ok.ensures.ok.since_start
+    (c.in-Ok.ensures.ok.answers k.watches.handed (reading_of aim) k.watches.fed k.watches.answers) c.saturating_add-self.result c.saturating_add-self.ensures c.replace-batch.new.dest (c.replace-batch.ensures.after ∙ c.new.ensures)
 
 pub returns-in-Err-Fault-clause-fault : goal.returns-in-Err-Fault-clause-fault
 returns-in-Err-Fault-clause-fault g c aim j is fit =
     let told = of_fault (Unit {0}) _ c.in-Err-Fault.field-0 c.in-Err-Fault.fault c.in-Err-Fault.field-0-is c.in-Err-Fault.ensures.fault in
     close_refuses (λ h. (goal.Watch-dyn g (h.watch.vtable, h.watch.value)).answers h.watch.value) aim j c.args.last c.args.self.now c.in-Some.session c.replace-batch.result
-    is fit c.if-self.false c.in-Some.is c.replace-batch.ensures.value c.in-Err-Fault.fault told.1
+    is fit c.if-self.false c.in-Some.is c.replace-batch.ensures.value c.in-Err-Fault.fault told.found

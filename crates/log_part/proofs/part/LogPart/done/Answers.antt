@@ -9,4 +9,4 @@ returns-in-Some g c aim bytes is left faults now =
 
 pub returns : goal.returns
 returns g c aim bytes is left faults now =
-    subst (λ (o : Option Refusal). EndsLog (λ h. (goal.Watch-dyn g (h.watch.vtable, h.watch.value)).answers h.watch.value) aim c.args.self o bytes) c.in-None.is is
+    subst (λ (o : Option Refusal). EndsLog (λ h. (goal.Watch-dyn g (h.watch.vtable, h.watch.value)).answers h.watch.value) aim c.args.self o bytes) c.in_default.is is

@@ -1,8 +1,9 @@
-use Rattle.std.proofs.Common.{sym, subst}
-use Rattle.part_pulls.specs.declared.observed.Observed.{Observed}
-use Rattle.part_pulls.specs.Observing.{AreAnswers}
+use Rattle.std.proofs.Common.{ap}
+use Rattle.session.proofs.Still.{taken_still}
 use Rattle.session.proofs.session.Session.extend.Goals as goal
 
-pub returns-clause-answers : goal.returns-clause-answers
-returns-clause-answers g c = λ handed reading since as_handed.
-    subst (λ (s : Observed). AreAnswers s reading) (sym c.settle.ensures.seen) (c.in_ok-observe.ensures.answers handed reading since as_handed)
+pub returns-clause-ok : goal.returns-clause-ok
+returns-clause-ok g c =
+    let still = c.settle.ensures.still in
+    taken_still _ c.args.self.now.growing c.observe.new.self.growing c.settle.new.self.growing c.args.self.now.watches.items c.observe.new.self.watches.items c.settle.new.self.watches.items c.args.batch
+    c.in_ok-observe.ensures.ok still.seen (ap (λ v. v.items) still.boxes) still.disjuncts c.in_ok-settle.ensures.answer.unspent

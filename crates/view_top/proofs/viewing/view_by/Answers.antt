@@ -2,7 +2,7 @@ use Rattle.std.proofs.Common.{true, [], sym}
 use Rattle.event_log.specs.LogText.{onto}
 use Rattle.view_top.specs.Viewing.{log_in}
 use Rattle.view_top.proofs.Whole.{log_stops, end_due, no_trace, view_of, no_view_of}
-use Rattle.view_top.proofs.viewing.view_in.Goals as goal
+use Rattle.view_top.proofs.viewing.view_by.Goals as goal
 
 pub returns-in-Err-clause-fault : goal.returns-in-Err-clause-fault
 returns-in-Err-clause-fault c = log_stops c.args.end c.args.input.now c.in-Err.fault c.in-Err.ensures
