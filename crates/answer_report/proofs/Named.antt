@@ -14,7 +14,7 @@ use Rattle.event_log.specs.States.{AreWhole}
 use Rattle.event_log.proofs.NameNumbers.{names_are, number_again}
 use Rattle.trace_growth.specs.Growing.{IsTrace}
 use Rattle.vector_clock.proofs.Growth.{length-clocks_of}
-use Rattle.rctl_parts.specs.Spelled.{name_at}
+use Rattle.rctl_parts.specs.Spelled.{numbered_name}
 use Rattle.part_pulls.specs.declared.observed.Observed.{Observed}
 use Rattle.part_pulls.specs.Observing.{Reading, clocks_seen, run_seen, names_seen}
 
@@ -29,11 +29,11 @@ nameless ([] ∷ names) spelled = absurd (false≢true spelled.0)
 nameless ((b ∷ name) ∷ names) spelled = let rest = nameless names spelled.1 in omega (arith, rest)
 
 pub named : (seen : Observed) → IsTrace seen.trace.states → (reading : Reading) → AllByRecursion (λ n. is_name n ≡ true) seen.trace.states.header.procs
-    → (p : ℕ) → AreOfOneProcess (length (clocks_seen seen)) p ((run_seen seen reading).process (name_at (names_seen seen reading).processes p))
+    → (p : ℕ) → AreOfOneProcess (length (clocks_seen seen)) p ((run_seen seen reading).process (numbered_name (names_seen seen reading).processes p))
 named seen trace reading spelled p = elim (cases_lt p (length names)) [
   | inl there ↦ inl (sym (number_is ∙ number_again names p whole.header.distinct there))
   | inr past ↦
-      let none : name_at names p ≡ [] = get_or_past names p [] past in
+      let none : numbered_name names p ≡ [] = get_or_past names p [] past in
       let number = number_is ∙ ap (λ name. number_of name names) none ∙ nameless names spelled in
       inr (omega (arith, past, count), omega (arith, number, count))
 ]
@@ -44,8 +44,8 @@ named seen trace reading spelled p = elim (cases_lt p (length names)) [
     whole : AreWhole seen.trace.states
     whole = trace.whole
 
-    number_is : (run_seen seen reading).process (name_at names p) ≡ number_of (name_at names p) names
-    number_is = ap (number_of (name_at names p)) (names_are seen.trace.states whole.header.vars whole.events)
+    number_is : (run_seen seen reading).process (numbered_name names p) ≡ number_of (numbered_name names p) names
+    number_is = ap (number_of (numbered_name names p)) (names_are seen.trace.states whole.header.vars whole.events)
 
     count : length (clocks_seen seen) ≡ length names
     count = ap length trace.clocks ∙ length-clocks_of seen.trace.states.events ∙ whole.events

@@ -20,7 +20,7 @@ use Rattle.rctl_parts.specs.Exprs as expr
 use Rattle.rctl_parts.specs.Exprs.{Expr}
 use Rattle.rctl_parts.specs.Pieces as piece
 use Rattle.rctl_parts.specs.Pieces.{Atom, Piece, Pieces, atom, temporal, pieces, listed}
-use Rattle.rctl_parts.specs.Spelled.{Names, name_at, formula_in, atom_formula, operated, formula_of, formulas_of}
+use Rattle.rctl_parts.specs.Spelled.{Names, numbered_name, formula_in, atom_formula, operated, formula_of, formulas_of}
 use Rattle.rctl_parts.proofs.Spelling.{pieces-listed}
 use Rattle.rctl_class.specs.Classed as class
 use Rattle.rctl_class.specs.Classed.{MeanTheSame, Head, head_of, HaveOneHead, Alike}
@@ -86,7 +86,7 @@ operands_fit seen (p ∷ places) (a ∷ parts) h = (operand_fits seen p.piece a.
 pub record IsReadIn (seen : Observed) (reading : Reading) : Type 0 where
   pub order : IsOrder (clocks_seen seen)
   pub are : AreAnswers seen reading
-  pub named : (p : ℕ) → AreOfOneProcess (length (clocks_seen seen)) p ((run_seen seen reading).process (name_at (names_seen seen reading).processes p))
+  pub named : (p : ℕ) → AreOfOneProcess (length (clocks_seen seen)) p ((run_seen seen reading).process (numbered_name (names_seen seen reading).processes p))
 
 no_operator_in : (variables watches : List Name) (process : Name) (e : Expr) → head_of (formula_in variables watches process e) ≡ class.bare
 no_operator_in variables watches process (expr.truth value) = refl
@@ -142,12 +142,12 @@ by_head r h (model.Until all left right) w same is = by_bare r h w same is
 
 -- the witness by a slice that stands for the family of what means the same as the operand
 by_slice : (r : Run) (names : Names) (op : Operator) (s : SliceView) (g : Formula) → ((f : Formula) → MeanTheSame g f → StandsFor r.clocks (slice_of s) (Family r f))
-    → ((p : ℕ) → AreOfOneProcess (length r.clocks) p (r.process (name_at names.processes p)))
+    → ((p : ℕ) → AreOfOneProcess (length r.clocks) p (r.process (numbered_name names.processes p)))
     → (w : witness.Witness) → IsGivenFor r.clocks (Some op) (Some s) w → WitnessBy r (head_of (operated names op g)) w
 by_slice r names operator.Ef s g stands named w h = λ f same. (slice_of s, stands f same, h)
 by_slice r names operator.Ag s g stands named w h = λ f same. (slice_of s, stands f same, h)
 by_slice r names operator.Eg s g stands named w h = λ f same. (slice_of s, stands f same, h)
-by_slice r names (operator.Ex p) s g stands named w h = λ f same. (slice_of s, stands f same, same_next r.clocks (slice_of s) p (r.process (name_at names.processes p)) (named p) w h)
+by_slice r names (operator.Ex p) s g stands named w h = λ f same. (slice_of s, stands f same, same_next r.clocks (slice_of s) p (r.process (numbered_name names.processes p)) (named p) w h)
 by_slice r names operator.Af s g stands named w h = λ f same. h
 by_slice r names operator.Ax s g stands named w h = λ f same. h
 

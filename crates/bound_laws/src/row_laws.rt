@@ -2,7 +2,7 @@
 ghost use Rattle.std.specs.Prelude.{◌≡◌, ℕ, ◌<◌, ◌≤◌, nat_le, true, List, length};
 ghost use Rattle.pota_base.specs.declared.shape.EventId.{EventId};
 ghost use Rattle.pota_base.specs.Shape.{HasEvent, row_of};
-ghost use Rattle.pull_system.specs.Vector.{IsWithin};
+ghost use Rattle.pull_system.specs.Vector.{IsAtMost};
 ghost use Rattle.pull_system.specs.System.{SystemView};
 ghost use Rattle.pull_system.specs.Rows.{IsLeast, start_of, starts, place_of};
 ghost use Rattle.raise_machine.specs.Bounds.{AreBounds, IsBound, has_start, word_at};
@@ -17,7 +17,7 @@ pub fn starts_are_bounds()
 /// may borrow from the bottom's.
 pub fn rows_that_may_lend()
     ensures least { (system : SystemView) (row other : ℕ) (v w : List ℕ) → IsLeast system row v
-        → IsLeast system other w → IsWithin (start_of system.lens other) v → IsWithin w v }
+        → IsLeast system other w → IsAtMost (start_of system.lens other) v → IsAtMost w v }
     ensures lends { (system : SystemView) (words : List ℕ) → AreBounds system words
         → (row other process : ℕ) → process < length system.lens
         → has_start system.lens words row other ≡ true

@@ -3,7 +3,7 @@ use Rattle.std.proofs.Common.{◌≡◌, ℕ, ◌+◌, ◌*◌, ◌<◌, ◌≤�
 use Rattle.std.proofs.lemmas.List.{length-set, get_or_past, ext_get_or}
 use Rattle.std.proofs.lemmas.Nat.{same_from_place}
 use Rattle.std.proofs.Math.Nat.{mul-le-mul_left}
-use Rattle.pull_system.specs.Vector.{IsWithin}
+use Rattle.pull_system.specs.Vector.{IsAtMost}
 use Rattle.pull_system.specs.System.{SystemView, IsSystem}
 use Rattle.pull_system.specs.Rows.{start_of, place_of, row_at}
 use Rattle.pull_system.specs.Climb.{IsBelowLeast}
@@ -22,13 +22,13 @@ keeps_set lens floor row process m there = record {
   ];
 }
 
-pub within_set : (floor : List ℕ) (place m : ℕ) → get_or floor place 0 ≤ m → IsWithin floor (set floor place m)
+pub within_set : (floor : List ℕ) (place m : ℕ) → get_or floor place 0 ≤ m → IsAtMost floor (set floor place m)
 within_set floor place m more = record { each = λ j. elim (set_case floor place m j 0) [ inl e ↦ omega (arith, e) | inr e ↦ omega (arith, e.1, ap (λ k. get_or floor k 0) e.0) ] }
 
 keeps_trans : (lens : List ℕ) (row : ℕ) (a b c : List ℕ) → KeepsOthers lens row a b → KeepsOthers lens row b c → KeepsOthers lens row a c
 keeps_trans lens row a b c first second = record { each = λ other p apart there. second.each other p apart there ∙ first.each other p apart there }
 
-pub within_trans : (a b c : List ℕ) → IsWithin a b → IsWithin b c → IsWithin a c
+pub within_trans : (a b c : List ℕ) → IsAtMost a b → IsAtMost b c → IsAtMost a c
 within_trans a b c first second = record { each = λ i. omega (arith, first.each i, second.each i) }
 
 pub follows_none : (system : SystemView) (row : ℕ) (floor v : List ℕ) → length v ≡ length system.lens → AreBounds system floor → FollowsFirst system row 0 floor floor v
@@ -74,7 +74,7 @@ follows_set system row count count_now process m old floor floor_now v v_now row
   size = ap (λ x. length x) same_v ∙ length-set v process m ∙ follows.size;
   each = λ p below. ap (λ x. get_or x p 0) same_v ∙ set_each system row process m p floor v row_there there (omega (arith, below)) bounds_before follows.size (known p (cover p below)) ∙ sym (ap (λ x. word_at system.lens x row p) same_floor);
   others = keeps_trans system.lens row old floor floor_now follows.others (let P : List ℕ → Type 0 = KeepsOthers system.lens row floor in subst P (sym same_floor) (keeps_set system.lens floor row process m there));
-  rises = within_trans old floor floor_now follows.rises (let P : List ℕ → Type 0 = IsWithin floor in subst P (sym same_floor) (within_set floor _ m more));
+  rises = within_trans old floor floor_now follows.rises (let P : List ℕ → Type 0 = IsAtMost floor in subst P (sym same_floor) (within_set floor _ m more));
   bounds = bounds;
 }
   where
@@ -133,7 +133,7 @@ follows_below system is row a b v row_there follows = record {
     start_past i past = get_or_past (start_of system.lens row) i 0 (omega (arith, length-start_of system.lens row))
 
 -- a vector that follows a row only rises
-pub follows_rises : (system : SystemView) (row : ℕ) (a b c v w : List ℕ) → Follows system row a b v → Follows system row b c w → IsWithin v w
+pub follows_rises : (system : SystemView) (row : ℕ) (a b c v w : List ℕ) → Follows system row a b v → Follows system row b c w → IsAtMost v w
 follows_rises system row a b c v w first second = record {
   each = λ i. elim (lt_or_le i (length system.lens)) [
     | inl there ↦ omega (arith, first.each i there, second.each i there, second.rises.each (place_of system.lens row i))

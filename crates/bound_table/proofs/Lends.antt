@@ -2,7 +2,7 @@
 use Rattle.std.proofs.Common.{◌≡◌, ◌≢◌, ℕ, ◌+◌, ◌*◌, ◌<◌, ◌≤◌, inl, inr, List, true, length, get_or, set, sum, take, refl, arith, sym, ap, ◌∙◌, subst, get_or-set_same}
 use Rattle.std.proofs.lemmas.Nat.{same_from_place}
 use Rattle.std.proofs.lemmas.List.Sums.{sum_by_more_le}
-use Rattle.pull_system.specs.Vector.{IsWithin}
+use Rattle.pull_system.specs.Vector.{IsAtMost}
 use Rattle.pull_system.specs.System.{SystemView}
 use Rattle.pull_system.specs.Rows.{start_of, place_of}
 use Rattle.pull_system.proofs.Climbing.{set_case}
@@ -14,11 +14,11 @@ use Rattle.bound_table.proofs.Moves.{set_both}
 use Rattle.bound_table.proofs.Floors.{within_set, within_trans, place_there, within_one}
 
 -- a floor that rises keeps the event that it has
-pub has_start_more : (lens words more : List ℕ) (row other : ℕ) → IsWithin words more → has_start lens words row other ≡ true → has_start lens more row other ≡ true
+pub has_start_more : (lens words more : List ℕ) (row other : ℕ) → IsAtMost words more → has_start lens words row other ≡ true → has_start lens more row other ≡ true
 has_start_more lens words more row other within start =
     covers_row lens more (start_of lens other) row (length-start_of lens other) (λ i there. omega (arith, has_start-true lens words row other start i there, within.each (place_of lens row i)))
 
-pub may_lend_more : (lens words more : List ℕ) (row other : ℕ) (lent : List ℕ) → IsWithin words more → MayLend lens words row other lent → MayLend lens more row other lent
+pub may_lend_more : (lens words more : List ℕ) (row other : ℕ) (lent : List ℕ) → IsAtMost words more → MayLend lens words row other lent → MayLend lens more row other lent
 may_lend_more lens words more row other lent within may = record {
   there = may.there;
   size = may.size;
@@ -30,8 +30,8 @@ may_lend_more lens words more row other lent within may = record {
 pub reached : (words : List ℕ) (place m : ℕ) → place < length words → get_or (set words place m) place 0 ≡ m
 reached words place m there = get_or-set_same words place m 0 there
 
-pub set_within : (words now : List ℕ) (place m : ℕ) → now ≡ set words place m → get_or words place 0 ≤ m → IsWithin words now
-set_within words now place m same more = let P : List ℕ → Type 0 = IsWithin words in subst P (sym same) (within_set words place m more)
+pub set_within : (words now : List ℕ) (place m : ℕ) → now ≡ set words place m → get_or words place 0 ≤ m → IsAtMost words now
+set_within words now place m same more = let P : List ℕ → Type 0 = IsAtMost words in subst P (sym same) (within_set words place m more)
 
 -- a word of another row, or of another process, is as it was
 apart_set : (lens words : List ℕ) (row process m other p : ℕ) → process < length lens → p < length lens → ((other ≡ row) × (p ≡ process) → ⊥) → word_at lens (set words (place_of lens row process) m) other p ≡ word_at lens words other p
@@ -55,7 +55,7 @@ pub record LendsAt (lens before read lent : List ℕ) (from_row to_row process y
   pub reaches : y ≤ z
 
 module _ (lens before read lent : List ℕ) (from_row to_row process y z : ℕ) (at : LendsAt lens before read lent from_row to_row process y z) where
-  pub lends_within : IsWithin before lent
+  pub lends_within : IsAtMost before lent
   lends_within = within_trans before read lent (set_within before read _ y at.read_is at.read_more) (set_within read lent _ z at.lent_is at.lent_more)
 
   pub lends_others : (row p : ℕ) → row ≢ from_row → row ≢ to_row → p < length lens → word_at lens lent row p ≡ word_at lens before row p

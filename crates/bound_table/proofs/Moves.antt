@@ -8,17 +8,17 @@ use Rattle.atomic_table.specs.Table.{State, Me, step, keeps, Allows, Splits, Joi
 use Rattle.atomic_table.proofs.Lists.{at_set, at_snoc, set_again}
 use Rattle.std.proofs.Math.Nat.{mul-le-mul_left}
 use Rattle.pota_base.specs.Shape.{IsShape}
-use Rattle.pull_system.specs.Vector.{IsWithin, IsMaximum}
+use Rattle.pull_system.specs.Vector.{IsAtMost, IsMaximum}
 use Rattle.pull_system.specs.System.{SystemView}
 use Rattle.pull_system.proofs.Climbing.{set_case}
 use Rattle.raise_machine.specs.Bounds.{IsBound, AreBounds}
 use Rattle.raise_machine.proofs.Raising.{bounds_set, bound_max, bound_less}
-use Rattle.bound_table.specs.declared.seat.Known.{Known}
-use Rattle.bound_table.specs.Kept.{larger}
-use Rattle.bound_table.specs.Rule.{word_count, Fits, IsKept, Kept, IsSound, with_floor, opened, nobody, together, Looked, IsMachineStep, Lifted}
+use Rattle.bound_table.specs.declared.seat.SeenBounds.{SeenBounds}
+use Rattle.bound_table.specs.BoundsHold.{larger}
+use Rattle.bound_table.specs.Rule.{word_count, Fits, HasBounds, BoundsHold, IsSound, with_floor, opened, nobody, together, Looked, IsMachineStep, Lifted}
 
 -- a list with one number put in a place, and another in the same place of a list above it
-pub set_both : (xs ys : List ℕ) (i m n : ℕ) → IsWithin xs ys → m ≤ n → length xs ≡ length ys → (j : ℕ) → get_or (set xs i m) j 0 ≤ get_or (set ys i n) j 0
+pub set_both : (xs ys : List ℕ) (i m n : ℕ) → IsAtMost xs ys → m ≤ n → length xs ≡ length ys → (j : ℕ) → get_or (set xs i m) j 0 ≤ get_or (set ys i n) j 0
 set_both [] [] i m n within less size j = omega arith
 set_both [] (y ∷ ys) i m n within less size j = absurd (omega arith)
 set_both (x ∷ xs) [] i m n within less size j = absurd (omega arith)
@@ -31,7 +31,7 @@ set_above : (xs : List ℕ) (i m : ℕ) → get_or xs i 0 ≤ m → (j : ℕ) �
 set_above xs i m more j = elim (set_case xs i m j 0) [ inl e ↦ omega (arith, e) | inr e ↦ omega (arith, e.1, ap (λ k. get_or xs k 0) e.0) ]
 
 -- the floor of a view that fits lies between the starts and the least closed vectors
-fits_sound : (system : SystemView) (words : List ℕ) (v : Known) → AreBounds system words → Fits system words v → AreBounds system v.floor
+fits_sound : (system : SystemView) (words : List ℕ) (v : SeenBounds) → AreBounds system words → Fits system words v → AreBounds system v.floor
 fits_sound system words v bounds fits = record {
   size = fits.size ∙ bounds.size;
   above = fits.above;
@@ -39,12 +39,12 @@ fits_sound system words v bounds fits = record {
 }
 
 -- The word i becomes m, no less than it was and a bound, and the floor of the seat that steps says so.
-pub steps : (system : SystemView) (words : List ℕ) (views : List Known) (id : ℕ) (v : Known) (i m : ℕ) → IsKept system words views → get_elem? views id ≡ some v → v.live ≡ true
-    → get_or words i 0 ≤ m → IsBound system i m → IsKept system (set words i m) (set views id (with_floor v (set v.floor i m)))
+pub steps : (system : SystemView) (words : List ℕ) (views : List SeenBounds) (id : ℕ) (v : SeenBounds) (i m : ℕ) → HasBounds system words views → get_elem? views id ≡ some v → v.live ≡ true
+    → get_or words i 0 ≤ m → IsBound system i m → HasBounds system (set words i m) (set views id (with_floor v (set v.floor i m)))
 steps system words views id v i m kept here live more bound = record {
   bounds = bounds_set system words i m kept.bounds more bound;
   fits = λ j u at alive. elim (at_set views id j (with_floor v (set v.floor i m)) u at) [
-    | inl mine ↦ let P : Known → Type 0 = Fits system (set words i m) in subst P mine.1 own
+    | inl mine ↦ let P : SeenBounds → Type 0 = Fits system (set words i m) in subst P mine.1 own
     | inr other ↦ others u (kept.fits j u other.1 alive)
   ];
 }
@@ -60,7 +60,7 @@ steps system words views id v i m kept here live more bound = record {
       below = record { each = set_both v.floor words i m m before.below (omega arith) before.size };
     }
 
-    others : (u : Known) → Fits system words u → Fits system (set words i m) u
+    others : (u : SeenBounds) → Fits system words u → Fits system (set words i m) u
     others u fits = record {
       one_system = fits.one_system;
       size = fits.size ∙ sym (length-set words i m);
@@ -69,26 +69,26 @@ steps system words views id v i m kept here live more bound = record {
     }
 
 -- the same in the table, whose bounds may have other words behind them
-steps_table : (system : SystemView) (s : State (Unit {0}) Known) (id : ℕ) (v : Known) (i m : ℕ) → Kept system s → get_elem? s.views id ≡ some v → v.live ≡ true → i < word_count system.lens
-    → get_or s.words i 0 ≤ m → IsBound system i m → IsKept system (take (word_count system.lens) (set s.words i m)) (set s.views id (with_floor v (set v.floor i m)))
+steps_table : (system : SystemView) (s : State (Unit {0}) SeenBounds) (id : ℕ) (v : SeenBounds) (i m : ℕ) → BoundsHold system s → get_elem? s.views id ≡ some v → v.live ≡ true → i < word_count system.lens
+    → get_or s.words i 0 ≤ m → IsBound system i m → HasBounds system (take (word_count system.lens) (set s.words i m)) (set s.views id (with_floor v (set v.floor i m)))
 steps_table system s id v i m kept here live there more bound =
-    let P : List ℕ → Type 0 = λ words. IsKept system words (set s.views id (with_floor v (set v.floor i m))) in
+    let P : List ℕ → Type 0 = λ words. HasBounds system words (set s.views id (with_floor v (set v.floor i m))) in
     subst P (sym (take-set-lt (word_count system.lens) s.words i m there))
     (steps system (take (word_count system.lens) s.words) s.views id v i m kept here live (omega (arith, get_or-take (word_count system.lens) s.words i 0 there)) bound)
 
-word_bound : (system : SystemView) (s : State (Unit {0}) Known) (i : ℕ) → Kept system s → i < word_count system.lens → IsBound system i (get_or s.words i 0)
+word_bound : (system : SystemView) (s : State (Unit {0}) SeenBounds) (i : ℕ) → BoundsHold system s → i < word_count system.lens → IsBound system i (get_or s.words i 0)
 word_bound system s i kept there = let P : ℕ → Type 0 = IsBound system i in subst P (get_or-take (word_count system.lens) s.words i 0 there) (kept.bounds.below i)
 
 -- what the seat's floor is afterwards lies between the starts and the least closed vectors
-stays_sound : (system : SystemView) (v : Known) (i m : ℕ) → v.system ≡ system → IsSound v → get_or v.floor i 0 ≤ m → IsBound system i m → IsSound (with_floor v (set v.floor i m))
+stays_sound : (system : SystemView) (v : SeenBounds) (i m : ℕ) → v.system ≡ system → IsSound v → get_or v.floor i 0 ≤ m → IsBound system i m → IsSound (with_floor v (set v.floor i m))
 stays_sound system v i m one sound more bound = record { live = sound.live; floor = bounds_set v.system v.floor i m sound.floor more (let P : SystemView → Type 0 = λ s. IsBound s i m in subst P (sym one) bound) }
 
-below_word : (system : SystemView) (s : State (Unit {0}) Known) (id : ℕ) (v : Known) (i : ℕ) → Kept system s → get_elem? s.views id ≡ some v → v.live ≡ true → i < word_count system.lens → get_or v.floor i 0 ≤ get_or s.words i 0
+below_word : (system : SystemView) (s : State (Unit {0}) SeenBounds) (id : ℕ) (v : SeenBounds) (i : ℕ) → BoundsHold system s → get_elem? s.views id ≡ some v → v.live ≡ true → i < word_count system.lens → get_or v.floor i 0 ≤ get_or s.words i 0
 below_word system s id v i kept here live there = omega (arith, (kept.fits id v here live).below.each i, get_or-take (word_count system.lens) s.words i 0 there)
 
 -- a load keeps the rule
-pub looks : (system : SystemView) (slots id : ℕ) (me : Me (Unit {0}) Known) (i : ℕ) → me.0.system ≡ system → IsSound me.0 → i < word_count system.lens
-    → Allows (Kept system) slots id me i (λ n. n) (Looked (step slots i 0 0 none) me)
+pub looks : (system : SystemView) (slots id : ℕ) (me : Me (Unit {0}) SeenBounds) (i : ℕ) → me.0.system ≡ system → IsSound me.0 → i < word_count system.lens
+    → Allows (BoundsHold system) slots id me i (λ n. n) (Looked (step slots i 0 0 none) me)
 looks system slots id me i one sound there s kept homes here fits =
     let n = get_or s.words i 0 in
     let more = below_word system s id me.0 i kept here sound.live there in
@@ -101,8 +101,8 @@ looks system slots id me i one sound there s kept homes here fits =
     )
 
 -- a raise to a bound keeps the rule
-pub lifts : (system : SystemView) (slots id : ℕ) (me : Me (Unit {0}) Known) (i value : ℕ) → me.0.system ≡ system → IsSound me.0 → i < word_count system.lens → IsMachineStep me.0.system me.0.floor i value → IsBound system i value
-    → Allows (Kept system) slots id me i (λ n. max n value) (Lifted (step slots i value 0 none) me)
+pub lifts : (system : SystemView) (slots id : ℕ) (me : Me (Unit {0}) SeenBounds) (i value : ℕ) → me.0.system ≡ system → IsSound me.0 → i < word_count system.lens → IsMachineStep me.0.system me.0.floor i value → IsBound system i value
+    → Allows (BoundsHold system) slots id me i (λ n. max n value) (Lifted (step slots i value 0 none) me)
 lifts system slots id me i value one sound there machine asked s kept homes here fits =
     let n = max (get_or s.words i 0) value in
     let more : get_or me.0.floor i 0 ≤ n = omega (arith, below_word system s id me.0 i kept here sound.live there) in
@@ -115,12 +115,12 @@ lifts system slots id me i value one sound there machine asked s kept homes here
     )
 
 -- a second seat that knows the same keeps the rule
-pub splits : (system : SystemView) (id : ℕ) (v : Known) → Splits (Kept system) id v v v
+pub splits : (system : SystemView) (id : ℕ) (v : SeenBounds) → Splits (BoundsHold system) id v v v
 splits system id v s kept here = record {
   bounds = kept.bounds;
   fits = λ j u at alive. elim (at_snoc (set s.views id v) v u j at) [
-    | inl before ↦ let P : List Known → Type 0 = λ views. get_elem? views j ≡ some u in kept.fits j u (subst P (set_again s.views id v here) before) alive
-    | inr new ↦ let P : Known → Type 0 = Fits system (take (word_count system.lens) s.words) in let Q : Known → Type 0 = λ w. w.live ≡ true in subst P new (kept.fits id v here (subst Q (sym new) alive))
+    | inl before ↦ let P : List SeenBounds → Type 0 = λ views. get_elem? views j ≡ some u in kept.fits j u (subst P (set_again s.views id v here) before) alive
+    | inr new ↦ let P : SeenBounds → Type 0 = Fits system (take (word_count system.lens) s.words) in let Q : SeenBounds → Type 0 = λ w. w.live ≡ true in subst P new (kept.fits id v here (subst Q (sym new) alive))
   ];
 }
 
@@ -137,14 +137,14 @@ length-larger (x ∷ xs) [] size = refl
 length-larger (x ∷ xs) (y ∷ ys) size = ap (λ n. suc n) (length-larger xs ys (omega arith))
 
 -- a seat that takes in what another knows keeps the rule
-pub meets : (system : SystemView) (id other : ℕ) (v w : Known) → v.live ≡ true → w.live ≡ true → Joins (Kept system) id v other w (together v w) nobody
+pub meets : (system : SystemView) (id other : ℕ) (v w : SeenBounds) → v.live ≡ true → w.live ≡ true → Joins (BoundsHold system) id v other w (together v w) nobody
 meets system id other v w live_v live_w s kept here apart there = record {
   bounds = kept.bounds;
   fits = λ j u at alive. elim (at_set (set s.views id (together v w)) other j nobody u at) [
-    | inl spent ↦ let Q : Known → Type 0 = λ x. x.live ≡ true in let e : false ≡ true = subst Q (sym spent.1) alive in absurd (cc)
+    | inl spent ↦ let Q : SeenBounds → Type 0 = λ x. x.live ≡ true in let e : false ≡ true = subst Q (sym spent.1) alive in absurd (cc)
     | inr left ↦
         elim (at_set s.views id j (together v w) u left.1) [
-          | inl mine ↦ let P : Known → Type 0 = Fits system (take (word_count system.lens) s.words) in subst P mine.1 both
+          | inl mine ↦ let P : SeenBounds → Type 0 = Fits system (take (word_count system.lens) s.words) in subst P mine.1 both
           | inr before ↦ kept.fits j u before.1 alive
         ]
   ];
@@ -169,15 +169,15 @@ meets system id other v w live_v live_w s kept here apart there = record {
     }
 
 -- the table and its first seat begin by the rule
-pub starts_kept : (system : SystemView) (floor : List ℕ) → AreBounds system floor → Kept system (opening floor [] (opened system floor))
+pub starts_kept : (system : SystemView) (floor : List ℕ) → AreBounds system floor → BoundsHold system (opening floor [] (opened system floor))
 starts_kept system floor bounds =
     let whole : take (word_count system.lens) floor ≡ floor = take_all (word_count system.lens) floor (omega (arith, bounds.size)) in
-    let P : List ℕ → Type 0 = λ words. IsKept system words (opened system floor ∷ []) in
+    let P : List ℕ → Type 0 = λ words. HasBounds system words (opened system floor ∷ []) in
     subst P (sym whole) record { bounds = bounds; fits = λ j u at alive. first j u at }
   where
-    first : (j : ℕ) (u : Known) → get_elem? (opened system floor ∷ []) j ≡ some u → Fits system floor u
+    first : (j : ℕ) (u : SeenBounds) → get_elem? (opened system floor ∷ []) j ≡ some u → Fits system floor u
     first zero u at =
-        let P : Known → Type 0 = Fits system floor in
+        let P : SeenBounds → Type 0 = Fits system floor in
         subst P (some-injective (opened system floor) u at) record { one_system = refl; size = refl; above = bounds.above; below = record { each = λ i. omega arith } }
     first (suc j) u at = absurd (some-ne-none u (sym at))
 
@@ -189,7 +189,7 @@ some_words lens shape = omega (arith, shape.some, mul-le-mul_left (sum lens + 1)
 pub few_words : (lens : List ℕ) → IsShape lens → word_count lens < 2 ^ 64
 few_words lens shape = omega (arith, shape.events, mul-le-mul_left (sum lens + 1) shape.few)
 
-pub together_sound : (v w : Known) → v.system ≡ w.system → IsSound v → IsSound w → IsSound (together v w)
+pub together_sound : (v w : SeenBounds) → v.system ≡ w.system → IsSound v → IsSound w → IsSound (together v w)
 together_sound v w one sound_v sound_w = record {
   live = sound_v.live;
   floor = record {

@@ -3,7 +3,7 @@ use Rattle.std.proofs.Common.{◌≡◌, ℕ, zero, suc, ◌+◌, ◌*◌, ◌/�
 use Rattle.std.proofs.lemmas.List.{length-set, get_or_past, ext_get_or}
 use Rattle.std.proofs.Math.Nat.{mul-le-mul_left, mod-lt}
 use Rattle.std.proofs.lemmas.Nat.{div-add-mod'}
-use Rattle.pull_system.specs.Vector.{IsWithin, IsVector}
+use Rattle.pull_system.specs.Vector.{IsAtMost, IsVector}
 use Rattle.pull_system.specs.declared.pull.Pull.{Pull}
 use Rattle.pull_system.specs.System.{SystemView, IsSystem, IsPull, IsClosed, HoldsPull, source_of, target_of, ask, pull_at, numbers_from}
 use Rattle.pull_system.proofs.Asking.{pulls_from_first}
@@ -92,7 +92,7 @@ settling_raised table row process number became a b c v v_now settling there kee
   follows = follows_raised table.system row process number became a.floor b.floor c.floor v v_now settling.there settling.follows there raised same;
 }
 
-pub raised_within_floor : (system : SystemView) (old new : List ℕ) (row process number became : ℕ) → IsRaised system old new row process number became → IsWithin old new
+pub raised_within_floor : (system : SystemView) (old new : List ℕ) (row process number became : ℕ) → IsRaised system old new row process number became → IsAtMost old new
 raised_within_floor system old new row process number became raised = set_within old new (place_of system.lens row process) became raised.floor raised.rises
 
 -- a pull that asks this of the row, where its source has reached the value, is a step of the machine
@@ -107,7 +107,7 @@ asked_step system is row process x target asked floor row_there less by = record
 }
 
 -- the pulls from one process were looked up at x
-pub hold_put : (system : SystemView) (count count_now process x : ℕ) (seen seen_now v w : List ℕ) → HoldSeen system count seen v → IsWithin v w → process < length seen → seen_now ≡ set seen process x
+pub hold_put : (system : SystemView) (count count_now process x : ℕ) (seen seen_now v w : List ℕ) → HoldSeen system count seen v → IsAtMost v w → process < length seen → seen_now ≡ set seen process x
     → ((k : ℕ) → k < length system.pulls → source_of system k ≡ process → ask system k x ≤ get_or w (target_of system k) 0) → ((p : ℕ) → p < count_now → (p ≡ process) ⊎ (p < count)) → HoldSeen system count_now seen_now w
 hold_put system count count_now process x seen seen_now v w held within there same holds cover = record {
   each = λ k k_there from. elim (set_case seen process x (source_of system k) 0) [
@@ -126,38 +126,38 @@ hold_put system count count_now process x seen seen_now v w held within there sa
         omega (arith, holds k k_there here, ap (λ n. ask system k n) read)
 
 -- a closed vector within another: each pull holds at what the first has of its source
-pub hold_lent : (system : SystemView) (count : ℕ) (seen v : List ℕ) → IsClosed system seen → IsWithin seen v → HoldSeen system count seen v
+pub hold_lent : (system : SystemView) (count : ℕ) (seen v : List ℕ) → IsClosed system seen → IsAtMost seen v → HoldSeen system count seen v
 hold_lent system count seen v closed within = record { each = λ k there from. omega (arith, closed.each k there, within.each (target_of system k)) }
 
 -- where nothing has risen since, each pull holds
-pub hold_all : (system : SystemView) → IsSystem system → (seen v : List ℕ) → HoldSeen system (length system.lens) seen v → IsWithin seen v → IsWithin v seen → (k : ℕ) → k < length system.pulls → HoldsPull system v k
+pub hold_all : (system : SystemView) → IsSystem system → (seen v : List ℕ) → HoldSeen system (length system.lens) seen v → IsAtMost seen v → IsAtMost v seen → (k : ℕ) → k < length system.pulls → HoldsPull system v k
 hold_all system is seen v held within back k there =
     let p : IsPull system.lens (pull_at system k) = pull-of system is k there in
     let same : get_or seen (source_of system k) 0 ≡ get_or v (source_of system k) 0 = omega (arith, within.each (source_of system k), back.each (source_of system k)) in
     omega (arith, held.each k there p.source, ap (λ n. ask system k n) same)
 
 -- what was seen equals the vector
-pub asking_same : (table : TableView) (row : ℕ) (old new : SeatView) (v seen : List ℕ) → IsAsking table row old new v seen → IsWithin v seen → seen ≡ v
+pub asking_same : (table : TableView) (row : ℕ) (old new : SeatView) (v seen : List ℕ) → IsAsking table row old new v seen → IsAtMost v seen → seen ≡ v
 asking_same table row old new v seen asking back =
     ext_get_or 0 seen v (omega (arith, asking.size, asking.settling.follows.size)) (λ i _. omega (arith, asking.within.each i, back.each i))
 
-pub put_within : (seen v w : List ℕ) (process x : ℕ) → IsWithin seen v → IsWithin v w → x ≤ get_or v process 0 → IsWithin (set seen process x) w
+pub put_within : (seen v w : List ℕ) (process x : ℕ) → IsAtMost seen v → IsAtMost v w → x ≤ get_or v process 0 → IsAtMost (set seen process x) w
 put_within seen v w process x within more less = record {
   each = λ i. elim (set_case seen process x i 0) [ inl e ↦ omega (arith, e, within.each i, more.each i) | inr e ↦ omega (arith, e.1, less, more.each i, ap (λ j. get_or v j 0) e.0) ];
 }
 
-pub within_put : (seen : List ℕ) (process x : ℕ) → get_or seen process 0 ≤ x → IsWithin seen (set seen process x)
+pub within_put : (seen : List ℕ) (process x : ℕ) → get_or seen process 0 ≤ x → IsAtMost seen (set seen process x)
 within_put seen process x less = record { each = λ i. elim (set_case seen process x i 0) [ inl e ↦ omega (arith, e) | inr e ↦ omega (arith, e.1, less, ap (λ j. get_or seen j 0) e.0) ] }
 
-pub within_refl : (v : List ℕ) → IsWithin v v
+pub within_refl : (v : List ℕ) → IsAtMost v v
 within_refl v = record { each = λ i. omega arith }
 
 -- the pulls from one process were looked up at what the vector has of it
 pub asking_put : (table : TableView) (row process x : ℕ) (a b c : SeatView) (v w seen seen_now : List ℕ) → IsAsking table row a b v seen → IsSettling table row b c w → process < length table.system.lens
     → x ≤ get_or v process 0 → seen_now ≡ set seen process x → ((k : ℕ) → k < length table.system.pulls → source_of table.system k ≡ process → ask table.system k x ≤ get_or w (target_of table.system k) 0) → IsAsking table row a c w seen_now
 asking_put table row process x a b c v w seen seen_now asking settling there less same holds =
-    let more : IsWithin v w = settling_rises table row a b c v w asking.settling settling in
-    let P : List ℕ → Type 0 = λ s. IsWithin s w in record {
+    let more : IsAtMost v w = settling_rises table row a b c v w asking.settling settling in
+    let P : List ℕ → Type 0 = λ s. IsAtMost s w in record {
       settling = settling_trans table row a b c v w asking.settling settling;
       size = ap length same ∙ length-set seen process x ∙ asking.size;
       within = subst P (sym same) (put_within seen v w process x asking.within more less);
@@ -171,7 +171,7 @@ pub asking_again : (table : TableView) (row : ℕ) (a b : SeatView) (v seen : Li
 asking_again table row a b v seen asking = record { settling = settling_again table row a b v asking.settling; size = asking.size; within = asking.within; held = asking.held }
 
 -- the numbers are at most these, and the pulls hold there
-pub asks_hold : (system : SystemView) (process x k : ℕ) (asks v : List ℕ) → AreAsks system process x asks → IsWithin asks v → k < length system.pulls → source_of system k ≡ process → ask system k x ≤ get_or v (target_of system k) 0
+pub asks_hold : (system : SystemView) (process x k : ℕ) (asks v : List ℕ) → AreAsks system process x asks → IsAtMost asks v → k < length system.pulls → source_of system k ≡ process → ask system k x ≤ get_or v (target_of system k) 0
 asks_hold system process x k asks v are within there from = omega (arith, are.covers k there from, within.each (target_of system k))
 
 pub list_same : (xs ys : List ℕ) (count : ℕ) → length xs ≡ length ys → length ys ≤ count → ((i : ℕ) → i < count → get_or xs i 0 ≡ get_or ys i 0) → xs ≡ ys
@@ -194,7 +194,7 @@ put_next R xs now p x there same before here i below =
           ]
     ])
 
-pub within_first : (xs ys : List ℕ) (count : ℕ) → length xs ≤ count → ((i : ℕ) → i < count → get_or xs i 0 ≤ get_or ys i 0) → IsWithin xs ys
+pub within_first : (xs ys : List ℕ) (count : ℕ) → length xs ≤ count → ((i : ℕ) → i < count → get_or xs i 0 ≤ get_or ys i 0) → IsAtMost xs ys
 within_first xs ys count size all = record { each = λ i. elim (lt_or_le i count) [ inl below ↦ all i below | inr past ↦ omega (arith, get_or_past xs i 0 (omega arith)) ] }
 
 pub follows_along : (system : SystemView) (row : ℕ) (old new v w : List ℕ) → v ≡ w → Follows system row old new v → Follows system row old new w
@@ -203,7 +203,7 @@ follows_along system row old new v w same follows = let P : List ℕ → Type 0 
 pub least_along : (system : SystemView) (row : ℕ) (v w : List ℕ) → v ≡ w → IsLeast system row v → IsLeast system row w
 least_along system row v w same least = let P : List ℕ → Type 0 = IsLeast system row in subst P same least
 
-pub within_sum : (xs ys : List ℕ) → length xs ≡ length ys → IsWithin xs ys → sum xs ≤ sum ys
+pub within_sum : (xs ys : List ℕ) → length xs ≡ length ys → IsAtMost xs ys → sum xs ≤ sum ys
 within_sum xs ys size within = sum-within xs ys size within.each
 
 -- the first looks, and then what rises
@@ -252,7 +252,7 @@ pub looks_more : (pulls start steps steps_now seen seen_now first : ℕ) → ste
 looks_more pulls start steps steps_now seen seen_now first pays before = omega arith
 
 -- a closed vector was lent to the row
-pub lent_asking : (table : TableView) (row : ℕ) (old new : SeatView) (lent v : List ℕ) → IsVector table.system.lens lent → IsClosed table.system lent → IsSettling table row old new v → IsWithin lent v → IsAsking table row new new v lent
+pub lent_asking : (table : TableView) (row : ℕ) (old new : SeatView) (lent v : List ℕ) → IsVector table.system.lens lent → IsClosed table.system lent → IsSettling table row old new v → IsAtMost lent v → IsAsking table row new new v lent
 lent_asking table row old new lent v vector closed settling within = record {
   settling = settling_again table row old new v settling;
   size = vector.size;
@@ -282,7 +282,7 @@ pub least_swap : (system : SystemView) (row : ℕ) (v w : List ℕ) → AreLeast
 least_swap system row v w are = record { least = least_along system row v w (sym are.same) are.least; same = sym are.same }
 
 -- where nothing has risen since, both vectors are the least of the row
-pub asking_done : (table : TableView) (row : ℕ) (old new : SeatView) (v seen : List ℕ) → IsAsking table row old new v seen → IsWithin v seen → AreLeast table.system row v seen
+pub asking_done : (table : TableView) (row : ℕ) (old new : SeatView) (v seen : List ℕ) → IsAsking table row old new v seen → IsAtMost v seen → AreLeast table.system row v seen
 asking_done table row old new v seen asking back =
     let settling = asking.settling in record {
       least = settled_least table.system (start_of table.system.lens row) v (settling_below table row old new v settling) (hold_all table.system settling.system seen v asking.held asking.within back);

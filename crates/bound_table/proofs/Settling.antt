@@ -1,6 +1,6 @@
 -- A row that is settled, call after call.
 use Rattle.std.proofs.Common.{ℕ, ◌+◌, ◌≤◌, List, get_or, arith, ◌∙◌}
-use Rattle.pull_system.specs.Vector.{IsWithin}
+use Rattle.pull_system.specs.Vector.{IsAtMost}
 use Rattle.pull_system.specs.Rows.{start_of}
 use Rattle.pull_system.specs.Climb.{IsBelowLeast}
 use Rattle.bound_table.specs.Views.{TableView, SeatView}
@@ -28,7 +28,7 @@ settling_again table row a b v settling = record {
 }
 
 -- the vector only rises
-pub settling_rises : (table : TableView) (row : ℕ) (a b c : SeatView) (v w : List ℕ) → IsSettling table row a b v → IsSettling table row b c w → IsWithin v w
+pub settling_rises : (table : TableView) (row : ℕ) (a b c : SeatView) (v w : List ℕ) → IsSettling table row a b v → IsSettling table row b c w → IsAtMost v w
 settling_rises table row a b c v w first second = follows_rises table.system row a.floor b.floor c.floor v w first.follows second.follows
 
 -- the vector is at or above the row's start, and within each closed vector of the row

@@ -2,7 +2,7 @@
 -- last.
 use Rattle.std.specs.Prelude.{◌≡◌, ℕ, ◌+◌, ◌*◌, ◌<◌, ◌≤◌, List, true, length, sum}
 use Rattle.std.specs.Prelude.{slice_index, slice_set}
-use Rattle.pull_system.specs.Vector.{IsWithin}
+use Rattle.pull_system.specs.Vector.{IsAtMost}
 use Rattle.pull_system.specs.System.{SystemView, IsSystem, source_of, target_of, ask}
 use Rattle.pull_system.specs.Rows.{place_of}
 use Rattle.raise_machine.specs.declared.step.Step.TheVariants.{Pull}
@@ -32,12 +32,12 @@ pub record IsAsking (table : TableView) (row : ℕ) (old new : SeatView) (v seen
     0 where
   pub settling : IsSettling table row old new v
   pub size : length seen ≡ length table.system.lens
-  pub within : IsWithin seen v
+  pub within : IsAtMost seen v
   pub held : HoldSeen table.system (length table.system.lens) seen v
 
 -- What was seen only rose, and by at least the count. Each look-up is paid for by what it rose.
 pub record SeesMore (pulls count steps steps_now : ℕ) (seen seen_now : List ℕ) : Type 0 where
-  pub kept : IsWithin seen seen_now
+  pub kept : IsAtMost seen seen_now
   pub rises : sum seen + count ≤ sum seen_now
   pub pays : steps_now + pulls * sum seen ≤ steps + pulls * sum seen_now
 

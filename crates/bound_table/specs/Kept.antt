@@ -1,6 +1,6 @@
 -- What a call leaves of a seat's floor.
 use Rattle.std.specs.Prelude.{◌≡◌, ◌≢◌, ℕ, ◌<◌, List, [], ◌∷◌, length, max, slice_index}
-use Rattle.pull_system.specs.Vector.{IsWithin}
+use Rattle.pull_system.specs.Vector.{IsAtMost}
 use Rattle.pull_system.specs.System.{SystemView}
 use Rattle.raise_machine.specs.Bounds.{AreBounds, word_at}
 
@@ -16,7 +16,7 @@ pub record FollowsFirst (system : SystemView) (row count : ℕ) (old new v : Lis
   pub each : (process : ℕ) → process < count
       → slice_index v process ≡ word_at system.lens new row process
   pub others : KeepsOthers system.lens row old new
-  pub rises : IsWithin old new
+  pub rises : IsAtMost old new
   pub bounds : AreBounds system new
 
 -- the vector is the row's floor, and what changed from the old floor is that this row rose

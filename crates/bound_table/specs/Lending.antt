@@ -7,7 +7,7 @@ use Rattle.raise_machine.specs.Bounds.{word_at, has_start}
 use Rattle.bound_table.specs.Views.{TableView, SeatView}
 
 -- both are rows
-pub record AreRows (lens : List ℕ) (row other : ℕ) : Type 0 where
+pub record AreBothRows (lens : List ℕ) (row other : ℕ) : Type 0 where
   pub first : row ≤ sum lens
   pub second : other ≤ sum lens
 
@@ -21,7 +21,7 @@ HasReached lens floor row v = (process : ℕ) → process < length lens
 pub record SettlesFrom (table : TableView) (seat : SeatView) (before row : ℕ) (words lent : List ℕ)
     : Type 0 where
   pub fits : seat.table ≡ table
-  pub rows : AreRows table.system.lens before row
+  pub rows : AreBothRows table.system.lens before row
   pub looked : words ≡ row_at table.system.lens seat.floor row
   pub vector : IsVector table.system.lens lent
   pub closed : IsClosed table.system lent

@@ -5,14 +5,14 @@ use Rattle.std.specs.Prelude.{slice_index, slice_set}
 use mathlib.Core.Option.{some}
 use lib.ListN.{get_elem?}
 use Rattle.atomic_table.specs.Table.{State, Me, Step}
-use Rattle.pull_system.specs.Vector.{IsWithin}
+use Rattle.pull_system.specs.Vector.{IsAtMost}
 use Rattle.pull_system.specs.Rows.{starts, place_of}
 use Rattle.pull_system.specs.System.{SystemView, target_of, ask}
 use Rattle.raise_machine.specs.declared.step.Step.TheVariants.{Pull, Lend}
 use Rattle.raise_machine.specs.Bounds.{AreBounds}
 use Rattle.raise_machine.specs.Machine.{is_allowed}
-use Rattle.bound_table.specs.declared.seat.Known.{Known}
-use Rattle.bound_table.specs.Kept.{larger}
+use Rattle.bound_table.specs.declared.seat.SeenBounds.{SeenBounds}
+use Rattle.bound_table.specs.BoundsHold.{larger}
 
 -- the words that are bounds: one per row and process
 abbrev pub word_count : List ℕ → ℕ
@@ -20,44 +20,45 @@ word_count lens = (sum lens + 1) * length lens
 
 -- what a seat knows is true of the table: its system is the table's, and each floor is between the
 -- row's start and the word
-pub record Fits (system : SystemView) (words : List ℕ) (v : Known) : Type 0 where
+pub record Fits (system : SystemView) (words : List ℕ) (v : SeenBounds) : Type 0 where
   pub one_system : v.system ≡ system
   pub size : length v.floor ≡ length words
-  pub above : IsWithin (starts system.lens) v.floor
-  pub below : IsWithin v.floor words
+  pub above : IsAtMost (starts system.lens) v.floor
+  pub below : IsAtMost v.floor words
 
 -- each word is between its row's start and the least closed vector, and each view that isn't spent
 -- fits
-pub record IsKept (system : SystemView) (words : List ℕ) (views : List Known) : Type 0 where
+pub record HasBounds (system : SystemView) (words : List ℕ) (views : List SeenBounds) : Type 0 where
   pub bounds : AreBounds system words
-  pub fits : (j : ℕ) (v : Known) → get_elem? views j ≡ some v → v.live ≡ true → Fits system words v
+  pub fits : (j : ℕ) (v : SeenBounds) → get_elem? views j ≡ some v → v.live ≡ true
+      → Fits system words v
 
-abbrev pub Kept : SystemView → State (Unit {0}) Known → Type 0
-Kept system s = IsKept system (take (word_count system.lens) s.words) s.views
+abbrev pub BoundsHold : SystemView → State (Unit {0}) SeenBounds → Type 0
+BoundsHold system s = HasBounds system (take (word_count system.lens) s.words) s.views
 
 -- a view that is not spent, whose floors are between the starts and the least closed vectors
-pub record IsSound (v : Known) : Type 0 where
+pub record IsSound (v : SeenBounds) : Type 0 where
   pub live : v.live ≡ true
   pub floor : AreBounds v.system v.floor
 
-abbrev pub with_floor : Known → List ℕ → Known
+abbrev pub with_floor : SeenBounds → List ℕ → SeenBounds
 with_floor v floor = record { live = v.live; system = v.system; floor = floor }
 
 -- the view of the first seat
-abbrev pub opened : SystemView → List ℕ → Known
+abbrev pub opened : SystemView → List ℕ → SeenBounds
 opened system floor = record { live = true; system = system; floor = floor }
 
 -- what is left of a seat that was met
-abbrev pub nobody : Known
+abbrev pub nobody : SeenBounds
 nobody = record { live = false; system = record { lens = []; pulls = [] }; floor = [] }
 
 -- the first view with the larger of both floors
-abbrev pub together : Known → Known → Known
+abbrev pub together : SeenBounds → SeenBounds → SeenBounds
 together v w = with_floor v (larger v.floor w.floor)
 
 -- a word was read, and its floor is that
-pub record Looked (st : Step (Unit {0})) (me : Me (Unit {0}) Known) (found : ℕ)
-    (now : Me (Unit {0}) Known) : Type 0 where
+pub record Looked (st : Step (Unit {0})) (me : Me (Unit {0}) SeenBounds) (found : ℕ)
+    (now : Me (Unit {0}) SeenBounds) : Type 0 where
   pub view : now.0 ≡ with_floor me.0 (slice_set me.0.floor st.word found)
   pub slots : now.1 ≡ me.1
   pub rises : slice_index me.0.floor st.word ≤ found
@@ -75,8 +76,8 @@ pub data IsMachineStep (system : SystemView) (floor : List ℕ) (word number : �
       → IsMachineStep system floor word number
 
 -- a word became its maximum with the number, by a step of the raise machine, and its floor is that
-pub record Lifted (st : Step (Unit {0})) (me : Me (Unit {0}) Known) (found : ℕ)
-    (now : Me (Unit {0}) Known) : Type 0 where
+pub record Lifted (st : Step (Unit {0})) (me : Me (Unit {0}) SeenBounds) (found : ℕ)
+    (now : Me (Unit {0}) SeenBounds) : Type 0 where
   pub machine : IsMachineStep me.0.system me.0.floor st.word st.first
   pub view : now.0 ≡ with_floor me.0 (slice_set me.0.floor st.word (max found st.first))
   pub slots : now.1 ≡ me.1

@@ -1,5 +1,5 @@
 //! What a caller of the table holds, and the rule that each of its steps keeps.
-ghost use Rattle.bound_table.specs.Rule.{Kept, opened, nobody, together, Looked, Lifted};
+ghost use Rattle.bound_table.specs.Rule.{BoundsHold, opened, nobody, together, Looked, Lifted};
 
 use atomic_table::{Join, Play, Split, TableRule};
 use process_claims::Claimer;
@@ -16,7 +16,7 @@ pub(crate) struct Key {
 }
 
 /// What a seat knows: the system, and a floor for each word. No value of it is made.
-pub(crate) struct Known {
+pub(crate) struct SeenBounds {
     live: bool,
     system: System,
     floor: LinkedList<u64>,
@@ -30,7 +30,7 @@ pub(crate) struct Known {
 /// `BoundTable::settle`.
 #[derive(Drop)]
 pub struct Seat {
-    pub(crate) token: atomic_table::Seat<(), Known>,
+    pub(crate) token: atomic_table::Seat<(), SeenBounds>,
     pub(crate) claimer: Claimer,
 }
 
@@ -69,8 +69,8 @@ impl Seat {
 
 pub(crate) struct Bounded;
 
-impl TableRule<(), Known, Key> for Bounded {
-    ghost holds = { λ key. Kept key.system.value };
+impl TableRule<(), SeenBounds, Key> for Bounded {
+    ghost holds = { λ key. BoundsHold key.system.value };
 
     ghost first = { λ key. opened key.system.value key.floor.value.words };
 }
@@ -78,21 +78,21 @@ impl TableRule<(), Known, Key> for Bounded {
 /// A load.
 pub(crate) struct Looks;
 
-impl Play<(), Known> for Looks {
+impl Play<(), SeenBounds> for Looks {
     ghost then = { Looked };
 }
 
 /// A raise.
 pub(crate) struct Lifts;
 
-impl Play<(), Known> for Lifts {
+impl Play<(), SeenBounds> for Lifts {
     ghost then = { Lifted };
 }
 
 /// A second seat that knows the same.
 pub(crate) struct Twins;
 
-impl Split<Known> for Twins {
+impl Split<SeenBounds> for Twins {
     ghost left = { λ v. v };
 
     ghost right = { λ v. v };
@@ -101,7 +101,7 @@ impl Split<Known> for Twins {
 /// One seat that knows what both knew.
 pub(crate) struct Meets;
 
-impl Join<Known> for Meets {
+impl Join<SeenBounds> for Meets {
     ghost both = { together };
 
     ghost spent = { nobody };

@@ -5,7 +5,7 @@
 //! the pulls from what rose are looked up again. A row's words fit, since a run has few events.
 ghost use Rattle.std.specs.Prelude.{◌≡◌, ◌⊎◌, ℕ, ◌+◌, ◌*◌, ◌<◌, ◌≤◌, true, length, sum};
 ghost use Rattle.std.specs.Prelude.{slice_index};
-ghost use Rattle.pull_system.specs.Vector.{IsWithin};
+ghost use Rattle.pull_system.specs.Vector.{IsAtMost};
 ghost use Rattle.pull_system.specs.System.{source_of, target_of, ask, numbers_from};
 ghost use Rattle.pull_system.specs.Rows.{row_at, IsLeast};
 ghost use Rattle.pull_system.specs.Asks.{IsAskedBy, AreAsks};
@@ -117,7 +117,7 @@ impl BoundTable {
         requires settling { IsSettling self.now row seat.old seat.old vector.old }
         requires lent { MayLend self.now.system.lens seat.old.floor before row lent.now }
         ensures settling { IsSettling self.now row seat.old seat.new vector.new }
-        ensures reaches { IsWithin lent.now vector.new }
+        ensures reaches { IsAtMost lent.now vector.new }
     {
         if excess(lent, vector) == 0 {
             return;
@@ -147,7 +147,7 @@ impl BoundTable {
         requires settling { IsSettling self.now row seat.old seat.old vector.old }
         requires seen { length seen.old ≡ length self.now.system.lens }
         ensures asking { IsAsking self.now row seat.old seat.new vector.new seen.new }
-        ensures reaches { IsWithin vector.old seen.new }
+        ensures reaches { IsAtMost vector.old seen.new }
         ensures looks { steps.new ≤ steps.old + length self.now.system.pulls }
     {
         for process in 0..self.system().shape().procs() {
@@ -194,8 +194,8 @@ impl BoundTable {
     ) -> u32
         requires asking { IsAsking self.now row seat.old seat.old vector.old seen.old }
         ensures asking { IsAsking self.now row seat.old seat.new vector.new seen.new }
-        ensures done { result ≡ 0 → IsWithin vector.new seen.new }
-        ensures reaches { IsWithin vector.old seen.new }
+        ensures done { result ≡ 0 → IsAtMost vector.new seen.new }
+        ensures reaches { IsAtMost vector.old seen.new }
         ensures sees { SeesMore (length self.now.system.pulls) result steps.old steps.new seen.old
             seen.new }
         ensures looks { steps.new ≤ steps.old + length self.now.system.pulls }
@@ -279,7 +279,7 @@ impl BoundTable {
         requires reached { x ≤ slice_index vector.old process }
         requires asks { AreAsks self.now.system process x asks.now }
         ensures settling { IsSettling self.now row seat.old seat.new vector.new }
-        ensures reaches { IsWithin asks.now vector.new }
+        ensures reaches { IsAtMost asks.now vector.new }
     {
         if excess(asks, vector) == 0 {
             return;
@@ -317,7 +317,7 @@ impl BoundTable {
 /// The most by which an entry of the first is above that of the second.
 fn excess(asks: &[u16], vector: &[u16]) -> u16
     requires { length asks.now ≡ length vector.now }
-    ensures { result ≡ 0 → IsWithin asks.now vector.now }
+    ensures { result ≡ 0 → IsAtMost asks.now vector.now }
 {
     let mut excess = 0;
     for i in 0..asks.len() {

@@ -1,6 +1,6 @@
 ghost use Rattle.std.specs.Prelude.{◌≡◌, ◌≢◌, ℕ, ◌+◌, ◌*◌, ◌<◌, ◌≤◌, List, [], ◌∷◌, ◌++◌, true};
 ghost use Rattle.std.specs.Prelude.{false, length, sum, take, slice_index, slice_set, IfOk};
-ghost use Rattle.pull_system.specs.Vector.{IsWithin, IsMaximum};
+ghost use Rattle.pull_system.specs.Vector.{IsAtMost, IsMaximum};
 ghost use Rattle.pull_system.specs.System.{IsSystem};
 ghost use Rattle.pull_system.specs.Rows.{place_of};
 ghost use Rattle.raise_machine.specs.declared.step.Step.TheVariants.{Lend};
@@ -8,12 +8,12 @@ ghost use Rattle.raise_machine.specs.Bounds.{AreBounds, word_at, has_start};
 ghost use Rattle.raise_machine.specs.Machine.{is_allowed};
 ghost use Rattle.bound_table.specs.Asking.{IsPullStep, IsRaised};
 ghost use Rattle.bound_table.specs.Kept.{Follows};
-ghost use Rattle.bound_table.specs.Lending.{AreRows};
+ghost use Rattle.bound_table.specs.Lending.{AreBothRows};
 ghost use Rattle.bound_table.specs.Rule.{word_count};
 ghost use Rattle.bound_table.specs.Views.{KeepsClaims};
 
 use crate::narrow::{widen, widened};
-use crate::seat::{Bounded, Key, Known, Lifts, Looks, Meets, Seat, Twins};
+use crate::seat::{Bounded, Key, Lifts, Looks, Meets, Seat, SeenBounds, Twins};
 use atomic_table::Table;
 use pota_base::NoMemory;
 use process_claims::Claims;
@@ -33,7 +33,7 @@ const PIECE: usize = 128;
 /// no other. No call waits for another caller.
 #[derive(Drop)]
 pub struct BoundTable {
-    table: Table<(), Known, Key, Bounded, Global>,
+    table: Table<(), SeenBounds, Key, Bounded, Global>,
     claims: Claims,
     system: System,
 }
@@ -208,7 +208,7 @@ impl BoundTable {
     /// The seat's floor for `to_row` has the event of `from_row`, or `from_row` is the bottom's.
     pub fn lend(&self, seat: &mut Seat, from_row: u32, to_row: u32)
         requires fits { seat.old.table ≡ self.now }
-        requires rows { AreRows self.now.system.lens from_row to_row }
+        requires rows { AreBothRows self.now.system.lens from_row to_row }
         requires event { has_start self.now.system.lens seat.old.floor to_row from_row ≡ true }
         ensures keeps { KeepsClaims seat.old seat.new }
         ensures lent { (process : ℕ) → process < length self.now.system.lens
@@ -218,7 +218,7 @@ impl BoundTable {
             → process < length self.now.system.lens
             → word_at self.now.system.lens seat.new.floor row process
             ≡ word_at self.now.system.lens seat.old.floor row process }
-        ensures rises { IsWithin seat.old.floor seat.new.floor }
+        ensures rises { IsAtMost seat.old.floor seat.new.floor }
         ensures bounds { AreBounds self.now.system seat.new.floor }
     {
         seat.bounds();
@@ -239,7 +239,7 @@ impl BoundTable {
         ensures keeps { KeepsClaims seat.old seat.new }
         ensures rows { IfOk result (λ rows.
             rows ≡ record { lens = self.now.system.lens; words = seat.new.floor }) }
-        ensures rises { IsWithin seat.old.floor seat.new.floor }
+        ensures rises { IsAtMost seat.old.floor seat.new.floor }
         ensures bounds { AreBounds self.now.system seat.new.floor }
     {
         seat.bounds();
@@ -257,7 +257,7 @@ impl BoundTable {
         requires count { count ≤ word_count self.now.system.lens }
         ensures keeps { KeepsClaims seat.old seat.new }
         ensures words { IfOk result (λ words. words.items ≡ take count seat.new.floor) }
-        ensures rises { IsWithin seat.old.floor seat.new.floor }
+        ensures rises { IsAtMost seat.old.floor seat.new.floor }
         ensures bounds { AreBounds self.now.system seat.new.floor }
     {
         seat.bounds();
@@ -281,7 +281,7 @@ impl BoundTable {
             → slice_index into.new i ≡ slice_index seat.new.floor (first + i) }
         ensures before { (word : ℕ) → word < first
             → slice_index seat.new.floor word ≡ slice_index seat.old.floor word }
-        ensures rises { IsWithin seat.old.floor seat.new.floor }
+        ensures rises { IsAtMost seat.old.floor seat.new.floor }
         ensures bounds { AreBounds self.now.system seat.new.floor }
     {
         let _shape = self.system.shape();

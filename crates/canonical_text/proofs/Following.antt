@@ -10,7 +10,7 @@ use Rattle.certificate_lines.specs.declared.line.Line.{Line}
 use Rattle.certificate_lines.specs.declared.line.Line.TheVariants.{Node, Row, Raise, Verdict}
 use Rattle.certificate_lines.specs.Spelling.{LineFits}
 use Rattle.certificate_text.specs.Taking.{AreAccepted, fresh}
-use Rattle.certificate_text.specs.Running.{AllFollow, IsRun, certificate_lines}
+use Rattle.certificate_text.specs.Running.{AllFollow, AreNodesAndVerdict, certificate_lines}
 use Rattle.certificate_text.proofs.Accepting.{run_accepted}
 use Rattle.certified_rows.specs.Begun.{BegunView, AreCertified, MayBegin, present}
 use Rattle.certified_rows.proofs.Keeping.{word_small}
@@ -91,7 +91,7 @@ whole_fits v lines told nodes h =
 pub whole_accepted : (formula : List ℕ) (v : NodesView) (lines : List Line) (told : Bool) → AreNodes v → IsWhole v lines told
     → AreAccepted Follows (fresh formula v) (certificate_lines formula lines) told
 whole_accepted formula v lines told nodes h =
-    let run : IsRun Follows v lines told = record {
+    let run : AreNodesAndVerdict Follows v lines told = record {
       body = h.body;
       of_nodes = h.of_nodes;
       fits = all_fit v h.body h.mid nodes h.next;

@@ -14,7 +14,7 @@ use Rattle.part_pulls.specs.Counters.{CountersRise}
 use Rattle.certificate_lines.specs.declared.line.Line.{Line}
 use Rattle.certificate_lines.specs.declared.line.Line.TheVariants as line
 use Rattle.certificate_text.specs.Taking.{AreAccepted, fresh}
-use Rattle.certificate_text.specs.Running.{AllFollow, IsRun}
+use Rattle.certificate_text.specs.Running.{AllFollow, AreNodesAndVerdict}
 use Rattle.certificate_text.proofs.Accepting.{accepted_run}
 use Rattle.certified_nodes.specs.declared.plan.Plan.{Plan}
 use Rattle.certified_nodes.specs.Given.{AreGiven, SomeCloses}
@@ -55,7 +55,7 @@ verdict_told : (mid after : NodesView) (told : Bool) → AreNodes mid → MayCon
 verdict_told mid after told is may ends =
     let given = given_after mid is after.slices ends.gives in record { slices = after.slices; given = given.0; all = given.1 ∙ may.all; truth = ends.truth }
 
-run_told : (v : NodesView) (lines : List Line) (told : Bool) → AreNodes v → IsRun Follows v lines told → Told v.order v.plan told
+run_told : (v : NodesView) (lines : List Line) (told : Bool) → AreNodes v → AreNodesAndVerdict Follows v lines told → Told v.order v.plan told
 run_told v lines told is run =
     let kept = lines_keep v run.body run.mid is run.all in
     subst (λ (o : Clocks). Told o v.plan told) kept.order

@@ -13,7 +13,7 @@ use Rattle.certificate_text.proofs.OneAnswer.{one_after}
 use Rattle.verifier.specs.declared.verifier.Checked.{Checked}
 use Rattle.verifier.specs.declared.verifier.Checked.TheVariants as checked
 use Rattle.verifier.specs.Checking.{checked_as, IsChecked}
-use Rattle.certificate_input.specs.Pieces.{Reaches, RefusedWithin, accepted_at, InputView, IsReady, IsTaken, IsWithin, IsOver}
+use Rattle.certificate_input.specs.Pieces.{Reaches, RefusedWithin, accepted_at, InputView, IsReady, IsTaken, StaysInLine, IsOver}
 
 -- ---- what is picked by a test
 
@@ -257,9 +257,9 @@ module _ {N : Type 0} (follows : N → Line → N → Type 0) where
       λ more. bytes_over bytes more v.text v.line plain (accepted_none v.text.stage v.accepted ready.accepted open_) ready.short over)
 
   pub short_is_within : (v : InputView N) (bytes : List ℕ) (count : ℕ) → IsReady v → HasNoFeed bytes → v.accepted ≡ None → count ≡ length v.line
-      → OnFalse (nat_lt (8192 - count) (length bytes)) (IsWithin follows v bytes)
+      → OnFalse (nat_lt (8192 - count) (length bytes)) (StaysInLine follows v bytes)
   short_is_within v bytes count ready plain open_ is =
-      OnFalse_from (nat_lt (8192 - count) (length bytes)) (IsWithin follows v bytes) (λ test.
+      OnFalse_from (nat_lt (8192 - count) (length bytes)) (StaysInLine follows v bytes) (λ test.
       let few : length v.line + length bytes ≤ 8192 = omega (arith, ltb-false (8192 - count) (length bytes) test, is, ready.short) in
       (bytes_reach bytes v.text v.line plain (accepted_none v.text.stage v.accepted ready.accepted open_) few, few))
 
@@ -276,14 +276,14 @@ module _ {N : Type 0} (follows : N → Line → N → Type 0) where
   feed_refused : (v : VerifierView N) (line : List ℕ) → IsUnjustified follows v line → RefusedWithin follows (10 ∷ []) v line (v.lines + 1)
   feed_refused v line h = inl (refl, h)
 
-  line_refused : (v : InputView N) (end : List ℕ) (n : ℕ) → IsReady v → n ≡ v.lines + 1 → IsWithin follows v end → IsUnjustified follows v.text (v.line ++ end)
+  line_refused : (v : InputView N) (end : List ℕ) (n : ℕ) → IsReady v → n ≡ v.lines + 1 → StaysInLine follows v end → IsUnjustified follows v.text (v.line ++ end)
       → RefusedWithin follows (end ++ 10 ∷ []) v.text v.line n
   line_refused v end n ready number within h =
       let same : v.text.lines + 1 ≡ n = omega (arith, ready.lines, number) in
       subst (RefusedWithin follows (end ++ 10 ∷ []) v.text v.line) same
       (reach_within end (10 ∷ []) v.text v.line v.text (v.line ++ end) (v.text.lines + 1) within.0 (feed_refused v.text (v.line ++ end) h))
 
-  line_taken : (v : InputView N) (end : List ℕ) (after : InputView N) → IsReady v → after.lines ≡ v.lines + 1 → after.lines < 2 ^ 64 → IsWithin follows v end
+  line_taken : (v : InputView N) (end : List ℕ) (after : InputView N) → IsReady v → after.lines ≡ v.lines + 1 → after.lines < 2 ^ 64 → StaysInLine follows v end
       → Justifies follows v.text (v.line ++ end) after.text → after.accepted ≡ accepted_at after.text.stage → after.line ≡ []
       → IsTaken follows v (end ++ 10 ∷ []) None after
   line_taken v end after ready number counted within h truth none =
@@ -293,12 +293,12 @@ module _ {N : Type 0} (follows : N → Line → N → Type 0) where
       )
 
   -- by what is told of the line
-  pub told_refused : (v : InputView N) (end : List ℕ) (n m : ℕ) (t : Checked) (after : VerifierView N) → IsReady v → n ≡ v.lines + 1 → IsWithin follows v end
+  pub told_refused : (v : InputView N) (end : List ℕ) (n m : ℕ) (t : Checked) (after : VerifierView N) → IsReady v → n ≡ v.lines + 1 → StaysInLine follows v end
       → t ≡ checked.Refused m → IsChecked follows v.text (v.line ++ end) t after → RefusedWithin follows (end ++ 10 ∷ []) v.text v.line n
   told_refused v end n m t after ready number within is told =
       line_refused v end n ready number within (subst (λ (x : Checked). IsChecked follows v.text (v.line ++ end) x after) is told).unjustified
 
-  pub told_more : (v : InputView N) (end : List ℕ) (n : ℕ) (t : Checked) (text : VerifierView N) (after : InputView N) → IsReady v → n ≡ v.lines + 1 → n < 2 ^ 64 → IsWithin follows v end
+  pub told_more : (v : InputView N) (end : List ℕ) (n : ℕ) (t : Checked) (text : VerifierView N) (after : InputView N) → IsReady v → n ≡ v.lines + 1 → n < 2 ^ 64 → StaysInLine follows v end
       → t ≡ checked.More → IsChecked follows v.text (v.line ++ end) t text → after ≡ record { text = text; line = []; lines = n; accepted = None }
       → IsTaken follows v (end ++ 10 ∷ []) None after
   told_more v end n t text after ready number counted within is told same =
@@ -307,7 +307,7 @@ module _ {N : Type 0} (follows : N → Line → N → Type 0) where
       (line_taken v end (record { text = text; line = []; lines = n; accepted = None }) ready number counted within to.0 (more_truth text.stage to.1) refl)
 
   pub told_accepted : (v : InputView N) (end : List ℕ) (n : ℕ) (truth : Bool) (t : Checked) (text : VerifierView N) (after : InputView N) → IsReady v → n ≡ v.lines + 1 → n < 2 ^ 64
-      → IsWithin follows v end → t ≡ checked.Accepted truth → IsChecked follows v.text (v.line ++ end) t text
+      → StaysInLine follows v end → t ≡ checked.Accepted truth → IsChecked follows v.text (v.line ++ end) t text
       → after ≡ record { text = text; line = []; lines = n; accepted = Some truth } → IsTaken follows v (end ++ 10 ∷ []) None after
   told_accepted v end n truth t text after ready number counted within is told same =
       let to = subst (λ (x : Checked). IsChecked follows v.text (v.line ++ end) x text) is told in

@@ -71,8 +71,8 @@ IsTaken follows v bytes (Some n) after = RefusedWithin follows bytes v.text v.li
 -- ---- the parts of a call
 
 -- these bytes lie within the line, which is not too long with them
-abbrev pub IsWithin : {N : Type 0} → (N → Line → N → Type 0) → InputView N → List ℕ → Type 0
-IsWithin follows v bytes = Reaches follows bytes v.text v.line v.text (v.line ++ bytes)
+abbrev pub StaysInLine : {N : Type 0} → (N → Line → N → Type 0) → InputView N → List ℕ → Type 0
+StaysInLine follows v bytes = Reaches follows bytes v.text v.line v.text (v.line ++ bytes)
     × (length v.line + length bytes ≤ 8192)
 
 -- one of these bytes is too many for the line, whatever comes behind them

@@ -4,7 +4,7 @@ ghost use Rattle.std.specs.Prelude.{◌≡◌, ◌+◌, ◌^◌, ◌<◌, [], �
 ghost use Rattle.std.specs.Bool.{OnFalse, OnTrue};
 ghost use Rattle.certificate_text.specs.Bytes.{HasNoFeed};
 ghost use Rattle.verifier.specs.Checking.{IsChecked};
-ghost use Rattle.certificate_input.specs.Pieces.{IsReady, IsTaken, IsWithin, IsOver};
+ghost use Rattle.certificate_input.specs.Pieces.{IsReady, IsTaken, StaysInLine, IsOver};
 ghost use Rattle.certificate_input.specs.Telling.{IsFresh, IsEnd};
 
 use crate::split::split_line;
@@ -68,7 +68,7 @@ impl<N: Takes> CertificateInput<N> {
         requires plain { HasNoFeed bytes.now }
         requires ready { IsReady self.now }
         ensures over { OnTrue result (IsOver N.follows self.now bytes.now) }
-        ensures within { OnFalse result (IsWithin N.follows self.now bytes.now) }
+        ensures within { OnFalse result (StaysInLine N.follows self.now bytes.now) }
     {
         match self.accepted {
             Some(_) => !bytes.is_empty(),

@@ -8,7 +8,7 @@ use Rattle.certificate_lines.specs.Spelling.{LineFits, line_text, title, end_lin
 use Rattle.certificate_text.specs.declared.said.Stage.{Stage}
 use Rattle.certificate_text.specs.declared.said.Stage.TheVariants as stage
 use Rattle.certificate_text.specs.Taking.{VerifierView, stage_after, TakesLine, AreAccepted, fresh}
-use Rattle.certificate_text.specs.Running.{AllFollow, IsOfNode, IsRun, IsCertificate, certificate_lines}
+use Rattle.certificate_text.specs.Running.{AllFollow, IsOfNode, AreNodesAndVerdict, IsCertificate, certificate_lines}
 
 same-truth : (b told : Bool) → stage.Accepted b ≡ stage.Accepted told → b ≡ told
 same-truth b told e = cc e
@@ -31,7 +31,7 @@ module _ {N : Type 0} (follows : N → Line → N → Type 0) where
 
   -- the lines of the nodes and the verdict, with what is behind them
   abbrev HasRun : N → List (List ℕ) → Bool → Type 0
-  HasRun v texts told = (lines : List Line) × IsRun follows v lines told × (texts ≡ map line_text lines ++ end_line ∷ [])
+  HasRun v texts told = (lines : List Line) × AreNodesAndVerdict follows v lines told × (texts ≡ map line_text lines ++ end_line ∷ [])
 
   run-more : (v n : N) (l : Line) (t : List ℕ) (ts : List (List ℕ)) (told : Bool) → IsOfNode l → LineFits l → follows v l n → t ≡ line_text l → HasRun n ts told → HasRun v (t ∷ ts) told
   run-more v n l t ts told of_node fits next is (lines, r, e) = (
@@ -49,7 +49,7 @@ module _ {N : Type 0} (follows : N → Line → N → Type 0) where
     ap (λ (x : List ℕ). x ∷ ts) is ∙ ap (λ (x : List (List ℕ)). line_text l ∷ x) e,
   )
 
-  run-ends : (v n : N) (told : Bool) → follows v (Verdict told) n → IsRun follows v (Verdict told ∷ []) told
+  run-ends : (v n : N) (told : Bool) → follows v (Verdict told) n → AreNodesAndVerdict follows v (Verdict told ∷ []) told
   run-ends v n told next = record { body = []; of_nodes = All-nil IsOfNode; fits = All-nil LineFits; mid = v; all = refl; after = n; verdict = next; lines_are = refl }
 
   step : (formula : List ℕ) (v n : N) (count : ℕ) (said : Line) (t : List ℕ) (ts : List (List ℕ)) (told : Bool) → LineFits said → follows v said n → t ≡ line_text said
@@ -118,7 +118,7 @@ module _ {N : Type 0} (follows : N → Line → N → Type 0) where
         (sym (stays l (All-head IsOfNode l ls of_nodes))) (body-accepted formula ls h.0 (count + 1) mid told after h.2 (All-tail IsOfNode l ls of_nodes) (All-tail LineFits l ls fits) next),
   )
 
-  pub run_accepted : (formula : List ℕ) (v : N) (lines : List Line) (told : Bool) → IsRun follows v lines told → AreAccepted follows (fresh formula v) (certificate_lines formula lines) told
+  pub run_accepted : (formula : List ℕ) (v : N) (lines : List Line) (told : Bool) → AreNodesAndVerdict follows v lines told → AreAccepted follows (fresh formula v) (certificate_lines formula lines) told
   run_accepted formula v lines told r =
       let body = body-accepted formula r.body v 2 r.mid told r.after r.all r.of_nodes r.fits r.verdict in (
         made formula v stage.Formula 1,

@@ -22,8 +22,8 @@ IsOfNode (Raise pull value) = Unit {0}
 IsOfNode (Verdict told) = ⊥
 
 -- lines of nodes that follow one another, and then the verdict
-pub record IsRun {N : Type 0} (follows : N → Line → N → Type 0) (v : N) (lines : List Line)
-    (told : Bool) : Type 0 where
+pub record AreNodesAndVerdict {N : Type 0} (follows : N → Line → N → Type 0) (v : N)
+    (lines : List Line) (told : Bool) : Type 0 where
   pub body : List Line
   pub of_nodes : All IsOfNode body
   pub fits : All LineFits body
@@ -37,4 +37,5 @@ pub record IsRun {N : Type 0} (follows : N → Line → N → Type 0) (v : N) (l
 abbrev pub IsCertificate : {N : Type 0} → (N → Line → N → Type 0) → List ℕ → N
     → List (List ℕ) → Bool → Type 0
 IsCertificate follows formula v texts told =
-    (lines : List Line) × IsRun follows v lines told × (texts ≡ certificate_lines formula lines)
+    (lines : List Line) × AreNodesAndVerdict follows v lines told
+    × (texts ≡ certificate_lines formula lines)

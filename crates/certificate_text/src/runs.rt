@@ -3,7 +3,7 @@
 ghost use Rattle.std.specs.Prelude.{◌≡◌, ◌↔◌, ℕ, List, ◌∷◌, Bool};
 ghost use Rattle.certificate_lines.specs.Spelling.{title};
 ghost use Rattle.certificate_text.specs.Taking.{AreAccepted, fresh};
-ghost use Rattle.certificate_text.specs.Running.{IsRun, IsCertificate};
+ghost use Rattle.certificate_text.specs.Running.{AreNodesAndVerdict, IsCertificate};
 
 use crate::said::Said;
 

@@ -10,7 +10,7 @@ use Rattle.run_model.specs.Consistent.{IsOrder}
 use Rattle.run_model.proofs.Counts.{length-lengths}
 use Rattle.pull_system.specs.declared.pull.Pull.{Pull}
 use Rattle.pull_system.specs.System.{IsPull, IsSystem}
-use Rattle.slice_graph.specs.Views.{SliceView, AreRows}
+use Rattle.slice_graph.specs.Views.{SliceView, HasAllRows}
 use Rattle.slice_graph.specs.Fitting.{FitsOrder}
 use Rattle.slice_graph.specs.PullLists.{pulls_of_order, pulls_of_slice}
 use Rattle.slice_graph.proofs.OrderPulls.{order_pulls_fit, order_pulls_count}
@@ -30,19 +30,19 @@ use Rattle.certified_nodes.specs.Given.{AreGiven}
 square_few : (n : ℕ) → n ≤ 32 → n * n ≤ 1024
 square_few n few = omega (arith, few, mul-le-mul_right n few)
 
-own_fits : (o : Clocks) (slice : SliceView) → IsShape (lengths o) → FitsOrder o slice → AreRows slice → All (IsPull (lengths o)) (pulls_of_slice slice) × (length (pulls_of_slice slice) ≤ 1024)
+own_fits : (o : Clocks) (slice : SliceView) → IsShape (lengths o) → FitsOrder o slice → HasAllRows slice → All (IsPull (lengths o)) (pulls_of_slice slice) × (length (pulls_of_slice slice) ≤ 1024)
 own_fits o slice shape fits rows = (
   subst (λ (lens : List ℕ). All (IsPull lens) (pulls_of_slice slice)) fits.shape (slice_pulls_fit o slice fits rows),
   omega (arith, slice_pulls_count slice, square_few (length slice.lens) (omega (arith, ap (λ (lens : List ℕ). length lens) fits.shape, shape.few))),
 )
 
-next_fits : (o : Clocks) (slice : SliceView) (process : ℕ) → IsShape (lengths o) → FitsOrder o slice → AreRows slice → All (IsPull (lengths o)) (pulls_of_next slice process) × (length (pulls_of_next slice process) ≤ 1024)
+next_fits : (o : Clocks) (slice : SliceView) (process : ℕ) → IsShape (lengths o) → FitsOrder o slice → HasAllRows slice → All (IsPull (lengths o)) (pulls_of_next slice process) × (length (pulls_of_next slice process) ≤ 1024)
 next_fits o slice process shape fits rows = (
   subst (λ (lens : List ℕ). All (IsPull lens) (pulls_of_next slice process)) fits.shape (next_pulls_fit o slice fits rows process),
   omega (arith, next_pulls_count slice process, square_few (length slice.lens) (omega (arith, ap (λ (lens : List ℕ). length lens) fits.shape, shape.few))),
 )
 
-given_fits : (o : Clocks) (kind : Operator) (slice : SliceView) → IsShape (lengths o) → FitsOrder o slice → AreRows slice → All (IsPull (lengths o)) (pulls_given kind slice) × (length (pulls_given kind slice) ≤ 1024)
+given_fits : (o : Clocks) (kind : Operator) (slice : SliceView) → IsShape (lengths o) → FitsOrder o slice → HasAllRows slice → All (IsPull (lengths o)) (pulls_given kind slice) × (length (pulls_given kind slice) ≤ 1024)
 given_fits o operator.Ef slice shape fits rows = own_fits o slice shape fits rows
 given_fits o operator.Ag slice shape fits rows = own_fits o slice shape fits rows
 given_fits o operator.Eg slice shape fits rows = own_fits o slice shape fits rows

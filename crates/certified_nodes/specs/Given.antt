@@ -6,7 +6,7 @@ use Rattle.run_model.specs.Consistent.{IsConsistent}
 use Rattle.run_model.specs.Operators.{SomeTime, EachTime, Staying}
 use Rattle.run_model.specs.Slice.{Cuts}
 use Rattle.pull_system.specs.System.{SystemView, IsClosed}
-use Rattle.slice_graph.specs.Views.{SliceView, AreRows, slice_of}
+use Rattle.slice_graph.specs.Views.{SliceView, HasAllRows, slice_of}
 use Rattle.slice_graph.specs.Fitting.{FitsOrder, ClosedCuts}
 use Rattle.rctl_grammar.specs.declared.tree.Operator.{Operator}
 use Rattle.rctl_grammar.specs.declared.tree.Operator.TheVariants as operator
@@ -27,7 +27,7 @@ SlicedBy operator.Ax o A = λ c. ⊥
 -- the slice of these cuts, where the set is that of the cuts closed under the system
 pub record IsGiven (o : Clocks) (operator : Operator) (system : SystemView)
     (slice : SliceView) : Type 0 where
-  pub rows : AreRows slice
+  pub rows : HasAllRows slice
   pub fits : FitsOrder o slice
   pub cuts : (c : Cut) → IsConsistent o c
       → Cuts o (slice_of slice) c ↔ SlicedBy operator o (ClosedCuts o system) c

@@ -10,7 +10,7 @@ use Rattle.rctl_grammar.specs.declared.tree.Operator.TheVariants as operator
 use Rattle.pull_system.specs.declared.pull.Pull.{Pull}
 use Rattle.pull_system.specs.System.{IsPull}
 use Rattle.pull_system.specs.Pulls.{ClosedUnder}
-use Rattle.slice_graph.specs.Views.{SliceView, AreRows, slice_of}
+use Rattle.slice_graph.specs.Views.{SliceView, HasAllRows, slice_of}
 use Rattle.slice_graph.specs.Fitting.{FitsOrder}
 use Rattle.slice_graph.specs.PullLists.{pulls_of_slice}
 use Rattle.slice_graph.proofs.SlicePulls.{slice_pulls_fit, slice_pulls_count, slice_closed}
@@ -19,7 +19,7 @@ use Rattle.part_pulls.proofs.Slices.{cut_of_lengths, cut_is}
 use Rattle.conjunctions.specs.Gathering.{AddsOperator}
 
 -- the pulls of an operator's own slice
-pub operated_adds : (o : Clocks) (operator : Operator) (operand slice : SliceView) (old new : List Pull) → FitsOrder o slice → AreRows slice
+pub operated_adds : (o : Clocks) (operator : Operator) (operand slice : SliceView) (old new : List Pull) → FitsOrder o slice → HasAllRows slice
     → ((c : Cut) → IsConsistent o c → Cuts o (slice_of slice) c ↔ Operated operator o (Cuts o (slice_of operand)) c) → new ≡ old ++ pulls_of_slice slice → AddsOperator o operator operand old new
 operated_adds o operator operand slice old new fits rows cuts is = record {
   added = pulls_of_slice slice;

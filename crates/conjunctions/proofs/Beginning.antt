@@ -12,7 +12,7 @@ use Rattle.pull_system.specs.Rows.{RowsView, AreLeastRows, start_of, starts, pla
 use Rattle.pull_system.proofs.PullLists.{closed_under, closed_left, closed_right}
 use Rattle.pull_system.proofs.Starts.{length_starts, starts-place, get_or-row_at}
 use Rattle.raise_machine.specs.Bounds.{AreBounds}
-use Rattle.slice_graph.specs.Views.{SliceView, AreRows, no_row}
+use Rattle.slice_graph.specs.Views.{SliceView, HasAllRows, no_row}
 use Rattle.slice_graph.specs.Words.{filled}
 use Rattle.slice_graph.specs.Fitting.{FitsOrder}
 use Rattle.slice_graph.specs.PullLists.{pulls_of_slice}
@@ -58,7 +58,7 @@ slice_floor o slice old new rows fits pulls shape within = record {
 }
 
 -- the pulls of a slice are a system
-slice_system : (o : Clocks) (slice : SliceView) → FitsOrder o slice → AreRows slice → IsSystem (record { lens = slice.lens; pulls = pulls_of_slice slice })
+slice_system : (o : Clocks) (slice : SliceView) → FitsOrder o slice → HasAllRows slice → IsSystem (record { lens = slice.lens; pulls = pulls_of_slice slice })
 slice_system o slice fits rows =
     let n : ℕ = length slice.lens in
     let few : n ≤ 32 = rows.cuts.shape.few in
@@ -66,7 +66,7 @@ slice_system o slice fits rows =
     record { shape = rows.cuts.shape; pulls = slice_pulls_fit o slice fits rows; count = omega (arith, slice_pulls_count slice, square) }
 
 -- the rows of a slice are the least of its pulls
-pub slice_least : (o : Clocks) (slice : SliceView) (new : List Pull) (rows : RowsView) → FitsOrder o slice → AreRows slice → new ≡ pulls_of_slice slice
+pub slice_least : (o : Clocks) (slice : SliceView) (new : List Pull) (rows : RowsView) → FitsOrder o slice → HasAllRows slice → new ≡ pulls_of_slice slice
     → ((row : ℕ) → row ≤ sum slice.lens → row_at slice.lens rows.words row ≡ filled slice.lens (get_or slice.rows row no_row)) → AreWithinClosed slice.lens (pulls_of_slice slice) rows.words
     → AreLeastRows (record { lens = lengths o; pulls = new }) rows.words
 slice_least o slice new rows fits are pulls words begins =

@@ -1,7 +1,7 @@
 -- Rows with a cut are final.
 use Rattle.std.proofs.Common.{◌≡◌, ℕ, ◌≤◌, true, List, sum, Some, arith, ap, ◌∙◌, subst}
 use Rattle.trace_growth.specs.Growing.{IsTrace}
-use Rattle.pull_system.specs.Vector.{IsWithin}
+use Rattle.pull_system.specs.Vector.{IsAtMost}
 use Rattle.pull_system.specs.Rows.{RowsView, IsLeast, row_at, start_of}
 use Rattle.pull_system.specs.Growth.{old_row, grown_words}
 use Rattle.pull_system.proofs.Existence.{least_unique}
@@ -19,7 +19,7 @@ use Rattle.conjunctions.proofs.Staying.{orders_stay, system_stays}
 
 pub final_floor : (before after : Observed) (ps : List Piece) (old : RowsView) → IsTrace before.trace.states → IsTrace after.trace.states → AreFull before → IsLater before after
     → EachFits (scope_seen before) ps → AllRise after (counters_of_parts ps) → all_atoms ps ≡ true → IsSettled before ps old
-    → (row kept : ℕ) → row ≤ sum (lens_seen after) → old_row old.lens (lens_seen after) row ≡ Some kept → IsWithin (row_at old.lens old.words kept) old.lens
+    → (row kept : ℕ) → row ≤ sum (lens_seen after) → old_row old.lens (lens_seen after) row ≡ Some kept → IsAtMost (row_at old.lens old.words kept) old.lens
     → IsLeast (system_of after ps) row (row_at (lens_seen after) (grown_words (lens_seen after) old) row)
 final_floor before after ps old is_old is_new full later fits rise atoms settled row kept there found within =
     final_row (system_of before ps) (system_of after ps) (settled.system atoms)
@@ -28,7 +28,7 @@ final_floor before after ps old is_old is_new full later fits rise atoms settled
 
 pub final_same : (before after : Observed) (ps : List Piece) (old new : RowsView) → IsTrace before.trace.states → IsTrace after.trace.states → AreFull before → IsLater before after
     → EachFits (scope_seen before) ps → AllRise after (counters_of_parts ps) → all_atoms ps ≡ true → IsSettled before ps old → IsSettled after ps new
-    → (row kept : ℕ) → row ≤ sum new.lens → old_row old.lens new.lens row ≡ Some kept → IsWithin (row_at old.lens old.words kept) old.lens
+    → (row kept : ℕ) → row ≤ sum new.lens → old_row old.lens new.lens row ≡ Some kept → IsAtMost (row_at old.lens old.words kept) old.lens
     → row_at new.lens new.words row ≡ row_at old.lens old.words kept
 final_same before after ps old new is_old is_new full later fits rise atoms settled now row kept there found within =
     let here : row ≤ sum (lens_seen after) = omega (arith, ap sum now.lens) in

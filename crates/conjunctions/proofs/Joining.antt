@@ -4,7 +4,7 @@ use Rattle.std.specs.Prelude.{◌↔◌}
 use Rattle.run_model.specs.Cut.{Cut}
 use Rattle.run_model.specs.Run.{Run}
 use Rattle.run_model.specs.Consistent.{IsOrder}
-use Rattle.run_model.specs.Sublattice.{IsClosed, Smallest, given, Either}
+use Rattle.run_model.specs.Sublattice.{IsSublattice, Smallest, given, Either}
 use Rattle.run_model.specs.Slice.{Slice, StandsFor, Cuts}
 use Rattle.run_model.specs.Meaning.{SatSome, Family}
 use Rattle.run_model.proofs.SliceLemmas.{stands_same, exact_slice}
@@ -37,7 +37,7 @@ joined_more r names order ds d s t u left right joined =
     First : Cut → Type 0
     First = Family r (disjunction_of names ds)
 
-    closed : IsClosed r.clocks (Smallest (Family r (disjunction_of names ds)))
+    closed : IsSublattice r.clocks (Smallest (Family r (disjunction_of names ds)))
     closed = smallest_closed r.clocks order (Family r (disjunction_of names ds)) (λ c h. h.0)
 
     more : (c : Cut) → Family r (disjunction_of names ds) c → Family r (disjunction_of names (ds ++ d ∷ [])) c

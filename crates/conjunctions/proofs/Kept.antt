@@ -12,7 +12,7 @@ use Rattle.rctl_parts.specs.Exprs as expr
 use Rattle.rctl_parts.specs.Exprs.{Expr, Exprs}
 use Rattle.rctl_parts.specs.Pieces.{Atom, Piece, Pieces, none, more, pieces, atom, temporal, local, at_most, at_least, never, diff_at_most, diff_at_least}
 use Rattle.rctl_parts.specs.MadeFor.{AtomFits, PieceFits, PiecesFit, EachFits, AllFit, VariableFits}
-use Rattle.rctl_parts.specs.Spelled.{Names, name_at, variable_at, formula_in, formulas_in, operated, atom_formula, formula_of, formulas_of, conjunctions_of, disjunction_of}
+use Rattle.rctl_parts.specs.Spelled.{Names, numbered_name, variable_at, formula_in, formulas_in, operated, atom_formula, formula_of, formulas_of, conjunctions_of, disjunction_of}
 use Rattle.part_pulls.specs.declared.observed.Observed.{Observed}
 use Rattle.part_pulls.specs.Observing.{Reading, scope_seen, run_seen, names_seen}
 use Rattle.part_pulls.specs.Counters.{AllRise, CountersRise, counter, counters_of_atom, counters_of_part, counters_of_operand, counters_of_parts}
@@ -35,9 +35,9 @@ mutual
 
 -- a counter by its number is one by its name
 named : (seen : Observed) → IsTrace seen.trace.states → (reading : Reading) (p x : ℕ) → VariableFits (scope_seen seen) p x → IsCounter seen.trace.states (counter p x)
-    → NeverFalls (run_seen seen reading) (name_at (names_seen seen reading).processes p) (variable_at (names_seen seen reading) p x)
+    → NeverFalls (run_seen seen reading) (numbered_name (names_seen seen reading).processes p) (variable_at (names_seen seen reading) p x)
 named seen trace reading p x fits rising =
-    subst (λ (name : Name). NeverFalls (run_seen seen reading) (name_at (names_seen seen reading).processes p) name) (sym (variable_name seen reading p x))
+    subst (λ (name : Name). NeverFalls (run_seen seen reading) (numbered_name (names_seen seen reading).processes p) name) (sym (variable_name seen reading p x))
     (never_falls seen.trace.states reading.watches (counter p x) trace.whole (is_variable seen trace p x fits) rising)
 
 atom_kept : (seen : Observed) → IsTrace seen.trace.states → (reading : Reading) (a : Atom) → AtomFits (scope_seen seen) a → AllRise seen (counters_of_atom a)

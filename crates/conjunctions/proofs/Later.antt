@@ -6,7 +6,7 @@ use Rattle.run_model.proofs.Counts.{length-lengths}
 use Rattle.trace_growth.specs.Growing.{IsTrace}
 use Rattle.pull_system.specs.declared.pull.Pull.{Pull}
 use Rattle.pull_system.specs.System.{no_pull}
-use Rattle.pull_system.specs.Vector.{IsWithin}
+use Rattle.pull_system.specs.Vector.{IsAtMost}
 use Rattle.pull_system.specs.Rows.{RowsView, row_at}
 use Rattle.pull_system.specs.Growth.{DidNotFall, PullGrows, Grows}
 use Rattle.raise_machine.proofs.Raising.{grown_bounds}
@@ -101,7 +101,7 @@ kept_floor before after run ps rows fits rise settled = record {
     each = λ process count there some few within.
         first_final (system_of before ps) (system_of after ps) (settled.system atoms) (system_grows before after run.grows ps fits rise) (system_stays before after run.stays ps fits) rows settled.lens
         (settled.least atoms) process count (omega (arith, there, run.grows.fell.count)) some (omega (arith, few, ap (λ (lens : List ℕ). get_or lens process 0) settled.lens))
-        (subst (λ (lens : List ℕ). IsWithin (row_at lens rows.words (sum (take process lens) + count)) lens) settled.lens within);
+        (subst (λ (lens : List ℕ). IsAtMost (row_at lens rows.words (sum (take process lens) + count)) lens) settled.lens within);
   };
 }
 

@@ -3,7 +3,7 @@ use Rattle.std.specs.Prelude.{◌≡◌, ℕ, ◌+◌, ◌<◌, ◌≤◌, ◌++
 use Rattle.std.specs.Prelude.{take, slice_index, Option, Some, None, IfSome}
 use Rattle.run_model.specs.Cut.{Clocks, lengths}
 use Rattle.pull_system.specs.declared.pull.Pull.{Pull}
-use Rattle.pull_system.specs.Vector.{IsWithin}
+use Rattle.pull_system.specs.Vector.{IsAtMost}
 use Rattle.pull_system.specs.Rows.{RowsView, AreLeastRows, row_at, starts}
 use Rattle.pull_system.specs.Growth.{grown_words}
 use Rattle.slice_graph.specs.PullLists.{pulls_of_order}
@@ -58,7 +58,7 @@ pub record AreWithin (lens finals : List ℕ) : Type 0 where
 pub record HaveCuts (rows : RowsView) (finals : List ℕ) : Type 0 where
   pub within : AreWithin rows.lens finals
   pub cut : (process : ℕ) → process < length rows.lens → 1 ≤ slice_index finals process
-      → IsWithin (row_at rows.lens rows.words
+      → IsAtMost (row_at rows.lens rows.words
       (sum (take process rows.lens) + slice_index finals process)) rows.lens
 
 -- which rows of a conjunction of atoms are final where it begins: of those of before the first ones

@@ -12,7 +12,7 @@ use Rattle.slice_graph.specs.Views.{SliceView, slice_of}
 use Rattle.slice_graph.specs.Fitting.{FitsOrder}
 use Rattle.pull_system.specs.Rows.{RowsView, AreLeastRows, start_of, row_at}
 use Rattle.pull_system.specs.Growth.{DidNotFall, grown_words}
-use Rattle.pull_system.specs.Vector.{IsWithin as IsVectorWithin}
+use Rattle.pull_system.specs.Vector.{IsAtMost}
 use Rattle.raise_machine.specs.Bounds.{AreBounds}
 use Rattle.slice_workers.specs.Reaching.{ReachesFirst}
 use Rattle.rctl_parts.specs.Pieces.{Piece}
@@ -64,7 +64,7 @@ AreSettled seen (ps ∷ rest) (rows ∷ more) = IsSettled seen ps rows × AreSet
 pub record CutsStay (system : SystemView) (rows : RowsView) : Type 0 where
   pub each : (process count : ℕ) → process < length system.lens → 1 ≤ count
       → count ≤ slice_index rows.lens process
-      → IsVectorWithin (row_at rows.lens rows.words (sum (take process rows.lens) + count)) rows.lens
+      → IsAtMost (row_at rows.lens rows.words (sum (take process rows.lens) + count)) rows.lens
       → ReachesFirst system process count (grown_words system.lens rows)
 
 -- a conjunction of atoms may begin from these rows, grown, and those with a cut are final

@@ -2,7 +2,7 @@
 ghost use Rattle.std.specs.Prelude.{◌≡◌, ℕ, ◌+◌, ◌<◌, ◌≤◌, ◌↔◌, true, false, length, sum, take};
 ghost use Rattle.std.specs.Prelude.{slice_index, IsTrue, IfOk, IfSome};
 ghost use Rattle.run_model.specs.Cut.{lengths};
-ghost use Rattle.pull_system.specs.Vector.{IsWithin};
+ghost use Rattle.pull_system.specs.Vector.{IsAtMost};
 ghost use Rattle.pull_system.specs.Rows.{row_at};
 ghost use Rattle.conjunctions.specs.Beginning.{BeginsAtoms, BeginsOthers, FinalsOfAtoms};
 ghost use Rattle.conjunctions.specs.Beginning.{FinalsOfOthers, GatheredFinals};
@@ -152,7 +152,7 @@ fn rows_with_cuts(rows: &Rows) -> [u32; 32]
 fn rows_with_a_cut(rows: &Rows, process: u32) -> u32
     requires process { process < length rows.now.lens }
     ensures few { result ≤ slice_index rows.now.lens process }
-    ensures cut { 1 ≤ result → IsWithin
+    ensures cut { 1 ≤ result → IsAtMost
         (row_at rows.now.lens rows.now.words (sum (take process rows.now.lens) + result))
         rows.now.lens }
 {
@@ -173,7 +173,7 @@ fn rows_with_a_cut(rows: &Rows, process: u32) -> u32
 /// Whether each component of the row is at most its process's length.
 fn has_cut(row: &[u16], lens: &[u32]) -> bool
     requires { length row.now ≡ length lens.now }
-    ensures { IsTrue result ↔ IsWithin row.now lens.now }
+    ensures { IsTrue result ↔ IsAtMost row.now lens.now }
 {
     for process in 0..lens.len() {
         if row[process] as u32 > lens[process] {

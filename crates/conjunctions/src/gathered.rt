@@ -3,7 +3,7 @@ ghost use Rattle.std.specs.Prelude.{◌≡◌, ◌++◌, [], None, false, All, I
 ghost use Rattle.run_model.specs.Cut.{Clocks, lengths};
 ghost use Rattle.pull_system.specs.System.{IsPull};
 ghost use Rattle.pull_system.specs.Fans.{pulls_of_fans};
-ghost use Rattle.slice_graph.specs.Views.{AreRows};
+ghost use Rattle.slice_graph.specs.Views.{HasAllRows};
 ghost use Rattle.slice_graph.specs.Fitting.{FitsOrder};
 ghost use Rattle.slice_graph.specs.PullLists.{pulls_of_slice};
 ghost use Rattle.rctl_parts.specs.Pieces.{pieces_of};
@@ -95,7 +95,7 @@ impl Gathered {
         ensures pulls { OnOk result (self.new.pulls ≡ self.old.pulls ++ pulls_of_slice slice.now) }
         ensures floor { (o : Clocks) → FitsOrder o slice.now → FloorFits (lengths o) self.old
             → OnOk result (FloorFits (lengths o) self.new) }
-        ensures rows { AreRows slice.now }
+        ensures rows { HasAllRows slice.now }
     {
         let _shape = slice.shape();
         let alone = self.asks_nothing();

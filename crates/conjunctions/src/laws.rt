@@ -2,7 +2,7 @@
 ghost use Rattle.std.specs.Prelude.{◌≡◌, ℕ, ◌≤◌, true, List, sum, Some};
 ghost use Rattle.run_model.specs.Class.{IsKeptFor};
 ghost use Rattle.trace_growth.specs.Growing.{IsTrace};
-ghost use Rattle.pull_system.specs.Vector.{IsWithin};
+ghost use Rattle.pull_system.specs.Vector.{IsAtMost};
 ghost use Rattle.pull_system.specs.Rows.{RowsView, IsLeast, row_at};
 ghost use Rattle.pull_system.specs.Growth.{old_row, grown_words};
 ghost use Rattle.rctl_parts.specs.Pieces.{Piece};
@@ -46,7 +46,7 @@ pub fn rows_with_a_cut_are_final()
         → AllRise after (counters_of_parts ps) → all_atoms ps ≡ true
         → IsSettled before ps old → IsSettled after ps new
         → (row kept : ℕ) → row ≤ sum new.lens → old_row old.lens new.lens row ≡ Some kept
-        → IsWithin (row_at old.lens old.words kept) old.lens
+        → IsAtMost (row_at old.lens old.words kept) old.lens
         → row_at new.lens new.words row ≡ row_at old.lens old.words kept }
     ensures floor { (before after : Observed) (ps : List Piece) (old : RowsView)
         → IsTrace before.trace.states → IsTrace after.trace.states → AreFull before
@@ -55,7 +55,7 @@ pub fn rows_with_a_cut_are_final()
         → IsSettled before ps old
         → (row kept : ℕ) → row ≤ sum (lens_seen after)
         → old_row old.lens (lens_seen after) row ≡ Some kept
-        → IsWithin (row_at old.lens old.words kept) old.lens
+        → IsAtMost (row_at old.lens old.words kept) old.lens
         → IsLeast (system_of after ps) row
         (row_at (lens_seen after) (grown_words (lens_seen after) old) row) }
 {}

@@ -3,7 +3,7 @@ use Rattle.std.proofs.Common.{◌≡◌, ℕ, zero, suc, ◌+◌, ◌<◌, ◌�
 use Rattle.std.proofs.lemmas.List.{ext_get_or, get_or-set_same, get_or-set_other, length-set}
 use Rattle.run_model.specs.Cut.{Cut, Clocks, count, min_cut, lengths}
 use Rattle.run_model.specs.Consistent.{IsOrder, IsConsistent, IsEvent}
-use Rattle.run_model.specs.Sublattice.{IsClosed, Smallest, Either}
+use Rattle.run_model.specs.Sublattice.{IsSublattice, Smallest, Either}
 use Rattle.run_model.specs.Slice.{Slice, Cuts, StandsFor}
 use Rattle.run_model.specs.Operators.{min_row, joined}
 use Rattle.run_model.proofs.Counts.{count-min, length-min}

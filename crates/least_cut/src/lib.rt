@@ -4,7 +4,7 @@
 ghost use Rattle.std.specs.Prelude.{◌≡◌, ◌≢◌, ℕ, ◌+◌, ◌*◌, ◌<◌, ◌≤◌, List, length, sum};
 ghost use Rattle.pull_system.specs.Vector.{IsVector};
 ghost use Rattle.pull_system.specs.System.{IsSystem, IsLeastFrom, source_of};
-ghost use Rattle.pull_system.specs.Climb.{IsBelowLeast, IsSettled, IsLook, AreMarks, marked};
+ghost use Rattle.pull_system.specs.Climb.{IsBelowLeast, AreHeld, IsLook, AreMarks, marked};
 
 use pota_base::Steps;
 use pull_system::{Risen, System};
@@ -37,7 +37,7 @@ fn look_at_all<L: Ledger>(
 )
     requires vector { IsVector system.now.lens vector.old }
     requires marks { AreMarks system.now.lens risen.old }
-    ensures settled { IsSettled system.now vector.new risen.new (λ k. Unit {0}) }
+    ensures settled { AreHeld system.now vector.new risen.new (λ k. Unit {0}) }
     ensures below { (start : List ℕ) → IsBelowLeast system.now start vector.old
         → IsBelowLeast system.now start vector.new }
     ensures marks { AreMarks system.now.lens risen.new }
@@ -60,9 +60,9 @@ fn look_from<L: Ledger>(
     requires process { process < length system.now.lens }
     requires vector { IsVector system.now.lens vector.old }
     requires marks { AreMarks system.now.lens risen.old }
-    requires settled { IsSettled system.now vector.old risen.old
+    requires settled { AreHeld system.now vector.old risen.old
         (λ k. source_of system.now k ≢ process) }
-    ensures settled { IsSettled system.now vector.new risen.new (λ k. Unit {0}) }
+    ensures settled { AreHeld system.now vector.new risen.new (λ k. Unit {0}) }
     ensures below { (start : List ℕ) → IsBelowLeast system.now start vector.old
         → IsBelowLeast system.now start vector.new }
     ensures marks { AreMarks system.now.lens risen.new }

@@ -12,18 +12,18 @@ use Rattle.rctl_parts.specs.declared.expr.LocalSide.{LocalSide}
 use Rattle.rctl_parts.specs.declared.expr.LocalSide.TheVariants as side
 use Rattle.rctl_parts.specs.Exprs.{Expr, truth, comparison, watch, negation, conjunction, disjunction, Exprs, none, more}
 use Rattle.rctl_parts.specs.MadeFor.{SideFits, ExprFits, ExprsFit, is_constant, are_constant}
-use Rattle.rctl_parts.specs.Spelled.{name_at, side_in, formula_in, formulas_in}
+use Rattle.rctl_parts.specs.Spelled.{numbered_name, side_in, formula_in, formulas_in}
 use Rattle.local_preds.specs.Rows.{side_value, is_true, all_true, some_true, IsReadable, AreReadable}
 
 -- ---- the formula
 
 -- the values of variables at a cut, by their names
 abbrev pub named_value : Run → List Name → Name → Cut → ℕ → ℤ
-named_value r variables process c v = meaning.value_at r process (name_at variables v) c
+named_value r variables process c v = meaning.value_at r process (numbered_name variables v) c
 
 -- the truths of watches at a cut, by their names
 abbrev pub named_watch : Run → List Name → Name → Cut → ℕ → Bool
-named_watch r watches process c w = r.watched (r.process process) (name_at watches w) (count c (r.process process))
+named_watch r watches process c w = r.watched (r.process process) (numbered_name watches w) (count c (r.process process))
 
 side_means : (r : Run) (variables : List Name) (process : Name) (c : Cut) (right : LocalSide)
     → meaning.side_at r (side_in variables process right) c ≡ side_value (named_value r variables process c) right

@@ -19,7 +19,7 @@ use Rattle.event_log.proofs.NameNumbers.{names_are, number_again, value_named}
 use Rattle.pull_system.specs.Pulls.{ClosedUnder}
 use Rattle.rctl_parts.specs.Exprs.{Expr}
 use Rattle.rctl_parts.specs.MadeFor.{is_constant}
-use Rattle.rctl_parts.specs.Spelled.{Names, name_at, formula_in, local_formula}
+use Rattle.rctl_parts.specs.Spelled.{Names, numbered_name, formula_in, local_formula}
 use Rattle.local_preds.specs.Rows.{is_true, value_at, watched_at, truth_at, truths_of, len_at}
 use Rattle.local_preds.specs.LocalPulls.{constant_pulls_of}
 use Rattle.local_preds.specs.LocalRuns.{names_of, AreAnswers, FitsProcess, local_pulls, constant_truth}
@@ -47,9 +47,9 @@ apart_at (v ∷ vars) zero all there = all.0
 apart_at (v ∷ vars) (suc p) all there = apart_at vars p all.1 (omega arith)
 
 process_number : (states : StatesView) (watches : Watches) → AreWhole states → (p : ℕ) → p < length states.events
-    → (run_of (trace_of states) watches).process (name_at states.header.procs p) ≡ p
+    → (run_of (trace_of states) watches).process (numbered_name states.header.procs p) ≡ p
 process_number states watches whole p there =
-    ap (run.number_of (name_at states.header.procs p)) (names_are states whole.header.vars whole.events)
+    ap (run.number_of (numbered_name states.header.procs p)) (names_are states whole.header.vars whole.events)
     ∙ number_again states.header.procs p whole.header.distinct (omega (arith, whole.events))
 
 -- ---- values and truths by names and by numbers
@@ -57,8 +57,8 @@ process_number states watches whole p there =
 values_agree : (states : StatesView) (watches : Watches) (watch_names : List Name) (watch_process : List (Option ℕ)) (watch_rows : List (List Bool)) (p : ℕ) → AreWhole states → p < length states.events
     → AreAnswers states watches watch_names watch_process watch_rows p → (c : Cut)
     → Agree (length (get_or states.header.vars p [])) watch_process p
-    (named_value (run_of (trace_of states) watches) (binding_names (get_or states.header.vars p [])) (name_at states.header.procs p) c) (value_at states p (count c p))
-    (named_watch (run_of (trace_of states) watches) watch_names (name_at states.header.procs p) c) (watched_at watch_rows (count c p))
+    (named_value (run_of (trace_of states) watches) (binding_names (get_or states.header.vars p [])) (numbered_name states.header.procs p) c) (value_at states p (count c p))
+    (named_watch (run_of (trace_of states) watches) watch_names (numbered_name states.header.procs p) c) (watched_at watch_rows (count c p))
 values_agree states watches watch_names watch_process watch_rows p whole there answers c =
     let r = run_of (trace_of states) watches in
     let names = binding_names (get_or states.header.vars p []) in
@@ -66,11 +66,11 @@ values_agree states watches watch_names watch_process watch_rows p whole there a
     record {
       values = λ v lt.
           let variables : v < length names = omega (arith, length-map (get_or states.header.vars p []) (λ (b : Binding). b.name)) in
-          ap (λ (i : ℕ). r.value i (name_at names v) (count c i)) number
-          ∙ value_named states p (count c p) v (name_at names v) whole.header.vars whole.events there
+          ap (λ (i : ℕ). r.value i (numbered_name names v) (count c i)) number
+          ∙ value_named states p (count c p) v (numbered_name names v) whole.header.vars whole.events there
           (place_again names v (apart_at states.header.vars p whole.header.variables (omega (arith, whole.events, whole.header.vars))) variables);
       truths = λ w on.
-          ap (λ (i : ℕ). r.watched i (name_at watch_names w) (count c i)) number
+          ap (λ (i : ℕ). r.watched i (numbered_name watch_names w) (count c i)) number
           ∙ ap (λ (row : List Bool). get_or row (count c p) false) (sym (answers w on));
     }
 
@@ -84,7 +84,7 @@ formula_at_cut : (states : StatesView) (watches : Watches) (watch_names : List N
     → Sat (run_of (trace_of states) watches) (local_formula (names_of states watch_names) (Some p) e) c ↔ (truth_at states p watch_rows e (count c p) ≡ true)
 formula_at_cut states watches watch_names watch_process watch_rows p e whole there fits answers c =
     let r = run_of (trace_of states) watches in
-    let process = name_at states.header.procs p in
+    let process = numbered_name states.header.procs p in
     let names = binding_names (get_or states.header.vars p []) in
     let named : get_or (names_of states watch_names).variables p [] ≡ names =
     get_or-map binding_names states.header.vars p [] [] (omega (arith, whole.events, whole.header.vars)) in

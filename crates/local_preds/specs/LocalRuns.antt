@@ -8,7 +8,7 @@ use Rattle.event_log.specs.States.{StatesView, AreWhole, trace_of}
 use Rattle.pull_system.specs.declared.pull.Pull.{Pull}
 use Rattle.rctl_parts.specs.Exprs.{Expr}
 use Rattle.rctl_parts.specs.MadeFor.{ExprFits}
-use Rattle.rctl_parts.specs.Spelled.{Names, name_at}
+use Rattle.rctl_parts.specs.Spelled.{Names, numbered_name}
 use Rattle.local_preds.specs.Rows.{is_true, truths_of, len_at}
 use Rattle.local_preds.specs.LocalPulls.{local_pull}
 
@@ -26,7 +26,7 @@ abbrev pub AreAnswers : StatesView → Watches → List Name → List (Option �
 AreAnswers states watches watch_names watch_process watch_rows p =
     (w : ℕ) → get_or watch_process w None ≡ Some p
     → get_or watch_rows w []
-    ≡ watches (name_at watch_names w) (states_of (process_at (trace_of states) p))
+    ≡ watches (numbered_name watch_names w) (states_of (process_at (trace_of states) p))
 
 -- each watch on process p has a row, of one truth per state
 abbrev pub AreFull : StatesView → List (Option ℕ) → List (List Bool) → ℕ → Type 0

@@ -34,7 +34,7 @@ use Rattle.log_judgement.specs.Counters.{counters_in}
 use Rattle.log_judgement.specs.Judgement.{Prefix, followed_by, states_of, clock_fault, fault_behind, with_clocks, waiting, growing, refused, opened}
 use Rattle.log_judgement.specs.Due.{closed_of, batches_of}
 use Rattle.rctl_class.specs.Nodes.{Node}
-use Rattle.rctl_class.specs.NamedParts.{Piece, disjuncts_uses}
+use Rattle.rctl_class.specs.NamedParts.{NamedPiece, disjuncts_uses}
 use Rattle.rctl_class.specs.Classed.{IsClassed}
 use Rattle.rctl_class.specs.Uses.{first_unknown}
 use Rattle.rctl_names.specs.Numbers.{known_in}
@@ -178,7 +178,7 @@ pub can_resolve : (h : Header) (names : List Name) → HeaderFits h → length n
 can_resolve h names fits few = record { fits = header_known h fits; variables = λ p. variables_few h.vars p fits.vars; few = few }
 
 -- the fault of the parts' names is that of the formula's
-pub unknown_is : (n : Node) (ds : List (List Piece)) → IsClassed n ds → (names : List Name) (h : Header) → first_unknown (known_in (rctl_names.names_of h names)) [] (disjuncts_uses ds) ≡ unknown_name n names h
+pub unknown_is : (n : Node) (ds : List (List NamedPiece)) → IsClassed n ds → (names : List Name) (h : Header) → first_unknown (known_in (rctl_names.names_of h names)) [] (disjuncts_uses ds) ≡ unknown_name n names h
 unknown_is n ds classed names h = classed.names.fault (known_in (rctl_names.names_of h names)) []
 
 opened_free : (aim : Aim) (h : Header) → unknown_name aim.node aim.names h ≡ None → opened (rules_of aim) h ≡ growing (record { header = h; batches = [] }) []

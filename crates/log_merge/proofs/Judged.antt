@@ -25,7 +25,7 @@ use Rattle.log_merge.specs.Sources.{IsSource, OwnLine, own_vars_lines, own_event
 use Rattle.log_merge.specs.Faults.{differs, not_alone, one_too_many, source_fault, placed, fault_from, merge_fault, found}
 use Rattle.log_merge.specs.declared.fault.MergeFault.{MergeFault}
 use Rattle.log_merge.specs.declared.judging.Joined.{Joined}
-use Rattle.log_merge.specs.Owners.{IsOwner, AreOwners, IsWithin, with_owner, IsJudged, HasJoined}
+use Rattle.log_merge.specs.Owners.{IsOwner, AreOwners, IsOfAProcess, with_owner, IsJudged, HasJoined}
 use Rattle.log_merge.proofs.Lists.{item_at, item_taken}
 use Rattle.log_merge.proofs.Owned.{owners_more, no_owners}
 
@@ -56,17 +56,17 @@ length-lines_from n ((b ∷ bs) ∷ vars) = ap suc (length-lines_from (n + 1) va
 pub few_lines : (s : Log) → IsSource s → length s.header.var_lines ≤ 32
 few_lines s source = omega (arith, ap length source.lines, length-lines_from 3 s.header.vars, source.header.all, source.header.procs.few)
 
-low_seen : (ls : List OwnLine) → AllByRecursion IsLow ls → IsWithin (seen_of ls)
+low_seen : (ls : List OwnLine) → AllByRecursion IsLow ls → IsOfAProcess (seen_of ls)
 low_seen [] all = tt
 low_seen (l ∷ ls) all = go (another l.process ls)
   where
-    go : (o : Option OwnLine) → IsWithin (choose o (λ (k : OwnLine). Two k.line) (One l.process l.line))
+    go : (o : Option OwnLine) → IsOfAProcess (choose o (λ (k : OwnLine). Two k.line) (One l.process l.line))
     go None = all.0
     go (Some k) = tt
 
-pub seen_within : (s : Log) (seen : Seen) → IsSource s → seen ≡ seen_of (own_lines s) → IsWithin seen
+pub seen_within : (s : Log) (seen : Seen) → IsSource s → seen ≡ seen_of (own_lines s) → IsOfAProcess seen
 seen_within s seen source is =
-    subst IsWithin (sym is) (low_seen (own_lines s) (all_append IsLow (own_vars_lines 0 s.header.var_lines) (own_event_lines (events_of s)) (vars_low 0 s.header.var_lines (omega (arith, few_lines s source))) (events_low s.header (events_of s) source.header.procs.few source.events)))
+    subst IsOfAProcess (sym is) (low_seen (own_lines s) (all_append IsLow (own_vars_lines 0 s.header.var_lines) (own_event_lines (events_of s)) (vars_low 0 s.header.var_lines (omega (arith, few_lines s source))) (events_low s.header (events_of s) source.header.procs.few source.events)))
 
 -- ---- a source without a fault
 

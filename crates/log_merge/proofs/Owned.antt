@@ -19,7 +19,7 @@ use Rattle.log_merge.specs.declared.seen.Seen.TheVariants.{Nothing, One, Two}
 use Rattle.log_merge.specs.Sources.{IsSource, OwnLine, own_vars_lines, own_event_lines, events_of, own_lines, has_lines_of, another, seen_of}
 use Rattle.log_merge.specs.Faults.{not_alone, found}
 use Rattle.log_merge.specs.Merging.{Placed, placed_events, placed_in, placed_from, of_process, variables_in}
-use Rattle.log_merge.specs.Owners.{IsOwner, AreOwners, IsWithin, with_owner, numbered_source}
+use Rattle.log_merge.specs.Owners.{IsOwner, AreOwners, IsOfAProcess, with_owner, numbered_source}
 use Rattle.log_merge.proofs.Lists.{get_front, get_at}
 
 -- ---- what was seen of lines
@@ -203,7 +203,7 @@ alone_none before p line e = go (list_any (has_lines_of p) before) e
     go true h = absurd (none-some _ (sym h))
     go false h = refl
 
-pub owners_more : (before : List Log) (s : Log) (owners : List (Option ℕ)) (seen : Seen) (k : ℕ) → IsSource s → seen ≡ seen_of (own_lines s) → IsWithin seen → k ≡ length before + 1 → length owners ≡ 32
+pub owners_more : (before : List Log) (s : Log) (owners : List (Option ℕ)) (seen : Seen) (k : ℕ) → IsSource s → seen ≡ seen_of (own_lines s) → IsOfAProcess seen → k ≡ length before + 1 → length owners ≡ 32
     → not_alone before (seen_of (own_lines s)) ≡ None → AreOwners before owners → AreOwners (before ++ s ∷ []) (with_owner owners seen k)
 owners_more before s owners Nothing k source is within number len none are = λ p lt.
     let empty : own_lines s ≡ [] = seen_none (own_lines s) (sym is) in

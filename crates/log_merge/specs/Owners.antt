@@ -45,10 +45,10 @@ AreOwners sources owners =
     (process : ℕ) → process < 32 → IsOwner sources process (get_or owners process None)
 
 -- the process of the lines is one of 32
-abbrev pub IsWithin : Seen → Type 0
-IsWithin Nothing = Unit {0}
-IsWithin (One process line) = process < 32
-IsWithin (Two line) = Unit {0}
+abbrev pub IsOfAProcess : Seen → Type 0
+IsOfAProcess Nothing = Unit {0}
+IsOfAProcess (One process line) = process < 32
+IsOfAProcess (Two line) = Unit {0}
 
 -- the owners with the source of this number, which has these lines
 abbrev pub with_owner : List (Option ℕ) → Seen → ℕ → List (Option ℕ)

@@ -9,7 +9,7 @@ ghost use Rattle.log_merge.specs.Sources.{IsSource, seen_of, own_lines, events_i
 ghost use Rattle.log_merge.specs.Sources.{all_events};
 ghost use Rattle.log_merge.specs.Faults.{same_procs, same_start, differs, not_alone, one_too_many};
 ghost use Rattle.log_merge.specs.Faults.{event_too_many, source_fault, placed, merge_fault};
-ghost use Rattle.log_merge.specs.Owners.{AreOwners, IsWithin, with_owner, IsJudged};
+ghost use Rattle.log_merge.specs.Owners.{AreOwners, IsOfAProcess, with_owner, IsJudged};
 
 use crate::fault::{Found, MergeCode, MergeFault};
 use crate::seen::{Seen, line_at, seen_in};
@@ -66,7 +66,7 @@ fn differs(before: &[Log], source: &Log) -> Option<Found>
 // Whether a source with these lines is more than the one source of one process.
 fn not_alone(before: &[Log], seen: Seen, owners: &[Option<u32>; 32]) -> Option<Found>
     requires owners { AreOwners before.now owners.now }
-    requires within { IsWithin seen }
+    requires within { IsOfAProcess seen }
     ensures { result ≡ not_alone before.now seen }
 {
     match seen {
@@ -127,7 +127,7 @@ fn source_fault(
 ) -> Option<Found>
     requires owners { AreOwners before.now owners.now }
     requires seen { seen ≡ seen_of (own_lines source.now) }
-    requires within { IsWithin seen }
+    requires within { IsOfAProcess seen }
     requires count { count ≡ events_in before.now }
     requires small { count ≤ 50000 }
     ensures { result ≡ source_fault before.now source.now }
@@ -140,7 +140,7 @@ fn source_fault(
 
 // Which source has the lines of which process, with those of one source more.
 fn note(owners: &mut [Option<u32>; 32], seen: Seen, number: u32)
-    requires { IsWithin seen }
+    requires { IsOfAProcess seen }
     ensures { owners.new ≡ with_owner owners.old seen number }
 {
     if let Seen::One { process, .. } = seen {

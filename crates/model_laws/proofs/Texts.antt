@@ -5,7 +5,7 @@ use Rattle.std.specs.List.{range_with_len}
 use Rattle.std.proofs.lemmas.Bool.{cases_eq}
 use Rattle.run_model.specs.Cut.{Cut, Clocks, count, IsWithin, max_cut, lengths}
 use Rattle.run_model.specs.Consistent.{clock, IsEvent, IsOrder}
-use Rattle.run_model.specs.Sublattice.{IsClosed, IsGreatest, Having}
+use Rattle.run_model.specs.Sublattice.{IsSublattice, IsGreatest, Having}
 use Rattle.run_model.specs.Slice.{Slice, IsLeastOf, StandsFor, Edge, cut_of, previous, edge_into, edges_of, IsPrintedAs, SliceText, DenotedBy, IsTextOf}
 use Rattle.run_model.proofs.Counts.{within_both, within_refl, within_trans, max_left, max_right}
 use Rattle.run_model.proofs.Orders.{has_process}
@@ -57,10 +57,10 @@ edges_same o s t e rows high within =
 
 -- ---- there is at most one text
 
-one_cut : (o : Clocks) (A : Cut → Type 0) → IsClosed o A → (c d : Cut) → A c → A d → IsWithin c d → IsWithin d c → c ≡ d
+one_cut : (o : Clocks) (A : Cut → Type 0) → IsSublattice o A → (c d : Cut) → A c → A d → IsWithin c d → IsWithin d c → c ≡ d
 one_cut o A closed c d m n p q = within_both c d ((closed.consistent c m).shaped ∙ sym (closed.consistent d n).shaped) p q
 
-one_printed : (o : Clocks) (A : Cut → Type 0) → IsClosed o A → (b d : Cut × Cut) (es fs : List Edge) → IsPrintedAs o A b.0 b.1 es → IsPrintedAs o A d.0 d.1 fs → (b ≡ d) × (es ≡ fs)
+one_printed : (o : Clocks) (A : Cut → Type 0) → IsSublattice o A → (b d : Cut × Cut) (es fs : List Edge) → IsPrintedAs o A b.0 b.1 es → IsPrintedAs o A d.0 d.1 fs → (b ≡ d) × (es ≡ fs)
 one_printed o A closed b d es fs h k =
     let low = one_cut o A closed b.0 d.0 h.least.member k.least.member (h.least.least d.0 k.least.member) (k.least.least b.0 h.least.member) in
     let high = one_cut o A closed b.1 d.1 h.greatest.member k.greatest.member (k.greatest.greatest b.1 h.greatest.member) (h.greatest.greatest d.1 k.greatest.member) in
@@ -69,7 +69,7 @@ one_printed o A closed b d es fs h k =
     let edges = edges_same o h.slice k.slice bottoms rows b.1 (closed.consistent b.1 h.greatest.member).within in
     (λ i. (low i, high i), h.listed ∙ edges ∙ ap (edges_of o k.slice) high ∙ sym k.listed)
 
-one_text_from : (o : Clocks) (A : Cut → Type 0) → IsClosed o A → (b d : Option (Cut × Cut)) (es fs : List Edge)
+one_text_from : (o : Clocks) (A : Cut → Type 0) → IsSublattice o A → (b d : Option (Cut × Cut)) (es fs : List Edge)
     → IsTextOf o A (record { bounds = b; edges = es }) → IsTextOf o A (record { bounds = d; edges = fs })
     → (b ≡ d) × (es ≡ fs)
 one_text_from o A closed None None es fs h k = (refl, h.0 ∙ sym k.0)
@@ -77,7 +77,7 @@ one_text_from o A closed None (Some d) es fs h k = absurd (h.1 d.0 k.least.membe
 one_text_from o A closed (Some b) None es fs h k = absurd (k.1 b.0 h.least.member)
 one_text_from o A closed (Some b) (Some d) es fs h k = let e = one_printed o A closed b d es fs h k in (ap Some e.0, e.1)
 
-pub one_text : (o : Clocks) (A : Cut → Type 0) → IsClosed o A → (t u : SliceText) → IsTextOf o A t → IsTextOf o A u → t ≡ u
+pub one_text : (o : Clocks) (A : Cut → Type 0) → IsSublattice o A → (t u : SliceText) → IsTextOf o A t → IsTextOf o A u → t ≡ u
 one_text o A closed t u h k =
     let e = one_text_from o A closed t.bounds u.bounds t.edges u.edges h k in
     λ i. record { bounds = e.0 i; edges = e.1 i }
@@ -94,11 +94,11 @@ row_member o A s stands i a ev j e = (subst (IsLeastOf (Having A i a)) e (stands
 abbrev Added : (Cut → Type 0) → Option Cut → Cut → Type 0
 Added A k u = (v : Cut) × A v × IsWithin u v × ((j : Cut) → k ≡ Some j → IsWithin j v)
 
-add_row : (o : Clocks) (A : Cut → Type 0) → IsClosed o A → (k : Option Cut) → ((j : Cut) → k ≡ Some j → A j) → (u : Cut) → A u → Added A k u
+add_row : (o : Clocks) (A : Cut → Type 0) → IsSublattice o A → (k : Option Cut) → ((j : Cut) → k ≡ Some j → A j) → (u : Cut) → A u → Added A k u
 add_row o A closed None members u m = (u, m, within_refl u, λ j e. absurd (none_some j e))
 add_row o A closed (Some j) members u m = (max_cut u j, closed.has_max u j m (members j refl), max_left u j, λ l e. subst (λ x. IsWithin x (max_cut u j)) (some_is j l e) (max_right u j))
 
-cover_process : (o : Clocks) (A : Cut → Type 0) → IsClosed o A → (s : Slice) → StandsFor o s A → (i n : ℕ) → n ≤ count (lengths o) i → (t : Cut) → A t → Covers s A t (λ k a. (k ≡ i) × (0 < a) × (a ≤ n))
+cover_process : (o : Clocks) (A : Cut → Type 0) → IsSublattice o A → (s : Slice) → StandsFor o s A → (i n : ℕ) → n ≤ count (lengths o) i → (t : Cut) → A t → Covers s A t (λ k a. (k ≡ i) × (0 < a) × (a ≤ n))
 cover_process o A closed s stands i zero fits t m = (t, m, within_refl t, λ k a ev. absurd (omega (arith, ev.1, ev.2)))
 cover_process o A closed s stands i (suc n) fits t m =
     let before = cover_process o A closed s stands i n (omega (arith, fits)) t m in
@@ -112,7 +112,7 @@ cover_process o A closed s stands i (suc n) fits t m =
       ],
     )
 
-cover_all : (o : Clocks) (A : Cut → Type 0) → IsClosed o A → (s : Slice) → StandsFor o s A → (n : ℕ) → (t : Cut) → A t → Covers s A t (λ i a. (i < n) × IsEvent (lengths o) i a)
+cover_all : (o : Clocks) (A : Cut → Type 0) → IsSublattice o A → (s : Slice) → StandsFor o s A → (n : ℕ) → (t : Cut) → A t → Covers s A t (λ i a. (i < n) × IsEvent (lengths o) i a)
 cover_all o A closed s stands zero t m = (t, m, within_refl t, λ k a ev. absurd (omega (arith, ev.0)))
 cover_all o A closed s stands (suc n) t m =
     let before = cover_all o A closed s stands n t m in
@@ -126,12 +126,12 @@ cover_all o A closed s stands (suc n) t m =
       ],
     )
 
-greatest_there : (o : Clocks) (A : Cut → Type 0) → IsClosed o A → (s : Slice) → StandsFor o s A → (low : Cut) → A low → (high : Cut) × IsGreatest A high
+greatest_there : (o : Clocks) (A : Cut → Type 0) → IsSublattice o A → (s : Slice) → StandsFor o s A → (low : Cut) → A low → (high : Cut) × IsGreatest A high
 greatest_there o A closed s stands low m =
     let all = cover_all o A closed s stands (length (lengths o)) low m in
     (all.0, greatest_from_rows o A closed s stands all.0 all.1 (λ i a j ev e. all.3 i a (has_process (lengths o) i a ev, ev) j e))
 
-text_by_bottom : (o : Clocks) (A : Cut → Type 0) → IsClosed o A → (s : Slice) → StandsFor o s A → (k : Option Cut) → IsLeastOf A k → (text : SliceText) × IsTextOf o A text
+text_by_bottom : (o : Clocks) (A : Cut → Type 0) → IsSublattice o A → (s : Slice) → StandsFor o s A → (k : Option Cut) → IsLeastOf A k → (text : SliceText) × IsTextOf o A text
 text_by_bottom o A closed s stands None least = (record { bounds = None; edges = [] }, (refl, least))
 text_by_bottom o A closed s stands (Some low) least =
     let high = greatest_there o A closed s stands low least.member in (
@@ -145,14 +145,14 @@ text_by_bottom o A closed s stands (Some low) least =
       },
     )
 
-pub text_there : (o : Clocks) → IsOrder o → (A : Cut → Type 0) → IsClosed o A → (s : Slice) → StandsFor o s A → (text : SliceText) × IsTextOf o A text
+pub text_there : (o : Clocks) → IsOrder o → (A : Cut → Type 0) → IsSublattice o A → (s : Slice) → StandsFor o s A → (text : SliceText) × IsTextOf o A text
 text_there o order A closed s stands = text_by_bottom o A closed s stands s.bottom stands.bottom
 
 -- ---- it denotes the set
 
-denotes_from : (o : Clocks) → IsOrder o → (A : Cut → Type 0) → IsClosed o A → (b : Option (Cut × Cut)) (es : List Edge) → IsTextOf o A (record { bounds = b; edges = es }) → (c : Cut) → A c ↔ DenotedBy o (record { bounds = b; edges = es }) c
+denotes_from : (o : Clocks) → IsOrder o → (A : Cut → Type 0) → IsSublattice o A → (b : Option (Cut × Cut)) (es : List Edge) → IsTextOf o A (record { bounds = b; edges = es }) → (c : Cut) → A c ↔ DenotedBy o (record { bounds = b; edges = es }) c
 denotes_from o order A closed None es h c = (λ m. absurd (h.1 c m), λ n. absurd n)
 denotes_from o order A closed (Some b) es h c = printed_denotes o order A closed b.0 b.1 es h c
 
-pub text_denotes : (o : Clocks) → IsOrder o → (A : Cut → Type 0) → IsClosed o A → (text : SliceText) → IsTextOf o A text → (c : Cut) → A c ↔ DenotedBy o text c
+pub text_denotes : (o : Clocks) → IsOrder o → (A : Cut → Type 0) → IsSublattice o A → (text : SliceText) → IsTextOf o A text → (c : Cut) → A c ↔ DenotedBy o text c
 text_denotes o order A closed text h c = denotes_from o order A closed text.bounds text.edges h c

@@ -4,7 +4,7 @@ use Rattle.std.proofs.lemmas.Bool.{cases_lt, cases_eq, and_parts, false≢true}
 use Rattle.run_model.specs.Cut.{Cut, Clocks, IsWithin, with_next, lengths, initial}
 use Rattle.run_model.specs.Run.{Name, Run}
 use Rattle.run_model.specs.Consistent.{clock, IsOrder}
-use Rattle.run_model.specs.Sublattice.{IsClosed, Having, Smallest}
+use Rattle.run_model.specs.Sublattice.{IsSublattice, Having, Smallest}
 use Rattle.run_model.specs.Slice.{Slice, IsLeastOf, Cuts, StandsFor, cut_of}
 use Rattle.run_model.specs.Operators.{HasPairs}
 use Rattle.run_model.specs.Formula.{Operator, Ef, Ag, Eg, Af, Ax, Formula, Truth, Comparison, Watched, InTransit, Empty, Difference, Not, And, Or, Temporal, Next, Until}
@@ -27,7 +27,7 @@ use Rattle.model_laws.proofs.FirstPaths.{first_path}
 -- a closed and decided set of consistent cuts, and its slice
 record Operand (o : Clocks) (A : Cut → Type 0) (s : Slice) : Type 0 where
   order : IsOrder o
-  closed : IsClosed o A
+  closed : IsSublattice o A
   stands : StandsFor o s A
   decide : (c : Cut) → Decided (A c)
 
@@ -177,7 +177,7 @@ next_there o A s k i = elim (cases_lt i (length o)) [
   ]
 ]
 
-pub canonical_there : (o : Clocks) (A : Cut → Type 0) (s : Slice) → IsOrder o → IsClosed o A → StandsFor o s A → ((c : Cut) → Decided (A c)) → (operator : WitnessOperator) → (w : Witness) × IsCanonical o s operator w
+pub canonical_there : (o : Clocks) (A : Cut → Type 0) (s : Slice) → IsOrder o → IsSublattice o A → StandsFor o s A → ((c : Cut) → Decided (A c)) → (operator : WitnessOperator) → (w : Witness) × IsCanonical o s operator w
 canonical_there o A s order closed stands decide operator = by_operator operator
   where
     k : Operand o A s

@@ -3,7 +3,7 @@ ghost use Rattle.std.specs.Prelude.{◌≡◌, ◌↔◌, true, [], ◌∷◌};
 ghost use Rattle.run_model.specs.Cut.{Cut};
 ghost use Rattle.run_model.specs.Run.{Run};
 ghost use Rattle.run_model.specs.Consistent.{IsOrder, IsConsistent};
-ghost use Rattle.run_model.specs.Sublattice.{IsClosed};
+ghost use Rattle.run_model.specs.Sublattice.{IsSublattice};
 ghost use Rattle.run_model.specs.Formula.{Formula};
 ghost use Rattle.run_model.specs.Meaning.{IsRun, Sat, Family};
 ghost use Rattle.run_model.specs.Class.{IsRegular, IsRegularIn, parts, disjuncts, SatParts};
@@ -21,7 +21,7 @@ pub fn parts_mean_the_formula()
 /// Mittal; Sen and Garg).
 pub fn families_regular_in_a_run_are_closed()
     ensures { (r : Run) → IsRun r → (f : Formula) → IsRegularIn r f
-        → IsClosed r.clocks (Family r f) }
+        → IsSublattice r.clocks (Family r f) }
 {}
 
 /// Two runs with the same clocks that agree on what a formula names give it the same truth.

@@ -22,7 +22,7 @@ use Rattle.pull_system.specs.Pulls.{ClosedUnder}
 use Rattle.rctl_parts.specs.Exprs.{Expr}
 use Rattle.rctl_parts.specs.Pieces.{Atom, Piece, atom, temporal, local, at_most, at_least, never, diff_at_most, diff_at_least}
 use Rattle.rctl_parts.specs.MadeFor.{AtomFits, LocalFits, ExprFits, VariableFits}
-use Rattle.rctl_parts.specs.Spelled.{atom_formula, name_at, variable_at}
+use Rattle.rctl_parts.specs.Spelled.{atom_formula, numbered_name, variable_at}
 use Rattle.local_preds.specs.LocalPulls.{constant_pulls_of}
 use Rattle.local_preds.specs.LocalRuns.{constant_truth, FitsProcess}
 use Rattle.local_preds.specs.Rows.{IsReadableAt, truths_of}
@@ -92,7 +92,7 @@ is_variable seen trace p x fits = record {
 }
 
 pub variable_name : (seen : Observed) (reading : Reading) (p x : ℕ) → variable_at (names_seen seen reading) p x ≡ counters.variable_of seen.trace.states (counter p x)
-variable_name seen reading p x = ap (λ (names : List Name). name_at names x) (get_or-map binding_names seen.trace.states.header.vars p [])
+variable_name seen reading p x = ap (λ (names : List Name). numbered_name names x) (get_or-map binding_names seen.trace.states.header.vars p [])
 
 -- an atom's pulls are closed at a consistent cut exactly where it is true there
 pub meaning : (seen : Observed) → IsTrace seen.trace.states → (a : Atom) → AtomFits (scope_seen seen) a → AllRise seen (counters_of_atom a) → (reading : Reading) → AreAnswers seen reading
@@ -109,14 +109,14 @@ meaning seen trace never fits rise reading are c consistent =
     (λ h. closes.0 h, λ h. closes.1 h)
 meaning seen trace (diff_at_most p x q y k) fits rise reading are c consistent =
     let names = names_seen seen reading in
-    let P : Name → Name → Type 0 = λ left right. ClosedUnder (pulls_of_atom seen (diff_at_most p x q y k)) c ↔ Sat (run_seen seen reading) (Difference (name_at names.processes p) left (name_at names.processes q) right LessOrEqual k) c in
+    let P : Name → Name → Type 0 = λ left right. ClosedUnder (pulls_of_atom seen (diff_at_most p x q y k)) c ↔ Sat (run_seen seen reading) (Difference (numbered_name names.processes p) left (numbered_name names.processes q) right LessOrEqual k) c in
     subst (λ (left : Name). P left (variable_at names q y)) (sym (variable_name seen reading p x))
     (subst (λ (right : Name). P (counters.variable_of seen.trace.states (counter p x)) right) (sym (variable_name seen reading q y))
     (counter_meaning.at_most_means seen.trace.states reading.watches (counter p x) (counter q y) k trace.whole (is_variable seen trace p x fits.0) (is_variable seen trace q y fits.1)
     (left_rises seen (counter p x) (counter q y) rise) (right_rises seen (counter p x) (counter q y) rise) c consistent))
 meaning seen trace (diff_at_least p x q y k) fits rise reading are c consistent =
     let names = names_seen seen reading in
-    let P : Name → Name → Type 0 = λ left right. ClosedUnder (pulls_of_atom seen (diff_at_least p x q y k)) c ↔ Sat (run_seen seen reading) (Difference (name_at names.processes p) left (name_at names.processes q) right GreaterOrEqual k) c in
+    let P : Name → Name → Type 0 = λ left right. ClosedUnder (pulls_of_atom seen (diff_at_least p x q y k)) c ↔ Sat (run_seen seen reading) (Difference (numbered_name names.processes p) left (numbered_name names.processes q) right GreaterOrEqual k) c in
     subst (λ (left : Name). P left (variable_at names q y)) (sym (variable_name seen reading p x))
     (subst (λ (right : Name). P (counters.variable_of seen.trace.states (counter p x)) right) (sym (variable_name seen reading q y))
     (counter_meaning.at_least_means seen.trace.states reading.watches (counter p x) (counter q y) k trace.whole (is_variable seen trace p x fits.0) (is_variable seen trace q y fits.1)

@@ -16,7 +16,7 @@ use Rattle.trace_growth.specs.Growing.{IsTrace}
 use Rattle.rctl_grammar.specs.declared.tree.Operator.{Operator}
 use Rattle.rctl_grammar.specs.declared.tree.Operator.TheVariants as operator
 use Rattle.rctl_parts.specs.MadeFor.{OperatorFits}
-use Rattle.rctl_parts.specs.Spelled.{name_at, operated}
+use Rattle.rctl_parts.specs.Spelled.{numbered_name, operated}
 use Rattle.part_pulls.specs.declared.observed.Observed.{Observed}
 use Rattle.part_pulls.specs.Observing.{Reading, clocks_seen, run_seen, names_seen, scope_seen}
 use Rattle.part_pulls.specs.Operating.{Operated, FitsProcesses}
@@ -55,10 +55,10 @@ operated_same o operator.Ax A B same c h = absurd h
 
 -- the name of a process's number stands for the process
 number_is : (seen : Observed) → IsTrace seen.trace.states → (reading : Reading) (p : ℕ) → p < length seen.trace.states.events
-    → (run_seen seen reading).process (name_at (names_seen seen reading).processes p) ≡ p
+    → (run_seen seen reading).process (numbered_name (names_seen seen reading).processes p) ≡ p
 number_is seen trace reading p there =
     let whole = trace.whole in
-    ap (run.number_of (name_at (names_seen seen reading).processes p)) (names_are seen.trace.states whole.header.vars whole.events)
+    ap (run.number_of (numbered_name (names_seen seen reading).processes p)) (names_are seen.trace.states whole.header.vars whole.events)
     ∙ number_again seen.trace.states.header.procs p whole.header.distinct (omega (arith, whole.events, there))
 
 -- over a set that has the consistent cuts at which a formula is true, it is true exactly where the formula with the operator is

@@ -8,8 +8,8 @@ use mathlib.Core.Option.{some, none, some-injective, some-ne-none}
 use lib.ListN.{get_elem?}
 use Rattle.atomic_table.specs.Table.{State, Me, step, keeps, Allows, Splits, Joins, opening}
 use Rattle.atomic_table.proofs.Lists.{at_set, at_snoc, at_longer, set_again, set_else}
-use Rattle.process_claims.specs.declared.claimer.Known.{Known}
-use Rattle.process_claims.specs.Claims.{IsTrueOf, IsOwned, IsKept, Kept, opened, claimless, together, after_swap, Swapped}
+use Rattle.process_claims.specs.declared.claimer.SeenClaims.{SeenClaims}
+use Rattle.process_claims.specs.Claims.{IsTrueOf, IsOwned, HasClaims, ClaimsHold, opened, claimless, together, after_swap, Swapped}
 
 -- what stands at j after a write at i
 set_case : (v : List ℕ) (i z j : ℕ) → (get_or (set v i z) j 0 ≡ get_or v j 0) ⊎ ((j ≡ i) × (get_or (set v i z) j 0 ≡ z))
@@ -20,7 +20,7 @@ set_case (x ∷ v) (suc i) z zero = inl refl
 set_case (x ∷ v) (suc i) z (suc j) = elim (set_case v i z j) [ inl e ↦ inl e | inr e ↦ inr (ap (λ n. suc n) e.0, e.1) ]
 
 -- a view that is there, and one in its place
-there_again : (views : List Known) (id : ℕ) (v w : Known) → get_elem? views id ≡ some v → get_elem? (set views id w) id ≡ some w
+there_again : (views : List SeenClaims) (id : ℕ) (v w : SeenClaims) → get_elem? views id ≡ some v → get_elem? (set views id w) id ≡ some w
 there_again [] id v w at = absurd (some-ne-none v (sym at))
 there_again (u ∷ views) zero v w at = refl
 there_again (u ∷ views) (suc id) v w at = there_again views id v w at
@@ -36,7 +36,7 @@ same_number : (i j : ℕ) → (i ≡ j) ⊎ (i ≢ j)
 same_number i j = grind arith
 
 -- One view is renewed, and some words become 1: what it claims it claimed before, or nobody did.
-record Renews (words now : List ℕ) (v w : Known) : Type 0 where
+record Renews (words now : List ℕ) (v w : SeenClaims) : Type 0 where
   size : length now ≡ length words
   bit : (process : ℕ) → slice_index now process ≤ 1
   stays : (process : ℕ) → slice_index words process ≡ 1 → slice_index now process ≡ 1
@@ -45,7 +45,7 @@ record Renews (words now : List ℕ) (v w : Known) : Type 0 where
   true_now : IsTrueOf now w
   before : (process : ℕ) → Contains w.claims process → Contains v.claims process ⊎ (slice_index words process ≡ 0)
 
-module _ (count : ℕ) (words now : List ℕ) (views : List Known) (id : ℕ) (v w : Known) (kept : IsKept count words views) (here : get_elem? views id ≡ some v) (renews : Renews words now v w) where
+module _ (count : ℕ) (words now : List ℕ) (views : List SeenClaims) (id : ℕ) (v w : SeenClaims) (kept : HasClaims count words views) (here : get_elem? views id ≡ some v) (renews : Renews words now v w) where
   -- a process that was claimed is so still
   owned : (process : ℕ) → IsOwned views process → IsOwned (set views id w) process
   owned process o =
@@ -53,27 +53,27 @@ module _ (count : ℕ) (words now : List ℕ) (views : List Known) (id : ℕ) (v
         | inl same ↦
             let P : ℕ → Type 0 = λ n. get_elem? views n ≡ some o.view in
             let view : o.view ≡ v = some-injective o.view v (sym (subst P same o.at) ∙ here) in
-            let Q : Known → Type 0 = λ u. Contains u.claims process in
+            let Q : SeenClaims → Type 0 = λ u. Contains u.claims process in
             record { number = id; view = w; at = there_again views id v w here; has = renews.keeps_claims process (subst Q view o.has) }
         | inr other ↦ record { number = o.number; view = o.view; at = set_else views id o.number w other ∙ o.at; has = o.has }
       ]
 
   -- who claims a process now did so before, or this view does since now
   data Who (process j : ℕ) : Type 0 where
-    Before : (u : Known) → get_elem? views j ≡ some u → Contains u.claims process → Who process j
+    Before : (u : SeenClaims) → get_elem? views j ≡ some u → Contains u.claims process → Who process j
     Now : j ≡ id → slice_index words process ≡ 0 → Who process j
 
-  who : (process j : ℕ) (u : Known) → get_elem? (set views id w) j ≡ some u → Contains u.claims process → Who process j
+  who : (process j : ℕ) (u : SeenClaims) → get_elem? (set views id w) j ≡ some u → Contains u.claims process → Who process j
   who process j u at has =
       elim (at_set views id j w u at) [
         | inl mine ↦
-            let Q : Known → Type 0 = λ x. Contains x.claims process in
+            let Q : SeenClaims → Type 0 = λ x. Contains x.claims process in
             let P : ℕ → Type 0 = λ n. get_elem? views n ≡ some v in
             elim (renews.before process (subst Q (sym mine.1) has)) [ inl old ↦ Before v (subst P (sym mine.0) here) old | inr free ↦ Now mine.0 free ]
         | inr other ↦ Before u other.1 has
       ]
 
-  taken : (process j : ℕ) (u : Known) → get_elem? views j ≡ some u → Contains u.claims process → slice_index words process ≡ 1
+  taken : (process j : ℕ) (u : SeenClaims) → get_elem? views j ≡ some u → Contains u.claims process → slice_index words process ≡ 1
   taken process j u at has = (kept.known j u at).claims process has
 
   one_who : (process j k : ℕ) → Who process j → Who process k → j ≡ k
@@ -82,7 +82,7 @@ module _ (count : ℕ) (words now : List ℕ) (views : List Known) (id : ℕ) (v
   one_who process j k (Now is free) (Before u at has) = absurd (omega (arith, taken process k u at has, free))
   one_who process j k (Now is free) (Now is_too _) = is ∙ sym is_too
 
-  renewed : IsKept count now (set views id w)
+  renewed : HasClaims count now (set views id w)
   renewed = record {
     size = renews.size ∙ kept.size;
     bit = renews.bit;
@@ -91,7 +91,7 @@ module _ (count : ℕ) (words now : List ℕ) (views : List Known) (id : ℕ) (v
       | inr has ↦ record { number = id; view = w; at = there_again views id v w here; has = has }
     ];
     known = λ j u at. elim (at_set views id j w u at) [
-      | inl mine ↦ let P : Known → Type 0 = IsTrueOf now in subst P mine.1 renews.true_now
+      | inl mine ↦ let P : SeenClaims → Type 0 = IsTrueOf now in subst P mine.1 renews.true_now
       | inr other ↦
           let t = kept.known j u other.1 in
           record { claims = λ p has. renews.stays p (t.claims p has); marks = λ p has. renews.stays p (t.marks p has) }
@@ -100,7 +100,7 @@ module _ (count : ℕ) (words now : List ℕ) (views : List Known) (id : ℕ) (v
   }
 
 -- the word was 0, and the caller claims the process
-claims_now : (words : List ℕ) (v : Known) (process : ℕ) → process < length words → ((p : ℕ) → slice_index words p ≤ 1) → IsTrueOf words v → slice_index words process ≡ 0 → Renews words (set words process 1) v (after_swap 0 process v)
+claims_now : (words : List ℕ) (v : SeenClaims) (process : ℕ) → process < length words → ((p : ℕ) → slice_index words p ≤ 1) → IsTrueOf words v → slice_index words process ≡ 0 → Renews words (set words process 1) v (after_swap 0 process v)
 claims_now words v process there bits knows free = record {
   size = length-set words process 1;
   bit = λ p. elim (set_case words process 1 p) [ inl e ↦ omega (arith, e, bits p) | inr e ↦ omega (arith, e.1) ];
@@ -124,7 +124,7 @@ claims_now words v process there bits knows free = record {
 }
 
 -- the word was 1, and the caller saw the process taken
-marks_now : (words : List ℕ) (v : Known) (process n : ℕ) → process < length words → ((p : ℕ) → slice_index words p ≤ 1) → IsTrueOf words v → slice_index words process ≡ 1 → Renews words (set words process 1) v (after_swap (suc n) process v)
+marks_now : (words : List ℕ) (v : SeenClaims) (process n : ℕ) → process < length words → ((p : ℕ) → slice_index words p ≤ 1) → IsTrueOf words v → slice_index words process ≡ 1 → Renews words (set words process 1) v (after_swap (suc n) process v)
 marks_now words v process n there bits knows one = record {
   size = length-set words process 1;
   bit = λ p. elim (set_case words process 1 p) [ inl e ↦ omega (arith, e, bits p) | inr e ↦ omega (arith, e.1) ];
@@ -144,12 +144,12 @@ marks_now words v process n there bits knows one = record {
   before = λ p has. inl has;
 }
 
-swap_renews : (n : ℕ) (words : List ℕ) (v : Known) (process : ℕ) → process < length words → ((p : ℕ) → slice_index words p ≤ 1) → IsTrueOf words v → slice_index words process ≡ n → Renews words (set words process 1) v (after_swap n process v)
+swap_renews : (n : ℕ) (words : List ℕ) (v : SeenClaims) (process : ℕ) → process < length words → ((p : ℕ) → slice_index words p ≤ 1) → IsTrueOf words v → slice_index words process ≡ n → Renews words (set words process 1) v (after_swap n process v)
 swap_renews zero words v process there bits knows same = claims_now words v process there bits knows same
 swap_renews (suc n) words v process there bits knows same = marks_now words v process n there bits knows (omega (arith, bits process))
 
 -- a swap keeps the rule
-pub swaps : (count slots id : ℕ) (me : Me (Unit {0}) Known) (process : ℕ) → process < count → Allows (Kept count) slots id me process (λ _. 1) (Swapped (step slots process 1 0 none) me)
+pub swaps : (count slots id : ℕ) (me : Me (Unit {0}) SeenClaims) (process : ℕ) → process < count → Allows (ClaimsHold count) slots id me process (λ _. 1) (Swapped (step slots process 1 0 none) me)
 swaps count slots id me process there s kept homes here fits =
     let n : ℕ = get_or s.words process 0 in (
       after_swap n process me.0,
@@ -161,17 +161,17 @@ swaps count slots id me process there s kept homes here fits =
     )
 
 -- a second view that claims nothing keeps the rule
-pub parts : (count id : ℕ) (v : Known) → Splits (Kept count) id v v (claimless v)
+pub parts : (count id : ℕ) (v : SeenClaims) → Splits (ClaimsHold count) id v v (claimless v)
 parts count id v s kept here =
     let same : set s.views id v ≡ s.views = set_again s.views id v here in
-    let P : List Known → Type 0 = λ views. IsKept count s.words (views ++ claimless v ∷ []) in
+    let P : List SeenClaims → Type 0 = λ views. HasClaims count s.words (views ++ claimless v ∷ []) in
     subst P (sym same) record {
       size = kept.size;
       bit = kept.bit;
       owner = λ process one. let o = kept.owner process one in record { number = o.number; view = o.view; at = at_longer s.views (claimless v ∷ []) o.number o.view o.at; has = o.has };
       known = λ j u at. elim (at_snoc s.views (claimless v) u j at) [
         | inl before ↦ kept.known j u before
-        | inr new ↦ let Q : Known → Type 0 = IsTrueOf s.words in subst Q new fresh
+        | inr new ↦ let Q : SeenClaims → Type 0 = IsTrueOf s.words in subst Q new fresh
       ];
       alone = λ process j k u x at at_x has has_x. kept.alone process j k u x (old process j u at has) (old process k x at_x has_x) has has_x;
     }
@@ -183,18 +183,18 @@ parts count id v s kept here =
           marks = λ p has. elim (Contains-append_cases v.marks v.claims p has) [ inl mark ↦ t.marks p mark | inr claim ↦ t.claims p claim ];
         }
 
-    old : (process j : ℕ) (u : Known) → get_elem? (s.views ++ claimless v ∷ []) j ≡ some u → Contains u.claims process → get_elem? s.views j ≡ some u
+    old : (process j : ℕ) (u : SeenClaims) → get_elem? (s.views ++ claimless v ∷ []) j ≡ some u → Contains u.claims process → get_elem? s.views j ≡ some u
     old process j u at has =
         elim (at_snoc s.views (claimless v) u j at) [
           | inl before ↦ before
-          | inr new ↦ let Q : Known → Type 0 = λ x. Contains x.claims process in absurd (none_in process (subst Q (sym new) has))
+          | inr new ↦ let Q : SeenClaims → Type 0 = λ x. Contains x.claims process in absurd (none_in process (subst Q (sym new) has))
         ]
 
-module _ (id other : ℕ) (v w : Known) (words : List ℕ) (views : List Known) (count : ℕ) (kept : IsKept count words views) (here : get_elem? views id ≡ some v) (apart : ¬ (other ≡ id)) (there : get_elem? (set views id (together v w)) other ≡ some w) where
-  abbrev both : Known
+module _ (id other : ℕ) (v w : SeenClaims) (words : List ℕ) (views : List SeenClaims) (count : ℕ) (kept : HasClaims count words views) (here : get_elem? views id ≡ some v) (apart : ¬ (other ≡ id)) (there : get_elem? (set views id (together v w)) other ≡ some w) where
+  abbrev both : SeenClaims
   both = together v w
 
-  abbrev after : List Known
+  abbrev after : List SeenClaims
   after = set (set views id both) other opened
 
   there_before : get_elem? views other ≡ some w
@@ -211,12 +211,12 @@ module _ (id other : ℕ) (v w : Known) (words : List ℕ) (views : List Known) 
         marks = λ p has. elim (Contains-append_cases v.marks w.marks p has) [ inl l ↦ t.marks p l | inr r ↦ u.marks p r ];
       }
 
-  view_at : (number : ℕ) (a b : Known) → get_elem? views number ≡ some a → get_elem? views number ≡ some b → a ≡ b
+  view_at : (number : ℕ) (a b : SeenClaims) → get_elem? views number ≡ some a → get_elem? views number ≡ some b → a ≡ b
   view_at number a b at_a at_b = some-injective a b (sym at_a ∙ at_b)
 
   owned_now : (process : ℕ) → IsOwned views process → IsOwned after process
   owned_now process o =
-      let Q : Known → Type 0 = λ u. Contains u.claims process in
+      let Q : SeenClaims → Type 0 = λ u. Contains u.claims process in
       let At : ℕ → Type 0 = λ n. get_elem? views n ≡ some o.view in
       elim (same_number o.number id) [
         | inl same ↦ record { number = id; view = both; at = both_there; has = Contains-append_left v.claims w.claims process (subst Q (view_at id o.view v (subst At same o.at) here) o.has) }
@@ -229,12 +229,12 @@ module _ (id other : ℕ) (v w : Known) (words : List ℕ) (views : List Known) 
 
   -- where a claim comes from: from one of the two that met, or from a third
   data Source (process j : ℕ) : Type 0 where
-    Met : j ≡ id → (number : ℕ) → ((number ≡ id) ⊎ (number ≡ other)) → (u : Known) → get_elem? views number ≡ some u → Contains u.claims process → Source process j
-    Third : j ≢ id → j ≢ other → (u : Known) → get_elem? views j ≡ some u → Contains u.claims process → Source process j
+    Met : j ≡ id → (number : ℕ) → ((number ≡ id) ⊎ (number ≡ other)) → (u : SeenClaims) → get_elem? views number ≡ some u → Contains u.claims process → Source process j
+    Third : j ≢ id → j ≢ other → (u : SeenClaims) → get_elem? views j ≡ some u → Contains u.claims process → Source process j
 
-  source : (process j : ℕ) (u : Known) → get_elem? after j ≡ some u → Contains u.claims process → Source process j
+  source : (process j : ℕ) (u : SeenClaims) → get_elem? after j ≡ some u → Contains u.claims process → Source process j
   source process j u at has =
-      let Q : Known → Type 0 = λ x. Contains x.claims process in
+      let Q : SeenClaims → Type 0 = λ x. Contains x.claims process in
       elim (at_set (set views id both) other j opened u at) [
         | inl spent ↦ absurd (none_in process (subst Q (sym spent.1) has))
         | inr left ↦
@@ -248,7 +248,7 @@ module _ (id other : ℕ) (v w : Known) (words : List ℕ) (views : List Known) 
             ]
       ]
 
-  third_apart : (process j number : ℕ) (u x : Known) → ((number ≡ id) ⊎ (number ≡ other)) → j ≢ id → j ≢ other → get_elem? views number ≡ some u → get_elem? views j ≡ some x → Contains u.claims process → Contains x.claims process → ⊥
+  third_apart : (process j number : ℕ) (u x : SeenClaims) → ((number ≡ id) ⊎ (number ≡ other)) → j ≢ id → j ≢ other → get_elem? views number ≡ some u → get_elem? views j ≡ some x → Contains u.claims process → Contains x.claims process → ⊥
   third_apart process j number u x (inl is) not_id not_other at at_x has has_x = not_id (sym (kept.alone process number j u x at at_x has has_x) ∙ is)
   third_apart process j number u x (inr is) not_id not_other at at_x has has_x = not_other (sym (kept.alone process number j u x at at_x has has_x) ∙ is)
 
@@ -259,16 +259,16 @@ module _ (id other : ℕ) (v w : Known) (words : List ℕ) (views : List Known) 
   one_source process j k (Third _ _ u at has) (Third _ _ x at_x has_x) = kept.alone process j k u x at at_x has has_x
 
   -- one view takes in what another knows
-  joined : IsKept count words after
+  joined : HasClaims count words after
   joined = record {
     size = kept.size;
     bit = kept.bit;
     owner = λ process one. owned_now process (kept.owner process one);
     known = λ j u at. elim (at_set (set views id both) other j opened u at) [
-      | inl spent ↦ let P : Known → Type 0 = IsTrueOf words in subst P spent.1 record { claims = λ p has. absurd (none_in p has); marks = λ p has. absurd (none_in p has) }
+      | inl spent ↦ let P : SeenClaims → Type 0 = IsTrueOf words in subst P spent.1 record { claims = λ p has. absurd (none_in p has); marks = λ p has. absurd (none_in p has) }
       | inr left ↦
           elim (at_set views id j both u left.1) [
-            | inl mine ↦ let P : Known → Type 0 = IsTrueOf words in subst P mine.1 both_true
+            | inl mine ↦ let P : SeenClaims → Type 0 = IsTrueOf words in subst P mine.1 both_true
             | inr before ↦ kept.known j u before.1
           ]
     ];
@@ -276,11 +276,11 @@ module _ (id other : ℕ) (v w : Known) (words : List ℕ) (views : List Known) 
   }
 
 -- a view that takes in what another knows keeps the rule
-pub meets : (count id other : ℕ) (v w : Known) → Joins (Kept count) id v other w (together v w) opened
+pub meets : (count id other : ℕ) (v w : SeenClaims) → Joins (ClaimsHold count) id v other w (together v w) opened
 meets count id other v w s kept here apart there = joined id other v w s.words s.views count kept here apart there
 
 -- free words, and a first view that claims nothing
-pub starts_kept : (count : ℕ) (words : List ℕ) → length words ≡ count → ((p : ℕ) → slice_index words p ≡ 0) → Kept count (opening words [] opened)
+pub starts_kept : (count : ℕ) (words : List ℕ) → length words ≡ count → ((p : ℕ) → slice_index words p ≡ 0) → ClaimsHold count (opening words [] opened)
 starts_kept count words size free = record {
   size = size;
   bit = λ p. omega (arith, free p);
@@ -289,16 +289,16 @@ starts_kept count words size free = record {
   alone = λ process j k u x at at_x has has_x. absurd (claims_none j u at process has);
 }
   where
-    is_opened : (j : ℕ) (u : Known) → get_elem? (opened ∷ []) j ≡ some u → opened ≡ u
+    is_opened : (j : ℕ) (u : SeenClaims) → get_elem? (opened ∷ []) j ≡ some u → opened ≡ u
     is_opened zero u at = some-injective opened u at
     is_opened (suc j) u at = absurd (some-ne-none u (sym at))
 
-    claims_none : (j : ℕ) (u : Known) → get_elem? (opened ∷ []) j ≡ some u → (process : ℕ) → Contains u.claims process → ⊥
-    claims_none j u at process has = let Q : Known → Type 0 = λ x. Contains x.claims process in none_in process (subst Q (sym (is_opened j u at)) has)
+    claims_none : (j : ℕ) (u : SeenClaims) → get_elem? (opened ∷ []) j ≡ some u → (process : ℕ) → Contains u.claims process → ⊥
+    claims_none j u at process has = let Q : SeenClaims → Type 0 = λ x. Contains x.claims process in none_in process (subst Q (sym (is_opened j u at)) has)
 
-    first : (j : ℕ) (u : Known) → get_elem? (opened ∷ []) j ≡ some u → IsTrueOf words u
+    first : (j : ℕ) (u : SeenClaims) → get_elem? (opened ∷ []) j ≡ some u → IsTrueOf words u
     first j u at =
-        let P : Known → Type 0 = IsTrueOf words in
+        let P : SeenClaims → Type 0 = IsTrueOf words in
         subst P (is_opened j u at) record { claims = λ p has. absurd (none_in p has); marks = λ p has. absurd (none_in p has) }
 
 pub zeros_taken : (m n i : ℕ) → slice_index (take m (replicate n 0)) i ≡ 0
@@ -307,5 +307,5 @@ zeros_taken (suc m) zero i = refl
 zeros_taken (suc m) (suc n) zero = refl
 zeros_taken (suc m) (suc n) (suc i) = zeros_taken m n i
 
-pub free_kept : (count : ℕ) → count ≤ 32 → Kept count (opening (take count (replicate 32 0)) [] opened)
+pub free_kept : (count : ℕ) → count ≤ 32 → ClaimsHold count (opening (take count (replicate 32 0)) [] opened)
 free_kept count few = starts_kept count (take count (replicate 32 0)) (omega (arith, length-take count (let zeros : List ℕ = replicate 32 0 in zeros))) (zeros_taken count 32)

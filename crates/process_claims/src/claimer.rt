@@ -1,5 +1,5 @@
 //! What a caller holds, and the rule that each of its steps keeps.
-ghost use Rattle.process_claims.specs.Claims.{Kept, Swapped, opened, claimless, together};
+ghost use Rattle.process_claims.specs.Claims.{ClaimsHold, Swapped, opened, claimless, together};
 
 use atomic_table::{Join, Play, Split, TableRule};
 use std::collections::LinkedList;
@@ -7,7 +7,7 @@ use std::marker::Model;
 
 /// What a caller knows: the processes that it claims, and those that it saw taken. No value of it
 /// is made.
-pub(crate) struct Known {
+pub(crate) struct SeenClaims {
     claims: LinkedList<u32>,
     marks: LinkedList<u32>,
 }
@@ -16,7 +16,7 @@ pub(crate) struct Known {
 /// that it saw taken. It takes no bytes.
 #[derive(Drop)]
 pub struct Claimer {
-    pub(crate) token: atomic_table::Seat<(), Known>,
+    pub(crate) token: atomic_table::Seat<(), SeenClaims>,
 }
 
 impl Model for Claimer {
@@ -37,8 +37,8 @@ impl Model for Claimer {
 
 pub(crate) struct Ruled;
 
-impl TableRule<(), Known, u32> for Ruled {
-    ghost holds = { λ count. Kept count };
+impl TableRule<(), SeenClaims, u32> for Ruled {
+    ghost holds = { λ count. ClaimsHold count };
 
     ghost first = { λ count. opened };
 }
@@ -46,14 +46,14 @@ impl TableRule<(), Known, u32> for Ruled {
 /// A swap of 1 into the word of a process.
 pub(crate) struct Swaps;
 
-impl Play<(), Known> for Swaps {
+impl Play<(), SeenClaims> for Swaps {
     ghost then = { Swapped };
 }
 
 /// A second caller that claims nothing, and has seen what the first knows to be taken.
 pub(crate) struct Parts;
 
-impl Split<Known> for Parts {
+impl Split<SeenClaims> for Parts {
     ghost left = { λ v. v };
 
     ghost right = { claimless };
@@ -62,7 +62,7 @@ impl Split<Known> for Parts {
 /// One caller that claims and has seen what both did.
 pub(crate) struct Meets;
 
-impl Join<Known> for Meets {
+impl Join<SeenClaims> for Meets {
     ghost both = { together };
 
     ghost spent = { opened };

@@ -1,6 +1,6 @@
 ghost use Rattle.std.specs.Prelude.{◌≡◌, ◌+◌, ◌<◌, ◌≤◌, [], ◌∷◌, ◌++◌, true, false, IfOk};
 
-use crate::claimer::{Claimer, Known, Meets, Parts, Ruled, Swaps};
+use crate::claimer::{Claimer, Meets, Parts, Ruled, SeenClaims, Swaps};
 use atomic_table::Table;
 use pota_base::NoMemory;
 use std::alloc::Global;
@@ -10,7 +10,7 @@ use std::marker::Model;
 /// its number of words.
 #[derive(Drop)]
 pub struct Claims {
-    table: Table<(), Known, u32, Ruled, Global>,
+    table: Table<(), SeenClaims, u32, Ruled, Global>,
 }
 
 impl Model for Claims {

@@ -1,7 +1,7 @@
 -- Raising one component of a vector below the least, to no more than each closed vector has there.
 use Rattle.std.proofs.Common.{◌≡◌, ℕ, zero, suc, ◌+◌, ◌<◌, ◌≤◌, ◌⊎◌, inl, inr, List, [], ◌∷◌, length, get_or, set, refl, arith, subst, sym, ap, ◌∙◌}
 use Rattle.std.proofs.lemmas.List.{length-map, length-set, get_or_past}
-use Rattle.pull_system.specs.Vector.{IsWithin, IsVector}
+use Rattle.pull_system.specs.Vector.{IsAtMost, IsVector}
 use Rattle.pull_system.specs.System.{SystemView, IsSystem, IsPull, IsClosedFrom, IsLeastFrom, HoldsPull, source_of, target_of, ask}
 use Rattle.pull_system.specs.Climb.{IsBelowLeast}
 use Rattle.pull_system.proofs.Pulls.{pull-of, ask-closed, tops, get_or-tops}
@@ -30,7 +30,7 @@ pub le_tops : (lens v : List ℕ) → IsVector lens v → (i : ℕ) → get_or v
 le_tops lens v vector i = elim (lt_or_le i (length lens)) [ inl there ↦ omega (arith, get_or-tops lens i there, vector.within i) | inr past ↦ omega (arith, get_or_past v i 0 (omega (arith, vector.size))) ]
 
 -- the vector with no such cut anywhere is closed
-pub tops_closed : (system : SystemView) → IsSystem system → (start v : List ℕ) → IsVector system.lens v → IsWithin start v → IsClosedFrom system start (tops system.lens)
+pub tops_closed : (system : SystemView) → IsSystem system → (start v : List ℕ) → IsVector system.lens v → IsAtMost start v → IsClosedFrom system start (tops system.lens)
 tops_closed system is start v vector above = record {
   vector = record { size = length-map system.lens (λ (n : ℕ). n + 1); within = get_or-tops_le system.lens };
   above = record { each = λ i. omega (arith, above.each i, le_tops system.lens v vector i) };

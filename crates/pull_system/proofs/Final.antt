@@ -1,13 +1,13 @@
 -- A least closed vector within the lengths of before is least in each later system.
 use Rattle.std.proofs.Common.{◌≡◌, ℕ, zero, suc, ◌+◌, ◌<◌, ◌≤◌, List, Option, Some, None, length, sum, get_or, refl, arith, sym, ap, ◌∙◌, subst}
-use Rattle.pull_system.specs.Vector.{IsWithin, IsVector}
+use Rattle.pull_system.specs.Vector.{IsAtMost, IsVector}
 use Rattle.pull_system.specs.System.{SystemView, IsSystem, IsPull, IsClosedFrom, IsLeastFrom, pull_at, source_of, target_of, ask}
 use Rattle.pull_system.specs.Rows.{RowsView, AreRows, AreLeastRows, start_of, row_at, IsLeast}
 use Rattle.pull_system.specs.Growth.{PullGrows, PullStays, Grows, Stays, old_row, kept_or_start, grown_row, grown_words}
 use Rattle.pull_system.proofs.Starts.{row_at-first_rows}
 use Rattle.pull_system.proofs.Growing.{least_below, stood, length-grown_row}
 
-pub still_closed : (before after : SystemView) → IsSystem before → Grows before after → Stays before after → (start v : List ℕ) → IsClosedFrom before start v → IsWithin v before.lens
+pub still_closed : (before after : SystemView) → IsSystem before → Grows before after → Stays before after → (start v : List ℕ) → IsClosedFrom before start v → IsAtMost v before.lens
     → IsClosedFrom after start v
 still_closed before after is grows stays start v closed within = record {
   vector = record { size = closed.vector.size ∙ grows.fell.count; within = λ i. omega (arith, within.each i, grows.fell.each i) };
@@ -28,7 +28,7 @@ still_closed before after is grows stays start v closed within = record {
           ap (λ i. get_or v i 0) g.target,
         )
 
-pub still_least : (before after : SystemView) → IsSystem before → Grows before after → Stays before after → (start v : List ℕ) → IsLeastFrom before start v → IsWithin v before.lens
+pub still_least : (before after : SystemView) → IsSystem before → Grows before after → Stays before after → (start v : List ℕ) → IsLeastFrom before start v → IsAtMost v before.lens
     → IsLeastFrom after start v
 still_least before after is grows stays start v least within = record {
   closed = still_closed before after is grows stays start v least.closed within;
@@ -36,7 +36,7 @@ still_least before after is grows stays start v least within = record {
 }
 
 pub final_vector : (before after : SystemView) → IsSystem before → Grows before after → Stays before after → (old : RowsView) → old.lens ≡ before.lens → AreLeastRows before old.words
-    → (row kept : ℕ) → old_row old.lens after.lens row ≡ Some kept → IsWithin (row_at old.lens old.words kept) old.lens
+    → (row kept : ℕ) → old_row old.lens after.lens row ≡ Some kept → IsAtMost (row_at old.lens old.words kept) old.lens
     → IsLeast after row (row_at old.lens old.words kept)
 final_vector before after is grows stays old same least row kept found within =
     let h = stood 0 old.lens after.lens row kept (ap length same ∙ grows.fell.count) found in
@@ -48,11 +48,11 @@ final_vector before after is grows stays old same least row kept found within =
     let At : List ℕ → Type 0 = λ s. IsLeastFrom before s (row_at before.lens old.words kept) in
     let Of : List ℕ → Type 0 = λ w. IsLeastFrom before (start_of after.lens row) w in
     let here : IsLeastFrom before (start_of after.lens row) v = subst Of lens_same (subst At start_same (least.each kept k_there)) in
-    let In : List ℕ → Type 0 = λ l. IsWithin v l in
+    let In : List ℕ → Type 0 = λ l. IsAtMost v l in
     still_least before after is grows stays (start_of after.lens row) v here (subst In same within)
 
 pub final_row : (before after : SystemView) → IsSystem before → Grows before after → Stays before after → (old : RowsView) → old.lens ≡ before.lens → AreLeastRows before old.words
-    → (row kept : ℕ) → row ≤ sum after.lens → old_row old.lens after.lens row ≡ Some kept → IsWithin (row_at old.lens old.words kept) old.lens
+    → (row kept : ℕ) → row ≤ sum after.lens → old_row old.lens after.lens row ≡ Some kept → IsAtMost (row_at old.lens old.words kept) old.lens
     → IsLeast after row (row_at after.lens (grown_words after.lens old) row)
 final_row before after is grows stays old same least row kept there found within =
     let h = stood 0 old.lens after.lens row kept (ap length same ∙ grows.fell.count) found in
@@ -64,7 +64,7 @@ final_row before after is grows stays old same least row kept there found within
     let At : List ℕ → Type 0 = λ s. IsLeastFrom before s (row_at before.lens old.words kept) in
     let Of : List ℕ → Type 0 = λ w. IsLeastFrom before (start_of after.lens row) w in
     let here : IsLeastFrom before (start_of after.lens row) v = subst Of lens_same (subst At start_same (least.each kept k_there)) in
-    let In : List ℕ → Type 0 = λ l. IsWithin v l in
+    let In : List ℕ → Type 0 = λ l. IsAtMost v l in
     let now = still_least before after is grows stays (start_of after.lens row) v here (subst In same within) in
     let row_is : row_at after.lens (grown_words after.lens old) row ≡ v =
     row_at-first_rows after.lens (grown_row after.lens old) (length-grown_row before after is grows old same least) row there ∙ ap (λ o. kept_or_start after.lens old row o) found in

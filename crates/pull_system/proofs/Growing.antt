@@ -5,7 +5,7 @@ use Rattle.std.proofs.lemmas.Bool.Decides.{leb_tells}
 use Rattle.std.proofs.lemmas.List.{get_or_past, drop_all}
 use Rattle.std.proofs.lemmas.List.Sums.{sum_by-cons}
 use Rattle.pota_base.specs.Shape.{IsShape}
-use Rattle.pull_system.specs.Vector.{IsWithin, IsVector}
+use Rattle.pull_system.specs.Vector.{IsAtMost, IsVector}
 use Rattle.pull_system.specs.System.{SystemView, IsSystem, IsPull, IsClosedFrom, IsLeastFrom, pull_at, source_of, target_of, ask}
 use Rattle.pull_system.specs.Rows.{RowsView, AreRows, AreLeastRows, start_of, row_at}
 use Rattle.pull_system.specs.Growth.{PullGrows, Grows, old_row_from, old_row, kept_or_start, grown_row, grown_words}
@@ -42,7 +42,7 @@ cut_above : (lens v c : List ℕ) → IsVector lens v → (i : ℕ) → get_or v
 cut_above lens v c vector i less = elim (lt_or_le i (length lens)) [ inl there ↦ omega (arith, get_or-cut lens c i there, vector.within i) | inr past ↦ omega (arith, get_or_past v i 0 (omega (arith, vector.size))) ]
 
 -- a closed vector of the later system, cut off, is closed in the earlier one
-pub cut_closed : (before after : SystemView) → IsSystem before → Grows before after → (start v c : List ℕ) → IsVector before.lens v → IsWithin start v → IsClosedFrom after start c
+pub cut_closed : (before after : SystemView) → IsSystem before → Grows before after → (start v c : List ℕ) → IsVector before.lens v → IsAtMost start v → IsClosedFrom after start c
     → IsClosedFrom before start (cut before.lens c)
 cut_closed before after is grows start v c vector start_v closed = record {
   vector = record { size = length-cut before.lens c; within = cut_below before.lens c };
@@ -71,11 +71,11 @@ cut_closed before after is grows start v c vector start_v closed = record {
         )
 
 -- the earlier least vector from a start is within each later closed vector from there
-pub least_below : (before after : SystemView) → IsSystem before → Grows before after → (start v c : List ℕ) → IsLeastFrom before start v → IsClosedFrom after start c → IsWithin v c
+pub least_below : (before after : SystemView) → IsSystem before → Grows before after → (start v c : List ℕ) → IsLeastFrom before start v → IsClosedFrom after start c → IsAtMost v c
 least_below before after is grows start v c least closed =
     let cut_too = cut_closed before after is grows start v c least.closed.vector least.closed.above closed in record { each = λ i. omega (arith, (least.least _ cut_too).each i, cut_within before.lens c i) }
 
-pub least_grows : (before after : SystemView) → IsSystem before → Grows before after → (start v w : List ℕ) → IsLeastFrom before start v → IsLeastFrom after start w → IsWithin v w
+pub least_grows : (before after : SystemView) → IsSystem before → Grows before after → (start v w : List ℕ) → IsLeastFrom before start v → IsLeastFrom after start w → IsAtMost v w
 least_grows before after is grows start v w least later = least_below before after is grows start v w least later.closed
 
 -- the bottom's start is the same for equally many processes

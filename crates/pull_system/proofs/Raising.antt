@@ -10,7 +10,7 @@ use Rattle.std.proofs.Math.Seq.{take-append_seam}
 use Rattle.pull_system.specs.declared.pull.Pull.{Pull}
 use Rattle.pull_system.specs.System.{no_pull}
 use Rattle.pull_system.specs.Fans.{FanView, entry_of, pull_of_fan, pulls_of_fan}
-use Rattle.pull_system.specs.Asks.{IsAskedBy, AreAskRows, IsRun, IsAskedIn, AreRaisedIn, AreRaised}
+use Rattle.pull_system.specs.Asks.{IsAskedBy, AreAskRows, AreInTurn, IsAskedIn, AreRaisedIn, AreRaised}
 use Rattle.pull_system.specs.Vector.{IsMaximum}
 
 within_one : (i n : ℕ) → i < n + 1 → (i < n) ⊎ (i ≡ n)
@@ -25,7 +25,7 @@ max_case a b = grind arith
 -- ---- a run at one value
 
 -- the targets of a run are below the number of processes, so its piece stays within its row
-pub run_fits : (targets : List ℕ) (first end procs x values room : ℕ) → IsRun targets first end → ((i : ℕ) → i < length targets → get_or targets i 0 < procs) → x < values → values * procs ≤ room
+pub run_fits : (targets : List ℕ) (first end procs x values room : ℕ) → AreInTurn targets first end → ((i : ℕ) → i < length targets → get_or targets i 0 < procs) → x < values → values * procs ≤ room
     → x * procs + get_or targets first 0 + (end - first) ≤ room
 run_fits targets first end procs x values room run few below fits =
     let last : first + (end - 1 - first) < end = omega (arith, run.some) in
@@ -77,7 +77,7 @@ piece_grows begin asked now new piece place = elim (in_or_out begin (length aske
 asked_later : (fan : FanView) (procs first end x place m n : ℕ) → n ≡ m → IsAskedIn fan procs first end x place m → IsAskedIn fan procs first end (x + 1) place n
 asked_later fan procs first end x place m n same by = record { x = by.x; index = by.index; value = omega (arith, by.value); from = by.from; below = by.below; at = by.at; asks = by.asks ∙ sym same }
 
-pub raised_in_next : (fan : FanView) (procs first end x begin : ℕ) (asked before now new : List ℕ) → IsRun fan.targets first end → AreRaisedIn fan procs first end x before now → PieceRaised begin asked now new
+pub raised_in_next : (fan : FanView) (procs first end x begin : ℕ) (asked before now new : List ℕ) → AreInTurn fan.targets first end → AreRaisedIn fan procs first end x before now → PieceRaised begin asked now new
     → begin ≡ x * procs + get_or fan.targets first 0 → first + length asked ≡ end → ((i : ℕ) → i < length asked → get_or asked i 0 ≡ entry_of fan (first + i) x) → AreRaisedIn fan procs first end (x + 1) before new
 raised_in_next fan procs first end x begin asked before now new run so_far piece starts size is = record {
   size = piece.size ∙ so_far.size;

@@ -3,7 +3,7 @@ use Rattle.std.proofs.Common.{◌≡◌, ◌≢◌, ℕ, ◌*◌, ◌+◌, ◌<�
 use Rattle.std.proofs.lemmas.List.{length-set}
 use Rattle.std.proofs.Math.Nat.{mul-le-mul_left}
 use Rattle.pull_system.specs.declared.pull.Pull.{Pull}
-use Rattle.pull_system.specs.Climb.{IsSettled, IsLook, IsLooked, AreMarks, marked}
+use Rattle.pull_system.specs.Climb.{AreHeld, IsLook, IsLooked, AreMarks, marked}
 use Rattle.pull_system.specs.Climb.IsLook.{Held, Raised}
 use Rattle.pull_system.specs.System.{SystemView, IsSystem, IsPull, HoldsPull, source_of, target_of, ask, numbers_from}
 use Rattle.pull_system.proofs.Climbing.{set_case, set_at_least}
@@ -30,7 +30,7 @@ module _ (system : SystemView) (k : ℕ) (v w : List ℕ) (risen marks : List Bo
   target_more (Raised z asked less raised marked_now) i = omega (arith, ap (λ x. get_or x i 0) raised, set_at_least v (target_of system k) z (omega arith) i)
 
   -- what held of the pulls that were looked at still does
-  pub look_keeps : IsLook system k v w risen marks → target_of system k < length risen → (looked : ℕ → Type 0) → IsSettled system v risen looked → IsSettled system w marks looked
+  pub look_keeps : IsLook system k v w risen marks → target_of system k < length risen → (looked : ℕ → Type 0) → AreHeld system v risen looked → AreHeld system w marks looked
   look_keeps look there looked settled = record {
     each = λ j in_range was unmarked.
         let s = source_same look there j unmarked in
@@ -45,8 +45,8 @@ module _ (system : SystemView) (k : ℕ) (v w : List ℕ) (risen marks : List Bo
       reached (Held holds same marks_same) target = omega (arith, ap (λ x. get_or x (target_of system k) 0) same)
       reached (Raised z asked less raised marked_now) target = omega (arith, ap (λ x. get_or x (target_of system k) 0) raised, get_or-set_same v (target_of system k) z 0 target)
 
-  pub look_adds : IsLook system k v w risen marks → target_of system k < length risen → target_of system k < length v → (looked : ℕ → Type 0) → IsSettled system v risen looked
-      → IsSettled system w marks (λ j. looked j ⊎ (j ≡ k))
+  pub look_adds : IsLook system k v w risen marks → target_of system k < length risen → target_of system k < length v → (looked : ℕ → Type 0) → AreHeld system v risen looked
+      → AreHeld system w marks (λ j. looked j ⊎ (j ≡ k))
   look_adds look there target looked settled = record {
     each = λ j in_range was unmarked. elim was [
       | inl before ↦ (look_keeps look there looked settled).each j in_range before unmarked
@@ -61,11 +61,11 @@ module _ (system : SystemView) (k : ℕ) (v w : List ℕ) (risen marks : List Bo
       omega (arith, ap (λ x. sum x) raised, ap (λ x. marked x) marked_now, mark_more risen (target_of system k) there, sum-set v (target_of system k) z target)
 
 -- less was looked at
-pub settled_by : (system : SystemView) (v : List ℕ) (risen : List Bool) (looked less : ℕ → Type 0) → ((k : ℕ) → k < length system.pulls → less k → looked k) → IsSettled system v risen looked → IsSettled system v risen less
+pub settled_by : (system : SystemView) (v : List ℕ) (risen : List Bool) (looked less : ℕ → Type 0) → ((k : ℕ) → k < length system.pulls → less k → looked k) → AreHeld system v risen looked → AreHeld system v risen less
 settled_by system v risen looked less all settled = record { each = λ k there was unmarked. settled.each k there (all k there was) unmarked }
 
 -- where a mark is taken off, the pulls from elsewhere are as settled as they were
-pub taken_settled : (system : SystemView) (v : List ℕ) (risen : List Bool) (process : ℕ) → IsSettled system v risen (λ k. Unit {0}) → IsSettled system v (set risen process false) (λ k. source_of system k ≢ process)
+pub taken_settled : (system : SystemView) (v : List ℕ) (risen : List Bool) (process : ℕ) → AreHeld system v risen (λ k. Unit {0}) → AreHeld system v (set risen process false) (λ k. source_of system k ≢ process)
 taken_settled system v risen process settled = record {
   each = λ k there other unmarked.
       settled.each k there tt (elim (set_case risen process false (source_of system k) false) [ inl e ↦ sym e ∙ unmarked | inr e ↦ absurd (other e.0) ]);
@@ -114,7 +114,7 @@ marks_less lens risen process marks = record {
 
 -- after a look at pull k, it is one of those that were looked at
 pub look_settles : (system : SystemView) → IsSystem system → (k : ℕ) → k < length system.pulls → (v w : List ℕ) (risen marks : List Bool) → IsVector system.lens v → AreMarks system.lens risen
-    → IsLook system k v w risen marks → (looked : ℕ → Type 0) → IsSettled system v risen looked → IsSettled system w marks (λ j. looked j ⊎ (j ≡ k))
+    → IsLook system k v w risen marks → (looked : ℕ → Type 0) → AreHeld system v risen looked → AreHeld system w marks (λ j. looked j ⊎ (j ≡ k))
 look_settles system is k there v w risen marks vector are look looked settled =
     let p : IsPull system.lens _ = pull-of system is k there in
     look_adds system k v w risen marks look (omega (arith, p.target, are.size, is.shape.few)) (omega (arith, p.target, vector.size)) looked settled

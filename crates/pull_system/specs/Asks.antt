@@ -39,7 +39,7 @@ pub record AreAllAsks (system : SystemView) (asks : List (List ℕ)) : Type 0 wh
 
 -- a run: targets from the first index to the end, each one more than the one before. The target at
 -- the end, if there is one, is not.
-pub record IsRun (targets : List ℕ) (first end : ℕ) : Type 0 where
+pub record AreInTurn (targets : List ℕ) (first end : ℕ) : Type 0 where
   pub some : first < end
   pub within : end ≤ length targets
   pub each : (i : ℕ) → first + i < end

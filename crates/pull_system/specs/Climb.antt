@@ -2,17 +2,17 @@
 use Rattle.std.specs.Prelude.{◌≡◌, ◌≢◌, ◌⊎◌, ℕ, ◌<◌, List, ◌≤◌, Bool, false, true, length}
 use Rattle.std.specs.Prelude.{slice_index, slice_index_or, slice_set, if◌then◌else◌}
 use Rattle.std.specs.List.{sum_by}
-use Rattle.pull_system.specs.Vector.{IsWithin, IsVector}
+use Rattle.pull_system.specs.Vector.{IsAtMost, IsVector}
 use Rattle.pull_system.specs.System.{SystemView, IsClosedFrom, HoldsPull, source_of, target_of, ask}
 
 -- at or above the start, and within each closed vector from there
 pub record IsBelowLeast (system : SystemView) (start v : List ℕ) : Type 0 where
   pub vector : IsVector system.lens v
-  pub above : IsWithin start v
-  pub below : (c : List ℕ) → IsClosedFrom system start c → IsWithin v c
+  pub above : IsAtMost start v
+  pub below : (c : List ℕ) → IsClosedFrom system start c → IsAtMost v c
 
 -- each pull that was looked at holds, unless its source has risen
-pub record IsSettled (system : SystemView) (v : List ℕ) (risen : List Bool) (looked : ℕ → Type 0) :
+pub record AreHeld (system : SystemView) (v : List ℕ) (risen : List Bool) (looked : ℕ → Type 0) :
     Type 0 where
   pub each : (k : ℕ) → k < length system.pulls → looked k
       → slice_index_or risen (source_of system k) false ≡ false → HoldsPull system v k

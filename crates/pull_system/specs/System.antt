@@ -3,7 +3,7 @@ use Rattle.std.specs.Prelude.{◌≡◌, ℕ, zero, suc, ◌+◌, ◌^◌, ◌<�
 use Rattle.std.specs.Prelude.{length, slice_index, slice_index_or, All, if◌then◌else◌}
 use Rattle.pota_base.specs.Shape.{IsShape}
 use Rattle.pull_system.specs.declared.pull.Pull.{Pull}
-use Rattle.pull_system.specs.Vector.{IsWithin, IsVector}
+use Rattle.pull_system.specs.Vector.{IsAtMost, IsVector}
 
 -- the entries never fall, and none is above `most`
 pub record RisesWithin (table : List ℕ) (most : ℕ) : Type 0 where
@@ -57,13 +57,13 @@ pub record IsClosed (system : SystemView) (v : List ℕ) : Type 0 where
 -- a closed vector at or above the start
 pub record IsClosedFrom (system : SystemView) (start v : List ℕ) : Type 0 where
   pub vector : IsVector system.lens v
-  pub above : IsWithin start v
+  pub above : IsAtMost start v
   pub closed : IsClosed system v
 
 -- the closed vector at or above the start that is within every such vector
 pub record IsLeastFrom (system : SystemView) (start v : List ℕ) : Type 0 where
   pub closed : IsClosedFrom system start v
-  pub least : (c : List ℕ) → IsClosedFrom system start c → IsWithin v c
+  pub least : (c : List ℕ) → IsClosedFrom system start c → IsAtMost v c
 
 -- the numbers below `count` of the pulls from this source, in their order
 abbrev pub numbers_from : List Pull → ℕ → ℕ → List ℕ

@@ -2,7 +2,7 @@
 use Rattle.std.specs.Prelude.{◌≡◌, ℕ, ◌+◌, ◌≤◌, min, max, List, length, slice_index}
 
 -- each component of the first is at most that of the second
-pub record IsWithin (v w : List ℕ) : Type 0 where
+pub record IsAtMost (v w : List ℕ) : Type 0 where
   pub each : (i : ℕ) → slice_index v i ≤ slice_index w i
 
 -- one component per process, each at most one more than the process's length, which says "no such

@@ -2,7 +2,7 @@
 ghost use Rattle.std.specs.Prelude.{◌≡◌, ℕ, ◌+◌, ◌*◌, ◌^◌, ◌<◌, ◌≤◌, [], ◌∷◌, ◌++◌, length};
 ghost use Rattle.std.specs.Prelude.{replicate, slice_index, slice_range, get_or, IfOk, OnOk, OnErr};
 ghost use Rattle.pull_system.specs.Fans.{HasRow, entry_of, pulls_of_fan, pulls_of_fans};
-ghost use Rattle.pull_system.specs.Asks.{IsRun, AreRaisedIn, AreRaised};
+ghost use Rattle.pull_system.specs.Asks.{AreInTurn, AreRaisedIn, AreRaised};
 ghost use Rattle.pull_system.specs.Vector.{IsMaximum};
 
 use crate::pull::Pull;
@@ -133,7 +133,7 @@ impl Fan {
     /// Raises these rows to what the pulls to the targets of one run ask there: at each value one
     /// piece of the row to one piece of the entries, without a place to look up for each target.
     fn raise_run(&self, first: usize, end: usize, values: usize, procs: usize, rows: &mut [u16])
-        requires run { IsRun self.now.targets first end }
+        requires run { AreInTurn self.now.targets first end }
         requires values { (i : ℕ) → i < length self.now.targets
             → length (get_or self.now.tables i []) ≡ values }
         requires targets { (i : ℕ) → i < length self.now.targets
@@ -199,7 +199,7 @@ pub(crate) fn row_of(rows: &[u16], x: usize, size: usize) -> &[u16]
 /// The index behind the run of consecutive targets that begins at this one.
 fn run_end(targets: &[u32], first: usize) -> usize
     requires { first < length targets.now }
-    ensures { IsRun targets.now first result }
+    ensures { AreInTurn targets.now first result }
 {
     for i in first + 1..targets.len() {
         if targets[i] as usize != targets[first] as usize + (i - first) {

@@ -5,7 +5,7 @@ ghost use Rattle.pull_system.specs.declared.pull.Pull.{Pull};
 ghost use Rattle.pull_system.specs.Pulls.{ClosedUnder, first_below};
 ghost use Rattle.pota_base.specs.declared.shape.EventId.{EventId};
 ghost use Rattle.pota_base.specs.Shape.{HasEvent, row_of};
-ghost use Rattle.pull_system.specs.Vector.{IsWithin, IsVector, IsMinimum, IsMaximum};
+ghost use Rattle.pull_system.specs.Vector.{IsAtMost, IsVector, IsMinimum, IsMaximum};
 ghost use Rattle.pull_system.specs.System.{SystemView, IsSystem, IsClosed, IsLeastFrom};
 ghost use Rattle.pull_system.specs.Rows.{RowsView, AreLeastRows, start_of, starts, place_of};
 ghost use Rattle.pull_system.specs.Rows.{IsLeast, row_at};
@@ -69,7 +69,7 @@ pub fn first_numbers()
 pub fn growing_systems()
     ensures least { (before after : SystemView) → IsSystem before → Grows before after
         → (start v w : List ℕ) → IsLeastFrom before start v → IsLeastFrom after start w
-        → IsWithin v w }
+        → IsAtMost v w }
     ensures rows { (before after : SystemView) → IsSystem before → Grows before after
         → (old : RowsView) → old.lens ≡ before.lens → AreLeastRows before old.words
         → (row : ℕ) → row ≤ sum after.lens
@@ -83,11 +83,11 @@ pub fn growing_systems()
 pub fn final_rows()
     ensures vector { (before after : SystemView) → IsSystem before → Grows before after
         → Stays before after → (start v : List ℕ) → IsLeastFrom before start v
-        → IsWithin v before.lens → IsLeastFrom after start v }
+        → IsAtMost v before.lens → IsLeastFrom after start v }
     ensures row { (before after : SystemView) → IsSystem before → Grows before after
         → Stays before after → (old : RowsView) → old.lens ≡ before.lens
         → AreLeastRows before old.words → (row kept : ℕ) → row ≤ sum after.lens
         → old_row old.lens after.lens row ≡ Some kept
-        → IsWithin (row_at old.lens old.words kept) old.lens
+        → IsAtMost (row_at old.lens old.words kept) old.lens
         → IsLeast after row (row_at after.lens (grown_words after.lens old) row) }
 {}

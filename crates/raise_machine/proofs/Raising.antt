@@ -8,7 +8,7 @@ use Rattle.std.proofs.lemmas.Bool.Decides.{leb_tells}
 use Rattle.pota_base.specs.declared.shape.EventId.{EventId}
 use Rattle.pota_base.specs.Shape.{HasEvent, row_of}
 use Rattle.std.proofs.Math.Nat.{mul-le-mul_left}
-use Rattle.pull_system.specs.Vector.{IsWithin}
+use Rattle.pull_system.specs.Vector.{IsAtMost}
 use Rattle.pull_system.specs.System.{SystemView, IsSystem, IsPull, IsClosedFrom, source_of, target_of, ask}
 use Rattle.pull_system.specs.Rows.{RowsView, AreLeastRows, start_of, starts, place_of, first_rows}
 use Rattle.pull_system.specs.Growth.{Grows, grown_row, grown_words}
@@ -42,7 +42,7 @@ pub bounds_raised : (system : SystemView) (words : List ℕ) (place number : ℕ
 bounds_raised system words place number bounds bound =
     bounds_set system words place (max (get_or words place 0) number) bounds (omega arith) (bound_max system place (get_or words place 0) number (bounds.below place) bound)
 
-pub raised_within : (words : List ℕ) (place number : ℕ) → IsWithin words (raised words place number)
+pub raised_within : (words : List ℕ) (place number : ℕ) → IsAtMost words (raised words place number)
 raised_within words place number = record {
   each = λ i. elim (set_case words place (max (get_or words place 0) number) i 0) [ inl e ↦ omega (arith, e) | inr e ↦ omega (arith, e.1, ap (λ j. get_or words j 0) e.0) ];
 }

@@ -3,7 +3,7 @@ use Rattle.std.proofs.Common.{◌≡◌, ℕ, zero, suc, ◌+◌, ◌^◌, ◌<�
 use Rattle.std.specs.Prelude.{nat_le, nat_lt, if◌then◌else◌}
 use Rattle.std.proofs.lemmas.List.{get_or_past}
 use Rattle.std.proofs.lemmas.Bool.{leb-true, ltb-true}
-use Rattle.pull_system.specs.Vector.{IsWithin}
+use Rattle.pull_system.specs.Vector.{IsAtMost}
 use Rattle.pull_system.specs.System.{SystemView, IsSystem, IsPull, IsClosed, pull_at, source_of, target_of, ask}
 use Rattle.pull_system.specs.Rows.{start_of, place_of, IsLeast}
 use Rattle.pull_system.proofs.Pulls.{pull-of}
@@ -36,7 +36,7 @@ after_bounds system is words bounds (Pull row k x) allowed =
 after_bounds system is words bounds (Lend to_row from_row process y) allowed = after_lend system words bounds to_row from_row process y allowed
 
 -- and lowers none
-after_within : (system : SystemView) (words : List ℕ) (step : Step) → IsWithin words (words_after system words step)
+after_within : (system : SystemView) (words : List ℕ) (step : Step) → IsAtMost words (words_after system words step)
 after_within system words (Look row process) = record { each = λ i. omega arith }
 after_within system words (Pull row k x) = raised_within words _ _
 after_within system words (Lend to_row from_row process y) = raised_within words _ _
@@ -53,9 +53,9 @@ happens_bounds system is words bounds step =
       | inr h ↦ subst P (sym h) bounds
     ]
 
-pub happens_within : (system : SystemView) (words : List ℕ) (step : Step) → IsWithin words (happens system words step)
+pub happens_within : (system : SystemView) (words : List ℕ) (step : Step) → IsAtMost words (happens system words step)
 happens_within system words step =
-    let P : List ℕ → Type 0 = IsWithin words in
+    let P : List ℕ → Type 0 = IsAtMost words in
     elim (if_case (is_allowed system words step) (words_after system words step) words) [
       | inl h ↦ subst P (sym h.1) (after_within system words step)
       | inr h ↦ subst P (sym h) record { each = λ i. omega arith }
@@ -66,12 +66,12 @@ run_bounds system words steps zero is bounds = bounds
 run_bounds system words [] (suc n) is bounds = bounds
 run_bounds system words (step ∷ steps) (suc n) is bounds = run_bounds system (happens system words step) steps n is (happens_bounds system is words bounds step)
 
-from_start : (system : SystemView) (words : List ℕ) (steps : List Step) (n : ℕ) → IsWithin words (words_at system words steps n)
+from_start : (system : SystemView) (words : List ℕ) (steps : List Step) (n : ℕ) → IsAtMost words (words_at system words steps n)
 from_start system words steps zero = record { each = λ i. omega arith }
 from_start system words [] (suc n) = record { each = λ i. omega arith }
 from_start system words (step ∷ steps) (suc n) = record { each = λ i. omega (arith, (happens_within system words step).each i, (from_start system (happens system words step) steps n).each i) }
 
-pub run_within : (system : SystemView) (words : List ℕ) (steps : List Step) (m n : ℕ) → m ≤ n → IsWithin (words_at system words steps m) (words_at system words steps n)
+pub run_within : (system : SystemView) (words : List ℕ) (steps : List Step) (m n : ℕ) → m ≤ n → IsAtMost (words_at system words steps m) (words_at system words steps n)
 run_within system words steps zero n less = from_start system words steps n
 run_within system words [] (suc m) n less = from_start system words [] n
 run_within system words (step ∷ steps) (suc m) zero less = absurd (omega arith)

@@ -1,7 +1,7 @@
 -- Words of rows that lie between the starts and the least closed vectors.
 use Rattle.std.specs.Prelude.{◌≡◌, ℕ, ◌+◌, ◌*◌, ◌<◌, ◌≤◌, List, [], ◌∷◌, Bool, true, ◌&&◌, nat_le}
 use Rattle.std.specs.Prelude.{length, sum, max, slice_index, slice_set}
-use Rattle.pull_system.specs.Vector.{IsWithin}
+use Rattle.pull_system.specs.Vector.{IsAtMost}
 use Rattle.pull_system.specs.System.{SystemView, IsClosedFrom}
 use Rattle.pull_system.specs.Rows.{start_of, starts, place_of}
 
@@ -16,7 +16,7 @@ pub record IsBound (system : SystemView) (place number : ℕ) : Type 0 where
 -- each word is between its row's start and its row's least closed vector
 pub record AreBounds (system : SystemView) (words : List ℕ) : Type 0 where
   pub size : length words ≡ (sum system.lens + 1) * length system.lens
-  pub above : IsWithin (starts system.lens) words
+  pub above : IsAtMost (starts system.lens) words
   pub below : (place : ℕ) → IsBound system place (slice_index words place)
 
 abbrev pub word_at : List ℕ → List ℕ → ℕ → ℕ → ℕ

@@ -1,5 +1,5 @@
 ghost use Rattle.std.specs.Prelude.{◌≡◌, ℕ, ◌<◌, ◌≤◌, List, length, sum, slice_index};
-ghost use Rattle.pull_system.specs.Vector.{IsWithin};
+ghost use Rattle.pull_system.specs.Vector.{IsAtMost};
 ghost use Rattle.pull_system.specs.System.{SystemView, IsSystem, IsClosed};
 ghost use Rattle.pull_system.specs.Rows.{RowsView, AreLeastRows, IsLeast};
 ghost use Rattle.pull_system.specs.Growth.{Grows, grown_words};
@@ -12,7 +12,7 @@ ghost use Rattle.raise_machine.specs.Machine.{words_at, IsSeen};
 /// from the latest of these moments on. It does nothing.
 pub fn runs()
     ensures rises { (system : SystemView) (words : List ℕ) (steps : List Step) (m n : ℕ) → m ≤ n
-        → IsWithin (words_at system words steps m) (words_at system words steps n) }
+        → IsAtMost (words_at system words steps m) (words_at system words steps n) }
     ensures bounds { (system : SystemView) (words : List ℕ) (steps : List Step) (n : ℕ)
         → IsSystem system → AreBounds system words
         → AreBounds system (words_at system words steps n) }

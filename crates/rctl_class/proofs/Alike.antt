@@ -27,7 +27,7 @@ use Rattle.rctl_grammar.specs.Shape.{relation_of, model_operator, model_side, pl
 use Rattle.rctl_class.specs.Nodes.{Node, Nodes, leaf, negation, conjunction, disjunction, under, stepping, until_of, none, more, formula_of, formulas_of, counts_fit, all_counts_fit}
 use Rattle.rctl_class.specs.Uses.{earlier, uses_of}
 use Rattle.rctl_class.specs.Faults.{first_fault, first_of, operator_fault}
-use Rattle.rctl_class.specs.NamedParts.{Piece, name_on, side_formula, expr_formula, expr_formulas, part_formula, part_formulas, pieces}
+use Rattle.rctl_class.specs.NamedParts.{NamedPiece, name_on, side_formula, expr_formula, expr_formulas, part_formula, part_formulas, pieces}
 use Rattle.rctl_class.specs.Walk as walk
 use Rattle.rctl_class.specs.Walk.{first_place, is_on, is_over, all_over, side_from, expr_from, exprs_from, local_part, bounds, difference_bounds, next_count, parts_from, disjuncts_from}
 use Rattle.rctl_class.specs.Classed.{MeanTheSame, Head, bare, operated, stepped, head_of, HaveOneHead, Alike, PartsAlike, EachAlike, disjunct_formulas}
@@ -119,11 +119,11 @@ next_too o i A B wider c h = (h.0, h.1, wider (with_next c i) (path_last (IsCons
 stepped_alike : (process : Name) (f g : Formula) → MeanTheSame f g → MeanTheSame (model.Next process f) (model.Next process g)
 stepped_alike process f g same r order c k = (next_too r.clocks (r.process process) (Sat r f) (Sat r g) (λ d m. (same r order d m).0) c, next_too r.clocks (r.process process) (Sat r g) (Sat r f) (λ d m. (same r order d m).1) c)
 
-all_of_parts : (r : Run) (ps : List Piece) (c : Cut) → SatAll r (part_formulas (pieces ps)) c ↔ SatParts r (map part_formula ps) c
+all_of_parts : (r : Run) (ps : List NamedPiece) (c : Cut) → SatAll r (part_formulas (pieces ps)) c ↔ SatParts r (map part_formula ps) c
 all_of_parts r [] c = (λ h. h, λ h. h)
 all_of_parts r (p ∷ ps) c = let rest = all_of_parts r ps c in (λ h. (h.0, rest.0 h.1), λ h. (h.0, rest.1 h.1))
 
-operand_means : (ps : List Piece) (f : Formula) → PartsAlike (map part_formula ps) (parts true f) → MeanTheSame (model.And (part_formulas (pieces ps))) f
+operand_means : (ps : List NamedPiece) (f : Formula) → PartsAlike (map part_formula ps) (parts true f) → MeanTheSame (model.And (part_formulas (pieces ps))) f
 operand_means ps f alike r order c k =
     let all = all_of_parts r ps c in
     let same = alike_parts_mean r order (map part_formula ps) (parts true f) c k alike in

@@ -12,7 +12,7 @@ use Rattle.rctl_grammar.specs.declared.tree.Atom.TheVariants as atom
 use Rattle.rctl_grammar.specs.Shape.{relation_of}
 use Rattle.rctl_class.specs.Nodes.{Node, Nodes, leaf, negation, conjunction, disjunction, under, stepping, until_of, none, more, formula_of, formulas_of}
 use Rattle.rctl_class.specs.Faults.{first_fault, first_of, operator_fault}
-use Rattle.rctl_class.specs.NamedParts.{Piece, part_formula, part_formulas, pieces}
+use Rattle.rctl_class.specs.NamedParts.{NamedPiece, part_formula, part_formulas, pieces}
 use Rattle.rctl_class.specs.Walk as walk
 use Rattle.rctl_class.specs.Walk.{local_part, bounds, difference_bounds, parts_from, disjuncts_from}
 use Rattle.rctl_class.specs.Counters.{Counter, counters_of, all_counters, parts_counters, disjuncts_counters, HaveSameMembers}
@@ -50,7 +50,7 @@ disjuncts_joined (d ∷ ds) es = rw (disjuncts_joined ds es) (sym (append_assoc 
 -- ---- parts
 
 -- the parts have the counters of the node
-abbrev PartsHave : List Piece → Node → Type 0
+abbrev PartsHave : List NamedPiece → Node → Type 0
 PartsHave ps n = HaveSameMembers (parts_counters (map part_formula ps)) (counters_of (formula_of n))
 
 signed_counters : (sign : Bool) (f : Formula) → counters_of (class.signed sign f) ≡ counters_of f
@@ -85,7 +85,7 @@ differences_have p x q y model.LessOrEqual k h = same_itself (both_of p x q y)
 differences_have p x q y model.Greater k h = same_itself (both_of p x q y)
 differences_have p x q y model.GreaterOrEqual k h = same_itself (both_of p x q y)
 
-operand_counters : (ps : List Piece) → all_counters (part_formulas (pieces ps)) ≡ parts_counters (map part_formula ps)
+operand_counters : (ps : List NamedPiece) → all_counters (part_formulas (pieces ps)) ≡ parts_counters (map part_formula ps)
 operand_counters [] = refl
 operand_counters (p ∷ ps) = ap (λ cs. counters_of (part_formula p) ++ cs) (operand_counters ps)
 
@@ -144,7 +144,7 @@ mutual
 -- ---- disjuncts
 
 -- the disjuncts have the counters of the node
-abbrev DisjunctsHave : List (List Piece) → Node → Type 0
+abbrev DisjunctsHave : List (List NamedPiece) → Node → Type 0
 DisjunctsHave ds n = HaveSameMembers (disjuncts_counters (disjunct_formulas ds)) (counters_of (formula_of n))
 
 one_has : (sign : Bool) (n : Node) → first_fault true sign n ≡ None → DisjunctsHave (parts_from sign n ∷ []) n

@@ -22,7 +22,7 @@ use Rattle.rctl_class.specs.declared.named.NamedPart.TheFolds.{fold-roll-NamedPa
 use Rattle.rctl_class.specs.Nodes as node
 use Rattle.rctl_class.specs.Nodes.{Node, nodes_of, node_step, node_of}
 use Rattle.rctl_class.specs.NamedParts as named
-use Rattle.rctl_class.specs.NamedParts.{Expr, exprs, expr_step, expr_of, Piece, pieces, piece_step, piece_of, pieces_of}
+use Rattle.rctl_class.specs.NamedParts.{Expr, exprs, expr_step, expr_of, NamedPiece, pieces, piece_step, piece_of, pieces_of}
 
 pub node-Leaf : (a : Atom) (at : ℕ) → node_of (tree.Leaf a at) ≡ node.leaf a at
 unfolding node_of
@@ -83,36 +83,36 @@ expr-Or es = ap expr_of (sym (expr.rolls-Or es)) ∙ fold-roll-NamedExpr Expr ex
 
 pub piece-Local : (on : Option Place) (e : NamedExpr) → piece_of (part.Local on e) ≡ named.local on (expr_of e)
 unfolding piece_of
-piece-Local on e = ap piece_of (sym (part.rolls-Local on e)) ∙ fold-roll-NamedPart Piece piece_step (NamedPart-F.Local on e)
+piece-Local on e = ap piece_of (sym (part.rolls-Local on e)) ∙ fold-roll-NamedPart NamedPiece piece_step (NamedPart-F.Local on e)
 
 pub piece-AtMost : (sender receiver : Place) (k : ℕ) → piece_of (part.AtMost sender receiver k) ≡ named.at_most sender receiver k
 unfolding piece_of
 piece-AtMost sender receiver k =
-    ap piece_of (sym (part.rolls-AtMost sender receiver k)) ∙ fold-roll-NamedPart Piece piece_step (NamedPart-F.AtMost sender receiver k)
+    ap piece_of (sym (part.rolls-AtMost sender receiver k)) ∙ fold-roll-NamedPart NamedPiece piece_step (NamedPart-F.AtMost sender receiver k)
 
 pub piece-AtLeast : (sender receiver : Place) (k : ℕ) → piece_of (part.AtLeast sender receiver k) ≡ named.at_least sender receiver k
 unfolding piece_of
 piece-AtLeast sender receiver k =
-    ap piece_of (sym (part.rolls-AtLeast sender receiver k)) ∙ fold-roll-NamedPart Piece piece_step (NamedPart-F.AtLeast sender receiver k)
+    ap piece_of (sym (part.rolls-AtLeast sender receiver k)) ∙ fold-roll-NamedPart NamedPiece piece_step (NamedPart-F.AtLeast sender receiver k)
 
 pub piece-Never : (sender receiver : Place) → piece_of (part.Never sender receiver) ≡ named.never sender receiver
 unfolding piece_of
 piece-Never sender receiver =
-    ap piece_of (sym (part.rolls-Never sender receiver)) ∙ fold-roll-NamedPart Piece piece_step (NamedPart-F.Never sender receiver)
+    ap piece_of (sym (part.rolls-Never sender receiver)) ∙ fold-roll-NamedPart NamedPiece piece_step (NamedPart-F.Never sender receiver)
 
 pub piece-Temporal : (operator : Operator) (ps : List NamedPart) → piece_of (part.Temporal operator ps) ≡ named.temporal operator (pieces (pieces_of ps))
 unfolding piece_of
 piece-Temporal operator ps =
-    ap piece_of (sym (part.rolls-Temporal operator ps)) ∙ fold-roll-NamedPart Piece piece_step (NamedPart-F.Temporal operator ps)
+    ap piece_of (sym (part.rolls-Temporal operator ps)) ∙ fold-roll-NamedPart NamedPiece piece_step (NamedPart-F.Temporal operator ps)
 
 pub piece-DiffAtMost : (p x q y : Place) (k : ℤ) → piece_of (part.DiffAtMost p x q y k) ≡ named.diff_at_most p x q y k
 unfolding piece_of
-piece-DiffAtMost p x q y k = ap piece_of (sym (part.rolls-DiffAtMost p x q y k)) ∙ fold-roll-NamedPart Piece piece_step (NamedPart-F.DiffAtMost p x q y k)
+piece-DiffAtMost p x q y k = ap piece_of (sym (part.rolls-DiffAtMost p x q y k)) ∙ fold-roll-NamedPart NamedPiece piece_step (NamedPart-F.DiffAtMost p x q y k)
 
 pub piece-DiffAtLeast : (p x q y : Place) (k : ℤ) → piece_of (part.DiffAtLeast p x q y k) ≡ named.diff_at_least p x q y k
 unfolding piece_of
-piece-DiffAtLeast p x q y k = ap piece_of (sym (part.rolls-DiffAtLeast p x q y k)) ∙ fold-roll-NamedPart Piece piece_step (NamedPart-F.DiffAtLeast p x q y k)
+piece-DiffAtLeast p x q y k = ap piece_of (sym (part.rolls-DiffAtLeast p x q y k)) ∙ fold-roll-NamedPart NamedPiece piece_step (NamedPart-F.DiffAtLeast p x q y k)
 
 pub piece-Next : (p : Place) (ps : List NamedPart) → piece_of (part.Next p ps) ≡ named.next p (pieces (pieces_of ps))
 unfolding piece_of
-piece-Next p ps = ap piece_of (sym (part.rolls-Next p ps)) ∙ fold-roll-NamedPart Piece piece_step (NamedPart-F.Next p ps)
+piece-Next p ps = ap piece_of (sym (part.rolls-Next p ps)) ∙ fold-roll-NamedPart NamedPiece piece_step (NamedPart-F.Next p ps)

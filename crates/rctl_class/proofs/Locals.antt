@@ -21,7 +21,7 @@ use Rattle.std.proofs.lemmas.Bool.{false≢true}
 use Rattle.std.proofs.lemmas.List.{map-append}
 use Rattle.rctl_class.proofs.Folds.{piece-DiffAtMost, piece-DiffAtLeast, piece-Temporal, piece-Next}
 use Rattle.rctl_class.specs.NamedParts as named
-use Rattle.rctl_class.specs.NamedParts.{Expr, Piece, piece_of, pieces_of}
+use Rattle.rctl_class.specs.NamedParts.{Expr, NamedPiece, piece_of, pieces_of}
 use Rattle.rctl_class.specs.Walk.{first_place, is_on, is_over, all_over, expr_from, signed, local_part, channel_parts, parts_from, disjuncts_from}
 
 -- the names of processes among the names
@@ -184,7 +184,7 @@ local_disjuncts sign (until_of all left right at) h = absurd (false≢true h)
 
 -- ---- what the code makes of them
 
-pub made_local : (sign : Bool) (n : Node) {on : Option Place} {e signed_e : Expr} {p : Piece} → p ≡ named.local on signed_e → on ≡ first_place (uses_of n) →
+pub made_local : (sign : Bool) (n : Node) {on : Option Place} {e signed_e : Expr} {p : NamedPiece} → p ≡ named.local on signed_e → on ≡ first_place (uses_of n) →
     signed_e ≡ signed sign e → e ≡ expr_from n → p ≡ local_part sign n
 made_local sign n is on over from = is ∙ rw (on, over, from) refl
 

@@ -10,7 +10,7 @@ use Rattle.rctl_class.specs.Nodes.{Node, Nodes, none, more, nodes_of, node_of}
 use Rattle.rctl_class.specs.Uses as used
 use Rattle.rctl_class.specs.Uses.{Use, all_uses, uses_of, earlier}
 use Rattle.rctl_class.specs.Faults.{first_fault, first_of}
-use Rattle.rctl_class.specs.NamedParts.{Expr, Exprs, no_expr, and_expr, exprs, Piece}
+use Rattle.rctl_class.specs.NamedParts.{Expr, Exprs, no_expr, and_expr, exprs, NamedPiece}
 use Rattle.rctl_class.specs.Walk.{first_place, all_over, is_over, expr_from, exprs_from, parts_from, all_parts, disjuncts_from, all_disjuncts}
 
 abbrev pub joined : Nodes → Nodes → Nodes
@@ -143,7 +143,7 @@ all_parts-joined sign none ms = refl
 all_parts-joined sign (more n ns) ms =
     ap (λ ps. parts_from sign n ++ ps) (all_parts-joined sign ns ms) ∙ sym (append_assoc (parts_from sign n) (all_parts sign ns) (all_parts sign ms))
 
-pub parts_more : (sign : Bool) (ts : List Tree) (i : ℕ) (t : Tree) (start : List Piece) {old new : List Piece} → i < length ts → t ≡ get_or ts i t →
+pub parts_more : (sign : Bool) (ts : List Tree) (i : ℕ) (t : Tree) (start : List NamedPiece) {old new : List NamedPiece} → i < length ts → t ≡ get_or ts i t →
     old ≡ start ++ all_parts sign (before ts i) → new ≡ old ++ parts_from sign (node_of t) → new ≡ start ++ all_parts sign (before ts (i + 1))
 parts_more sign ts i t start lt is so_far here =
     let all = ap (all_parts sign) (members_more ts i t lt is) ∙ all_parts-joined sign (before ts i) (more (node_of t) none)
@@ -155,7 +155,7 @@ all_disjuncts-joined sign none ms = refl
 all_disjuncts-joined sign (more n ns) ms =
     ap (λ ds. disjuncts_from sign n ++ ds) (all_disjuncts-joined sign ns ms) ∙ sym (append_assoc (disjuncts_from sign n) (all_disjuncts sign ns) (all_disjuncts sign ms))
 
-pub disjuncts_more : (sign : Bool) (ts : List Tree) (i : ℕ) (t : Tree) (start : List (List Piece)) {old new : List (List Piece)} → i < length ts → t ≡ get_or ts i t →
+pub disjuncts_more : (sign : Bool) (ts : List Tree) (i : ℕ) (t : Tree) (start : List (List NamedPiece)) {old new : List (List NamedPiece)} → i < length ts → t ≡ get_or ts i t →
     old ≡ start ++ all_disjuncts sign (before ts i) → new ≡ old ++ disjuncts_from sign (node_of t) → new ≡ start ++ all_disjuncts sign (before ts (i + 1))
 disjuncts_more sign ts i t start lt is so_far here =
     let all = ap (all_disjuncts sign) (members_more ts i t lt is) ∙ all_disjuncts-joined sign (before ts i) (more (node_of t) none)

@@ -14,10 +14,10 @@ use Rattle.rctl_grammar.specs.declared.tree.Atom.TheVariants as atom
 use Rattle.rctl_grammar.specs.Shape.{relation_of}
 use Rattle.rctl_class.specs.Nodes.{Node, Nodes, leaf, negation, conjunction, disjunction, under, stepping, until_of, none, more, formula_of}
 use Rattle.rctl_class.specs.Uses as used
-use Rattle.rctl_class.specs.Uses.{Use, Known, Watching, uses_of, all_uses, use_fault, seen_with, earlier, first_unknown, seen_after, Agree}
+use Rattle.rctl_class.specs.Uses.{Use, KnownNames, Watching, uses_of, all_uses, use_fault, seen_with, earlier, first_unknown, seen_after, Agree}
 use Rattle.rctl_class.specs.Faults.{first_fault, first_of, operator_fault}
 use Rattle.rctl_class.specs.NamedParts as named
-use Rattle.rctl_class.specs.NamedParts.{Piece, Pieces, name_on, side_uses, expr_uses, all_expr_uses, process_use, part_uses, operand_uses, parts_uses, disjuncts_uses, pieces}
+use Rattle.rctl_class.specs.NamedParts.{NamedPiece, Pieces, name_on, side_uses, expr_uses, all_expr_uses, process_use, part_uses, operand_uses, parts_uses, disjuncts_uses, pieces}
 use Rattle.rctl_class.specs.Walk as walk
 use Rattle.rctl_class.specs.Walk.{first_place, is_on, is_over, all_over, side_from, expr_from, exprs_from, signed, local_part, bounds, difference_bounds, parts_from, disjuncts_from}
 use Rattle.rctl_class.proofs.Locals.{process_names, processes_named, over_plain, option_name, local_parts, local_disjuncts}
@@ -26,7 +26,7 @@ use Rattle.rctl_class.proofs.Alike.{some_name, name_of_first, on_same, local_is_
 
 -- ---- names joined
 
-pub unknown_joined : (known : Known) (seen : List Watching) (us vs : List Use) → first_unknown known seen (us ++ vs) ≡ earlier (first_unknown known seen us) (first_unknown known (seen_after seen us) vs)
+pub unknown_joined : (known : KnownNames) (seen : List Watching) (us vs : List Use) → first_unknown known seen (us ++ vs) ≡ earlier (first_unknown known seen us) (first_unknown known (seen_after seen us) vs)
 unfolding first_unknown seen_after
 unknown_joined known seen [] vs = refl
 unknown_joined known seen (u ∷ us) vs =
@@ -107,7 +107,7 @@ mutual
   all_lead (more n ns) = leads_joined (uses_of n) (all_uses ns) (uses_lead n) (all_lead ns)
 
 -- names of a known process are no faults
-known_process : (known : Known) (seen : List Watching) (p : Name) (us : List Use) → known.is_process p ≡ true → list_all (is_on (Some p)) (process_names us) ≡ true →
+known_process : (known : KnownNames) (seen : List Watching) (p : Name) (us : List Use) → known.is_process p ≡ true → list_all (is_on (Some p)) (process_names us) ≡ true →
     first_unknown known seen (without_processes us) ≡ first_unknown known seen us
 unfolding first_unknown
 known_process known seen p [] is alone = refl
@@ -236,11 +236,11 @@ difference_names p x q y model.GreaterOrEqual k h = agree_itself (difference_use
 
 -- ---- parts
 
-parts_uses_joined : (ps qs : List Piece) → parts_uses (ps ++ qs) ≡ parts_uses ps ++ parts_uses qs
+parts_uses_joined : (ps qs : List NamedPiece) → parts_uses (ps ++ qs) ≡ parts_uses ps ++ parts_uses qs
 parts_uses_joined [] qs = refl
 parts_uses_joined (p ∷ ps) qs = rw (parts_uses_joined ps qs) (sym (append_assoc (part_uses p) (parts_uses ps) (parts_uses qs)))
 
-pub operand_names : (ps : List Piece) → operand_uses (pieces ps) ≡ parts_uses ps
+pub operand_names : (ps : List NamedPiece) → operand_uses (pieces ps) ≡ parts_uses ps
 operand_names [] = refl
 operand_names (p ∷ ps) = ap (λ us. part_uses p ++ us) (operand_names ps)
 
@@ -303,7 +303,7 @@ mutual
 
 -- ---- disjuncts
 
-disjuncts_uses_joined : (ds es : List (List Piece)) → disjuncts_uses (ds ++ es) ≡ disjuncts_uses ds ++ disjuncts_uses es
+disjuncts_uses_joined : (ds es : List (List NamedPiece)) → disjuncts_uses (ds ++ es) ≡ disjuncts_uses ds ++ disjuncts_uses es
 disjuncts_uses_joined [] es = refl
 disjuncts_uses_joined (d ∷ ds) es = rw (disjuncts_uses_joined ds es) (sym (append_assoc (parts_uses d) (disjuncts_uses ds) (disjuncts_uses es)))
 

@@ -15,7 +15,7 @@ use Rattle.rctl_class.specs.Nodes.{Node, Nodes, leaf, negation, conjunction, dis
 use Rattle.rctl_class.specs.Uses.{uses_of, all_uses}
 use Rattle.rctl_class.specs.Faults.{first_fault, first_of, operator_fault}
 use Rattle.rctl_class.specs.NamedParts as named
-use Rattle.rctl_class.specs.NamedParts.{Piece, Pieces, pieces, is_constant, are_constant, has_no_place, PartFits, OperandFits, EachFits, AllFit, part_count, operand_count, parts_count, disjuncts_count, AreDisjuncts}
+use Rattle.rctl_class.specs.NamedParts.{NamedPiece, Pieces, pieces, is_constant, are_constant, has_no_place, PartFits, OperandFits, EachFits, AllFit, part_count, operand_count, parts_count, disjuncts_count, AreDisjuncts}
 use Rattle.rctl_class.specs.Walk as walk
 use Rattle.rctl_class.specs.Walk.{first_place, is_over, all_over, expr_from, exprs_from, signed, local_part, bounds, difference_bounds, next_count, fewer_than, channel_parts, or_local, or_one_local, parts_from, disjuncts_from}
 use Rattle.rctl_class.specs.Classed.{IsClassed}
@@ -87,15 +87,15 @@ differences_fit p x q y model.LessOrEqual k apart low high = ((apart, omega (ari
 differences_fit p x q y model.Greater k apart low high = ((apart, omega (arith, ints), omega (arith, ints)), tt)
 differences_fit p x q y model.GreaterOrEqual k apart low high = ((apart, omega (arith, ints), omega (arith, ints)), tt)
 
-each_fits_joined : (ps qs : List Piece) → EachFits ps → EachFits qs → EachFits (ps ++ qs)
+each_fits_joined : (ps qs : List NamedPiece) → EachFits ps → EachFits qs → EachFits (ps ++ qs)
 each_fits_joined [] qs a b = b
 each_fits_joined (p ∷ ps) qs a b = (a.0, each_fits_joined ps qs a.1 b)
 
-all_fit_joined : (ds es : List (List Piece)) → AllFit ds → AllFit es → AllFit (ds ++ es)
+all_fit_joined : (ds es : List (List NamedPiece)) → AllFit ds → AllFit es → AllFit (ds ++ es)
 all_fit_joined [] es a b = b
 all_fit_joined (d ∷ ds) es a b = (a.0, all_fit_joined ds es a.1 b)
 
-operand_fits : (ps : List Piece) → EachFits ps → OperandFits (pieces ps)
+operand_fits : (ps : List NamedPiece) → EachFits ps → OperandFits (pieces ps)
 operand_fits [] h = tt
 operand_fits (p ∷ ps) h = (h.0, operand_fits ps h.1)
 
@@ -203,15 +203,15 @@ a_node (under o n at) = omega arith
 a_node (stepping process n at) = omega arith
 a_node (until_of all left right at) = omega arith
 
-parts_count_joined : (ps qs : List Piece) → parts_count (ps ++ qs) ≡ parts_count ps + parts_count qs
+parts_count_joined : (ps qs : List NamedPiece) → parts_count (ps ++ qs) ≡ parts_count ps + parts_count qs
 parts_count_joined [] qs = omega arith
 parts_count_joined (p ∷ ps) qs = omega (arith, parts_count_joined ps qs)
 
-disjuncts_count_joined : (ds es : List (List Piece)) → disjuncts_count (ds ++ es) ≡ disjuncts_count ds + disjuncts_count es
+disjuncts_count_joined : (ds es : List (List NamedPiece)) → disjuncts_count (ds ++ es) ≡ disjuncts_count ds + disjuncts_count es
 disjuncts_count_joined [] es = omega arith
 disjuncts_count_joined (d ∷ ds) es = omega (arith, disjuncts_count_joined ds es)
 
-operand_counted : (ps : List Piece) → operand_count (pieces ps) ≡ parts_count ps
+operand_counted : (ps : List NamedPiece) → operand_count (pieces ps) ≡ parts_count ps
 operand_counted [] = refl
 operand_counted (p ∷ ps) = ap (λ k. part_count p + k) (operand_counted ps)
 
@@ -239,7 +239,7 @@ channel_few sign (atom.Difference p x q y compare k) = differences_few (after_si
   differences_few model.Greater = omega arith
   differences_few model.GreaterOrEqual = omega arith
 
-or_local_few : (sign : Bool) (n : Node) (others : List Piece) → parts_count others ≤ 2 * node_count n → parts_count (or_local sign n others) ≤ 2 * node_count n
+or_local_few : (sign : Bool) (n : Node) (others : List NamedPiece) → parts_count others ≤ 2 * node_count n → parts_count (or_local sign n others) ≤ 2 * node_count n
 or_local_few sign n others few = elim (is_local (formula_of n)) as (λ b. parts_count (if b then local_part sign n ∷ [] else others) ≤ 2 * node_count n)
     [ true ↦ omega (arith, a_node n) | false ↦ few ]
 
@@ -260,13 +260,13 @@ mutual
   all_parts_few sign (more n ns) = omega (arith, parts_count_joined (parts_from sign n) (walk.all_parts sign ns), parts_few sign n, all_parts_few sign ns)
 
 -- at most so many disjuncts, and parts in all
-abbrev AreFew : List (List Piece) → ℕ → Type 0
+abbrev AreFew : List (List NamedPiece) → ℕ → Type 0
 AreFew ds nodes = (length ds ≤ nodes) × (disjuncts_count ds ≤ 2 * nodes)
 
 one_few : (sign : Bool) (n : Node) → AreFew (parts_from sign n ∷ []) (node_count n)
 one_few sign n = (a_node n, omega (arith, parts_few sign n))
 
-or_one_local_few : (sign : Bool) (n : Node) (others : List (List Piece)) → AreFew others (node_count n) → AreFew (or_one_local sign n others) (node_count n)
+or_one_local_few : (sign : Bool) (n : Node) (others : List (List NamedPiece)) → AreFew others (node_count n) → AreFew (or_one_local sign n others) (node_count n)
 or_one_local_few sign n others few = elim (is_local (formula_of n)) as (λ b. AreFew (if b then (local_part sign n ∷ []) ∷ [] else others) (node_count n))
     [ true ↦ (a_node n, omega (arith, a_node n)) | false ↦ few ]
 
@@ -327,7 +327,7 @@ mutual
 
 -- ---- the whole
 
-pub classed : (n : Node) (ds : List (List Piece)) → IsWithinLimits n → first_fault false true n ≡ None → ds ≡ disjuncts_from true n → IsClassed n ds
+pub classed : (n : Node) (ds : List (List NamedPiece)) → IsWithinLimits n → first_fault false true n ≡ None → ds ≡ disjuncts_from true n → IsClassed n ds
 classed n ds limits free is =
     let whole : IsClassed n (disjuncts_from true n) = record {
       free = free;
@@ -342,4 +342,4 @@ classed n ds limits free is =
         parts = omega (arith, (disjuncts_few true n).1, limits.few);
       };
     } in
-    let P : List (List Piece) → Type 0 = λ l. IsClassed n l in subst P (sym is) whole
+    let P : List (List NamedPiece) → Type 0 = λ l. IsClassed n l in subst P (sym is) whole

@@ -11,7 +11,7 @@ use Rattle.rctl_class.specs.Nodes.{Node, formula_of}
 use Rattle.rctl_class.specs.Uses.{Agree, uses_of}
 use Rattle.rctl_class.specs.Counters.{counters_of, disjuncts_counters, HaveSameMembers}
 use Rattle.rctl_class.specs.Faults.{first_fault}
-use Rattle.rctl_class.specs.NamedParts.{Piece, part_formula, disjuncts_uses, AreDisjuncts}
+use Rattle.rctl_class.specs.NamedParts.{NamedPiece, part_formula, disjuncts_uses, AreDisjuncts}
 use Rattle.rctl_class.specs.Walk.{disjuncts_from}
 
 -- two formulas are true at the same consistent cuts of every run
@@ -67,11 +67,11 @@ EachAlike (f ∷ fs) [] = ⊥
 EachAlike (f ∷ fs) (g ∷ gs) = PartsAlike f g × EachAlike fs gs
 
 -- the formulas of the parts of disjuncts
-abbrev pub disjunct_formulas : List (List Piece) → List (List Formula)
+abbrev pub disjunct_formulas : List (List NamedPiece) → List (List Formula)
 disjunct_formulas ds = map (map part_formula) ds
 
 -- the disjuncts are those of the formula, which is of the class
-pub record IsClassed (n : Node) (ds : List (List Piece)) : Type 0 where
+pub record IsClassed (n : Node) (ds : List (List NamedPiece)) : Type 0 where
   pub free : first_fault false true n ≡ None
   -- they are these, in the order of the text
   pub split : ds ≡ disjuncts_from true n

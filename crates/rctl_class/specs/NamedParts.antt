@@ -56,28 +56,28 @@ expr_of = fold-NamedExpr Expr expr_step
 
 mutual
   -- a part by names
-  pub data Piece : Type 0 where
-    local : (on : Option Place) (e : Expr) → Piece
-    at_most : (sender receiver : Place) (k : ℕ) → Piece
-    at_least : (sender receiver : Place) (k : ℕ) → Piece
-    never : (sender receiver : Place) → Piece
-    diff_at_most : (left_process left right_process right : Place) (k : ℤ) → Piece
-    diff_at_least : (left_process left right_process right : Place) (k : ℤ) → Piece
-    temporal : (operator : Operator) (ps : Pieces) → Piece
-    next : (behind : Place) (ps : Pieces) → Piece
+  pub data NamedPiece : Type 0 where
+    local : (on : Option Place) (e : Expr) → NamedPiece
+    at_most : (sender receiver : Place) (k : ℕ) → NamedPiece
+    at_least : (sender receiver : Place) (k : ℕ) → NamedPiece
+    never : (sender receiver : Place) → NamedPiece
+    diff_at_most : (left_process left right_process right : Place) (k : ℤ) → NamedPiece
+    diff_at_least : (left_process left right_process right : Place) (k : ℤ) → NamedPiece
+    temporal : (operator : Operator) (ps : Pieces) → NamedPiece
+    next : (behind : Place) (ps : Pieces) → NamedPiece
 
   -- a conjunction of parts
   pub data Pieces : Type 0 where
     no_piece : Pieces
-    and_piece : (p : Piece) (ps : Pieces) → Pieces
+    and_piece : (p : NamedPiece) (ps : Pieces) → Pieces
 
 -- a list of parts, as an operand
-abbrev pub pieces : List Piece → Pieces
+abbrev pub pieces : List NamedPiece → Pieces
 pieces [] = no_piece
 pieces (p ∷ ps) = and_piece p (pieces ps)
 
 -- one layer of a part, with its operands already seen
-abbrev pub piece_step : NamedPart-F Piece → Piece
+abbrev pub piece_step : NamedPart-F NamedPiece → NamedPiece
 piece_step (NamedPart-F.Local on expr) = local on (expr_of expr)
 piece_step (NamedPart-F.AtMost sender receiver k) = at_most sender receiver k
 piece_step (NamedPart-F.AtLeast sender receiver k) = at_least sender receiver k
@@ -90,15 +90,15 @@ piece_step (NamedPart-F.Temporal operator ps) = temporal operator (pieces ps)
 piece_step (NamedPart-F.Next p ps) = next p (pieces ps)
 
 -- the part that the code's value is
-unfoldable pub piece_of : NamedPart → Piece
-piece_of = fold-NamedPart Piece piece_step
+unfoldable pub piece_of : NamedPart → NamedPiece
+piece_of = fold-NamedPart NamedPiece piece_step
 
 -- the parts of a list of them
-abbrev pub pieces_of : List NamedPart → List Piece
+abbrev pub pieces_of : List NamedPart → List NamedPiece
 pieces_of parts = map piece_of parts
 
 -- the disjuncts, each by its parts
-abbrev pub disjuncts_of : List (List NamedPart) → List (List Piece)
+abbrev pub disjuncts_of : List (List NamedPart) → List (List NamedPiece)
 disjuncts_of disjuncts = map pieces_of disjuncts
 
 -- ---- formulas
@@ -131,7 +131,7 @@ name_on (Some p) = p.name
 
 abbrev mutual
   -- the formula of a part
-  pub part_formula : Piece → model.Formula
+  pub part_formula : NamedPiece → model.Formula
   part_formula (local on e) = expr_formula (name_on on) e
   part_formula (at_most p q k) = model.InTransit p.name q.name model.LessOrEqual k
   part_formula (at_least p q k) = model.InTransit p.name q.name model.GreaterOrEqual k
@@ -178,7 +178,7 @@ process_use (Some p) = process p ∷ []
 
 abbrev mutual
   -- the names of a part: a local one names its process once
-  pub part_uses : Piece → List Use
+  pub part_uses : NamedPiece → List Use
   part_uses (local on e) = process_use on ++ expr_uses (name_on on) e
   part_uses (at_most p q k) = process p ∷ process q ∷ []
   part_uses (at_least p q k) = process p ∷ process q ∷ []
@@ -196,12 +196,12 @@ abbrev mutual
   operand_uses (and_piece p ps) = part_uses p ++ operand_uses ps
 
 -- the names of a conjunction of parts, and of disjuncts
-abbrev pub parts_uses : List Piece → List Use
+abbrev pub parts_uses : List NamedPiece → List Use
 parts_uses [] = []
 parts_uses (p ∷ ps) = part_uses p ++ parts_uses ps
 
 -- the names of disjuncts
-abbrev pub disjuncts_uses : List (List Piece) → List Use
+abbrev pub disjuncts_uses : List (List NamedPiece) → List Use
 disjuncts_uses [] = []
 disjuncts_uses (d ∷ ds) = parts_uses d ++ disjuncts_uses ds
 
@@ -235,7 +235,7 @@ DifferenceFits p q k =
 abbrev mutual
   -- an expression has a process exactly where it isn't constant, bounds are at most 2^63, those of
   -- differences within 2^64, operators are analysed
-  pub PartFits : Piece → Type 0
+  pub PartFits : NamedPiece → Type 0
   PartFits (local on e) = is_constant e ≡ has_no_place on
   PartFits (at_most p q k) = k ≤ 2 ^ 63
   PartFits (at_least p q k) = k ≤ 2 ^ 63
@@ -251,18 +251,18 @@ abbrev mutual
   OperandFits (and_piece p ps) = PartFits p × OperandFits ps
 
 -- so of each part of a conjunction, and of each disjunct
-abbrev pub EachFits : List Piece → Type 0
+abbrev pub EachFits : List NamedPiece → Type 0
 EachFits [] = ⊤
 EachFits (p ∷ ps) = PartFits p × EachFits ps
 
 -- so of each disjunct
-abbrev pub AllFit : List (List Piece) → Type 0
+abbrev pub AllFit : List (List NamedPiece) → Type 0
 AllFit [] = ⊤
 AllFit (d ∷ ds) = EachFits d × AllFit ds
 
 abbrev mutual
   -- how many parts a part is, those of its operand counted
-  pub part_count : Piece → ℕ
+  pub part_count : NamedPiece → ℕ
   part_count (local on e) = 1
   part_count (at_most p q k) = 1
   part_count (at_least p q k) = 1
@@ -278,18 +278,18 @@ abbrev mutual
   operand_count (and_piece p ps) = part_count p + operand_count ps
 
 -- the parts of a conjunction, inner ones counted
-abbrev pub parts_count : List Piece → ℕ
+abbrev pub parts_count : List NamedPiece → ℕ
 parts_count [] = 0
 parts_count (p ∷ ps) = part_count p + parts_count ps
 
 -- those of all disjuncts
-abbrev pub disjuncts_count : List (List Piece) → ℕ
+abbrev pub disjuncts_count : List (List NamedPiece) → ℕ
 disjuncts_count [] = 0
 disjuncts_count (d ∷ ds) = parts_count d + disjuncts_count ds
 
 -- the disjuncts are such as a formula that was read can have: 1 to 64, of at most 128 parts, inner
 -- ones counted
-pub record AreDisjuncts (ds : List (List Piece)) : Type 0 where
+pub record AreDisjuncts (ds : List (List NamedPiece)) : Type 0 where
   pub fit : AllFit ds
   pub some : 1 ≤ length ds
   pub few : length ds ≤ 64

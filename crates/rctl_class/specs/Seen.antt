@@ -5,7 +5,7 @@ use Rattle.run_model.specs.Run.{Name}
 use Rattle.rctl_grammar.specs.declared.tree.Place.{Place}
 use Rattle.rctl_class.specs.declared.named.NamedExpr.{NamedExpr}
 use Rattle.rctl_class.specs.declared.named.NamedPart.{NamedPart}
-use Rattle.rctl_class.specs.NamedParts.{Expr, Exprs, Piece, expr_of, exprs, piece_of}
+use Rattle.rctl_class.specs.NamedParts.{Expr, Exprs, NamedPiece, expr_of, exprs, piece_of}
 
 -- the place that is lent
 abbrev pub place_seen : Option (Bor Place) → Option Place
@@ -28,7 +28,7 @@ exprs_seen None = None
 exprs_seen (Some es) = Some (exprs (map expr_of es))
 
 -- the part, where there is one
-abbrev pub part_seen : Option NamedPart → Option Piece
+abbrev pub part_seen : Option NamedPart → Option NamedPiece
 part_seen None = None
 part_seen (Some p) = Some (piece_of p)
 

@@ -54,7 +54,7 @@ abbrev mutual
 -- ---- faults
 
 -- which names are known: the processes of a run, the variables of each, and the watches
-pub record Known : Type 0 where
+pub record KnownNames : Type 0 where
   pub is_process : Name → Bool
   pub is_variable : Name → Name → Bool
   pub is_watch : Name → Bool
@@ -75,7 +75,7 @@ abbrev pub fault_at : FormulaCode → ℕ → Option FormulaFault
 fault_at code at = Some (record { code = code; place = at })
 
 -- what is wrong with a name, behind the watches that stand before it
-abbrev pub use_fault : Known → List Watching → Use → Option FormulaFault
+abbrev pub use_fault : KnownNames → List Watching → Use → Option FormulaFault
 use_fault known seen (process p) =
     if known.is_process p.name then None else fault_at code.UnknownProcess p.at
 use_fault known seen (variable p v) =
@@ -97,7 +97,7 @@ earlier None later = later
 earlier (Some f) later = Some f
 
 -- the first fault of names, each judged behind those before it
-unfoldable pub first_unknown : Known → List Watching → List Use → Option FormulaFault
+unfoldable pub first_unknown : KnownNames → List Watching → List Use → Option FormulaFault
 first_unknown known seen [] = None
 first_unknown known seen (u ∷ us) =
     earlier (use_fault known seen u) (first_unknown known (seen_with seen u) us)
@@ -109,6 +109,6 @@ seen_after seen (u ∷ us) = seen_after (seen_with seen u) us
 
 -- two lists of names have one first fault, whatever is known and stands before
 pub record Agree (us vs : List Use) : Type 0 where
-  pub fault : (known : Known) (seen : List Watching)
+  pub fault : (known : KnownNames) (seen : List Watching)
       → first_unknown known seen us ≡ first_unknown known seen vs
   pub seen : (before : List Watching) → seen_after before us ≡ seen_after before vs

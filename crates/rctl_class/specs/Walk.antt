@@ -18,7 +18,7 @@ use Rattle.rctl_class.specs.Nodes.{stepping, until_of, none, more, formula_of}
 use Rattle.rctl_class.specs.Uses as used
 use Rattle.rctl_class.specs.Uses.{Use, uses_of}
 use Rattle.rctl_class.specs.NamedParts as named
-use Rattle.rctl_class.specs.NamedParts.{Expr, Exprs, Piece}
+use Rattle.rctl_class.specs.NamedParts.{Expr, Exprs, NamedPiece}
 
 -- ---- local formulas
 
@@ -99,7 +99,7 @@ abbrev pub signed : Bool → Expr → Expr
 signed sign e = if sign then e else named.negation e
 
 -- the part that a local formula with this sign is
-abbrev pub local_part : Bool → Node → Piece
+abbrev pub local_part : Bool → Node → NamedPiece
 local_part sign n = named.local (first_place (uses_of n)) (signed sign (expr_from n))
 
 -- ---- channels
@@ -109,12 +109,12 @@ abbrev pub next_count : ℕ → ℕ
 next_count k = min (k + 1) (2 ^ 64 - 1)
 
 -- fewer than k
-abbrev pub fewer_than : Place → Place → ℕ → List Piece
+abbrev pub fewer_than : Place → Place → ℕ → List NamedPiece
 fewer_than p q zero = named.never p q ∷ []
 fewer_than p q (suc k) = named.at_most p q k ∷ []
 
 -- the bounds that a comparison of the messages under way says, and none for "unequal"
-abbrev pub bounds : Place → Place → model.Relation → ℕ → List Piece
+abbrev pub bounds : Place → Place → model.Relation → ℕ → List NamedPiece
 bounds p q model.Equal k = named.at_most p q k ∷ named.at_least p q k ∷ []
 bounds p q model.Unequal k = []
 bounds p q model.Less k = fewer_than p q k
@@ -123,11 +123,11 @@ bounds p q model.Greater k = named.at_least p q (next_count k) ∷ []
 bounds p q model.GreaterOrEqual k = named.at_least p q k ∷ []
 
 -- no message is under way, or some is
-abbrev pub empty_bound : Bool → Place → Place → Piece
+abbrev pub empty_bound : Bool → Place → Place → NamedPiece
 empty_bound sign p q = if sign then named.at_most p q 0 else named.at_least p q 1
 
 -- the bounds that a comparison of a difference says, and none for "unequal"
-abbrev pub difference_bounds : Place → Place → Place → Place → model.Relation → ℤ → List Piece
+abbrev pub difference_bounds : Place → Place → Place → Place → model.Relation → ℤ → List NamedPiece
 difference_bounds p x q y model.Equal k =
     named.diff_at_most p x q y k ∷ named.diff_at_least p x q y k ∷ []
 difference_bounds p x q y model.Unequal k = []
@@ -137,7 +137,7 @@ difference_bounds p x q y model.Greater k = named.diff_at_least p x q y (k +ℤ 
 difference_bounds p x q y model.GreaterOrEqual k = named.diff_at_least p x q y k ∷ []
 
 -- the parts of a leaf with this sign that isn't local
-abbrev pub channel_parts : Bool → Atom → List Piece
+abbrev pub channel_parts : Bool → Atom → List NamedPiece
 channel_parts sign (atom.Truth value) = []
 channel_parts sign (atom.Local q v compare right) = []
 channel_parts sign (atom.Watch q w) = []
@@ -150,12 +150,12 @@ channel_parts sign (atom.Difference p x q y compare k) =
 -- ---- parts and disjuncts
 
 -- a local formula is one part
-abbrev pub or_local : Bool → Node → List Piece → List Piece
+abbrev pub or_local : Bool → Node → List NamedPiece → List NamedPiece
 or_local sign n others = if is_local (formula_of n) then local_part sign n ∷ [] else others
 
 abbrev mutual
   -- the parts of the formula with this sign, where it is a conjunction of regular parts
-  pub parts_from : Bool → Node → List Piece
+  pub parts_from : Bool → Node → List NamedPiece
   parts_from sign (leaf a at) = or_local sign (leaf a at) (channel_parts sign a)
   parts_from sign (negation n at) = or_local sign (negation n at) (parts_from (not sign) n)
   parts_from true (conjunction ns at) = or_local true (conjunction ns at) (all_parts true ns)
@@ -169,18 +169,18 @@ abbrev mutual
   parts_from sign (until_of all left right at) = []
 
   -- those of members, one after the other
-  pub all_parts : Bool → Nodes → List Piece
+  pub all_parts : Bool → Nodes → List NamedPiece
   all_parts sign none = []
   all_parts sign (more n ns) = parts_from sign n ++ all_parts sign ns
 
 -- a local formula is one disjunct of one part
-abbrev pub or_one_local : Bool → Node → List (List Piece) → List (List Piece)
+abbrev pub or_one_local : Bool → Node → List (List NamedPiece) → List (List NamedPiece)
 or_one_local sign n others =
     if is_local (formula_of n) then (local_part sign n ∷ []) ∷ [] else others
 
 abbrev mutual
   -- the disjuncts of the formula with this sign, where it is a disjunction of such conjunctions
-  pub disjuncts_from : Bool → Node → List (List Piece)
+  pub disjuncts_from : Bool → Node → List (List NamedPiece)
   disjuncts_from sign (leaf a at) = parts_from sign (leaf a at) ∷ []
   disjuncts_from sign (negation n at) =
       or_one_local sign (negation n at) (disjuncts_from (not sign) n)
@@ -195,6 +195,6 @@ abbrev mutual
   disjuncts_from sign (until_of all left right at) = []
 
   -- those of members, one after the other
-  pub all_disjuncts : Bool → Nodes → List (List Piece)
+  pub all_disjuncts : Bool → Nodes → List (List NamedPiece)
   all_disjuncts sign none = []
   all_disjuncts sign (more n ns) = disjuncts_from sign n ++ all_disjuncts sign ns

@@ -2,7 +2,7 @@
 ghost use Rattle.rctl_class.specs.Classed.{IsClassed, disjunct_formulas};
 ghost use Rattle.rctl_class.specs.Counters.{NoneFalls, counters_of, disjuncts_counters};
 ghost use Rattle.rctl_class.specs.Faults.{first_fault};
-ghost use Rattle.rctl_class.specs.NamedParts.{Piece};
+ghost use Rattle.rctl_class.specs.NamedParts.{NamedPiece};
 ghost use Rattle.rctl_class.specs.Nodes.{IsWithinLimits, Node, formula_of, node_of};
 ghost use Rattle.rctl_grammar.specs.Shape.{meaning};
 ghost use Rattle.rctl_grammar.specs.declared.tree.Tree.{Tree};
@@ -24,10 +24,10 @@ pub fn faultless_formulas_are_of_the_class()
 /// A formula of the class is true at a consistent cut exactly where some disjunct has all its
 /// parts true, and it has one disjunct exactly where it is regular.
 pub fn disjuncts_mean_the_formula()
-    ensures meaning { (n : Node) (ds : List (List Piece)) → IsClassed n ds
+    ensures meaning { (n : Node) (ds : List (List NamedPiece)) → IsClassed n ds
         → (r : Run) → IsOrder r.clocks → (c : Cut) → IsConsistent r.clocks c
         → SatDisjuncts r (disjunct_formulas ds) c ↔ Sat r (formula_of n) c }
-    ensures one { (n : Node) (ds : List (List Piece)) → IsWithinLimits n → IsClassed n ds
+    ensures one { (n : Node) (ds : List (List NamedPiece)) → IsWithinLimits n → IsClassed n ds
         → IsRegular (formula_of n) ↔ (length ds ≡ 1) }
 {}
 

@@ -102,7 +102,7 @@ front (b ∷ rest) =
     else sign_front b rest
 
 -- a token has at most so many bytes
-abbrev pub IsWithin : ℕ → Front → Type 0
-IsWithin len at_front.Blank = Unit {0}
-IsWithin len (at_front.Token kind extra) = extra < len
-IsWithin len at_front.Bad = Unit {0}
+abbrev pub IsShorter : ℕ → Front → Type 0
+IsShorter len at_front.Blank = Unit {0}
+IsShorter len (at_front.Token kind extra) = extra < len
+IsShorter len at_front.Bad = Unit {0}

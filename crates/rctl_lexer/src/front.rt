@@ -3,7 +3,7 @@
 ghost use Rattle.std.specs.Prelude.{◌≡◌, ◌+◌, ◌<◌, ◌≤◌, length, IfOk};
 ghost use Rattle.rctl_lexer.specs.Front.{begins_number, front, is_blank, leads_number};
 ghost use Rattle.rctl_lexer.specs.Front.{number_front, number_value, sign_front, sign_of};
-ghost use Rattle.rctl_lexer.specs.Front.{starts_digit, with_equals, word_front, IsWithin};
+ghost use Rattle.rctl_lexer.specs.Front.{starts_digit, with_equals, word_front, IsShorter};
 
 use crate::run::{Class, run_of};
 use crate::word::word_of;
@@ -42,7 +42,7 @@ fn starts_digit(text: &[u8]) -> bool
 fn word_front(alloc: Global, text: &[u8], extra: usize) -> Result<Front, NoMemory>
     requires { extra < length text.now }
     ensures word { IfOk result (λ found. found ≡ word_front text.now extra) }
-    ensures within { IfOk result (λ found. IsWithin (length text.now) found) }
+    ensures within { IfOk result (λ found. IsShorter (length text.now) found) }
 {
     let word = &text[..extra + 1];
     match Name::new(alloc, word)? {
@@ -80,7 +80,7 @@ fn number_value(text: &[u8]) -> Option<i64>
 fn number_front(text: &[u8], extra: usize) -> Front
     requires { extra < length text.now }
     ensures number { result ≡ number_front text.now extra }
-    ensures within { IsWithin (length text.now) result }
+    ensures within { IsShorter (length text.now) result }
 {
     Front::Token(Kind::Number(number_value(&text[..extra + 1])), extra)
 }
@@ -125,7 +125,7 @@ fn with_equals(byte: u8) -> Option<Kind>
 #[tactic(auto, unfolding(crate::specs::Front::sign_front))]
 fn sign_front(first: u8, rest: &[u8]) -> Front
     ensures sign { result ≡ sign_front first rest.now }
-    ensures within { IsWithin (length rest.now + 1) result }
+    ensures within { IsShorter (length rest.now + 1) result }
 {
     if let [b'=', ..] = rest {
         if let Some(kind) = with_equals(first) {
@@ -142,7 +142,7 @@ fn sign_front(first: u8, rest: &[u8]) -> Front
 #[tactic(auto, unfolding(crate::specs::Front::front))]
 pub fn front_of(alloc: Global, text: &[u8]) -> Result<Front, NoMemory>
     ensures front { IfOk result (λ found. found ≡ front text.now) }
-    ensures within { IfOk result (λ found. IsWithin (length text.now) found) }
+    ensures within { IfOk result (λ found. IsShorter (length text.now) found) }
 {
     let [first, rest @ ..] = text else {
         return Ok(Front::Bad);

@@ -12,7 +12,7 @@ use Rattle.rctl_grammar.specs.declared.tree.Operator.TheVariants as operator
 use Rattle.rctl_grammar.specs.declared.tree.Place.{Place}
 use Rattle.rctl_grammar.specs.Shape.{relation_of, model_operator}
 use Rattle.rctl_parts.specs.Spelled as spelled
-use Rattle.rctl_parts.specs.Spelled.{Names, name_at, variable_at, formula_in, formulas_in, operated, formula_of, formulas_of}
+use Rattle.rctl_parts.specs.Spelled.{Names, numbered_name, variable_at, formula_in, formulas_in, operated, formula_of, formulas_of}
 use Rattle.rctl_class.specs.declared.named.NamedSide.{NamedSide}
 use Rattle.rctl_class.specs.declared.named.NamedSide.TheVariants as side
 use Rattle.rctl_class.specs.Uses.{earlier}
@@ -41,7 +41,7 @@ watch_known s p place h = by_place (place_of s.names place.name) refl h where
   by_place None e k = absurd (cc)
   by_place (Some n) e k = record { at = n; found = e }
 
-pub named_back : (names : List Name) (name : Name) → IsAt names name → name_at names (number names name) ≡ name
+pub named_back : (names : List Name) (name : Name) → IsAt names name → numbered_name names (number names name) ≡ name
 named_back names name is = ap (λ k. get_or names k []) (found_number names name is.at is.found) ∙ found_there names name is.at is.found
 
 -- ---- expressions
@@ -62,7 +62,7 @@ mutual
       ∙ ap (model.Comparison p left.name (relation_of compare)) (side_spelled variables p k s right both.1)
   expr_spelled variables watches p k s (named.watched name) same free =
       let is = watch_known s k name (none_both (watch_fault s k name) None free).0 in
-      let P : List Name → Type 0 = λ ws. name_at ws (number ws name.name) ≡ name.name in
+      let P : List Name → Type 0 = λ ws. numbered_name ws (number ws name.name) ≡ name.name in
       ap (model.Watched p) (subst P same (named_back s.names name.name is))
   expr_spelled variables watches p k s (named.negation e) same free = ap model.Not (expr_spelled variables watches p k s e same free)
   expr_spelled variables watches p k s (named.conjunction es) same free = ap model.And (exprs_spelled variables watches p k s es same free)
@@ -99,7 +99,7 @@ constant_over_none watches e h = constant_spelled [] [] watches [] e h
 
 -- ---- parts
 
-process_named : (names : Names) (p : Place) → process_fault names.processes p ≡ None → name_at names.processes (number names.processes p.name) ≡ p.name
+process_named : (names : Names) (p : Place) → process_fault names.processes p ≡ None → numbered_name names.processes (number names.processes p.name) ≡ p.name
 process_named names p h = named_back names.processes p.name (known_at code.UnknownProcess names.processes p h)
 
 -- the variables of a process that was found
@@ -111,25 +111,25 @@ local_spelled : (names : Names) (s : Watched) (p : Place) (e : named.Expr) → s
 local_spelled names s p e same free =
     let both = none_both (process_fault names.processes p) (local_fault (variables_of names p.name) (number names.processes p.name) s (local_names e)) free in
     let is = known_at code.UnknownProcess names.processes p both.0 in
-    ap (λ v. formula_in v names.watches (name_at names.processes (number names.processes p.name)) (expr_in (variables_of names p.name) names.watches e)) (sym (variables_there names p is))
+    ap (λ v. formula_in v names.watches (numbered_name names.processes (number names.processes p.name)) (expr_in (variables_of names p.name) names.watches e)) (sym (variables_there names p is))
     ∙ ap (λ n. formula_in (variables_of names p.name) names.watches n (expr_in (variables_of names p.name) names.watches e)) (process_named names p both.0)
     ∙ expr_spelled (variables_of names p.name) names.watches p.name (number names.processes p.name) s e same both.1
 
 channel_spelled : (names : Names) (p q : Place) (relation : model.Relation) (k : ℕ) → earlier (process_fault names.processes p) (process_fault names.processes q) ≡ None →
-    model.InTransit (name_at names.processes (number names.processes p.name)) (name_at names.processes (number names.processes q.name)) relation k ≡ model.InTransit p.name q.name relation k
+    model.InTransit (numbered_name names.processes (number names.processes p.name)) (numbered_name names.processes (number names.processes q.name)) relation k ≡ model.InTransit p.name q.name relation k
 channel_spelled names p q relation k free =
     let both = none_both (process_fault names.processes p) (process_fault names.processes q) free in
-    ap (λ n. model.InTransit n (name_at names.processes (number names.processes q.name)) relation k) (process_named names p both.0)
+    ap (λ n. model.InTransit n (numbered_name names.processes (number names.processes q.name)) relation k) (process_named names p both.0)
     ∙ ap (λ n. model.InTransit p.name n relation k) (process_named names q both.1)
 
 variable_named : (names : Names) (p x : Place) → counter_fault names p x ≡ None → variable_at names (process_in names p) (variable_in names p x) ≡ x.name
 variable_named names p x free =
     let both = none_both (process_fault names.processes p) (variable_fault (variables_of names p.name) x) free in
-    ap (λ v. name_at v (variable_in names p x)) (sym (variables_there names p (known_at code.UnknownProcess names.processes p both.0)))
+    ap (λ v. numbered_name v (variable_in names p x)) (sym (variables_there names p (known_at code.UnknownProcess names.processes p both.0)))
     ∙ named_back (variables_of names p.name) x.name (known_at code.UnknownVariable (variables_of names p.name) x both.1)
 
 difference_spelled : (names : Names) (p x q y : Place) (relation : model.Relation) (k : ℤ) → earlier (counter_fault names p x) (counter_fault names q y) ≡ None →
-    model.Difference (name_at names.processes (process_in names p)) (variable_at names (process_in names p) (variable_in names p x)) (name_at names.processes (process_in names q))
+    model.Difference (numbered_name names.processes (process_in names p)) (variable_at names (process_in names p) (variable_in names p x)) (numbered_name names.processes (process_in names q))
     (variable_at names (process_in names q) (variable_in names q y)) relation k ≡ model.Difference p.name x.name q.name y.name relation k
 difference_spelled names p x q y relation k free =
     let both = none_both (counter_fault names p x) (counter_fault names q y) free in

@@ -14,7 +14,7 @@ use Rattle.rctl_grammar.specs.declared.tree.Place.{Place}
 use Rattle.rctl_parts.specs.Spelled.{Names}
 use Rattle.rctl_class.specs.declared.named.NamedSide.TheVariants as side
 use Rattle.rctl_class.specs.Uses as used
-use Rattle.rctl_class.specs.Uses.{Use, Known, Watching, is_elsewhere, fault_at, use_fault, seen_with, earlier, first_unknown, seen_after}
+use Rattle.rctl_class.specs.Uses.{Use, KnownNames, Watching, is_elsewhere, fault_at, use_fault, seen_with, earlier, first_unknown, seen_after}
 use Rattle.rctl_class.specs.NamedParts as named
 use Rattle.rctl_class.specs.NamedParts.{expr_uses, all_expr_uses, part_uses, operand_uses, parts_uses, disjuncts_uses}
 use Rattle.rctl_class.proofs.Alike.{none_both}

@@ -10,9 +10,9 @@ use Rattle.rctl_grammar.specs.declared.tree.Place.{Place}
 use Rattle.rctl_parts.specs.Spelled.{Names}
 use Rattle.rctl_class.specs.declared.named.NamedSide.{NamedSide}
 use Rattle.rctl_class.specs.declared.named.NamedSide.TheVariants as side
-use Rattle.rctl_class.specs.Uses.{Known, earlier, fault_at}
+use Rattle.rctl_class.specs.Uses.{KnownNames, earlier, fault_at}
 use Rattle.rctl_class.specs.NamedParts as named
-use Rattle.rctl_class.specs.NamedParts.{Expr, Exprs, Piece, Pieces}
+use Rattle.rctl_class.specs.NamedParts.{Expr, Exprs, NamedPiece, Pieces}
 
 -- ---- numbers
 
@@ -35,7 +35,7 @@ abbrev pub variables_of : Names → Name → List Name
 variables_of names p = variables_at names.variables (place_of names.processes p)
 
 -- which names are known: those of the header and of the watches
-abbrev pub known_in : Names → Known
+abbrev pub known_in : Names → KnownNames
 known_in names = record {
   is_process = λ p. is_some (place_of names.processes p);
   is_variable = λ p v. is_some (place_of (variables_of names p) v);
@@ -147,7 +147,7 @@ local_after p s (a_watch w ∷ rest) = local_after p (put s p w) rest
 
 abbrev mutual
   -- the first fault of the names of a part
-  pub part_fault : Names → Watched → Piece → Option FormulaFault
+  pub part_fault : Names → Watched → NamedPiece → Option FormulaFault
   part_fault names s (named.local None e) = local_fault [] 0 s (local_names e)
   part_fault names s (named.local (Some p) e) =
       earlier (process_fault names.processes p)
@@ -172,7 +172,7 @@ abbrev mutual
       earlier (part_fault names s p) (operand_fault names (part_after names s p) ps)
 
   -- the watches behind a part
-  pub part_after : Names → Watched → Piece → Watched
+  pub part_after : Names → Watched → NamedPiece → Watched
   part_after names s (named.local None e) = local_after 0 s (local_names e)
   part_after names s (named.local (Some p) e) =
       local_after (number names.processes p.name) s (local_names e)
@@ -190,13 +190,13 @@ abbrev mutual
   operand_after names s (named.and_piece p ps) = operand_after names (part_after names s p) ps
 
 -- the first fault of the names of disjuncts
-abbrev pub disjuncts_fault : Names → Watched → List (List Piece) → Option FormulaFault
+abbrev pub disjuncts_fault : Names → Watched → List (List NamedPiece) → Option FormulaFault
 disjuncts_fault names s [] = None
 disjuncts_fault names s (d ∷ ds) =
     earlier (operand_fault names s (named.pieces d))
     (disjuncts_fault names (operand_after names s (named.pieces d)) ds)
 
 -- the watches behind disjuncts
-abbrev pub disjuncts_after : Names → Watched → List (List Piece) → Watched
+abbrev pub disjuncts_after : Names → Watched → List (List NamedPiece) → Watched
 disjuncts_after names s [] = s
 disjuncts_after names s (d ∷ ds) = disjuncts_after names (operand_after names s (named.pieces d)) ds

@@ -21,23 +21,23 @@ pub record Names : Type 0 where
   pub watches : List Name
 
 -- the name of a number
-abbrev pub name_at : List Name → ℕ → Name
-name_at names i = get_or names i []
+abbrev pub numbered_name : List Name → ℕ → Name
+numbered_name names i = get_or names i []
 
 -- the right side of a comparison, over the variables of a process
 abbrev pub side_in : List Name → Name → LocalSide → model.Side
 side_in variables process (side.Number value) = model.Number value
-side_in variables process (side.Variable v) = model.Variable process (name_at variables v)
+side_in variables process (side.Variable v) = model.Variable process (numbered_name variables v)
 
 abbrev mutual
   -- a local expression over the variables of a process, and the watches
   pub formula_in : List Name → List Name → Name → Expr → model.Formula
   formula_in variables watches process (expr.truth value) = model.Truth value
   formula_in variables watches process (expr.comparison left compare right) =
-      model.Comparison process (name_at variables left) (relation_of compare)
+      model.Comparison process (numbered_name variables left) (relation_of compare)
       (side_in variables process right)
   formula_in variables watches process (expr.watch number) =
-      model.Watched process (name_at watches number)
+      model.Watched process (numbered_name watches number)
   formula_in variables watches process (expr.negation e) =
       model.Not (formula_in variables watches process e)
   formula_in variables watches process (expr.conjunction es) =
@@ -53,35 +53,37 @@ abbrev mutual
 
 -- the name of a process's variable
 abbrev pub variable_at : Names → ℕ → ℕ → Name
-variable_at names p x = name_at (get_or names.variables p []) x
+variable_at names p x = numbered_name (get_or names.variables p []) x
 
 -- an expression over a process, or over none
 abbrev pub local_formula : Names → Option ℕ → Expr → model.Formula
 local_formula names None e = formula_in [] [] [] e
 local_formula names (Some p) e =
-    formula_in (get_or names.variables p []) names.watches (name_at names.processes p) e
+    formula_in (get_or names.variables p []) names.watches (numbered_name names.processes p) e
 
 -- the formula of an atom
 abbrev pub atom_formula : Names → Atom → model.Formula
 atom_formula names (piece.local process e) = local_formula names process e
 atom_formula names (piece.at_most p q k) =
-    model.InTransit (name_at names.processes p) (name_at names.processes q) model.LessOrEqual k
+    model.InTransit (numbered_name names.processes p) (numbered_name names.processes q)
+    model.LessOrEqual k
 atom_formula names (piece.at_least p q k) =
-    model.InTransit (name_at names.processes p) (name_at names.processes q) model.GreaterOrEqual k
+    model.InTransit (numbered_name names.processes p) (numbered_name names.processes q)
+    model.GreaterOrEqual k
 atom_formula names piece.never = model.Truth false
 atom_formula names (piece.diff_at_most p x q y k) =
-    model.Difference (name_at names.processes p) (variable_at names p x) (name_at names.processes q)
-    (variable_at names q y) model.LessOrEqual k
+    model.Difference (numbered_name names.processes p) (variable_at names p x)
+    (numbered_name names.processes q) (variable_at names q y) model.LessOrEqual k
 atom_formula names (piece.diff_at_least p x q y k) =
-    model.Difference (name_at names.processes p) (variable_at names p x) (name_at names.processes q)
-    (variable_at names q y) model.GreaterOrEqual k
+    model.Difference (numbered_name names.processes p) (variable_at names p x)
+    (numbered_name names.processes q) (variable_at names q y) model.GreaterOrEqual k
 
 -- an operator over an operand: that of a process's number is the next event of the process
 abbrev pub operated : Names → Operator → model.Formula → model.Formula
 operated names operator.Ef f = model.Temporal model.Ef f
 operated names operator.Ag f = model.Temporal model.Ag f
 operated names operator.Eg f = model.Temporal model.Eg f
-operated names (operator.Ex p) f = model.Next (name_at names.processes p) f
+operated names (operator.Ex p) f = model.Next (numbered_name names.processes p) f
 operated names operator.Af f = model.Temporal model.Af f
 operated names operator.Ax f = model.Temporal model.Ax f
 

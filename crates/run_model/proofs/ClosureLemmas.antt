@@ -3,7 +3,7 @@ use Rattle.std.proofs.Common.{◌≡◌, ℕ, ◌+◌, ◌<◌, ◌≤◌, ◌�
 use Rattle.std.proofs.lemmas.Bool.{cases_lt, cases_eq}
 use Rattle.run_model.specs.Cut.{Cut, Clocks, count, IsWithin, min_cut, max_cut, with_next, Follows, lengths}
 use Rattle.run_model.specs.Consistent.{IsOrder, IsConsistent, PathIn, IsPath}
-use Rattle.run_model.specs.Sublattice.{IsClosed, AllIn}
+use Rattle.run_model.specs.Sublattice.{IsSublattice, AllIn}
 use Rattle.run_model.specs.Operators.{SomeTime, EachTime, Staying, NextTime}
 use Rattle.run_model.proofs.Counts.{count-min, count-max, length-min, length-max, within_trans, min_left, max_left, max_right, max_within, same_counts, max_absorbs, length-with_next, with_next_same, with_next_other}
 use Rattle.run_model.proofs.Orders.{min_consistent, max_consistent}
@@ -189,28 +189,28 @@ next_time_max o order A keeps c d k l i w v =
 
 -- ---- together
 
-pub some_time_closed : (o : Clocks) → IsOrder o → (A : Cut → Type 0) → IsClosed o A → IsClosed o (λ c. IsConsistent o c × SomeTime o A c)
+pub some_time_closed : (o : Clocks) → IsOrder o → (A : Cut → Type 0) → IsSublattice o A → IsSublattice o (λ c. IsConsistent o c × SomeTime o A c)
 some_time_closed o order A closed = record {
   consistent = λ c h. h.0;
   has_min = λ c d h l. (min_consistent o order c d h.0 l.0, some_time_min o order A c d h.0 l.0 h.1);
   has_max = λ c d h l. (max_consistent o order c d h.0 l.0, some_time_max o order A (λ x y p q. closed.has_max x y) c d h.0 l.0 h.1 l.1);
 }
 
-pub each_time_closed : (o : Clocks) → IsOrder o → (A : Cut → Type 0) → IsClosed o A → IsClosed o (λ c. IsConsistent o c × EachTime o A c)
+pub each_time_closed : (o : Clocks) → IsOrder o → (A : Cut → Type 0) → IsSublattice o A → IsSublattice o (λ c. IsConsistent o c × EachTime o A c)
 each_time_closed o order A closed = record {
   consistent = λ c h. h.0;
   has_min = λ c d h l. (min_consistent o order c d h.0 l.0, each_time_min o order A (λ x y p q. closed.has_min x y) c d h.0 l.0 h.1 l.1);
   has_max = λ c d h l. (max_consistent o order c d h.0 l.0, each_time_max o order A c d h.0 h.1);
 }
 
-pub staying_closed : (o : Clocks) → IsOrder o → (A : Cut → Type 0) → IsClosed o A → IsClosed o (λ c. IsConsistent o c × Staying o A c)
+pub staying_closed : (o : Clocks) → IsOrder o → (A : Cut → Type 0) → IsSublattice o A → IsSublattice o (λ c. IsConsistent o c × Staying o A c)
 staying_closed o order A closed = record {
   consistent = λ c h. h.0;
   has_min = λ c d h l. (min_consistent o order c d h.0 l.0, staying_min o order A (λ x y p q. closed.has_min x y) c d l.0 h.1 l.1);
   has_max = λ c d h l. (max_consistent o order c d h.0 l.0, staying_max o order A (λ x y p q. closed.has_max x y) c d l.0 (all_first A d l.1.0 l.1.2) h.1);
 }
 
-pub next_time_closed : (o : Clocks) → IsOrder o → (A : Cut → Type 0) → IsClosed o A → (i : ℕ) → IsClosed o (λ c. IsConsistent o c × NextTime o i A c)
+pub next_time_closed : (o : Clocks) → IsOrder o → (A : Cut → Type 0) → IsSublattice o A → (i : ℕ) → IsSublattice o (λ c. IsConsistent o c × NextTime o i A c)
 next_time_closed o order A closed i = record {
   consistent = λ c h. h.0;
   has_min = λ c d h l. (min_consistent o order c d h.0 l.0, next_time_min o order A (λ x y p q. closed.has_min x y) c d h.0 l.0 i h.1 l.1);

@@ -5,7 +5,7 @@ use Rattle.std.proofs.lemmas.Bool.{cases_lt, cond_both, ltb-true, lt-ltb, and_pa
 use Rattle.std.proofs.lemmas.List.Elements.{All-nil, All-cons, All-head, All-tail, All-append}
 use Rattle.run_model.specs.Cut.{Cut, Clocks, count, IsWithin}
 use Rattle.run_model.specs.Consistent.{clock, IsEvent, IsOrder, IsConsistent}
-use Rattle.run_model.specs.Sublattice.{IsClosed, IsLeast, IsGreatest}
+use Rattle.run_model.specs.Sublattice.{IsSublattice, IsLeast, IsGreatest}
 use Rattle.run_model.specs.Slice.{Slice, HasWithin, Cuts, StandsFor, IsPrintedAs, Edge, Keeps, Denoted, cut_of, previous, edge_into, edges_of}
 use Rattle.run_model.proofs.Counts.{count_past}
 use Rattle.run_model.proofs.Orders.{has_process, event_up, has_past}
@@ -136,20 +136,20 @@ denoted_cuts o order s low high least greatest c d =
 pub denoted_is_cuts : (o : Clocks) → IsOrder o → (s : Slice) (low high : Cut) → IsLeast (Cuts o s) low → IsGreatest (Cuts o s) high → (c : Cut) → Cuts o s c ↔ Denoted o low high (edges_of o s high) c
 denoted_is_cuts o order s low high least greatest c = (cuts_denoted o s low high least greatest c, denoted_cuts o order s low high least greatest c)
 
-least_cuts : (o : Clocks) (A : Cut → Type 0) → IsClosed o A → (s : Slice) → StandsFor o s A → (low : Cut) → IsLeast A low → IsLeast (Cuts o s) low
+least_cuts : (o : Clocks) (A : Cut → Type 0) → IsSublattice o A → (s : Slice) → StandsFor o s A → (low : Cut) → IsLeast A low → IsLeast (Cuts o s) low
 least_cuts o A closed s stands low k = record {
   member = member_cuts o A closed s stands low k.member;
   least = λ c h. k.least c (cuts_member o A closed s stands c h);
 }
 
-greatest_cuts : (o : Clocks) (A : Cut → Type 0) → IsClosed o A → (s : Slice) → StandsFor o s A → (high : Cut) → IsGreatest A high → IsGreatest (Cuts o s) high
+greatest_cuts : (o : Clocks) (A : Cut → Type 0) → IsSublattice o A → (s : Slice) → StandsFor o s A → (high : Cut) → IsGreatest A high → IsGreatest (Cuts o s) high
 greatest_cuts o A closed s stands high k = record {
   member = member_cuts o A closed s stands high k.member;
   greatest = λ c h. k.greatest c (cuts_member o A closed s stands c h);
 }
 
 -- what is printed of a closed set denotes it
-pub printed_denotes : (o : Clocks) → IsOrder o → (A : Cut → Type 0) → IsClosed o A → (low high : Cut) (edges : List Edge) → IsPrintedAs o A low high edges → (c : Cut) → A c ↔ Denoted o low high edges c
+pub printed_denotes : (o : Clocks) → IsOrder o → (A : Cut → Type 0) → IsSublattice o A → (low high : Cut) (edges : List Edge) → IsPrintedAs o A low high edges → (c : Cut) → A c ↔ Denoted o low high edges c
 printed_denotes o order A closed low high edges k c =
     let exact = exact_slice o A closed k.slice k.stands c in
     let both = denoted_is_cuts o order k.slice low high (least_cuts o A closed k.slice k.stands low k.least) (greatest_cuts o A closed k.slice k.stands high k.greatest) c in (

@@ -3,7 +3,7 @@ use Rattle.std.proofs.Common.{◌≡◌, ℕ, ◌≤◌, ◌↔◌, List, [], �
 use Rattle.std.proofs.lemmas.Bool.{cases_lt}
 use Rattle.run_model.specs.Cut.{Cut, Clocks, count, min_cut, max_cut}
 use Rattle.run_model.specs.Consistent.{IsOrder, IsConsistent}
-use Rattle.run_model.specs.Sublattice.{IsClosed, Having, Either, Smallest, given, minimum, maximum, AllIn, min_of, max_of, IsMinOf, IsMaxOfMins}
+use Rattle.run_model.specs.Sublattice.{IsSublattice, Having, Either, Smallest, given, minimum, maximum, AllIn, min_of, max_of, IsMinOf, IsMaxOfMins}
 use Rattle.run_model.specs.Slice.{Slice, HasWithin, IsLeastOf, StandsFor}
 use Rattle.run_model.specs.Operators.{min_row, joined}
 use Rattle.run_model.proofs.Counts.{count-min, count-max, length-min, length-max, same_counts, within_trans, min_left, min_right, max_left, max_right}
@@ -16,17 +16,17 @@ smallest_in A P base has_min has_max c (given h) = base c h
 smallest_in A P base has_min has_max c (minimum {c = x} {d = y} h k) = has_min x y (smallest_in A P base has_min has_max x h) (smallest_in A P base has_min has_max y k)
 smallest_in A P base has_min has_max c (maximum {c = x} {d = y} h k) = has_max x y (smallest_in A P base has_min has_max x h) (smallest_in A P base has_min has_max y k)
 
-pub smallest_closed : (o : Clocks) → IsOrder o → (A : Cut → Type 0) → ((c : Cut) → A c → IsConsistent o c) → IsClosed o (Smallest A)
+pub smallest_closed : (o : Clocks) → IsOrder o → (A : Cut → Type 0) → ((c : Cut) → A c → IsConsistent o c) → IsSublattice o (Smallest A)
 smallest_closed o order A consistent = record {
   consistent = smallest_in A (IsConsistent o) consistent (min_consistent o order) (max_consistent o order);
   has_min = λ c d h k. minimum h k;
   has_max = λ c d h k. maximum h k;
 }
 
-pub smallest_least : (o : Clocks) (A B : Cut → Type 0) → IsClosed o B → ((c : Cut) → A c → B c) → (c : Cut) → Smallest A c → B c
+pub smallest_least : (o : Clocks) (A B : Cut → Type 0) → IsSublattice o B → ((c : Cut) → A c → B c) → (c : Cut) → Smallest A c → B c
 smallest_least o A B closed h = smallest_in A B h closed.has_min closed.has_max
 
-pub smallest_of_closed : (o : Clocks) (A : Cut → Type 0) → IsClosed o A → (c : Cut) → Smallest A c ↔ A c
+pub smallest_of_closed : (o : Clocks) (A : Cut → Type 0) → IsSublattice o A → (c : Cut) → Smallest A c ↔ A c
 smallest_of_closed o A closed c = (smallest_least o A A closed (λ x h. h) c, λ h. given h)
 
 pub smallest_wider : (A B : Cut → Type 0) → ((c : Cut) → A c → Smallest B c) → (c : Cut) → Smallest A c → Smallest B c

@@ -4,7 +4,7 @@ use Rattle.std.proofs.lemmas.Bool.{cases_lt, and_parts, or_cases, eqb-true, leb-
 use Rattle.run_model.specs.Cut.{Cut, Clocks, count, IsWithin, min_cut, max_cut, lengths}
 use Rattle.run_model.specs.Run.{Run}
 use Rattle.run_model.specs.Consistent.{clock, IsEvent, IsOrder}
-use Rattle.run_model.specs.Sublattice.{IsClosed, IsGreatest, Having, Smallest, given, minimum, maximum, min_of, max_of}
+use Rattle.run_model.specs.Sublattice.{IsSublattice, IsGreatest, Having, Smallest, given, minimum, maximum, min_of, max_of}
 use Rattle.run_model.specs.Slice.{Slice, IsLeastOf, StandsFor, IsPrintedAs, Edge, edges_of}
 use Rattle.run_model.specs.Formula.{Formula}
 use Rattle.run_model.specs.Meaning.{Family}
@@ -198,5 +198,5 @@ printed_same o A B same low high edges k = record {
 }
 
 -- and for a formula with a closed family
-pub closed_prints : (r : Run) (f : Formula) (low high : Cut) (edges : List Edge) → IsClosed r.clocks (Family r f) → IsPrintedAs r.clocks (Smallest (Family r f)) low high edges → IsPrintedAs r.clocks (Family r f) low high edges
+pub closed_prints : (r : Run) (f : Formula) (low high : Cut) (edges : List Edge) → IsSublattice r.clocks (Family r f) → IsPrintedAs r.clocks (Smallest (Family r f)) low high edges → IsPrintedAs r.clocks (Family r f) low high edges
 closed_prints r f low high edges closed k = printed_same r.clocks (Smallest (Family r f)) (Family r f) (smallest_of_closed r.clocks (Family r f) closed) low high edges k

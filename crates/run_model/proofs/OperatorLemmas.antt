@@ -3,7 +3,7 @@ use Rattle.std.proofs.Common.{◌≡◌, ℕ, ◌+◌, ◌<◌, ◌≤◌, ◌�
 use Rattle.std.proofs.lemmas.Bool.{cases_lt, cases_eq}
 use Rattle.run_model.specs.Cut.{Cut, Clocks, count, IsWithin, max_cut, with_next, lengths}
 use Rattle.run_model.specs.Consistent.{clock, IsEvent, IsOrder, IsConsistent, PathIn, IsPath}
-use Rattle.run_model.specs.Sublattice.{IsClosed, IsLeast, IsGreatest, Having}
+use Rattle.run_model.specs.Sublattice.{IsSublattice, IsLeast, IsGreatest, Having}
 use Rattle.run_model.specs.Slice.{Slice, IsLeastOf, StandsFor, cut_of}
 use Rattle.run_model.specs.Operators.{SomeTime, EachTime, Staying, HoldsAlways, HasPairs}
 use Rattle.run_model.proofs.Counts.{within_refl, within_trans, max_within, max_left, max_right, within_both, with_next_same, with_next_other}
@@ -63,7 +63,7 @@ each_time_holds o order A s stands c k each =
           least_within (Having A i a) (s.row i a) m (stands.rows i a ev) (ends p.0 m p.1, le_trans (past_has o order i a ev) (max_right c (clock o i a) i));
     }
 
-pub holds_each_time : (o : Clocks) → IsOrder o → (A : Cut → Type 0) → IsClosed o A → (s : Slice) → StandsFor o s A → (c : Cut) → HoldsAlways o s c → EachTime o A c
+pub holds_each_time : (o : Clocks) → IsOrder o → (A : Cut → Type 0) → IsSublattice o A → (s : Slice) → StandsFor o s A → (c : Cut) → HoldsAlways o s c → EachTime o A c
 holds_each_time o order A closed s stands c holds = each_time_from_ends o A c (λ es d p.
     let up = path_rises (IsConsistent o) c es d p in
     let k = path_last (IsConsistent o) c es d p in
@@ -73,7 +73,7 @@ holds_each_time o order A closed s stands c holds = each_time_from_ends o A c (�
       rows = λ i a ev. has_within_up (s.row i a) (max_cut c (clock o i a)) d (max_within c (clock o i a) d up (has_past o order d k i a ev)) (holds.rows i a (event_of_run o d k i a ev));
     }))
 
-pub each_time_by_rows : (o : Clocks) → IsOrder o → (A : Cut → Type 0) → IsClosed o A → (s : Slice) → StandsFor o s A → (c : Cut) → IsConsistent o c → EachTime o A c ↔ HoldsAlways o s c
+pub each_time_by_rows : (o : Clocks) → IsOrder o → (A : Cut → Type 0) → IsSublattice o A → (s : Slice) → StandsFor o s A → (c : Cut) → IsConsistent o c → EachTime o A c ↔ HoldsAlways o s c
 each_time_by_rows o order A closed s stands c k = (each_time_holds o order A s stands c k, holds_each_time o order A closed s stands c)
 
 -- AG is true nowhere, where the final cut is not in the set
@@ -155,7 +155,7 @@ row_there o A s stands final i a ev =
     let same : r.0 ≡ cut_of (s.row i a) = sym (ap cut_of r.1) in
     (subst (IsLeast (Having A i a)) same r.2, r.1 ∙ ap Some same)
 
-pub set_climbable : (o : Clocks) (A : Cut → Type 0) → IsClosed o A → (s : Slice) → StandsFor o s A → A (lengths o) → IsClimbable o A (lengths o) (λ i a. cut_of (s.row i a))
+pub set_climbable : (o : Clocks) (A : Cut → Type 0) → IsSublattice o A → (s : Slice) → StandsFor o s A → A (lengths o) → IsClimbable o A (lengths o) (λ i a. cut_of (s.row i a))
 set_climbable o A closed s stands final = record {
   consistent = closed.consistent;
   has_max = closed.has_max;
@@ -163,7 +163,7 @@ set_climbable o A closed s stands final = record {
   rows = λ i a ev. (row_there o A s stands final i a ev).0;
 }
 
-pub pairs_apart : (o : Clocks) (A : Cut → Type 0) → IsClosed o A → (s : Slice) → StandsFor o s A → A (lengths o) → (c : Cut) → HasPairs o s c → Apart (lengths o) (λ i a. cut_of (s.row i a)) c
+pub pairs_apart : (o : Clocks) (A : Cut → Type 0) → IsSublattice o A → (s : Slice) → StandsFor o s A → A (lengths o) → (c : Cut) → HasPairs o s c → Apart (lengths o) (λ i a. cut_of (s.row i a)) c
 pairs_apart o A closed s stands final c pairs i a j b ev fv h l p q =
     let r = row_there o A s stands final i a ev in
     let u = row_there o A s stands final j b fv in
@@ -177,10 +177,10 @@ pairs_apart o A closed s stands final c pairs i a j b ev fv h l p q =
       | inr ne ↦ absurd (omega (arith, pairs i a j b ev fv same (λ d. ne d.0), h))
     ]
 
-pub pairs_staying : (o : Clocks) (A : Cut → Type 0) → IsClosed o A → (s : Slice) → StandsFor o s A → A (lengths o) → (c : Cut) → A c → HasPairs o s c → Staying o A c
+pub pairs_staying : (o : Clocks) (A : Cut → Type 0) → IsSublattice o A → (s : Slice) → StandsFor o s A → A (lengths o) → (c : Cut) → A c → HasPairs o s c → Staying o A c
 pairs_staying o A closed s stands final c member pairs =
     let p = climb o A (lengths o) (λ i a. cut_of (s.row i a)) (set_climbable o A closed s stands final) c member (pairs_apart o A closed s stands final c pairs) in
     (p.0, path_wider A (IsConsistent o) closed.consistent c p.0 (lengths o) p.1, path_all A c p.0 (lengths o) p.1)
 
-pub staying_by_rows : (o : Clocks) (A : Cut → Type 0) → IsClosed o A → (s : Slice) → StandsFor o s A → A (lengths o) → (c : Cut) → Staying o A c ↔ (A c × HasPairs o s c)
+pub staying_by_rows : (o : Clocks) (A : Cut → Type 0) → IsSublattice o A → (s : Slice) → StandsFor o s A → A (lengths o) → (c : Cut) → Staying o A c ↔ (A c × HasPairs o s c)
 staying_by_rows o A closed s stands final c = (staying_pairs o A s stands c, λ h. pairs_staying o A closed s stands final c h.0 h.1)

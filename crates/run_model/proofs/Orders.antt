@@ -3,7 +3,7 @@ use Rattle.std.proofs.Common.{ℕ, ◌<◌, ◌≤◌, length, sym, subst, refl,
 use Rattle.std.proofs.lemmas.Bool.{cases_lt}
 use Rattle.run_model.specs.Cut.{Cut, Clocks, count, IsWithin, min_cut, max_cut, lengths, initial}
 use Rattle.run_model.specs.Consistent.{clock, IsEvent, IsOrder, IsConsistent, HappenedBefore}
-use Rattle.run_model.specs.Sublattice.{IsLeast, IsGreatest, Having, IsClosed}
+use Rattle.run_model.specs.Sublattice.{IsLeast, IsGreatest, Having, IsSublattice}
 use Rattle.run_model.proofs.Counts.{count-min, count-max, length-min, length-max, count_past, within_trans, within_min, max_left, max_right, length-lengths, length-initial, count-initial}
 
 -- the process of an event is there
@@ -47,7 +47,7 @@ max_consistent o order c d k l = record {
   ];
 }
 
-pub consistent_closed : (o : Clocks) → IsOrder o → IsClosed o (IsConsistent o)
+pub consistent_closed : (o : Clocks) → IsOrder o → IsSublattice o (IsConsistent o)
 consistent_closed o order = record {
   consistent = λ c k. k;
   has_min = min_consistent o order;

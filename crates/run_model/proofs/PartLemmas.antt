@@ -4,7 +4,7 @@ use Rattle.std.proofs.lemmas.Bool.{cond_both, and_parts, and_from, or_cases, or_
 use Rattle.run_model.specs.Cut.{Cut}
 use Rattle.run_model.specs.Run.{Name, Run}
 use Rattle.run_model.specs.Consistent.{IsConsistent}
-use Rattle.run_model.specs.Sublattice.{IsClosed, Either, Smallest, given}
+use Rattle.run_model.specs.Sublattice.{IsSublattice, Either, Smallest, given}
 use Rattle.run_model.specs.Slice.{Slice, StandsFor}
 use Rattle.run_model.specs.Operators.{joined, joined_all}
 use Rattle.run_model.specs.Formula.{Relation, Equal, Unequal, Less, LessOrEqual, Greater, GreaterOrEqual, Formula, Truth, Comparison, Watched, InTransit, Empty, Difference, Not, And, Or, Temporal, Next, Until, Formulas, Nil, Cons}
@@ -266,7 +266,7 @@ parts_keep r run (f ∷ fs) h kept =
       has_max = λ c d k l p q. (first.has_max c d k l p.0 q.0, rest.has_max c d k l p.1 q.1);
     }
 
-pub disjunct_closed : (r : Run) → IsRun r → (d : List Formula) → AreRegular d → PartsKeptFor r d → IsClosed r.clocks (DisjunctFamily r d)
+pub disjunct_closed : (r : Run) → IsRun r → (d : List Formula) → AreRegular d → PartsKeptFor r d → IsSublattice r.clocks (DisjunctFamily r d)
 disjunct_closed r run d h kept =
     let k = parts_keep r run d h kept in
     record {

@@ -7,7 +7,7 @@ use Rattle.std.proofs.lemmas.Slice.Eq.{bytes_eq-Decides}
 use Rattle.run_model.specs.Cut.{Cut, count, min_cut, max_cut}
 use Rattle.run_model.specs.Run.{Name, Run}
 use Rattle.run_model.specs.Consistent.{IsOrder, IsConsistent}
-use Rattle.run_model.specs.Sublattice.{IsClosed}
+use Rattle.run_model.specs.Sublattice.{IsSublattice}
 use Rattle.run_model.specs.Formula.{Relation, LessOrEqual, GreaterOrEqual, Side, Number, Variable, Operator, Ef, Ag, Eg, Af, Ax, Formula, Truth, Comparison, Watched, InTransit, Empty, Difference, Not, And, Or, Temporal, Next, Until, Formulas, Nil, Cons}
 use Rattle.run_model.specs.Meaning.{compares, value_at, side_at, in_transit, IsRun, Sat, SatAll, SatSome, Family}
 use Rattle.run_model.specs.Class.{side_processes, processes, all_processes, is_plain, all_plain, is_one_name, is_local, turned, after_sign, is_unequal, is_analysed, is_conjunctive, all_conjunctive, NeverFalls, IsKeptFor, AreKeptFor, IsRegular, IsRegularIn}
@@ -379,7 +379,7 @@ mutual
       keeps_more r sign f fs (keeps r run f sign both.0 kept.0) (keeps_all r run fs sign both.1 kept.1)
 
 -- the family of a regular formula is closed
-pub regular_closed : (r : Run) → IsRun r → (f : Formula) → IsRegularIn r f → IsClosed r.clocks (Family r f)
+pub regular_closed : (r : Run) → IsRun r → (f : Formula) → IsRegularIn r f → IsSublattice r.clocks (Family r f)
 regular_closed r run f h =
     let k = keeps r run f true h.form h.kept in
     record {

@@ -3,7 +3,7 @@ use Rattle.std.proofs.Common.{ℕ, leb, Option, Some, None, option_map, sym, sub
 use Rattle.std.proofs.lemmas.Bool.{cond_both, leb-true, leb-false}
 use Rattle.run_model.specs.Cut.{Cut, Clocks, count, IsWithin, max_cut, lengths}
 use Rattle.run_model.specs.Consistent.{IsOrder, IsConsistent}
-use Rattle.run_model.specs.Sublattice.{IsClosed, IsLeast, IsGreatest, Having}
+use Rattle.run_model.specs.Sublattice.{IsSublattice, IsLeast, IsGreatest, Having}
 use Rattle.run_model.specs.Slice.{Slice, IsLeastOf, StandsFor}
 use Rattle.run_model.specs.Operators.{SomeTime, EachTime, Staying, HoldsAlways, HasPairs, whole, nowhere, lowered, raised}
 use Rattle.run_model.proofs.Counts.{within_refl, max_within, max_left, max_right}
@@ -55,7 +55,7 @@ some_time_nowhere o A none = nowhere_stands o (λ c. IsConsistent o c × SomeTim
 
 -- ---- AG
 
-pub each_time_slice : (o : Clocks) → IsOrder o → (A : Cut → Type 0) → IsClosed o A → (s : Slice) → StandsFor o s A → (b : Cut) → IsLeast (λ c. IsConsistent o c × HoldsAlways o s c) b → StandsFor o (raised (whole o) b) (λ c. IsConsistent o c × EachTime o A c)
+pub each_time_slice : (o : Clocks) → IsOrder o → (A : Cut → Type 0) → IsSublattice o A → (s : Slice) → StandsFor o s A → (b : Cut) → IsLeast (λ c. IsConsistent o c × HoldsAlways o s c) b → StandsFor o (raised (whole o) b) (λ c. IsConsistent o c × EachTime o A c)
 each_time_slice o order A closed s stands b least = stands_same o (raised (whole o) b) (λ c. IsConsistent o c × IsWithin b c) (λ c. IsConsistent o c × EachTime o A c)
     (λ c. (
       λ h. (h.0, (each_time_by_rows o order A closed s stands c h.0).1 (holds_up o s b c h.1 least.member.1)),
@@ -68,7 +68,7 @@ each_time_nowhere o order A none = nowhere_stands o (λ c. IsConsistent o c × E
 
 -- ---- EG
 
-pub staying_slice : (o : Clocks) (A : Cut → Type 0) → IsClosed o A → (s : Slice) → StandsFor o s A → A (lengths o) → (b : Cut) → IsLeast (λ c. A c × HasPairs o s c) b → StandsFor o (raised s b) (λ c. IsConsistent o c × Staying o A c)
+pub staying_slice : (o : Clocks) (A : Cut → Type 0) → IsSublattice o A → (s : Slice) → StandsFor o s A → A (lengths o) → (b : Cut) → IsLeast (λ c. A c × HasPairs o s c) b → StandsFor o (raised s b) (λ c. IsConsistent o c × Staying o A c)
 staying_slice o A closed s stands final b least = stands_same o (raised s b) (λ c. A c × IsWithin b c) (λ c. IsConsistent o c × Staying o A c)
     (λ c. (
       λ h. (closed.consistent c h.0, (staying_by_rows o A closed s stands final c).1 (h.0, λ i a j d ev fv same differ. le_trans (least.member.1 i a j d ev fv same differ) (h.1 i))),

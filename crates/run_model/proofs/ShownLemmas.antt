@@ -2,7 +2,7 @@
 use Rattle.std.proofs.Common.{◌≡◌, ◌↔◌, Bool, true, false, MatchBool, refl}
 use Rattle.run_model.specs.Cut.{Cut}
 use Rattle.run_model.specs.Run.{Run}
-use Rattle.run_model.specs.Sublattice.{IsClosed, Smallest}
+use Rattle.run_model.specs.Sublattice.{IsSublattice, Smallest}
 use Rattle.run_model.specs.Formula.{Formula}
 use Rattle.run_model.specs.Meaning.{IsRun, Family}
 use Rattle.run_model.specs.Class.{is_conjunctive, IsKeptFor, IsRegularIn, Shown}
@@ -13,11 +13,11 @@ use Rattle.run_model.proofs.JoinLemmas.{smallest_closed, smallest_of_closed}
 abbrev ShownIf : Bool → Run → Formula → Cut → Type 0
 ShownIf b r f c = MatchBool b (Family r f c) (Smallest (Family r f) c)
 
-closed_if : (r : Run) → IsRun r → (f : Formula) → IsKeptFor r f → (b : Bool) → is_conjunctive true f ≡ b → IsClosed r.clocks (ShownIf b r f)
+closed_if : (r : Run) → IsRun r → (f : Formula) → IsKeptFor r f → (b : Bool) → is_conjunctive true f ≡ b → IsSublattice r.clocks (ShownIf b r f)
 closed_if r run f kept true e = regular_closed r run f (record { form = e; kept = kept })
 closed_if r run f kept false e = smallest_closed r.clocks run.order (Family r f) (λ c h. h.0)
 
-pub shown_closed : (r : Run) → IsRun r → (f : Formula) → IsKeptFor r f → IsClosed r.clocks (Shown r f)
+pub shown_closed : (r : Run) → IsRun r → (f : Formula) → IsKeptFor r f → IsSublattice r.clocks (Shown r f)
 shown_closed r run f kept = closed_if r run f kept (is_conjunctive true f) refl
 
 smallest_if : (r : Run) → IsRun r → (f : Formula) → IsKeptFor r f → (b : Bool) → is_conjunctive true f ≡ b → (c : Cut) → ShownIf b r f c ↔ Smallest (Family r f) c

@@ -3,7 +3,7 @@ use Rattle.std.proofs.Common.{◌≡◌, ℕ, zero, suc, ◌<◌, ◌≤◌, ◌
 use Rattle.std.proofs.lemmas.Bool.{cases_lt, cases_eq}
 use Rattle.run_model.specs.Cut.{Cut, Clocks, count, IsWithin, min_cut, max_cut, lengths}
 use Rattle.run_model.specs.Consistent.{IsEvent, IsOrder, IsConsistent}
-use Rattle.run_model.specs.Sublattice.{IsClosed, IsLeast, IsGreatest, Having}
+use Rattle.run_model.specs.Sublattice.{IsSublattice, IsLeast, IsGreatest, Having}
 use Rattle.run_model.specs.Slice.{Slice, HasWithin, IsLeastOf, Cuts, StandsFor, Fits}
 use Rattle.run_model.proofs.Counts.{count-min, count-max, count_past, within_trans, within_min, max_within, max_left, max_right, within_both}
 use Rattle.run_model.proofs.Orders.{event_of_run, min_consistent, max_consistent}
@@ -47,7 +47,7 @@ stands_rows o s t A e f k = record {
 }
 
 -- the cuts of a slice are closed, whatever its rows are
-pub cuts_closed : (o : Clocks) → IsOrder o → (s : Slice) → IsClosed o (Cuts o s)
+pub cuts_closed : (o : Clocks) → IsOrder o → (s : Slice) → IsSublattice o (Cuts o s)
 cuts_closed o order s = record {
   consistent = λ c k. k.consistent;
   has_min = λ c d k l. record {
@@ -69,7 +69,7 @@ cuts_closed o order s = record {
 abbrev Gathered : (Cut → Type 0) → Cut → ℕ → Type 0
 Gathered A c k = (m : Cut) × A m × IsWithin m c × ((i : ℕ) → i < k → count c i ≤ count m i)
 
-gather_more : (o : Clocks) (A : Cut → Type 0) → IsClosed o A → (s : Slice) → StandsFor o s A → (c : Cut) → Cuts o s c → (k : ℕ) → Gathered A c k → Gathered A c (suc k)
+gather_more : (o : Clocks) (A : Cut → Type 0) → IsSublattice o A → (s : Slice) → StandsFor o s A → (c : Cut) → Cuts o s c → (k : ℕ) → Gathered A c k → Gathered A c (suc k)
 gather_more o A closed s stands c cut k g = elim (cases_lt 0 (count c k)) [
   | inl pos ↦
       let ev : IsEvent c k (count c k) = (pos, le_refl (count c k)) in
@@ -93,19 +93,19 @@ gather_more o A closed s stands c cut k g = elim (cases_lt 0 (count c k)) [
   )
 ]
 
-gather : (o : Clocks) (A : Cut → Type 0) → IsClosed o A → (s : Slice) → StandsFor o s A → (c : Cut) → Cuts o s c → (k : ℕ) → Gathered A c k
+gather : (o : Clocks) (A : Cut → Type 0) → IsSublattice o A → (s : Slice) → StandsFor o s A → (c : Cut) → Cuts o s c → (k : ℕ) → Gathered A c k
 gather o A closed s stands c cut zero =
     let b = least_there A s.bottom c stands.bottom cut.from_bottom in
     (b.0, b.2.member, b.3, λ i l. absurd (omega (arith, l)))
 gather o A closed s stands c cut (suc k) = gather_more o A closed s stands c cut k (gather o A closed s stands c cut k)
 
-pub cuts_member : (o : Clocks) (A : Cut → Type 0) → IsClosed o A → (s : Slice) → StandsFor o s A → (c : Cut) → Cuts o s c → A c
+pub cuts_member : (o : Clocks) (A : Cut → Type 0) → IsSublattice o A → (s : Slice) → StandsFor o s A → (c : Cut) → Cuts o s c → A c
 cuts_member o A closed s stands c cut =
     let g = gather o A closed s stands c cut (length c) in
     let same : g.0 ≡ c = within_both g.0 c ((closed.consistent g.0 g.1).shaped ∙ sym cut.consistent.shaped) g.2 (λ i. elim (cases_lt i (length c)) [ inl l ↦ g.3 i l | inr p ↦ omega (arith, count_past c i p) ]) in
     subst A same g.1
 
-pub member_cuts : (o : Clocks) (A : Cut → Type 0) → IsClosed o A → (s : Slice) → StandsFor o s A → (c : Cut) → A c → Cuts o s c
+pub member_cuts : (o : Clocks) (A : Cut → Type 0) → IsSublattice o A → (s : Slice) → StandsFor o s A → (c : Cut) → A c → Cuts o s c
 member_cuts o A closed s stands c h = record {
   consistent = closed.consistent c h;
   from_bottom = least_within A s.bottom c stands.bottom h;
@@ -113,11 +113,11 @@ member_cuts o A closed s stands c h = record {
 }
 
 -- a closed set is the set of the cuts of its slice
-pub exact_slice : (o : Clocks) (A : Cut → Type 0) → IsClosed o A → (s : Slice) → StandsFor o s A → (c : Cut) → A c ↔ Cuts o s c
+pub exact_slice : (o : Clocks) (A : Cut → Type 0) → IsSublattice o A → (s : Slice) → StandsFor o s A → (c : Cut) → A c ↔ Cuts o s c
 exact_slice o A closed s stands c = (member_cuts o A closed s stands c, cuts_member o A closed s stands c)
 
 -- a slice that stands for a closed set fits its order
-pub stands_fits : (o : Clocks) (A : Cut → Type 0) → IsClosed o A → (s : Slice) → StandsFor o s A → Fits o s
+pub stands_fits : (o : Clocks) (A : Cut → Type 0) → IsSublattice o A → (s : Slice) → StandsFor o s A → Fits o s
 stands_fits o A closed s stands = stands_same o s A (Cuts o s) (exact_slice o A closed s stands) stands
 
 one_least : (o : Clocks) (A : Cut → Type 0) → ((c : Cut) → A c → IsConsistent o c) → (j k : Option Cut) → IsLeastOf A j → IsLeastOf A k → j ≡ k
@@ -134,7 +134,7 @@ pub one_row : (o : Clocks) (A : Cut → Type 0) → ((c : Cut) → A c → IsCon
 one_row o A consistent s t k l i a ev = one_least o (Having A i a) (λ c h. consistent c h.0) (s.row i a) (t.row i a) (k.rows i a ev) (l.rows i a ev)
 
 -- a member that holds the row of each event that has one is the greatest
-pub greatest_from_rows : (o : Clocks) (A : Cut → Type 0) → IsClosed o A → (s : Slice) → StandsFor o s A → (t : Cut) → A t → ((i a : ℕ) (j : Cut) → IsEvent (lengths o) i a → s.row i a ≡ Some j → IsWithin j t) → IsGreatest A t
+pub greatest_from_rows : (o : Clocks) (A : Cut → Type 0) → IsSublattice o A → (s : Slice) → StandsFor o s A → (t : Cut) → A t → ((i a : ℕ) (j : Cut) → IsEvent (lengths o) i a → s.row i a ≡ Some j → IsWithin j t) → IsGreatest A t
 greatest_from_rows o A closed s stands t member holds = record {
   member = member;
   greatest = λ c h i. elim (cases_lt 0 (count c i)) [

@@ -3,7 +3,7 @@ use Rattle.std.proofs.Common.{◌≡◌, ℕ, ◌+◌, ◌<◌, ◌↔◌, List,
 use Rattle.run_model.specs.Cut.{Cut, Clocks, count, IsWithin, with_next, lengths, initial}
 use Rattle.run_model.specs.Run.{Name, Run}
 use Rattle.run_model.specs.Consistent.{clock, IsOrder, IsConsistent, IsPath}
-use Rattle.run_model.specs.Sublattice.{AllIn, IsClosed, Having}
+use Rattle.run_model.specs.Sublattice.{AllIn, IsSublattice, Having}
 use Rattle.run_model.specs.Slice.{Slice, HasWithin, IsLeastOf, Cuts, StandsFor, Fits}
 use Rattle.run_model.specs.Formula.{Ef, Ag, Eg, Formula, Temporal, Next}
 use Rattle.run_model.specs.Operators.{NextTime}
@@ -52,7 +52,7 @@ all_there o order s start rows d k = record {
 }
 
 -- the first event of the process leads to a cut of the slice exactly where EX is true at the start
-first_next : (r : Run) (f : Formula) → IsClosed r.clocks (Family r f) → (s : Slice) → StandsFor r.clocks s (Family r f) → (i : ℕ) → HasFirst r.clocks s i ↔ NextTime r.clocks i (Sat r f) (initial r.clocks)
+first_next : (r : Run) (f : Formula) → IsSublattice r.clocks (Family r f) → (s : Slice) → StandsFor r.clocks s (Family r f) → (i : ℕ) → HasFirst r.clocks s i ↔ NextTime r.clocks i (Sat r f) (initial r.clocks)
 first_next r f closed s stands i = (
   λ h.
       let member = cuts_member r.clocks (Family r f) closed s stands (with_next (initial r.clocks) i) h.1 in
@@ -70,7 +70,7 @@ KindOf r f AlwaysGlobally w = IsOfKind r (Temporal Ag f) w
 KindOf r f ExistsGlobally w = IsOfKind r (Temporal Eg f) w
 KindOf r f (ExistsNext i) w = (process : Name) → r.process process ≡ i → IsOfKind r (Next process f) w
 
-canonical_kind : (r : Run) → IsOrder r.clocks → (f : Formula) → IsClosed r.clocks (Family r f) → (s : Slice) → StandsFor r.clocks s (Family r f) → (operator : WitnessOperator) (w : Witness) → IsCanonical r.clocks s operator w → KindOf r f operator w
+canonical_kind : (r : Run) → IsOrder r.clocks → (f : Formula) → IsSublattice r.clocks (Family r f) → (s : Slice) → StandsFor r.clocks s (Family r f) → (operator : WitnessOperator) (w : Witness) → IsCanonical r.clocks s operator w → KindOf r f operator w
 canonical_kind r order f closed s stands _ _ (W.IsCanonical.reaches {path = p} bottom steps) = W.IsOfKind.reaches
     (first_steps_wider (λ c. IsConsistent r.clocks c × IsWithin c p.goal) (IsConsistent r.clocks) (λ c h. h.0) (initial r.clocks) p.steps p.goal steps)
     (subst (IsLeastOf (Family r f)) bottom stands.bottom)
@@ -106,7 +106,7 @@ part_kind r f AlwaysGlobally part e w k = subst (λ x. IsOfKind r x w) (sym e) k
 part_kind r f ExistsGlobally part e w k = subst (λ x. IsOfKind r x w) (sym e) k
 part_kind r f (ExistsNext i) part h w k = subst (λ x. IsOfKind r x w) (sym h.2) (k h.0 h.1)
 
-pub canonical_is_of_kind : (r : Run) → IsOrder r.clocks → (f : Formula) → IsClosed r.clocks (Family r f) → (s : Slice) → StandsFor r.clocks s (Family r f) → (operator : WitnessOperator) (part : Formula) → IsPartOf r operator f part → (w : Witness) → IsCanonical r.clocks s operator w → IsOfKind r part w
+pub canonical_is_of_kind : (r : Run) → IsOrder r.clocks → (f : Formula) → IsSublattice r.clocks (Family r f) → (s : Slice) → StandsFor r.clocks s (Family r f) → (operator : WitnessOperator) (part : Formula) → IsPartOf r operator f part → (w : Witness) → IsCanonical r.clocks s operator w → IsOfKind r part w
 canonical_is_of_kind r order f closed s stands operator part h w canonical = part_kind r f operator part h w (canonical_kind r order f closed s stands operator w canonical)
 
 -- ---- the witness goes by the set, not by the slice that is at hand
@@ -125,7 +125,7 @@ first_steps_same A B same c (e ∷ es) d p = ((same c).0 p.0, p.1, p.2, λ j l h
 shares_same : (s t : Slice) (e f : Place) → row_at s e ≡ row_at t e → row_at s f ≡ row_at t f → Shares s e f → Shares t e f
 shares_same s t e f p q h = (h.0, sym q ∙ h.1 ∙ p)
 
-pub canonical_same : (o : Clocks) (A : Cut → Type 0) → IsClosed o A → (s t : Slice) → StandsFor o s A → StandsFor o t A → (operator : WitnessOperator) (w : Witness) → IsCanonical o s operator w → IsCanonical o t operator w
+pub canonical_same : (o : Clocks) (A : Cut → Type 0) → IsSublattice o A → (s t : Slice) → StandsFor o s A → StandsFor o t A → (operator : WitnessOperator) (w : Witness) → IsCanonical o s operator w → IsCanonical o t operator w
 canonical_same o A closed s t k l operator w canonical = moved operator w canonical
   where
     cuts : (c : Cut) → Cuts o s c ↔ Cuts o t c

@@ -5,7 +5,7 @@ use Rattle.run_model.specs.Cut.{Cut, initial}
 use Rattle.run_model.specs.Run.{Trace, Run, clocks_of}
 use Rattle.run_model.specs.Formula.{Formula, Truth, Comparison, Watched, InTransit, Empty, Difference, Not, And, Or, Temporal, Next, Until, Formulas, Nil, Cons}
 use Rattle.run_model.specs.Consistent.{IsOrder, IsConsistent}
-use Rattle.run_model.specs.Sublattice.{IsClosed, Smallest, given}
+use Rattle.run_model.specs.Sublattice.{IsSublattice, Smallest, given}
 use Rattle.run_model.specs.Meaning.{IsRun, Family}
 use Rattle.run_model.specs.Class.{is_conjunctive, IsKeptFor, AreKeptFor, IsRegularIn}
 use Rattle.run_model.specs.Slice.{Edge, IsLeastOf, IsPrintedAs, edges_of}
@@ -66,7 +66,7 @@ pub verdict_by_listing : (trace : Trace) (f : Formula) (verdict : Bool) → orde
 verdict_by_listing trace f true o h = (holds_reads (run_with_watch trace) (ordered_is (clocks_of trace) o) f (initial (clocks_of trace)) (initial_consistent (clocks_of trace))).0 h
 verdict_by_listing trace f false o h = λ t. both_ways (holds (run_with_watch trace) (consistent_cuts (run_with_watch trace).clocks) f (initial (run_with_watch trace).clocks)) h ((holds_reads (run_with_watch trace) (ordered_is (clocks_of trace) o) f (initial (clocks_of trace)) (initial_consistent (clocks_of trace))).1 t)
 
-shown_prints : (r : Run) (f : Formula) (low high : Cut) (edges : List Edge) → (is_conjunctive true f ≡ true → IsClosed r.clocks (Family r f)) → IsPrintedAs r.clocks (Smallest (Family r f)) low high edges → (b : Bool) → is_conjunctive true f ≡ b → IsPrintedAs r.clocks (λ c. MatchBool b (Family r f c) (Smallest (Family r f) c)) low high edges
+shown_prints : (r : Run) (f : Formula) (low high : Cut) (edges : List Edge) → (is_conjunctive true f ≡ true → IsSublattice r.clocks (Family r f)) → IsPrintedAs r.clocks (Smallest (Family r f)) low high edges → (b : Bool) → is_conjunctive true f ≡ b → IsPrintedAs r.clocks (λ c. MatchBool b (Family r f c) (Smallest (Family r f) c)) low high edges
 shown_prints r f low high edges closed k true e = closed_prints r f low high edges (closed e) k
 shown_prints r f low high edges closed k false e = k
 

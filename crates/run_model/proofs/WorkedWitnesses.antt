@@ -4,7 +4,7 @@ use Rattle.std.proofs.lemmas.Bool.{false≢true, both_ways, and_parts, and_from,
 use Rattle.run_model.specs.Cut.{Cut, Clocks, count, IsWithin, with_next, lengths, initial}
 use Rattle.run_model.specs.Run.{Trace, clocks_of}
 use Rattle.run_model.specs.Consistent.{clock, IsOrder, IsConsistent}
-use Rattle.run_model.specs.Sublattice.{IsClosed, Smallest}
+use Rattle.run_model.specs.Sublattice.{IsSublattice, Smallest}
 use Rattle.run_model.specs.Slice.{Slice, Cuts, StandsFor}
 use Rattle.run_model.specs.Formula.{Formula}
 use Rattle.run_model.specs.Meaning.{Family}
@@ -183,7 +183,7 @@ sharing_reads o s e = (
 
 record Operand (trace : Trace) (f : Formula) : Type 0 where
   order : IsOrder (clocks_of trace)
-  closed : IsClosed (clocks_of trace) (Family (run_with_watch trace) f)
+  closed : IsSublattice (clocks_of trace) (Family (run_with_watch trace) f)
   stands : StandsFor (clocks_of trace) (listed_slice (run_with_watch trace) f) (Family (run_with_watch trace) f)
 
 operand : (trace : Trace) (f : Formula) → ordered (clocks_of trace) ≡ true → is_regular_anyhow f ≡ true → Operand trace f

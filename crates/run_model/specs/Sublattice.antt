@@ -5,7 +5,7 @@ use Rattle.run_model.specs.Cut.{Cut, Clocks, count, IsWithin, min_cut, max_cut}
 use Rattle.run_model.specs.Consistent.{IsConsistent}
 
 -- a sublattice of the consistent cuts: the satisfying cuts of a regular predicate (Garg and Mittal)
-pub record IsClosed (o : Clocks) (A : Cut → Type 0) : Type 0 where
+pub record IsSublattice (o : Clocks) (A : Cut → Type 0) : Type 0 where
   pub consistent : (c : Cut) → A c → IsConsistent o c
   pub has_min : (c d : Cut) → A c → A d → A (min_cut c d)
   pub has_max : (c d : Cut) → A c → A d → A (max_cut c d)

@@ -3,7 +3,7 @@ ghost use Rattle.std.specs.Prelude.{◌≡◌, ◌⊎◌, ◌↔◌, true, List,
 ghost use Rattle.run_model.specs.Cut.{Cut};
 ghost use Rattle.run_model.specs.Run.{Run};
 ghost use Rattle.run_model.specs.Consistent.{IsOrder, IsConsistent};
-ghost use Rattle.run_model.specs.Sublattice.{IsClosed, Smallest};
+ghost use Rattle.run_model.specs.Sublattice.{IsSublattice, Smallest};
 ghost use Rattle.run_model.specs.Slice.{Slice, StandsFor};
 ghost use Rattle.run_model.specs.Operators.{joined_all};
 ghost use Rattle.run_model.specs.Formula.{Formula};
@@ -23,7 +23,7 @@ pub fn truth_is_decided()
 /// Garg). Where it has differences, their variables never fall in the run.
 pub fn regular_families_are_closed()
     ensures { (r : Run) → IsRun r → (f : Formula) → IsRegularIn r f
-        → IsClosed r.clocks (Family r f) }
+        → IsSublattice r.clocks (Family r f) }
 {}
 
 /// A formula is true exactly where some disjunct has all its parts true, and a formula of the class
@@ -39,7 +39,7 @@ pub fn disjuncts_mean_the_formula()
 /// smallest closed set that holds the family.
 pub fn shown_sets_are_closed()
     ensures closed { (r : Run) → IsRun r → (f : Formula) → IsKeptFor r f
-        → IsClosed r.clocks (Shown r f) }
+        → IsSublattice r.clocks (Shown r f) }
     ensures smallest { (r : Run) → IsRun r → (f : Formula) → IsKeptFor r f → (c : Cut)
         → Shown r f c ↔ Smallest (Family r f) c }
 {}
@@ -52,7 +52,7 @@ pub fn disjuncts_have_regular_parts()
     ensures parts { (f : Formula) → IsOfClass f → HaveRegularParts (disjuncts true f) }
     ensures kept { (r : Run) (f : Formula) → IsKeptFor r f → DisjunctsKeptFor r (disjuncts true f) }
     ensures closed { (r : Run) → IsRun r → (d : List Formula) → AreRegular d → PartsKeptFor r d
-        → IsClosed r.clocks (DisjunctFamily r d) }
+        → IsSublattice r.clocks (DisjunctFamily r d) }
 {}
 
 /// The joined slice of the disjuncts of a formula of the class is that of the set that is shown.

@@ -3,7 +3,7 @@ ghost use Rattle.std.specs.Prelude.{◌≡◌, ℕ, ◌<◌, List};
 ghost use Rattle.run_model.specs.Cut.{Cut, Clocks, IsWithin, min_cut, max_cut, lengths, initial};
 ghost use Rattle.run_model.specs.Consistent.{IsOrder, IsEvent, IsConsistent, HappenedBefore};
 ghost use Rattle.run_model.specs.Consistent.{IsPath, clock};
-ghost use Rattle.run_model.specs.Sublattice.{IsClosed, IsLeast, IsGreatest, Having};
+ghost use Rattle.run_model.specs.Sublattice.{IsSublattice, IsLeast, IsGreatest, Having};
 
 /// Happened before is a strict partial order (Lamport), and the events of one process stand in it
 /// in their order.

@@ -2,7 +2,7 @@
 ghost use Rattle.std.specs.Prelude.{◌↔◌};
 ghost use Rattle.run_model.specs.Cut.{Cut, Clocks};
 ghost use Rattle.run_model.specs.Consistent.{IsOrder, IsConsistent};
-ghost use Rattle.run_model.specs.Sublattice.{IsClosed, Smallest, Either, IsMaxOfMins};
+ghost use Rattle.run_model.specs.Sublattice.{IsSublattice, Smallest, Either, IsMaxOfMins};
 
 /// A set of cuts. A proof that wants a law for a set of its own cites the law's lemma in `proofs/`,
 /// which is for every set.
@@ -13,11 +13,11 @@ pub trait SetOfCuts {
 /// The smallest sublattice round a set of consistent cuts (Mittal and Garg).
 pub fn smallest_sublattice<A: SetOfCuts, B: SetOfCuts>()
     ensures closed { (o : Clocks) → IsOrder o → ((c : Cut) → A.has c → IsConsistent o c)
-        → IsClosed o (Smallest A.has) }
+        → IsSublattice o (Smallest A.has) }
     ensures holds_the_set { (c : Cut) → A.has c → Smallest A.has c }
-    ensures lies_in_closed_sets { (o : Clocks) → IsClosed o B.has
+    ensures lies_in_closed_sets { (o : Clocks) → IsSublattice o B.has
         → ((c : Cut) → A.has c → B.has c) → (c : Cut) → Smallest A.has c → B.has c }
-    ensures of_a_closed_set { (o : Clocks) → IsClosed o A.has → (c : Cut) → Smallest A.has c
+    ensures of_a_closed_set { (o : Clocks) → IsSublattice o A.has → (c : Cut) → Smallest A.has c
         ↔ A.has c }
     ensures as_lists { (c : Cut) → Smallest A.has c ↔ IsMaxOfMins A.has c }
 {}

@@ -5,7 +5,7 @@ use Rattle.run_model.specs.Run.{Run, Watches, run_of, clocks_of}
 use Rattle.run_model.specs.Consistent.{IsOrder}
 use Rattle.run_model.specs.Formula.{Formula}
 use Rattle.run_model.specs.Meaning.{IsRun, Sat}
-use Rattle.run_model.specs.Sublattice.{IsClosed}
+use Rattle.run_model.specs.Sublattice.{IsSublattice}
 use Rattle.run_model.specs.Slice.{Edge as EdgeOfRun, SliceText as TextOfRun}
 use Rattle.run_model.specs.Witness as model
 use Rattle.run_model.specs.Class.{IsKeptFor, IsRegularIn, IsOfClass, disjuncts, SatParts, AreRegular, HaveRegularParts, PartsKeptFor, DisjunctsKeptFor, Shown}
@@ -97,7 +97,7 @@ one_verdict true b h k = sym (k.1 (h.0 refl))
 one_verdict false true h k = h.1 (k.0 refl)
 one_verdict false false h k = refl
 
-one_slice : (shown : Bool) (r : Run) (f : Formula) → IsClosed r.clocks (Shown r f)
+one_slice : (shown : Bool) (r : Run) (f : Formula) → IsSublattice r.clocks (Shown r f)
     → (s t : Option SliceText) → IsSliceShown shown r f s → IsSliceShown shown r f t → s ≡ t
 one_slice true r f closed (Some s) (Some t) h k =
     ap Some (text_once s t (one_text r.clocks (Shown r f) closed (text_seen s) (text_seen t) h k))

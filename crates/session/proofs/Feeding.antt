@@ -14,7 +14,7 @@ use Rattle.watch_feeding.specs.Fed.{HaveRows}
 use Rattle.part_pulls.specs.declared.observed.Observed.{Observed}
 use Rattle.part_pulls.specs.Observing.{Reading, AreAnswers, AreFull, states_seen}
 use Rattle.conjunctions.specs.Settling.{IsLater}
-use Rattle.session.specs.Fed.{row_of, Feeds, AreFedFrom, AnswersAs}
+use Rattle.session.specs.Fed.{watch_row, Feeds, AreFedFrom, AnswersAs}
 
 -- a process has one state more than events
 pub states_count : (seen : Observed) → IsTrace seen.trace.states → (p : ℕ) → length (states_seen seen p) ≡ len_at seen.trace.states p + 1
@@ -63,7 +63,7 @@ taken_before n old new more within is = sym (ap (take n) is ∙ take-append-le n
 
 -- rows that are there are within the states
 abbrev pub AreWithin : Observed → Type 0
-AreWithin seen = (w p : ℕ) → get_or seen.watch_process w None ≡ Some p → length (row_of seen w) ≤ length (states_seen seen p)
+AreWithin seen = (w p : ℕ) → get_or seen.watch_process w None ≡ Some p → length (watch_row seen w) ≤ length (states_seen seen p)
 
 pub rows_within : (seen : Observed) → IsTrace seen.trace.states → HaveRows seen.trace.states seen.watch_process seen.watch_rows → AreWithin seen
 rows_within seen is rows w p on = omega (arith, states_count seen is p, rows.within w p on)
@@ -88,7 +88,7 @@ fed_more says handed old new before after is within full later feeds since = rec
       let was : get_or before.watch_process w None ≡ Some p = ap (λ (ps : List (Option ℕ)). get_or ps w None) (sym later.watches) ∙ on in
       let box = there_too old handed w first (sym since.count) is_first in
       let grown = later.states p in
-      fed_on says first box.0 now (length (row_of before w)) (row_of before w) (row_of after w) (states_seen before p) (states_seen after p) grown.0 refl (within w p was)
+      fed_on says first box.0 now (length (watch_row before w)) (watch_row before w) (watch_row after w) (states_seen before p) (states_seen after p) grown.0 refl (within w p was)
       ((full.each p w on).1 ∙ sym (states_count after is p)) grown.1 (since.fed w p first box.0 was is_first box.1) (feeds.fed w p box.0 now was box.1 is_now);
   others = λ w off.
       let was : get_or before.watch_process w None ≡ None = ap (λ (ps : List (Option ℕ)). get_or ps w None) (sym later.watches) ∙ off in
@@ -96,7 +96,7 @@ fed_more says handed old new before after is within full later feeds since = rec
 }
 
 -- nothing was fed yet
-pub fed_nothing : {B : Type 0} (says : B → List (List ℤ) → List Bool) (handed : List B) (seen : Observed) → length seen.watch_rows ≡ length seen.watch_process → ((w : ℕ) → row_of seen w ≡ [])
+pub fed_nothing : {B : Type 0} (says : B → List (List ℤ) → List Bool) (handed : List B) (seen : Observed) → length seen.watch_rows ≡ length seen.watch_process → ((w : ℕ) → watch_row seen w ≡ [])
     → AreFedFrom says handed handed seen
 fed_nothing says handed seen size none = record {
   count = refl;
@@ -117,7 +117,7 @@ answers_since says handed now seen reading is full paired since as_handed = reco
       let first = box_at handed w (omega (arith, paired, there)) in
       let last = there_too now handed w first.0 (sym since.count) first.1 in
       let states = states_seen seen p in
-      let row = row_of seen w in
+      let row = watch_row seen w in
       let size : length row ≡ length states = (full.each p w on).1 ∙ sym (states_count seen is p) in
       let whole : take (length row) states ++ [] ≡ states = append-nil (take (length row) states) ∙ take_all (length row) states size in
       let fed : says first.0 states ≡ row ++ says last.0 [] = ap (says first.0) (sym whole) ∙ since.fed w p first.0 last.0 on first.1 last.1 [] in

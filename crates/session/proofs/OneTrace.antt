@@ -17,7 +17,7 @@ use Rattle.conjunctions.specs.declared.answer.PartAnswer.{PartAnswer}
 use Rattle.part_pulls.specs.Observing.{clocks_seen, states_seen}
 use Rattle.conjunctions.specs.Settling.{IsLater}
 use Rattle.conjunctions.specs.Answering.{IsSliceOf, Place, IsOperand, IsPartAnswer, ArePartAnswers, IsAnswer, all_places}
-use Rattle.session.specs.Fed.{row_of, IsOneTrace}
+use Rattle.session.specs.Fed.{watch_row, IsOneTrace}
 use Rattle.session.specs.Growing.{all_events}
 use Rattle.session.proofs.Feeding.{is_there, box_at, there_too}
 
@@ -35,7 +35,7 @@ later_on before then after first second = record {
   };
   states = λ p. more_on (states_seen before p) (states_seen then p) (states_seen after p) (first.states p) (second.states p);
   watches = second.watches ∙ first.watches;
-  rows = λ w p on. more_on (row_of before w) (row_of then w) (row_of after w) (first.rows w p on) (second.rows w p (ap (λ (ps : List (Option ℕ)). get_or ps w None) first.watches ∙ on));
+  rows = λ w p on. more_on (watch_row before w) (watch_row then w) (watch_row after w) (first.rows w p on) (second.rows w p (ap (λ (ps : List (Option ℕ)). get_or ps w None) first.watches ∙ on));
 }
 
 -- nothing came behind a list
@@ -50,7 +50,7 @@ later_itself seen = record {
   clocks = record { count = refl; each = λ p. nothing_more (get_or (clocks_seen seen) p []) };
   states = λ p. nothing_more (states_seen seen p);
   watches = refl;
-  rows = λ w p on. nothing_more (row_of seen w);
+  rows = λ w p on. nothing_more (watch_row seen w);
 }
 
 -- ---- batches
@@ -72,7 +72,7 @@ same_front : {X : Type 0} (xs ys us vs : List X) → length xs ≡ length ys →
 same_front xs ys us vs size same = sym (take-append_seam xs us) ∙ ap (take (length xs)) same ∙ ap (λ (n : ℕ). take n (ys ++ vs)) size ∙ take-append_seam ys vs
 
 same_row : {B : Type 0} (says : B → List (List ℤ) → List Bool) (handed here there : List B) (one other : Observed) → IsOneTrace says handed here there one other → (w : ℕ) (o : Option ℕ)
-    → get_or one.watch_process w None ≡ o → length handed ≡ length one.watch_process → row_of one w ≡ row_of other w
+    → get_or one.watch_process w None ≡ o → length handed ≡ length one.watch_process → watch_row one w ≡ watch_row other w
 same_row says handed here there one other is w None off paired =
     let off_other : get_or other.watch_process w None ≡ None = ap (λ (ps : List (Option ℕ)). get_or ps w None) is.watches ∙ off in
     (is.fed.others w off).1 ∙ sym (is.fed_other.others w off_other).1
@@ -83,11 +83,11 @@ same_row says handed here there one other is w (Some p) on paired =
     let a = there_too here handed w first.0 (sym is.fed.count) first.1 in
     let b = there_too there handed w first.0 (sym is.fed_other.count) first.1 in
     let lens : len_at other.trace.states p ≡ len_at one.trace.states p = ap (λ (s : StatesView). len_at s p) is.states in
-    let size : length (row_of one w) ≡ length (row_of other w) = (is.full.each p w on).1 ∙ ap (λ (n : ℕ). n + 1) (sym lens) ∙ sym (is.full_other.each p w on_other).1 in
+    let size : length (watch_row one w) ≡ length (watch_row other w) = (is.full.each p w on).1 ∙ ap (λ (n : ℕ). n + 1) (sym lens) ∙ sym (is.full_other.each p w on_other).1 in
     let states : states_seen other p ≡ states_seen one p = ap (λ (s : StatesView). states_of (process_at (trace_of s) p)) is.states in
-    let told : says first.0 (take (length (row_of one w)) (states_seen one p) ++ []) ≡ says first.0 (take (length (row_of other w)) (states_seen other p) ++ []) =
-    ap (λ (n : ℕ). says first.0 (take n (states_seen one p) ++ [])) size ∙ ap (λ (ss : List (List ℤ)). says first.0 (take (length (row_of other w)) ss ++ [])) (sym states) in
-    same_front (row_of one w) (row_of other w) (says a.0 []) (says b.0 []) size
+    let told : says first.0 (take (length (watch_row one w)) (states_seen one p) ++ []) ≡ says first.0 (take (length (watch_row other w)) (states_seen other p) ++ []) =
+    ap (λ (n : ℕ). says first.0 (take n (states_seen one p) ++ [])) size ∙ ap (λ (ss : List (List ℤ)). says first.0 (take (length (watch_row other w)) ss ++ [])) (sym states) in
+    same_front (watch_row one w) (watch_row other w) (says a.0 []) (says b.0 []) size
     (sym (is.fed.fed w p first.0 a.0 on first.1 a.1 []) ∙ told ∙ is.fed_other.fed w p first.0 b.0 on_other first.1 b.1 [])
 
 same_rows : {B : Type 0} (says : B → List (List ℤ) → List Bool) (handed here there : List B) (one other : Observed) → IsOneTrace says handed here there one other → length handed ≡ length one.watch_process

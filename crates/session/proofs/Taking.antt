@@ -14,7 +14,7 @@ use Rattle.trace_growth.specs.Laws.{StatesHaveGrown}
 use Rattle.trace_growth.proofs.Taken.{clocks_grow, states_grow}
 use Rattle.part_pulls.specs.declared.observed.Observed.{Observed}
 use Rattle.conjunctions.specs.Settling.{IsLater}
-use Rattle.session.specs.Fed.{row_of}
+use Rattle.session.specs.Fed.{watch_row}
 
 -- the clocks of the run have grown, as those of the events
 clocks_later : (before after : TraceView) (batch : List Event) → IsTrace before.states → IsTrace after.states → FitsTrace before batch → after ≡ with_trace_batch before batch
@@ -27,7 +27,7 @@ clocks_later before after batch old new fits is =
 -- behind their rows
 pub is_later : (before after : Observed) (batch : List Event) → IsTrace before.trace.states → IsTrace after.trace.states → FitsTrace before.trace batch
     → after.trace ≡ with_trace_batch before.trace batch → after.watch_process ≡ before.watch_process
-    → ((w p : ℕ) → get_or before.watch_process w None ≡ Some p → (more : List Bool) × (row_of after w ≡ row_of before w ++ more)) → IsLater before after
+    → ((w p : ℕ) → get_or before.watch_process w None ≡ Some p → (more : List Bool) × (watch_row after w ≡ watch_row before w ++ more)) → IsLater before after
 is_later before after batch old new fits is watches rows =
     let filled = filled_for before.trace batch in
     let each = filled_fits before.trace.states.events batch fits.each in

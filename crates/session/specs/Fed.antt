@@ -3,11 +3,11 @@ use Rattle.std.specs.Prelude.{◌≡◌, ℕ, ℤ, Bool, List, [], ◌++◌, len
 use Rattle.std.specs.Prelude.{slice_get, None, Some}
 use Rattle.part_pulls.specs.declared.observed.Observed.{Observed}
 use Rattle.part_pulls.specs.Observing.{Reading, AreFull, states_seen}
-use Rattle.rctl_parts.specs.Spelled.{name_at}
+use Rattle.rctl_parts.specs.Spelled.{numbered_name}
 
 -- the row of a watch
-abbrev pub row_of : Observed → ℕ → List Bool
-row_of seen w = get_or seen.watch_rows w []
+abbrev pub watch_row : Observed → ℕ → List Bool
+watch_row seen w = get_or seen.watch_rows w []
 
 -- Between the two, each watch on a process was fed the states of it that had no answer yet, each
 -- once and in order, and its answers stand behind its row. The others are as before.
@@ -18,10 +18,12 @@ pub record Feeds {B : Type 0} (says : B → List (List ℤ) → List Bool)
   pub fed : (w p : ℕ) (old new : B) → get_or before.watch_process w None ≡ Some p
       → slice_get boxes_before w ≡ Some old → slice_get boxes_after w ≡ Some new
       → (rest : List (List ℤ))
-      → row_of before w ++ says old (drop (length (row_of before w)) (states_seen after p) ++ rest)
-      ≡ row_of after w ++ says new rest
+      → watch_row before w
+      ++ says old (drop (length (watch_row before w)) (states_seen after p) ++ rest)
+      ≡ watch_row after w ++ says new rest
   pub others : (w : ℕ) → get_or before.watch_process w None ≡ None
-      → (slice_get boxes_after w ≡ slice_get boxes_before w) × (row_of after w ≡ row_of before w)
+      → (slice_get boxes_after w ≡ slice_get boxes_before w)
+      × (watch_row after w ≡ watch_row before w)
 
 -- Since they were handed in, the watches on processes were fed the states for which their rows have
 -- an answer, each once and in order. The others are as they were handed in.
@@ -31,16 +33,16 @@ pub record AreFedFrom {B : Type 0} (says : B → List (List ℤ) → List Bool) 
   pub rows : length seen.watch_rows ≡ length seen.watch_process
   pub fed : (w p : ℕ) (first now : B) → get_or seen.watch_process w None ≡ Some p
       → slice_get handed w ≡ Some first → slice_get boxes w ≡ Some now → (rest : List (List ℤ))
-      → says first (take (length (row_of seen w)) (states_seen seen p) ++ rest)
-      ≡ row_of seen w ++ says now rest
+      → says first (take (length (watch_row seen w)) (states_seen seen p) ++ rest)
+      ≡ watch_row seen w ++ says now rest
   pub others : (w : ℕ) → get_or seen.watch_process w None ≡ None
-      → (slice_get boxes w ≡ slice_get handed w) × (row_of seen w ≡ [])
+      → (slice_get boxes w ≡ slice_get handed w) × (watch_row seen w ≡ [])
 
 -- the watches of the reading answer as those that were handed in, one truth for each state
 pub record AnswersAs {B : Type 0} (says : B → List (List ℤ) → List Bool) (handed : List B)
     (reading : Reading) : Type 0 where
   pub each : (w : ℕ) (first : B) → slice_get handed w ≡ Some first → (states : List (List ℤ))
-      → reading.watches (name_at reading.watch_names w) states
+      → reading.watches (numbered_name reading.watch_names w) states
       ≡ take (length states) (says first states)
 
 -- two sessions whose traces are the same, in whichever batches they came: the same watches were

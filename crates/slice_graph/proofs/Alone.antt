@@ -8,14 +8,14 @@ use Rattle.run_model.specs.Consistent.{IsEvent}
 use Rattle.run_model.specs.Sublattice.{Having}
 use Rattle.run_model.specs.Slice.{IsLeastOf, Cuts}
 use Rattle.pull_system.specs.declared.pull.Pull.{Pull}
-use Rattle.pull_system.specs.Vector.{IsWithin, IsVector}
+use Rattle.pull_system.specs.Vector.{IsAtMost, IsVector}
 use Rattle.pull_system.specs.System.{SystemView, IsSystem, IsClosed, IsClosedFrom, IsLeastFrom}
 use Rattle.pull_system.specs.Pulls.{ClosedUnder}
 use Rattle.pull_system.specs.Rows.{AreLeastRows, IsLeast, start_of, row_at}
 use Rattle.pull_system.proofs.PullLists.{closed_under}
 use Rattle.pull_system.proofs.Climbing.{tops_closed}
 use Rattle.pull_system.proofs.Starts.{start_of-vector}
-use Rattle.slice_graph.specs.Views.{SliceView, AreRows, IsRow, IsCut, no_row, slice_of}
+use Rattle.slice_graph.specs.Views.{SliceView, HasAllRows, IsRow, IsCut, no_row, slice_of}
 use Rattle.slice_graph.specs.Words.{filled}
 use Rattle.slice_graph.specs.Fitting.{FitsOrder}
 use Rattle.slice_graph.specs.PullLists.{pulls_of_slice}
@@ -45,7 +45,7 @@ row_cut o v fits row there c is = elim (cases_lt 0 row) [
 ]
 
 -- what fills a row is closed
-filled_closed : (o : Clocks) (v : SliceView) → FitsOrder o v → AreRows v → IsSystem (alone v) → (row : ℕ) → row ≤ sum v.lens → (k : Option Cut) → get_or v.rows row no_row ≡ k
+filled_closed : (o : Clocks) (v : SliceView) → FitsOrder o v → HasAllRows v → IsSystem (alone v) → (row : ℕ) → row ≤ sum v.lens → (k : Option Cut) → get_or v.rows row no_row ≡ k
     → (IsVector v.lens (filled v.lens k)) × IsClosed (alone v) (filled v.lens k)
 filled_closed o v fits rows is row there None e =
     let top = tops_closed (alone v) is (start_of v.lens row) (start_of v.lens row) (start_of-vector v.lens row) record { each = λ i. omega arith } in
@@ -56,7 +56,7 @@ filled_closed o v fits rows is row there (Some c) e =
       (closed_under (alone v) c).1 ((slice_closed o v fits rows c cut).1 (row_cut o v fits row there c e)),
     )
 
-pub rows_alone : (o : Clocks) (v : SliceView) → FitsOrder o v → AreRows v → IsSystem (alone v) → (words : List ℕ)
+pub rows_alone : (o : Clocks) (v : SliceView) → FitsOrder o v → HasAllRows v → IsSystem (alone v) → (words : List ℕ)
     → ((row : ℕ) → row ≤ sum v.lens → IsSliceRow v row (row_at v.lens words row))
     → AreWithinClosed v.lens (pulls_of_slice v) words → AreLeastRows (alone v) words
 rows_alone o v fits rows is words each begins = record {

@@ -4,7 +4,7 @@ use Rattle.std.proofs.lemmas.List.{get_or_append_left, get_or_push, length_push,
 use Rattle.pota_base.specs.Shape.{HasEvent, row_of}
 use Rattle.pota_base.specs.declared.shape.EventId.{EventId}
 use Rattle.run_model.specs.Cut.{Cut, Clocks, lengths}
-use Rattle.run_model.specs.Sublattice.{IsClosed}
+use Rattle.run_model.specs.Sublattice.{IsSublattice}
 use Rattle.run_model.specs.Slice.{Slice, StandsFor}
 use Rattle.run_model.specs.Operators.{nowhere}
 use Rattle.run_model.proofs.Orders.{has_process}
@@ -68,7 +68,7 @@ pub agrees_stands : (o : Clocks) (s : Slice) (v : SliceView) (A : Cut → Type 0
 agrees_stands o s v A h k = stands_rows o s (slice_of v) A h.bottom h.rows k
 
 -- a slice that stands for a closed set fits the order
-pub fits_of_set : (o : Clocks) (v : SliceView) (A : Cut → Type 0) → IsClosed o A → v.lens ≡ lengths o → length v.rows ≡ sum v.lens + 1 → StandsFor o (slice_of v) A → FitsOrder o v
+pub fits_of_set : (o : Clocks) (v : SliceView) (A : Cut → Type 0) → IsSublattice o A → v.lens ≡ lengths o → length v.rows ≡ sum v.lens + 1 → StandsFor o (slice_of v) A → FitsOrder o v
 fits_of_set o v A closed shape count k = record { shape = shape; count = count; stands = stands_fits o A closed (slice_of v) k }
 
 -- a slice without cuts

@@ -11,7 +11,7 @@ use Rattle.pull_system.specs.declared.pull.Pull.{Pull}
 use Rattle.pull_system.specs.Fans.{FanView, AreTables, pull_of_fan, pulls_of_fan, pulls_of_fans}
 use Rattle.run_model.specs.Cut.{Clocks, count, lengths}
 use Rattle.run_model.specs.Consistent.{IsOrder}
-use Rattle.slice_graph.specs.Views.{SliceView, AreRows, slice_of, last_row}
+use Rattle.slice_graph.specs.Views.{SliceView, HasAllRows, slice_of, last_row}
 use Rattle.slice_graph.specs.Words.{past_ends, row_words}
 use Rattle.slice_graph.specs.PullLists.{other, past_count}
 use Rattle.slice_graph.proofs.Words.{filled_most, past_ends_most}
@@ -104,7 +104,7 @@ order_row_small o order few i x there row is k = elim (cases_lt k (length row)) 
   | inr past ↦ omega (arith, get_or_past row k 0 past)
 ]
 
-pub slice_row_small : (v : SliceView) → AreRows v → (i x : ℕ) (row : List ℕ) → row ≡ row_words v i x → (k : ℕ) → get_or row k 0 < 2 ^ 16
+pub slice_row_small : (v : SliceView) → HasAllRows v → (i x : ℕ) (row : List ℕ) → row ≡ row_words v i x → (k : ℕ) → get_or row k 0 < 2 ^ 16
 slice_row_small v rows i x row is k =
     omega (arith, ap (λ (r : List ℕ). get_or r k 0) is, filled_most v.lens (last_row (slice_of v) i x) (last_is_row v rows i x) k, count_few v.lens rows.cuts.shape.events k)
 

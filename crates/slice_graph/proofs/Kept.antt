@@ -6,7 +6,7 @@ use Rattle.pota_base.specs.Shape.{HasEvent, row_of}
 use Rattle.pota_base.specs.declared.shape.EventId.{EventId}
 use Rattle.run_model.specs.Cut.{Cut, Clocks, count, IsWithin, min_cut, max_cut, lengths}
 use Rattle.run_model.specs.Consistent.{IsOrder, IsConsistent}
-use Rattle.run_model.specs.Sublattice.{IsClosed as IsClosedSet, IsLeast as IsLeastCut, Having}
+use Rattle.run_model.specs.Sublattice.{IsSublattice, IsLeast as IsLeastCut, Having}
 use Rattle.run_model.specs.Slice.{IsLeastOf, Cuts, StandsFor}
 use Rattle.run_model.proofs.Counts.{count-min, count-max, length-min, length-max}
 use Rattle.run_model.proofs.Orders.{min_consistent, max_consistent, has_process}
@@ -17,7 +17,7 @@ use Rattle.pull_system.specs.Rows.{IsLeast, AreLeastRows, start_of, row_at}
 use Rattle.pull_system.proofs.Starts.{start_of-bottom, start_of-event, length-start_of}
 use Rattle.pull_system.proofs.Existence.{minimum_closed, maximum_closed}
 use Rattle.slice_graph.specs.Views.{SliceView, slice_of, no_row}
-use Rattle.slice_graph.specs.Fitting.{FitsOrder, HasOrder, ClosedCuts, IsKept}
+use Rattle.slice_graph.specs.Fitting.{FitsOrder, HasOrder, ClosedCuts, IsCutOfVector}
 use Rattle.slice_graph.proofs.Building.{BuiltBy, fits_of_set}
 use Rattle.slice_graph.proofs.Events.{row_there}
 
@@ -37,7 +37,7 @@ size_of o lens is c size count = size ∙ sym count ∙ sym (ap length is)
 
 -- what is kept of a least closed vector is the least closed cut at or above its start
 kept_least : (o : Clocks) (system : SystemView) → system.lens ≡ lengths o → length (lengths o) ≡ length o → HasOrder o system → (start v : List ℕ) → IsLeastFrom system start v
-    → (k : Option Cut) → IsKept system.lens v k → IsLeastOf (From o system start) k
+    → (k : Option Cut) → IsCutOfVector system.lens v k → IsLeastOf (From o system start) k
 kept_least o system lens count has start v least None kept = λ c h.
     kept (λ i. omega (arith, (least.least c (closed_from o system lens start c h (size_of o system.lens lens c h.0.0.shaped count))).each i, h.0.0.within i, ap (λ (ns : List ℕ). get_or ns i 0) lens))
 kept_least o system lens count has start v least (Some c) kept = subst (IsLeastCut (From o system start)) (sym kept.0) (record {
@@ -72,14 +72,14 @@ event_start lens e c there = (
     at = ap (λ (ns : List ℕ). get_or ns e.process 0) is
 
 pub bottom_kept : (o : Clocks) (system : SystemView) → system.lens ≡ lengths o → length (lengths o) ≡ length o → HasOrder o system → (v : List ℕ) → IsLeast system 0 v
-    → (k : Option Cut) → IsKept system.lens v k → IsLeastOf (ClosedCuts o system) k
+    → (k : Option Cut) → IsCutOfVector system.lens v k → IsLeastOf (ClosedCuts o system) k
 bottom_kept o system lens count has v least k kept =
     least_same (From o system (start_of system.lens 0)) (ClosedCuts o system) (λ c. (λ h. h.0, λ h. (h, bottom_start system.lens c))) k
     (kept_least o system lens count has (start_of system.lens 0) v least k kept)
 
 pub event_kept : (o : Clocks) (system : SystemView) → system.lens ≡ lengths o → length (lengths o) ≡ length o → HasOrder o system → (e : EventId) → HasEvent system.lens e
     → (v : List ℕ) → IsLeast system (row_of system.lens e) v
-    → (k : Option Cut) → IsKept system.lens v k → IsLeastOf (Having (ClosedCuts o system) e.process e.position) k
+    → (k : Option Cut) → IsCutOfVector system.lens v k → IsLeastOf (Having (ClosedCuts o system) e.process e.position) k
 event_kept o system lens count has e there v least k kept =
     least_same (From o system (start_of system.lens (row_of system.lens e))) (Having (ClosedCuts o system) e.process e.position)
     (λ c. let at = event_start system.lens e c there in (λ h. (h.0, at.0 h.1), λ h. (h.0, at.1 h.1))) k
@@ -89,7 +89,7 @@ event_kept o system lens count has e there v least k kept =
 
 -- what is pushed for each row
 abbrev pub KeptRow : List ℕ → List ℕ → ℕ → Option Cut → Type 0
-KeptRow lens words r k = IsKept lens (row_at lens words r) k
+KeptRow lens words r k = IsCutOfVector lens (row_at lens words r) k
 
 stands_here : (o : Clocks) (system : SystemView) (words : List ℕ) (v : SliceView) (n : ℕ) → BuiltBy system.lens (KeptRow system.lens words) n v → n ≡ sum system.lens + 1
     → system.lens ≡ lengths o → length (lengths o) ≡ length o → HasOrder o system → AreLeastRows system words → StandsFor o (slice_of v) (ClosedCuts o system)
@@ -115,7 +115,7 @@ kept_stands o lens words v n h all is count system at has least =
     stands_here o system words v n (subst (λ (ns : List ℕ). BuiltBy ns (KeptRow ns words) n v) same h) (all ∙ ap (λ (ns : List ℕ). sum ns + 1) same) at count has least
 
 -- the closed cuts are closed under minimum and maximum
-pub closed_cuts_closed : (o : Clocks) → IsOrder o → (system : SystemView) → IsSystem system → system.lens ≡ lengths o → length (lengths o) ≡ length o → IsClosedSet o (ClosedCuts o system)
+pub closed_cuts_closed : (o : Clocks) → IsOrder o → (system : SystemView) → IsSystem system → system.lens ≡ lengths o → length (lengths o) ≡ length o → IsSublattice o (ClosedCuts o system)
 closed_cuts_closed o order system is lens count = record {
   consistent = λ c h. h.0;
   has_min = λ c d h k. (

@@ -10,7 +10,7 @@ use Rattle.run_model.proofs.Counts.{count_past}
 use Rattle.pull_system.specs.declared.pull.Pull.{Pull}
 use Rattle.pull_system.specs.System.{IsPull}
 use Rattle.pull_system.specs.Pulls.{HoldsAt, ClosedUnder}
-use Rattle.slice_graph.specs.Views.{SliceView, slice_of, last_row, IsCut, IsRow, AreRows, HasLasts}
+use Rattle.slice_graph.specs.Views.{SliceView, slice_of, last_row, IsCut, IsRow, HasAllRows, HasLasts}
 use Rattle.slice_graph.specs.Words.{row_words}
 use Rattle.slice_graph.specs.Fitting.{FitsOrder}
 use Rattle.slice_graph.specs.PullLists.{slice_entry, slice_table, slice_pull, pulls_of_slice}
@@ -20,7 +20,7 @@ use Rattle.slice_graph.proofs.OrderPulls.{entry_at, table_rises}
 use Rattle.slice_graph.proofs.Pairs.{all_pairs, all_pairs_at, length_flat}
 
 -- each row that is read has no cut or one within the lengths
-pub last_is_row : (v : SliceView) → AreRows v → (i a : ℕ) → IsRow v.lens (last_row (slice_of v) i a)
+pub last_is_row : (v : SliceView) → HasAllRows v → (i a : ℕ) → IsRow v.lens (last_row (slice_of v) i a)
 last_is_row v rows i zero = rows.cuts.each 0
 last_is_row v rows i (suc a) = rows.cuts.each _
 
@@ -32,13 +32,13 @@ entry_within v i j x le = cond-true (leb x (count v.lens i)) (count (row_words v
 pub entry_past : (v : SliceView) (i j x : ℕ) → count v.lens i < x → slice_entry v i j x ≡ count v.lens j + 1
 entry_past v i j x gt = cond-false (leb x (count v.lens i)) (count (row_words v i x) j) (count v.lens j + 1) (lt-leb x (count v.lens i) gt)
 
-entry_most : (v : SliceView) → AreRows v → (i j x : ℕ) → slice_entry v i j x ≤ count v.lens j + 1
+entry_most : (v : SliceView) → HasAllRows v → (i j x : ℕ) → slice_entry v i j x ≤ count v.lens j + 1
 entry_most v rows i j x = elim (cases_lt (count v.lens i) x) [
   | inl past ↦ omega (arith, entry_past v i j x past)
   | inr le ↦ omega (arith, entry_within v i j x le, filled_most v.lens (last_row (slice_of v) i x) (last_is_row v rows i x) j)
 ]
 
-pub entries_rise : (o : Clocks) (v : SliceView) → FitsOrder o v → AreRows v → (i j x y : ℕ) → j < length v.lens → x ≤ y → slice_entry v i j x ≤ slice_entry v i j y
+pub entries_rise : (o : Clocks) (v : SliceView) → FitsOrder o v → HasAllRows v → (i j x y : ℕ) → j < length v.lens → x ≤ y → slice_entry v i j x ≤ slice_entry v i j y
 entries_rise o v fits rows i j x y process up = elim (cases_lt (count v.lens i) y) [
   | inl past ↦ omega (arith, entry_past v i j y past, entry_most v rows i j x)
   | inr le ↦ omega (
@@ -54,7 +54,7 @@ entries_rise o v fits rows i j x y process up = elim (cases_lt (count v.lens i) 
 abbrev the_pull : SliceView → ℕ → ℕ → Pull
 the_pull v i j = record { src = i; dst = j; table = slice_table v i j }
 
-pub slice_pulls_fit : (o : Clocks) (v : SliceView) → FitsOrder o v → AreRows v → All (IsPull v.lens) (pulls_of_slice v)
+pub slice_pulls_fit : (o : Clocks) (v : SliceView) → FitsOrder o v → HasAllRows v → All (IsPull v.lens) (pulls_of_slice v)
 slice_pulls_fit o v fits rows = all_pairs (IsPull v.lens) (slice_pull v) (length v.lens) (λ i j lt less.
     All-cons (IsPull v.lens) (the_pull v i j) [] (record {
       source = lt;
@@ -77,19 +77,19 @@ holds_row v c i j there =
     let is = entry_within v i j (count c i) there in
     (λ h. omega (arith, h, at, is), λ h. omega (arith, h, at, is))
 
-closed_lasts : (v : SliceView) → AreRows v → (c : Cut) → IsCut v.lens c → ClosedUnder (pulls_of_slice v) c → HasLasts v c
+closed_lasts : (v : SliceView) → HasAllRows v → (c : Cut) → IsCut v.lens c → ClosedUnder (pulls_of_slice v) c → HasLasts v c
 closed_lasts v rows c h closed i lt =
     (filled_within v.lens (last_row (slice_of v) i (count c i)) c rows.cuts.shape.some h.within).0 (λ j. elim (cases_lt j (length v.lens)) [
       | inl less ↦ (holds_row v c i j (h.within i)).0 (All-head (HoldsAt c) (the_pull v i j) [] (all_pairs_at (HoldsAt c) (slice_pull v) (length v.lens) i j lt less closed))
       | inr past ↦ omega (arith, count_past (row_words v i (count c i)) j (omega (arith, length-filled v.lens (last_row (slice_of v) i (count c i)) (last_is_row v rows i (count c i)))))
     ])
 
-lasts_closed : (v : SliceView) → AreRows v → (c : Cut) → IsCut v.lens c → HasLasts v c → ClosedUnder (pulls_of_slice v) c
+lasts_closed : (v : SliceView) → HasAllRows v → (c : Cut) → IsCut v.lens c → HasLasts v c → ClosedUnder (pulls_of_slice v) c
 lasts_closed v rows c h lasts = all_pairs (HoldsAt c) (slice_pull v) (length v.lens) (λ i j lt less.
     All-cons (HoldsAt c) (the_pull v i j) [] ((holds_row v c i j (h.within i)).1
     ((filled_within v.lens (last_row (slice_of v) i (count c i)) c rows.cuts.shape.some h.within).1 (lasts i lt) j)) (All-nil (HoldsAt c)))
 
-pub slice_closed : (o : Clocks) (v : SliceView) → FitsOrder o v → AreRows v → (c : Cut) → IsCut v.lens c → ClosedUnder (pulls_of_slice v) c ↔ Cuts o (slice_of v) c
+pub slice_closed : (o : Clocks) (v : SliceView) → FitsOrder o v → HasAllRows v → (c : Cut) → IsCut v.lens c → ClosedUnder (pulls_of_slice v) c ↔ Cuts o (slice_of v) c
 slice_closed o v fits rows c h =
     let has = has_lasts o v fits rows.cuts.shape.some c h in
     (λ closed. has.0 (closed_lasts v rows c h closed), λ cut. lasts_closed v rows c h (has.1 cut))

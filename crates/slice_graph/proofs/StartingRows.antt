@@ -13,10 +13,10 @@ use Rattle.run_model.proofs.Counts.{count_past, length-lengths}
 use Rattle.causal_order.specs.Blocks.{rows_of}
 use Rattle.causal_order.proofs.Rows.{length-rows_of, row_at as row_cut_out}
 use Rattle.pull_system.specs.declared.pull.Pull.{Pull}
-use Rattle.pull_system.specs.Vector.{IsWithin, IsVector}
+use Rattle.pull_system.specs.Vector.{IsAtMost, IsVector}
 use Rattle.pull_system.specs.Pulls.{HoldsAt, ClosedUnder}
 use Rattle.pull_system.specs.Rows.{start_of, row_at}
-use Rattle.slice_graph.specs.Views.{SliceView, AreRows, no_row, slice_of, last_row}
+use Rattle.slice_graph.specs.Views.{SliceView, HasAllRows, no_row, slice_of, last_row}
 use Rattle.slice_graph.specs.Words.{filled, row_words}
 use Rattle.slice_graph.specs.Fitting.{FitsOrder}
 use Rattle.slice_graph.specs.PullLists.{order_entry, order_table, order_pull, pulls_of_order, slice_entry, slice_table, slice_pull, pulls_of_slice}
@@ -67,29 +67,29 @@ words_row lens P n words h all row there =
 -- the pulls hold at a vector that is at or above the start of a row: by the bottom and the events
 below_start : (lens words c : List ℕ) → ((i : ℕ) → count (row_at lens words 0) i ≤ count c i)
     → ((e : EventId) → HasEvent lens e → e.position ≤ count c e.process → (i : ℕ) → count (row_at lens words (row_of lens e)) i ≤ count c i)
-    → (row : ℕ) → row ≤ sum lens → IsWithin (start_of lens row) c → IsWithin (row_at lens words row) c
+    → (row : ℕ) → row ≤ sum lens → IsAtMost (start_of lens row) c → IsAtMost (row_at lens words row) c
 below_start lens words c bottom event row there above = elim (cases_lt 0 row) [
   | inr none ↦
-      let P : ℕ → Type 0 = λ r. IsWithin (row_at lens words r) c in
+      let P : ℕ → Type 0 = λ r. IsAtMost (row_at lens words r) c in
       let zeroth : 0 ≡ row = omega (arith, none) in
       subst P zeroth (record { each = bottom })
   | inl pos ↦
       let r = event_of_row lens row (omega arith) there in
-      let P : ℕ → Type 0 = λ k. IsWithin (row_at lens words k) c in
-      let at : IsWithin (start_of lens (row_of lens r.0)) c = subst (λ (k : ℕ). IsWithin (start_of lens k) c) (sym r.2) above in
+      let P : ℕ → Type 0 = λ k. IsAtMost (row_at lens words k) c in
+      let at : IsAtMost (start_of lens (row_of lens r.0)) c = subst (λ (k : ℕ). IsAtMost (start_of lens k) c) (sym r.2) above in
       subst P r.2 (record { each = event r.0 r.1 ((event_start lens r.0 c r.1).0 at.each) })
 ]
 
 above_start : (lens words : List ℕ) → ((e : EventId) → HasEvent lens e → e.position ≤ count (row_at lens words (row_of lens e)) e.process)
-    → (row : ℕ) → row ≤ sum lens → IsWithin (start_of lens row) (row_at lens words row)
+    → (row : ℕ) → row ≤ sum lens → IsAtMost (start_of lens row) (row_at lens words row)
 above_start lens words event row there = elim (cases_lt 0 row) [
   | inr none ↦
-      let P : ℕ → Type 0 = λ r. IsWithin (start_of lens r) (row_at lens words r) in
+      let P : ℕ → Type 0 = λ r. IsAtMost (start_of lens r) (row_at lens words r) in
       let zeroth : 0 ≡ row = omega (arith, none) in
       subst P zeroth (record { each = bottom_start lens (row_at lens words 0) })
   | inl pos ↦
       let r = event_of_row lens row (omega arith) there in
-      let P : ℕ → Type 0 = λ k. IsWithin (start_of lens k) (row_at lens words k) in
+      let P : ℕ → Type 0 = λ k. IsAtMost (start_of lens k) (row_at lens words k) in
       subst P r.2 (record { each = (event_start lens r.0 (row_at lens words (row_of lens r.0)) r.1).1 (event r.0 r.1) })
 ]
 
@@ -158,7 +158,7 @@ words_of_event : (v : SliceView) (i a : ℕ) → 1 ≤ a → row_words v i a ≡
 words_of_event v i zero some = absurd (omega arith)
 words_of_event v i (suc a) some = refl
 
-slice_asks : (o : Clocks) (v : SliceView) → FitsOrder o v → AreRows v → (c : List ℕ) → IsVector v.lens c → ClosedUnder (pulls_of_slice v) c → (i x : ℕ) → i < length v.lens
+slice_asks : (o : Clocks) (v : SliceView) → FitsOrder o v → HasAllRows v → (c : List ℕ) → IsVector v.lens c → ClosedUnder (pulls_of_slice v) c → (i x : ℕ) → i < length v.lens
     → x ≤ count v.lens i → x ≤ count c i → (j : ℕ) → count (row_words v i x) j ≤ count c j
 slice_asks o v fits rows c vector closed i x there last up j = elim (cases_lt j (length v.lens)) [
   | inl less ↦ omega (
@@ -171,7 +171,7 @@ slice_asks o v fits rows c vector closed i x there last up j = elim (cases_lt j 
   | inr past ↦ omega (arith, count_past (row_words v i x) j (omega (arith, past, length-filled v.lens (last_row (slice_of v) i x) (last_is_row v rows i x))))
 ]
 
-pub slice_begins : (o : Clocks) (v : SliceView) → FitsOrder o v → AreRows v → (words : List ℕ) → length words ≡ (sum v.lens + 1) * length v.lens
+pub slice_begins : (o : Clocks) (v : SliceView) → FitsOrder o v → HasAllRows v → (words : List ℕ) → length words ≡ (sum v.lens + 1) * length v.lens
     → ((row : ℕ) → row ≤ sum v.lens → IsSliceRow v row (row_at v.lens words row)) → AreWithinClosed v.lens (pulls_of_slice v) words
 slice_begins o v fits rows words size each = record {
   size = size;

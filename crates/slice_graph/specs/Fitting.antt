@@ -29,6 +29,6 @@ abbrev pub ClosedCuts : Clocks → SystemView → Cut → Type 0
 ClosedCuts o system c = IsConsistent o c × IsClosed system c
 
 -- of a vector the cut is kept, and none where a component is above its length
-abbrev pub IsKept : List ℕ → List ℕ → Option Cut → Type 0
-IsKept lens vector None = IsWithin vector lens → ⊥
-IsKept lens vector (Some c) = (c ≡ vector) × IsWithin vector lens
+abbrev pub IsCutOfVector : List ℕ → List ℕ → Option Cut → Type 0
+IsCutOfVector lens vector None = IsWithin vector lens → ⊥
+IsCutOfVector lens vector (Some c) = (c ≡ vector) × IsWithin vector lens

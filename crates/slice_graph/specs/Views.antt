@@ -38,7 +38,7 @@ pub record AreCuts (v : SliceView) : Type 0 where
   pub each : (row : ℕ) → IsRow v.lens (get_or v.rows row no_row)
 
 -- there is one row for the bottom and one for each event
-pub record AreRows (v : SliceView) : Type 0 where
+pub record HasAllRows (v : SliceView) : Type 0 where
   pub cuts : AreCuts v
   pub count : length v.rows ≡ sum v.lens + 1
 

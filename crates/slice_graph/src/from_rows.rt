@@ -9,7 +9,7 @@ ghost use Rattle.run_model.specs.Slice.{StandsFor, Cuts};
 ghost use Rattle.pull_system.specs.System.{SystemView, IsSystem, IsClosed};
 ghost use Rattle.pull_system.specs.Rows.{AreLeastRows, row_at};
 ghost use Rattle.slice_graph.specs.Views.{SliceView, IsRow, no_row, slice_of};
-ghost use Rattle.slice_graph.specs.Fitting.{FitsOrder, HasOrder, ClosedCuts, IsKept};
+ghost use Rattle.slice_graph.specs.Fitting.{FitsOrder, HasOrder, ClosedCuts, IsCutOfVector};
 
 use crate::slice::Slice;
 use crate::table::CutTable;
@@ -27,7 +27,7 @@ impl Slice {
         requires { rows.now.lens ≡ lengths order.now }
         ensures lens { IfOk result (λ slice. slice.lens ≡ lengths order.now) }
         ensures kept { IfOk result (λ slice. (row : ℕ) → row ≤ sum rows.now.lens
-            → IsKept rows.now.lens (row_at rows.now.lens rows.now.words row)
+            → IsCutOfVector rows.now.lens (row_at rows.now.lens rows.now.words row)
             (get_or slice.rows row no_row)) }
         ensures stands { IfOk result (λ slice. (system : SystemView)
             → system.lens ≡ lengths order.now
@@ -95,7 +95,7 @@ fn push_kept(table: &mut CutTable, rows: &Rows, row: u32, cut: &mut [u32]) -> Re
     requires width { length cut.old ≡ length rows.now.lens }
     ensures width { length cut.new ≡ length cut.old }
     ensures pushed { OnOk result ((kept : Option CutOfRun)
-        × IsKept rows.now.lens (row_at rows.now.lens rows.now.words row) kept
+        × IsCutOfVector rows.now.lens (row_at rows.now.lens rows.now.words row) kept
         × (table.new ≡ record table.old { rows = table.old.rows ++ kept ∷ [] })) }
 {
     let shape = rows.shape();

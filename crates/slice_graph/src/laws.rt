@@ -11,10 +11,10 @@ ghost use Rattle.pull_system.specs.declared.pull.Pull.{Pull};
 ghost use Rattle.pull_system.specs.System.{SystemView, IsSystem, no_pull};
 ghost use Rattle.pull_system.specs.Rows.{IsLeast, AreLeastRows, row_at};
 ghost use Rattle.pull_system.specs.Growth.{PullGrows};
-ghost use Rattle.slice_graph.specs.Views.{SliceView, AreRows, no_row};
+ghost use Rattle.slice_graph.specs.Views.{SliceView, HasAllRows, no_row};
 ghost use Rattle.slice_graph.specs.Words.{filled};
 ghost use Rattle.slice_graph.specs.Starting.{AreWithinClosed};
-ghost use Rattle.slice_graph.specs.Fitting.{FitsOrder, HasOrder, ClosedCuts, IsKept};
+ghost use Rattle.slice_graph.specs.Fitting.{FitsOrder, HasOrder, ClosedCuts, IsCutOfVector};
 ghost use Rattle.slice_graph.specs.PullLists.{pulls_of_order, pulls_of_slice};
 
 /// A system whose pulls begin with those of an order has the order's pulls.
@@ -28,12 +28,12 @@ pub fn systems_of_an_order()
 pub fn least_or_none()
     ensures bottom { (o : Clocks) (system : SystemView) → system.lens ≡ lengths o
         → HasOrder o system → (vector : List ℕ) → IsLeast system 0 vector
-        → (kept : Option Cut) → IsKept system.lens vector kept
+        → (kept : Option Cut) → IsCutOfVector system.lens vector kept
         → IsLeastOf (ClosedCuts o system) kept }
     ensures event { (o : Clocks) (system : SystemView) → system.lens ≡ lengths o
         → HasOrder o system → (e : EventId) → HasEvent system.lens e
         → (vector : List ℕ) → IsLeast system (row_of system.lens e) vector
-        → (kept : Option Cut) → IsKept system.lens vector kept
+        → (kept : Option Cut) → IsCutOfVector system.lens vector kept
         → IsLeastOf (Having (ClosedCuts o system) e.process e.position) kept }
 {}
 
@@ -50,7 +50,7 @@ pub fn order_grows()
 
 /// The rows of a slice are the least closed vectors of its own pulls, with a cut or without.
 pub fn rows_of_one_slice()
-    ensures { (o : Clocks) (v : SliceView) → FitsOrder o v → AreRows v
+    ensures { (o : Clocks) (v : SliceView) → FitsOrder o v → HasAllRows v
         → IsSystem (record { lens = v.lens; pulls = pulls_of_slice v }) → (words : List ℕ)
         → ((row : ℕ) → row ≤ sum v.lens
         → row_at v.lens words row ≡ filled v.lens (get_or v.rows row no_row))

@@ -29,17 +29,17 @@ pub struct Slice {
 
 impl Model for Slice {
     ghost use Rattle.std.specs.Prelude.{◌≡◌};
-    ghost use Rattle.slice_graph.specs.Views.{SliceView, AreRows, joined_rows};
+    ghost use Rattle.slice_graph.specs.Views.{SliceView, HasAllRows, joined_rows};
 
     ghost Value = { SliceView };
 
     ghost view = { λ s. s.table };
 
-    ghost invariant = { λ s. AreRows s.table × (s.top ≡ joined_rows s.table) };
+    ghost invariant = { λ s. HasAllRows s.table × (s.top ≡ joined_rows s.table) };
 }
 
 impl Slice {
-    ghost use Rattle.slice_graph.specs.Views.{AreRows, IsCut, IsRow, HasLasts};
+    ghost use Rattle.slice_graph.specs.Views.{HasAllRows, IsCut, IsRow, HasLasts};
     ghost use Rattle.slice_graph.specs.Words.{row_words};
     ghost use Rattle.slice_graph.specs.Fitting.{FitsOrder};
 
@@ -73,7 +73,7 @@ impl Slice {
 
     pub fn shape(&self) -> &Shape
         ensures lens { result.now ≡ self.now.lens }
-        ensures rows { AreRows self.now }
+        ensures rows { HasAllRows self.now }
     {
         self.table.shape()
     }

@@ -3,7 +3,7 @@ use Rattle.std.proofs.Common.{◌≡◌, ℕ, zero, suc, ◌+◌, ◌-◌, ◌<�
 use Rattle.std.specs.Prelude.{nat_le, if◌then◌else◌}
 use Rattle.std.proofs.lemmas.Bool.{le-leb, lt-leb}
 use Rattle.std.proofs.lemmas.List.Sums.{sum_by-cons}
-use Rattle.pull_system.specs.Vector.{IsWithin}
+use Rattle.pull_system.specs.Vector.{IsAtMost}
 use Rattle.pull_system.specs.System.{SystemView, IsSystem}
 use Rattle.pull_system.specs.Rows.{RowsView, AreLeastRows, start_of, row_at}
 use Rattle.pull_system.specs.Growth.{Grows, Stays, old_row_from, old_row, grown_words}
@@ -32,7 +32,7 @@ old_row_at before (old ∷ olds) (len ∷ lens) (suc p) k size there one few gro
     ∙ old_row_at (before + old) olds lens p k (omega arith) (omega arith) one few (λ i. grow (suc i))
     ∙ ap (λ (n : ℕ). Some n) place
 
-start_rises : (lens : List ℕ) (p k m : ℕ) → p < length lens → 1 ≤ k → k ≤ m → m ≤ get_or lens p 0 → IsWithin (start_of lens (sum (take p lens) + k)) (start_of lens (sum (take p lens) + m))
+start_rises : (lens : List ℕ) (p k m : ℕ) → p < length lens → 1 ≤ k → k ≤ m → m ≤ get_or lens p 0 → IsAtMost (start_of lens (sum (take p lens) + k)) (start_of lens (sum (take p lens) + m))
 start_rises lens p k m there one less few = record {
   each = λ i.
       let low = start_of-event lens p k (omega arith) one (omega arith) in
@@ -52,7 +52,7 @@ sum_old (len ∷ lens) (suc p) k few there = omega (arith, sum_by-cons (λ (n : 
 
 pub first_final : (before after : SystemView) → IsSystem before → Grows before after → Stays before after → (old : RowsView) → old.lens ≡ before.lens → AreLeastRows before old.words
     → (p m : ℕ) → p < length before.lens → 1 ≤ m → m ≤ get_or before.lens p 0
-    → IsWithin (row_at before.lens old.words (sum (take p before.lens) + m)) before.lens
+    → IsAtMost (row_at before.lens old.words (sum (take p before.lens) + m)) before.lens
     → ReachesFirst after p m (grown_words after.lens old)
 first_final before after is grows stays old same least p m there some few within = record {
   each = λ k one less.
@@ -64,10 +64,10 @@ first_final before after is grows stays old same least p m there some few within
       let w = least.each (sum (take p before.lens) + m) (sum_old before.lens p m few there) in
       let rises = start_rises before.lens p k m there one less few in
       let below = v.least _ record { vector = w.closed.vector; above = record { each = λ i. omega (arith, rises.each i, w.closed.above.each i) }; closed = w.closed.closed } in
-      let here : IsWithin (row_at before.lens old.words kept) before.lens = record { each = λ i. omega (arith, below.each i, within.each i) } in
+      let here : IsAtMost (row_at before.lens old.words kept) before.lens = record { each = λ i. omega (arith, below.each i, within.each i) } in
       let found : old_row before.lens after.lens row ≡ Some kept = old_row_at 0 before.lens after.lens p k grows.fell.count after_there one (omega arith) grows.fell.each ∙ ap (λ (n : ℕ). Some n) (let z : 0 + kept ≡ kept = omega arith in z) in
       let F : List ℕ → Type 0 = λ l. old_row l after.lens row ≡ Some kept in
-      let W : List ℕ → Type 0 = λ l. IsWithin (row_at l old.words kept) l in
+      let W : List ℕ → Type 0 = λ l. IsAtMost (row_at l old.words kept) l in
       let row_there : row ≤ sum after.lens = sum_old after.lens p k fits after_there in
       record {
         vector = row_at after.lens (grown_words after.lens old) row;

@@ -3,19 +3,19 @@ use Rattle.std.proofs.Common.{◌≡◌, ℕ, zero, suc, ◌+◌, ◌-◌, ◌*�
 use Rattle.std.specs.Prelude.{if◌then◌else◌}
 use Rattle.std.proofs.lemmas.List.Sums.{sum_by-cons, sum_by-set}
 use Rattle.std.proofs.Math.Nat.{mul-le-mul_left}
-use Rattle.pull_system.specs.Vector.{IsWithin}
+use Rattle.pull_system.specs.Vector.{IsAtMost}
 use Rattle.pull_system.specs.System.{SystemView}
 use Rattle.pull_system.specs.Climb.{marked}
 use Rattle.pull_system.proofs.Climbing.{set_case}
 use Rattle.bound_table.specs.Views.{SeatView}
-use Rattle.slice_workers.specs.Reaching.{rows_left, AreHanded, HasReached, handed_events, ReachesFirst}
+use Rattle.slice_workers.specs.Reaching.{rows_left, AreHanded, HasReachedRows, handed_events, ReachesFirst}
 use Rattle.slice_workers.specs.Calls.{IsPaid}
 use Rattle.slice_workers.specs.Settling.{HasOnlyRisen, HasSettled, process_looks}
 use Rattle.slice_workers.proofs.Reached.{handed_more, handed_set, final_more, reached_more}
 
 pub passed_none : (system : SystemView) (finals bottom : List ℕ) (old new : SeatView) (handed : List Bool) (steps : ℕ) → new.table ≡ old.table → new.floor ≡ old.floor → AreHanded system old.floor handed → HasSettled system finals bottom old new handed handed steps steps
 passed_none system finals bottom old new handed steps table floor are =
-    let P : List ℕ → Type 0 = λ f. IsWithin old.floor f × AreHanded system f handed in
+    let P : List ℕ → Type 0 = λ f. IsAtMost old.floor f × AreHanded system f handed in
     let now : P new.floor = subst P (sym floor) (record { each = λ i. omega arith }, are) in record {
       table = table;
       rises = now.0;
@@ -36,8 +36,8 @@ passed_on system finals bottom a b c x y z s t u first second = record {
 }
 
 -- what the floor had reached stays reached, and the rows of the processes that were done as well
-pub passed_reaches : (system : SystemView) (finals bottom : List ℕ) (old new : SeatView) (before after : List Bool) (steps steps_now : ℕ) → HasReached system old.floor finals bottom before → HasSettled system finals bottom old new before after steps steps_now
-    → HasReached system new.floor finals bottom after
+pub passed_reaches : (system : SystemView) (finals bottom : List ℕ) (old new : SeatView) (before after : List Bool) (steps steps_now : ℕ) → HasReachedRows system old.floor finals bottom before → HasSettled system finals bottom old new before after steps steps_now
+    → HasReachedRows system new.floor finals bottom after
 passed_reaches system finals bottom old new before after steps steps_now has settled = record {
   finals = final_more system _ _ finals settled.rises has.finals;
   bottom = reached_more system 0 _ _ bottom settled.rises has.bottom;

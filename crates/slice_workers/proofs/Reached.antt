@@ -2,7 +2,7 @@
 use Rattle.std.proofs.Common.{◌≡◌, ℕ, zero, suc, refl, ◌+◌, ◌-◌, ◌<◌, ◌≤◌, ◌⊎◌, inl, inr, Bool, true, false, List, [], ◌∷◌, length, get_or, set, sum, take, replicate, arith, sym, ap, ◌∙◌, subst}
 use Rattle.std.proofs.lemmas.List.{length-set, ext_get_or}
 use Rattle.std.proofs.lemmas.List.Sums.{sum_by-cons}
-use Rattle.pull_system.specs.Vector.{IsWithin, IsMaximum}
+use Rattle.pull_system.specs.Vector.{IsAtMost, IsMaximum}
 use Rattle.pull_system.specs.System.{SystemView}
 use Rattle.pull_system.specs.Rows.{IsLeast, AreLeastRows, row_at, place_of}
 use Rattle.pull_system.proofs.Climbing.{set_case, lt_or_le}
@@ -13,21 +13,21 @@ use Rattle.raise_machine.specs.Bounds.{AreBounds, word_at, has_start}
 use Rattle.raise_machine.proofs.Raising.{word_below, has_start-bottom, has_start-event}
 use Rattle.bound_table.proofs.Lends.{has_start_next}
 use Rattle.bound_table.specs.Kept.{Follows}
-use Rattle.slice_workers.specs.Reaching.{Reaches, IsReached, ReachesAll, ReachesFirst, AreHanded, AreFinal, HasReached, row_before}
+use Rattle.slice_workers.specs.Reaching.{Reaches, IsReached, ReachesAll, ReachesFirst, AreHanded, AreFinal, HasReachedRows, row_before}
 use Rattle.pull_system.proofs.Sums.{sum-within}
 use Rattle.pull_system.proofs.Starts.{start_of-bottom}
 
-pub reaches_more : (system : SystemView) (row : ℕ) (floor now : List ℕ) → IsWithin floor now → Reaches system row floor → Reaches system row now
+pub reaches_more : (system : SystemView) (row : ℕ) (floor now : List ℕ) → IsAtMost floor now → Reaches system row floor → Reaches system row now
 reaches_more system row floor now within reaches = record {
   vector = reaches.vector;
   is = reaches.is;
   below = λ process there. omega (arith, reaches.below process there, within.each (place_of system.lens row process));
 }
 
-pub first_more : (system : SystemView) (process count : ℕ) (floor now : List ℕ) → IsWithin floor now → ReachesFirst system process count floor → ReachesFirst system process count now
+pub first_more : (system : SystemView) (process count : ℕ) (floor now : List ℕ) → IsAtMost floor now → ReachesFirst system process count floor → ReachesFirst system process count now
 first_more system process count floor now within first = record { each = λ position one less. reaches_more system _ floor now within (first.each position one less) }
 
-pub handed_more : (system : SystemView) (floor now : List ℕ) (handed : List Bool) → IsWithin floor now → AreHanded system floor handed → AreHanded system now handed
+pub handed_more : (system : SystemView) (floor now : List ℕ) (handed : List Bool) → IsAtMost floor now → AreHanded system floor handed → AreHanded system now handed
 handed_more system floor now handed within are = record {
   size = are.size;
   there = are.there;
@@ -68,10 +68,10 @@ handed_set system floor handed process there are first = record {
 }
 
 -- what two seats have reached is reached where they met
-pub met_left : (v w m : List ℕ) → IsMaximum v w m → IsWithin v m
+pub met_left : (v w m : List ℕ) → IsMaximum v w m → IsAtMost v m
 met_left v w m maximum = record { each = λ i. omega (arith, maximum.each i) }
 
-pub met_right : (v w m : List ℕ) → IsMaximum v w m → IsWithin w m
+pub met_right : (v w m : List ℕ) → IsMaximum v w m → IsAtMost w m
 met_right v w m maximum = record { each = λ i. omega (arith, maximum.each i) }
 
 pub handed_met : (system : SystemView) (v w m : List ℕ) (handed more now : List Bool) → IsMaximum v w m → AreHanded system v handed → AreHanded system w more → length now ≡ 32
@@ -150,18 +150,18 @@ follows_reaches system row old new v follows least = record { vector = v; is = l
 pub reaches_row : (system : SystemView) (row : ℕ) (floor v : List ℕ) → IsReached system row floor v → Reaches system row floor
 reaches_row system row floor v is = record { vector = v; is = is.least; below = is.lent }
 
-pub reached_more : (system : SystemView) (row : ℕ) (floor now v : List ℕ) → IsWithin floor now → IsReached system row floor v → IsReached system row now v
+pub reached_more : (system : SystemView) (row : ℕ) (floor now v : List ℕ) → IsAtMost floor now → IsReached system row floor v → IsReached system row now v
 reached_more system row floor now v within is = record { least = is.least; lent = λ i there. omega (arith, is.lent i there, within.each (place_of system.lens row i)) }
 
 -- a row, once settled
 pub settled_row : (system : SystemView) (row : ℕ) (old new v : List ℕ) → Follows system row old new v → IsLeast system row v → IsReached system row new v
 settled_row system row old new v follows least = record { least = least; lent = λ i there. omega (arith, follows.each i there) }
 
-pub within_refl : (v : List ℕ) → IsWithin v v
+pub within_refl : (v : List ℕ) → IsAtMost v v
 within_refl v = record { each = λ i. omega arith }
 
-pub within_along : (v w x : List ℕ) → w ≡ x → IsWithin v w → IsWithin v x
-within_along v w x same within = let P : List ℕ → Type 0 = IsWithin v in subst P same within
+pub within_along : (v w x : List ℕ) → w ≡ x → IsAtMost v w → IsAtMost v x
+within_along v w x same within = let P : List ℕ → Type 0 = IsAtMost v in subst P same within
 
 -- the row before on the process, or the bottom's before the first
 pub data IsBefore (lens : List ℕ) (process done before : ℕ) : Type 0 where
@@ -184,7 +184,7 @@ event_lends lens floor row from_row process position count there first last few 
     let event : EventId = record { process = process; position = position } in
     has_start-event lens floor row from_row event record { process = omega arith; first = first; last = last } (sym same) ∙ le-leb position (word_at lens floor row process) (omega arith)
 
-pub all_more : (system : SystemView) (floor now : List ℕ) → IsWithin floor now → ReachesAll system floor → ReachesAll system now
+pub all_more : (system : SystemView) (floor now : List ℕ) → IsAtMost floor now → ReachesAll system floor → ReachesAll system now
 all_more system floor now within all = record { each = λ row there. reaches_more system row floor now within (all.each row there) }
 
 pub is_before : (lens : List ℕ) (process done before : ℕ) → before ≡ row_before lens process done → IsBefore lens process done before
@@ -211,7 +211,7 @@ bottom_sum system row bottom v least other =
     sum-within bottom v (least.closed.vector.size ∙ sym other.closed.vector.size)
     (least.least v record { vector = other.closed.vector; above = record { each = λ i. omega (arith, start_of-bottom system.lens i) }; closed = other.closed.closed }).each
 
-pub final_more : (system : SystemView) (floor now finals : List ℕ) → IsWithin floor now → AreFinal system floor finals → AreFinal system now finals
+pub final_more : (system : SystemView) (floor now finals : List ℕ) → IsAtMost floor now → AreFinal system floor finals → AreFinal system now finals
 final_more system floor now finals within are = record {
   size = are.size;
   few = are.few;
@@ -219,7 +219,7 @@ final_more system floor now finals within are = record {
 }
 
 -- the bottom's row is settled, and what the floor had reached stays reached
-pub bottom_reaches : (system : SystemView) (old new v finals : List ℕ) (handed : List Bool) → Follows system 0 old new v → IsLeast system 0 v → AreFinal system old finals → AreHanded system old handed → HasReached system new finals v handed
+pub bottom_reaches : (system : SystemView) (old new v finals : List ℕ) (handed : List Bool) → Follows system 0 old new v → IsLeast system 0 v → AreFinal system old finals → AreHanded system old handed → HasReachedRows system new finals v handed
 bottom_reaches system old new v finals handed follows least final are = record {
   finals = final_more system old new finals follows.rises final;
   bottom = settled_row system 0 old new v follows least;

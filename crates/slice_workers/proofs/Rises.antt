@@ -4,7 +4,7 @@ use Rattle.std.proofs.lemmas.List.{ext_get_or, take_all}
 use Rattle.std.proofs.lemmas.List.Sums.{sum_by-append}
 use Rattle.std.proofs.Math.Seq.{take-add}
 use Rattle.std.proofs.Math.Nat.{mul-le-mul_left}
-use Rattle.pull_system.specs.Vector.{IsWithin}
+use Rattle.pull_system.specs.Vector.{IsAtMost}
 use Rattle.pull_system.specs.System.{SystemView}
 use Rattle.pull_system.specs.Rows.{row_at}
 use Rattle.pull_system.proofs.Starts.{get_or-row_at, length-row_at}
@@ -77,7 +77,7 @@ module _ (system : SystemView) (row : ℕ) (old new v : List ℕ) (row_there : r
 
 -- a row that was raised and settled pays for its look-ups
 pub row_paid : (system : SystemView) (row : ℕ) (first old new v : List ℕ) (steps steps_now : ℕ) → row ≤ sum system.lens → length old ≡ (sum system.lens + 1) * length system.lens → Follows system row old new v
-    → IsWithin first old → AreBounds system old → steps_now + length system.pulls * sum (row_at system.lens old row) ≤ steps + length system.pulls * (1 + sum v)
+    → IsAtMost first old → AreBounds system old → steps_now + length system.pulls * sum (row_at system.lens old row) ≤ steps + length system.pulls * (1 + sum v)
     → length first ≡ length old → steps_now + length system.pulls * sum first ≤ steps + length system.pulls * (1 + sum new)
 row_paid system row first old new v steps steps_now there size follows within bounds looks size_first =
     let pulls : ℕ = length system.pulls in
@@ -108,7 +108,7 @@ pub here_paid : (pulls start steps steps_now old mid new before events all : ℕ
 here_paid pulls start steps steps_now old mid new before events all few first rest = omega (arith, first, rest, mul-le-mul_left pulls few)
 
 -- a floor that rose further
-pub takes_more : (system : SystemView) (left : List ℕ) (old mid new : SeatView) (steps steps_now : ℕ) → AreBounds system mid.floor → AreBounds system new.floor → IsWithin mid.floor new.floor → TakesLooks system left old mid steps steps_now → TakesLooks system left old new steps steps_now
+pub takes_more : (system : SystemView) (left : List ℕ) (old mid new : SeatView) (steps steps_now : ℕ) → AreBounds system mid.floor → AreBounds system new.floor → IsAtMost mid.floor new.floor → TakesLooks system left old mid steps steps_now → TakesLooks system left old new steps steps_now
 takes_more system left old mid new steps steps_now bounds bounds_now rises takes =
     let more : sum mid.floor ≤ sum new.floor = sum-within _ _ (bounds.size ∙ sym bounds_now.size) rises.each in record {
       looks = takes.looks;

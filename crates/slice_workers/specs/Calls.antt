@@ -1,6 +1,6 @@
 -- What a call that settles all rows leaves: the seat, the rows that it gives, and what it takes.
 use Rattle.std.specs.Prelude.{◌≡◌, ℕ, ◌+◌, ◌*◌, ◌≤◌, List, length, sum}
-use Rattle.pull_system.specs.Vector.{IsWithin}
+use Rattle.pull_system.specs.Vector.{IsAtMost}
 use Rattle.pull_system.specs.System.{SystemView}
 use Rattle.pull_system.specs.Rows.{RowsView, AreLeastRows}
 use Rattle.bound_table.specs.Views.{SeatView}
@@ -8,7 +8,7 @@ use Rattle.bound_table.specs.Views.{SeatView}
 -- the seat is of the same table, and no number of its floor fell
 pub record HasRisen (old new : SeatView) : Type 0 where
   pub table : new.table ≡ old.table
-  pub rises : IsWithin old.floor new.floor
+  pub rises : IsAtMost old.floor new.floor
 
 -- the rows are the least of the system, and the floor has them
 pub record AreSettledRows (system : SystemView) (words : List ℕ) (rows : RowsView) : Type 0 where

@@ -35,7 +35,7 @@ pub record CanSettle (system : SystemView) (floor vector : List ℕ) (process co
   pub kept : ReachesFirst system process count floor
 
 -- both rows are there, and the floor lets the first of them lend to the other
-pub record MayLend (lens floor : List ℕ) (from_row to_row : ℕ) : Type 0 where
+pub record MayLendTo (lens floor : List ℕ) (from_row to_row : ℕ) : Type 0 where
   pub from : from_row ≤ sum lens
   pub to : to_row ≤ sum lens
   pub event : has_start lens floor to_row from_row ≡ true
@@ -70,7 +70,7 @@ pub record AreFinal (system : SystemView) (floor finals : List ℕ) : Type 0 whe
 
 -- what the floor has reached: the first rows of each process, the bottom's row, whose vector it is,
 -- and all rows of the processes that are marked
-pub record HasReached (system : SystemView) (floor counts vector : List ℕ) (marks : List Bool)
+pub record HasReachedRows (system : SystemView) (floor counts vector : List ℕ) (marks : List Bool)
     : Type 0 where
   pub finals : AreFinal system floor counts
   pub bottom : IsReached system 0 floor vector

@@ -1,18 +1,18 @@
 -- What settling more rows does to a seat, to the marks of what is done, and to the count of steps.
 use Rattle.std.specs.Prelude.{◌≡◌, ℕ, ◌+◌, ◌-◌, ◌*◌, ◌≤◌, List, Bool, true, false, length, sum}
 use Rattle.std.specs.Prelude.{slice_index_or}
-use Rattle.pull_system.specs.Vector.{IsWithin}
+use Rattle.pull_system.specs.Vector.{IsAtMost}
 use Rattle.pull_system.specs.System.{SystemView}
 use Rattle.pull_system.specs.Climb.{marked}
 use Rattle.raise_machine.specs.Bounds.{AreBounds}
 use Rattle.bound_table.specs.Views.{SeatView, KeepsClaims}
 use Rattle.slice_workers.specs.Calls.{IsPaid}
-use Rattle.slice_workers.specs.Reaching.{AreHanded, HasReached, handed_events, rows_left}
+use Rattle.slice_workers.specs.Reaching.{AreHanded, HasReachedRows, handed_events, rows_left}
 
 -- the seat claims what it claimed, no number of its floor fell, and the floor is within the bounds
 pub record HasOnlyRisen (system : SystemView) (old new : SeatView) : Type 0 where
   pub keeps : KeepsClaims old new
-  pub rises : IsWithin old.floor new.floor
+  pub rises : IsAtMost old.floor new.floor
   pub bounds : AreBounds system new.floor
 
 -- the most look-ups that the rows of one process take, one after the other, from the bottom's
@@ -26,8 +26,8 @@ process_looks system bottom =
 pub record HasClaimed (system : SystemView) (finals bottom : List ℕ) (old new : SeatView)
     (marks : List Bool) (steps steps_now : ℕ) : Type 0 where
   pub table : new.table ≡ old.table
-  pub rises : IsWithin old.floor new.floor
-  pub reached : HasReached system new.floor finals bottom marks
+  pub rises : IsAtMost old.floor new.floor
+  pub reached : HasReachedRows system new.floor finals bottom marks
   pub looks : steps_now ≤ steps + length system.pulls * (1 + sum bottom)
       + process_looks system bottom * marked marks
   pub rises_paid : IsPaid system (1 + handed_events (rows_left system.lens finals) marks)
@@ -38,7 +38,7 @@ pub record HasClaimed (system : SystemView) (finals bottom : List ℕ) (old new 
 pub record HasSettled (system : SystemView) (finals bottom : List ℕ) (old new : SeatView)
     (before after : List Bool) (steps steps_now : ℕ) : Type 0 where
   pub table : new.table ≡ old.table
-  pub rises : IsWithin old.floor new.floor
+  pub rises : IsAtMost old.floor new.floor
   pub handed : AreHanded system new.floor after
   pub stays : (process : ℕ) → slice_index_or before process false ≡ true
       → slice_index_or after process false ≡ true

@@ -1,6 +1,6 @@
 //! Laws on rows that a later table begins from. The functions do nothing.
 ghost use Rattle.std.specs.Prelude.{◌≡◌, ℕ, ◌<◌, ◌≤◌, ◌+◌, length, sum, take, slice_index};
-ghost use Rattle.pull_system.specs.Vector.{IsWithin};
+ghost use Rattle.pull_system.specs.Vector.{IsAtMost};
 ghost use Rattle.pull_system.specs.System.{SystemView, IsSystem};
 ghost use Rattle.pull_system.specs.Rows.{RowsView, AreLeastRows, row_at};
 ghost use Rattle.pull_system.specs.Growth.{Grows, Stays, grown_words};
@@ -14,6 +14,7 @@ pub fn first_rows_are_final()
         → Stays before after → (old : RowsView) → old.lens ≡ before.lens
         → AreLeastRows before old.words → (process count : ℕ) → process < length before.lens
         → 1 ≤ count → count ≤ slice_index before.lens process
-        → IsWithin (row_at before.lens old.words (sum (take process before.lens) + count)) before.lens
+        → IsAtMost (row_at before.lens old.words (sum (take process before.lens) + count))
+        before.lens
         → ReachesFirst after process count (grown_words after.lens old) }
 {}

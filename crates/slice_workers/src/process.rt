@@ -1,10 +1,10 @@
 //! The rows of one process, settled in order, each from the one before.
 ghost use Rattle.std.specs.Prelude.{◌≡◌, ℕ, ◌+◌, ◌-◌, ◌*◌, ◌<◌, ◌≤◌, length, sum, slice_index};
-ghost use Rattle.pull_system.specs.Vector.{IsWithin};
+ghost use Rattle.pull_system.specs.Vector.{IsAtMost};
 ghost use Rattle.pull_system.specs.Rows.{row_at};
 ghost use Rattle.raise_machine.specs.Bounds.{word_at};
 ghost use Rattle.bound_table.specs.Views.{KeepsClaims};
-ghost use Rattle.slice_workers.specs.Reaching.{CanSettle, IsReached, MayLend, ReachesFirst};
+ghost use Rattle.slice_workers.specs.Reaching.{CanSettle, IsReached, MayLendTo, ReachesFirst};
 ghost use Rattle.slice_workers.specs.Reaching.{row_before};
 ghost use Rattle.slice_workers.specs.Calls.{IsPaid};
 ghost use Rattle.slice_workers.specs.Settling.{HasOnlyRisen, process_looks};
@@ -92,7 +92,7 @@ fn settle_next<L: Ledger>(
 )
     requires fits { seat.old.table ≡ table.now }
     requires process { process < length table.now.system.lens }
-    requires lends { MayLend table.now.system.lens seat.old.floor before row }
+    requires lends { MayLendTo table.now.system.lens seat.old.floor before row }
     requires reached { IsReached table.now.system before seat.old.floor into.old }
     ensures risen { HasOnlyRisen table.now.system seat.old seat.new }
     ensures reached { IsReached table.now.system row seat.new.floor into.new }
@@ -173,7 +173,7 @@ fn lend_others(
     requires counts { (i : ℕ) → i < length table.now.system.lens
         → slice_index counts.now i ≤ word_at table.now.system.lens seat.old.floor row i }
     ensures keeps { KeepsClaims seat.old seat.new }
-    ensures rises { IsWithin seat.old.floor seat.new.floor }
+    ensures rises { IsAtMost seat.old.floor seat.new.floor }
 {
     for process in 0..table.system().shape().procs() {
         let i = process as usize;
@@ -192,7 +192,7 @@ fn lend_event(table: &BoundTable, seat: &mut Seat, row: u32, process: u32, count
     requires process { process < length table.now.system.lens }
     requires count { count ≤ word_at table.now.system.lens seat.old.floor row process }
     ensures keeps { KeepsClaims seat.old seat.new }
-    ensures rises { IsWithin seat.old.floor seat.new.floor }
+    ensures rises { IsAtMost seat.old.floor seat.new.floor }
 {
     seat.bounds();
     let shape = table.system().shape();

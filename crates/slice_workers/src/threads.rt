@@ -1,7 +1,7 @@
 //! Workers on threads, each with a seat of its own, and what they hand back.
 ghost use Rattle.std.specs.Prelude.{◌≡◌, ◌⊎◌, ℕ, ◌<◌, ◌≤◌, All, true, false, length};
 ghost use Rattle.std.specs.Prelude.{slice_index_or, IfOk};
-ghost use Rattle.pull_system.specs.Vector.{IsWithin};
+ghost use Rattle.pull_system.specs.Vector.{IsAtMost};
 ghost use Rattle.slice_workers.specs.Reaching.{AreHanded, AreFinal};
 ghost use Rattle.slice_workers.specs.Jobs.{IsJob, IsDone};
 
@@ -112,7 +112,7 @@ pub(crate) fn meet_all(
     requires dones { All (IsDone table.now) dones.items }
     requires none { (process : ℕ) → slice_index_or handed.old process false ≡ false }
     ensures table { seat.new.table ≡ seat.old.table }
-    ensures rises { IsWithin seat.old.floor seat.new.floor }
+    ensures rises { IsAtMost seat.old.floor seat.new.floor }
     ensures handed { AreHanded table.now.system seat.new.floor handed.new }
 {
     while let Some(done) = dones.pop() {
@@ -126,7 +126,7 @@ fn meet_one(table: &BoundTable, seat: &mut Seat, done: Done, handed: &mut [bool;
     requires done { IsDone table.now done }
     requires handed { AreHanded table.now.system seat.old.floor handed.old }
     ensures table { seat.new.table ≡ seat.old.table }
-    ensures rises { IsWithin seat.old.floor seat.new.floor }
+    ensures rises { IsAtMost seat.old.floor seat.new.floor }
     ensures handed { AreHanded table.now.system seat.new.floor handed.new }
 {
     let Done {

@@ -1,7 +1,7 @@
 //! Which processes a worker settles, and what is left to the calling thread.
 ghost use Rattle.std.specs.Prelude.{◌≡◌, ◌≢◌, ℕ, ◌<◌, ◌≤◌, true, false, length};
 ghost use Rattle.std.specs.Prelude.{slice_index_or, slice_set};
-ghost use Rattle.slice_workers.specs.Reaching.{AreFinal, HasReached};
+ghost use Rattle.slice_workers.specs.Reaching.{AreFinal, HasReachedRows};
 ghost use Rattle.slice_workers.specs.Settling.{HasClaimed, HasSettled};
 
 use crate::process::settle_process;
@@ -55,7 +55,7 @@ pub(crate) fn settle_rest<L: Ledger>(
 )
     requires fits { seat.old.table ≡ table.now }
     requires into { length into.old ≡ length table.now.system.lens }
-    requires reached { HasReached table.now.system seat.old.floor finals.now bottom.now
+    requires reached { HasReachedRows table.now.system seat.old.floor finals.now bottom.now
         handed.old }
     ensures settled { HasSettled table.now.system finals.now bottom.now seat.old seat.new
         handed.old handed.new steps.old steps.new }
@@ -82,7 +82,7 @@ fn claim_one<L: Ledger>(
     requires few { length table.now.system.lens ≤ 32 }
     requires process { process < length table.now.system.lens }
     requires into { length into.old ≡ length table.now.system.lens }
-    requires reached { HasReached table.now.system seat.old.floor finals.now bottom.now
+    requires reached { HasReachedRows table.now.system seat.old.floor finals.now bottom.now
         handed.old }
     requires free { slice_index_or handed.old process false ≡ false }
     ensures settled { HasSettled table.now.system finals.now bottom.now seat.old seat.new
@@ -110,7 +110,7 @@ fn settle_left<L: Ledger>(
     requires few { length table.now.system.lens ≤ 32 }
     requires process { process < length table.now.system.lens }
     requires into { length into.old ≡ length table.now.system.lens }
-    requires reached { HasReached table.now.system seat.old.floor finals.now bottom.now
+    requires reached { HasReachedRows table.now.system seat.old.floor finals.now bottom.now
         handed.old }
     ensures settled { HasSettled table.now.system finals.now bottom.now seat.old seat.new
         handed.old handed.new steps.old steps.new }
@@ -136,7 +136,7 @@ fn settle_marked<L: Ledger>(
     requires few { length table.now.system.lens ≤ 32 }
     requires process { process < length table.now.system.lens }
     requires into { length into.old ≡ length table.now.system.lens }
-    requires reached { HasReached table.now.system seat.old.floor finals.now bottom.now
+    requires reached { HasReachedRows table.now.system seat.old.floor finals.now bottom.now
         handed.old }
     requires free { slice_index_or handed.old process false ≡ false }
     ensures settled { HasSettled table.now.system finals.now bottom.now seat.old seat.new

@@ -14,7 +14,7 @@ use Rattle.run_model.proofs.Paths.{next_time_from}
 use Rattle.pull_system.specs.declared.pull.Pull.{Pull}
 use Rattle.pull_system.specs.System.{IsPull}
 use Rattle.pull_system.specs.Pulls.{HoldsAt, ClosedUnder}
-use Rattle.slice_graph.specs.Views.{SliceView, slice_of, last_row, IsCut, AreRows, HasLasts}
+use Rattle.slice_graph.specs.Views.{SliceView, slice_of, last_row, IsCut, HasAllRows, HasLasts}
 use Rattle.slice_graph.specs.Words.{row_words}
 use Rattle.slice_graph.specs.Fitting.{FitsOrder}
 use Rattle.slice_graph.proofs.Words.{filled_most, filled_within, length-filled}
@@ -81,7 +81,7 @@ pub entry_gone : (v : SliceView) (p i j x : ℕ) → count v.lens i < with_one p
 entry_gone v p i j x gt =
     cond-false (leb (with_one p i x) (count v.lens i)) (one_less p j (count (row_words v i (with_one p i x)) j)) (count v.lens j + 1) (lt-leb (with_one p i x) (count v.lens i) gt)
 
-pub entry_most : (v : SliceView) → AreRows v → (p i j x : ℕ) → next_entry v p i j x ≤ count v.lens j + 1
+pub entry_most : (v : SliceView) → HasAllRows v → (p i j x : ℕ) → next_entry v p i j x ≤ count v.lens j + 1
 entry_most v rows p i j x = elim (cases_lt (count v.lens i) (with_one p i x)) [
   | inl gone ↦ omega (arith, entry_gone v p i j x gone)
   | inr le ↦ omega (
@@ -92,7 +92,7 @@ entry_most v rows p i j x = elim (cases_lt (count v.lens i) (with_one p i x)) [
   )
 ]
 
-entries_rise : (o : Clocks) (v : SliceView) → FitsOrder o v → AreRows v → (p i j x y : ℕ) → j < length v.lens → x ≤ y → next_entry v p i j x ≤ next_entry v p i j y
+entries_rise : (o : Clocks) (v : SliceView) → FitsOrder o v → HasAllRows v → (p i j x y : ℕ) → j < length v.lens → x ≤ y → next_entry v p i j x ≤ next_entry v p i j y
 entries_rise o v fits rows p i j x y process up =
     let more = with_one_rises p i x y up in
     elim (cases_lt (count v.lens i) (with_one p i y)) [
@@ -112,7 +112,7 @@ entries_rise o v fits rows p i j x y process up =
 abbrev the_pull : SliceView → ℕ → ℕ → ℕ → Pull
 the_pull v p i j = record { src = i; dst = j; table = next_table v p i j }
 
-pub next_pulls_fit : (o : Clocks) (v : SliceView) → FitsOrder o v → AreRows v → (p : ℕ) → All (IsPull v.lens) (pulls_of_next v p)
+pub next_pulls_fit : (o : Clocks) (v : SliceView) → FitsOrder o v → HasAllRows v → (p : ℕ) → All (IsPull v.lens) (pulls_of_next v p)
 next_pulls_fit o v fits rows p = all_pairs (IsPull v.lens) (next_pull v p) (length v.lens) (λ i j lt less.
     All-cons (IsPull v.lens) (the_pull v p i j) [] (record {
       source = lt;
@@ -129,7 +129,7 @@ next_pulls_count v p = length_flat (λ i. flat_map (next_pull v p i) (range_with
 
 -- ---- closed cuts
 
-module _ (o : Clocks) (v : SliceView) (fits : FitsOrder o v) (rows : AreRows v) (p : ℕ) (process : p < length v.lens) (c : Cut) (k : IsConsistent o c) where
+module _ (o : Clocks) (v : SliceView) (fits : FitsOrder o v) (rows : HasAllRows v) (p : ℕ) (process : p < length v.lens) (c : Cut) (k : IsConsistent o c) where
   abbrev next : Cut
   next = with_next c p
 
@@ -200,7 +200,7 @@ module _ (o : Clocks) (v : SliceView) (fits : FitsOrder o v) (rows : AreRows v) 
 
 -- ---- rows of 16 bits
 
-pub asked_small : (v : SliceView) → AreRows v → (p i x : ℕ) (row : List ℕ) → length row ≡ length v.lens → ((j : ℕ) → j < length v.lens → get_or row j 0 ≡ next_entry v p i j x)
+pub asked_small : (v : SliceView) → HasAllRows v → (p i x : ℕ) (row : List ℕ) → length row ≡ length v.lens → ((j : ℕ) → j < length v.lens → get_or row j 0 ≡ next_entry v p i j x)
     → (j : ℕ) → get_or row j 0 < 2 ^ 16
 asked_small v rows p i x row size are j = elim (cases_lt j (length v.lens)) [
   | inl less ↦ omega (arith, are j less, entry_most v rows p i j x, get_or-le-sum_by (λ (n : ℕ). n) v.lens j 0 less, rows.cuts.shape.events)

@@ -2,7 +2,7 @@
 use Rattle.std.proofs.Common.{◌≡◌, ℕ, ◌≤◌, ◌↔◌, length, Option}
 use Rattle.run_model.specs.Cut.{Cut, Clocks, IsWithin, lengths}
 use Rattle.run_model.specs.Consistent.{IsOrder, IsConsistent}
-use Rattle.run_model.specs.Sublattice.{IsClosed, IsLeast, IsGreatest}
+use Rattle.run_model.specs.Sublattice.{IsSublattice, IsLeast, IsGreatest}
 use Rattle.run_model.specs.Slice.{Slice, Cuts, StandsFor}
 use Rattle.run_model.specs.Operators.{SomeTime, EachTime, Staying, HoldsAlways, HasPairs, whole, nowhere, lowered, raised}
 use Rattle.run_model.proofs.SliceLemmas.{exact_slice, cuts_closed}
@@ -22,7 +22,7 @@ pub record IsMade (o : Clocks) (B : Cut → Type 0) (v : SliceView) : Type 0 whe
   pub fits : FitsOrder o v
   pub cuts : (c : Cut) → IsConsistent o c → Cuts o (slice_of v) c ↔ B c
 
-pub made : (o : Clocks) (B : Cut → Type 0) → IsClosed o (ConsistentAnd o B) → (s : Slice) → StandsFor o s (ConsistentAnd o B) → (v : SliceView) → Agrees o s v → IsMade o B v
+pub made : (o : Clocks) (B : Cut → Type 0) → IsSublattice o (ConsistentAnd o B) → (s : Slice) → StandsFor o s (ConsistentAnd o B) → (v : SliceView) → Agrees o s v → IsMade o B v
 made o B closed s stands v agrees =
     let here = agrees_stands o s v (ConsistentAnd o B) agrees stands in
     record {
@@ -35,7 +35,7 @@ made o B closed s stands v agrees =
 
 -- ---- EF
 
-pub ef_closed : (o : Clocks) → IsOrder o → (v : SliceView) → IsClosed o (ConsistentAnd o (SomeTime o (Cuts o (slice_of v))))
+pub ef_closed : (o : Clocks) → IsOrder o → (v : SliceView) → IsSublattice o (ConsistentAnd o (SomeTime o (Cuts o (slice_of v))))
 ef_closed o order v = some_time_closed o order (Cuts o (slice_of v)) (cuts_closed o order (slice_of v))
 
 pub ef_within : (o : Clocks) → IsOrder o → (v : SliceView) (top : Cut) → IsGreatest (Cuts o (slice_of v)) top → (w : SliceView) → Agrees o (lowered (whole o) top) w
@@ -49,7 +49,7 @@ ef_none o order v none = made o (SomeTime o (Cuts o (slice_of v))) (ef_closed o 
 
 -- ---- AG
 
-pub ag_closed : (o : Clocks) → IsOrder o → (v : SliceView) → IsClosed o (ConsistentAnd o (EachTime o (Cuts o (slice_of v))))
+pub ag_closed : (o : Clocks) → IsOrder o → (v : SliceView) → IsSublattice o (ConsistentAnd o (EachTime o (Cuts o (slice_of v))))
 ag_closed o order v = each_time_closed o order (Cuts o (slice_of v)) (cuts_closed o order (slice_of v))
 
 pub ag_from : (o : Clocks) → IsOrder o → (v : SliceView) → FitsOrder o v → (b : Cut) → IsLeast (λ c. IsConsistent o c × HoldsAlways o (slice_of v) c) b
@@ -63,7 +63,7 @@ ag_none o order v none = made o (EachTime o (Cuts o (slice_of v))) (ag_closed o 
 
 -- ---- EG
 
-pub eg_closed : (o : Clocks) → IsOrder o → (v : SliceView) → IsClosed o (ConsistentAnd o (Staying o (Cuts o (slice_of v))))
+pub eg_closed : (o : Clocks) → IsOrder o → (v : SliceView) → IsSublattice o (ConsistentAnd o (Staying o (Cuts o (slice_of v))))
 eg_closed o order v = staying_closed o order (Cuts o (slice_of v)) (cuts_closed o order (slice_of v))
 
 pub eg_from : (o : Clocks) → IsOrder o → (v : SliceView) → FitsOrder o v → Cuts o (slice_of v) (lengths o) → (b : Cut)

@@ -2,7 +2,7 @@
 ghost use Rattle.std.specs.Prelude.{◌≡◌, ◌≤◌, ◌<◌, ◌↔◌, max, nat_lt, if◌then◌else◌, length, IfOk};
 ghost use Rattle.run_model.specs.Cut.{Cut as CutOfRun, count, IsWithin, max_cut, lengths};
 ghost use Rattle.run_model.specs.Consistent.{IsConsistent, clock};
-ghost use Rattle.run_model.specs.Sublattice.{IsClosed, IsLeast};
+ghost use Rattle.run_model.specs.Sublattice.{IsSublattice, IsLeast};
 ghost use Rattle.run_model.specs.Slice.{Cuts, StandsFor};
 ghost use Rattle.run_model.specs.Operators.{EachTime, HoldsAlways};
 ghost use Rattle.slice_graph.specs.Views.{IsCut, slice_of};
@@ -22,7 +22,7 @@ pub fn ag(alloc: Global, order: &Order, child: &Slice) -> Result<Slice, NoMemory
         (λ c. IsConsistent order.now c
         × EachTime order.now (Cuts order.now (slice_of child.now)) c)) }
     ensures fits { IfOk result (λ slice. FitsOrder order.now slice) }
-    ensures closed { IsClosed order.now (λ c. IsConsistent order.now c
+    ensures closed { IsSublattice order.now (λ c. IsConsistent order.now c
         × EachTime order.now (Cuts order.now (slice_of child.now)) c) }
     ensures cuts { IfOk result (λ slice. (c : CutOfRun) → IsConsistent order.now c
         → Cuts order.now (slice_of slice) c

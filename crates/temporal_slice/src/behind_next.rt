@@ -3,7 +3,7 @@ ghost use Rattle.std.specs.Prelude.{◌≡◌, ℕ, ◌+◌, ◌*◌, ◌<◌, �
 ghost use Rattle.std.specs.List.{range_with_len};
 ghost use Rattle.run_model.specs.Cut.{Cut as CutOfRun, count};
 ghost use Rattle.run_model.specs.Consistent.{IsConsistent};
-ghost use Rattle.run_model.specs.Sublattice.{IsClosed};
+ghost use Rattle.run_model.specs.Sublattice.{IsSublattice};
 ghost use Rattle.run_model.specs.Slice.{Cuts};
 ghost use Rattle.run_model.specs.Operators.{NextTime};
 ghost use Rattle.pull_system.specs.System.{IsPull};
@@ -36,7 +36,7 @@ pub fn ex_fans(
     ensures closed { (c : CutOfRun) → IsConsistent order.now c
         → IfOk result (λ fans. ClosedUnder (pulls_of_fans fans) c
         ↔ NextTime order.now process (Cuts order.now (slice_of child.now)) c) }
-    ensures family { IsClosed order.now (λ c. IsConsistent order.now c
+    ensures family { IsSublattice order.now (λ c. IsConsistent order.now c
         × NextTime order.now process (Cuts order.now (slice_of child.now)) c) }
 {
     let _order = order.shape();

@@ -1,7 +1,7 @@
 //! The operators over any closed set that a slice stands for. The functions do nothing.
 ghost use Rattle.run_model.specs.Cut.{Clocks};
 ghost use Rattle.run_model.specs.Consistent.{IsConsistent};
-ghost use Rattle.run_model.specs.Sublattice.{IsClosed};
+ghost use Rattle.run_model.specs.Sublattice.{IsSublattice};
 ghost use Rattle.run_model.specs.Slice.{Slice, Cuts, StandsFor};
 ghost use Rattle.run_model.specs.Operators.{SomeTime, EachTime, Staying};
 
@@ -10,15 +10,15 @@ use run_model::sublattice_laws::SetOfCuts;
 /// What stands for an operator's set over the cuts of a slice stands for it over each closed set
 /// that the slice stands for.
 pub fn operators_of_a_set<A: SetOfCuts>()
-    ensures some_time { (o : Clocks) → IsClosed o A.has → (child made : Slice)
+    ensures some_time { (o : Clocks) → IsSublattice o A.has → (child made : Slice)
         → StandsFor o child A.has
         → StandsFor o made (λ c. IsConsistent o c × SomeTime o (Cuts o child) c)
         → StandsFor o made (λ c. IsConsistent o c × SomeTime o A.has c) }
-    ensures each_time { (o : Clocks) → IsClosed o A.has → (child made : Slice)
+    ensures each_time { (o : Clocks) → IsSublattice o A.has → (child made : Slice)
         → StandsFor o child A.has
         → StandsFor o made (λ c. IsConsistent o c × EachTime o (Cuts o child) c)
         → StandsFor o made (λ c. IsConsistent o c × EachTime o A.has c) }
-    ensures staying { (o : Clocks) → IsClosed o A.has → (child made : Slice)
+    ensures staying { (o : Clocks) → IsSublattice o A.has → (child made : Slice)
         → StandsFor o child A.has
         → StandsFor o made (λ c. IsConsistent o c × Staying o (Cuts o child) c)
         → StandsFor o made (λ c. IsConsistent o c × Staying o A.has c) }

@@ -3,7 +3,7 @@ ghost use Rattle.std.specs.Prelude.{◌≡◌, ℕ, ◌≤◌, ◌<◌, ◌↔�
 ghost use Rattle.pota_base.specs.Shape.{HasEvent};
 ghost use Rattle.run_model.specs.Cut.{Cut as CutOfRun, count, max_cut, lengths};
 ghost use Rattle.run_model.specs.Consistent.{IsConsistent};
-ghost use Rattle.run_model.specs.Sublattice.{IsClosed, IsLeast};
+ghost use Rattle.run_model.specs.Sublattice.{IsSublattice, IsLeast};
 ghost use Rattle.run_model.specs.Slice.{Cuts, StandsFor};
 ghost use Rattle.run_model.specs.Operators.{Staying, HasPairs};
 ghost use Rattle.slice_graph.specs.Views.{IsCut, slice_of};
@@ -25,7 +25,7 @@ pub fn eg(alloc: Global, order: &Order, child: &Slice) -> Result<Slice, NoMemory
         (λ c. IsConsistent order.now c
         × Staying order.now (Cuts order.now (slice_of child.now)) c)) }
     ensures fits { IfOk result (λ slice. FitsOrder order.now slice) }
-    ensures closed { IsClosed order.now (λ c. IsConsistent order.now c
+    ensures closed { IsSublattice order.now (λ c. IsConsistent order.now c
         × Staying order.now (Cuts order.now (slice_of child.now)) c) }
     ensures cuts { IfOk result (λ slice. (c : CutOfRun) → IsConsistent order.now c
         → Cuts order.now (slice_of slice) c

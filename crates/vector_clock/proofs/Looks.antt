@@ -19,7 +19,7 @@ use Rattle.vector_clock.specs.Events.{Events, EventStands, own_events, place, ra
 use Rattle.vector_clock.specs.Messages.{is_same, message_sent, sends}
 use Rattle.vector_clock.specs.Met.{met_at, IsNoted}
 use Rattle.vector_clock.specs.Fill.{Place, IsBefore, no_event}
-use Rattle.vector_clock.specs.Nodes.{event_in, node_place, target_place, IsTarget, IsWithin, Finds, first_index, AreSends, admitted_at, send_of, node_at, IsNode, HaveTargets, AreWithin}
+use Rattle.vector_clock.specs.Nodes.{event_in, node_place, target_place, IsTarget, IsBeforeInBatch, Finds, first_index, AreSends, admitted_at, send_of, node_at, IsNode, HaveTargets, AreWithin}
 use Rattle.vector_clock.proofs.FirstPlaces.{same_message, own_same, own_other}
 use Rattle.vector_clock.proofs.Counting.{batch_next, no_batch, is_next}
 use Rattle.vector_clock.proofs.Growth.{length-with_batch}
@@ -118,7 +118,7 @@ pub index_target : (lens : List ℕ) (test : Event → Bool) (batch : List Event
 index_target lens test batch None h = tt
 index_target lens test batch (Some k) h = index_there test batch k (sym h)
 
-pub target_within : (lens : List ℕ) (n : ℕ) (o : Option Target) → IsTarget lens n o → IsWithin n o
+pub target_within : (lens : List ℕ) (n : ℕ) (o : Option Target) → IsTarget lens n o → IsBeforeInBatch n o
 target_within lens n None h = tt
 target_within lens n (Some (Admitted id)) h = tt
 target_within lens n (Some (InBatch k)) h = h

@@ -13,7 +13,7 @@ use Rattle.vector_clock.specs.declared.nodes.Target.{Target}
 use Rattle.vector_clock.specs.declared.nodes.Target.TheVariants.{Admitted, InBatch}
 use Rattle.vector_clock.specs.declared.nodes.Node.{Node}
 use Rattle.vector_clock.specs.Filled.{is_left_out}
-use Rattle.vector_clock.specs.Nodes.{event_in, IsWithin, node_at, LooksTo, AreReaders, with_reader}
+use Rattle.vector_clock.specs.Nodes.{event_in, IsBeforeInBatch, node_at, LooksTo, AreReaders, with_reader}
 
 -- ---- one reader more
 
@@ -33,7 +33,7 @@ length-with_reader readers x (Some (Admitted id)) = refl
 length-with_reader readers x (Some (InBatch k)) = length-set readers k _
 
 -- what is read then was read before, or it is the new one
-reads_with : (readers : List (List ℕ)) (x : ℕ) (t : Option Target) (a b : ℕ) → IsWithin (length readers) t → Reads (with_reader readers x t) a b → Reads readers a b ⊎ ((a ≡ x) × (t ≡ Some (InBatch b)))
+reads_with : (readers : List (List ℕ)) (x : ℕ) (t : Option Target) (a b : ℕ) → IsBeforeInBatch (length readers) t → Reads (with_reader readers x t) a b → Reads readers a b ⊎ ((a ≡ x) × (t ≡ Some (InBatch b)))
 reads_with readers x None a b within h = inl h
 reads_with readers x (Some (Admitted id)) a b within h = inl h
 reads_with readers x (Some (InBatch k)) a b within h = elim (cases_eq b k) [
@@ -47,7 +47,7 @@ reads_with readers x (Some (InBatch k)) a b within h = elim (cases_eq b k) [
       ]
 ]
 
-with_reads : (readers : List (List ℕ)) (x : ℕ) (t : Option Target) (a b : ℕ) → IsWithin (length readers) t → Reads readers a b → Reads (with_reader readers x t) a b
+with_reads : (readers : List (List ℕ)) (x : ℕ) (t : Option Target) (a b : ℕ) → IsBeforeInBatch (length readers) t → Reads readers a b → Reads (with_reader readers x t) a b
 with_reads readers x None a b within h = h
 with_reads readers x (Some (Admitted id)) a b within h = h
 with_reads readers x (Some (InBatch k)) a b within h = elim (cases_eq b k) [
@@ -58,7 +58,7 @@ with_reads readers x (Some (InBatch k)) a b within h = elim (cases_eq b k) [
       subst (λ (xs : List ℕ). Contains xs a) (sym at) (Contains-append_left (get_or readers k []) (x ∷ []) a (subst (λ (n : ℕ). Contains (get_or readers n []) a) same h))
 ]
 
-new_reads : (readers : List (List ℕ)) (x : ℕ) (t : Option Target) (b : ℕ) → IsWithin (length readers) t → t ≡ Some (InBatch b) → Reads (with_reader readers x t) x b
+new_reads : (readers : List (List ℕ)) (x : ℕ) (t : Option Target) (b : ℕ) → IsBeforeInBatch (length readers) t → t ≡ Some (InBatch b) → Reads (with_reader readers x t) x b
 new_reads readers x None b within h = absurd (none h)
   where
     none : ◌≡◌ {A = Option Target} None (Some (InBatch b)) → ⊥
@@ -100,18 +100,18 @@ written_reader batch nodes i readers written are = record {
     no_bool h = cc
 
 pub reader_more : (batch : List Event) (nodes : List Node) (i : ℕ) (node : Node) (readers : List (List ℕ)) → is_left_out (event_in batch i) ≡ true → node ≡ node_at nodes i
-    → IsWithin (length batch) node.before → IsWithin (length batch) node.sent → AreReaders batch nodes i readers → AreReaders batch nodes (i + 1) (with_reader (with_reader readers i node.before) i node.sent)
+    → IsBeforeInBatch (length batch) node.before → IsBeforeInBatch (length batch) node.sent → AreReaders batch nodes i readers → AreReaders batch nodes (i + 1) (with_reader (with_reader readers i node.before) i node.sent)
 reader_more batch nodes i node readers out at before sent are = record {
   nodes_are = length-with_reader (with_reader readers i node.before) i node.sent ∙ length-with_reader readers i node.before ∙ are.nodes_are;
   sound = sound;
   all = all;
 }
   where
-    one : IsWithin (length readers) node.before
-    one = subst (λ (n : ℕ). IsWithin n node.before) (sym are.nodes_are) before
+    one : IsBeforeInBatch (length readers) node.before
+    one = subst (λ (n : ℕ). IsBeforeInBatch n node.before) (sym are.nodes_are) before
 
-    two : IsWithin (length (with_reader readers i node.before)) node.sent
-    two = subst (λ (n : ℕ). IsWithin n node.sent) (sym (length-with_reader readers i node.before ∙ are.nodes_are)) sent
+    two : IsBeforeInBatch (length (with_reader readers i node.before)) node.sent
+    two = subst (λ (n : ℕ). IsBeforeInBatch n node.sent) (sym (length-with_reader readers i node.before ∙ are.nodes_are)) sent
 
     looks : (x y : ℕ) → x ≡ i → ((node.before ≡ Some (InBatch y)) ⊎ (node.sent ≡ Some (InBatch y))) → LooksTo batch nodes x y
     looks x y same to = subst (λ (n : ℕ). LooksTo batch nodes n y) (sym same) (record {

@@ -50,10 +50,10 @@ IsTarget lens n (Some (Admitted id)) = HasEvent lens id
 IsTarget lens n (Some (InBatch k)) = k < n
 
 -- if it is one of the batch, it is one of the first ones
-abbrev pub IsWithin : ℕ → Option Target → Type 0
-IsWithin n None = Unit {0}
-IsWithin n (Some (Admitted id)) = Unit {0}
-IsWithin n (Some (InBatch k)) = k < n
+abbrev pub IsBeforeInBatch : ℕ → Option Target → Type 0
+IsBeforeInBatch n None = Unit {0}
+IsBeforeInBatch n (Some (Admitted id)) = Unit {0}
+IsBeforeInBatch n (Some (InBatch k)) = k < n
 
 -- the target is the one place of which the fact holds, and there is none where it holds of none
 abbrev pub Finds : Events → List Event → (Place → Type 0) → Option Target → Type 0
@@ -116,7 +116,7 @@ pub record HaveTargets (lens : List ℕ) (n : ℕ) (nodes : List Node) : Type 0 
 -- the same of those in the batch alone
 abbrev pub AreWithin : ℕ → List Node → Type 0
 AreWithin n nodes =
-    (k : ℕ) → IsWithin n (node_at nodes k).before × IsWithin n (node_at nodes k).sent
+    (k : ℕ) → IsBeforeInBatch n (node_at nodes k).before × IsBeforeInBatch n (node_at nodes k).sent
 
 -- the last event of each process
 abbrev pub AreLasts : List ℕ → List (Option Target) → Type 0

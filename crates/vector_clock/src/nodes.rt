@@ -10,7 +10,7 @@ ghost use Rattle.vector_clock.specs.Events.{Events, EventStands, raised};
 ghost use Rattle.vector_clock.specs.Messages.{message_received, first_send, sends};
 ghost use Rattle.vector_clock.specs.Met.{met_at};
 ghost use Rattle.vector_clock.specs.Admitted.{HasMessages};
-ghost use Rattle.vector_clock.specs.Nodes.{IsTarget, IsWithin, AreWithin, AreSends};
+ghost use Rattle.vector_clock.specs.Nodes.{IsTarget, IsBeforeInBatch, AreWithin, AreSends};
 ghost use Rattle.vector_clock.specs.Nodes.{admitted_at, send_of as first_send_of, AreLasts};
 ghost use Rattle.vector_clock.specs.Nodes.{AreNodes, HaveTargets, AreReaders, with_reader};
 
@@ -144,7 +144,7 @@ fn add_reader(
     node: u32,
     target: Option<Target>,
 ) -> Result<(), NoMemory>
-    requires { IsWithin (length readers.old.items) target }
+    requires { IsBeforeInBatch (length readers.old.items) target }
     ensures { OnOk result (readers.new.items ≡ with_reader readers.old.items node target) }
 {
     if let Some(Target::InBatch(read)) = target {

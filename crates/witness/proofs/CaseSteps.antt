@@ -7,7 +7,7 @@ use Rattle.std.proofs.lemmas.Slice.Eq.{bytes_eq-Decides}
 use Rattle.run_model.specs.Cut.{Cut, Clocks, count, IsWithin, with_next, lengths, initial}
 use Rattle.run_model.specs.Run.{Run}
 use Rattle.run_model.specs.Consistent.{clock, IsOrder, IsConsistent}
-use Rattle.run_model.specs.Sublattice.{IsClosed}
+use Rattle.run_model.specs.Sublattice.{IsSublattice}
 use Rattle.run_model.specs.Slice.{Slice, Cuts, StandsFor}
 use Rattle.run_model.specs.Formula.{Formula}
 use Rattle.run_model.specs.Meaning.{Family}
@@ -101,7 +101,7 @@ first_step o s i start goal event steps there start_is goal_is member event_is s
 -- ---- the kind
 
 pub kind_of : {E : Type 0} (o : Clocks) (s : Slice) (op : WitnessOperator) (result : Result Witness E) → IsOrder o → IfOk result (λ w. IsCanonical o s op (witness_of w))
-    → (r : Run) → o ≡ r.clocks → (f : Formula) → IsClosed r.clocks (Family r f) → StandsFor r.clocks s (Family r f)
+    → (r : Run) → o ≡ r.clocks → (f : Formula) → IsSublattice r.clocks (Family r f) → StandsFor r.clocks s (Family r f)
     → (part : Formula) → IsPartOf r op f part → IfOk result (λ w. IsOfKind r part (witness_of w))
 kind_of o s op (Err e) order canonical r same f closed stands part is = tt
 kind_of o s op (Ok w) order canonical r same f closed stands part is =

@@ -4,7 +4,7 @@ ghost use Rattle.std.specs.Prelude.{◌≡◌, ◌<◌, ◌↔◌, length, IfOk,
 ghost use Rattle.run_model.specs.Cut.{count, initial, lengths};
 ghost use Rattle.run_model.specs.Run.{Run};
 ghost use Rattle.run_model.specs.Consistent.{IsConsistent};
-ghost use Rattle.run_model.specs.Sublattice.{IsClosed};
+ghost use Rattle.run_model.specs.Sublattice.{IsSublattice};
 ghost use Rattle.run_model.specs.Slice.{Cuts, StandsFor};
 ghost use Rattle.run_model.specs.Formula.{Formula};
 ghost use Rattle.run_model.specs.Meaning.{Family};
@@ -205,7 +205,8 @@ pub fn explain(
 ) -> Result<Witness, NoMemory>
     requires { FitsOrder order.now operand.now }
     // Where the slice stands for a formula's family, the witness is of its kind.
-    ensures kind { (r : Run) → order.now ≡ r.clocks → (f : Formula) → IsClosed r.clocks (Family r f)
+    ensures kind { (r : Run) → order.now ≡ r.clocks → (f : Formula)
+        → IsSublattice r.clocks (Family r f)
         → StandsFor r.clocks (slice_of operand.now) (Family r f)
         → (part : Formula) → IsPartOf r (operator_of operator) f part
         → IfOk result (λ w. IsOfKind r part (witness_of w)) }

@@ -1,11 +1,11 @@
 use Rattle.std.proofs.Common.{◌+◌, ◌-◌, ◌*◌, ◌≤◌, length, sum}
-use Rattle.pull_system.specs.Climb.{AreMarks, IsBelowLeast, IsSettled, marked}
+use Rattle.pull_system.specs.Climb.{AreMarks, IsBelowLeast, AreHeld, marked}
 use Rattle.least_cut.proofs.least.Given as goal
 
 abbrev pub invariant-loop-process : goal.invariant-loop-process
 invariant-loop-process g l = record {
   marks : AreMarks l.system.lens l.risen;
-  settled : IsSettled l.system l.vector l.risen (λ k. Unit {0});
+  settled : AreHeld l.system l.vector l.risen (λ k. Unit {0});
   below : IsBelowLeast l.system l.fn.vector l.vector;
   looks : l.steps + length l.system.pulls * marked l.risen + length l.system.pulls * sum l.fn.vector ≤ l.fn.steps + length l.system.pulls * (1 + sum l.vector);
 }

@@ -1,13 +1,13 @@
 use Rattle.std.proofs.Common.{◌≡◌, ℕ, ◌+◌, ◌<◌, ◌≤◌, List, sum}
 use Rattle.pull_system.specs.Vector.{IsVector}
-use Rattle.pull_system.specs.Climb.{AreMarks, IsBelowLeast, IsSettled, marked}
+use Rattle.pull_system.specs.Climb.{AreMarks, IsBelowLeast, AreHeld, marked}
 use Rattle.least_cut.proofs.look_at_all.Given as goal
 
 abbrev pub invariant-loop-k : goal.invariant-loop-k
 invariant-loop-k g l = record {
   vector : IsVector l.system.lens l.vector;
   marks : AreMarks l.system.lens l.risen;
-  settled : IsSettled l.system l.vector l.risen (λ k. k < l.k);
+  settled : AreHeld l.system l.vector l.risen (λ k. k < l.k);
   below : (start : List ℕ) → IsBelowLeast l.system start l.fn.vector → IsBelowLeast l.system start l.vector;
   pays : marked l.risen + sum l.fn.vector ≤ marked l.fn.risen + sum l.vector;
   looks : l.steps ≡ l.fn.steps + l.k;

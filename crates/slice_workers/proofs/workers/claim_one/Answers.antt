@@ -1,14 +1,14 @@
 use Rattle.std.proofs.Common.{subst, sym, ◌∙◌, List, ℕ, true, false, get_or, ap, inl, inr}
 use Rattle.pull_system.specs.System.{SystemView}
 use Rattle.pull_system.proofs.Climbing.{set_case}
-use Rattle.slice_workers.specs.Reaching.{HasReached}
+use Rattle.slice_workers.specs.Reaching.{HasReachedRows}
 use Rattle.slice_workers.proofs.Passes.{passed_none, passed_on}
 use Rattle.slice_workers.proofs.workers.claim_one.Goals as goal
 
 pub settle_marked-requires-clause-reached : goal.settle_marked-requires-clause-reached
 settle_marked-requires-clause-reached g c =
     let system : SystemView = c.args.table.now.system in
-    let P : List ℕ → Type 0 = λ f. HasReached system f c.args.finals.now c.args.bottom.now c.args.handed.now in subst P (sym c.claim.ensures.floor) c.requires.reached
+    let P : List ℕ → Type 0 = λ f. HasReachedRows system f c.args.finals.now c.args.bottom.now c.args.handed.now in subst P (sym c.claim.ensures.floor) c.requires.reached
 
 pub returns-then-claim-clause-settled : goal.returns-then-claim-clause-settled
 returns-then-claim-clause-settled g c =

@@ -1,6 +1,6 @@
 use Rattle.std.proofs.Common.{rules, arith, sym, ◌∙◌, ◌<◌, ℕ, length}
 use Rattle.pull_system.specs.System.{SystemView}
-use Rattle.pull_system.specs.Vector.{IsWithin}
+use Rattle.pull_system.specs.Vector.{IsAtMost}
 use Rattle.pull_system.specs.Rows.{place_of}
 use Rattle.bound_table.specs.Asking.{IsRaised}
 use Rattle.bound_table.proofs.Allowed.{lend_allowed}
@@ -42,7 +42,7 @@ raise_by_lend-raised-requires-clause-step c =
     let there : process < length system.lens = search rules in
     let read : IsRaised system c.loop-process.seat.floor c.load-y.new.seat.floor c.args.from_row process 0 c.load-y.result = read_raised system _ _ c.args.from_row process _ 0 _ (omega (arith, c.begin-from.ensures.place)) c.load-y.ensures.floor c.load-y.ensures.rises (omega arith) c.load-y.ensures.bounds in
     let found : IsRaised system c.load-y.new.seat.floor c.load-found.new.seat.floor c.args.to_row process 0 c.load-found.result = read_raised system _ _ c.args.to_row process _ 0 _ (omega (arith, c.begin-to.ensures.place)) c.load-found.ensures.floor c.load-found.ensures.rises (omega arith) c.load-found.ensures.bounds in
-    let within : IsWithin c.load-y.new.seat.floor c.load-found.new.seat.floor = raised_within_floor system _ _ c.args.to_row process _ _ found in
+    let within : IsAtMost c.load-y.new.seat.floor c.load-found.new.seat.floor = raised_within_floor system _ _ c.args.to_row process _ _ found in
     lend_allowed system c.load-found.new.seat.floor c.args.to_row c.args.from_row process c.load-y.result c.requires.rows.second c.requires.rows.first there
     (omega (arith, raised_at system _ _ c.args.from_row process _ _ c.requires.rows.first there read, within.each (place_of system.lens c.args.from_row process)))
     (has_start_more system.lens _ _ c.args.to_row c.args.from_row (within_trans _ _ _ (raised_within_floor system _ _ c.args.from_row process _ _ read) within) inv.event)

@@ -1,5 +1,5 @@
 use Rattle.std.proofs.Common.{◌-◌, ◌≤◌, length}
-use Rattle.pull_system.specs.Vector.{IsWithin}
+use Rattle.pull_system.specs.Vector.{IsAtMost}
 use Rattle.raise_machine.specs.Bounds.{AreBounds}
 use Rattle.bound_table.specs.Views.{KeepsClaims}
 use Rattle.bound_table.proofs.Reading.{AreRead}
@@ -10,7 +10,7 @@ invariant-loop-piece l = record {
   keeps : KeepsClaims l.fn.seat l.seat;
   read : AreRead l.seat.floor l.words.items;
   few : length l.words.items ≤ l.count;
-  rises : IsWithin l.fn.seat.floor l.seat.floor;
+  rises : IsAtMost l.fn.seat.floor l.seat.floor;
   bounds : AreBounds l.self.system l.seat.floor;
 }
 

@@ -1,7 +1,7 @@
 use Rattle.std.proofs.Common.{rules, arith, ◌≡◌, ◌<◌, ℕ, subst, sym, ap, ◌∙◌}
 use Rattle.pull_system.specs.System.{SystemView}
 use Rattle.raise_machine.specs.Bounds.{AreBounds}
-use Rattle.bound_table.specs.declared.seat.Known.{Known}
+use Rattle.bound_table.specs.declared.seat.SeenBounds.{SeenBounds}
 use Rattle.bound_table.specs.Rule.{IsSound, word_count}
 use Rattle.bound_table.proofs.Moves.{meets, some_words, together_sound, met_maximum}
 use Rattle.bound_table.proofs.table.BoundTable.meet.Goals as goal
@@ -12,7 +12,7 @@ join_seat-requires c = (search rules, search rules, search rules, let P : ℕ �
 pub invariant_of-seat : goal.invariant_of-seat
 invariant_of-seat c =
     let one : c.seat.inside.token.me.0.system ≡ c.other.inside.token.me.0.system = search rules in
-    let P : Known → Type 0 = IsSound in
+    let P : SeenBounds → Type 0 = IsSound in
     (subst P (sym (ap (λ me. me.0) c.join_seat.ensures.2)) (together_sound _ _ one c.seat.invariant.0 c.other.invariant.0), ap (λ me. me.1) c.join_seat.ensures.2 ∙ c.seat.invariant.1)
 
 pub returns-clause-floor : goal.returns-clause-floor
@@ -25,6 +25,6 @@ pub returns-clause-bounds : goal.returns-clause-bounds
 returns-clause-bounds c =
     let one : c.seat.inside.token.me.0.system ≡ c.other.inside.token.me.0.system = search rules in
     let same : c.join_seat.new.seat.me.0.system ≡ c.args.self.now.system = search rules in
-    let P : Known → Type 0 = IsSound in
+    let P : SeenBounds → Type 0 = IsSound in
     let sound = subst P (sym (ap (λ me. me.0) c.join_seat.ensures.2)) (together_sound _ _ one c.seat.invariant.0 c.other.invariant.0) in
     let Q : SystemView → Type 0 = λ s. AreBounds s c.join_seat.new.seat.me.0.floor in subst Q same sound.floor
