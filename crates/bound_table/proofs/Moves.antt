@@ -14,7 +14,7 @@ use Rattle.pull_system.proofs.Climbing.{set_case}
 use Rattle.raise_machine.specs.Bounds.{IsBound, AreBounds}
 use Rattle.raise_machine.proofs.Raising.{bounds_set, bound_max, bound_less}
 use Rattle.bound_table.specs.declared.seat.SeenBounds.{SeenBounds}
-use Rattle.bound_table.specs.BoundsHold.{larger}
+use Rattle.bound_table.specs.Kept.{larger}
 use Rattle.bound_table.specs.Rule.{word_count, Fits, HasBounds, BoundsHold, IsSound, with_floor, opened, nobody, together, Looked, IsMachineStep, Lifted}
 
 -- a list with one number put in a place, and another in the same place of a list above it
