@@ -4,14 +4,24 @@ use Rattle.std.specs.Io.KnownBytes.{Appends}
 use Rattle.pota_base.specs.declared.fault.Failed.{Failed}
 use Rattle.pota_base.specs.Outside.{IsPrefix, Rose}
 use Rattle.rctl_parts.specs.Pieces.{Piece}
+use Rattle.rctl_parts.specs.MadeFor.{AllFit, disjuncts_count}
 use Rattle.part_pulls.specs.declared.observed.Observed.{Observed}
-use Rattle.part_pulls.specs.Observing.{clocks_seen}
+use Rattle.part_pulls.specs.Observing.{IsReady, clocks_seen, scope_seen}
+use Rattle.part_pulls.specs.Counters.{CountersRise}
 use Rattle.certificate_lines.specs.declared.line.Line.{Line}
 use Rattle.certificate_lines.specs.Spelling.{lines_text}
 use Rattle.certificate_text.specs.Running.{certificate_lines}
 use Rattle.certified_nodes.specs.Nodes.{NodesView, AreNodes, fresh_nodes}
 use Rattle.certificate.specs.Numbering.{plan_of}
 use Rattle.canonical_text.specs.Canonical.{IsWhole}
+
+-- the formula of these disjuncts can be certified on what was observed: it may be judged, they are
+-- made for it and have few parts, and none of their counters falls
+pub record CanBeCertified (seen : Observed) (ds : List (List Piece)) : Type 0 where
+  pub ready : IsReady seen
+  pub fits : AllFit (scope_seen seen) ds
+  pub counters : CountersRise seen ds
+  pub count : disjuncts_count ds ≤ 128
 
 -- the nodes of the formula of these disjuncts on what was observed, before one is begun
 abbrev pub nodes_of : Observed → List (List Piece) → NodesView

@@ -1,16 +1,13 @@
 //! The writing of a certificate.
-ghost use Rattle.std.specs.Prelude.{◌≡◌, ◌<◌, ◌≤◌, ◌++◌, ◌∷◌, [], IfOk, OnErr, OnOk};
+ghost use Rattle.std.specs.Prelude.{◌≡◌, ◌<◌, ◌++◌, ◌∷◌, [], IfOk, OnErr, OnOk};
 ghost use Rattle.std.specs.Io.KnownBytes.{Appends};
 ghost use Rattle.pota_base.specs.Outside.{AppendsPrefix, HasCause};
 ghost use Rattle.rctl_parts.specs.Pieces.{disjuncts_of};
-ghost use Rattle.rctl_parts.specs.MadeFor.{AllFit, disjuncts_count};
-ghost use Rattle.part_pulls.specs.Observing.{IsReady, scope_seen};
-ghost use Rattle.part_pulls.specs.Counters.{CountersRise};
 ghost use Rattle.certificate_lines.specs.Spelling.{line_text, lines_text};
 ghost use Rattle.certificate_text.specs.Running.{IsOfNode};
 ghost use Rattle.canonical_text.specs.Canonical.{IsNext};
 ghost use Rattle.canonical_nodes.specs.Coming.{lines_left};
-ghost use Rattle.certify.specs.Certifying.{HasFront, IsCertifying};
+ghost use Rattle.certify.specs.Certifying.{CanBeCertified, HasFront, IsCertifying};
 ghost use Rattle.certify.specs.Written.{IsWritten, WroteFront};
 
 use canonical_nodes::CanonicalNodes;
@@ -40,10 +37,7 @@ pub fn certify<O: Sink>(
     formula: &[u8],
     out: &mut O,
 ) -> Result<Result<bool, Failed>, NoMemory>
-    requires ready { IsReady seen }
-    requires fits { AllFit (scope_seen seen) (disjuncts_of disjuncts.now) }
-    requires counters { CountersRise seen (disjuncts_of disjuncts.now) }
-    requires count { disjuncts_count (disjuncts_of disjuncts.now) ≤ 128 }
+    requires can { CanBeCertified seen (disjuncts_of disjuncts.now) }
     ensures certified { IfOk result (λ ended. IsCertifying ended (O.held out.old) (O.held out.new)
         (O.faults out.old) (O.faults out.new) seen (disjuncts_of disjuncts.now) formula.now) }
     ensures memory { OnErr result (HasFront (O.held out.old) (O.held out.new) seen
@@ -65,10 +59,7 @@ fn certify_counted<O: Sink, L: Ledger>(
     requires name { blank.name ≡ L.name }
     requires parts { blank.parts ≡ L.parts }
     requires some { 0 < blank.parts }
-    requires ready { IsReady seen }
-    requires fits { AllFit (scope_seen seen) (disjuncts_of disjuncts.now) }
-    requires counters { CountersRise seen (disjuncts_of disjuncts.now) }
-    requires count { disjuncts_count (disjuncts_of disjuncts.now) ≤ 128 }
+    requires can { CanBeCertified seen (disjuncts_of disjuncts.now) }
     ensures certified { IfOk result (λ ended. IsCertifying ended (O.held out.old) (O.held out.new)
         (O.faults out.old) (O.faults out.new) seen (disjuncts_of disjuncts.now) formula.now) }
     ensures memory { OnErr result (HasFront (O.held out.old) (O.held out.new) seen

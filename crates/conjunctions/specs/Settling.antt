@@ -16,13 +16,15 @@ use Rattle.pull_system.specs.Vector.{IsAtMost}
 use Rattle.raise_machine.specs.Bounds.{AreBounds}
 use Rattle.slice_workers.specs.Reaching.{ReachesFirst}
 use Rattle.rctl_parts.specs.Pieces.{Piece}
+use Rattle.rctl_parts.specs.MadeFor.{PieceFits, part_count}
 use Rattle.part_pulls.specs.declared.observed.Observed.{Observed}
 use Rattle.causal_order.specs.Growth.{HasGrown}
 use Rattle.trace_growth.specs.Laws.{StatesHaveGrown}
 use Rattle.channel_preds.specs.Truth.{HasMoreEvents}
 use Rattle.part_pulls.specs.Observing.{Reading, AreAnswers, Satisfying, clocks_seen, lens_seen}
-use Rattle.part_pulls.specs.Observing.{trace_seen}
-use Rattle.conjunctions.specs.Numbering.{all_atoms}
+use Rattle.part_pulls.specs.Observing.{scope_seen, trace_seen}
+use Rattle.part_pulls.specs.Counters.{AllRise, counters_of_part}
+use Rattle.conjunctions.specs.Numbering.{all_atoms, within}
 use Rattle.part_pulls.specs.Systems.{system_of}
 use Rattle.conjunctions.specs.Rounds.{RoundView}
 use Rattle.conjunctions.specs.Counting.{bounds, first_of, steps_for}
@@ -79,6 +81,14 @@ abbrev pub AreFloors : Observed → List RowsView → List (List Piece) → Type
 AreFloors seen [] cs = Unit {0}
 AreFloors seen (rows ∷ before) [] = Unit {0}
 AreFloors seen (rows ∷ before) (ps ∷ cs) = IsFloor seen ps rows × AreFloors seen before cs
+
+-- a part can be settled: it is made for what was observed and has few parts, none of its counters
+-- falls, and the conjunctions within it may begin from the rows of before
+pub record CanSettlePart (seen : Observed) (before : List RowsView) (p : Piece) : Type 0 where
+  pub fits : PieceFits (scope_seen seen) p
+  pub count : part_count p ≤ 128
+  pub counters : AllRise seen (counters_of_part p)
+  pub floors : AreFloors seen before (within p)
 
 -- these conjunctions were settled: their rows stand behind the others, as many rows of before are
 -- used up, and one worker took no more steps than each may

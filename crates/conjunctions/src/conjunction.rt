@@ -1,13 +1,13 @@
 //! Conjunctions, each behind those within it.
 ghost use Rattle.std.specs.Prelude.{◌≡◌, ◌∷◌, [], ◌+◌, ◌<◌, ◌≤◌, true, false, length, IfOk, OnOk};
 ghost use Rattle.rctl_parts.specs.Pieces.{piece_of, pieces_of};
-ghost use Rattle.rctl_parts.specs.MadeFor.{PieceFits, EachFits, part_count, parts_count};
+ghost use Rattle.rctl_parts.specs.MadeFor.{EachFits, parts_count};
 ghost use Rattle.part_pulls.specs.Observing.{IsReady, scope_seen, clocks_seen, lens_seen};
 ghost use Rattle.conjunctions.specs.Numbering.{within, conjunctions_in};
-ghost use Rattle.part_pulls.specs.Counters.{AllRise, counters_of_part, counters_of_parts};
+ghost use Rattle.part_pulls.specs.Counters.{AllRise, counters_of_parts};
 ghost use Rattle.conjunctions.specs.Gathering.{AddsPulls};
 ghost use Rattle.conjunctions.specs.Beginning.{FloorFits};
-ghost use Rattle.conjunctions.specs.Settling.{AreFloors, Settles};
+ghost use Rattle.conjunctions.specs.Settling.{AreFloors, CanSettlePart, Settles};
 ghost use Rattle.conjunctions.specs.Answering.{IsSliceOf, IsPartAnswer, AddsAnswers, places_from};
 ghost use Rattle.conjunctions.specs.Answering.{place};
 
@@ -82,10 +82,7 @@ fn add_part<R: Threads + Sync, G: Gate, L: Ledger>(
     steps: &mut Steps<L>,
 ) -> Result<PartAnswer, NoMemory>
     requires ready { IsReady seen.now }
-    requires fits { PieceFits (scope_seen seen.now) (piece_of part.now) }
-    requires count { part_count (piece_of part.now) ≤ 128 }
-    requires counters { AllRise seen.now (counters_of_part (piece_of part.now)) }
-    requires floors { AreFloors seen.now round.old.before (within (piece_of part.now)) }
+    requires part { CanSettlePart seen.now round.old.before (piece_of part.now) }
     requires floor { FloorFits (lens_seen seen.now) gathered.old }
     ensures answer { IfOk result
         (IsPartAnswer seen.now (place disjunct number (piece_of part.now))) }

@@ -38,6 +38,13 @@ pub record AreRising (values : List ℤ) : Type 0 where
 abbrev pub IsCounter : StatesView → Variable → Type 0
 IsCounter states v = AreRising (values_of states v)
 
+-- both are variables of the states, and neither ever falls
+pub record AreCounters (states : StatesView) (left right : Variable) : Type 0 where
+  pub left : IsVariable states left
+  pub right : IsVariable states right
+  pub left_rises : IsCounter states left
+  pub right_rises : IsCounter states right
+
 -- ---- the pulls
 
 -- the first position whose value, with `extra`, has reached the bound, or the number of values

@@ -3,7 +3,7 @@ ghost use Rattle.std.specs.Prelude.{◌≡◌, ℕ, ◌^◌, ◌<◌, ◌↔◌,
 ghost use Rattle.std.specs.Prelude.{All, IfOk, pos, ◌-ℤ◌, ◌≤ℤ◌, neg_ℤ};
 ghost use Rattle.pull_system.specs.System.{IsPull};
 ghost use Rattle.pull_system.specs.Pulls.{ClosedUnder};
-ghost use Rattle.counter_preds.specs.Counters.{IsVariable, IsCounter, AreThere, value_within};
+ghost use Rattle.counter_preds.specs.Counters.{AreCounters, AreThere, value_within};
 ghost use Rattle.counter_preds.specs.Counters.{at_most_pull, at_least_pull};
 
 use crate::positions::first_positions;
@@ -26,10 +26,7 @@ pub fn diff_at_most(
     right: Variable,
     k: i128,
 ) -> Result<List<Pull>, NoMemory>
-    requires left { IsVariable states.now left }
-    requires right { IsVariable states.now right }
-    requires left_rises { IsCounter states.now left }
-    requires right_rises { IsCounter states.now right }
+    requires counters { AreCounters states.now left right }
     requires low { neg_ℤ (pos (2 ^ 64)) ≤ℤ k }
     requires high { k ≤ℤ pos (2 ^ 64) }
     ensures pulls { IfOk result (λ pulls. pulls ≡ at_most_pull states.now left right k ∷ []) }
@@ -63,10 +60,7 @@ pub fn diff_at_least(
     right: Variable,
     k: i128,
 ) -> Result<List<Pull>, NoMemory>
-    requires left { IsVariable states.now left }
-    requires right { IsVariable states.now right }
-    requires left_rises { IsCounter states.now left }
-    requires right_rises { IsCounter states.now right }
+    requires counters { AreCounters states.now left right }
     requires low { neg_ℤ (pos (2 ^ 64)) ≤ℤ k }
     requires high { k ≤ℤ pos (2 ^ 64) }
     ensures pulls { IfOk result (λ pulls. pulls ≡ at_least_pull states.now left right k ∷ []) }

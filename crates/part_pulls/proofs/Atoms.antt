@@ -42,7 +42,7 @@ use Rattle.part_pulls.specs.Systems.{is_atom, pulls_of_atom, IsAtomOf}
 use Rattle.part_pulls.specs.Counters.{AllRise, counter, counters_of_atom}
 use Rattle.part_pulls.proofs.Rising.{none_rise, left_rises, right_rises}
 use Rattle.counter_preds.specs.declared.values.Variable.{Variable}
-use Rattle.counter_preds.specs.Counters.{IsVariable, AreThere, value_in, value_within}
+use Rattle.counter_preds.specs.Counters.{IsVariable, AreCounters, AreThere, value_in, value_within}
 use Rattle.counter_preds.specs.Truth as counters
 use Rattle.counter_preds.proofs.Meaning as counter_meaning
 use Rattle.event_log.specs.Numbers.{binding_names}
@@ -89,6 +89,16 @@ pub is_variable : (seen : Observed) → IsTrace seen.trace.states → (p x : ℕ
 is_variable seen trace p x fits = record {
   process = there seen trace p fits.0;
   variable = subst (λ (n : ℕ). x < n) (get_or-map (λ (vs : List Binding). length vs) seen.trace.states.header.vars p []) fits.1;
+}
+
+-- so of both sides of a difference, which never fall
+pub are_counters : (seen : Observed) → IsTrace seen.trace.states → (left right : Variable) → VariableFits (scope_seen seen) left.process left.number → VariableFits (scope_seen seen) right.process right.number
+    → AllRise seen (left ∷ right ∷ []) → AreCounters seen.trace.states left right
+are_counters seen trace left right fits other rise = record {
+  left = is_variable seen trace left.process left.number fits;
+  right = is_variable seen trace right.process right.number other;
+  left_rises = left_rises seen left right rise;
+  right_rises = right_rises seen left right rise;
 }
 
 pub variable_name : (seen : Observed) (reading : Reading) (p x : ℕ) → variable_at (names_seen seen reading) p x ≡ counters.variable_of seen.trace.states (counter p x)

@@ -3,7 +3,7 @@
 use Rattle.std.specs.Prelude.{◌≡◌, ℕ, ◌-◌, ◌<◌, max, Bool, not, ◌&&◌, ◌==◌, nat_lt, nat_le, List}
 use Rattle.std.specs.Prelude.{[], ◌∷◌, ◌++◌, length, if◌then◌else◌}
 use Rattle.run_model.specs.Cut.{Clocks, count, IsWithin, lengths}
-use Rattle.run_model.specs.Consistent.{clock}
+use Rattle.run_model.specs.Consistent.{clock, IsEvent}
 use Rattle.event_log.specs.declared.log.Event.{Event}
 use Rattle.vector_clock.specs.Events.{some_below, is_beyond}
 use Rattle.vector_clock.specs.Faults.{named_clock}
@@ -18,6 +18,11 @@ pub record IsSound (o : Clocks) (i a : ℕ) : Type 0 where
       → IsWithin (clock o j (count (clock o i a) j)) (clock o i a)
   pub loopless : (j : ℕ) → (j ≡ i → ⊥) → 0 < count (clock o i a) j
       → count (clock o j (count (clock o i a) j)) i < a
+
+-- so many events of each process as these counts say have none
+pub record AreSoundUpTo (o : Clocks) (judged : List ℕ) : Type 0 where
+  pub counts : length judged ≡ length o
+  pub sound : (p a : ℕ) → IsEvent judged p a → IsSound o p a
 
 -- how many events of process j the event before place a counts
 abbrev pub counted_before : Clocks → ℕ → ℕ → ℕ → ℕ

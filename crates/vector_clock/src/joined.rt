@@ -4,12 +4,12 @@ ghost use Rattle.std.specs.Prelude.{get_or, IfOk, IsTrue, None};
 ghost use Rattle.std.specs.List.{AllByRecursion};
 ghost use Rattle.log_lines.specs.Reading.{choose};
 ghost use Rattle.run_model.specs.Cut.{count, IsWithin, lengths};
-ghost use Rattle.run_model.specs.Consistent.{clock, IsEvent};
+ghost use Rattle.run_model.specs.Consistent.{clock};
 ghost use Rattle.event_log.specs.LogText.{KindWithin};
 ghost use Rattle.causal_order.specs.Growth.{HasClock, with_clocks};
 ghost use Rattle.vector_clock.specs.Faults.{clock_fault as fault_of_clock, goes_back as falls_back};
 ghost use Rattle.vector_clock.specs.Faults.{is_dangling as counts_too_many};
-ghost use Rattle.vector_clock.specs.Sound.{IsSound, AddsOnlyItself, JoinsNamed};
+ghost use Rattle.vector_clock.specs.Sound.{IsSound, AreSoundUpTo, AddsOnlyItself, JoinsNamed};
 ghost use Rattle.vector_clock.specs.Sound.{counted_before as counted_by};
 ghost use Rattle.vector_clock.specs.Sound.{is_newly_open as is_open, is_newly_loop as is_loop};
 
@@ -202,8 +202,7 @@ impl<'a> Joined<'a> {
         requires width { length event.now.clock ≡ length self.now }
         requires place { place ≤ length (get_or self.now event.now.process []) }
         requires other { other < length self.now }
-        requires counts { length judged.now ≡ length self.now }
-        requires judged { (p a : ℕ) → IsEvent judged.now p a → IsSound self.now p a }
+        requires judged { AreSoundUpTo self.now judged.now }
         ensures { IsTrue result → JoinsNamed self.now place event.now other }
     {
         let clock = event.clock.as_slice();
@@ -225,8 +224,7 @@ impl<'a> Joined<'a> {
         requires place { place ≤ length (get_or self.now event.now.process []) }
         requires own { count event.now.clock event.now.process ≡ place }
         requires before { 1 < place → IsSound self.now event.now.process (place - 1) }
-        requires counts { length judged.now ≡ length self.now }
-        requires judged { (p a : ℕ) → IsEvent judged.now p a → IsSound self.now p a }
+        requires judged { AreSoundUpTo self.now judged.now }
         ensures { IsTrue result → None ≡ fault_of_clock self.now place event.now }
     {
         match event.kind {
@@ -243,8 +241,7 @@ impl<'a> Joined<'a> {
         requires peer { KindWithin (length event.now.clock) event.now.kind }
         requires place { place ≤ length (get_or self.now event.now.process []) }
         requires before { 1 < place → IsSound self.now event.now.process (place - 1) }
-        requires counts { length judged.now ≡ length self.now }
-        requires judged { (p a : ℕ) → IsEvent judged.now p a → IsSound self.now p a }
+        requires judged { AreSoundUpTo self.now judged.now }
         ensures { result ≡ fault_of_clock self.now place event.now }
     {
         if *event.clock.get(event.process as usize) != place {

@@ -3,13 +3,13 @@ ghost use Rattle.std.specs.Prelude.{◌≡◌, ℕ, ◌+◌, ◌-◌, ◌<◌, �
 ghost use Rattle.std.specs.Prelude.{IfOk, OnOk};
 ghost use Rattle.std.specs.List.{AllByRecursion};
 ghost use Rattle.run_model.specs.Cut.{lengths};
-ghost use Rattle.run_model.specs.Consistent.{IsOrder, IsEvent};
+ghost use Rattle.run_model.specs.Consistent.{IsOrder};
 ghost use Rattle.event_log.specs.States.{with_batch};
 ghost use Rattle.causal_order.specs.Growth.{with_clocks};
 ghost use Rattle.vector_clock.specs.Events.{Events, EventFits, BatchFits, clocks_of, raised};
 ghost use Rattle.vector_clock.specs.Faults.{batch_fault, clock_fault as fault_of_clock};
 ghost use Rattle.vector_clock.specs.Faults.{event_fault as fault_of_event};
-ghost use Rattle.vector_clock.specs.Sound.{IsSound};
+ghost use Rattle.vector_clock.specs.Sound.{IsSound, AreSoundUpTo};
 ghost use Rattle.vector_clock.specs.Admitted.{HasMessages, StandsIn};
 
 use crate::joined::Joined;
@@ -31,8 +31,7 @@ fn event_fault(
     requires first { 1 ≤ place }
     requires place { place ≤ length (get_or joined.now event.now.process []) }
     requires before { 1 < place → IsSound joined.now event.now.process (place - 1) }
-    requires counts { length judged.now ≡ length joined.now }
-    requires judged { (p a : ℕ) → IsEvent judged.now p a → IsSound joined.now p a }
+    requires judged { AreSoundUpTo joined.now judged.now }
     ensures clock { result ≡ None → fault_of_clock joined.now place event.now ≡ None }
     ensures first { (before all : Events) → joined.now ≡ clocks_of all
         → HasMessages messages.now all → StandsIn before all event.now place

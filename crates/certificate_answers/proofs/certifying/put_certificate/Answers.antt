@@ -1,24 +1,14 @@
-use Rattle.std.proofs.Common.{inl, inr, subst, sym, ◌≤◌, List}
+use Rattle.std.proofs.Common.{inl, inr, subst, sym, List}
 use Rattle.rctl_parts.specs.declared.part.Part.{Part}
 use Rattle.rctl_parts.specs.Pieces.{disjuncts_of}
-use Rattle.rctl_parts.specs.MadeFor.{AllFit, disjuncts_count}
-use Rattle.part_pulls.specs.Counters.{CountersRise}
-use Rattle.part_pulls.specs.Observing.{scope_seen}
-use Rattle.certify.specs.Certifying.{HasFront, IsCertifying}
+use Rattle.certify.specs.Certifying.{CanBeCertified, HasFront, IsCertifying}
 use Rattle.certificate_answers.proofs.Certificates.{stopped}
 use Rattle.certificate_answers.proofs.certifying.put_certificate.Goals as goal
 
-pub certify-told-requires-clause-fits : goal.certify-told-requires-clause-fits
-certify-told-requires-clause-fits g c =
-    subst (λ (ps : List (List Part)). AllFit (scope_seen c.args.checked.seen) (disjuncts_of ps)) (sym c.as_slice.ensures) c.requires.made.fit
-
-pub certify-told-requires-clause-counters : goal.certify-told-requires-clause-counters
-certify-told-requires-clause-counters g c =
-    subst (λ (ps : List (List Part)). CountersRise c.args.checked.seen (disjuncts_of ps)) (sym c.as_slice.ensures) c.requires.rise
-
-pub certify-told-requires-clause-count : goal.certify-told-requires-clause-count
-certify-told-requires-clause-count g c =
-    subst (λ (ps : List (List Part)). disjuncts_count (disjuncts_of ps) ≤ 128) (sym c.as_slice.ensures) c.requires.made.parts
+pub certify-told-requires-clause-can : goal.certify-told-requires-clause-can
+certify-told-requires-clause-can g c =
+    subst (λ (ps : List (List Part)). CanBeCertified c.args.checked.seen (disjuncts_of ps)) (sym c.as_slice.ensures)
+    (record { ready = c.requires.ready; fits = c.requires.made.fit; counters = c.requires.rise; count = c.requires.made.parts })
 
 pub returns-in-Ok : goal.returns-in-Ok
 returns-in-Ok g c =

@@ -39,22 +39,22 @@ use Rattle.conjunctions.proofs.conjunction.+conjunction.Goals as goal
 pub add_part-settle_conjunction-requires-clause-fits : goal.add_part-settle_conjunction-requires-clause-fits
 add_part-settle_conjunction-requires-clause-fits g t c = λ κs lives.
     let is = ap piece_of c.in-Temporal.is ∙ piece-Temporal c.in-Temporal.operator c.in-Temporal.parts in
-    rw c.as_slice.ensures ((temporal_fits (scope_seen c.args.seen.now) (piece_of c.args.part.now) c.in-Temporal.operator (pieces_of c.in-Temporal.parts) is c.requires.fits).1)
+    rw c.as_slice.ensures ((temporal_fits (scope_seen c.args.seen.now) (piece_of c.args.part.now) c.in-Temporal.operator (pieces_of c.in-Temporal.parts) is c.requires.part.fits).1)
 
 pub add_part-settle_conjunction-requires-clause-count : goal.add_part-settle_conjunction-requires-clause-count
 add_part-settle_conjunction-requires-clause-count g t c = λ κs lives.
     let is = ap piece_of c.in-Temporal.is ∙ piece-Temporal c.in-Temporal.operator c.in-Temporal.parts in
-    rw c.as_slice.ensures (temporal_count (piece_of c.args.part.now) c.in-Temporal.operator (pieces_of c.in-Temporal.parts) is c.requires.count)
+    rw c.as_slice.ensures (temporal_count (piece_of c.args.part.now) c.in-Temporal.operator (pieces_of c.in-Temporal.parts) is c.requires.part.count)
 
 pub add_part-settle_conjunction-requires-clause-floors : goal.add_part-settle_conjunction-requires-clause-floors
 add_part-settle_conjunction-requires-clause-floors g t c = λ κs lives.
     let is = ap piece_of c.in-Temporal.is ∙ piece-Temporal c.in-Temporal.operator c.in-Temporal.parts in
-    rw c.as_slice.ensures (temporal_floors c.args.seen.now c.args.round.now.before (piece_of c.args.part.now) c.in-Temporal.operator (pieces_of c.in-Temporal.parts) is c.requires.floors)
+    rw c.as_slice.ensures (temporal_floors c.args.seen.now c.args.round.now.before (piece_of c.args.part.now) c.in-Temporal.operator (pieces_of c.in-Temporal.parts) is c.requires.part.floors)
 
 pub add_part-settle_conjunction-requires-clause-counters : goal.add_part-settle_conjunction-requires-clause-counters
 add_part-settle_conjunction-requires-clause-counters g t c = λ κs lives.
     let is = ap piece_of c.in-Temporal.is ∙ piece-Temporal c.in-Temporal.operator c.in-Temporal.parts in
-    rw c.as_slice.ensures (temporal_rises c.args.seen.now (piece_of c.args.part.now) c.in-Temporal.operator (pieces_of c.in-Temporal.parts) is c.requires.counters)
+    rw c.as_slice.ensures (temporal_rises c.args.seen.now (piece_of c.args.part.now) c.in-Temporal.operator (pieces_of c.in-Temporal.parts) is c.requires.part.counters)
 
 -- the order that the trace keeps is the run's
 order_is : (seen : Observed) (order : Clocks) (trace : IsTrace seen.trace.states) → order ≡ clocks_of seen.trace.states.events → order ≡ clocks_seen seen
@@ -70,7 +70,7 @@ add_part-add_operator-requires-clause-operator g t c =
     let seen = c.args.seen.now in
     let order = order_is seen c.order-order.result.now c.order-order.ensures.trace c.order-order.ensures.order in
     let is = ap piece_of c.in-Temporal.is ∙ piece-Temporal c.in-Temporal.operator c.in-Temporal.parts in
-    let fits = (temporal_fits (scope_seen seen) (piece_of c.args.part.now) c.in-Temporal.operator (pieces_of c.in-Temporal.parts) is c.requires.fits).0 in
+    let fits = (temporal_fits (scope_seen seen) (piece_of c.args.part.now) c.in-Temporal.operator (pieces_of c.in-Temporal.parts) is c.requires.part.fits).0 in
     subst (λ (o : Clocks). FitsProcesses (length o) c.in-Temporal.operator) (sym order) (processes_fit seen c.order-order.ensures.trace c.in-Temporal.operator fits)
 
 pub add_part-add_operator-requires-clause-floor : goal.add_part-add_operator-requires-clause-floor
@@ -87,7 +87,7 @@ add_part-returns-in_ok-truth-in-Temporal g t c =
     let o = c.in-Temporal.operator in
     let ps = pieces_of c.in-Temporal.parts in
     let is : piece_of c.args.part.now ≡ temporal o (pieces ps) = ap piece_of c.in-Temporal.is ∙ piece-Temporal o c.in-Temporal.parts in
-    let fits = (temporal_fits (scope_seen seen) (piece_of c.args.part.now) o ps is c.requires.fits).0 in
+    let fits = (temporal_fits (scope_seen seen) (piece_of c.args.part.now) o ps is c.requires.part.fits).0 in
     let trace = c.order-order.ensures.trace in
     let order = order_is seen c.order-order.result.now trace c.order-order.ensures.order in
     let operand = c.in_ok-operand-in-Temporal.operand in
@@ -135,26 +135,19 @@ settle_conjunction-overflow_cast-number g t c = omega (arith, few_parts c.args.p
 pub settle_conjunction-overflow_add-number : goal.settle_conjunction-overflow_add-number
 settle_conjunction-overflow_add-number g t c = omega (arith, few_parts c.args.parts.now c.requires.count, c.parts-test.true)
 
-pub settle_conjunction-add_part-requires-clause-fits : goal.settle_conjunction-add_part-requires-clause-fits
-settle_conjunction-add_part-requires-clause-fits g t c = λ κs lives.
+pub settle_conjunction-add_part-requires-clause-part : goal.settle_conjunction-add_part-requires-clause-part
+settle_conjunction-add_part-requires-clause-part g t c = λ κs lives.
+    let seen = c.args.seen.now in
+    let earlier = pieces_of (take c.parts.index c.args.parts.now) in
+    let p = piece_of c.index-parts-index.result in
     let splits = splits_at c.args.parts.now c.parts.index c.index-parts-index.result c.parts-test.true c.index-parts-index.is in
-    fits_at (scope_seen c.args.seen.now) _ (piece_of c.index-parts-index.result) splits.later (subst (EachFits (scope_seen c.args.seen.now)) splits.is c.requires.fits)
-
-pub settle_conjunction-add_part-requires-clause-count : goal.settle_conjunction-add_part-requires-clause-count
-settle_conjunction-add_part-requires-clause-count g t c = λ κs lives.
-    let splits = splits_at c.args.parts.now c.parts.index c.index-parts-index.result c.parts-test.true c.index-parts-index.is in
-    omega (arith, ap parts_count splits.is, count_at (pieces_of (take c.parts.index c.args.parts.now)) (piece_of c.index-parts-index.result) splits.later, c.requires.count)
-
-pub settle_conjunction-add_part-requires-clause-floors : goal.settle_conjunction-add_part-requires-clause-floors
-settle_conjunction-add_part-requires-clause-floors g t c = λ κs lives.
-    let splits = splits_at c.args.parts.now c.parts.index c.index-parts-index.result c.parts-test.true c.index-parts-index.is in
-    floors_at c.args.seen.now c.args.means.now.workers c.args.round.now c.parts.round c.args.steps.now c.parts.steps (pieces_of (take c.parts.index c.args.parts.now)) (piece_of c.index-parts-index.result) splits.later
-    (subst (λ (ps : List Piece). AreFloors c.args.seen.now c.args.round.now.before (conjunctions_in ps)) splits.is c.requires.floors) c.parts.invariant.settles
-
-pub settle_conjunction-add_part-requires-clause-counters : goal.settle_conjunction-add_part-requires-clause-counters
-settle_conjunction-add_part-requires-clause-counters g t c = λ κs lives.
-    let splits = splits_at c.args.parts.now c.parts.index c.index-parts-index.result c.parts-test.true c.index-parts-index.is in
-    rises_at c.args.seen.now (pieces_of (take c.parts.index c.args.parts.now)) (piece_of c.index-parts-index.result) splits.later (subst (λ (ps : List Piece). AllRise c.args.seen.now (counters_of_parts ps)) splits.is c.requires.counters)
+    record {
+      fits = fits_at (scope_seen seen) _ p splits.later (subst (EachFits (scope_seen seen)) splits.is c.requires.fits);
+      count = omega (arith, ap parts_count splits.is, count_at earlier p splits.later, c.requires.count);
+      counters = rises_at seen earlier p splits.later (subst (λ (ps : List Piece). AllRise seen (counters_of_parts ps)) splits.is c.requires.counters);
+      floors = floors_at seen c.args.means.now.workers c.args.round.now c.parts.round c.args.steps.now c.parts.steps earlier p splits.later
+          (subst (λ (ps : List Piece). AreFloors seen c.args.round.now.before (conjunctions_in ps)) splits.is c.requires.floors) c.parts.invariant.settles;
+    }
 
 pub settle_conjunction-parts-preserved : goal.settle_conjunction-parts-preserved
 settle_conjunction-parts-preserved g t c =

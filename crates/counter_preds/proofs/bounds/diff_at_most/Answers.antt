@@ -14,10 +14,10 @@ returns-clause-pulls c = search rules
 pub returns-clause-fit : goal.returns-clause-fit
 returns-clause-fit c =
     IfOk-weaker c.only.result (λ (ps : List Pull). ps ≡ at_most_pull c.args.states.now c.args.left c.args.right c.args.k ∷ []) (λ (ps : List Pull). All (IsPull (map length c.args.states.now.events)) ps)
-    (λ ps is. pull_fits c.args.states.now c.args.left c.args.right (pos 0) c.args.k c.requires.left c.requires.right c.requires.left_rises ps is) (returns-clause-pulls c)
+    (λ ps is. pull_fits c.args.states.now c.args.left c.args.right (pos 0) c.args.k c.requires.counters.left c.requires.counters.right c.requires.counters.left_rises ps is) (returns-clause-pulls c)
 
 pub returns-clause-closed : goal.returns-clause-closed
 returns-clause-closed c = λ v within.
     IfOk-weaker c.only.result (λ (ps : List Pull). ps ≡ at_most_pull c.args.states.now c.args.left c.args.right c.args.k ∷ [])
     (λ (ps : List Pull). ClosedUnder ps v ↔ ((value_within c.args.states.now c.args.left v -ℤ value_within c.args.states.now c.args.right v) ≤ℤ c.args.k))
-    (λ ps is. at_most_closes c.args.states.now c.args.left c.args.right c.args.k c.requires.left_rises c.requires.right_rises ps is v within) (returns-clause-pulls c)
+    (λ ps is. at_most_closes c.args.states.now c.args.left c.args.right c.args.k c.requires.counters.left_rises c.requires.counters.right_rises ps is v within) (returns-clause-pulls c)

@@ -6,28 +6,16 @@ use Rattle.std.proofs.lemmas.Int.{to_z-of_z}
 use Rattle.pull_system.specs.System.{IsPull}
 use Rattle.pull_system.specs.Pulls.{ClosedUnder}
 use Rattle.channel_preds.specs.Truth.{lens_of}
-use Rattle.counter_preds.specs.Counters.{IsVariable, IsCounter, AreThere, value_in, value_within}
+use Rattle.counter_preds.specs.Counters.{AreCounters, AreThere, value_in, value_within}
 use Rattle.counter_preds.specs.Truth as counters
 use Rattle.counter_preds.proofs.Tests.{le_holds, holds_le}
-use Rattle.part_pulls.proofs.Atoms.{is_variable, diff_at_least_is}
-use Rattle.part_pulls.proofs.Rising.{left_rises, right_rises}
+use Rattle.part_pulls.proofs.Atoms.{are_counters, diff_at_least_is}
 use Rattle.part_pulls.proofs.atom_pulls.diff_at_least_pulls.Goals as goal
 
-pub diff_at_least-requires-clause-left : goal.diff_at_least-requires-clause-left
-diff_at_least-requires-clause-left c =
-    subst (λ (s : StatesView). IsVariable s c.args.left) (sym c.states-states.ensures.states) (is_variable c.args.seen.now c.states-states.ensures.trace c.args.left.process c.args.left.number c.requires.fits.0)
-
-pub diff_at_least-requires-clause-right : goal.diff_at_least-requires-clause-right
-diff_at_least-requires-clause-right c =
-    subst (λ (s : StatesView). IsVariable s c.args.right) (sym c.states-states.ensures.states) (is_variable c.args.seen.now c.states-states.ensures.trace c.args.right.process c.args.right.number c.requires.fits.1)
-
-pub diff_at_least-requires-clause-left_rises : goal.diff_at_least-requires-clause-left_rises
-diff_at_least-requires-clause-left_rises c =
-    subst (λ (s : StatesView). IsCounter s c.args.left) (sym c.states-states.ensures.states) (left_rises c.args.seen.now c.args.left c.args.right c.requires.counters)
-
-pub diff_at_least-requires-clause-right_rises : goal.diff_at_least-requires-clause-right_rises
-diff_at_least-requires-clause-right_rises c =
-    subst (λ (s : StatesView). IsCounter s c.args.right) (sym c.states-states.ensures.states) (right_rises c.args.seen.now c.args.left c.args.right c.requires.counters)
+pub diff_at_least-requires-clause-counters : goal.diff_at_least-requires-clause-counters
+diff_at_least-requires-clause-counters c =
+    subst (λ (s : StatesView). AreCounters s c.args.left c.args.right) (sym c.states-states.ensures.states)
+    (are_counters c.args.seen.now c.states-states.ensures.trace c.args.left c.args.right c.requires.fits.0 c.requires.fits.1 c.requires.counters)
 
 pub returns : goal.returns
 returns c =

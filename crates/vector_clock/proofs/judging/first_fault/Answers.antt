@@ -59,22 +59,21 @@ event_fault-requires-clause-before c =
     (fits_have_clocks _ c.args.batch.now c.requires.fits.each) c.loop-event-test.true c.event-item.is fits.clock c.index.ensures in
     at.before
 
-pub event_fault-requires-clause-counts : goal.event_fault-requires-clause-counts
-event_fault-requires-clause-counts c =
-    omega (
-      arith,
-      ap length c.deref.ensures.value,
-      ap length c.loop-event.invariant.counts,
-      length-raised (lengths c.args.order.now) (take c.loop-event.event-index c.args.batch.now),
-      length-lengths c.args.order.now,
-      ap length c.in_ok-joined.ensures,
-      length-with_clocks c.args.order.now c.args.batch.now,
-    )
-
 pub event_fault-requires-clause-judged : goal.event_fault-requires-clause-judged
-event_fault-requires-clause-judged c = λ p a there.
+event_fault-requires-clause-judged c =
     let counted = c.deref.ensures.value ∙ c.loop-event.invariant.counts ∙ sym (lens_clocks c.args.order.now (take c.loop-event.event-index c.args.batch.now)) in
-    subst (λ (o : Clocks). IsSound o p a) (sym c.in_ok-joined.ensures) (c.loop-event.invariant.sound p a (subst (λ (lens : List ℕ). IsEvent lens p a) counted there))
+    record {
+      counts = omega (
+        arith,
+        ap length c.deref.ensures.value,
+        ap length c.loop-event.invariant.counts,
+        length-raised (lengths c.args.order.now) (take c.loop-event.event-index c.args.batch.now),
+        length-lengths c.args.order.now,
+        ap length c.in_ok-joined.ensures,
+        length-with_clocks c.args.order.now c.args.batch.now,
+      );
+      sound = λ p a there. subst (λ (o : Clocks). IsSound o p a) (sym c.in_ok-joined.ensures) (c.loop-event.invariant.sound p a (subst (λ (lens : List ℕ). IsEvent lens p a) counted there));
+    }
 
 pub index_mut-requires : goal.index_mut-requires
 index_mut-requires c =
