@@ -6,7 +6,7 @@
 set -e
 here=$(cd "$(dirname "$0")" && pwd)
 . "$here/../scratch.sh"
-below='pota_base pull_system least_cut raise_machine process_claims bound_table slice_workers'
+below='pota_base pull_system pull_fans least_cut raise_machine process_claims bound_table slice_workers'
 scratch_crates $below
 mkdir -p "$scratch/crates/settle_rows/src"
 echo "settle_rows: $below anyhow" >> "$scratch/crates.txt"

@@ -4,9 +4,8 @@ use Rattle.std.proofs.lemmas.List.{length-set, get_or_past, ext_get_or}
 use Rattle.std.proofs.lemmas.Nat.{same_from_place}
 use Rattle.std.proofs.Math.Nat.{mul-le-mul_left}
 use Rattle.pull_system.specs.Vector.{IsAtMost}
-use Rattle.pull_system.specs.System.{SystemView, IsSystem}
+use Rattle.pull_system.specs.System.{SystemView, IsSystem, IsBelowLeast}
 use Rattle.pull_system.specs.Rows.{start_of, place_of, row_at}
-use Rattle.pull_system.specs.Climb.{IsBelowLeast}
 use Rattle.pull_system.proofs.Climbing.{set_case, lt_or_le}
 use Rattle.pull_system.proofs.Sums.{sum-within}
 use Rattle.pull_system.proofs.Starts.{length-start_of, get_or-row_at, length-row_at}

@@ -5,10 +5,11 @@ use Rattle.std.proofs.Math.Nat.{mul-le-mul_left, mod-lt}
 use Rattle.std.proofs.lemmas.Nat.{div-add-mod'}
 use Rattle.pull_system.specs.Vector.{IsAtMost, IsVector}
 use Rattle.pull_system.specs.declared.pull.Pull.{Pull}
-use Rattle.pull_system.specs.System.{SystemView, IsSystem, IsPull, IsClosed, HoldsPull, source_of, target_of, ask, pull_at, numbers_from}
-use Rattle.pull_system.proofs.Asking.{pulls_from_first}
+use Rattle.pull_system.specs.System.{SystemView, IsSystem, IsPull, IsClosed, HoldsPull, source_of, target_of, ask, pull_at}
+use Rattle.pull_fans.specs.Sources.{numbers_from}
+use Rattle.pull_fans.proofs.Asking.{pulls_from_first}
 use Rattle.pull_system.specs.Rows.{place_of, start_of, IsLeast}
-use Rattle.pull_system.specs.Asks.{IsAskedBy, AreAsks}
+use Rattle.pull_fans.specs.Asks.{IsAskedBy, AreAsks}
 use Rattle.pull_system.proofs.Climbing.{set_case, lt_or_le, settled_least}
 use Rattle.pull_system.proofs.Pulls.{pull-of}
 use Rattle.pull_system.proofs.Sums.{component_le, sum-within, sum-set, sum-is_vector}

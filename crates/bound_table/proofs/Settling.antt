@@ -2,7 +2,7 @@
 use Rattle.std.proofs.Common.{ℕ, ◌+◌, ◌≤◌, List, get_or, arith, ◌∙◌}
 use Rattle.pull_system.specs.Vector.{IsAtMost}
 use Rattle.pull_system.specs.Rows.{start_of}
-use Rattle.pull_system.specs.Climb.{IsBelowLeast}
+use Rattle.pull_system.specs.System.{IsBelowLeast}
 use Rattle.bound_table.specs.Views.{TableView, SeatView}
 use Rattle.bound_table.specs.Asking.{IsSettling}
 use Rattle.bound_table.proofs.Claiming.{keeps_refl, keeps_trans}

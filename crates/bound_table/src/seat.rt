@@ -3,7 +3,8 @@ ghost use Rattle.bound_table.specs.Rule.{BoundsHold, opened, nobody, together, L
 
 use atomic_table::{Join, Play, Split, TableRule};
 use process_claims::Claimer;
-use pull_system::{Floor, System};
+use pull_fans::System;
+use pull_system::Floor;
 use std::collections::LinkedList;
 use std::marker::Model;
 use std::snapshot::Snapshot;

@@ -6,9 +6,10 @@
 ghost use Rattle.std.specs.Prelude.{◌≡◌, ◌⊎◌, ℕ, ◌+◌, ◌*◌, ◌<◌, ◌≤◌, true, length, sum};
 ghost use Rattle.std.specs.Prelude.{slice_index};
 ghost use Rattle.pull_system.specs.Vector.{IsAtMost};
-ghost use Rattle.pull_system.specs.System.{source_of, target_of, ask, numbers_from};
+ghost use Rattle.pull_system.specs.System.{source_of, target_of, ask};
+ghost use Rattle.pull_fans.specs.Sources.{numbers_from};
 ghost use Rattle.pull_system.specs.Rows.{row_at, IsLeast};
-ghost use Rattle.pull_system.specs.Asks.{IsAskedBy, AreAsks};
+ghost use Rattle.pull_fans.specs.Asks.{IsAskedBy, AreAsks};
 ghost use Rattle.raise_machine.specs.Bounds.{has_start};
 ghost use Rattle.bound_table.specs.Asking.{IsSettling, IsAsking, SeesMore};
 ghost use Rattle.bound_table.specs.Kept.{Follows};

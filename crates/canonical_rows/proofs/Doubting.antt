@@ -6,7 +6,7 @@ use Rattle.std.proofs.Math.Nat.{mul_comm}
 use Rattle.std.proofs.lemmas.Bool.{cases_Bool, cases_lt, false≢true}
 use Rattle.std.proofs.lemmas.List.{length-set}
 use Rattle.std.proofs.lemmas.List.Sums.{sum_by-cons, sum_by-set}
-use Rattle.pull_system.specs.Climb.{marked}
+use Rattle.pull_system.specs.Marks.{marked}
 use Rattle.pull_system.specs.Rows.{place_of}
 use Rattle.pull_system.specs.System.{IsPull, HoldsPull, source_of, target_of, pull_at, ask}
 use Rattle.pull_system.proofs.Climbing.{set_case}

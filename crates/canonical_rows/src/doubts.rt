@@ -1,12 +1,12 @@
 //! Which pulls may fail.
 ghost use Rattle.std.specs.Prelude.{◌≡◌, ℕ, ◌+◌, ◌<◌, ◌≤◌, true, false, length};
 ghost use Rattle.std.specs.Prelude.{slice_index, slice_index_or, slice_set, IfOk};
-ghost use Rattle.pull_system.specs.Climb.{marked};
+ghost use Rattle.pull_system.specs.Marks.{marked};
 ghost use Rattle.certified_rows.specs.Begun.{BegunView};
 ghost use Rattle.canonical_rows.specs.Canonical.{AreDoubts};
 
 use pota_base::{List, NoMemory};
-use pull_system::System;
+use pull_fans::System;
 use std::alloc::Global;
 use std::marker::Model;
 

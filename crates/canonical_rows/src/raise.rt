@@ -1,6 +1,6 @@
 //! The canonical raise of a row.
 ghost use Rattle.std.specs.Prelude.{◌+◌, ◌<◌, ◌≤◌, length, IfNone, IfSome};
-ghost use Rattle.pull_system.specs.Climb.{marked};
+ghost use Rattle.pull_system.specs.Marks.{marked};
 ghost use Rattle.certified_rows.specs.Begun.{LastIsClosed, with_raise};
 ghost use Rattle.canonical_rows.specs.Canonical.{AreDoubts, IsFirstFailing, from_target};
 ghost use Rattle.canonical_rows.specs.Canonical.{looks_beside};

@@ -1,6 +1,6 @@
 //! The canonical begin of a row.
 ghost use Rattle.std.specs.Prelude.{◌≡◌, ◌≤◌, length, sum};
-ghost use Rattle.pull_system.specs.Climb.{marked};
+ghost use Rattle.pull_system.specs.Marks.{marked};
 ghost use Rattle.certified_rows.specs.Begun.{with_row};
 ghost use Rattle.canonical_rows.specs.Canonical.{AreDoubts, after_of};
 

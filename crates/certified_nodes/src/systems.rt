@@ -2,7 +2,7 @@
 ghost use Rattle.std.specs.Prelude.{◌≡◌, ◌^◌, ◌<◌, ◌++◌, length, slice_index, All, IfOk, OnOk};
 ghost use Rattle.run_model.specs.Cut.{lengths};
 ghost use Rattle.pull_system.specs.System.{IsPull};
-ghost use Rattle.pull_system.specs.Fans.{pulls_of_fans};
+ghost use Rattle.pull_fans.specs.Fans.{pulls_of_fans};
 ghost use Rattle.slice_graph.specs.Fitting.{FitsOrder};
 ghost use Rattle.part_pulls.specs.Operating.{FitsProcesses};
 ghost use Rattle.certified_nodes.specs.Plans.{AreParts, FitsPart, IsPlan, pulls_asked, pulls_given};
@@ -12,7 +12,8 @@ ghost use Rattle.certified_nodes.specs.Given.{AreGiven};
 use crate::plan::{Asked, Plan};
 use causal_order::Order;
 use pota_base::{List, NoMemory, Shape};
-use pull_system::{Fan, Pull, System};
+use pull_fans::{Fan, System};
+use pull_system::Pull;
 use rctl_grammar::Operator;
 use slice_graph::{Slice, order_fans};
 use std::alloc::Global;

@@ -9,7 +9,8 @@ ghost use Rattle.certified_rows.specs.Begun.{present_row, with_raise, with_row};
 
 use crate::lending::lend_from;
 use pota_base::{NoMemory, Steps};
-use pull_system::{Rows, System};
+use pull_fans::System;
+use pull_system::Rows;
 use std::alloc::Global;
 use std::marker::Model;
 use std::sync::ledger::Ledger;

@@ -2,7 +2,7 @@
 ghost use Rattle.std.specs.Prelude.{◌≡◌, ◌++◌, [], None, false, All, IfOk, OnOk, true};
 ghost use Rattle.run_model.specs.Cut.{Clocks, lengths};
 ghost use Rattle.pull_system.specs.System.{IsPull};
-ghost use Rattle.pull_system.specs.Fans.{pulls_of_fans};
+ghost use Rattle.pull_fans.specs.Fans.{pulls_of_fans};
 ghost use Rattle.slice_graph.specs.Views.{HasAllRows};
 ghost use Rattle.slice_graph.specs.Fitting.{FitsOrder};
 ghost use Rattle.slice_graph.specs.PullLists.{pulls_of_slice};
@@ -14,7 +14,8 @@ ghost use Rattle.conjunctions.specs.Beginning.{FloorFits};
 use crate::kinds::{are_atoms, give_order};
 use causal_order::Order;
 use pota_base::{List, NoMemory, Shape};
-use pull_system::{Fan, Floor, Pull};
+use pull_fans::Fan;
+use pull_system::{Floor, Pull};
 use rctl_parts::Part;
 use slice_graph::{Slice, order_fans, order_rows};
 use std::alloc::Global;
@@ -33,7 +34,7 @@ pub struct Gathered {
 }
 
 impl Model for Gathered {
-    ghost use Rattle.pull_system.specs.Fans.{pulls_of_fans};
+    ghost use Rattle.pull_fans.specs.Fans.{pulls_of_fans};
     ghost use Rattle.conjunctions.specs.Beginning.{GatheredView};
 
     ghost Value = { GatheredView };

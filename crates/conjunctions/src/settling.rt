@@ -14,7 +14,7 @@ use crate::round::Round;
 use bound_table::BoundTable;
 use causal_order::Order;
 use pota_base::{Gate, NoMemory, Steps};
-use pull_system::System;
+use pull_fans::System;
 use slice_graph::Slice;
 use slice_workers::settle_behind;
 use std::sync::ledger::Ledger;

@@ -1,7 +1,6 @@
 -- A pull that fails raises its target to what it asks for, which no closed vector is below.
 use Rattle.std.proofs.Common.{◌≡◌, ℕ, ◌<◌, List, length, get_or, set, arith, ap}
-use Rattle.pull_system.specs.System.{SystemView, IsSystem, source_of, target_of, ask}
-use Rattle.pull_system.specs.Climb.{IsBelowLeast}
+use Rattle.pull_system.specs.System.{SystemView, IsSystem, source_of, target_of, ask, IsBelowLeast}
 use Rattle.pull_system.proofs.Climbing.{climb, asked}
 
 pub raise_below : (system : SystemView) → IsSystem system → (k : ℕ) → k < length system.pulls → (start v : List ℕ) → (target z : ℕ) → target ≡ target_of system k → z ≡ ask system k (get_or v (source_of system k) 0)

@@ -1,13 +1,17 @@
 //! The least closed vector of a system of pulls, on one thread.
 #![tactic(auto)]
 
+mod risen;
+
 ghost use Rattle.std.specs.Prelude.{◌≡◌, ◌≢◌, ℕ, ◌+◌, ◌*◌, ◌<◌, ◌≤◌, List, length, sum};
 ghost use Rattle.pull_system.specs.Vector.{IsVector};
-ghost use Rattle.pull_system.specs.System.{IsSystem, IsLeastFrom, source_of};
-ghost use Rattle.pull_system.specs.Climb.{IsBelowLeast, AreHeld, IsLook, AreMarks, marked};
+ghost use Rattle.pull_system.specs.System.{IsSystem, IsLeastFrom, source_of, IsBelowLeast};
+ghost use Rattle.least_cut.specs.Climb.{AreHeld, IsLook, AreMarks};
+ghost use Rattle.pull_system.specs.Marks.{marked};
 
 use pota_base::Steps;
-use pull_system::{Risen, System};
+use crate::risen::Risen;
+use pull_fans::System;
 use std::sync::ledger::Ledger;
 
 /// Raises the vector to the least closed vector at or above it. It takes no memory.

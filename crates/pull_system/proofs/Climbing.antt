@@ -2,8 +2,7 @@
 use Rattle.std.proofs.Common.{◌≡◌, ℕ, zero, suc, ◌+◌, ◌<◌, ◌≤◌, ◌⊎◌, inl, inr, List, [], ◌∷◌, length, get_or, set, refl, arith, subst, sym, ap, ◌∙◌}
 use Rattle.std.proofs.lemmas.List.{length-map, length-set, get_or_past}
 use Rattle.pull_system.specs.Vector.{IsAtMost, IsVector}
-use Rattle.pull_system.specs.System.{SystemView, IsSystem, IsPull, IsClosedFrom, IsLeastFrom, HoldsPull, source_of, target_of, ask}
-use Rattle.pull_system.specs.Climb.{IsBelowLeast}
+use Rattle.pull_system.specs.System.{SystemView, IsSystem, IsPull, IsClosedFrom, IsLeastFrom, HoldsPull, source_of, target_of, ask, IsBelowLeast}
 use Rattle.pull_system.proofs.Pulls.{pull-of, ask-closed, tops, get_or-tops}
 
 pub lt_or_le : (i n : ℕ) → (i < n) ⊎ (n ≤ i)

@@ -2,8 +2,7 @@
 use Rattle.std.proofs.Common.{◌≡◌, ℕ, zero, suc, ◌+◌, ◌<◌, ◌≤◌, ◌⊎◌, inl, inr, List, length, get_or, set, sum, max, arith, sym, ◌∙◌, subst}
 use Rattle.std.proofs.lemmas.List.{ext_get_or}
 use Rattle.pull_system.specs.Vector.{IsVector, IsMinimum, IsMaximum}
-use Rattle.pull_system.specs.System.{SystemView, IsSystem, IsPull, IsClosed, IsLeastFrom, HoldsPull, source_of, target_of, ask}
-use Rattle.pull_system.specs.Climb.{IsBelowLeast}
+use Rattle.pull_system.specs.System.{SystemView, IsSystem, IsPull, IsClosed, IsLeastFrom, HoldsPull, source_of, target_of, ask, IsBelowLeast}
 use Rattle.pull_system.proofs.Pulls.{pull-of, ask-rises}
 use Rattle.pull_system.proofs.Sums.{sum-set, sum-is_vector}
 use Rattle.pull_system.proofs.Climbing.{climb, asked, settled_least, starts_below}

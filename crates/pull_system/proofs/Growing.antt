@@ -6,10 +6,9 @@ use Rattle.std.proofs.lemmas.List.{get_or_past, drop_all}
 use Rattle.std.proofs.lemmas.List.Sums.{sum_by-cons}
 use Rattle.pota_base.specs.Shape.{IsShape}
 use Rattle.pull_system.specs.Vector.{IsAtMost, IsVector}
-use Rattle.pull_system.specs.System.{SystemView, IsSystem, IsPull, IsClosedFrom, IsLeastFrom, pull_at, source_of, target_of, ask}
+use Rattle.pull_system.specs.System.{SystemView, IsSystem, IsPull, IsClosedFrom, IsLeastFrom, pull_at, source_of, target_of, ask, IsBelowLeast}
 use Rattle.pull_system.specs.Rows.{RowsView, AreRows, AreLeastRows, start_of, row_at}
 use Rattle.pull_system.specs.Growth.{PullGrows, Grows, old_row_from, old_row, kept_or_start, grown_row, grown_words}
-use Rattle.pull_system.specs.Climb.{IsBelowLeast}
 use Rattle.pull_system.proofs.Pulls.{pull-of}
 use Rattle.pull_system.proofs.Climbing.{lt_or_le}
 use Rattle.pull_system.proofs.Starts.{in_head, in_tail, cons_same, length-start_of, start_of-vector, length-row_at, row_at-first_rows, length-first_rows}

@@ -1,17 +1,11 @@
 pub mod Marks
 pub mod PullLists
-pub mod Fans
 pub mod FirstNumbers
 pub mod Growing
 pub mod Staying
 pub mod Final
-pub mod Asking
-pub mod Raising
-pub mod Placing
 pub mod Starts
 pub mod Sums
 pub mod Pulls
-pub mod Numbers
 pub mod Climbing
 pub mod Existence
-pub mod Settling

@@ -1,9 +1,6 @@
 pub mod Vector
 pub mod System
 pub mod Pulls
-pub mod Fans
-pub mod Places
-pub mod Asks
 pub mod Rows
 pub mod Growth
-pub mod Climb
+pub mod Marks

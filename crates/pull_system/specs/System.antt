@@ -1,6 +1,6 @@
 -- A system of pulls, its closed vectors, and the least of them.
-use Rattle.std.specs.Prelude.{◌≡◌, ℕ, zero, suc, ◌+◌, ◌^◌, ◌<◌, ◌≤◌, ◌==◌, List, [], ◌∷◌, ◌++◌}
-use Rattle.std.specs.Prelude.{length, slice_index, slice_index_or, All, if◌then◌else◌}
+use Rattle.std.specs.Prelude.{◌≡◌, ℕ, ◌+◌, ◌^◌, ◌<◌, ◌≤◌, List, [], length}
+use Rattle.std.specs.Prelude.{slice_index, slice_index_or, All}
 use Rattle.pota_base.specs.Shape.{IsShape}
 use Rattle.pull_system.specs.declared.pull.Pull.{Pull}
 use Rattle.pull_system.specs.Vector.{IsAtMost, IsVector}
@@ -65,16 +65,8 @@ pub record IsLeastFrom (system : SystemView) (start v : List ℕ) : Type 0 where
   pub closed : IsClosedFrom system start v
   pub least : (c : List ℕ) → IsClosedFrom system start c → IsAtMost v c
 
--- the numbers below `count` of the pulls from this source, in their order
-abbrev pub numbers_from : List Pull → ℕ → ℕ → List ℕ
-numbers_from pulls process zero = []
-numbers_from pulls process (suc count) =
-    if (slice_index_or pulls count no_pull).src == process then numbers_from pulls process count
-    ++ count ∷ [] else numbers_from pulls process count
-
--- for each process the numbers of the pulls from it
-pub record AreBySource (system : SystemView) (by_source : List (List ℕ)) : Type 0 where
-  pub count : length by_source ≡ length system.lens
-  pub each : (process : ℕ) → process < length system.lens
-      → slice_index_or by_source process []
-      ≡ numbers_from system.pulls process (length system.pulls)
+-- at or above the start, and within each closed vector from there
+pub record IsBelowLeast (system : SystemView) (start v : List ℕ) : Type 0 where
+  pub vector : IsVector system.lens v
+  pub above : IsAtMost start v
+  pub below : (c : List ℕ) → IsClosedFrom system start c → IsAtMost v c

@@ -10,7 +10,7 @@ ghost use Rattle.pull_system.specs.System.{SystemView, IsSystem, IsClosed, IsLea
 ghost use Rattle.pull_system.specs.Rows.{RowsView, AreLeastRows, start_of, starts, place_of};
 ghost use Rattle.pull_system.specs.Rows.{IsLeast, row_at};
 ghost use Rattle.pull_system.specs.Growth.{Grows, Stays, grown_words, old_row};
-ghost use Rattle.pull_system.specs.Climb.{IsBelowLeast};
+ghost use Rattle.pull_system.specs.System.{IsBelowLeast};
 
 /// From each start there is exactly one least closed vector, so a row's is a function of the system
 /// and the row.

@@ -9,10 +9,9 @@ use Rattle.pota_base.specs.declared.shape.EventId.{EventId}
 use Rattle.pota_base.specs.Shape.{HasEvent, row_of}
 use Rattle.std.proofs.Math.Nat.{mul-le-mul_left}
 use Rattle.pull_system.specs.Vector.{IsAtMost}
-use Rattle.pull_system.specs.System.{SystemView, IsSystem, IsPull, IsClosedFrom, source_of, target_of, ask}
+use Rattle.pull_system.specs.System.{SystemView, IsSystem, IsPull, IsClosedFrom, source_of, target_of, ask, IsBelowLeast}
 use Rattle.pull_system.specs.Rows.{RowsView, AreLeastRows, start_of, starts, place_of, first_rows}
 use Rattle.pull_system.specs.Growth.{Grows, grown_row, grown_words}
-use Rattle.pull_system.specs.Climb.{IsBelowLeast}
 use Rattle.pull_system.proofs.Pulls.{pull-of, ask-closed}
 use Rattle.pull_system.proofs.Climbing.{set_case, lt_or_le, tops_closed, starts_below}
 use Rattle.pull_system.proofs.Growing.{grown_row_below}

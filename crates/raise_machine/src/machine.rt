@@ -4,7 +4,8 @@ ghost use Rattle.raise_machine.specs.Bounds.{AreBounds, word_at, has_start};
 
 use crate::step::Step;
 use pota_base::{NoMemory, Steps};
-use pull_system::{Rows, System};
+use pull_fans::System;
+use pull_system::Rows;
 use std::alloc::Global;
 use std::marker::{Brand, Model};
 use std::sync::ledger::{Blank, Ledger};

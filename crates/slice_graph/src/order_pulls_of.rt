@@ -6,12 +6,13 @@ ghost use Rattle.run_model.specs.Cut.{Cut, count, IsWithin, lengths};
 ghost use Rattle.run_model.specs.Consistent.{IsConsistent};
 ghost use Rattle.pull_system.specs.System.{IsPull};
 ghost use Rattle.pull_system.specs.Pulls.{ClosedUnder};
-ghost use Rattle.pull_system.specs.Fans.{pulls_of_fan, pulls_of_fans};
+ghost use Rattle.pull_fans.specs.Fans.{pulls_of_fan, pulls_of_fans};
 ghost use Rattle.slice_graph.specs.PullLists.{past_count, order_pull, other, pulls_of_order};
 
 use causal_order::Order;
 use pota_base::{EventId, List, NoMemory};
-use pull_system::{Fan, Pull, pulls_of};
+use pull_fans::{Fan, pulls_of};
+use pull_system::Pull;
 use std::alloc::Global;
 
 /// The pulls of the order: for each source and each other process as the target, in this order,

@@ -5,14 +5,15 @@ ghost use Rattle.run_model.specs.Cut.{Cut, Clocks};
 ghost use Rattle.run_model.specs.Slice.{Cuts};
 ghost use Rattle.pull_system.specs.System.{IsPull};
 ghost use Rattle.pull_system.specs.Pulls.{ClosedUnder};
-ghost use Rattle.pull_system.specs.Fans.{pulls_of_fan, pulls_of_fans};
+ghost use Rattle.pull_fans.specs.Fans.{pulls_of_fan, pulls_of_fans};
 ghost use Rattle.slice_graph.specs.Views.{IsCut, slice_of};
 ghost use Rattle.slice_graph.specs.Fitting.{FitsOrder};
 ghost use Rattle.slice_graph.specs.PullLists.{slice_pull, pulls_of_slice};
 
 use crate::slice::Slice;
 use pota_base::{List, NoMemory};
-use pull_system::{Fan, Pull, pulls_of};
+use pull_fans::{Fan, pulls_of};
+use pull_system::Pull;
 use std::alloc::Global;
 
 impl Slice {

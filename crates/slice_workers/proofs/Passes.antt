@@ -5,7 +5,7 @@ use Rattle.std.proofs.lemmas.List.Sums.{sum_by-cons, sum_by-set}
 use Rattle.std.proofs.Math.Nat.{mul-le-mul_left}
 use Rattle.pull_system.specs.Vector.{IsAtMost}
 use Rattle.pull_system.specs.System.{SystemView}
-use Rattle.pull_system.specs.Climb.{marked}
+use Rattle.pull_system.specs.Marks.{marked}
 use Rattle.pull_system.proofs.Climbing.{set_case}
 use Rattle.bound_table.specs.Views.{SeatView}
 use Rattle.slice_workers.specs.Reaching.{rows_left, AreHanded, HasReachedRows, handed_events, ReachesFirst}

@@ -3,7 +3,7 @@ use Rattle.std.specs.Prelude.{◌≡◌, ℕ, ◌+◌, ◌-◌, ◌*◌, ◌≤�
 use Rattle.std.specs.Prelude.{slice_index_or}
 use Rattle.pull_system.specs.Vector.{IsAtMost}
 use Rattle.pull_system.specs.System.{SystemView}
-use Rattle.pull_system.specs.Climb.{marked}
+use Rattle.pull_system.specs.Marks.{marked}
 use Rattle.raise_machine.specs.Bounds.{AreBounds}
 use Rattle.bound_table.specs.Views.{SeatView, KeepsClaims}
 use Rattle.slice_workers.specs.Calls.{IsPaid}

@@ -3,7 +3,7 @@ ghost use Rattle.std.specs.Prelude.{◌≡◌, ◌<◌};
 use crate::systems::{self, order_and, pull};
 use least_cut::least;
 use pota_base::Steps;
-use pull_system::System;
+use pull_fans::System;
 use std::alloc::Global;
 use std::marker::Brand;
 use std::process::Abort;

@@ -3,7 +3,8 @@ ghost use Rattle.pull_system.specs.System.{IsPull};
 
 use crate::systems::{empty_channel, pull};
 use pota_base::{List, NoMemory, Shape, Steps};
-use pull_system::{Fan, Rows, System, all_fit, pulls_of};
+use pull_fans::{Fan, System, pulls_of};
+use pull_system::{Rows, all_fit};
 use std::alloc::Global;
 use std::marker::Brand;
 use std::process::Abort;

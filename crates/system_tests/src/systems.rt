@@ -3,7 +3,8 @@ ghost use Rattle.std.specs.Prelude.{◌≡◌, IfOk, ◌∷◌, []};
 
 use bound_table::{BoundTable, Seat};
 use pota_base::{List, NoMemory, Shape};
-use pull_system::{Pull, Rows, System, all_fit};
+use pull_fans::System;
+use pull_system::{Pull, Rows, all_fit};
 use std::alloc::Global;
 use std::process::Abort;
 

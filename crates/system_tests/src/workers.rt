@@ -2,7 +2,8 @@ ghost use Rattle.std.specs.Prelude.{◌≡◌, ◌<◌, ◌≤◌};
 
 use crate::systems::{empty_channel, order_and, pull, table_of};
 use pota_base::{FreeGate, Gate, List, NoMemory, Shape, Steps};
-use pull_system::{System, all_fit};
+use pull_fans::System;
+use pull_system::all_fit;
 use slice_workers::{Settled, settle_all};
 use std::alloc::Global;
 use std::marker::Brand;

@@ -8,7 +8,7 @@ ghost use Rattle.run_model.specs.Slice.{Cuts};
 ghost use Rattle.run_model.specs.Operators.{NextTime};
 ghost use Rattle.pull_system.specs.System.{IsPull};
 ghost use Rattle.pull_system.specs.Pulls.{ClosedUnder};
-ghost use Rattle.pull_system.specs.Fans.{pulls_of_fan, pulls_of_fans};
+ghost use Rattle.pull_fans.specs.Fans.{pulls_of_fan, pulls_of_fans};
 ghost use Rattle.slice_graph.specs.Views.{slice_of};
 ghost use Rattle.slice_graph.specs.Fitting.{FitsOrder};
 ghost use Rattle.temporal_slice.specs.NextPulls.{with_one, next_entry, next_pull, pulls_of_next};
@@ -16,7 +16,7 @@ ghost use Rattle.temporal_slice.specs.NextPulls.{with_one, next_entry, next_pull
 use causal_order::Order;
 use cut_lattice::Cut;
 use pota_base::{List, NoMemory};
-use pull_system::Fan;
+use pull_fans::Fan;
 use slice_graph::{Slice, all_processes, set_words};
 use std::alloc::Global;
 

@@ -1,8 +1,8 @@
 use Rattle.std.proofs.Common.{◌+◌, ◌≤◌, ℕ, sum, arith, subst}
-use Rattle.pull_system.specs.Climb.{marked}
+use Rattle.pull_system.specs.Marks.{marked}
 use Rattle.pull_system.proofs.Climbing.{starts_below}
 use Rattle.pull_system.proofs.Sums.{sum-is_vector, sum-within}
-use Rattle.pull_system.proofs.Settling.{pays_start, pays_next}
+use Rattle.least_cut.proofs.Settling.{pays_start, pays_next}
 use Rattle.least_cut.proofs.least.Goals as goal
 
 pub loop-process-init : goal.loop-process-init

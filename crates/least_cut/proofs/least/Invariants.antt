@@ -1,5 +1,7 @@
 use Rattle.std.proofs.Common.{◌+◌, ◌-◌, ◌*◌, ◌≤◌, length, sum}
-use Rattle.pull_system.specs.Climb.{AreMarks, IsBelowLeast, AreHeld, marked}
+use Rattle.least_cut.specs.Climb.{AreMarks, AreHeld}
+use Rattle.pull_system.specs.System.{IsBelowLeast}
+use Rattle.pull_system.specs.Marks.{marked}
 use Rattle.least_cut.proofs.least.Given as goal
 
 abbrev pub invariant-loop-process : goal.invariant-loop-process

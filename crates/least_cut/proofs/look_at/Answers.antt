@@ -1,8 +1,8 @@
 use Rattle.std.proofs.Common.{rules, refl, List, Bool, subst, sym}
-use Rattle.pull_system.specs.Climb.{AreMarks}
-use Rattle.pull_system.specs.Climb.IsLook.{Held, Raised}
+use Rattle.least_cut.specs.Climb.{AreMarks}
+use Rattle.least_cut.specs.Climb.IsLook.{Held, Raised}
 use Rattle.pull_system.proofs.Climbing.{starts_below}
-use Rattle.pull_system.proofs.Settling.{marks_more}
+use Rattle.least_cut.proofs.Settling.{marks_more}
 use Rattle.least_cut.proofs.Looks.{raise_below}
 use Rattle.least_cut.proofs.look_at.Goals as goal
 

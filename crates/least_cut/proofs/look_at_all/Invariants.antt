@@ -1,6 +1,8 @@
 use Rattle.std.proofs.Common.{◌≡◌, ℕ, ◌+◌, ◌<◌, ◌≤◌, List, sum}
 use Rattle.pull_system.specs.Vector.{IsVector}
-use Rattle.pull_system.specs.Climb.{AreMarks, IsBelowLeast, AreHeld, marked}
+use Rattle.least_cut.specs.Climb.{AreMarks, AreHeld}
+use Rattle.pull_system.specs.System.{IsBelowLeast}
+use Rattle.pull_system.specs.Marks.{marked}
 use Rattle.least_cut.proofs.look_at_all.Given as goal
 
 abbrev pub invariant-loop-k : goal.invariant-loop-k

@@ -1,5 +1,6 @@
 use Rattle.std.proofs.Common.{rules, arith}
-use Rattle.pull_system.proofs.Settling.{settled_by, looked_none, looked_next, looked_whole, look_settles, below_count, numbers_few}
+use Rattle.least_cut.proofs.Settling.{settled_by, looked_none, looked_next, looked_whole, look_settles, below_count}
+use Rattle.pull_fans.proofs.Numbers.{numbers_few}
 use Rattle.least_cut.proofs.look_from.Goals as goal
 
 pub loop-k-init : goal.loop-k-init

@@ -1,5 +1,5 @@
 use Rattle.std.proofs.Common.{◌≡◌, ◌<◌, Bool, List, true, false, get_or, set, length, sym, ap, ◌∙◌, subst, arith, rules}
-use Rattle.pull_system.specs.Climb.{marked}
+use Rattle.pull_system.specs.Marks.{marked}
 use Rattle.pull_system.specs.System.{HoldsPull}
 use Rattle.certified_rows.specs.Begun.{BegunView, present_row}
 use Rattle.canonical_rows.specs.Canonical.{AreDoubts}

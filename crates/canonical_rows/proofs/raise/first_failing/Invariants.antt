@@ -1,5 +1,5 @@
 use Rattle.std.proofs.Common.{ℕ, ◌+◌, ◌<◌, ◌≤◌}
-use Rattle.pull_system.specs.Climb.{marked}
+use Rattle.pull_system.specs.Marks.{marked}
 use Rattle.pull_system.specs.System.{HoldsPull}
 use Rattle.certified_rows.specs.Begun.{present_row}
 use Rattle.canonical_rows.specs.Canonical.{AreDoubts}

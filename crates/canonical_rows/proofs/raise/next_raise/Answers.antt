@@ -1,10 +1,11 @@
 use Rattle.std.proofs.Common.{◌≡◌, ◌≢◌, ℕ, ◌<◌, Bool, List, true, false, get_or, set, length, sym, ap, ◌∙◌, subst, arith, inl, inr}
 use Rattle.std.proofs.lemmas.Bool.{false≢true}
 use Rattle.std.proofs.lemmas.List.{length-set}
-use Rattle.pull_system.specs.Climb.{marked}
-use Rattle.pull_system.specs.System.{SystemView, source_of, target_of, numbers_from}
+use Rattle.pull_system.specs.Marks.{marked}
+use Rattle.pull_system.specs.System.{SystemView, source_of, target_of}
+use Rattle.pull_fans.specs.Sources.{numbers_from}
 use Rattle.pull_system.proofs.Climbing.{set_case}
-use Rattle.pull_system.proofs.Numbers.{numbers_from-is, numbers_from-has}
+use Rattle.pull_fans.proofs.Numbers.{numbers_from-is, numbers_from-has}
 use Rattle.certified_rows.specs.Begun.{BegunView}
 use Rattle.canonical_rows.proofs.Doubting.{doubts_raised, first_doubted, marked_less}
 use Rattle.canonical_rows.proofs.raise.next_raise.Goals as goal

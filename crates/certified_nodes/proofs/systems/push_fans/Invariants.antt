@@ -1,5 +1,5 @@
 use Rattle.std.proofs.Common.{◌≡◌, ◌++◌}
-use Rattle.pull_system.specs.Fans.{pulls_of_fans}
+use Rattle.pull_fans.specs.Fans.{pulls_of_fans}
 use Rattle.certified_nodes.proofs.systems.push_fans.Given as goal
 
 abbrev pub invariant-loop-fan : goal.invariant-loop-fan

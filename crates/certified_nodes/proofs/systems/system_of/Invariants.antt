@@ -1,5 +1,5 @@
 use Rattle.std.proofs.Common.{◌≡◌, ◌++◌, flat_map, take}
-use Rattle.pull_system.specs.Fans.{pulls_of_fans}
+use Rattle.pull_fans.specs.Fans.{pulls_of_fans}
 use Rattle.slice_graph.specs.PullLists.{pulls_of_order}
 use Rattle.certified_nodes.specs.Plans.{pulls_asked}
 use Rattle.certified_nodes.proofs.systems.system_of.Given as goal

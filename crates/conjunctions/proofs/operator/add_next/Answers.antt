@@ -3,7 +3,7 @@ use Rattle.std.proofs.lemmas.Result.{IfOk-weaker}
 use Rattle.run_model.specs.Cut.{lengths}
 use Rattle.run_model.proofs.Counts.{length-lengths}
 use Rattle.slice_graph.specs.Views.{slice_of}
-use Rattle.pull_system.specs.Fans.{pulls_of_fans}
+use Rattle.pull_fans.specs.Fans.{pulls_of_fans}
 use Rattle.conjunctions.proofs.Beginning.{floor_more}
 use Rattle.part_pulls.proofs.Firsts.{first_next}
 use Rattle.conjunctions.proofs.Asking.{next_adds}

@@ -2,7 +2,7 @@ use Rattle.std.proofs.Common.{ℕ, ◌-◌, ◌≤◌, List, All, length, sym, s
 use Rattle.std.proofs.lemmas.Nat.{mul-le}
 use Rattle.run_model.proofs.Counts.{length-lengths}
 use Rattle.pull_system.specs.System.{IsPull}
-use Rattle.pull_system.specs.Fans.{pulls_of_fans}
+use Rattle.pull_fans.specs.Fans.{pulls_of_fans}
 use Rattle.run_tests.proofs.slices.system_of.Goals as goal
 
 pub of_fans-requires-clause-pulls : goal.of_fans-requires-clause-pulls

@@ -7,7 +7,7 @@ use Rattle.pull_system.specs.declared.pull.Pull.{Pull}
 use Rattle.pull_system.specs.System.{IsPull}
 use Rattle.pull_system.specs.Pulls.{ClosedUnder}
 use Rattle.slice_graph.specs.PullLists.{order_pull, pulls_of_order}
-use Rattle.pull_system.specs.Fans.{pulls_of_fans}
+use Rattle.pull_fans.specs.Fans.{pulls_of_fans}
 use Rattle.slice_graph.proofs.Pairs.{flat_first}
 use Rattle.slice_graph.proofs.Fans.{fans_more}
 use Rattle.slice_graph.proofs.OrderPulls.{order_pulls_fit, order_pulls_count, order_closed}

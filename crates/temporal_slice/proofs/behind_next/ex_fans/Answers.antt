@@ -7,7 +7,7 @@ use Rattle.run_model.proofs.ClosureLemmas.{next_time_closed}
 use Rattle.pull_system.specs.declared.pull.Pull.{Pull}
 use Rattle.pull_system.specs.System.{IsPull}
 use Rattle.pull_system.specs.Pulls.{ClosedUnder}
-use Rattle.pull_system.specs.Fans.{pulls_of_fans}
+use Rattle.pull_fans.specs.Fans.{pulls_of_fans}
 use Rattle.slice_graph.specs.Views.{slice_of}
 use Rattle.slice_graph.proofs.Pairs.{flat_first}
 use Rattle.slice_graph.proofs.Fans.{fans_more}

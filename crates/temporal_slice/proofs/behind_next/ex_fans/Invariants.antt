@@ -1,6 +1,6 @@
 use Rattle.std.proofs.Common.{◌≡◌, length, flat_map}
 use Rattle.std.specs.List.{range_with_len}
-use Rattle.pull_system.specs.Fans.{pulls_of_fans}
+use Rattle.pull_fans.specs.Fans.{pulls_of_fans}
 use Rattle.temporal_slice.specs.NextPulls.{next_pull}
 use Rattle.temporal_slice.proofs.behind_next.ex_fans.Given as goal
 

@@ -1,5 +1,5 @@
 use Rattle.std.proofs.Common.{arith, refl}
-use Rattle.pull_system.proofs.Settling.{numbers_few}
+use Rattle.pull_fans.proofs.Numbers.{numbers_few}
 use Rattle.bound_table.proofs.Seeing.{asking_put, sees_put}
 use Rattle.bound_table.proofs.table.BoundTable.ask_again.Goals as goal
 

@@ -1,7 +1,7 @@
 use Rattle.std.proofs.Common.{rules, arith, refl, ap, ◌≡◌, ◌+◌, ◌<◌, ◌≤◌, ◌∙◌, ℕ, List, length, get_or}
 use Rattle.std.proofs.lemmas.List.{length-set}
 use Rattle.pull_system.specs.System.{SystemView}
-use Rattle.pull_system.proofs.Asking.{pulls_from_few}
+use Rattle.pull_fans.proofs.Asking.{pulls_from_few}
 use Rattle.bound_table.proofs.Floors.{within_one}
 use Rattle.bound_table.proofs.Settling.{settling_trans, settling_again, settling_rises}
 use Rattle.bound_table.proofs.Seeing.{hold_none, hold_put, put_next, within_first, first_more, hold_upto}

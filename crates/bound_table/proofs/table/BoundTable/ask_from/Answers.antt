@@ -1,6 +1,6 @@
 use Rattle.std.proofs.Common.{rules, subst}
 use Rattle.pull_system.specs.System.{SystemView}
-use Rattle.pull_system.specs.Asks.{AreAsks}
+use Rattle.pull_fans.specs.Asks.{AreAsks}
 use Rattle.bound_table.proofs.Settling.{entry_there}
 use Rattle.bound_table.proofs.Seeing.{asks_hold}
 use Rattle.bound_table.proofs.table.BoundTable.ask_from.Goals as goal

@@ -1,6 +1,6 @@
 use Rattle.std.proofs.Common.{rules, arith, ap, ◌≡◌, ◌<◌, ◌≤◌, ◌∙◌, ℕ, length, get_or}
 use Rattle.pull_system.specs.System.{SystemView}
-use Rattle.pull_system.proofs.Asking.{pulls_from_few}
+use Rattle.pull_fans.proofs.Asking.{pulls_from_few}
 use Rattle.bound_table.proofs.Settling.{settling_rises}
 use Rattle.bound_table.proofs.Seeing.{asking_trans, asking_again, within_first, first_more, upto_next, sees_none, sees_trans}
 use Rattle.bound_table.proofs.table.BoundTable.ask_risen.Goals as goal

@@ -1,5 +1,5 @@
 use Rattle.std.proofs.Common.{◌≡◌, ℕ, ◌+◌, ◌<◌, ◌≤◌, true, false, get_or, length}
-use Rattle.pull_system.specs.Climb.{marked}
+use Rattle.pull_system.specs.Marks.{marked}
 use Rattle.canonical_rows.proofs.doubts.Doubts.add.Given as goal
 
 abbrev pub invariant-loop-pull : goal.invariant-loop-pull

@@ -2,7 +2,7 @@ use Rattle.std.proofs.Common.{◌≡◌, true, List, [], ◌++◌, Option, Some,
 use Rattle.std.specs.Prelude.{IfSome}
 use Rattle.run_model.specs.Cut.{lengths}
 use Rattle.pull_system.specs.declared.pull.Pull.{Pull}
-use Rattle.pull_system.specs.Fans.{pulls_of_fans}
+use Rattle.pull_fans.specs.Fans.{pulls_of_fans}
 use Rattle.pull_system.specs.Rows.{RowsView, AreLeastRows}
 use Rattle.slice_graph.specs.PullLists.{pulls_of_slice}
 use Rattle.conjunctions.specs.Beginning.{GatheredView, MayBeginFrom}

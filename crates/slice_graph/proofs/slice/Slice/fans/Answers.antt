@@ -6,7 +6,7 @@ use Rattle.pull_system.specs.System.{IsPull}
 use Rattle.pull_system.specs.Pulls.{ClosedUnder}
 use Rattle.slice_graph.specs.Views.{slice_of}
 use Rattle.slice_graph.specs.PullLists.{slice_pull, pulls_of_slice}
-use Rattle.pull_system.specs.Fans.{pulls_of_fans}
+use Rattle.pull_fans.specs.Fans.{pulls_of_fans}
 use Rattle.slice_graph.proofs.Pairs.{flat_first}
 use Rattle.slice_graph.proofs.Fans.{fans_more}
 use Rattle.slice_graph.proofs.SlicePulls.{slice_pulls_fit, slice_pulls_count, slice_closed}

@@ -1,6 +1,6 @@
 use Rattle.std.proofs.Common.{◌≡◌, length, flat_map}
 use Rattle.std.specs.List.{range_with_len}
-use Rattle.pull_system.specs.Fans.{pulls_of_fans}
+use Rattle.pull_fans.specs.Fans.{pulls_of_fans}
 use Rattle.slice_graph.specs.PullLists.{slice_pull}
 use Rattle.slice_graph.proofs.slice.Slice.fans.Given as goal
 

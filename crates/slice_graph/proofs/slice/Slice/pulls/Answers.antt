@@ -3,7 +3,7 @@ use Rattle.std.proofs.lemmas.Result.{IfOk-weaker}
 use Rattle.run_model.specs.Slice.{Cuts}
 use Rattle.pull_system.specs.declared.pull.Pull.{Pull}
 use Rattle.pull_system.specs.Pulls.{ClosedUnder}
-use Rattle.pull_system.specs.Fans.{pulls_of_fans}
+use Rattle.pull_fans.specs.Fans.{pulls_of_fans}
 use Rattle.slice_graph.specs.Views.{slice_of}
 use Rattle.slice_graph.proofs.slice.Slice.pulls.Goals as goal
 

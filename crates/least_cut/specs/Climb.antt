@@ -1,0 +1,37 @@
+-- What stays true while a vector is raised to the least closed one.
+use Rattle.std.specs.Prelude.{◌≡◌, ◌≢◌, ◌⊎◌, ℕ, ◌<◌, List, ◌≤◌, Bool, false, true, length}
+use Rattle.std.specs.Prelude.{slice_index, slice_index_or, slice_set, if◌then◌else◌}
+use Rattle.std.specs.List.{sum_by}
+use Rattle.pull_system.specs.Vector.{IsAtMost, IsVector}
+use Rattle.pull_system.specs.System.{SystemView, IsClosedFrom, HoldsPull, source_of, target_of, ask}
+
+-- each pull that was looked at holds, unless its source has risen
+pub record AreHeld (system : SystemView) (v : List ℕ) (risen : List Bool) (looked : ℕ → Type 0) :
+    Type 0 where
+  pub each : (k : ℕ) → k < length system.pulls → looked k
+      → slice_index_or risen (source_of system k) false ≡ false → HoldsPull system v k
+
+-- one look at pull k: it holds and nothing changes, or its target rises to at least what it asks
+-- for and is marked
+pub data IsLook (system : SystemView) (k : ℕ) (v w : List ℕ) (risen marks : List Bool) : Type 0
+  where
+    Held : HoldsPull system v k → w ≡ v → marks ≡ risen → IsLook system k v w risen marks
+    Raised : (z : ℕ) → ask system k (slice_index v (source_of system k)) ≤ z
+        → slice_index v (target_of system k) < z → w ≡ slice_set v (target_of system k) z
+        → marks ≡ slice_set risen (target_of system k) true → IsLook system k v w risen marks
+
+-- k is one of the first numbers
+pub record IsAmongFirst (numbers : List ℕ) (count k : ℕ) : Type 0 where
+  pub index : ℕ
+  pub before : index < count
+  pub is : slice_index numbers index ≡ k
+
+-- what was looked at once all pulls from the other processes and the first of these numbers were
+abbrev pub IsLooked : SystemView → ℕ → List ℕ → ℕ → ℕ → Type 0
+IsLooked system process numbers count k =
+    (source_of system k ≢ process) ⊎ IsAmongFirst numbers count k
+
+-- room for every process that there may be, and no mark at one that is not there
+pub record AreMarks (lens : List ℕ) (risen : List Bool) : Type 0 where
+  pub size : length risen ≡ 32
+  pub there : (process : ℕ) → slice_index_or risen process false ≡ true → process < length lens

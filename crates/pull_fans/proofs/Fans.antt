@@ -1,0 +1,139 @@
+-- The columns of rows: none, one row more, and a table that is the only one.
+use Rattle.std.proofs.Common.{◌≡◌, ℕ, zero, suc, ◌+◌, ◌*◌, ◌<◌, List, [], ◌∷◌, ◌++◌, length, get_or, map, replicate, refl, sym, ap, ◌∙◌, arith, append_assoc, ◌-◌, ◌≤◌, ◌⊎◌, inl, inr, drop, subst}
+use Rattle.std.specs.List.{range_with_len, slice_range}
+use Rattle.std.proofs.lemmas.List.{same_lists, get_or-append-add, get_or-take, get_or-drop}
+use Rattle.std.proofs.lemmas.List.FromFn.{get_or-map-range_with_len, length-map-range_with_len, map-range_with_len_more}
+use Rattle.std.proofs.lemmas.Grind.{same_number_lists}
+use Rattle.std.proofs.lemmas.Nat.{mul-add-lt}
+use Rattle.std.proofs.Math.ListN.{get_or-append}
+use Rattle.pull_system.specs.declared.pull.Pull.{Pull}
+use Rattle.pull_fans.specs.Fans.{FanView, column, columns, HasRow, pull_of_fan, pulls_of_fan}
+
+-- numbers that are the same one by one
+pub same_maps : {X : Type 0} (f g : ℕ → X) (n : ℕ) → ((k : ℕ) → k < n → f k ≡ g k) → map f (range_with_len 0 n) ≡ map g (range_with_len 0 n)
+same_maps f g n same =
+    same_lists (map f (range_with_len 0 n)) (map g (range_with_len 0 n)) (length-map-range_with_len f 0 n ∙ sym (length-map-range_with_len g 0 n))
+    (λ k d there.
+    let below : k < n = omega (arith, there, length-map-range_with_len f 0 n) in
+    get_or-map-range_with_len f 0 n k k d below (omega arith) ∙ same k below ∙ sym (get_or-map-range_with_len g 0 n k k d below (omega arith)))
+
+pub column_at : (width values : ℕ) (entries : List ℕ) (i : ℕ) → i < width → get_or (columns width values entries) i [] ≡ column width values entries i
+column_at width values entries i there = get_or-map-range_with_len (column width values entries) 0 width i i [] there (omega arith)
+
+pub no_columns : (width : ℕ) (entries : List ℕ) → columns width 0 entries ≡ replicate width []
+no_columns width entries = none 0 width
+  where
+    none : (a n : ℕ) → map (column width 0 entries) (range_with_len a n) ≡ replicate n []
+    none a zero = refl
+    none a (suc n) = ap (λ (ts : List (List ℕ)). [] ∷ ts) (none (a + 1) n)
+
+column_more : (width values : ℕ) (entries row : List ℕ) (i : ℕ) → length entries ≡ values * width → i < width → column width (values + 1) (entries ++ row) i ≡ column width values entries i ++ get_or row i 0 ∷ []
+column_more width values entries row i size there =
+    map-range_with_len_more entry 0 values values (omega arith)
+    ∙ ap (λ (xs : List ℕ). xs ++ entry values ∷ []) (same_maps entry (λ x. get_or entries (x * width + i) 0) values before)
+    ∙ ap (λ (x : ℕ). column width values entries i ++ x ∷ []) last
+  where
+    entry : ℕ → ℕ
+    entry x = get_or (entries ++ row) (x * width + i) 0
+
+    before : (x : ℕ) → x < values → get_or (entries ++ row) (x * width + i) 0 ≡ get_or entries (x * width + i) 0
+    before x less =
+        let inside : x * width + i < width * values = mul-add-lt x width i values less there in
+        get_or-append entries row 0 (x * width + i) (omega (arith, inside, size))
+
+    last : get_or (entries ++ row) (values * width + i) 0 ≡ get_or row i 0
+    last = ap (λ (n : ℕ). get_or (entries ++ row) (n + i) 0) (sym size) ∙ get_or-append-add entries row i 0
+
+-- one row more
+pub has_row : (width values : ℕ) (entries row : List ℕ) → length entries ≡ values * width → HasRow row (columns width values entries) (columns width (values + 1) (entries ++ row))
+has_row width values entries row size = record {
+  size = length-map-range_with_len (column width (values + 1) (entries ++ row)) 0 width ∙ sym (length-map-range_with_len (column width values entries) 0 width);
+  each = λ j inside.
+      let there : j < width = omega (arith, inside, length-map-range_with_len (column width values entries) 0 width) in
+      column_at width (values + 1) (entries ++ row) j there ∙ column_more width values entries row j size there ∙ ap (λ (xs : List ℕ). xs ++ get_or row j 0 ∷ []) (sym (column_at width values entries j there));
+}
+
+pub one_column : (table : List ℕ) → column 1 (length table) table 0 ≡ table
+one_column table =
+    same_number_lists (column 1 (length table) table 0) table size
+    (λ k there.
+    get_or-map-range_with_len entry 0 (length table) k k 0 (omega (arith, there, size)) (omega arith) ∙ ap (λ (i : ℕ). get_or table i 0) (omega arith))
+  where
+    entry : ℕ → ℕ
+    entry x = get_or table (x * 1 + 0) 0
+
+    size : length (column 1 (length table) table 0) ≡ length table
+    size = length-map-range_with_len entry 0 (length table)
+
+pub column_next : (width x index item : ℕ) (entries before now : List ℕ) → before ≡ column width x entries index → now ≡ before ++ item ∷ [] → item ≡ get_or entries (x * width + index) 0 → now ≡ column width (x + 1) entries index
+column_next width x index item entries before now is more at =
+    more ∙ ap (λ (xs : List ℕ). xs ++ item ∷ []) is ∙ ap (λ (y : ℕ). column width x entries index ++ y ∷ []) at
+    ∙ sym (map-range_with_len_more (λ y. get_or entries (y * width + index) 0) 0 x x (omega arith))
+
+same_pull : (src dst : ℕ) (table : List ℕ) (pull : Pull) → src ≡ pull.src → dst ≡ pull.dst → table ≡ pull.table → record { src = src; dst = dst; table = table } ≡ pull
+same_pull src dst table pull source target entries =
+    let by_source : ℕ → Pull = λ s. record { src = s; dst = dst; table = table } in
+    let by_target : ℕ → Pull = λ d. record { src = pull.src; dst = d; table = table } in
+    let by_table : List ℕ → Pull = λ t. record { src = pull.src; dst = pull.dst; table = t } in
+    ap by_source source ∙ ap by_target target ∙ ap by_table entries
+
+-- one pull more of a fan
+pub pulls_next : (old before now : List Pull) (fan : FanView) (i src dst : ℕ) (table : List ℕ) → before ≡ old ++ map (pull_of_fan fan) (range_with_len 0 i) → now ≡ before ++ record { src = src; dst = dst; table = table } ∷ []
+    → src ≡ fan.src → dst ≡ get_or fan.targets i 0 → table ≡ get_or fan.tables i [] → now ≡ old ++ map (pull_of_fan fan) (range_with_len 0 (i + 1))
+pulls_next old before now fan i src dst table is more source target entries =
+    more ∙ ap (λ (ps : List Pull). ps ++ record { src = src; dst = dst; table = table } ∷ []) is
+    ∙ ap (λ (p : Pull). (old ++ map (pull_of_fan fan) (range_with_len 0 i)) ++ p ∷ []) (same_pull src dst table (pull_of_fan fan i) source target entries)
+    ∙ append_assoc old (map (pull_of_fan fan) (range_with_len 0 i)) (pull_of_fan fan i ∷ [])
+    ∙ ap (λ (ps : List Pull). old ++ ps) (sym (map-range_with_len_more (pull_of_fan fan) 0 i i (omega arith)))
+
+-- the fan of one pull
+pub fan_of_one : (pull : Pull) (targets entries : List ℕ) (values : ℕ) → targets ≡ pull.dst ∷ [] → entries ≡ pull.table → values ≡ length pull.table
+    → pulls_of_fan record { src = pull.src; targets = targets; tables = columns (length targets) values entries } ≡ pull ∷ []
+fan_of_one pull targets entries values target table size =
+    let fan : List ℕ → ℕ → List ℕ → FanView = λ ts n es. record { src = pull.src; targets = ts; tables = columns (length ts) n es } in
+    let one : List ℕ → List Pull = λ t. record { src = pull.src; dst = pull.dst; table = t } ∷ [] in
+    ap (λ (ts : List ℕ). pulls_of_fan (fan ts values entries)) target
+    ∙ ap (λ (n : ℕ). pulls_of_fan (fan (pull.dst ∷ []) n entries)) size
+    ∙ ap (λ (es : List ℕ). pulls_of_fan (fan (pull.dst ∷ []) (length pull.table) es)) table
+    ∙ ap one (one_column pull.table)
+
+-- where an entry of a table stands
+pub record StandsAt (width values index x : ℕ) (entries : List ℕ) (tables : List (List ℕ)) : Type 0 where
+  pub below : x < values
+  pub inside : x * width + index < length entries
+  pub is : get_or entries (x * width + index) 0 ≡ get_or (get_or tables index []) x 0
+
+pub entry_stands : (width values index x : ℕ) (entries : List ℕ) (tables : List (List ℕ)) → columns width values entries ≡ tables → length entries ≡ values * width → index < width → x < length (get_or tables index [])
+    → StandsAt width values index x entries tables
+entry_stands width values index x entries tables same size there value =
+    let at : get_or tables index [] ≡ column width values entries index = ap (λ (ts : List (List ℕ)). get_or ts index []) (sym same) ∙ column_at width values entries index there in
+    let entry : ℕ → ℕ = λ y. get_or entries (y * width + index) 0 in
+    let below : x < values = omega (arith, value, ap length at, length-map-range_with_len entry 0 values) in
+    let inside : x * width + index < width * values = mul-add-lt x width index values below there in
+    record {
+      below = below;
+      inside = omega (arith, inside, size);
+      is = sym (ap (λ (t : List ℕ). get_or t x 0) at ∙ get_or-map-range_with_len entry 0 values x x 0 below (omega arith));
+    }
+
+-- a row of entries, which has one entry of each table
+pub record RowStands (width x : ℕ) (entries : List ℕ) (tables : List (List ℕ)) : Type 0 where
+  pub room : x * width + width ≤ length entries
+  pub each : (row : List ℕ) → row ≡ slice_range entries (x * width) (x * width + width) → (i : ℕ) → i < width → get_or row i 0 ≡ get_or (get_or tables i []) x 0
+
+none_or_some : (n : ℕ) → (n ≡ 0) ⊎ (1 ≤ n)
+none_or_some n = grind arith
+
+pub row_stands : (width values most x : ℕ) (entries : List ℕ) (tables : List (List ℕ)) → columns width values entries ≡ tables → length entries ≡ values * width → ((i : ℕ) → i < width → length (get_or tables i []) ≡ most) → x < most
+    → RowStands width x entries tables
+row_stands width values most x entries tables same size sizes below = record {
+  room = elim (none_or_some width) [
+    | inl none ↦ let P : ℕ → Type 0 = λ n. x * n + n ≤ length entries in subst P (sym none) (omega arith)
+    | inr some ↦ let last = stands (width - 1) (omega (arith, some)) in omega (arith, last.inside, some)
+  ];
+  each = λ row is i there.
+      ap (λ (xs : List ℕ). get_or xs i 0) is ∙ get_or-take (x * width + width - x * width) (drop (x * width) entries) i 0 (omega arith) ∙ get_or-drop (x * width) entries i 0 ∙ (stands i there).is;
+}
+  where
+    stands : (i : ℕ) → i < width → StandsAt width values i x entries tables
+    stands i there = entry_stands width values i x entries tables same size there (omega (arith, below, sizes i there))

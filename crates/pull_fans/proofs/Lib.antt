@@ -1,0 +1,5 @@
+pub mod Numbers
+pub mod Fans
+pub mod Raising
+pub mod Placing
+pub mod Asking

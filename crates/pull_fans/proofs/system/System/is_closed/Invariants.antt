@@ -1,0 +1,9 @@
+use Rattle.std.proofs.Common.{◌≡◌, ◌<◌, ◌+◌, ℕ}
+use Rattle.pull_system.specs.System.{HoldsPull}
+use Rattle.pull_fans.proofs.system.System.is_closed.Given as goal
+
+abbrev pub invariant-loop-k : goal.invariant-loop-k
+invariant-loop-k g l = record {
+  looks : l.steps ≡ l.fn.steps + l.k;
+  held : (k : ℕ) → k < l.k → HoldsPull l.self l.vector k;
+}

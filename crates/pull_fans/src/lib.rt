@@ -1,0 +1,15 @@
+//! Systems of pulls held as fans, with the rows of what they ask.
+//!
+//! A `Fan` holds the pulls from one process side by side, and a `System` is made from fans.
+//! `System::pull` gives one entry of a pull's table, and `System::asks` what all pulls from a
+//! process ask at one value; both count look-ups (clauses `step` and `steps`). What a system of
+//! pulls is, and its laws, stand in `pull_system`. Nothing is said of time.
+#![tactic(auto)]
+
+mod asks;
+mod fan;
+mod places;
+mod system;
+
+pub use fan::{Fan, pulls_of};
+pub use system::System;

@@ -1,5 +1,0 @@
-use Rattle.pull_system.specs.Asks.{AreRaisedIn}
-use Rattle.pull_system.proofs.fan.Fan.raise_run.Given as goal
-
-abbrev pub invariant-loop-x : goal.invariant-loop-x
-invariant-loop-x l = AreRaisedIn l.self l.procs l.first l.end l.x l.fn.rows l.rows

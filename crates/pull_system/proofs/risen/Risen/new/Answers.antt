@@ -1,6 +1,0 @@
-use Rattle.std.proofs.Common.{false, replicate, refl}
-use Rattle.pull_system.proofs.Marks.{unmarked}
-use Rattle.pull_system.proofs.risen.Risen.new.Goals as goal
-
-pub returns-clause-none : goal.returns-clause-none
-returns-clause-none c = unmarked (replicate 32 false) refl
