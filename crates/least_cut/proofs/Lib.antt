@@ -1,2 +1,2 @@
-pub mod Looks
 pub mod Settling
+pub mod Looks

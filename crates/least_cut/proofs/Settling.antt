@@ -11,7 +11,7 @@ use Rattle.pull_fans.specs.Sources.{numbers_from}
 use Rattle.pull_system.proofs.Climbing.{set_case, set_at_least}
 use Rattle.pull_system.specs.Vector.{IsVector}
 use Rattle.pull_system.proofs.Pulls.{pull-of}
-use Rattle.pull_fans.proofs.Numbers.{numbers_from-has, numbers_from-is, length-numbers_from}
+use Rattle.pull_fans.proofs.Numbers.{numbers_from-has, numbers_from-is}
 use Rattle.pull_system.proofs.Marks.{mark_more}
 use Rattle.pull_system.proofs.Sums.{sum-set}
 

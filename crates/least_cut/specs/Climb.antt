@@ -1,9 +1,9 @@
 -- What stays true while a vector is raised to the least closed one.
-use Rattle.std.specs.Prelude.{◌≡◌, ◌≢◌, ◌⊎◌, ℕ, ◌<◌, List, ◌≤◌, Bool, false, true, length}
-use Rattle.std.specs.Prelude.{slice_index, slice_index_or, slice_set, if◌then◌else◌}
-use Rattle.std.specs.List.{sum_by}
-use Rattle.pull_system.specs.Vector.{IsAtMost, IsVector}
-use Rattle.pull_system.specs.System.{SystemView, IsClosedFrom, HoldsPull, source_of, target_of, ask}
+use Rattle.std.specs.Prelude.{◌≡◌, ◌≢◌, ◌⊎◌, ℕ, ◌+◌, ◌<◌, ◌≤◌, List, Bool, false, true, length, sum}
+use Rattle.std.specs.Prelude.{slice_index, slice_index_or, slice_set}
+use Rattle.pull_system.specs.Vector.{IsVector}
+use Rattle.pull_system.specs.System.{SystemView, IsBelowLeast, HoldsPull, source_of, target_of, ask}
+use Rattle.pull_system.specs.Marks.{marked}
 
 -- each pull that was looked at holds, unless its source has risen
 pub record AreHeld (system : SystemView) (v : List ℕ) (risen : List Bool) (looked : ℕ → Type 0) :
@@ -35,3 +35,11 @@ IsLooked system process numbers count k =
 pub record AreMarks (lens : List ℕ) (risen : List Bool) : Type 0 where
   pub size : length risen ≡ 32
   pub there : (process : ℕ) → slice_index_or risen process false ≡ true → process < length lens
+
+-- What looks at pulls keep, from a vector and its marks to those that they leave: the vector stays
+-- below each least closed one that it was below, and each mark that is set is paid for by a rise.
+pub record IsClimb (system : SystemView) (v w : List ℕ) (before after : List Bool) : Type 0 where
+  pub vector : IsVector system.lens w
+  pub below : (start : List ℕ) → IsBelowLeast system start v → IsBelowLeast system start w
+  pub marks : AreMarks system.lens after
+  pub pays : marked after + sum v ≤ marked before + sum w

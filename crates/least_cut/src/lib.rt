@@ -1,16 +1,15 @@
 //! The least closed vector of a system of pulls, on one thread.
 #![tactic(auto)]
 
+ghost use Rattle.std.specs.Prelude.{◌≡◌, ◌≢◌, ◌+◌, ◌*◌, ◌<◌, ◌≤◌, length, sum};
+ghost use Rattle.pull_system.specs.Vector.{IsVector};
+ghost use Rattle.pull_system.specs.System.{IsSystem, IsLeastFrom, source_of};
+ghost use Rattle.least_cut.specs.Climb.{AreHeld, IsLook, IsClimb, AreMarks};
+
 mod risen;
 
-ghost use Rattle.std.specs.Prelude.{◌≡◌, ◌≢◌, ℕ, ◌+◌, ◌*◌, ◌<◌, ◌≤◌, List, length, sum};
-ghost use Rattle.pull_system.specs.Vector.{IsVector};
-ghost use Rattle.pull_system.specs.System.{IsSystem, IsLeastFrom, source_of, IsBelowLeast};
-ghost use Rattle.least_cut.specs.Climb.{AreHeld, IsLook, AreMarks};
-ghost use Rattle.pull_system.specs.Marks.{marked};
-
-use pota_base::Steps;
 use crate::risen::Risen;
+use pota_base::Steps;
 use pull_fans::System;
 use std::sync::ledger::Ledger;
 
@@ -42,10 +41,7 @@ fn look_at_all<L: Ledger>(
     requires vector { IsVector system.now.lens vector.old }
     requires marks { AreMarks system.now.lens risen.old }
     ensures settled { AreHeld system.now vector.new risen.new (λ k. Unit {0}) }
-    ensures below { (start : List ℕ) → IsBelowLeast system.now start vector.old
-        → IsBelowLeast system.now start vector.new }
-    ensures marks { AreMarks system.now.lens risen.new }
-    ensures pays { marked risen.new + sum vector.old ≤ marked risen.old + sum vector.new }
+    ensures climb { IsClimb system.now vector.old vector.new risen.old risen.new }
     ensures looks { steps.new ≡ steps.old + length system.now.pulls }
 {
     for k in 0..system.pulls() {
@@ -67,10 +63,7 @@ fn look_from<L: Ledger>(
     requires settled { AreHeld system.now vector.old risen.old
         (λ k. source_of system.now k ≢ process) }
     ensures settled { AreHeld system.now vector.new risen.new (λ k. Unit {0}) }
-    ensures below { (start : List ℕ) → IsBelowLeast system.now start vector.old
-        → IsBelowLeast system.now start vector.new }
-    ensures marks { AreMarks system.now.lens risen.new }
-    ensures pays { marked risen.new + sum vector.old ≤ marked risen.old + sum vector.new }
+    ensures climb { IsClimb system.now vector.old vector.new risen.old risen.new }
     ensures looks { steps.new ≤ steps.old + length system.now.pulls }
 {
     for &k in system.pulls_from(process) {
@@ -90,12 +83,8 @@ fn look_at<L: Ledger>(
     requires vector { IsVector system.now.lens vector.old }
     requires marks { AreMarks system.now.lens risen.old }
     ensures look { IsLook system.now k vector.old vector.new risen.old risen.new }
-    ensures below { (start : List ℕ) → IsBelowLeast system.now start vector.old
-        → IsBelowLeast system.now start vector.new }
-    ensures vector { IsVector system.now.lens vector.new }
+    ensures climb { IsClimb system.now vector.old vector.new risen.old risen.new }
     ensures system { IsSystem system.now }
-    ensures marks { AreMarks system.now.lens risen.new }
-    ensures pays { marked risen.new + sum vector.old ≤ marked risen.old + sum vector.new }
     ensures step { steps.new ≡ steps.old + 1 }
 {
     let (source, target) = system.ends(k);

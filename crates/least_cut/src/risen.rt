@@ -7,7 +7,7 @@ use std::marker::Model;
 /// A mark for each process: its component has risen since the pulls from it were looked at. It
 /// takes no memory.
 #[derive(Debug, Drop)]
-pub struct Risen {
+pub(crate) struct Risen {
     marks: [bool; 32],
 }
 

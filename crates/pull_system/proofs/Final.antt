@@ -1,8 +1,8 @@
 -- A least closed vector within the lengths of before is least in each later system.
-use Rattle.std.proofs.Common.{◌≡◌, ℕ, zero, suc, ◌+◌, ◌<◌, ◌≤◌, List, Option, Some, None, length, sum, get_or, refl, arith, sym, ap, ◌∙◌, subst}
-use Rattle.pull_system.specs.Vector.{IsAtMost, IsVector}
-use Rattle.pull_system.specs.System.{SystemView, IsSystem, IsPull, IsClosedFrom, IsLeastFrom, pull_at, source_of, target_of, ask}
-use Rattle.pull_system.specs.Rows.{RowsView, AreRows, AreLeastRows, start_of, row_at, IsLeast}
+use Rattle.std.proofs.Common.{◌≡◌, ℕ, ◌<◌, ◌≤◌, List, Some, length, sum, get_or, arith, sym, ap, ◌∙◌, subst}
+use Rattle.pull_system.specs.Vector.{IsAtMost}
+use Rattle.pull_system.specs.System.{SystemView, IsSystem, IsClosedFrom, IsLeastFrom, pull_at, source_of, target_of, ask}
+use Rattle.pull_system.specs.Rows.{RowsView, AreLeastRows, start_of, row_at, IsLeast}
 use Rattle.pull_system.specs.Growth.{PullGrows, PullStays, Grows, Stays, old_row, kept_or_start, grown_row, grown_words}
 use Rattle.pull_system.proofs.Starts.{row_at-first_rows}
 use Rattle.pull_system.proofs.Growing.{least_below, stood, length-grown_row}

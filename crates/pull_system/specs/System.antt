@@ -1,6 +1,6 @@
 -- A system of pulls, its closed vectors, and the least of them.
-use Rattle.std.specs.Prelude.{◌≡◌, ℕ, ◌+◌, ◌^◌, ◌<◌, ◌≤◌, List, [], length}
-use Rattle.std.specs.Prelude.{slice_index, slice_index_or, All}
+use Rattle.std.specs.Prelude.{◌≡◌, ℕ, ◌+◌, ◌^◌, ◌<◌, ◌≤◌, List, []}
+use Rattle.std.specs.Prelude.{length, slice_index, slice_index_or, All}
 use Rattle.pota_base.specs.Shape.{IsShape}
 use Rattle.pull_system.specs.declared.pull.Pull.{Pull}
 use Rattle.pull_system.specs.Vector.{IsAtMost, IsVector}

@@ -1,16 +1,10 @@
-use Rattle.std.proofs.Common.{◌≡◌, ℕ, ◌+◌, ◌<◌, ◌≤◌, List, sum}
-use Rattle.pull_system.specs.Vector.{IsVector}
-use Rattle.least_cut.specs.Climb.{AreMarks, AreHeld}
-use Rattle.pull_system.specs.System.{IsBelowLeast}
-use Rattle.pull_system.specs.Marks.{marked}
+use Rattle.std.proofs.Common.{◌≡◌, ◌+◌, ◌<◌}
+use Rattle.least_cut.specs.Climb.{IsClimb, AreHeld}
 use Rattle.least_cut.proofs.look_at_all.Given as goal
 
 abbrev pub invariant-loop-k : goal.invariant-loop-k
 invariant-loop-k g l = record {
-  vector : IsVector l.system.lens l.vector;
-  marks : AreMarks l.system.lens l.risen;
+  climb : IsClimb l.system l.fn.vector l.vector l.fn.risen l.risen;
   settled : AreHeld l.system l.vector l.risen (λ k. k < l.k);
-  below : (start : List ℕ) → IsBelowLeast l.system start l.fn.vector → IsBelowLeast l.system start l.vector;
-  pays : marked l.risen + sum l.fn.vector ≤ marked l.fn.risen + sum l.vector;
   looks : l.steps ≡ l.fn.steps + l.k;
 }

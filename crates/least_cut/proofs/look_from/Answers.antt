@@ -1,15 +1,13 @@
 use Rattle.std.proofs.Common.{rules, arith}
 use Rattle.least_cut.proofs.Settling.{settled_by, looked_none, looked_next, looked_whole, look_settles, below_count}
 use Rattle.pull_fans.proofs.Numbers.{numbers_few}
+use Rattle.least_cut.proofs.Looks.{climb_none, climb_more}
 use Rattle.least_cut.proofs.look_from.Goals as goal
 
 pub loop-k-init : goal.loop-k-init
 loop-k-init g c = record {
-  vector = c.requires.vector;
-  marks = c.requires.marks;
+  climb = climb_none _ _ _ c.requires.vector c.requires.marks;
   settled = settled_by _ _ _ _ _ (λ k there was. looked_none c.args.system.now _ _ k was) c.requires.settled;
-  below = λ start below. below;
-  pays = search rules;
   looks = search rules;
 }
 
@@ -19,13 +17,10 @@ look_at-requires-clause-pull g c =
 
 pub loop-k-preserved : goal.loop-k-preserved
 loop-k-preserved g c = record {
-  vector = c.look_at.ensures.vector;
-  marks = c.look_at.ensures.marks;
+  climb = climb_more _ _ _ _ _ _ _ c.loop-k.invariant.climb c.look_at.ensures.climb;
   settled =
       settled_by _ _ _ _ _ (λ k there was. looked_next c.args.system.now _ _ _ k was)
-      (look_settles _ c.look_at.ensures.system _ (below_count c.args.system.now.pulls c.args.process c.loop-k.k-index _ c.pulls_from-k-items.ensures c.loop-k-test.true) _ _ _ _ c.loop-k.invariant.vector c.loop-k.invariant.marks c.look_at.ensures.look _ c.loop-k.invariant.settled);
-  below = λ start below. c.look_at.ensures.below start (c.loop-k.invariant.below start below);
-  pays = search rules;
+      (look_settles _ c.look_at.ensures.system _ (below_count c.args.system.now.pulls c.args.process c.loop-k.k-index _ c.pulls_from-k-items.ensures c.loop-k-test.true) _ _ _ _ c.loop-k.invariant.climb.vector c.loop-k.invariant.climb.marks c.look_at.ensures.look _ c.loop-k.invariant.settled);
   looks = search rules;
 }
 
