@@ -4,7 +4,7 @@ use Rattle.std.specs.Prelude.{not, ◌&&◌, ◌==◌, if◌then◌else◌, ⊤}
 use Rattle.std.proofs.lemmas.Bool.{cases_Bool, and_parts, false≢true, eq-eqb, ne_eqb}
 use Rattle.std.proofs.lemmas.List.Elements.{filter-append}
 use Rattle.conjunctions.specs.declared.answer.PartAnswer.{PartAnswer}
-use Rattle.answer_report.specs.Choosing.{of_disjunct, first_true, first_false}
+use Rattle.answer_report.specs.inside.Choosing.{of_disjunct, first_true, first_false}
 
 -- each part is of the disjunct of this number
 abbrev pub AreOf : ℕ → List PartAnswer → Type 0

@@ -22,8 +22,8 @@ use Rattle.conjunctions.specs.declared.answer.Answer.{Answer}
 use Rattle.part_pulls.specs.Observing.{clocks_seen}
 use Rattle.conjunctions.specs.Answering.{IsAnswer, places_from, all_places, ArePartAnswers}
 use Rattle.answer_report.specs.declared.wanted.Wanted.{Wanted}
-use Rattle.answer_report.specs.Choosing.{of_disjunct, first_true, first_false, chosen}
-use Rattle.answer_report.specs.Showing.{IsNumbered, TellAll}
+use Rattle.answer_report.specs.inside.Choosing.{of_disjunct, first_true, first_false, chosen}
+use Rattle.answer_report.specs.inside.Showing.{IsNumbered, TellAll}
 use Rattle.answer_report.proofs.Parts.{part_answers}
 use Rattle.answer_report.proofs.Said.{IsMadeOf}
 

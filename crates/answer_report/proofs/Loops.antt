@@ -4,7 +4,7 @@ use Rattle.std.proofs.lemmas.List.{drop_all}
 use Rattle.conjunctions.specs.declared.answer.PartAnswer.{PartAnswer}
 use Rattle.run_model.specs.Cut.{Clocks}
 use Rattle.report_lines.specs.declared.kinds.WitnessText.{WitnessText}
-use Rattle.answer_report.specs.Showing.{TellAll}
+use Rattle.answer_report.specs.inside.Showing.{TellAll}
 
 -- once the witnesses of what is left are behind those that are there, all are told
 abbrev pub Completes : Clocks → List PartAnswer → List PartAnswer → List WitnessText → Type 0

@@ -29,8 +29,9 @@ use Rattle.slice_graph.specs.Fitting.{FitsOrder}
 use Rattle.part_pulls.specs.declared.observed.Observed.{Observed}
 use Rattle.conjunctions.specs.declared.answer.PartAnswer.{PartAnswer}
 use Rattle.part_pulls.specs.Observing.{Reading, AreAnswers, Satisfying, clocks_seen, run_seen, names_seen}
-use Rattle.conjunctions.specs.Answering.{IsSliceOf, Place, places_from, all_places, IsOperand, IsPartAnswer, ArePartAnswers}
-use Rattle.answer_report.specs.Showing.{HasOperand, IsGivenFor}
+use Rattle.conjunctions.specs.Answering.{IsSliceOf, Place, places_from, all_places, IsOperand}
+use Rattle.conjunctions.specs.Answering.{IsPartAnswer, ArePartAnswers}
+use Rattle.answer_report.specs.inside.Showing.{HasOperand, IsGivenFor}
 use Rattle.answer_report.proofs.Named.{AreOfOneProcess, same_next}
 use Rattle.answer_report.proofs.Choices.{AreOf, AreFrom, of_from, from_from, from_joined}
 

@@ -19,8 +19,8 @@ use Rattle.conjunctions.specs.declared.answer.Answer.{Answer}
 use Rattle.part_pulls.specs.Observing.{Reading, clocks_seen, run_seen, trace_seen}
 use Rattle.answer_report.specs.declared.wanted.Wanted.{Wanted}
 use Rattle.answer_report.specs.Asking.{IsAskedOf}
-use Rattle.answer_report.specs.Choosing.{chosen}
-use Rattle.answer_report.specs.Showing.{IsSliceTold, TellAll}
+use Rattle.answer_report.specs.inside.Choosing.{chosen}
+use Rattle.answer_report.specs.inside.Showing.{IsSliceTold, TellAll}
 use Rattle.answer_report.proofs.Named.{named}
 use Rattle.answer_report.proofs.Parts.{IsReadIn}
 use Rattle.answer_report.proofs.Texts.{texts_of_true, texts_of_false}

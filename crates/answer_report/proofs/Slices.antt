@@ -26,7 +26,7 @@ use Rattle.part_pulls.specs.declared.observed.Observed.{Observed}
 use Rattle.conjunctions.specs.declared.answer.Answer.{Answer}
 use Rattle.part_pulls.specs.Observing.{Reading, AreAnswers, clocks_seen, run_seen, names_seen}
 use Rattle.conjunctions.specs.Answering.{IsAnswer}
-use Rattle.answer_report.specs.Showing.{IsSliceTold}
+use Rattle.answer_report.specs.inside.Showing.{IsSliceTold}
 
 -- ---- the text of a slice
 

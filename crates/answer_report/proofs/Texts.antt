@@ -13,12 +13,13 @@ use Rattle.rctl_class.specs.Classed.{Alike, PartsAlike, EachAlike}
 use Rattle.part_pulls.specs.declared.observed.Observed.{Observed}
 use Rattle.conjunctions.specs.declared.answer.PartAnswer.{PartAnswer}
 use Rattle.part_pulls.specs.Observing.{Reading, clocks_seen, run_seen, names_seen}
-use Rattle.conjunctions.specs.Answering.{place, places_from, all_places, IsPartAnswer, ArePartAnswers}
+use Rattle.conjunctions.specs.Answering.{place, places_from, all_places, IsPartAnswer}
+use Rattle.conjunctions.specs.Answering.{ArePartAnswers}
 use Rattle.witness_kinds.specs.Views.{witness_of}
 use Rattle.report_lines.specs.declared.kinds.WitnessText.{WitnessText}
 use Rattle.run_report.specs.Witnesses.{IsTextFor, ArePartTexts, AreTextsOfTrue, IsTextOfFalse, AreTextsOfFalse}
-use Rattle.answer_report.specs.Choosing.{of_disjunct, first_true, first_false}
-use Rattle.answer_report.specs.Showing.{Tells, TellAll}
+use Rattle.answer_report.specs.inside.Choosing.{of_disjunct, first_true, first_false}
+use Rattle.answer_report.specs.inside.Showing.{Tells, TellAll}
 use Rattle.answer_report.proofs.Choices.{AreOf, all_true, true_stays, later_stays, false_moves, first_true_from, just_mine, just_later, true_left, false_taken, mine_left}
 use Rattle.answer_report.proofs.Parts.{IsReadIn, part_answers, are_of, are_from, given_is, true_part, false_part}
 

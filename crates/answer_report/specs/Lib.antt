@@ -1,3 +1,2 @@
 pub mod Asking
-pub mod Choosing
-pub mod Showing
+pub mod inside

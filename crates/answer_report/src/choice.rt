@@ -1,6 +1,6 @@
 //! Which parts of a formula get a witness.
 ghost use Rattle.std.specs.Prelude.{◌≡◌};
-ghost use Rattle.answer_report.specs.Choosing.{first_true};
+ghost use Rattle.answer_report.specs.inside.Choosing.{first_true};
 
 use conjunctions::PartAnswer;
 

@@ -6,7 +6,7 @@ ghost use Rattle.slice_graph.specs.Views.{slice_of, joined_rows};
 ghost use Rattle.slice_graph.specs.Fitting.{FitsOrder};
 ghost use Rattle.report.specs.Spelling.{SliceFits};
 ghost use Rattle.run_report.specs.Reports.{text_seen};
-ghost use Rattle.answer_report.specs.Showing.{IsSliceTold};
+ghost use Rattle.answer_report.specs.inside.Showing.{IsSliceTold};
 
 use crate::copies::cut_of;
 use causal_order::Order;

@@ -5,8 +5,8 @@ ghost use Rattle.run_model.specs.Cut.{lengths};
 ghost use Rattle.slice_graph.specs.Fitting.{FitsOrder};
 ghost use Rattle.witness_kinds.specs.Views.{witness_of};
 ghost use Rattle.report_lines.specs.Spelling.{WitnessFits};
-ghost use Rattle.answer_report.specs.Choosing.{first_true, first_false, of_disjunct, chosen};
-ghost use Rattle.answer_report.specs.Showing.{HasOperand, IsGivenFor, Adds, TellAll};
+ghost use Rattle.answer_report.specs.inside.Choosing.{first_true, first_false, of_disjunct, chosen};
+ghost use Rattle.answer_report.specs.inside.Showing.{HasOperand, IsGivenFor, Adds, TellAll};
 
 use crate::choice::first_true;
 use causal_order::Order;

@@ -21,7 +21,8 @@ use Rattle.log_answers.specs.declared.stop.Stop.{Stop}
 use Rattle.log_answers.specs.declared.stop.Verdict.{Verdict}
 use Rattle.log_answers.specs.Checking.{closed_in, AreReportsFor, ReportStops, Reports}
 use Rattle.log_answers.specs.Inputs.{IsVerdictBy, StopsBy, ChecksBy}
-use Rattle.batch_answers.specs.Reading.{due_in, judgement_in, IsWhole, StopsAt, HasReadLog, HasChecked}
+use Rattle.batch_answers.specs.Reading.{due_in, judgement_in, IsWhole, StopsAt, HasReadLog}
+use Rattle.batch_answers.specs.Reading.{HasChecked}
 use Rattle.log_answers.proofs.Items.{texts_as, part_of_more, front_of_more}
 use Rattle.log_answers.proofs.OneBatch.{whole_closed}
 use Rattle.batch_answers.proofs.ReadingSteps.{as_is, of_text, reported_open, free_told}

@@ -33,8 +33,11 @@ use Rattle.log_answers.specs.declared.stop.StopCause.TheVariants as causes
 use Rattle.log_answers.specs.declared.stop.Stop.{Stop}
 use Rattle.batch_answers.specs.declared.reading.Turn.{Turn}
 use Rattle.batch_answers.specs.declared.reading.Turn.TheVariants as turn
-use Rattle.log_answers.specs.Checking.{closed_in, AreReportsFor, HasFrontOf, Stands, StopsIn, TakesItems}
-use Rattle.batch_answers.specs.Reading.{due_in, judgement_in, HasJudged, IsWhole, TellsDue, StopsAt, PieceTo, TakesPiece, Finishes, TurnsTo, Turns, HasReadLog}
+use Rattle.log_answers.specs.Checking.{closed_in, AreReportsFor, HasFrontOf, Stands, StopsIn}
+use Rattle.log_answers.specs.Checking.{TakesItems}
+use Rattle.batch_answers.specs.Reading.{due_in, judgement_in, IsWhole, StopsAt, HasReadLog}
+use Rattle.batch_answers.specs.inside.Reading.{HasJudged, TellsDue, PieceTo, TakesPiece, Finishes}
+use Rattle.batch_answers.specs.inside.Reading.{TurnsTo, Turns}
 use Rattle.log_answers.proofs.Items.{closed_more, texts_as, part_of_more, front_of_more}
 
 -- ---- what is told of a judgement

@@ -3,7 +3,8 @@ ghost use Rattle.std.specs.Prelude.{◌≡◌, ◌<◌, ◌++◌, [], ℕ, List,
 ghost use Rattle.log_judgement.specs.Judgement.{waiting};
 ghost use Rattle.log_check.specs.Aims.{Aim, said_by};
 ghost use Rattle.log_check.specs.Checking.{IsCheckOf};
-ghost use Rattle.batch_answers.specs.Reading.{Finishes, HasJudged, HasReadLog, TakesPiece, Turns};
+ghost use Rattle.batch_answers.specs.Reading.{HasReadLog};
+ghost use Rattle.batch_answers.specs.inside.Reading.{Finishes, HasJudged, TakesPiece, Turns};
 
 use event_log::{Fed, Reader};
 use log_answers::{Checking, Means, Stop, StopCause};

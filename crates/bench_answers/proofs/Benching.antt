@@ -46,7 +46,8 @@ use Rattle.log_answers.specs.declared.stop.Stop.{Stop}
 use Rattle.log_answers.specs.declared.stop.Verdict.{Verdict}
 use Rattle.run_promise.specs.Run.{made_by, sizes_of}
 use Rattle.log_answers.specs.Checking.{StopsIn, SummaryStops, SumsUpTo, SumsUp}
-use Rattle.bench_answers.specs.Benching.{BenchStops, BenchesTo, HasMade, CanBeMade}
+use Rattle.bench_answers.specs.Benching.{CanBeMade}
+use Rattle.bench_answers.specs.inside.Benching.{BenchStops, BenchesTo, HasMade}
 use Rattle.batch_answers.proofs.ReadingSteps.{of_text}
 use Rattle.log_answers.specs.Whole.{TakesWhole}
 use Rattle.log_answers.proofs.OneBatch.{whole_closed, no_part, no_text}

@@ -21,7 +21,8 @@ use Rattle.log_answers.specs.declared.stop.Stop.{Stop}
 use Rattle.log_answers.specs.declared.stop.Verdict.{Verdict}
 use Rattle.batch_answers.specs.Outcome.{fault_of, faulty_outcome, outcome_of}
 use Rattle.run_promise.specs.Asking.{Handing, handing_of, asked, certifying}
-use Rattle.bench_answers.specs.Benching.{IsSummary, missing_name, IsBenchOf, BenchStops, BenchesTo, HasMade}
+use Rattle.bench_answers.specs.inside.Benching.{IsSummary, missing_name, IsBenchOf, BenchStops}
+use Rattle.bench_answers.specs.inside.Benching.{BenchesTo, HasMade}
 use Rattle.run_promise.proofs.Clauses.{not_both}
 use Rattle.run_promise.specs.Certificates.{IsTrueAtStart}
 use Rattle.run_promise.specs.Run.{IsBenched, HasBenched, sizes_of, made_by, Answer, Ran}

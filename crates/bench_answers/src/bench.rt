@@ -10,7 +10,8 @@ ghost use Rattle.log_answers.specs.Checking.{IsBenchAim};
 ghost use Rattle.run_promise.specs.Asking.{handing_of};
 ghost use Rattle.run_promise.specs.Run.{Ran, sizes_of};
 ghost use Rattle.batch_answers.specs.Outcome.{outcome_of};
-ghost use Rattle.bench_answers.specs.Benching.{CanBeMade, HasMade};
+ghost use Rattle.bench_answers.specs.Benching.{CanBeMade};
+ghost use Rattle.bench_answers.specs.inside.Benching.{HasMade};
 
 use command_words::Sizes;
 use log_answers::{Checking, Means, Stop, Verdict};

@@ -7,7 +7,7 @@ use Rattle.pull_system.specs.Rows.{place_of}
 use Rattle.raise_machine.specs.declared.step.Step.TheVariants.{Pull, Lend}
 use Rattle.raise_machine.specs.Bounds.{AreBounds, IsBound, word_at, has_start}
 use Rattle.raise_machine.specs.Machine.{is_word, is_allowed}
-use Rattle.bound_table.specs.Rule.{IsMachineStep}
+use Rattle.bound_table.specs.inside.Rule.{IsMachineStep}
 use Rattle.raise_machine.proofs.Raising.{both, pull_bound, lend_bound, has_start-true}
 
 both_true : (a b : Bool) → a ≡ true → b ≡ true → (a && b) ≡ true

@@ -9,7 +9,7 @@ use Rattle.pull_system.proofs.Climbing.{set_case}
 use Rattle.pull_system.proofs.Starts.{length-start_of, start_of-event}
 use Rattle.raise_machine.specs.Bounds.{AreBounds, word_at, has_start}
 use Rattle.raise_machine.proofs.Raising.{has_start-true, covers_row, word_above}
-use Rattle.bound_table.specs.Lending.{MayLend}
+use Rattle.bound_table.specs.inside.Lending.{MayLend}
 use Rattle.bound_table.proofs.Moves.{set_both}
 use Rattle.bound_table.proofs.Floors.{within_set, within_trans, place_there, within_one}
 

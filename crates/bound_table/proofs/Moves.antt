@@ -14,8 +14,10 @@ use Rattle.pull_system.proofs.Climbing.{set_case}
 use Rattle.raise_machine.specs.Bounds.{IsBound, AreBounds}
 use Rattle.raise_machine.proofs.Raising.{bounds_set, bound_max, bound_less}
 use Rattle.bound_table.specs.declared.seat.SeenBounds.{SeenBounds}
-use Rattle.bound_table.specs.Kept.{larger}
-use Rattle.bound_table.specs.Rule.{word_count, Fits, HasBounds, BoundsHold, IsSound, with_floor, opened, nobody, together, Looked, IsMachineStep, Lifted}
+use Rattle.bound_table.specs.inside.Kept.{larger}
+use Rattle.bound_table.specs.inside.Rule.{word_count, Fits, HasBounds, BoundsHold, IsSound}
+use Rattle.bound_table.specs.inside.Rule.{with_floor, opened, nobody, together, Looked}
+use Rattle.bound_table.specs.inside.Rule.{IsMachineStep, Lifted}
 
 -- a list with one number put in a place, and another in the same place of a list above it
 pub set_both : (xs ys : List ℕ) (i m n : ℕ) → IsAtMost xs ys → m ≤ n → length xs ≡ length ys → (j : ℕ) → get_or (set xs i m) j 0 ≤ get_or (set ys i n) j 0

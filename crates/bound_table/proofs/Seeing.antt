@@ -17,7 +17,8 @@ use Rattle.raise_machine.specs.Bounds.{AreBounds, word_at}
 use Rattle.raise_machine.proofs.Raising.{word_in_range}
 use Rattle.bound_table.specs.Kept.{Follows}
 use Rattle.bound_table.specs.Views.{TableView, SeatView, KeepsClaims}
-use Rattle.bound_table.specs.Asking.{IsSettling, HoldSeen, IsAsking, SeesMore, IsPullStep, IsRaised}
+use Rattle.bound_table.specs.inside.Asking.{IsSettling, HoldSeen, IsAsking, SeesMore, IsPullStep}
+use Rattle.bound_table.specs.inside.Asking.{IsRaised}
 use Rattle.bound_table.specs.Lending.{AreLeast}
 use Rattle.bound_table.proofs.Claiming.{keeps_trans}
 use Rattle.bound_table.proofs.Settling.{settling_trans, settling_again, settling_rises, settling_below}

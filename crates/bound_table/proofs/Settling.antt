@@ -4,7 +4,7 @@ use Rattle.pull_system.specs.Vector.{IsAtMost}
 use Rattle.pull_system.specs.Rows.{start_of}
 use Rattle.pull_system.specs.System.{IsBelowLeast}
 use Rattle.bound_table.specs.Views.{TableView, SeatView}
-use Rattle.bound_table.specs.Asking.{IsSettling}
+use Rattle.bound_table.specs.inside.Asking.{IsSettling}
 use Rattle.bound_table.proofs.Claiming.{keeps_refl, keeps_trans}
 use Rattle.bound_table.proofs.Floors.{follows_trans, follows_again, follows_rises, follows_below}
 

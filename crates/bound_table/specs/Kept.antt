@@ -1,5 +1,5 @@
 -- What a call leaves of a seat's floor.
-use Rattle.std.specs.Prelude.{◌≡◌, ◌≢◌, ℕ, ◌<◌, List, [], ◌∷◌, length, max, slice_index}
+use Rattle.std.specs.Prelude.{◌≡◌, ◌≢◌, ℕ, ◌<◌, List, length, slice_index}
 use Rattle.pull_system.specs.Vector.{IsAtMost}
 use Rattle.pull_system.specs.System.{SystemView}
 use Rattle.raise_machine.specs.Bounds.{AreBounds, word_at}
@@ -22,9 +22,3 @@ pub record FollowsFirst (system : SystemView) (row count : ℕ) (old new v : Lis
 -- the vector is the row's floor, and what changed from the old floor is that this row rose
 abbrev pub Follows : SystemView → ℕ → List ℕ → List ℕ → List ℕ → Type 0
 Follows system row old new v = FollowsFirst system row (length system.lens) old new v
-
--- the larger of both, number by number
-abbrev pub larger : List ℕ → List ℕ → List ℕ
-larger [] ys = ys
-larger (x ∷ xs) [] = x ∷ xs
-larger (x ∷ xs) (y ∷ ys) = max x y ∷ larger xs ys

@@ -1,9 +1,9 @@
 -- What one row lends to another, and what becomes of the row that settles from it.
-use Rattle.std.specs.Prelude.{◌≡◌, ℕ, ◌<◌, ◌≤◌, List, true, length, sum, slice_index}
+use Rattle.std.specs.Prelude.{◌≡◌, ℕ, ◌<◌, ◌≤◌, List, length, sum, slice_index}
 use Rattle.pull_system.specs.Vector.{IsVector}
 use Rattle.pull_system.specs.System.{SystemView, IsClosed}
 use Rattle.pull_system.specs.Rows.{row_at, IsLeast}
-use Rattle.raise_machine.specs.Bounds.{word_at, has_start}
+use Rattle.raise_machine.specs.Bounds.{word_at}
 use Rattle.bound_table.specs.Views.{TableView, SeatView}
 
 -- both are rows
@@ -25,13 +25,6 @@ pub record SettlesFrom (table : TableView) (seat : SeatView) (before row : ℕ) 
   pub looked : words ≡ row_at table.system.lens seat.floor row
   pub vector : IsVector table.system.lens lent
   pub closed : IsClosed table.system lent
-
--- a row has reached the vector, and may lend it to the other row, whose floor has its event
-pub record MayLend (lens floor : List ℕ) (row other : ℕ) (lent : List ℕ) : Type 0 where
-  pub there : row ≤ sum lens
-  pub size : length lent ≡ length lens
-  pub reached : HasReached lens floor row lent
-  pub event : has_start lens floor other row ≡ true
 
 -- each of both vectors is the least closed vector of the row
 pub record AreLeast (system : SystemView) (row : ℕ) (v w : List ℕ) : Type 0 where

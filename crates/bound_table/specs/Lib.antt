@@ -1,5 +1,4 @@
-pub mod Asking
 pub mod Kept
 pub mod Lending
-pub mod Rule
 pub mod Views
+pub mod inside

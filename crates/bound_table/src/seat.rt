@@ -1,5 +1,6 @@
 //! What a caller of the table holds, and the rule that each of its steps keeps.
-ghost use Rattle.bound_table.specs.Rule.{BoundsHold, opened, nobody, together, Looked, Lifted};
+ghost use Rattle.bound_table.specs.inside.Rule.{BoundsHold, opened, nobody, together, Looked};
+ghost use Rattle.bound_table.specs.inside.Rule.{Lifted};
 
 use atomic_table::{Join, Play, Split, TableRule};
 use process_claims::Claimer;
@@ -38,7 +39,7 @@ pub struct Seat {
 impl Model for Seat {
     ghost use Rattle.std.specs.Prelude.{◌≡◌, []};
     ghost use Rattle.bound_table.specs.Views.{SeatView};
-    ghost use Rattle.bound_table.specs.Rule.{IsSound};
+    ghost use Rattle.bound_table.specs.inside.Rule.{IsSound};
 
     ghost Value = { SeatView };
 

@@ -11,9 +11,10 @@ ghost use Rattle.pull_fans.specs.Sources.{numbers_from};
 ghost use Rattle.pull_system.specs.Rows.{row_at, IsLeast};
 ghost use Rattle.pull_fans.specs.Asks.{IsAskedBy, AreAsks};
 ghost use Rattle.raise_machine.specs.Bounds.{has_start};
-ghost use Rattle.bound_table.specs.Asking.{IsSettling, IsAsking, SeesMore};
+ghost use Rattle.bound_table.specs.inside.Asking.{IsSettling, IsAsking, SeesMore};
 ghost use Rattle.bound_table.specs.Kept.{Follows};
-ghost use Rattle.bound_table.specs.Lending.{HasReached, SettlesFrom, MayLend, AreLeast};
+ghost use Rattle.bound_table.specs.Lending.{HasReached, SettlesFrom, AreLeast};
+ghost use Rattle.bound_table.specs.inside.Lending.{MayLend};
 ghost use Rattle.bound_table.specs.Views.{KeepsClaims};
 
 use crate::narrow::widen;

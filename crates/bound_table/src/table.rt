@@ -6,10 +6,10 @@ ghost use Rattle.pull_system.specs.Rows.{place_of};
 ghost use Rattle.raise_machine.specs.declared.step.Step.TheVariants.{Lend};
 ghost use Rattle.raise_machine.specs.Bounds.{AreBounds, word_at, has_start};
 ghost use Rattle.raise_machine.specs.Machine.{is_allowed};
-ghost use Rattle.bound_table.specs.Asking.{IsPullStep, IsRaised};
+ghost use Rattle.bound_table.specs.inside.Asking.{IsPullStep, IsRaised};
 ghost use Rattle.bound_table.specs.Kept.{Follows};
 ghost use Rattle.bound_table.specs.Lending.{AreBothRows};
-ghost use Rattle.bound_table.specs.Rule.{word_count};
+ghost use Rattle.bound_table.specs.inside.Rule.{word_count};
 ghost use Rattle.bound_table.specs.Views.{KeepsClaims};
 
 use crate::narrow::{widen, widened};
@@ -42,7 +42,7 @@ pub struct BoundTable {
 impl Model for BoundTable {
     ghost use Rattle.std.specs.Prelude.{◌≡◌, length, sum};
     ghost use Rattle.bound_table.specs.Views.{TableView};
-    ghost use Rattle.bound_table.specs.Rule.{word_count};
+    ghost use Rattle.bound_table.specs.inside.Rule.{word_count};
     ghost use Rattle.pota_base.specs.Shape.{IsShape};
 
     ghost Value = { TableView };

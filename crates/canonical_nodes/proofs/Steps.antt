@@ -17,7 +17,8 @@ use Rattle.certified_nodes.specs.Nodes.{NodesView, OfPresent, AreNodes, IsPresen
 use Rattle.certified_nodes.proofs.Keeping.{given_after}
 use Rattle.canonical_text.specs.Canonical.{IsNext, IsNextRow, IsNextRaise}
 use Rattle.canonical_text.proofs.Following.{line_follows, row_may_begin}
-use Rattle.canonical_nodes.specs.Coming.{IsNextOfRows, with_line, AreDoubtsOf, most_rows, rows_left, lines_left}
+use Rattle.canonical_nodes.specs.Coming.{most_rows, rows_left, lines_left}
+use Rattle.canonical_nodes.specs.inside.Coming.{IsNextOfRows, with_line, AreDoubtsOf}
 
 -- ---- lines of rows
 

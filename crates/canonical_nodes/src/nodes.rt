@@ -25,7 +25,7 @@ pub struct CanonicalNodes {
 
 impl Model for CanonicalNodes {
     ghost use Rattle.certified_nodes.specs.Nodes.{NodesView};
-    ghost use Rattle.canonical_nodes.specs.Coming.{AreDoubtsOf};
+    ghost use Rattle.canonical_nodes.specs.inside.Coming.{AreDoubtsOf};
 
     ghost Value = { NodesView };
 

@@ -4,7 +4,7 @@ ghost use Rattle.certified_rows.specs.Begun.{IsWhole, LastIsClosed, with_raise};
 ghost use Rattle.canonical_rows.specs.Canonical.{AreDoubts};
 ghost use Rattle.certified_nodes.specs.Nodes.{OfPresent, with_present};
 ghost use Rattle.canonical_text.specs.Canonical.{IsNextRaise};
-ghost use Rattle.canonical_nodes.specs.Coming.{AreDoubtsOf, IsNextOfRows, with_line};
+ghost use Rattle.canonical_nodes.specs.inside.Coming.{AreDoubtsOf, IsNextOfRows, with_line};
 
 use canonical_rows::{Doubts, Raise, next_raise, next_row};
 use certificate_lines::Line;

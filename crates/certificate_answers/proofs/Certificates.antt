@@ -47,7 +47,10 @@ use Rattle.run_promise.specs.Run.{AllTell, IsTold, HasVerdict, IsRefused, HasPar
 use Rattle.run_promise.proofs.Clauses.{not_both}
 use Rattle.batch_answers.specs.Outcome.{fault_of, faulty_outcome, outcome_of}
 use Rattle.batch_answers.specs.Reading.{judgement_in, StopsAt, HasReadLog}
-use Rattle.certificate_answers.specs.Certifying.{aim_for, HoldsOn, IsLogSeen, verdict_of, PutsCertificate, CertifyStops, CertifiesTo, Certifies, HasFrontBy, CertifyStopsBy, IsCertifiedBy, CertifiesBy, HasCertified}
+use Rattle.certificate_answers.specs.inside.Certifying.{aim_for, HoldsOn, IsLogSeen, verdict_of}
+use Rattle.certificate_answers.specs.inside.Certifying.{PutsCertificate, CertifyStops, CertifiesTo}
+use Rattle.certificate_answers.specs.inside.Certifying.{Certifies, HasFrontBy, CertifyStopsBy}
+use Rattle.certificate_answers.specs.inside.Certifying.{IsCertifiedBy, CertifiesBy, HasCertified}
 use Rattle.batch_answers.proofs.Endings.{whole_log, closed_log, whole_due, none_due}
 
 -- ---- the log as it was observed

@@ -1,1 +1,1 @@
-pub mod Certifying
+pub mod inside

@@ -15,8 +15,9 @@ ghost use Rattle.log_check.specs.Aims.{Aim, said_by};
 ghost use Rattle.certificate_lines.specs.Spelling.{formula_line};
 ghost use Rattle.run_promise.specs.Asking.{Handing, certifying};
 ghost use Rattle.run_promise.specs.Run.{Ran};
-ghost use Rattle.certificate_answers.specs.Certifying.{aim_for, Certifies, HasCertified, IsLogSeen};
-ghost use Rattle.certificate_answers.specs.Certifying.{PutsCertificate, verdict_of};
+ghost use Rattle.certificate_answers.specs.inside.Certifying.{aim_for, Certifies, HasCertified};
+ghost use Rattle.certificate_answers.specs.inside.Certifying.{IsLogSeen};
+ghost use Rattle.certificate_answers.specs.inside.Certifying.{PutsCertificate, verdict_of};
 ghost use Rattle.batch_answers.specs.Outcome.{outcome_of};
 
 use batch_answers::read_log;

@@ -8,7 +8,7 @@ use Rattle.rctl_parts.specs.Pieces.{Piece}
 use Rattle.part_pulls.specs.declared.observed.Observed.{Observed}
 use Rattle.certified_nodes.specs.Nodes.{NodesView, AreNodes}
 use Rattle.certify.specs.Certifying.{nodes_of, HasFront, IsCertifying}
-use Rattle.certify.specs.Written.{text_of, WroteFront, IsWritten}
+use Rattle.certify.specs.inside.Written.{text_of, WroteFront, IsWritten}
 
 front-of : (held held' : Option (List ℕ)) (seen : Observed) (ds : List (List Piece)) (formula : List ℕ) → WroteFront held held' formula (nodes_of seen ds) → HasFront held held' seen ds formula
 front-of held held' seen ds formula h = record {

@@ -14,7 +14,8 @@ use Rattle.certificate_text.specs.Running.{IsOfNode, certificate_lines}
 use Rattle.certified_nodes.specs.Nodes.{NodesView, AreNodes}
 use Rattle.canonical_text.specs.Canonical.{IsNext, AreNext, IsWhole}
 use Rattle.canonical_text.proofs.OneText.{is_front, one_whole}
-use Rattle.certify.specs.Written.{text_of, IsFrontOf, WroteAll, WroteFront, WroteUntil, IsWritten}
+use Rattle.certify.specs.inside.Written.{text_of, IsFrontOf, WroteAll, WroteFront, WroteUntil}
+use Rattle.certify.specs.inside.Written.{IsWritten}
 
 -- ---- texts
 

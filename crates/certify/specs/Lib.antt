@@ -1,2 +1,2 @@
 pub mod Certifying
-pub mod Written
+pub mod inside

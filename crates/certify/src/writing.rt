@@ -8,7 +8,7 @@ ghost use Rattle.certificate_text.specs.Running.{IsOfNode};
 ghost use Rattle.canonical_text.specs.Canonical.{IsNext};
 ghost use Rattle.canonical_nodes.specs.Coming.{lines_left};
 ghost use Rattle.certify.specs.Certifying.{CanBeCertified, HasFront, IsCertifying};
-ghost use Rattle.certify.specs.Written.{IsWritten, WroteFront};
+ghost use Rattle.certify.specs.inside.Written.{IsWritten, WroteFront};
 
 use canonical_nodes::CanonicalNodes;
 use certificate::nodes_for;

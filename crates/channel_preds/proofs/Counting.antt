@@ -9,7 +9,9 @@ use Rattle.pota_base.specs.Shape.{IsShape}
 use Rattle.event_log.specs.States.{StatesView}
 use Rattle.event_log.specs.declared.log.Event.{Event}
 use Rattle.channel_preds.specs.declared.counted.Counted.{Counted}
-use Rattle.channel_preds.specs.Channels.{is_counted, count_of, counts_of, AreCounts, events_at, sends_to, receipts_from, ChannelView, channel_of, FitsShape}
+use Rattle.channel_preds.specs.Channels.{is_counted, count_of, counts_of, events_at, sends_to}
+use Rattle.channel_preds.specs.Channels.{receipts_from, ChannelView, channel_of, FitsShape}
+use Rattle.channel_preds.specs.inside.Channels.{AreCounts}
 
 -- the counts after at most i events are told, and this is the last of them
 pub record CountedSoFar (which : Counted) (events : List Event) (i count : ℕ) (counts : List ℕ) : Type 0 where

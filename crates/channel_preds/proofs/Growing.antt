@@ -6,7 +6,9 @@ use Rattle.event_log.specs.States.{StatesView}
 use Rattle.pull_system.specs.Growth.{PullGrows, PullStays}
 use Rattle.pull_system.proofs.PullLists.{first_grows, first_passes, first_least}
 use Rattle.channel_preds.specs.declared.counted.Counted.{Counted}
-use Rattle.channel_preds.specs.Channels.{AreCounts, count_of, counts_of, lead_at, events_at, sends_to, receipts_from, channel_of, at_most_pull, at_least_pull}
+use Rattle.channel_preds.specs.Channels.{count_of, counts_of, lead_at, events_at, sends_to}
+use Rattle.channel_preds.specs.Channels.{receipts_from, channel_of, at_most_pull, at_least_pull}
+use Rattle.channel_preds.specs.inside.Channels.{AreCounts}
 use Rattle.channel_preds.specs.Truth.{HasMoreEvents, lens_of}
 use Rattle.channel_preds.proofs.Counting.{length-counts_of, get_or-counts_of, counts_of-append, counts_are}
 use Rattle.channel_preds.proofs.Reaching.{reached, entry}

@@ -19,7 +19,8 @@ use Rattle.event_log.proofs.NameNumbers.{names_are, number_again}
 use Rattle.pull_system.specs.Pulls.{ClosedUnder}
 use Rattle.channel_preds.specs.declared.counted.Counted.{Counted}
 use Rattle.channel_preds.specs.declared.counted.Counted.TheVariants as counted
-use Rattle.channel_preds.specs.Channels.{count_of, counts_of, events_at, sends_to, receipts_from, channel_of, sent_at, received_at}
+use Rattle.channel_preds.specs.Channels.{count_of, counts_of, events_at, sends_to, receipts_from}
+use Rattle.channel_preds.specs.Channels.{channel_of, sent_at, received_at}
 use Rattle.channel_preds.specs.Truth.{run_in, name_of, at_most_pulls, at_least_pulls}
 use Rattle.channel_preds.proofs.Counting.{length-counts_of, get_or-counts_of, counts_are}
 use Rattle.channel_preds.proofs.Tables.{positions_close}

@@ -5,7 +5,8 @@ use Rattle.std.specs.List.{range_with_len}
 use Rattle.std.proofs.lemmas.Bool.{le-leb, lt-leb, leb-true, leb-false}
 use Rattle.std.proofs.lemmas.List.FromFn.{map-range_with_len_more}
 use Rattle.pull_system.specs.Pulls.{first_below}
-use Rattle.channel_preds.specs.Channels.{AreCounts, first_reaching, lead_at, first_positions}
+use Rattle.channel_preds.specs.Channels.{first_reaching, lead_at, first_positions}
+use Rattle.channel_preds.specs.inside.Channels.{AreCounts}
 use Rattle.pull_system.proofs.PullLists.{first_within}
 use Rattle.pull_system.proofs.FirstNumbers.{first_is, first_none, first_before}
 

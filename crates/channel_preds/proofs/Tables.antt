@@ -11,7 +11,10 @@ use Rattle.pull_system.specs.System.{RisesWithin, IsPull}
 use Rattle.pull_system.specs.Pulls.{HoldsAt, ClosedUnder, first_below}
 use Rattle.pull_system.proofs.PullLists.{first_within, first_grows}
 use Rattle.pull_system.proofs.FirstNumbers.{first_reaches}
-use Rattle.channel_preds.specs.Channels.{AreCounts, ChannelView, IsChannel, FitsShape, IsWithinChannel, sent_at, received_at, lead_at, first_positions, at_most_pull, at_least_pull}
+use Rattle.channel_preds.specs.Channels.{ChannelView, FitsShape, IsWithinChannel, sent_at}
+use Rattle.channel_preds.specs.Channels.{received_at, lead_at, first_positions, at_most_pull}
+use Rattle.channel_preds.specs.Channels.{at_least_pull}
+use Rattle.channel_preds.specs.inside.Channels.{AreCounts, IsChannel}
 use Rattle.channel_preds.proofs.Reaching.{reached, entry}
 
 -- a pull whose table is made of counts

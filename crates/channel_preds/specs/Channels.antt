@@ -1,6 +1,7 @@
 -- The messages of a channel, counted along its two processes, and the pulls that bounds on their
 -- number ask for.
-use Rattle.std.specs.Prelude.{◌≡◌, ℕ, ◌+◌, ◌-◌, ◌≤◌, ◌<◌, ◌==◌, min, nat_le, Bool, false}
+-- ---- what is counted along a process
+use Rattle.std.specs.Prelude.{◌≡◌, ℕ, ◌+◌, ◌-◌, ◌<◌, ◌==◌, min, nat_le, Bool, false}
 use Rattle.std.specs.Prelude.{List, [], length, map, take, get_or, count_by, slice_index}
 use Rattle.std.specs.Prelude.{if◌then◌else◌}
 use Rattle.std.specs.List.{range_with_len}
@@ -12,8 +13,6 @@ use Rattle.pull_system.specs.declared.pull.Pull.{Pull}
 use Rattle.pull_system.specs.Pulls.{first_below}
 use Rattle.channel_preds.specs.declared.counted.Counted.{Counted}
 use Rattle.channel_preds.specs.declared.counted.Counted.TheVariants as counted
-
--- ---- what is counted along a process
 
 -- the event is one of those that are counted
 abbrev pub is_counted : Counted → Kind → Bool
@@ -48,18 +47,6 @@ pub record ChannelView : Type 0 where
   pub sent : List ℕ
   pub received : List ℕ
 
--- a count after each number of events of a process, none included; it never falls
-pub record AreCounts (counts : List ℕ) : Type 0 where
-  pub some : 1 ≤ length counts
-  pub rises : (x y : ℕ) → x ≤ y → y < length counts → slice_index counts x ≤ slice_index counts y
-
--- both of its lists are counts, of a run of at most 50,000 events
-pub record IsChannel (channel : ChannelView) : Type 0 where
-  pub sent : AreCounts channel.sent
-  pub received : AreCounts channel.received
-  pub few_sent : length channel.sent ≤ 50001
-  pub few_received : length channel.received ≤ 50001
-
 -- the events of a process
 abbrev pub events_at : StatesView → ℕ → List Event
 events_at states process = get_or states.events process []
@@ -71,6 +58,7 @@ channel_of states sender receiver = record {
   receiver = receiver;
   sent = counts_of (sends_to sender receiver) (events_at states sender);
   received = counts_of (receipts_from sender receiver) (events_at states receiver);
+
 }
 
 -- the channel is between processes of the shape, and has a count after each number of their events
@@ -119,6 +107,7 @@ at_most_pull channel k = record {
   src = channel.sender;
   dst = channel.receiver;
   table = first_positions channel.sent 0 channel.received k;
+
 }
 
 -- at least k messages are under way: the sends have reached the receipts, with k
@@ -127,4 +116,5 @@ at_least_pull channel k = record {
   src = channel.receiver;
   dst = channel.sender;
   table = first_positions channel.received k channel.sent 0;
+
 }

@@ -25,7 +25,8 @@ pub struct Channel {
 }
 
 impl Model for Channel {
-    ghost use Rattle.channel_preds.specs.Channels.{ChannelView, IsChannel};
+    ghost use Rattle.channel_preds.specs.Channels.{ChannelView};
+    ghost use Rattle.channel_preds.specs.inside.Channels.{IsChannel};
 
     ghost Value = { ChannelView };
 

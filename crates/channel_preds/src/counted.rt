@@ -2,7 +2,8 @@
 ghost use Rattle.std.specs.Prelude.{◌≡◌, [], ◌<◌, ◌≤◌, length, get_or, IfOk};
 ghost use Rattle.event_log.specs.States.{kind_of};
 ghost use Rattle.channel_preds.specs.Channels.{is_counted, sends_to, receipts_from};
-ghost use Rattle.channel_preds.specs.Channels.{counts_of, AreCounts, events_at};
+ghost use Rattle.channel_preds.specs.Channels.{counts_of, events_at};
+ghost use Rattle.channel_preds.specs.inside.Channels.{AreCounts};
 
 use event_log::{Kind, States};
 use pota_base::{EventId, List, NoMemory};

@@ -1,6 +1,7 @@
 //! Where one process's counts reach another's.
 ghost use Rattle.std.specs.Prelude.{◌≡◌, ℕ, ◌+◌, ◌^◌, ◌<◌, ◌≤◌, length, slice_index, IfOk};
-ghost use Rattle.channel_preds.specs.Channels.{AreCounts, first_reaching};
+ghost use Rattle.channel_preds.specs.Channels.{first_reaching};
+ghost use Rattle.channel_preds.specs.inside.Channels.{AreCounts};
 ghost use Rattle.channel_preds.specs.Channels.{first_positions as first_positions_of};
 
 use pota_base::{List, NoMemory};

@@ -16,7 +16,8 @@ use Rattle.event_log.specs.declared.item.LogFault.{LogFault}
 use Rattle.event_log.specs.declared.log.Event.{Event}
 use Rattle.event_log.specs.States.{with_event, with_batch, with_batches}
 use Rattle.vector_clock.specs.declared.message.Message.{Message}
-use Rattle.vector_clock.specs.Events.{Events, EventFits, no_events, own_events, clocks_of, place, is_beyond}
+use Rattle.vector_clock.specs.Events.{Events, EventFits, no_events, own_events, clocks_of, place}
+use Rattle.vector_clock.specs.Events.{is_beyond}
 use Rattle.vector_clock.specs.Messages.{message_received, first_send}
 use Rattle.vector_clock.specs.Faults.{names, named_clock, clock_fault, is_twice, is_unsent, is_early, message_fault, event_fault, at_line, fault_from, batch_fault, batches_fault}
 use Rattle.vector_clock.specs.Faultless.{AreFaultless, no_batch, one_batch}

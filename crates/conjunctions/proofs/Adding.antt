@@ -17,10 +17,12 @@ use Rattle.part_pulls.specs.declared.observed.Observed.{Observed}
 use Rattle.conjunctions.specs.declared.answer.PartAnswer.{PartAnswer}
 use Rattle.part_pulls.specs.Observing.{clocks_seen, lens_seen, run_seen, names_seen}
 use Rattle.part_pulls.specs.Systems.{is_atom, pulls_of_part, pulls_of_parts}
-use Rattle.conjunctions.specs.Numbering.{all_atoms, gives_order}
+use Rattle.conjunctions.specs.Numbering.{all_atoms}
+use Rattle.conjunctions.specs.inside.Numbering.{gives_order}
 use Rattle.conjunctions.specs.Counting.{rooms_of}
-use Rattle.conjunctions.specs.Gathering.{AddsPulls}
-use Rattle.conjunctions.specs.Answering.{Place, places_from, ArePartAnswers, AddsAnswers}
+use Rattle.conjunctions.specs.inside.Gathering.{AddsPulls}
+use Rattle.conjunctions.specs.Answering.{Place, places_from, ArePartAnswers}
+use Rattle.conjunctions.specs.inside.Answering.{AddsAnswers}
 use Rattle.conjunctions.proofs.Ordering.{gives_right}
 
 -- ---- lists of parts

@@ -23,13 +23,15 @@ use Rattle.part_pulls.specs.Observing.{Reading, AreAnswers, clocks_seen, lens_se
 use Rattle.conjunctions.specs.Numbering.{conjunctions_in, all_conjunctions}
 use Rattle.conjunctions.specs.Rounds.{RoundView}
 use Rattle.conjunctions.specs.Settling.{AreFloors, Settles}
-use Rattle.conjunctions.specs.Answering.{IsSliceOf, IsAnswer, places_from, all_places, ArePartAnswers, AddsAnswers}
+use Rattle.conjunctions.specs.Answering.{IsSliceOf, IsAnswer, places_from, all_places}
+use Rattle.conjunctions.specs.Answering.{ArePartAnswers}
+use Rattle.conjunctions.specs.inside.Answering.{AddsAnswers}
 use Rattle.conjunctions.proofs.InTurn.{settles_none, settles_on, floors_left, floors_right}
 use Rattle.conjunctions.proofs.Adding.{answers_none, answers_more}
 use Rattle.graft.specs.Joined.{min_rows, joined_views}
 use Rattle.graft.proofs.Joining.{joined_fits, joined_stands_for}
 use Rattle.std.specs.Prelude.{IfSome}
-use Rattle.conjunctions.specs.Joining.{so_far}
+use Rattle.conjunctions.specs.inside.Joining.{so_far}
 use Rattle.conjunctions.proofs.Joining.{some_joined, joined_more}
 
 -- what stands once these disjuncts were settled

@@ -16,7 +16,7 @@ use Rattle.slice_graph.specs.PullLists.{pulls_of_slice}
 use Rattle.slice_graph.proofs.SlicePulls.{slice_pulls_fit, slice_pulls_count, slice_closed}
 use Rattle.part_pulls.specs.Operating.{Operated}
 use Rattle.part_pulls.proofs.Slices.{cut_of_lengths, cut_is}
-use Rattle.conjunctions.specs.Gathering.{AddsOperator}
+use Rattle.conjunctions.specs.inside.Gathering.{AddsOperator}
 
 -- the pulls of an operator's own slice
 pub operated_adds : (o : Clocks) (operator : Operator) (operand slice : SliceView) (old new : List Pull) → FitsOrder o slice → HasAllRows slice

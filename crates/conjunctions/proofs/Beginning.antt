@@ -19,7 +19,7 @@ use Rattle.slice_graph.specs.PullLists.{pulls_of_slice}
 use Rattle.slice_graph.specs.Starting.{AreWithinClosed}
 use Rattle.slice_graph.proofs.SlicePulls.{slice_pulls_fit, slice_pulls_count}
 use Rattle.slice_graph.proofs.Alone.{rows_alone}
-use Rattle.conjunctions.specs.Beginning.{GatheredView, MayBeginFrom, FloorFits}
+use Rattle.conjunctions.specs.inside.Beginning.{GatheredView, MayBeginFrom, FloorFits}
 
 -- ---- more pulls
 

@@ -22,12 +22,14 @@ use Rattle.event_log.specs.declared.log.Event.{Event}
 use Rattle.part_pulls.specs.declared.observed.Observed.{Observed}
 use Rattle.part_pulls.specs.Observing.{clocks_seen, lens_seen}
 use Rattle.part_pulls.specs.Systems.{is_atom, pulls_of_parts}
-use Rattle.conjunctions.specs.Numbering.{all_atoms, gives_order}
+use Rattle.conjunctions.specs.Numbering.{all_atoms}
+use Rattle.conjunctions.specs.inside.Numbering.{gives_order}
 use Rattle.conjunctions.specs.Counting.{rooms_of, first_of}
 use Rattle.conjunctions.specs.Rounds.{RoundView}
-use Rattle.conjunctions.specs.Gathering.{AddsPulls, first_pulls}
-use Rattle.conjunctions.specs.Beginning.{BeginsWithOrder}
-use Rattle.conjunctions.specs.Settling.{CanBegin, CutsStay, AreFloors, SettlesOne}
+use Rattle.conjunctions.specs.inside.Gathering.{AddsPulls, first_pulls}
+use Rattle.conjunctions.specs.inside.Beginning.{BeginsWithOrder}
+use Rattle.conjunctions.specs.Settling.{CutsStay, AreFloors}
+use Rattle.conjunctions.specs.inside.Settling.{CanBegin, SettlesOne}
 use Rattle.conjunctions.proofs.Settled.{AreFirstPulls, few_pulls, has_order}
 use Rattle.conjunctions.proofs.Adding.{closed_none}
 use Rattle.part_pulls.proofs.Atoms.{lens_same}

@@ -12,8 +12,11 @@ use Rattle.pull_system.proofs.Starts.{get_or-row_at}
 use Rattle.slice_workers.specs.Reaching.{AreFinal, ReachesFirst}
 use Rattle.slice_workers.proofs.Reached.{first_none, none_final}
 use Rattle.slice_workers.proofs.Firsts.{sum_old}
-use Rattle.conjunctions.specs.Beginning.{GatheredView, FloorFits, BeginsAtoms, BeginsOthers, AreNone, AreWithin, HaveCuts, FinalsOfAtoms, FinalsOfOthers}
-use Rattle.conjunctions.specs.Settling.{CanBegin, CutsStay}
+use Rattle.conjunctions.specs.inside.Beginning.{GatheredView, FloorFits, BeginsAtoms, BeginsOthers}
+use Rattle.conjunctions.specs.inside.Beginning.{AreNone, AreWithin, HaveCuts, FinalsOfAtoms}
+use Rattle.conjunctions.specs.inside.Beginning.{FinalsOfOthers}
+use Rattle.conjunctions.specs.Settling.{CutsStay}
+use Rattle.conjunctions.specs.inside.Settling.{CanBegin}
 
 -- ---- counts of rows, process by process
 

@@ -9,11 +9,12 @@ use Rattle.part_pulls.specs.declared.observed.Observed.{Observed}
 use Rattle.conjunctions.specs.declared.answer.PartAnswer.{PartAnswer}
 use Rattle.part_pulls.specs.Observing.{lens_seen}
 use Rattle.conjunctions.specs.Numbering.{within, conjunctions_in}
-use Rattle.conjunctions.specs.Beginning.{GatheredView, FloorFits}
+use Rattle.conjunctions.specs.inside.Beginning.{GatheredView, FloorFits}
 use Rattle.conjunctions.specs.Rounds.{RoundView}
-use Rattle.conjunctions.specs.Gathering.{AddsPulls}
+use Rattle.conjunctions.specs.inside.Gathering.{AddsPulls}
 use Rattle.conjunctions.specs.Settling.{AreFloors, Settles}
-use Rattle.conjunctions.specs.Answering.{places_from, place, IsPartAnswer, AddsAnswers}
+use Rattle.conjunctions.specs.Answering.{places_from, place, IsPartAnswer}
+use Rattle.conjunctions.specs.inside.Answering.{AddsAnswers}
 use Rattle.conjunctions.proofs.InTurn.{settles_none, settles_on, floors_left, floors_right}
 use Rattle.conjunctions.proofs.Adding.{adds_none, adds_more, answers_none, answers_more, places_joined}
 

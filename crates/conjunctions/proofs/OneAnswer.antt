@@ -13,7 +13,8 @@ use Rattle.part_pulls.specs.declared.observed.Observed.{Observed}
 use Rattle.conjunctions.specs.declared.answer.PartAnswer.{PartAnswer}
 use Rattle.conjunctions.specs.declared.answer.Answer.{Answer}
 use Rattle.part_pulls.specs.Observing.{Satisfying, clocks_seen, run_seen, names_seen}
-use Rattle.conjunctions.specs.Answering.{IsOperand, Place, IsPartAnswer, ArePartAnswers, all_places, IsAnswer}
+use Rattle.conjunctions.specs.Answering.{IsOperand, Place, IsPartAnswer, ArePartAnswers, all_places}
+use Rattle.conjunctions.specs.Answering.{IsAnswer}
 use Rattle.part_pulls.proofs.Readings.{is_order, reading_of, reading_answers}
 use Rattle.part_pulls.proofs.Slices.{one_slice}
 

@@ -2,7 +2,8 @@
 use Rattle.std.proofs.Common.{◌≡◌, Bool, true, false, List, [], ◌∷◌, ◌++◌, refl, ◌∙◌, ap}
 use Rattle.std.specs.Prelude.{◌||◌}
 use Rattle.rctl_parts.specs.Pieces.{Piece, atom, temporal}
-use Rattle.conjunctions.specs.Numbering.{all_atoms, part_gives_order, gives_order}
+use Rattle.conjunctions.specs.Numbering.{all_atoms}
+use Rattle.conjunctions.specs.inside.Numbering.{part_gives_order, gives_order}
 
 or_true : (b : Bool) → (b || true) ≡ true
 or_true true = refl

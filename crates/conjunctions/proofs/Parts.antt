@@ -19,13 +19,14 @@ use Rattle.part_pulls.specs.declared.observed.Observed.{Observed}
 use Rattle.conjunctions.specs.declared.answer.PartAnswer.{PartAnswer}
 use Rattle.part_pulls.specs.Observing.{Reading, AreAnswers, clocks_seen, lens_seen, run_seen, names_seen, scope_seen}
 use Rattle.part_pulls.specs.Systems.{is_atom, IsAtomOf, pulls_of_part}
-use Rattle.conjunctions.specs.Numbering.{part_gives_order, within, within_operand, conjunctions_in}
+use Rattle.conjunctions.specs.Numbering.{within, within_operand, conjunctions_in}
+use Rattle.conjunctions.specs.inside.Numbering.{part_gives_order}
 use Rattle.conjunctions.specs.Counting.{room_of}
 use Rattle.pull_system.specs.Rows.{RowsView}
 use Rattle.conjunctions.specs.Rounds.{RoundView}
 use Rattle.conjunctions.specs.Settling.{AreFloors, Settles}
 use Rattle.part_pulls.specs.Operating.{Operated}
-use Rattle.conjunctions.specs.Gathering.{AddsOperator, AddsPulls}
+use Rattle.conjunctions.specs.inside.Gathering.{AddsOperator, AddsPulls}
 use Rattle.conjunctions.specs.Answering.{IsSliceOf, HoldsAtFirst, IsPartAnswer, IsOperand, place}
 use Rattle.conjunctions.proofs.InTurn.{settles_none}
 use Rattle.part_pulls.proofs.Operators.{operated_means}

@@ -18,12 +18,14 @@ use Rattle.slice_graph.specs.PullLists.{pulls_of_order}
 use Rattle.rctl_parts.specs.Pieces.{Piece}
 use Rattle.part_pulls.specs.declared.observed.Observed.{Observed}
 use Rattle.part_pulls.specs.Observing.{Reading, AreAnswers, Satisfying, clocks_seen, lens_seen}
-use Rattle.conjunctions.specs.Numbering.{all_atoms, gives_order}
+use Rattle.conjunctions.specs.Numbering.{all_atoms}
+use Rattle.conjunctions.specs.inside.Numbering.{gives_order}
 use Rattle.conjunctions.specs.Counting.{pulls_bound, steps_for, first_of, floor_words}
 use Rattle.part_pulls.specs.Systems.{pulls_of_parts}
-use Rattle.conjunctions.specs.Gathering.{AddsPulls, first_pulls}
+use Rattle.conjunctions.specs.inside.Gathering.{AddsPulls, first_pulls}
 use Rattle.conjunctions.specs.Rounds.{RoundView}
-use Rattle.conjunctions.specs.Settling.{IsSettled, Settles, SettlesOne}
+use Rattle.conjunctions.specs.Settling.{IsSettled, Settles}
+use Rattle.conjunctions.specs.inside.Settling.{SettlesOne}
 use Rattle.conjunctions.specs.Answering.{IsSliceOf}
 use Rattle.conjunctions.proofs.LeastCuts.{least_cuts}
 use Rattle.conjunctions.proofs.Ordering.{atoms_give_none}

@@ -12,8 +12,9 @@ use Rattle.raise_machine.proofs.Raising.{starts_bounds}
 use Rattle.slice_graph.specs.PullLists.{pulls_of_order}
 use Rattle.slice_graph.specs.Starting.{AreWithinClosed}
 use Rattle.conjunctions.specs.Counting.{floor_words, steps_for}
-use Rattle.conjunctions.specs.Beginning.{GatheredView, MayBeginFrom, FloorFits, BeginsWithOrder, BeginsAtoms, BeginsOthers}
-use Rattle.conjunctions.specs.Settling.{CanBegin}
+use Rattle.conjunctions.specs.inside.Beginning.{GatheredView, MayBeginFrom, FloorFits}
+use Rattle.conjunctions.specs.inside.Beginning.{BeginsWithOrder, BeginsAtoms, BeginsOthers}
+use Rattle.conjunctions.specs.inside.Settling.{CanBegin}
 use Rattle.conjunctions.proofs.Beginning.{within_more, within_bounds}
 
 -- the rows of before, and those of the order, lie within the bounds

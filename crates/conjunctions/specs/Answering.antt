@@ -72,13 +72,6 @@ ArePartAnswers seen (p ∷ places) [] = ⊥
 ArePartAnswers seen (p ∷ places) (a ∷ answers) =
     IsPartAnswer seen p a × ArePartAnswers seen places answers
 
--- the answers of these parts stand behind those that were there
-pub record AddsAnswers (seen : Observed) (old new : List PartAnswer) (places : List Place) : Type 0
-  where
-    pub added : List PartAnswer
-    pub is : new ≡ old ++ added
-    pub answers : ArePartAnswers seen places added
-
 -- what is said of a formula of these disjuncts: its truth at the initial cut, the slice of the
 -- smallest sublattice that holds the consistent cuts at which it is true, and the answer of each
 -- part

@@ -1,9 +1,8 @@
 -- The conjunctions of a formula in the order of their numbers: each disjunct, and before it the
 -- operands of its temporal parts in the order of the parts, each behind the operands within it.
-use Rattle.std.specs.Prelude.{Bool, true, false, ◌&&◌, ◌||◌, List, [], ◌∷◌, ◌++◌, flat_map}
+use Rattle.std.specs.Prelude.{Bool, true, ◌&&◌, List, [], ◌∷◌, ◌++◌, flat_map}
 use Rattle.rctl_parts.specs.Pieces.{Piece, Pieces, atom, temporal, none, more, listed}
 use Rattle.part_pulls.specs.Systems.{is_atom}
-use Rattle.part_pulls.specs.Operating.{operator_gives_order}
 
 abbrev mutual
   -- the conjunctions within a part: those within its operand, and then the operand
@@ -27,13 +26,3 @@ all_conjunctions ds = flat_map conjunctions_in ds
 abbrev pub all_atoms : List Piece → Bool
 all_atoms [] = true
 all_atoms (p ∷ ps) = is_atom p && all_atoms ps
-
--- the part is one of the operators whose pulls give the order
-abbrev pub part_gives_order : Piece → Bool
-part_gives_order (atom a) = false
-part_gives_order (temporal o ps) = operator_gives_order o
-
--- some part is EF, AG or EG
-abbrev pub gives_order : List Piece → Bool
-gives_order [] = false
-gives_order (p ∷ ps) = part_gives_order p || gives_order ps

@@ -1,33 +1,26 @@
 -- The rows of conjunctions: what each of them has to be, and what a call of the recursion leaves of
 -- the lists of rows.
-use Rattle.std.specs.Prelude.{◌≡◌, ℕ, ◌+◌, ◌<◌, ◌≤◌, ◌↔◌, Bool, true, List, [], ◌∷◌, ◌++◌, length}
-use Rattle.std.specs.Prelude.{drop, sum, take, slice_index, get_or, Option, Some, None}
-use Rattle.run_model.specs.Cut.{Cut, Clocks, IsWithin, lengths}
-use Rattle.run_model.specs.Consistent.{IsConsistent}
-use Rattle.run_model.specs.Slice.{Cuts}
+use Rattle.std.specs.Prelude.{◌≡◌, ℕ, ◌+◌, ◌<◌, ◌≤◌, Bool, true, List, [], ◌∷◌, ◌++◌, length}
+use Rattle.std.specs.Prelude.{drop, sum, take, slice_index, get_or, Some, None}
+use Rattle.run_model.specs.Cut.{Cut, IsWithin, lengths}
 use Rattle.run_model.specs.Sublattice.{IsLeast}
-use Rattle.pull_system.specs.declared.pull.Pull.{Pull}
-use Rattle.pull_system.specs.System.{SystemView, IsSystem, IsClosed}
-use Rattle.slice_graph.specs.Views.{SliceView, slice_of}
-use Rattle.slice_graph.specs.Fitting.{FitsOrder}
+use Rattle.pull_system.specs.System.{SystemView, IsSystem}
 use Rattle.pull_system.specs.Rows.{RowsView, AreLeastRows, start_of, row_at}
 use Rattle.pull_system.specs.Growth.{DidNotFall, grown_words}
 use Rattle.pull_system.specs.Vector.{IsAtMost}
 use Rattle.raise_machine.specs.Bounds.{AreBounds}
 use Rattle.slice_workers.specs.Reaching.{ReachesFirst}
 use Rattle.rctl_parts.specs.Pieces.{Piece}
-use Rattle.rctl_parts.specs.MadeFor.{PieceFits, part_count}
 use Rattle.part_pulls.specs.declared.observed.Observed.{Observed}
 use Rattle.causal_order.specs.Growth.{HasGrown}
 use Rattle.trace_growth.specs.Laws.{StatesHaveGrown}
 use Rattle.channel_preds.specs.Truth.{HasMoreEvents}
 use Rattle.part_pulls.specs.Observing.{Reading, AreAnswers, Satisfying, clocks_seen, lens_seen}
-use Rattle.part_pulls.specs.Observing.{scope_seen, trace_seen}
-use Rattle.part_pulls.specs.Counters.{AllRise, counters_of_part}
+use Rattle.part_pulls.specs.Observing.{trace_seen}
 use Rattle.conjunctions.specs.Numbering.{all_atoms, within}
 use Rattle.part_pulls.specs.Systems.{system_of}
 use Rattle.conjunctions.specs.Rounds.{RoundView}
-use Rattle.conjunctions.specs.Counting.{bounds, first_of, steps_for}
+use Rattle.conjunctions.specs.Counting.{bounds}
 
 -- the members that hold the start
 abbrev pub Above : (Cut → Type 0) → Cut → Cut → Type 0
@@ -82,14 +75,6 @@ AreFloors seen [] cs = Unit {0}
 AreFloors seen (rows ∷ before) [] = Unit {0}
 AreFloors seen (rows ∷ before) (ps ∷ cs) = IsFloor seen ps rows × AreFloors seen before cs
 
--- a part can be settled: it is made for what was observed and has few parts, none of its counters
--- falls, and the conjunctions within it may begin from the rows of before
-pub record CanSettlePart (seen : Observed) (before : List RowsView) (p : Piece) : Type 0 where
-  pub fits : PieceFits (scope_seen seen) p
-  pub count : part_count p ≤ 128
-  pub counters : AllRise seen (counters_of_part p)
-  pub floors : AreFloors seen before (within p)
-
 -- these conjunctions were settled: their rows stand behind the others, as many rows of before are
 -- used up, and one worker took no more steps than each may
 pub record Settles (seen : Observed) (workers : ℕ) (old new : RoundView)
@@ -100,22 +85,6 @@ pub record Settles (seen : Observed) (workers : ℕ) (old new : RoundView)
   pub rows : AreSettled seen cs added
   pub looks : workers ≡ 1 → steps_after ≤ steps_before + bounds (lens_seen seen) old.before cs added
 
--- one conjunction with these pulls was settled: its rows are the least ones of the system, they
--- stand behind the others, and the slice has the consistent cuts that are closed under the pulls
-pub record SettlesOne (o : Clocks) (pulls : List Pull) (keeps : Bool) (workers : ℕ)
-    (old new : RoundView) (steps_before steps_after : ℕ) (slice : SliceView) : Type 0 where
-  pub before : new.before ≡ drop 1 old.before
-  pub rows : RowsView
-  pub settled : new.settled ≡ old.settled ++ rows ∷ []
-  pub lens : rows.lens ≡ lengths o
-  pub system : IsSystem (record { lens = lengths o; pulls = pulls })
-  pub least : AreLeastRows (record { lens = lengths o; pulls = pulls }) rows.words
-  pub looks : workers ≡ 1 → steps_after
-      ≤ steps_before + steps_for (length pulls) keeps (lengths o) (first_of old.before) rows
-  pub fits : FitsOrder o slice
-  pub cuts : (c : Cut) → IsConsistent o c → Cuts o (slice_of slice) c
-      ↔ IsClosed (record { lens = lengths o; pulls = pulls }) c
-
 -- what was observed later: the same processes and watches, and more behind what was there
 pub record IsLater (before after : Observed) : Type 0 where
   pub header : after.trace.states.header ≡ before.trace.states.header
@@ -125,14 +94,3 @@ pub record IsLater (before after : Observed) : Type 0 where
   pub watches : after.watch_process ≡ before.watch_process
   pub rows : (w p : ℕ) → get_or before.watch_process w None ≡ Some p
       → (more : List Bool) × (get_or after.watch_rows w [] ≡ get_or before.watch_rows w [] ++ more)
-
--- rows of before that are kept are of no more events than there are now
-pub record IsFloorOf (lens : List ℕ) (keeps : Bool) (before : Option RowsView) : Type 0 where
-  pub fell : (rows : RowsView) → keeps ≡ true → before ≡ Some rows → DidNotFall rows.lens lens
-
--- and a table of the system may begin from them, grown, where those with a cut are final
-pub record CanBegin (system : SystemView) (keeps : Bool) (before : Option RowsView) : Type 0 where
-  pub fell : IsFloorOf system.lens keeps before
-  pub floor : (rows : RowsView) → keeps ≡ true → before ≡ Some rows
-      → AreBounds system (grown_words system.lens rows)
-  pub stays : (rows : RowsView) → keeps ≡ true → before ≡ Some rows → CutsStay system rows

@@ -5,7 +5,7 @@ ghost use Rattle.rctl_parts.specs.MadeFor.{PieceFits};
 ghost use Rattle.part_pulls.specs.Observing.{IsReady, scope_seen};
 ghost use Rattle.part_pulls.specs.Counters.{AllRise, counters_of_part};
 ghost use Rattle.part_pulls.specs.Systems.{is_atom};
-ghost use Rattle.conjunctions.specs.Gathering.{AddsPulls};
+ghost use Rattle.conjunctions.specs.inside.Gathering.{AddsPulls};
 ghost use Rattle.conjunctions.specs.Answering.{HoldsAtFirst};
 
 use crate::gathered::Gathered;

@@ -5,10 +5,12 @@ ghost use Rattle.rctl_parts.specs.MadeFor.{EachFits, parts_count};
 ghost use Rattle.part_pulls.specs.Observing.{IsReady, scope_seen, clocks_seen, lens_seen};
 ghost use Rattle.conjunctions.specs.Numbering.{within, conjunctions_in};
 ghost use Rattle.part_pulls.specs.Counters.{AllRise, counters_of_parts};
-ghost use Rattle.conjunctions.specs.Gathering.{AddsPulls};
-ghost use Rattle.conjunctions.specs.Beginning.{FloorFits};
-ghost use Rattle.conjunctions.specs.Settling.{AreFloors, CanSettlePart, Settles};
-ghost use Rattle.conjunctions.specs.Answering.{IsSliceOf, IsPartAnswer, AddsAnswers, places_from};
+ghost use Rattle.conjunctions.specs.inside.Gathering.{AddsPulls};
+ghost use Rattle.conjunctions.specs.inside.Beginning.{FloorFits};
+ghost use Rattle.conjunctions.specs.Settling.{AreFloors, Settles};
+ghost use Rattle.conjunctions.specs.inside.Settling.{CanSettlePart};
+ghost use Rattle.conjunctions.specs.Answering.{IsSliceOf, IsPartAnswer, places_from};
+ghost use Rattle.conjunctions.specs.inside.Answering.{AddsAnswers};
 ghost use Rattle.conjunctions.specs.Answering.{place};
 
 use crate::answer::PartAnswer;

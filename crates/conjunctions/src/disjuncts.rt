@@ -8,7 +8,7 @@ ghost use Rattle.part_pulls.specs.Counters.{CountersRise};
 ghost use Rattle.conjunctions.specs.Numbering.{all_conjunctions};
 ghost use Rattle.conjunctions.specs.Settling.{AreFloors, Settles};
 ghost use Rattle.conjunctions.specs.Answering.{IsAnswer};
-ghost use Rattle.conjunctions.specs.Joining.{so_far};
+ghost use Rattle.conjunctions.specs.inside.Joining.{so_far};
 
 use crate::answer::Answer;
 use crate::conjunction::settle_conjunction;

@@ -4,10 +4,10 @@ ghost use Rattle.std.specs.Prelude.{slice_index, IsTrue, IfOk, IfSome};
 ghost use Rattle.run_model.specs.Cut.{lengths};
 ghost use Rattle.pull_system.specs.Vector.{IsAtMost};
 ghost use Rattle.pull_system.specs.Rows.{row_at};
-ghost use Rattle.conjunctions.specs.Beginning.{BeginsAtoms, BeginsOthers, FinalsOfAtoms};
-ghost use Rattle.conjunctions.specs.Beginning.{FinalsOfOthers, GatheredFinals};
-ghost use Rattle.conjunctions.specs.Beginning.{AreNone, AreWithin, HaveCuts};
-ghost use Rattle.conjunctions.specs.Settling.{IsFloorOf};
+ghost use Rattle.conjunctions.specs.inside.Beginning.{BeginsAtoms, BeginsOthers, FinalsOfAtoms};
+ghost use Rattle.conjunctions.specs.inside.Beginning.{FinalsOfOthers, GatheredFinals};
+ghost use Rattle.conjunctions.specs.inside.Beginning.{AreNone, AreWithin, HaveCuts};
+ghost use Rattle.conjunctions.specs.inside.Settling.{IsFloorOf};
 
 use bound_table::widened;
 use causal_order::Order;

@@ -7,9 +7,9 @@ ghost use Rattle.slice_graph.specs.Views.{HasAllRows};
 ghost use Rattle.slice_graph.specs.Fitting.{FitsOrder};
 ghost use Rattle.slice_graph.specs.PullLists.{pulls_of_slice};
 ghost use Rattle.rctl_parts.specs.Pieces.{pieces_of};
-ghost use Rattle.conjunctions.specs.Numbering.{gives_order};
-ghost use Rattle.conjunctions.specs.Gathering.{first_pulls};
-ghost use Rattle.conjunctions.specs.Beginning.{FloorFits};
+ghost use Rattle.conjunctions.specs.inside.Numbering.{gives_order};
+ghost use Rattle.conjunctions.specs.inside.Gathering.{first_pulls};
+ghost use Rattle.conjunctions.specs.inside.Beginning.{FloorFits};
 
 use crate::kinds::{are_atoms, give_order};
 use causal_order::Order;
@@ -35,7 +35,7 @@ pub struct Gathered {
 
 impl Model for Gathered {
     ghost use Rattle.pull_fans.specs.Fans.{pulls_of_fans};
-    ghost use Rattle.conjunctions.specs.Beginning.{GatheredView};
+    ghost use Rattle.conjunctions.specs.inside.Beginning.{GatheredView};
 
     ghost Value = { GatheredView };
 

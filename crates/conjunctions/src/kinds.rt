@@ -4,7 +4,7 @@ ghost use Rattle.rctl_parts.specs.Pieces.{piece_of, pieces_of};
 ghost use Rattle.part_pulls.specs.Operating.{operator_gives_order};
 ghost use Rattle.part_pulls.specs.Systems.{is_atom};
 ghost use Rattle.conjunctions.specs.Numbering.{all_atoms};
-ghost use Rattle.conjunctions.specs.Numbering.{part_gives_order, gives_order};
+ghost use Rattle.conjunctions.specs.inside.Numbering.{part_gives_order, gives_order};
 
 use rctl_grammar::Operator;
 use rctl_parts::Part;

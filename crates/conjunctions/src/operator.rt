@@ -5,9 +5,9 @@ ghost use Rattle.run_model.specs.Slice.{Cuts};
 ghost use Rattle.rctl_grammar.specs.declared.tree.Operator.TheVariants.{Ex};
 ghost use Rattle.slice_graph.specs.Views.{slice_of};
 ghost use Rattle.slice_graph.specs.Fitting.{FitsOrder};
-ghost use Rattle.conjunctions.specs.Beginning.{FloorFits};
+ghost use Rattle.conjunctions.specs.inside.Beginning.{FloorFits};
 ghost use Rattle.part_pulls.specs.Operating.{Operated, FitsProcesses, operator_gives_order};
-ghost use Rattle.conjunctions.specs.Gathering.{AddsOperator};
+ghost use Rattle.conjunctions.specs.inside.Gathering.{AddsOperator};
 
 use crate::gathered::Gathered;
 use causal_order::Order;

@@ -4,8 +4,8 @@ ghost use Rattle.run_model.specs.Cut.{lengths};
 ghost use Rattle.pull_system.specs.System.{IsPull};
 ghost use Rattle.slice_graph.specs.Fitting.{HasOrder};
 ghost use Rattle.conjunctions.specs.Counting.{first_of};
-ghost use Rattle.conjunctions.specs.Beginning.{BeginsWithOrder, FloorFits};
-ghost use Rattle.conjunctions.specs.Settling.{CanBegin, SettlesOne};
+ghost use Rattle.conjunctions.specs.inside.Beginning.{BeginsWithOrder, FloorFits};
+ghost use Rattle.conjunctions.specs.inside.Settling.{CanBegin, SettlesOne};
 
 use crate::floors::{Beginning, beginning_of};
 use crate::gathered::Gathered;

@@ -15,7 +15,8 @@ use Rattle.channel_preds.specs.Channels.{events_at}
 use Rattle.counter_preds.specs.declared.values.Variable.{Variable}
 use Rattle.counter_preds.specs.Counters.{IsVariable}
 use Rattle.counter_preds.specs.Truth.{HasMoreEvents}
-use Rattle.counter_preds.specs.Falls.{value_now, behind_event, behind_batch, assigned_value, left_by}
+use Rattle.counter_preds.specs.Falls.{value_now, behind_event, behind_batch}
+use Rattle.counter_preds.specs.inside.Falls.{assigned_value, left_by}
 use Rattle.counter_preds.proofs.Growing.{opening_in, value_behind, value_by}
 
 -- ---- assignments

@@ -11,7 +11,8 @@ use Rattle.event_log.specs.States.{StatesView, processes_of, event_of, variable_
 use Rattle.channel_preds.specs.Channels.{events_at}
 use Rattle.counter_preds.specs.declared.values.Variable.{Variable}
 use Rattle.counter_preds.specs.Counters.{value_in}
-use Rattle.counter_preds.specs.Falls.{value_now, behind_event, is_lowered, fall_of, fall_fault, without_clock, without_clocks}
+use Rattle.counter_preds.specs.Falls.{value_now, behind_event, is_lowered, fall_of, fall_fault}
+use Rattle.counter_preds.specs.Falls.{without_clock, without_clocks}
 
 -- the states without clocks
 abbrev clockless : StatesView → StatesView

@@ -8,7 +8,9 @@ use Rattle.std.proofs.lemmas.List.Folds.{list_any-append}
 use Rattle.event_log.specs.declared.log.Event.{Event}
 use Rattle.event_log.specs.States.{StatesView, with_batch}
 use Rattle.counter_preds.specs.declared.values.Variable.{Variable}
-use Rattle.counter_preds.specs.Falls.{value_now, behind_event, behind_batch, is_lowered, fall_of, fall_fault, falls_at}
+use Rattle.counter_preds.specs.Falls.{value_now, behind_event, behind_batch, is_lowered, fall_of}
+use Rattle.counter_preds.specs.Falls.{fall_fault}
+use Rattle.counter_preds.specs.inside.Falls.{falls_at}
 
 -- some counter falls at the event of this number
 abbrev pub some_falls_at : StatesView → List Event → List Variable → ℕ → Bool

@@ -8,7 +8,8 @@ use Rattle.event_log.specs.States.{StatesView, AreWhole, with_batch}
 use Rattle.channel_preds.specs.Channels.{events_at}
 use Rattle.counter_preds.specs.declared.values.Variable.{Variable}
 use Rattle.counter_preds.specs.Counters.{IsVariable, value_in}
-use Rattle.counter_preds.specs.Falls.{value_now, behind_batch, falls_at, assigned_value, left_by}
+use Rattle.counter_preds.specs.Falls.{value_now, behind_batch}
+use Rattle.counter_preds.specs.inside.Falls.{falls_at, assigned_value, left_by}
 use Rattle.counter_preds.proofs.Behind.{next_value}
 
 -- one assignment more

@@ -13,7 +13,8 @@ use Rattle.event_log.specs.States.{StatesView, AreWhole, opened, with_batch}
 use Rattle.channel_preds.specs.Channels.{events_at}
 use Rattle.counter_preds.specs.declared.values.Variable.{Variable}
 use Rattle.counter_preds.specs.Counters.{IsVariable, IsCounter, values_of, value_at, value_in}
-use Rattle.counter_preds.specs.Falls.{value_now, behind_event, behind_batch, is_lowered, fall_of, fall_fault}
+use Rattle.counter_preds.specs.Falls.{value_now, behind_event, behind_batch, is_lowered, fall_of}
+use Rattle.counter_preds.specs.Falls.{fall_fault}
 use Rattle.counter_preds.proofs.Along.{length-values_of, value_at-values_of}
 use Rattle.counter_preds.proofs.Growing.{value_stays}
 use Rattle.counter_preds.proofs.Tests.{not_lower}

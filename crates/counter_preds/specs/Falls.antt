@@ -1,10 +1,9 @@
 -- Counters that fall: the first event of a batch that leaves one lower than it was.
-use Rattle.std.specs.Prelude.{ℕ, ℤ, ◌+◌, ◌==◌, Bool, int_lt, List, [], ◌∷◌, length, map, take, fold}
+use Rattle.std.specs.Prelude.{ℤ, Bool, int_lt, List, [], ◌∷◌, length, map}
 use Rattle.std.specs.Prelude.{Option, None, Some, if◌then◌else◌}
 use Rattle.std.specs.List.{list_any}
 use Rattle.event_log.specs.declared.item.LogCode.TheVariants as code
 use Rattle.event_log.specs.declared.item.LogFault.{LogFault}
-use Rattle.event_log.specs.declared.log.Assign.{Assign}
 use Rattle.event_log.specs.declared.log.Event.{Event}
 use Rattle.event_log.specs.States.{StatesView, with_event, with_batch}
 use Rattle.channel_preds.specs.Channels.{events_at}
@@ -39,22 +38,7 @@ fall_fault states counters (e ∷ rest) =
     if list_any (is_lowered states e) counters then Some (fall_of e)
     else fall_fault (behind_event states e) counters rest
 
--- event number k of the batch, counted from 0, leaves the variable lower than it was
-abbrev pub falls_at : StatesView → List Event → Variable → ℕ → Bool
-falls_at states batch x k =
-    int_lt (value_now (behind_batch states (take (k + 1) batch)) x)
-    (value_now (behind_batch states (take k batch)) x)
-
 -- ---- by assignments
-
--- the value that assignments leave the variable of a number, where it was z before
-abbrev pub assigned_value : ℕ → ℤ → List Assign → ℤ
-assigned_value number z assigns =
-    fold (λ value (a : Assign). if a.variable == number then a.value else value) z assigns
-
--- the value that an event leaves a variable, where it was z before
-abbrev pub left_by : Event → Variable → ℤ → ℤ
-left_by e x z = if e.process == x.process then assigned_value x.number z e.assigns else z
 
 -- ---- clocks make no difference
 

@@ -1,3 +1,4 @@
 pub mod Counters
 pub mod Falls
 pub mod Truth
+pub mod inside

@@ -5,7 +5,8 @@ ghost use Rattle.std.specs.List.{list_any};
 ghost use Rattle.event_log.specs.States.{AreWhole};
 ghost use Rattle.counter_preds.specs.declared.values.Variable.{Variable as VariableOf};
 ghost use Rattle.counter_preds.specs.Counters.{IsVariable};
-ghost use Rattle.counter_preds.specs.Falls.{falls_at, fall_fault, assigned_value, left_by};
+ghost use Rattle.counter_preds.specs.Falls.{fall_fault};
+ghost use Rattle.counter_preds.specs.inside.Falls.{falls_at, assigned_value, left_by};
 
 use crate::values::Variable;
 use event_log::{Assign, Event, LogCode, LogFault, States};

@@ -8,7 +8,7 @@ use Rattle.pull_system.proofs.Climbing.{climb, asked, starts_below}
 use Rattle.pull_system.proofs.Marks.{mark_more}
 use Rattle.pull_system.proofs.Pulls.{pull-of}
 use Rattle.pull_system.proofs.Sums.{sum-set}
-use Rattle.least_cut.specs.Climb.{AreMarks, IsClimb}
+use Rattle.least_cut.specs.inside.Climb.{AreMarks, IsClimb}
 use Rattle.least_cut.proofs.Settling.{marks_more}
 
 raise_below : (system : SystemView) → IsSystem system → (k : ℕ) → k < length system.pulls → (start v : List ℕ) → (target z : ℕ) → target ≡ target_of system k → z ≡ ask system k (get_or v (source_of system k) 0)

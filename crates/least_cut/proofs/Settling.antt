@@ -3,9 +3,9 @@ use Rattle.std.proofs.Common.{◌≡◌, ◌≢◌, ℕ, ◌*◌, ◌+◌, ◌<�
 use Rattle.std.proofs.lemmas.List.{length-set}
 use Rattle.std.proofs.Math.Nat.{mul-le-mul_left}
 use Rattle.pull_system.specs.declared.pull.Pull.{Pull}
-use Rattle.least_cut.specs.Climb.{AreHeld, IsLook, IsLooked, AreMarks}
+use Rattle.least_cut.specs.inside.Climb.{AreHeld, IsLook, IsLooked, AreMarks}
 use Rattle.pull_system.specs.Marks.{marked}
-use Rattle.least_cut.specs.Climb.IsLook.{Held, Raised}
+use Rattle.least_cut.specs.inside.Climb.IsLook.{Held, Raised}
 use Rattle.pull_system.specs.System.{SystemView, IsSystem, IsPull, HoldsPull, source_of, target_of, ask}
 use Rattle.pull_fans.specs.Sources.{numbers_from}
 use Rattle.pull_system.proofs.Climbing.{set_case, set_at_least}

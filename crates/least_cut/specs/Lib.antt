@@ -1,1 +1,1 @@
-pub mod Climb
+pub mod inside

@@ -4,7 +4,7 @@
 ghost use Rattle.std.specs.Prelude.{◌≡◌, ◌≢◌, ◌+◌, ◌*◌, ◌<◌, ◌≤◌, length, sum};
 ghost use Rattle.pull_system.specs.Vector.{IsVector};
 ghost use Rattle.pull_system.specs.System.{IsSystem, IsLeastFrom, source_of};
-ghost use Rattle.least_cut.specs.Climb.{AreHeld, IsLook, IsClimb, AreMarks};
+ghost use Rattle.least_cut.specs.inside.Climb.{AreHeld, IsLook, IsClimb, AreMarks};
 
 mod risen;
 

@@ -13,7 +13,8 @@ use Rattle.rctl_parts.specs.declared.expr.LocalSide.TheVariants as side
 use Rattle.rctl_parts.specs.Exprs.{Expr, truth, comparison, watch, negation, conjunction, disjunction, Exprs, none, more}
 use Rattle.rctl_parts.specs.MadeFor.{SideFits, ExprFits, ExprsFit, is_constant, are_constant}
 use Rattle.rctl_parts.specs.Spelled.{numbered_name, side_in, formula_in, formulas_in}
-use Rattle.local_preds.specs.Rows.{side_value, is_true, all_true, some_true, IsReadable, AreReadable}
+use Rattle.local_preds.specs.Rows.{side_value, is_true, all_true, some_true, IsReadable}
+use Rattle.local_preds.specs.Rows.{AreReadable}
 
 -- ---- the formula
 

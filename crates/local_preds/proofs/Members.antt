@@ -6,7 +6,8 @@ use Rattle.std.proofs.lemmas.List.{drop_all}
 use Rattle.rctl_parts.specs.declared.expr.LocalExpr.{LocalExpr}
 use Rattle.rctl_parts.specs.Exprs.{Expr, Exprs, more, exprs, expr_of}
 use Rattle.local_preds.specs.declared.holding.StateAt.{StateAt}
-use Rattle.local_preds.specs.Rows.{IsReadableIn, AreReadableIn, truth_in, all_true_in, some_true_in}
+use Rattle.local_preds.specs.inside.Rows.{IsReadableIn, AreReadableIn, truth_in, all_true_in}
+use Rattle.local_preds.specs.inside.Rows.{some_true_in}
 
 -- the members from place i on
 abbrev pub left : List LocalExpr → ℕ → Exprs

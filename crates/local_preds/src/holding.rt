@@ -4,8 +4,8 @@ ghost use Rattle.run_model.specs.Meaning.{compares as compares_of};
 ghost use Rattle.rctl_grammar.specs.Shape.{relation_of};
 ghost use Rattle.rctl_parts.specs.Exprs.{expr_of, exprs};
 ghost use Rattle.rctl_parts.specs.MadeFor.{SideFits};
-ghost use Rattle.local_preds.specs.Rows.{IsState, IsReadableIn, AreReadableIn, truth_in};
-ghost use Rattle.local_preds.specs.Rows.{all_true_in, some_true_in, side_in, variables_in};
+ghost use Rattle.local_preds.specs.inside.Rows.{IsState, IsReadableIn, AreReadableIn, truth_in};
+ghost use Rattle.local_preds.specs.inside.Rows.{all_true_in, some_true_in, side_in, variables_in};
 
 use event_log::States;
 use pota_base::List;
@@ -23,7 +23,8 @@ pub struct StateAt<'a> {
 }
 
 impl StateAt<'_> {
-    ghost use Rattle.local_preds.specs.Rows.{IsState, value_in, variables_in, watch_in, HasWatch};
+    ghost use Rattle.local_preds.specs.inside.Rows.{IsState, value_in, variables_in, watch_in};
+    ghost use Rattle.local_preds.specs.inside.Rows.{HasWatch};
 
     /// The value of a variable.
     fn value(&self, variable: u32) -> i64

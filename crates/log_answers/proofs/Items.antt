@@ -15,7 +15,9 @@ use Rattle.log_answers.specs.declared.stop.StopCause.{StopCause}
 use Rattle.log_answers.specs.declared.stop.StopCause.TheVariants as causes
 use Rattle.log_answers.specs.declared.stop.Stop.{Stop}
 use Rattle.log_answers.specs.declared.stop.Verdict.{Verdict}
-use Rattle.log_answers.specs.Checking.{closed_in, AreReportsFor, HasPartOf, HasFrontOf, ReportStops, Reports, Stands, IsRefusedAt, JudgeStops, StopsIn, TakesItems}
+use Rattle.log_answers.specs.Checking.{closed_in, AreReportsFor, HasPartOf, HasFrontOf, ReportStops}
+use Rattle.log_answers.specs.Checking.{Reports, Stands, IsRefusedAt, StopsIn, TakesItems}
+use Rattle.log_answers.specs.inside.Checking.{JudgeStops}
 
 -- ---- reports behind those before
 

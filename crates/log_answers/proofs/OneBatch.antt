@@ -23,7 +23,8 @@ use Rattle.log_answers.specs.declared.stop.StopCause.{StopCause}
 use Rattle.log_answers.specs.declared.stop.StopCause.TheVariants as causes
 use Rattle.log_answers.specs.declared.stop.Stop.{Stop}
 use Rattle.log_answers.specs.declared.stop.Verdict.{Verdict}
-use Rattle.log_answers.specs.Checking.{closed_in, AreReportsFor, HasPartOf, HasFrontOf, ReportStops, Reports, Stands, StopsIn, TakesItems}
+use Rattle.log_answers.specs.Checking.{closed_in, AreReportsFor, HasPartOf, HasFrontOf, ReportStops}
+use Rattle.log_answers.specs.Checking.{Reports, Stands, StopsIn, TakesItems}
 use Rattle.log_answers.specs.Whole.{judgement_on, TakesWhole, WholeStops, WholeTo, HasWhole}
 use Rattle.log_answers.proofs.Items.{whole_front}
 

@@ -20,7 +20,9 @@ use Rattle.log_answers.specs.declared.stop.StopCause.{StopCause}
 use Rattle.log_answers.specs.declared.stop.StopCause.TheVariants as causes
 use Rattle.log_answers.specs.declared.stop.Stop.{Stop}
 use Rattle.log_answers.specs.declared.stop.Verdict.{Verdict}
-use Rattle.log_answers.specs.Checking.{AreReportsFor, ReportStops, Reports, Puts, JudgeStops, IsBenchAim, SummaryStops, SumsUp}
+use Rattle.log_answers.specs.Checking.{AreReportsFor, ReportStops, Reports, IsBenchAim}
+use Rattle.log_answers.specs.Checking.{SummaryStops, SumsUp}
+use Rattle.log_answers.specs.inside.Checking.{Puts, JudgeStops}
 use Rattle.log_answers.proofs.Items.{whole_front}
 
 -- ---- one text

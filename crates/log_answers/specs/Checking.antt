@@ -1,4 +1,5 @@
 -- A log that is checked item by item: what is known of it, and what its calls lead to.
+-- ---- reports
 use Rattle.std.specs.Prelude.{◌≡◌, ℕ, ◌≤◌, ◌↔◌, Bool, true, false, List, [], ◌∷◌, ◌++◌, Option}
 use Rattle.std.specs.Prelude.{Result, Ok, Err}
 use Rattle.std.specs.Io.KnownBytes.{Appends}
@@ -13,14 +14,12 @@ use Rattle.log_judgement.specs.Judgement.{Prefix, Judgement, refused}
 use Rattle.log_judgement.specs.Due.{closed_of, batches_of}
 use Rattle.log_judgement.specs.Texts.{AreReports}
 use Rattle.log_check.specs.Aims.{Says, Aim, asked_of, IsReportFor, IsTrueSoFar}
-use Rattle.log_check.specs.Checking.{IsCheckOf, GoesOn, IsRefusedAs}
+use Rattle.log_check.specs.Checking.{IsCheckOf}
 use Rattle.log_check.specs.declared.check.LogCheck.{LogCheck}
 use Rattle.log_answers.specs.declared.stop.StopCause.{StopCause}
 use Rattle.log_answers.specs.declared.stop.StopCause.TheVariants as causes
 use Rattle.log_answers.specs.declared.stop.Stop.{Stop}
 use Rattle.log_answers.specs.declared.stop.Verdict.{Verdict}
-
--- ---- reports
 
 -- the log after each batch that has a report so far
 abbrev pub closed_in : (each : Bool) → Judgement → List Prefix
@@ -82,20 +81,6 @@ pub record Reports (held held' : Option (List ℕ)) (of of' : ℕ) (aim : Aim)
   pub later : of ≤ of'
   pub to : ReportsTo of of' aim batches before log (text ++ written) result
 
--- a text was to be written
-abbrev pub PutsTo : {T : Type 0} → ℕ → ℕ → List ℕ → ℕ → List ℕ → Result T Stop → Type 0
-PutsTo of of' text batches written (Ok x) = written ≡ text
-PutsTo of of' text batches written (Err stop) =
-    (stop ≡ record { batches = batches; cause = causes.Write }) × IsPrefix written text
-    × Rose of of'
-
-pub record Puts {T : Type 0} (held held' : Option (List ℕ)) (of of' : ℕ) (text : List ℕ)
-    (batches : ℕ) (result : Result T Stop) : Type 0 where
-  pub written : List ℕ
-  pub wrote : Appends held held' written
-  pub later : of ≤ of'
-  pub to : PutsTo of of' text batches written result
-
 -- ---- items
 
 -- the check is at this judgement, and the text of the reports so far was written
@@ -111,19 +96,6 @@ pub record IsRefusedAt (aim : Aim) (each : Bool) (j : Judgement) (text : List �
   pub is : j ≡ refused log why
   pub texts : AreReportsFor aim (closed_in each j) text
   pub count : batches ≡ batches_of j
-
--- an item led from one judgement to the next, and a `batch` line closed a batch or not
-abbrev pub JudgeStops : StopCause → ℕ → Judgement → Judgement → Type 0
-JudgeStops (causes.Refused r) n before after = IsRefusedAs before after n r
-JudgeStops causes.Memory n before after = n ≡ 0
-JudgeStops causes.Read n before after = ⊥
-JudgeStops causes.Write n before after = ⊥
-
-abbrev pub Judges : {X : Type 0} {P : X → Type 0} → Says X P → Aim → LogCheck X P → Judgement
-    → Judgement → Result Bool Stop → Type 0
-Judges says aim check before after (Ok closed) = GoesOn says aim check before after closed
-Judges says aim check before after (Err stop) =
-    JudgeStops stop.cause stop.batches before after
 
 -- a stop at this judgement
 abbrev pub StopsIn : StopCause → ℕ → ℕ → ℕ → Aim → Bool → Judgement → List ℕ → Type 0

@@ -1,3 +1,4 @@
 pub mod Checking
 pub mod Whole
 pub mod Inputs
+pub mod inside

@@ -5,7 +5,8 @@ ghost use Rattle.log_judgement.specs.Judgement.{Prefix, Judgement, judge, judged
 ghost use Rattle.report.specs.Spelling.{IsWellFormed};
 ghost use Rattle.log_check.specs.Aims.{Aim, IsReportFor, rules_of, said_by};
 ghost use Rattle.log_check.specs.Checking.{HasClosed, IsCheckOf, MayFollow};
-ghost use Rattle.log_answers.specs.Checking.{AreReportsFor, IsBenchAim, Judges, Puts, Reports};
+ghost use Rattle.log_answers.specs.Checking.{AreReportsFor, IsBenchAim, Reports};
+ghost use Rattle.log_answers.specs.inside.Checking.{Judges, Puts};
 ghost use Rattle.log_answers.specs.Checking.{Stands, SumsUp, TakesItems};
 ghost use Rattle.bench_summary.specs.Views.{sizes_of};
 

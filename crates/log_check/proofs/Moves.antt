@@ -47,7 +47,8 @@ use Rattle.session.specs.Fed.{AreFedFrom, AnswersAs}
 use Rattle.log_check.specs.declared.check.LogCheck.{LogCheck}
 use Rattle.log_check.specs.Aims.{Says, Aim, rules_of, aim_of, names_of, watches_of, AreWatches}
 use Rattle.log_check.specs.Keeping.{reading_of, HaveCounters, HasTaken, AreHanded, HasSince}
-use Rattle.log_check.specs.Checking.{MayFollow, IsCheckOf, end_item, GoesOn, IsRefusedAs}
+use Rattle.log_check.specs.Checking.{MayFollow, IsCheckOf, GoesOn, IsRefusedAs}
+use Rattle.log_check.specs.inside.Checking.{end_item}
 use Rattle.event_log.proofs.NameNumbers.{header_known}
 use Rattle.rctl_class.specs.Counters.{counters_of, disjuncts_counters, HaveSameMembers}
 use Rattle.log_check.proofs.Counters.{have_counters}

@@ -30,7 +30,9 @@ use Rattle.log_check.specs.declared.check.LogCheck.{LogCheck}
 use Rattle.log_check.specs.Aims.{Says, Aim, asked_of, IsReportFor}
 use Rattle.log_judgement.proofs.Rising.{whole_log}
 use Rattle.log_check.proofs.Counters.{rising_kept}
-use Rattle.log_check.specs.Keeping.{trace_after, reading_of, IsWatched, HaveCounters, HasTaken, AreHanded, IsOpen, HasSince, HasAnswered, Keeps}
+use Rattle.log_check.specs.Keeping.{trace_after, reading_of, IsWatched, HaveCounters, HasTaken}
+use Rattle.log_check.specs.Keeping.{AreHanded, IsOpen, HasSince, Keeps}
+use Rattle.log_check.specs.inside.Keeping.{HasAnswered}
 use Rattle.log_check.specs.Checking.{HasClosed, IsCheckOf}
 
 module _ {X : Type 0} {P : X → Type 0} (says : Says X P) (aim : Aim) (check : LogCheck X P) where

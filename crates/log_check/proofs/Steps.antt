@@ -22,7 +22,8 @@ use Rattle.event_log.specs.States.{IsKnown, with_event, with_batch, with_batches
 use Rattle.event_log.proofs.Keeping.{sum_batch}
 use Rattle.vector_clock.specs.Events.{EventStands, no_events}
 use Rattle.vector_clock.proofs.BatchLaws.{events_stand}
-use Rattle.trace_growth.specs.Growing.{TraceView, FitsTrace, opened_trace, filled_for, trace_fault, with_trace_batch}
+use Rattle.trace_growth.specs.Growing.{TraceView, FitsTrace, opened_trace, filled_for, trace_fault}
+use Rattle.trace_growth.specs.Growing.{with_trace_batch}
 use Rattle.run_report.specs.Reports.{counted}
 use Rattle.log_judgement.specs.declared.refusal.Refusal.TheVariants as refusal
 use Rattle.counter_preds.specs.Falls.{fall_fault}

@@ -1,4 +1,5 @@
 -- A log that is checked item by item: what is known of it behind its items so far.
+-- ---- what is judged
 use Rattle.std.specs.Prelude.{◌≡◌, ℕ, ◌+◌, ◌<◌, ◌≤◌, Bool, true, false, List, [], ◌∷◌, ◌++◌, length}
 use Rattle.std.specs.Prelude.{Option}
 use Rattle.event_log.specs.declared.item.Item.{Item}
@@ -13,8 +14,6 @@ use Rattle.log_judgement.specs.Due.{closed_of, batches_of}
 use Rattle.log_check.specs.declared.check.LogCheck.{LogCheck}
 use Rattle.log_check.specs.Aims.{Says, Aim, aim_of}
 use Rattle.log_check.specs.Keeping.{Keeps}
-
--- ---- what is judged
 
 -- items of a log that may come behind a judgement
 abbrev pub MayFollow : Judgement → List Item → Type 0
@@ -51,11 +50,6 @@ pub record IsCheckOf {X : Type 0} {P : X → Type 0} (says : Says X P) (aim : Ai
   pub batches : check.batches ≡ batches_of j
   pub free : IsFree j
   pub keeps : Keeps says aim check j
-
--- the line that closes a batch, and whether it closes the log
-abbrev pub end_item : (last : Bool) → Item
-end_item false = item.BatchEnd
-end_item true = item.End
 
 -- from one judgement to the next a `batch` line closed a batch, or none did
 abbrev pub Closes : Bool → (before after : Judgement) → Type 0

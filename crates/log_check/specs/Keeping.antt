@@ -25,7 +25,7 @@ use Rattle.log_judgement.specs.Counters.{variable_in}
 use Rattle.log_judgement.specs.Judgement.{Prefix, followed_by, Judgement, waiting, growing}
 use Rattle.log_judgement.specs.Judgement.{finished, refused}
 use Rattle.session.specs.declared.session.Session.{Session}
-use Rattle.session.specs.Growing.{GrowingView, HasAnswer}
+use Rattle.session.specs.Growing.{GrowingView}
 use Rattle.session.specs.Fed.{AreFedFrom, AnswersAs}
 use Rattle.watch.specs.declared.predicate.Handed.{Handed}
 use Rattle.log_check.specs.declared.check.LogCheck.{LogCheck}
@@ -40,6 +40,7 @@ trace_after log = record {
   };
   batches = counted log.batches;
   spent = false;
+
 }
 
 -- the watches, by their numbers and by their names
@@ -104,12 +105,6 @@ pub record IsOpen {X : Type 0} {P : X → Type 0} (says : Says X P) (aim : Aim)
   pub some : check.session ≡ Some session
   pub taken : HasTaken aim session.growing log
   pub watches : AreHanded says aim session
-
--- the header came, and the answer on the batches so far was made
-pub record HasAnswered {X : Type 0} {P : X → Type 0} (check : LogCheck X P) : Type 0 where
-  pub session : Session X P
-  pub some : check.session ≡ Some session
-  pub answer : HasAnswer session.growing
 
 -- the items so far are judged so
 abbrev pub Keeps : {X : Type 0} {P : X → Type 0} → Says X P → Aim → LogCheck X P → Judgement

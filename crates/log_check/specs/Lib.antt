@@ -2,3 +2,4 @@ pub mod Aims
 pub mod Keeping
 pub mod Checking
 pub mod Checked
+pub mod inside

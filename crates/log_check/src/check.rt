@@ -8,8 +8,8 @@ ghost use Rattle.log_judgement.specs.Judgement.{Prefix, Judgement, judge, opened
 ghost use Rattle.log_check.specs.Aims.{Aim, AreWatches, IsReportFor, aim_of, names_of, rules_of};
 ghost use Rattle.log_check.specs.Aims.{said_by, watches_of};
 ghost use Rattle.log_check.specs.Checking.{GoesOn, HasClosed, IsCheckOf, IsRefusedAs, MayFollow};
-ghost use Rattle.log_check.specs.Checking.{end_item};
-ghost use Rattle.log_check.specs.Keeping.{HasAnswered};
+ghost use Rattle.log_check.specs.inside.Checking.{end_item};
+ghost use Rattle.log_check.specs.inside.Keeping.{HasAnswered};
 ghost use Rattle.log_check.specs.Checked.{IsCheckedLog};
 ghost use Rattle.trace_growth.specs.Growing.{IsTrace};
 ghost use Rattle.rctl_parts.specs.Pieces.{disjuncts_of};

@@ -23,7 +23,8 @@ use Rattle.log_merge.specs.declared.fault.Found.{Found}
 use Rattle.log_merge.specs.declared.fault.MergeCode.TheVariants as code
 use Rattle.log_merge.specs.declared.seen.Seen.{Seen}
 use Rattle.log_merge.specs.declared.seen.Seen.TheVariants.{Nothing, One, Two}
-use Rattle.log_merge.specs.Sources.{IsSource, OwnLine, events_of, own_lines, has_lines_of, another, seen_of, events_in}
+use Rattle.log_merge.specs.Sources.{IsSource, OwnLine, events_of, own_lines, has_lines_of, another}
+use Rattle.log_merge.specs.Sources.{seen_of, events_in}
 use Rattle.log_merge.specs.Faults.{same_procs, same_start, differs, not_alone, one_too_many, event_too_many, source_fault, placed, fault_from, found}
 use Rattle.log_merge.specs.Merging.{Placed, placed_events, placed_in, placed_from, of_process, by_process, numbered, variables_in, all_variables, merged_log}
 use Rattle.log_merge.specs.Laws.{StartAlike, AreApart, NoFaultIsApart, AnyOrderWillDo}

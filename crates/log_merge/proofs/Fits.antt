@@ -15,7 +15,8 @@ use Rattle.event_log.specs.Numbers.{variables_at}
 use Rattle.event_log.specs.LogText.{named, BindingsFit, ClockStands, KindFits, AssignFits, EventFits, EventsFit, BatchesFit, event_count, header_lines}
 use Rattle.event_log.proofs.Lists.{all_append}
 use Rattle.vector_clock.proofs.BatchLaws.{events_stand}
-use Rattle.log_merge.specs.Sources.{IsSource, in_one_batch, own_vars_lines, own_event_lines, all_events, events_of, has_lines_of}
+use Rattle.log_merge.specs.Sources.{IsSource, in_one_batch, own_vars_lines, own_event_lines}
+use Rattle.log_merge.specs.Sources.{all_events, events_of, has_lines_of}
 use Rattle.log_merge.specs.Merging.{Placed, placed_events, placed_in, placed_from, of_process, by_process, numbered, variables_in, all_variables, merged_header}
 use Rattle.log_merge.specs.Laws.{StartAlike, AreApart, MergedLogsFit, LogsAreSources}
 use Rattle.log_merge.proofs.Owned.{is_of, has_none}

@@ -12,7 +12,8 @@ use Rattle.log_merge.specs.declared.gathering.Gathered.{Gathered}
 use Rattle.log_merge.specs.declared.merged.Origin.{Origin}
 use Rattle.log_merge.specs.Sources.{all_events, events_of, events_in}
 use Rattle.log_merge.specs.Merging.{Placed, placed_events, placed_in, placed_from, of_process, by_process, numbered, origins, variables_in, all_variables}
-use Rattle.log_merge.specs.Owners.{Gathers, IsOwner, numbered_source}
+use Rattle.log_merge.specs.Owners.{IsOwner, numbered_source}
+use Rattle.log_merge.specs.inside.Owners.{Gathers}
 use Rattle.log_merge.proofs.Lists.{item_taken}
 
 numbered-append : (n : ℕ) (xs ys : List Placed) → numbered n (xs ++ ys) ≡ numbered n xs ++ numbered (n + length xs) ys

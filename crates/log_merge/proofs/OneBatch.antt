@@ -15,7 +15,8 @@ use Rattle.log_merge.specs.declared.fault.MergeFault.{MergeFault}
 use Rattle.log_merge.specs.declared.merged.Merged.{Merged}
 use Rattle.log_merge.specs.declared.seen.Seen.{Seen}
 use Rattle.log_merge.specs.declared.seen.Seen.TheVariants.{Nothing, One, Two}
-use Rattle.log_merge.specs.Sources.{OwnLine, own_vars_lines, own_event_lines, own_lines, has_lines_of, seen_of, events_of, in_one_batch, events_in}
+use Rattle.log_merge.specs.Sources.{OwnLine, own_vars_lines, own_event_lines, own_lines}
+use Rattle.log_merge.specs.Sources.{has_lines_of, seen_of, events_of, in_one_batch, events_in}
 use Rattle.log_merge.specs.Faults.{◌<|>◌, differs, not_alone, one_too_many, event_too_many, source_fault, placed, fault_from, merge_fault}
 use Rattle.log_merge.specs.Merging.{Placed, placed_events, placed_in, placed_from, by_process, numbered, origins, variables_in, all_variables, merged_header, merged_events, merged}
 use Rattle.log_merge.specs.Laws.{BatchesDoNotMatter}

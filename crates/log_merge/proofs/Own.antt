@@ -11,7 +11,9 @@ use Rattle.event_log.specs.declared.log.Event.{Event}
 use Rattle.event_log.specs.declared.log.Log.{Log}
 use Rattle.log_merge.specs.declared.seen.Seen.{Seen}
 use Rattle.log_merge.specs.declared.seen.Seen.TheVariants.{Nothing, One, Two}
-use Rattle.log_merge.specs.Sources.{OwnLine, own_vars_lines, own_event_lines, all_events, events_of, own_lines, another, seen_of, seen_one, seen_after, line_at}
+use Rattle.log_merge.specs.Sources.{OwnLine, own_vars_lines, own_event_lines, all_events, events_of}
+use Rattle.log_merge.specs.Sources.{own_lines, another, seen_of, line_at}
+use Rattle.log_merge.specs.inside.Sources.{seen_one, seen_after}
 
 pub seen_after-append : (s : Seen) (xs ys : List OwnLine) → seen_after s (xs ++ ys) ≡ seen_after (seen_after s xs) ys
 seen_after-append s [] ys = refl

@@ -16,10 +16,12 @@ use Rattle.event_log.specs.Before.{lines_from}
 use Rattle.log_merge.specs.declared.fault.MergeCode.TheVariants as code
 use Rattle.log_merge.specs.declared.seen.Seen.{Seen}
 use Rattle.log_merge.specs.declared.seen.Seen.TheVariants.{Nothing, One, Two}
-use Rattle.log_merge.specs.Sources.{IsSource, OwnLine, own_vars_lines, own_event_lines, events_of, own_lines, has_lines_of, another, seen_of}
+use Rattle.log_merge.specs.Sources.{IsSource, OwnLine, own_vars_lines, own_event_lines, events_of}
+use Rattle.log_merge.specs.Sources.{own_lines, has_lines_of, another, seen_of}
 use Rattle.log_merge.specs.Faults.{not_alone, found}
 use Rattle.log_merge.specs.Merging.{Placed, placed_events, placed_in, placed_from, of_process, variables_in}
-use Rattle.log_merge.specs.Owners.{IsOwner, AreOwners, IsOfAProcess, with_owner, numbered_source}
+use Rattle.log_merge.specs.Owners.{IsOwner, AreOwners, numbered_source}
+use Rattle.log_merge.specs.inside.Owners.{IsOfAProcess, with_owner}
 use Rattle.log_merge.proofs.Lists.{get_front, get_at}
 
 -- ---- what was seen of lines

@@ -1,19 +1,16 @@
 -- Which source has lines of which process, by its number.
-use Rattle.std.specs.Prelude.{◌≡◌, ℕ, zero, suc, ◌+◌, ◌<◌, ◌≤◌, List, [], ◌++◌, length, Option}
-use Rattle.std.specs.Prelude.{None, Some, IfSome, slice_get, get_or, set}
+use Rattle.std.specs.Prelude.{◌≡◌, ℕ, zero, suc, ◌<◌, ◌≤◌, List, [], length, Option}
+use Rattle.std.specs.Prelude.{None, IfSome, slice_get, get_or}
 use Rattle.std.specs.List.{list_any}
 use Rattle.std.specs.Option.{is_some}
 use Rattle.log_lines.specs.Reading.{choose}
 use Rattle.event_log.specs.declared.log.Binding.{Binding}
 use Rattle.event_log.specs.declared.log.Log.{Log}
 use Rattle.event_log.specs.Numbers.{variables_at}
-use Rattle.log_merge.specs.declared.gathering.Gathered.{Gathered}
 use Rattle.log_merge.specs.declared.judging.Joined.{Joined}
-use Rattle.log_merge.specs.declared.seen.Seen.{Seen}
-use Rattle.log_merge.specs.declared.seen.Seen.TheVariants.{Nothing, One, Two}
 use Rattle.log_merge.specs.Sources.{has_lines_of, events_in}
 use Rattle.log_merge.specs.Faults.{merge_fault}
-use Rattle.log_merge.specs.Merging.{Placed, placed_in, placed_from, of_process, numbered, origins}
+use Rattle.log_merge.specs.Merging.{Placed, placed_in, placed_from, of_process}
 use Rattle.log_merge.specs.Merging.{variables_in}
 
 -- the source of this number
@@ -44,18 +41,6 @@ abbrev pub AreOwners : List Log → List (Option ℕ) → Type 0
 AreOwners sources owners =
     (process : ℕ) → process < 32 → IsOwner sources process (get_or owners process None)
 
--- the process of the lines is one of 32
-abbrev pub IsOfAProcess : Seen → Type 0
-IsOfAProcess Nothing = Unit {0}
-IsOfAProcess (One process line) = process < 32
-IsOfAProcess (Two line) = Unit {0}
-
--- the owners with the source of this number, which has these lines
-abbrev pub with_owner : List (Option ℕ) → Seen → ℕ → List (Option ℕ)
-with_owner owners Nothing number = owners
-with_owner owners (One process line) number = set owners process (Some number)
-with_owner owners (Two line) number = owners
-
 -- what is known of sources that have no fault
 pub record IsJudged (sources : List Log) (owners : List (Option ℕ)) : Type 0 where
   pub none : merge_fault sources ≡ None
@@ -68,8 +53,3 @@ pub record HasJoined (joined : Joined) (sources : List Log) : Type 0 where
   pub count_is : joined.count ≡ events_in sources
   pub few : length sources ≤ 32
   pub long : length joined.owners ≡ 32
-
--- these events more, with their numbers and origins
-pub record Gathers (old new : Gathered) (more : List Placed) : Type 0 where
-  pub events : new.events ≡ old.events ++ numbered (length old.events + 1) more
-  pub origins_are : new.origins ≡ old.origins ++ origins more

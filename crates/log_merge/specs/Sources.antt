@@ -63,16 +63,6 @@ abbrev pub seen_of : List OwnLine → Seen
 seen_of [] = Nothing
 seen_of (l ∷ ls) = choose (another l.process ls) (λ k. Two k.line) (One l.process l.line)
 
--- the same with lines before them
-abbrev pub seen_one : Seen → OwnLine → Seen
-seen_one Nothing l = One l.process l.line
-seen_one (One process line) l = if process == l.process then One process line else Two l.line
-seen_one (Two line) l = Two line
-
-abbrev pub seen_after : Seen → List OwnLine → Seen
-seen_after seen [] = seen
-seen_after seen (l ∷ ls) = seen_after (seen_one seen l) ls
-
 -- the line of the event of this index, counted from 0
 abbrev pub line_at : ℕ → List Event → Option ℕ
 line_at index events = option_map (λ (e : Event). e.line) (slice_get events index)

@@ -40,7 +40,7 @@ fn event_at(alloc: Global, event: &Event, line: u32) -> Result<Event, NoMemory>
 }
 
 impl Gathered {
-    ghost use Rattle.log_merge.specs.Owners.{Gathers};
+    ghost use Rattle.log_merge.specs.inside.Owners.{Gathers};
 
     // One event more.
     fn add(&mut self, alloc: Global, source: u32, event: &Event) -> Result<(), NoMemory>

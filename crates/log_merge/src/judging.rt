@@ -9,7 +9,8 @@ ghost use Rattle.log_merge.specs.Sources.{IsSource, seen_of, own_lines, events_i
 ghost use Rattle.log_merge.specs.Sources.{all_events};
 ghost use Rattle.log_merge.specs.Faults.{same_procs, same_start, differs, not_alone, one_too_many};
 ghost use Rattle.log_merge.specs.Faults.{event_too_many, source_fault, placed, merge_fault};
-ghost use Rattle.log_merge.specs.Owners.{AreOwners, IsOfAProcess, with_owner, IsJudged};
+ghost use Rattle.log_merge.specs.Owners.{AreOwners, IsJudged};
+ghost use Rattle.log_merge.specs.inside.Owners.{IsOfAProcess, with_owner};
 
 use crate::fault::{Found, MergeCode, MergeFault};
 use crate::seen::{Seen, line_at, seen_in};

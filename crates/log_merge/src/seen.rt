@@ -2,7 +2,8 @@
 
 ghost use Rattle.std.specs.Prelude.{◌≡◌, ◌≤◌, length};
 ghost use Rattle.log_merge.specs.declared.seen.Seen.TheVariants.{Nothing};
-ghost use Rattle.log_merge.specs.Sources.{IsSource, seen_of, seen_after, own_lines};
+ghost use Rattle.log_merge.specs.Sources.{IsSource, seen_of, own_lines};
+ghost use Rattle.log_merge.specs.inside.Sources.{seen_after};
 ghost use Rattle.log_merge.specs.Sources.{own_vars_lines, own_event_lines, line_at, all_events};
 
 use event_log::{Event, Log};
@@ -19,7 +20,7 @@ pub enum Seen {
 }
 
 impl Seen {
-    ghost use Rattle.log_merge.specs.Sources.{seen_one};
+    ghost use Rattle.log_merge.specs.inside.Sources.{seen_one};
 
     // One line more.
     fn and(self, process: u32, line: u32) -> Seen

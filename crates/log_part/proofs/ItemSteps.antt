@@ -12,7 +12,7 @@ use Rattle.log_check.specs.declared.check.LogCheck.{LogCheck}
 use Rattle.log_check.specs.Aims.{Says, Aim, rules_of}
 use Rattle.log_check.specs.Checking.{IsCheckOf, GoesOn, IsRefusedAs, MayFollow}
 use Rattle.log_check.proofs.Following.{follows_first, follows_all}
-use Rattle.log_part.specs.Reading.{IsRefusalIn, JudgesTo}
+use Rattle.log_part.specs.inside.Reading.{IsRefusalIn, JudgesTo}
 
 judged-one : (rules : Rules) (j : Judgement) (i : Item) → judged rules j (i ∷ []) ≡ judge rules j i
 unfolding judged

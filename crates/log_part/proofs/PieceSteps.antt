@@ -28,7 +28,8 @@ use Rattle.input_reading.specs.declared.intake.Turn.{Turn}
 use Rattle.input_reading.specs.declared.intake.Turn.TheVariants as turn
 use Rattle.log_part.specs.declared.part.LogPart.{LogPart}
 use Rattle.log_part.specs.Fronts.{due_of_front}
-use Rattle.log_part.specs.Reading.{JudgesTo, judged_front, IsOpen, IsDone, IsWholeLog, EndsLog, IsCutShort}
+use Rattle.log_part.specs.Reading.{judged_front, IsOpen, IsDone, IsWholeLog, EndsLog, IsCutShort}
+use Rattle.log_part.specs.inside.Reading.{JudgesTo}
 use Rattle.log_part.proofs.FrontLaws.{cut_somewhere, refused_due, free_due, end_due, stands_whole}
 
 -- ---- where a log ends

@@ -1,6 +1,7 @@
 -- The log at the front of an input, checked as its bytes come.
-use Rattle.std.specs.Prelude.{◌≡◌, ℕ, ◌-◌, ◌≤◌, Bool, true, false, List, [], Option, Some, None}
-use Rattle.std.specs.Io.KnownBytes.{Consumes, IsAtEnd}
+-- ---- items
+use Rattle.std.specs.Prelude.{◌≡◌, ℕ, ◌-◌, Bool, true, false, List, [], Option, Some, None}
+use Rattle.std.specs.Io.KnownBytes.{IsAtEnd}
 use Rattle.pota_base.specs.Outside.{Rose}
 use Rattle.event_log.specs.LogEnd.{is_whole, log_upto, behind_log}
 use Rattle.event_log.specs.Faults.{first_fault, items}
@@ -17,19 +18,6 @@ use Rattle.log_part.specs.declared.front.Front.{Front}
 use Rattle.log_part.specs.declared.front.Front.TheVariants as front
 use Rattle.log_part.specs.declared.part.LogPart.{LogPart}
 use Rattle.log_part.specs.Fronts.{due_of_front}
-
--- ---- items
-
--- all items were taken, or this refusal is due of one of them
-abbrev pub JudgesTo : {X : Type 0} {P : X → Type 0} → Says X P → Aim → LogCheck X P → Judgement
-    → Option Refusal → Type 0
-JudgesTo says aim check j None = IsCheckOf says aim check j
-JudgesTo says aim check j (Some why) = (log : Option Prefix) × (j ≡ judgement.refused log why)
-
--- this is the refusal; want of memory is none
-abbrev pub IsRefusalIn : Refused Refusal → Option Refusal → Type 0
-IsRefusalIn (refused.Fault f) why = why ≡ Some f
-IsRefusalIn refused.NoMemory why = ⊥
 
 -- ---- between two pieces
 
@@ -90,11 +78,3 @@ IsFront says aim left faults faults' bytes (front.Refused why) =
     × ((due_of_front aim ended bytes).fault ≡ Some why)
 IsFront says aim left faults faults' bytes front.Failed =
     Rose faults faults' × IsCutShort aim bytes
-
--- some bytes were read, and this is at their front
-pub record HasReadFront {X : Type 0} {P : X → Type 0} (says : Says X P) (aim : Aim)
-    (left left' : Option (List ℕ)) (faults faults' : ℕ) (front : Front X P) : Type 0 where
-  pub read : List ℕ
-  pub consumed : Consumes left left' read
-  pub later : faults ≤ faults'
-  pub is : IsFront says aim left' faults faults' read front

@@ -3,7 +3,7 @@ ghost use Rattle.std.specs.Prelude.{IfOk};
 ghost use Rattle.log_judgement.specs.Judgement.{Judgement, judged};
 ghost use Rattle.log_check.specs.Aims.{Aim, rules_of, said_by};
 ghost use Rattle.log_check.specs.Checking.{IsCheckOf, MayFollow};
-ghost use Rattle.log_part.specs.Reading.{IsRefusalIn, JudgesTo};
+ghost use Rattle.log_part.specs.inside.Reading.{IsRefusalIn, JudgesTo};
 
 use event_log::Item;
 use log_check::LogCheck;

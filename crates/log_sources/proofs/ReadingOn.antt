@@ -27,7 +27,8 @@ use Rattle.log_sources.specs.declared.draft.Draft.{Draft}
 use Rattle.log_sources.specs.declared.reader.SourceReader.{SourceReader}
 use Rattle.log_sources.specs.Drafts.{empty_draft, with_items, log_of}
 use Rattle.log_sources.specs.Sources.{Sources, no_sources, of_source, turned, input_fault, log_at, join_fault, fault_behind, judged, step, after, last_fault}
-use Rattle.log_sources.specs.Reading.{ReadsOn, HasReadSources, GoesOn, TakesBytes, CanMerge}
+use Rattle.log_sources.specs.Reading.{ReadsOn, HasReadSources, CanMerge}
+use Rattle.log_sources.specs.inside.Reading.{GoesOn, TakesBytes}
 use Rattle.log_sources.proofs.DraftLaws.{items_more}
 use Rattle.log_sources.proofs.OneSource.{reads_source, behind_le}
 use Rattle.log_sources.proofs.Stepping.{empty_open, turned_whole, turned_same, turned_open, turned_fault, step_free, taken_fault, after_none, after_next, stays, after_more, after_turned, behind_open, behind_whole, no_input_fault, IsOpen}

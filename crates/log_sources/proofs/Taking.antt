@@ -11,7 +11,8 @@ use Rattle.log_sources.specs.declared.gathering.Gathered.{Gathered}
 use Rattle.log_sources.specs.declared.gathering.Gathered.TheVariants.{Logs, Fault, Failed}
 use Rattle.log_sources.specs.Sources.{Sources, no_sources, turned, after, last_fault}
 use Rattle.log_sources.specs.Reading.{HasReadSources}
-use Rattle.log_sources.specs.Gathering.{IsFaulty, IsGathered, GathersTo, Gathers}
+use Rattle.log_sources.specs.Gathering.{IsFaulty, GathersTo, Gathers}
+use Rattle.log_sources.specs.inside.Gathering.{IsGathered}
 use Rattle.log_sources.proofs.Stepping.{turned_total, after_more}
 use Rattle.log_sources.proofs.Texts.{total_after, faultless_are_few, has_ended}
 

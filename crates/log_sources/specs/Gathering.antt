@@ -25,12 +25,6 @@ pub record AreGathered (bytes : List ℕ) (logs : List Log) : Type 0 where
   pub are : logs ≡ logs_of (after no_sources bytes)
   pub can_merge : CanMerge logs
 
--- what these bytes are where the input has ended with them
-abbrev pub IsGathered : List ℕ → Gathered → Type 0
-IsGathered bytes (Logs logs) = AreGathered bytes logs
-IsGathered bytes (Fault f) = sources_fault true bytes ≡ Some f
-IsGathered bytes Failed = ⊥
-
 -- what is told of these bytes
 abbrev pub GathersTo : Option (List ℕ) → ℕ → ℕ → List ℕ → Gathered → Type 0
 GathersTo left faults faults' bytes (Logs logs) = IsAtEnd left × AreGathered bytes logs

@@ -3,3 +3,4 @@ pub mod Sources
 pub mod Reading
 pub mod Laws
 pub mod Gathering
+pub mod inside

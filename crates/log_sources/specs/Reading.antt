@@ -1,5 +1,5 @@
 -- What the reader of sources keeps of the bytes so far.
-use Rattle.std.specs.Prelude.{◌≡◌, ℕ, ◌<◌, ◌≤◌, List, length, map, None}
+use Rattle.std.specs.Prelude.{◌≡◌, ◌<◌, ◌≤◌, List, length, map, None}
 use Rattle.std.specs.List.{AllByRecursion}
 use Rattle.event_log.specs.declared.log.Log.{Log}
 use Rattle.event_log.specs.LogEnd.{is_whole}
@@ -10,7 +10,7 @@ use Rattle.log_merge.specs.Faults.{merge_fault}
 use Rattle.log_merge.specs.Owners.{HasJoined}
 use Rattle.log_sources.specs.declared.reader.SourceReader.{SourceReader}
 use Rattle.log_sources.specs.Drafts.{empty_draft, with_items}
-use Rattle.log_sources.specs.Sources.{Sources, turned, log_at, after}
+use Rattle.log_sources.specs.Sources.{Sources, turned, log_at}
 
 -- the reader goes on with the last of these sources, behind those that are whole
 pub record ReadsOn (r : SourceReader) (s : Sources) : Type 0 where
@@ -28,17 +28,6 @@ pub record HasReadSources (r : SourceReader) (s : Sources) : Type 0 where
   pub faultless : s.fault ≡ None → first_fault s.now ≡ None
   pub between_is : s.fault ≡ None → r.between ≡ is_whole s.now
   pub reads : s.fault ≡ None → ReadsOn r (turned s)
-
--- The reader has read some of the bytes behind these sources, and what it has read with the bytes
--- that are left is the same.
-pub record GoesOn (new : SourceReader) (s : Sources) (bytes left : List ℕ) : Type 0 where
-  pub now : Sources
-  pub reads : HasReadSources new now
-  pub same : after s bytes ≡ after now left
-
-abbrev pub TakesBytes : SourceReader → List ℕ → List ℕ → SourceReader → Type 0
-TakesBytes old bytes left new =
-    (s : Sources) → HasReadSources old s → GoesOn new s bytes left
 
 -- the logs can be merged
 pub record CanMerge (logs : List Log) : Type 0 where

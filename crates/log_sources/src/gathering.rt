@@ -4,7 +4,8 @@ ghost use Rattle.std.specs.Prelude.{◌≡◌, ◌-◌, ℕ, List as ListOf, IfO
 ghost use Rattle.input_reading.specs.Intakes.{ReadsShort};
 ghost use Rattle.log_sources.specs.Sources.{after, no_sources};
 ghost use Rattle.log_sources.specs.Reading.{HasReadSources};
-ghost use Rattle.log_sources.specs.Gathering.{Gathers, IsFaulty, IsGathered};
+ghost use Rattle.log_sources.specs.Gathering.{Gathers, IsFaulty};
+ghost use Rattle.log_sources.specs.inside.Gathering.{IsGathered};
 
 use crate::reader::SourceReader;
 use event_log::Log;

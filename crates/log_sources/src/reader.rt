@@ -42,7 +42,8 @@ impl SourceReader {
     ghost use Rattle.event_log.specs.Reader.{HasRead};
     ghost use Rattle.log_sources.specs.Sources.{Sources, no_sources, input_fault, judged};
     ghost use Rattle.log_sources.specs.Sources.{after, last_fault, logs_of};
-    ghost use Rattle.log_sources.specs.Reading.{HasReadSources, ReadsOn, TakesBytes, CanMerge};
+    ghost use Rattle.log_sources.specs.Reading.{HasReadSources, ReadsOn, CanMerge};
+    ghost use Rattle.log_sources.specs.inside.Reading.{TakesBytes};
 
     /// A reader that has read nothing. It takes no memory.
     pub fn new(alloc: Global) -> SourceReader

@@ -12,7 +12,8 @@ use Rattle.event_log.specs.States.{with_batch}
 use Rattle.vector_clock.proofs.FilledBatches.{length-fill_from}
 use Rattle.log_judgement.specs.declared.refusal.Refusal.TheVariants as refusal
 use Rattle.log_judgement.specs.Judgement.{Prefix, followed_by, events_of, with_clocks, Judgement, waiting, growing, finished, refused, judge}
-use Rattle.log_trace.specs.Judging.{MayFollow, without_formula}
+use Rattle.log_trace.specs.Judging.{without_formula}
+use Rattle.log_trace.specs.inside.Judging.{MayFollow}
 
 pub event_count-push : (bs : List (List Event)) (b : List Event) → event_count (bs ++ b ∷ []) ≡ event_count bs + length b
 event_count-push [] b = omega arith

@@ -11,7 +11,8 @@ use Rattle.log_judgement.specs.declared.refusal.Refusal.TheVariants as refusal
 use Rattle.log_judgement.specs.Judgement.{Judgement, waiting, judge, judged}
 use Rattle.log_judgement.proofs.Items.{refused-stays}
 use Rattle.log_trace.specs.declared.trace.LogTrace.{LogTrace}
-use Rattle.log_trace.specs.Judging.{without_formula, MayFollow, IsRefused, Keeps}
+use Rattle.log_trace.specs.Judging.{without_formula, IsRefused, Keeps}
+use Rattle.log_trace.specs.inside.Judging.{MayFollow}
 use Rattle.log_trace.proofs.Following.{follows_one, follows_first}
 
 judged-none : (j : Judgement) → judged without_formula j [] ≡ j

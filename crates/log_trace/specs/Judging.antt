@@ -1,12 +1,10 @@
 -- The trace of a log as its items come: what is kept of it, and which items may come.
-use Rattle.std.specs.Prelude.{◌≡◌, ℕ, ◌+◌, ◌≤◌, Bool, true, false, List, [], length, None, Some}
+use Rattle.std.specs.Prelude.{◌≡◌, ◌+◌, ◌≤◌, true, false, List, [], length, None, Some}
 use Rattle.std.specs.Prelude.{Option}
 use Rattle.std.specs.List.{AllByRecursion}
-use Rattle.event_log.specs.declared.item.Item.{Item}
 use Rattle.event_log.specs.declared.item.Item.TheVariants as item
 use Rattle.event_log.specs.declared.item.LogFault.{LogFault}
 use Rattle.event_log.specs.declared.log.Event.{Event}
-use Rattle.event_log.specs.FittingItems.{FitFrom, FitFirst}
 use Rattle.event_log.specs.LogText.{HeaderFits, EventFits, event_count}
 use Rattle.trace_growth.specs.Growing.{TraceView}
 use Rattle.log_judgement.specs.declared.refusal.Refusal.TheVariants as refusal
@@ -19,19 +17,6 @@ abbrev pub without_formula : Rules
 without_formula = with_rules (λ h. None) (λ h. [])
 
 -- ---- what is judged
-
--- items of a log that may come behind a judgement
-abbrev pub MayFollow : Judgement → List Item → Type 0
-MayFollow waiting items = FitFirst items
-MayFollow (growing log since) items =
-    FitFrom log.header (event_count log.batches + length since) items
-MayFollow (finished log last) items = (n : ℕ) × FitFrom log.header n items
-MayFollow (refused log why) items = Unit {0}
-
--- the line that closes a batch, and whether it closes the log
-abbrev pub end_item : (last : Bool) → Item
-end_item false = item.BatchEnd
-end_item true = item.End
 
 -- this fault of the log is judged
 abbrev pub IsRefused : Judgement → LogFault → Type 0

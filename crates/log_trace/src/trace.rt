@@ -4,7 +4,8 @@ ghost use Rattle.vector_clock.specs.Admitted.{IfFault};
 ghost use Rattle.event_log.specs.FittingItems.{FitFirst};
 ghost use Rattle.event_log.specs.LogText.{HeaderFits};
 ghost use Rattle.log_judgement.specs.Judgement.{Judgement, judge, judged, opened, waiting};
-ghost use Rattle.log_trace.specs.Judging.{Keeps, MayFollow, IsRefused, end_item, without_formula};
+ghost use Rattle.log_trace.specs.Judging.{Keeps, IsRefused, without_formula};
+ghost use Rattle.log_trace.specs.inside.Judging.{MayFollow, end_item};
 
 use event_log::{Event, Header, Item, LogFault};
 use pota_base::{List, NoMemory, Refused};

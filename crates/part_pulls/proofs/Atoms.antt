@@ -31,7 +31,9 @@ use Rattle.local_preds.proofs.Expressions.{fitting_readable, constant_readable, 
 use Rattle.local_preds.proofs.RowSteps.{length-truths}
 use Rattle.local_preds.proofs.Meaning.{local_means, constant_means, truth_at_cut}
 use Rattle.local_preds.proofs.Truths.{constant_closes}
-use Rattle.channel_preds.specs.Channels.{ChannelView, channel_of, FitsShape, IsWithinChannel, sent_at, received_at, count_of, counts_of, sends_to, receipts_from, events_at, at_most_pull, at_least_pull}
+use Rattle.channel_preds.specs.Channels.{ChannelView, channel_of, FitsShape, IsWithinChannel}
+use Rattle.channel_preds.specs.Channels.{sent_at, received_at, count_of, counts_of, sends_to}
+use Rattle.channel_preds.specs.Channels.{receipts_from, events_at, at_most_pull, at_least_pull}
 use Rattle.channel_preds.specs.declared.counted.Counted.{Counted}
 use Rattle.channel_preds.specs.Truth.{lens_of}
 use Rattle.std.proofs.lemmas.List.FromFn.{get_or-map-range_with_len}

@@ -12,7 +12,8 @@ use Rattle.local_preds.specs.Rows.{truths_of}
 use Rattle.local_preds.proofs.RowSteps.{length-truths}
 use Rattle.local_preds.proofs.Truths.{pulls_fit, constant_fits}
 use Rattle.channel_preds.specs.Truth.{lens_of}
-use Rattle.channel_preds.specs.Channels.{FitsShape, channel_of, sends_to, receipts_from, events_at, at_most_pull, at_least_pull}
+use Rattle.channel_preds.specs.Channels.{FitsShape, channel_of, sends_to, receipts_from, events_at}
+use Rattle.channel_preds.specs.Channels.{at_most_pull, at_least_pull}
 use Rattle.channel_preds.proofs.Counting.{channel_fits, counts_are, length-events_at}
 use Rattle.channel_preds.proofs.Tables.{only, positions_fit}
 use Rattle.counter_preds.proofs.Tables.{pull_fits}

@@ -26,7 +26,13 @@ use Rattle.view_picture.specs.Columns.{Rows}
 use Rattle.view_parts.specs.Each.{each_below}
 use Rattle.view_picture.specs.Svg.{line, circle, text}
 use Rattle.view_picture.specs.Frame.{lane, at}
-use Rattle.view_picture.specs.Drawing.{point, lane_drawn, send_of, arrow_from, arrow_to, title, is_beyond, cut_drawn, mark_look, number_look, disc, short, assigned, no_assign, assign_text, under_back_look, under_look, under, more_under, assigns_under, shown_under, mark, least_look, greatest_look, goal_look, step_back_look, step_look, numbered, no_place, steps_drawn, ring, path_drawn, witness_drawn}
+use Rattle.view_picture.specs.Drawing.{point, lane_drawn, send_of, arrow_from, arrow_to, title}
+use Rattle.view_picture.specs.Drawing.{is_beyond, cut_drawn, mark_look, number_look, disc, short}
+use Rattle.view_picture.specs.Drawing.{assigned, no_assign, assign_text, under_back_look}
+use Rattle.view_picture.specs.Drawing.{under_look, under, more_under, assigns_under, shown_under}
+use Rattle.view_picture.specs.Drawing.{mark, least_look, greatest_look, goal_look, step_back_look}
+use Rattle.view_picture.specs.Drawing.{step_look, numbered, no_place, steps_drawn, ring, path_drawn}
+use Rattle.view_picture.specs.Drawing.{witness_drawn}
 use Rattle.view_picture.specs.Picture.{row_at, sample, note, bounds_drawn, slice_drawn, edges_note, meaning_of, witness_meaning, one_drawn}
 use Rattle.picture_laws.specs.Xml.{Attribute, is_plain, names_of, IsContent, nothing}
 use Rattle.picture_laws.specs.WellFormed.{HasNames}

@@ -8,7 +8,8 @@ use Rattle.std.specs.List.{slice_range}
 use Rattle.pull_system.specs.declared.pull.Pull.{Pull}
 use Rattle.pull_system.specs.System.{SystemView, IsSystem, IsPull, pull_at, target_of}
 use Rattle.pull_fans.specs.Sources.{numbers_from}
-use Rattle.pull_fans.specs.Asks.{IsAskedBy, AreAsks, AreAskRows, AreAllAsks}
+use Rattle.pull_fans.specs.Asks.{IsAskedBy, AreAsks}
+use Rattle.pull_fans.specs.inside.Asks.{AreAskRows, AreAllAsks}
 use Rattle.pull_system.proofs.Pulls.{pull-of}
 use Rattle.pull_fans.proofs.Numbers.{numbers_case, source_in}
 

@@ -14,7 +14,7 @@ use Rattle.pull_system.specs.declared.pull.Pull.{Pull}
 use Rattle.pull_fans.specs.declared.places.Place.{Place}
 use Rattle.pull_system.specs.System.{IsPull, no_pull}
 use Rattle.pull_fans.specs.Fans.{FanView, pull_of_fan, pulls_of_fan, pulls_of_fans}
-use Rattle.pull_fans.specs.Places.{no_fan, no_place, fan_at, IsPlaceOf, ArePlaces}
+use Rattle.pull_fans.specs.inside.Places.{no_fan, no_place, fan_at, IsPlaceOf, ArePlaces}
 use Rattle.pull_fans.proofs.Raising.{length-pulls_of_fan, pulls_of_fan-at}
 use Rattle.pull_system.proofs.Sums.{component_le}
 

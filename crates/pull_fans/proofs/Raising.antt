@@ -9,8 +9,10 @@ use Rattle.std.proofs.Math.ListN.{get_or-append}
 use Rattle.std.proofs.Math.Seq.{take-append_seam}
 use Rattle.pull_system.specs.declared.pull.Pull.{Pull}
 use Rattle.pull_system.specs.System.{no_pull}
-use Rattle.pull_fans.specs.Fans.{FanView, entry_of, pull_of_fan, pulls_of_fan}
-use Rattle.pull_fans.specs.Asks.{IsAskedBy, AreAskRows, AreInTurn, IsAskedIn, AreRaisedIn, AreRaised}
+use Rattle.pull_fans.specs.Fans.{FanView, pull_of_fan, pulls_of_fan}
+use Rattle.pull_fans.specs.inside.Fans.{entry_of}
+use Rattle.pull_fans.specs.Asks.{IsAskedBy}
+use Rattle.pull_fans.specs.inside.Asks.{AreAskRows, AreInTurn, IsAskedIn, AreRaisedIn, AreRaised}
 use Rattle.pull_system.specs.Vector.{IsMaximum}
 
 within_one : (i n : ℕ) → i < n + 1 → (i < n) ⊎ (i ≡ n)

@@ -1,5 +1,5 @@
 -- The pulls from one process side by side, and the tables that stand in such rows.
-use Rattle.std.specs.Prelude.{◌≡◌, ℕ, ◌+◌, ◌*◌, ◌<◌, ◌≤◌, List, [], ◌∷◌, ◌++◌, length, get_or, map}
+use Rattle.std.specs.Prelude.{◌≡◌, ℕ, ◌+◌, ◌*◌, ◌<◌, List, [], ◌∷◌, ◌++◌, length, get_or, map}
 use Rattle.std.specs.Prelude.{flat_map}
 use Rattle.std.specs.List.{range_with_len}
 use Rattle.pull_system.specs.declared.pull.Pull.{Pull}
@@ -19,15 +19,6 @@ column width values entries index =
 abbrev pub columns : ℕ → ℕ → List ℕ → List (List ℕ)
 columns width values entries = map (column width values entries) (range_with_len 0 width)
 
--- so many rows of this width, and none where a row has no entry
-pub record AreEntries (width values : ℕ) (entries : List ℕ) : Type 0 where
-  pub size : length entries ≡ values * width
-  pub rows : values ≤ length entries
-
--- what the pull to the target at this index asks for at a value
-abbrev pub entry_of : FanView → ℕ → ℕ → ℕ
-entry_of fan i x = get_or (get_or fan.tables i []) x 0
-
 -- the pull to the target at this index
 abbrev pub pull_of_fan : FanView → ℕ → Pull
 pull_of_fan fan i =
@@ -40,12 +31,6 @@ pulls_of_fan fan = map (pull_of_fan fan) (range_with_len 0 (length fan.targets))
 -- the pulls of each of the fans, in their order
 abbrev pub pulls_of_fans : List FanView → List Pull
 pulls_of_fans fans = flat_map pulls_of_fan fans
-
--- one table for each process, with its first entries
-pub record AreTables (entry : ℕ → ℕ → ℕ) (procs count : ℕ) (tables : List (List ℕ)) : Type 0 where
-  pub size : length tables ≡ procs
-  pub each : (j : ℕ) → j < procs
-      → get_or tables j [] ≡ map (entry j) (range_with_len 0 count)
 
 -- each table has one number of the row more
 pub record HasRow (row : List ℕ) (before now : List (List ℕ)) : Type 0 where

@@ -1,4 +1,4 @@
 pub mod Sources
 pub mod Fans
 pub mod Asks
-pub mod Places
+pub mod inside

@@ -3,7 +3,7 @@
 ghost use Rattle.std.specs.Prelude.{◌+◌, ◌<◌, length, slice_index, IfOk};
 ghost use Rattle.pull_system.specs.System.{SystemView, IsSystem};
 ghost use Rattle.pull_fans.specs.Fans.{pulls_of_fans};
-ghost use Rattle.pull_fans.specs.Asks.{AreAskRows, AreAllAsks};
+ghost use Rattle.pull_fans.specs.inside.Asks.{AreAskRows, AreAllAsks};
 
 use crate::fan::Fan;
 use pota_base::{List, NoMemory, Shape};

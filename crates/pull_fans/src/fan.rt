@@ -1,8 +1,9 @@
 //! The pulls from one process, held side by side.
 ghost use Rattle.std.specs.Prelude.{◌≡◌, ℕ, ◌+◌, ◌*◌, ◌^◌, ◌<◌, ◌≤◌, [], ◌∷◌, ◌++◌, length};
 ghost use Rattle.std.specs.Prelude.{replicate, slice_index, slice_range, get_or, IfOk, OnOk, OnErr};
-ghost use Rattle.pull_fans.specs.Fans.{HasRow, entry_of, pulls_of_fan, pulls_of_fans};
-ghost use Rattle.pull_fans.specs.Asks.{AreInTurn, AreRaisedIn, AreRaised};
+ghost use Rattle.pull_fans.specs.Fans.{HasRow, pulls_of_fan, pulls_of_fans};
+ghost use Rattle.pull_fans.specs.inside.Fans.{entry_of};
+ghost use Rattle.pull_fans.specs.inside.Asks.{AreInTurn, AreRaisedIn, AreRaised};
 ghost use Rattle.pull_system.specs.Vector.{IsMaximum};
 
 use pota_base::{List, NoMemory};
@@ -24,7 +25,8 @@ pub struct Fan {
 
 impl Model for Fan {
     ghost use Rattle.std.specs.Prelude.{length};
-    ghost use Rattle.pull_fans.specs.Fans.{FanView, columns, AreEntries};
+    ghost use Rattle.pull_fans.specs.Fans.{FanView, columns};
+    ghost use Rattle.pull_fans.specs.inside.Fans.{AreEntries};
 
     ghost Value = { FanView };
 

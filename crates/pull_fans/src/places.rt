@@ -2,9 +2,10 @@
 ghost use Rattle.std.specs.Prelude.{◌≡◌, ◌<◌, ◌^◌, ◌++◌, List as ListOf, length, IfOk, OnOk};
 ghost use Rattle.pull_system.specs.declared.pull.Pull.{Pull};
 ghost use Rattle.pull_system.specs.System.{SystemView};
-ghost use Rattle.pull_fans.specs.Sources.{AreBySource, numbers_from};
+ghost use Rattle.pull_fans.specs.Sources.{numbers_from};
+ghost use Rattle.pull_fans.specs.inside.Sources.{AreBySource};
 ghost use Rattle.pull_fans.specs.Fans.{FanView, pulls_of_fan, pulls_of_fans};
-ghost use Rattle.pull_fans.specs.Places.{ArePlaces, fan_at};
+ghost use Rattle.pull_fans.specs.inside.Places.{ArePlaces, fan_at};
 
 use crate::fan::Fan;
 use pota_base::{List, NoMemory, Shape};

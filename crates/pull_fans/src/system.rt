@@ -30,10 +30,10 @@ pub struct System {
 
 impl Model for System {
     ghost use Rattle.pull_system.specs.System.{SystemView, IsSystem};
-    ghost use Rattle.pull_fans.specs.Sources.{AreBySource};
-    ghost use Rattle.pull_fans.specs.Asks.{AreAllAsks};
+    ghost use Rattle.pull_fans.specs.inside.Sources.{AreBySource};
+    ghost use Rattle.pull_fans.specs.inside.Asks.{AreAllAsks};
     ghost use Rattle.pull_fans.specs.Fans.{pulls_of_fans};
-    ghost use Rattle.pull_fans.specs.Places.{ArePlaces};
+    ghost use Rattle.pull_fans.specs.inside.Places.{ArePlaces};
 
     ghost Value = { SystemView };
 

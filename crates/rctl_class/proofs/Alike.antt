@@ -29,7 +29,9 @@ use Rattle.rctl_class.specs.Uses.{earlier, uses_of}
 use Rattle.rctl_class.specs.Faults.{first_fault, first_of, operator_fault}
 use Rattle.rctl_class.specs.NamedParts.{NamedPiece, name_on, side_formula, expr_formula, expr_formulas, part_formula, part_formulas, pieces}
 use Rattle.rctl_class.specs.Walk as walk
-use Rattle.rctl_class.specs.Walk.{first_place, is_on, is_over, all_over, side_from, expr_from, exprs_from, local_part, bounds, difference_bounds, next_count, parts_from, disjuncts_from}
+use Rattle.rctl_class.specs.Walk.{first_place, side_from, expr_from, exprs_from, local_part, bounds}
+use Rattle.rctl_class.specs.Walk.{difference_bounds, next_count, parts_from, disjuncts_from}
+use Rattle.rctl_class.specs.inside.Walk.{is_on, is_over, all_over}
 use Rattle.rctl_class.specs.Classed.{MeanTheSame, Head, bare, operated, stepped, head_of, HaveOneHead, Alike, PartsAlike, EachAlike, disjunct_formulas}
 use Rattle.rctl_class.proofs.Locals.{option_name, over_is_local, local_parts, local_disjuncts}
 

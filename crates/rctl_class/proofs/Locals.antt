@@ -12,7 +12,7 @@ use Rattle.rctl_class.specs.Nodes.{Node, Nodes, leaf, negation, conjunction, dis
 use Rattle.rctl_class.specs.Uses as used
 use Rattle.rctl_class.specs.Uses.{Use, all_uses, uses_of}
 use Rattle.std.specs.Borrow.{Bor}
-use Rattle.rctl_class.specs.Seen.{place_seen, name_seen, some_if}
+use Rattle.rctl_class.specs.inside.Seen.{place_seen, name_seen, some_if}
 use Rattle.rctl_class.specs.Faults.{atom_fault, first_fault, negated_fault, operator_fault}
 use Rattle.rctl_grammar.specs.declared.tree.Operator.{Operator}
 use Rattle.rctl_class.specs.declared.named.NamedPart.{NamedPart}
@@ -22,7 +22,9 @@ use Rattle.std.proofs.lemmas.List.{map-append}
 use Rattle.rctl_class.proofs.Folds.{piece-DiffAtMost, piece-DiffAtLeast, piece-Temporal, piece-Next}
 use Rattle.rctl_class.specs.NamedParts as named
 use Rattle.rctl_class.specs.NamedParts.{Expr, NamedPiece, piece_of, pieces_of}
-use Rattle.rctl_class.specs.Walk.{first_place, is_on, is_over, all_over, expr_from, signed, local_part, channel_parts, parts_from, disjuncts_from}
+use Rattle.rctl_class.specs.Walk.{first_place, expr_from, signed, local_part, channel_parts}
+use Rattle.rctl_class.specs.Walk.{parts_from, disjuncts_from}
+use Rattle.rctl_class.specs.inside.Walk.{is_on, is_over, all_over}
 
 -- the names of processes among the names
 abbrev pub process_names : List Use → List Name

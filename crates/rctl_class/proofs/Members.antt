@@ -11,7 +11,9 @@ use Rattle.rctl_class.specs.Uses as used
 use Rattle.rctl_class.specs.Uses.{Use, all_uses, uses_of, earlier}
 use Rattle.rctl_class.specs.Faults.{first_fault, first_of}
 use Rattle.rctl_class.specs.NamedParts.{Expr, Exprs, no_expr, and_expr, exprs, NamedPiece}
-use Rattle.rctl_class.specs.Walk.{first_place, all_over, is_over, expr_from, exprs_from, parts_from, all_parts, disjuncts_from, all_disjuncts}
+use Rattle.rctl_class.specs.Walk.{first_place, expr_from, exprs_from, parts_from, all_parts}
+use Rattle.rctl_class.specs.Walk.{disjuncts_from, all_disjuncts}
+use Rattle.rctl_class.specs.inside.Walk.{all_over, is_over}
 
 abbrev pub joined : Nodes → Nodes → Nodes
 joined none ms = ms

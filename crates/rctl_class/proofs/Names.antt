@@ -19,7 +19,9 @@ use Rattle.rctl_class.specs.Faults.{first_fault, first_of, operator_fault}
 use Rattle.rctl_class.specs.NamedParts as named
 use Rattle.rctl_class.specs.NamedParts.{NamedPiece, Pieces, name_on, side_uses, expr_uses, all_expr_uses, process_use, part_uses, operand_uses, parts_uses, disjuncts_uses, pieces}
 use Rattle.rctl_class.specs.Walk as walk
-use Rattle.rctl_class.specs.Walk.{first_place, is_on, is_over, all_over, side_from, expr_from, exprs_from, signed, local_part, bounds, difference_bounds, parts_from, disjuncts_from}
+use Rattle.rctl_class.specs.Walk.{first_place, side_from, expr_from, exprs_from, signed, local_part}
+use Rattle.rctl_class.specs.Walk.{bounds, difference_bounds, parts_from, disjuncts_from}
+use Rattle.rctl_class.specs.inside.Walk.{is_on, is_over, all_over}
 use Rattle.rctl_class.proofs.Locals.{process_names, processes_named, over_plain, option_name, local_parts, local_disjuncts}
 use Rattle.rctl_class.proofs.Members.{earlier_assoc}
 use Rattle.rctl_class.proofs.Alike.{some_name, name_of_first, on_same, local_is_over, none_both, not_negative, if_none, if_bounded, bounded}

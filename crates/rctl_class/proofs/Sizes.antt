@@ -17,7 +17,10 @@ use Rattle.rctl_class.specs.Faults.{first_fault, first_of, operator_fault}
 use Rattle.rctl_class.specs.NamedParts as named
 use Rattle.rctl_class.specs.NamedParts.{NamedPiece, Pieces, pieces, is_constant, are_constant, has_no_place, PartFits, OperandFits, EachFits, AllFit, part_count, operand_count, parts_count, disjuncts_count, AreDisjuncts}
 use Rattle.rctl_class.specs.Walk as walk
-use Rattle.rctl_class.specs.Walk.{first_place, is_over, all_over, expr_from, exprs_from, signed, local_part, bounds, difference_bounds, next_count, fewer_than, channel_parts, or_local, or_one_local, parts_from, disjuncts_from}
+use Rattle.rctl_class.specs.Walk.{first_place, expr_from, exprs_from, signed, local_part, bounds}
+use Rattle.rctl_class.specs.Walk.{difference_bounds, next_count, fewer_than, channel_parts}
+use Rattle.rctl_class.specs.Walk.{or_local, or_one_local, parts_from, disjuncts_from}
+use Rattle.rctl_class.specs.inside.Walk.{is_over, all_over}
 use Rattle.rctl_class.specs.Classed.{IsClassed}
 use Rattle.rctl_class.proofs.Locals.{option_name, local_parts, local_disjuncts}
 use Rattle.rctl_class.proofs.Members.{or_else, first_joined}

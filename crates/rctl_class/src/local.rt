@@ -1,12 +1,16 @@
 //! Formulas over the states of one process.
 ghost use Rattle.rctl_class.specs.NamedParts.{expr_of};
 ghost use Rattle.rctl_class.specs.Nodes.{formula_of, node_of, nodes_of};
-ghost use Rattle.rctl_class.specs.Seen.{expr_seen, exprs_seen, name_seen, part_seen, place_seen};
-ghost use Rattle.rctl_class.specs.Seen.{some_if};
+ghost use Rattle.rctl_class.specs.inside.Seen.{expr_seen, exprs_seen, name_seen, part_seen};
+ghost use Rattle.rctl_class.specs.inside.Seen.{place_seen};
+ghost use Rattle.rctl_class.specs.inside.Seen.{some_if};
 ghost use Rattle.rctl_class.specs.Uses.{all_uses, atom_uses, uses_of};
-ghost use Rattle.rctl_class.specs.Walk.{all_over, atom_expr, atom_is_over, expr_from, exprs_from};
-ghost use Rattle.rctl_class.specs.Walk.{first_place, is_on, is_over, local_part, side_from};
-ghost use Rattle.rctl_class.specs.Walk.{side_is_over, signed};
+ghost use Rattle.rctl_class.specs.Walk.{atom_expr, expr_from, exprs_from};
+ghost use Rattle.rctl_class.specs.inside.Walk.{all_over, atom_is_over};
+ghost use Rattle.rctl_class.specs.Walk.{first_place, local_part, side_from};
+ghost use Rattle.rctl_class.specs.inside.Walk.{is_on, is_over};
+ghost use Rattle.rctl_class.specs.Walk.{signed};
+ghost use Rattle.rctl_class.specs.inside.Walk.{side_is_over};
 ghost use Rattle.run_model.specs.Class.{is_local};
 ghost use Rattle.std.specs.Prelude.{◌≡◌, IfOk, map};
 

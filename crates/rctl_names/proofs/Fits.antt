@@ -20,8 +20,15 @@ use Rattle.rctl_class.specs.declared.named.NamedSide.TheVariants as side
 use Rattle.rctl_class.specs.Uses.{earlier}
 use Rattle.rctl_class.specs.NamedParts as named
 use Rattle.rctl_class.proofs.Alike.{none_both}
-use Rattle.rctl_names.specs.Numbers.{Watched, number, variables_of, variable_fault, process_fault, watch_fault, put, put_at, is_other, LocalName, a_variable, a_watch, side_names, local_names, all_local_names, local_fault, local_after, counter_fault, part_fault, operand_fault, part_after, operand_after, disjuncts_fault, disjuncts_after}
-use Rattle.rctl_names.specs.Resolving.{side_in, expr_in, exprs_in, process_in, variable_in, piece_in, pieces_in}
+use Rattle.rctl_names.specs.Numbers.{number, variables_of}
+use Rattle.rctl_names.specs.inside.Numbers.{Watched, variable_fault, process_fault, watch_fault}
+use Rattle.rctl_names.specs.inside.Numbers.{put, put_at, is_other, LocalName, a_variable, a_watch}
+use Rattle.rctl_names.specs.inside.Numbers.{side_names, local_names, all_local_names, local_fault}
+use Rattle.rctl_names.specs.inside.Numbers.{local_after, counter_fault, part_fault, operand_fault}
+use Rattle.rctl_names.specs.inside.Numbers.{part_after, operand_after, disjuncts_fault}
+use Rattle.rctl_names.specs.inside.Numbers.{disjuncts_after}
+use Rattle.rctl_names.specs.Resolving.{side_in, expr_in, exprs_in, process_in, variable_in}
+use Rattle.rctl_names.specs.Resolving.{piece_in, pieces_in}
 use Rattle.rctl_names.proofs.Lookups.{found_within, found_number, found_once}
 use Rattle.rctl_names.proofs.Joined.{after_names, part_names, operand_names, fault_joined, after_joined}
 use Rattle.rctl_names.proofs.Spells.{known_at, watch_known, variables_there}

@@ -12,7 +12,11 @@ use Rattle.rctl_parts.specs.Spelled.{Names}
 use Rattle.rctl_class.specs.Uses.{earlier}
 use Rattle.rctl_class.proofs.Members.{earlier_assoc}
 use Rattle.rctl_class.specs.NamedParts as named
-use Rattle.rctl_names.specs.Numbers.{Watched, put, put_at, variable_fault, watch_fault, LocalName, a_variable, a_watch, local_names, all_local_names, local_fault, local_after, part_fault, operand_fault, part_after, operand_after, disjuncts_fault, disjuncts_after}
+use Rattle.rctl_names.specs.inside.Numbers.{Watched, put, put_at, variable_fault, watch_fault}
+use Rattle.rctl_names.specs.inside.Numbers.{LocalName, a_variable, a_watch, local_names}
+use Rattle.rctl_names.specs.inside.Numbers.{all_local_names, local_fault, local_after, part_fault}
+use Rattle.rctl_names.specs.inside.Numbers.{operand_fault, part_after, operand_after}
+use Rattle.rctl_names.specs.inside.Numbers.{disjuncts_fault, disjuncts_after}
 use Rattle.rctl_names.specs.Resolving.{expr_in, exprs_in, piece_in, pieces_in}
 
 -- ---- lists

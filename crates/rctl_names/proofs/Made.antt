@@ -11,9 +11,14 @@ use Rattle.rctl_parts.proofs.Folds.{piece-DiffAtMost, piece-DiffAtLeast}
 use Rattle.rctl_class.specs.NamedParts as named
 use Rattle.rctl_names.specs.declared.scope.Scope.{Scope}
 use Rattle.rctl_names.specs.declared.watches.Watches.{Watches}
-use Rattle.rctl_names.specs.Numbers.{Watched, number, or_zero, variables_of, variables_at, local_names, local_fault, local_after, counter_fault, difference_fault, operand_after, disjuncts_after}
-use Rattle.rctl_names.specs.Seen.{variables_in, processes_in, watched_in, names_in}
-use Rattle.rctl_names.specs.Resolving.{expr_in, process_in, variable_in, piece_in, pieces_in, IsPieceIn}
+use Rattle.rctl_names.specs.Numbers.{number, or_zero, variables_of, variables_at}
+use Rattle.rctl_names.specs.inside.Numbers.{Watched, local_names, local_fault, local_after}
+use Rattle.rctl_names.specs.inside.Numbers.{counter_fault, difference_fault, operand_after}
+use Rattle.rctl_names.specs.inside.Numbers.{disjuncts_after}
+use Rattle.rctl_names.specs.Seen.{variables_in}
+use Rattle.rctl_names.specs.inside.Seen.{processes_in, watched_in, names_in}
+use Rattle.rctl_names.specs.Resolving.{expr_in, process_in, variable_in, piece_in, pieces_in}
+use Rattle.rctl_names.specs.inside.Resolving.{IsPieceIn}
 use Rattle.rctl_names.proofs.Joined.{operand_names, disjuncts_names}
 
 get_mapped : (vs : List (List Binding)) (n : ℕ) → get_or (map variables_in vs) n [] ≡ variables_in (get_or vs n [])

@@ -19,8 +19,14 @@ use Rattle.rctl_class.specs.Uses.{earlier}
 use Rattle.rctl_class.specs.NamedParts as named
 use Rattle.rctl_class.specs.NamedParts.{side_formula, expr_formula, expr_formulas, part_formula, part_formulas, name_on}
 use Rattle.rctl_class.proofs.Alike.{none_both}
-use Rattle.rctl_names.specs.Numbers.{Watched, number, variables_of, variables_at, variable_fault, process_fault, watch_fault, watch_fault_at, unless_known, side_names, local_names, all_local_names, local_fault, local_after, counter_fault, part_fault, operand_fault, part_after, operand_after, disjuncts_fault}
-use Rattle.rctl_names.specs.Resolving.{side_in, expr_in, exprs_in, process_in, variable_in, piece_in, pieces_in}
+use Rattle.rctl_names.specs.Numbers.{number, variables_of, variables_at}
+use Rattle.rctl_names.specs.inside.Numbers.{Watched, variable_fault, process_fault, watch_fault}
+use Rattle.rctl_names.specs.inside.Numbers.{watch_fault_at, unless_known, side_names, local_names}
+use Rattle.rctl_names.specs.inside.Numbers.{all_local_names, local_fault, local_after}
+use Rattle.rctl_names.specs.inside.Numbers.{counter_fault, part_fault, operand_fault, part_after}
+use Rattle.rctl_names.specs.inside.Numbers.{operand_after, disjuncts_fault}
+use Rattle.rctl_names.specs.Resolving.{side_in, expr_in, exprs_in, process_in, variable_in}
+use Rattle.rctl_names.specs.Resolving.{piece_in, pieces_in}
 use Rattle.rctl_names.proofs.Lookups.{found_there, found_number}
 use Rattle.rctl_names.proofs.Joined.{after_names, part_names, operand_names, fault_joined}
 

@@ -19,7 +19,14 @@ use Rattle.rctl_class.specs.NamedParts as named
 use Rattle.rctl_class.specs.NamedParts.{expr_uses, all_expr_uses, part_uses, operand_uses, parts_uses, disjuncts_uses}
 use Rattle.rctl_class.proofs.Alike.{none_both}
 use Rattle.rctl_class.proofs.Names.{unknown_joined, seen_joined, operand_names}
-use Rattle.rctl_names.specs.Numbers.{Watched, number, variables_of, known_in, variable_fault, process_fault, watch_fault, watch_fault_at, unless_known, put, put_at, is_other, LocalName, a_variable, a_watch, local_names, all_local_names, local_fault, local_after, counter_fault, difference_fault, part_fault, operand_fault, part_after, operand_after, disjuncts_fault, disjuncts_after}
+use Rattle.rctl_names.specs.Numbers.{number, variables_of, known_in}
+use Rattle.rctl_names.specs.inside.Numbers.{Watched, variable_fault, process_fault, watch_fault}
+use Rattle.rctl_names.specs.inside.Numbers.{watch_fault_at, unless_known, put, put_at, is_other}
+use Rattle.rctl_names.specs.inside.Numbers.{LocalName, a_variable, a_watch, local_names}
+use Rattle.rctl_names.specs.inside.Numbers.{all_local_names, local_fault, local_after}
+use Rattle.rctl_names.specs.inside.Numbers.{counter_fault, difference_fault, part_fault}
+use Rattle.rctl_names.specs.inside.Numbers.{operand_fault, part_after, operand_after}
+use Rattle.rctl_names.specs.inside.Numbers.{disjuncts_fault, disjuncts_after}
 use Rattle.rctl_names.proofs.Lookups.{found_number, found_once, found_within, same_place}
 use Rattle.rctl_names.proofs.Spells.{watch_known}
 

@@ -13,7 +13,8 @@ use Rattle.rctl_parts.specs.declared.part.Resolved.{Resolved}
 use Rattle.rctl_class.specs.Uses.{first_unknown}
 use Rattle.rctl_class.specs.NamedParts as named
 use Rattle.rctl_class.specs.NamedParts.{AreDisjuncts, disjuncts_uses}
-use Rattle.rctl_names.specs.Numbers.{Watched, known_in, disjuncts_fault, disjuncts_after}
+use Rattle.rctl_names.specs.Numbers.{known_in}
+use Rattle.rctl_names.specs.inside.Numbers.{Watched, disjuncts_fault, disjuncts_after}
 use Rattle.rctl_names.specs.Seen.{variables_in, names_of}
 use Rattle.rctl_names.specs.Resolving.{piece_in, CanResolve, scope_of, IsResolved}
 use Rattle.rctl_names.proofs.Spells.{disjuncts_spelled}

@@ -1,3 +1,4 @@
 pub mod Numbers
 pub mod Seen
 pub mod Resolving
+pub mod inside

@@ -1,4 +1,5 @@
 -- The parts of a formula with numbers in the place of names.
+-- ---- what each part becomes
 use Rattle.std.specs.Prelude.{◌≡◌, ℕ, ◌≤◌, true, List, [], map, length, get_or, Option, None}
 use Rattle.std.specs.Prelude.{Some}
 use Rattle.run_model.specs.Run.{Name}
@@ -20,19 +21,11 @@ use Rattle.rctl_class.specs.NamedParts as named
 use Rattle.rctl_class.specs.Classed.{disjunct_formulas}
 use Rattle.rctl_class.specs.Nodes.{Node}
 use Rattle.rctl_class.specs.Walk.{disjuncts_from}
-use Rattle.rctl_grammar.specs.declared.fault.FormulaFault.{FormulaFault}
 use Rattle.rctl_class.specs.Uses.{first_unknown}
-use Rattle.rctl_names.specs.declared.process.Process.{Process}
 use Rattle.rctl_names.specs.declared.scope.Scope.{Scope}
-use Rattle.rctl_names.specs.declared.watches.Watches.{Watches}
 use Rattle.rctl_parts.specs.declared.part.Resolved.{Resolved}
-use Rattle.rctl_names.specs.Numbers.{number, variables_of, known_in, LocalName, local_names}
-use Rattle.rctl_names.specs.Numbers.{all_local_names, local_fault, local_after, part_fault}
-use Rattle.rctl_names.specs.Numbers.{operand_fault, disjuncts_fault, part_after, operand_after}
-use Rattle.rctl_names.specs.Numbers.{disjuncts_after}
-use Rattle.rctl_names.specs.Seen.{names_of, names_in, variables_on, watched_in}
-
--- ---- what each part becomes
+use Rattle.rctl_names.specs.Numbers.{number, variables_of, known_in}
+use Rattle.rctl_names.specs.Seen.{names_of}
 
 -- the right side of a comparison
 abbrev pub side_in : List Name → NamedSide → LocalSide
@@ -97,48 +90,6 @@ abbrev mutual
   pieces_in names (named.and_piece p ps) = piece.more (piece_in names p) (pieces_in names ps)
 
 -- ---- what one step gives
-
--- names without a fault, and the watches behind them
-abbrev pub AreFree : Process → Watches → Watches → List LocalName → Type 0
-AreFree on old new us =
-    (local_fault (variables_on on) on.number (watched_in old) us ≡ None)
-    × (watched_in new ≡ local_after on.number (watched_in old) us)
-
--- the expression, with numbers
-abbrev pub IsExprIn : Process → Watches → Watches → named.Expr → expr.Expr → Type 0
-IsExprIn on old new e made =
-    AreFree on old new (local_names e) × (made ≡ expr_in (variables_on on) old.names.now e)
-
--- the members, with numbers
-abbrev pub AreExprsIn : Process → Watches → Watches → named.Exprs → expr.Exprs → Type 0
-AreExprsIn on old new es made =
-    AreFree on old new (all_local_names es) × (made ≡ exprs_in (variables_on on) old.names.now es)
-
--- the first fault of the names of an expression over a process
-abbrev pub fault_on : Process → Watches → List LocalName → Option FormulaFault
-fault_on on watches us = local_fault (variables_on on) on.number (watched_in watches) us
-
--- a part, with numbers
-abbrev pub IsPieceIn : Scope → Watches → Watches → named.Piece → piece.Piece → Type 0
-IsPieceIn scope old new p made =
-    (part_fault (names_in scope old) (watched_in old) p ≡ None)
-    × (watched_in new ≡ part_after (names_in scope old) (watched_in old) p)
-    × (made ≡ piece_in (names_in scope old) p)
-
--- the parts of a conjunction, with numbers
-abbrev pub ArePiecesIn : Scope → Watches → Watches → named.Pieces → piece.Pieces → Type 0
-ArePiecesIn scope old new ps made =
-    (operand_fault (names_in scope old) (watched_in old) ps ≡ None)
-    × (watched_in new ≡ operand_after (names_in scope old) (watched_in old) ps)
-    × (made ≡ pieces_in (names_in scope old) ps)
-
--- disjuncts, with numbers
-abbrev pub AreDisjunctsIn : Scope → Watches → Watches → List (List named.Piece)
-    → List (List piece.Piece) → Type 0
-AreDisjunctsIn scope old new ds made =
-    (disjuncts_fault (names_in scope old) (watched_in old) ds ≡ None)
-    × (watched_in new ≡ disjuncts_after (names_in scope old) (watched_in old) ds)
-    × (made ≡ map (map (piece_in (names_in scope old))) ds)
 
 -- ---- what resolving gives
 

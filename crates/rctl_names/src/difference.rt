@@ -1,8 +1,8 @@
 //! Differences of counters with numbers in the place of names.
 ghost use Rattle.rctl_class.specs.NamedParts.{diff_at_least, diff_at_most};
-ghost use Rattle.rctl_names.specs.Numbers.{counter_fault, difference_fault};
+ghost use Rattle.rctl_names.specs.inside.Numbers.{counter_fault, difference_fault};
 ghost use Rattle.rctl_names.specs.Resolving.{piece_in, process_in, variable_in};
-ghost use Rattle.rctl_names.specs.Seen.{header_names};
+ghost use Rattle.rctl_names.specs.inside.Seen.{header_names};
 ghost use Rattle.rctl_parse.specs.Reading.{Faults};
 ghost use Rattle.rctl_parts.specs.Pieces.{piece_of};
 ghost use Rattle.std.specs.Prelude.{◌≡◌, MatchResult, None, Some};

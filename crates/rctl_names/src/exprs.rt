@@ -1,8 +1,9 @@
 //! Local expressions with numbers in the place of names.
 ghost use Rattle.rctl_class.specs.NamedParts.{expr_of as named_of, exprs as named_list};
-ghost use Rattle.rctl_names.specs.Numbers.{all_local_names, local_names, side_fault};
-ghost use Rattle.rctl_names.specs.Resolving.{AreExprsIn, IsExprIn, fault_on, side_in};
-ghost use Rattle.rctl_names.specs.Seen.{variables_on};
+ghost use Rattle.rctl_names.specs.inside.Numbers.{all_local_names, local_names, side_fault};
+ghost use Rattle.rctl_names.specs.Resolving.{side_in};
+ghost use Rattle.rctl_names.specs.inside.Resolving.{AreExprsIn, IsExprIn, fault_on};
+ghost use Rattle.rctl_names.specs.inside.Seen.{variables_on};
 ghost use Rattle.rctl_parse.specs.Reading.{Faults};
 ghost use Rattle.rctl_parts.specs.Exprs.{expr_of, exprs};
 ghost use Rattle.std.specs.Prelude.{◌≡◌, map, MatchResult, None, Some};

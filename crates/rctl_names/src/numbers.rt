@@ -1,8 +1,9 @@
 //! The numbers of names: their places among the names of a header or of watches.
 ghost use Rattle.log_lines.specs.Names.{place_of};
-ghost use Rattle.rctl_names.specs.Numbers.{process_fault, put, unless_known, variable_fault};
-ghost use Rattle.rctl_names.specs.Numbers.{watch_fault};
-ghost use Rattle.rctl_names.specs.Seen.{processes_in, variables_in, watched_in};
+ghost use Rattle.rctl_names.specs.inside.Numbers.{process_fault, put, unless_known, variable_fault};
+ghost use Rattle.rctl_names.specs.inside.Numbers.{watch_fault};
+ghost use Rattle.rctl_names.specs.Seen.{variables_in};
+ghost use Rattle.rctl_names.specs.inside.Seen.{processes_in, watched_in};
 ghost use Rattle.rctl_parse.specs.Reading.{Faults};
 ghost use Rattle.std.specs.Prelude.{◌≡◌, ◌<◌, ◌≤◌, length, map, MatchResult, None, Some};
 

@@ -16,7 +16,8 @@ use Rattle.report.specs.declared.report.Report.{Report}
 use Rattle.report.specs.declared.draft.Draft.{Draft}
 use Rattle.report.specs.declared.draft.Draft.TheVariants as draft
 use Rattle.report.specs.Spelling.{IsWellFormed, slice_lines, lines_of_slice, witness_lines, lines_of_witnesses, head_lines, body_lines, report_lines}
-use Rattle.report.specs.Machine.{begun, with_slice, walked, with_witness, IsBegun, IsGood, lines_of}
+use Rattle.report.specs.Machine.{begun, with_slice, walked, with_witness, IsBegun, IsGood}
+use Rattle.report.specs.inside.Machine.{lines_of}
 use Rattle.report.proofs.Kept.{begun_fits, slice_fits, witness_fits, sliced_lines, witness_behind}
 
 -- ---- what may stand in a report

@@ -31,7 +31,8 @@ use Rattle.report.specs.declared.draft.Draft.{Draft}
 use Rattle.report.specs.declared.draft.Draft.TheVariants as draft
 use Rattle.report.specs.Spelling.{IsWellFormed, SliceFits, slice_lines, lines_of_slice, witness_lines, lines_of_witnesses, head_lines, body_lines, report_lines, report_text}
 use Rattle.report.specs.Fault.{feeds, BeginsReport, IsFront, IsLongestFront, IsFaultIn, IsTextOf}
-use Rattle.report.specs.Machine.{step, run, IsGood, IsUnfinished, lines_of}
+use Rattle.report.specs.Machine.{step, IsGood}
+use Rattle.report.specs.inside.Machine.{run, IsUnfinished, lines_of}
 use Rattle.report.proofs.Kept.{run_reached}
 use Rattle.report.proofs.Ends.{can_end}
 use Rattle.report.proofs.Taken.{run_then, run_split, report_run}

@@ -33,7 +33,9 @@ use Rattle.report.specs.declared.report.Report.{Report}
 use Rattle.report.specs.declared.draft.Draft.{Draft}
 use Rattle.report.specs.declared.draft.Draft.TheVariants as draft
 use Rattle.report.specs.Spelling.{IsWellFormed, SliceFits, slice_lines, lines_of_slice, witness_lines, lines_of_witnesses, head_lines, body_lines, report_lines}
-use Rattle.report.specs.Machine.{begun, with_slice, with_edge, walked, with_witness, next_edge, next_step, body_step, step, run, IsBegun, IsGood, lines_of}
+use Rattle.report.specs.Machine.{begun, with_slice, with_edge, walked, with_witness, next_edge}
+use Rattle.report.specs.Machine.{next_step, body_step, step, IsBegun, IsGood}
+use Rattle.report.specs.inside.Machine.{run, lines_of}
 
 -- ---- lists of lines
 

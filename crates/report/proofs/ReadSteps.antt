@@ -10,7 +10,8 @@ use Rattle.report.specs.declared.draft.Draft.{Draft}
 use Rattle.report.specs.declared.draft.Draft.TheVariants as draft
 use Rattle.report.specs.Spelling.{IsWellFormed, report_text}
 use Rattle.report.specs.Fault.{IsFaultIn, IsTextOf, Faults}
-use Rattle.report.specs.Machine.{step, IsUnfinished}
+use Rattle.report.specs.Machine.{step}
+use Rattle.report.specs.inside.Machine.{IsUnfinished}
 use Rattle.report.proofs.FaultLaws.{AreTaken, refused_line, cut_short, whole_report, one_report}
 
 pub line_refused : (text rest front after : List ℕ) (line : ℕ) (d : Draft) (e : Refused ReportFault) → AreTaken text rest line d → HasNoFeed front → rest ≡ front ++ 10 ∷ after

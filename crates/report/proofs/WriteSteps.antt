@@ -21,7 +21,7 @@ use Rattle.report_lines.proofs.PartLaws.{process_there}
 use Rattle.report.specs.declared.report.SliceText.{SliceText}
 use Rattle.report.specs.declared.report.Report.{Report}
 use Rattle.report.specs.Spelling.{SliceFits, lines_of_slice, witness_lines, lines_of_witnesses, head_lines, report_text}
-use Rattle.report.specs.Writing.{IsOf, Joins, IsTold}
+use Rattle.report.specs.inside.Writing.{IsOf, Joins, IsTold}
 
 -- ---- spellings of lists
 

@@ -1,19 +1,19 @@
 -- The reading of a report, line by line.
-use Rattle.std.specs.Prelude.{◌≡◌, ℕ, Bool, true, false, List, [], ◌∷◌, ◌++◌, length, Option, None}
+-- ---- parts of drafts
+use Rattle.std.specs.Prelude.{◌≡◌, ℕ, Bool, List, [], ◌∷◌, ◌++◌, length, Option, None}
 use Rattle.std.specs.Prelude.{Some, is_some, if◌then◌else◌}
 use Rattle.std.specs.Str.{bytes_eq}
-use Rattle.std.specs.List.{AllByRecursion}
 use Rattle.run_model.specs.Cut.{Cut}
 use Rattle.pota_base.specs.declared.shape.EventId.{EventId}
 use Rattle.pota_base.specs.Number.{◌>>=◌}
 use Rattle.log_lines.specs.Names.{Name}
-use Rattle.log_lines.specs.Spelling.{ProcsFit, procs_line, end_line}
+use Rattle.log_lines.specs.Spelling.{ProcsFit, end_line}
 use Rattle.log_lines.specs.Reading.{choose, procs_in}
 use Rattle.event_log.specs.Before.{Line}
 use Rattle.slice_graph.specs.declared.edges.Edge.{Edge}
 use Rattle.report_lines.specs.declared.kinds.WitnessText.{WitnessText}
 use Rattle.report_lines.specs.Formula.{IsCanonical}
-use Rattle.report_lines.specs.Spelling.{title, batch_line, lengths_line, formula_line, IsPositive}
+use Rattle.report_lines.specs.Spelling.{IsPositive}
 use Rattle.report_lines.specs.Spelling.{RunFits, WitnessTextFits}
 use Rattle.report_lines.specs.Reading.{is_title, batch_in, lengths_in, formula_in, verdict_in}
 use Rattle.report_lines.specs.Reading.{slice_in, edge_in, step_in, witness_in, has_path, with_steps}
@@ -21,10 +21,7 @@ use Rattle.report.specs.declared.report.SliceText.{SliceText}
 use Rattle.report.specs.declared.report.Report.{Report}
 use Rattle.report.specs.declared.draft.Draft.{Draft}
 use Rattle.report.specs.declared.draft.Draft.TheVariants as draft
-use Rattle.report.specs.Spelling.{IsWellFormed, SliceFits, slice_lines, witness_lines, head_lines}
-use Rattle.report.specs.Spelling.{body_lines, report_lines}
-
--- ---- parts of drafts
+use Rattle.report.specs.Spelling.{IsWellFormed, SliceFits}
 
 -- a report that has its first lines alone
 abbrev pub begun : ℕ → List Name → Cut → List ℕ → Bool → Report
@@ -89,10 +86,6 @@ step (draft.Walked r w steps) line =
     (body_step (with_witness r (walked w steps)) line)
 step (draft.Over r) line = None
 
-unfoldable pub run : Draft → List Line → Option Draft
-run d [] = Some d
-run d (line ∷ lines) = step d line >>= λ e. run e lines
-
 -- ---- what is known of a draft
 
 -- a well-formed report without slice and witnesses
@@ -115,21 +108,3 @@ IsGood (draft.Walked r w steps) = IsWellFormed r × WitnessTextFits r.lengths (w
 IsGood (draft.Over r) = IsWellFormed r
 
 -- ---- the lines of a draft
-
-abbrev pub lines_of : Draft → List Line
-lines_of draft.Start = []
-lines_of draft.Titled = title ∷ []
-lines_of (draft.Numbered batch) = title ∷ batch_line batch ∷ []
-lines_of (draft.Named batch procs) = title ∷ batch_line batch ∷ procs_line procs ∷ []
-lines_of (draft.Measured batch procs lengths) =
-    title ∷ batch_line batch ∷ procs_line procs ∷ lengths_line lengths ∷ []
-lines_of (draft.Stated batch procs lengths formula) =
-    title ∷ batch_line batch ∷ procs_line procs ∷ lengths_line lengths ∷ formula_line formula ∷ []
-lines_of (draft.Judged r) = head_lines r
-lines_of (draft.Sliced r s) = head_lines r ++ slice_lines r.procs s
-lines_of (draft.Walked r w steps) = body_lines r ++ witness_lines r.procs (walked w steps)
-lines_of (draft.Over r) = report_lines r
-
--- the draft lacks its last line, or something is left behind it
-abbrev pub IsUnfinished : Draft → List ℕ → Type 0
-IsUnfinished d rest = (r : Report) → d ≡ draft.Over r → rest ≡ [] → ⊥

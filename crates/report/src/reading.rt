@@ -6,7 +6,8 @@ ghost use Rattle.report.specs.declared.draft.Draft.TheVariants.{Over as OverAs};
 ghost use Rattle.report.specs.declared.report.Report.{Report as ReportOf};
 ghost use Rattle.report.specs.Spelling.{IsWellFormed, report_text};
 ghost use Rattle.report.specs.Fault.{IsFaultIn, IsTextOf, Faults};
-ghost use Rattle.report.specs.Machine.{IsGood, IsUnfinished, step};
+ghost use Rattle.report.specs.Machine.{IsGood, step};
+ghost use Rattle.report.specs.inside.Machine.{IsUnfinished};
 
 use crate::draft::Draft;
 use crate::report::{Report, ReportFault};

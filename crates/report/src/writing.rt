@@ -7,7 +7,7 @@ ghost use Rattle.report_lines.specs.Spelling.{truth_text, edge_line, step_line};
 ghost use Rattle.report_lines.specs.Reading.{steps_of};
 ghost use Rattle.report.specs.Spelling.{IsWellFormed, head_lines, slice_lines, lines_of_slice};
 ghost use Rattle.report.specs.Spelling.{witness_lines, lines_of_witnesses, report_text};
-ghost use Rattle.report.specs.Writing.{IsOf, Joins, IsTold};
+ghost use Rattle.report.specs.inside.Writing.{IsOf, Joins, IsTold};
 
 use crate::report::{Report, SliceText};
 use event_log::{put_clock, put_names};

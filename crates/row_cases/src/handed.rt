@@ -1,7 +1,7 @@
 //! The watches that each run hands in.
 ghost use Rattle.std.specs.Prelude.{◌≡◌, ◌++◌, ◌∷◌, [], OnOk, IsTrue};
 ghost use Rattle.pota_names.specs.Names.{is_name};
-ghost use Rattle.row_cases.specs.Handing.{names_of};
+ghost use Rattle.row_cases.specs.inside.Handing.{names_of};
 
 use pota_names::Name;
 use std::alloc::{AllocError, Global};

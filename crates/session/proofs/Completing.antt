@@ -4,7 +4,7 @@ use Rattle.event_log.specs.States.{StatesView}
 use Rattle.local_preds.specs.LocalRuns as local
 use Rattle.watch_feeding.specs.Fed.{RowsHaveGrown}
 use Rattle.part_pulls.specs.declared.observed.Observed.{Observed}
-use Rattle.session.specs.Growing.{Completes}
+use Rattle.session.specs.inside.Growing.{Completes}
 
 -- what was observed, with other rows
 abbrev pub with_rows : Observed → List (List Bool) → Observed

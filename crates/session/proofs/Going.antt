@@ -8,7 +8,8 @@ use Rattle.event_log.specs.declared.log.Header.{Header}
 use Rattle.event_log.specs.States.{IsHeader, opened}
 use Rattle.vector_clock.specs.Faultless.{no_batch}
 use Rattle.vector_clock.proofs.FilledBatches.{filled_fits}
-use Rattle.trace_growth.specs.Growing.{TraceView, FitsTrace, IsTrace, filled_for, trace_fault, with_trace_batch, opened_trace}
+use Rattle.trace_growth.specs.Growing.{TraceView, FitsTrace, IsTrace, filled_for, trace_fault}
+use Rattle.trace_growth.specs.Growing.{with_trace_batch, opened_trace}
 use Rattle.trace_growth.proofs.Taken.{is_trace, faultless_more}
 use Rattle.counter_preds.specs.Falls.{fall_fault}
 use Rattle.counter_preds.specs.Counters.{IsCounter}
@@ -26,7 +27,9 @@ use Rattle.conjunctions.specs.Numbering.{all_conjunctions}
 use Rattle.part_pulls.specs.Counters.{CountersRise, counters_of}
 use Rattle.conjunctions.specs.Settling.{IsSettled, AreSettled, AreFloors, IsLater}
 use Rattle.conjunctions.specs.Answering.{IsAnswer}
-use Rattle.session.specs.Growing.{GrowingView, counter_fault, opened_observed, Stands, Keeps, Completes, TakesBatch, HasAnswer}
+use Rattle.session.specs.Growing.{GrowingView, counter_fault, opened_observed, TakesBatch}
+use Rattle.session.specs.Growing.{HasAnswer}
+use Rattle.session.specs.inside.Growing.{Stands, Keeps, Completes}
 use Rattle.session.proofs.OneTrace.{later_on, later_itself}
 use Rattle.session.proofs.Named.{watches_on}
 use Rattle.session.proofs.Taking.{is_later}

@@ -16,7 +16,8 @@ use Rattle.conjunctions.specs.declared.answer.Answer.{Answer}
 use Rattle.conjunctions.specs.declared.answer.PartAnswer.{PartAnswer}
 use Rattle.part_pulls.specs.Observing.{clocks_seen, states_seen}
 use Rattle.conjunctions.specs.Settling.{IsLater}
-use Rattle.conjunctions.specs.Answering.{IsSliceOf, Place, IsOperand, IsPartAnswer, ArePartAnswers, IsAnswer, all_places}
+use Rattle.conjunctions.specs.Answering.{IsSliceOf, Place, IsOperand, IsPartAnswer, ArePartAnswers}
+use Rattle.conjunctions.specs.Answering.{IsAnswer, all_places}
 use Rattle.session.specs.Fed.{watch_row, IsOneTrace}
 use Rattle.session.specs.Growing.{all_events}
 use Rattle.session.proofs.Feeding.{is_there, box_at, there_too}

@@ -11,7 +11,8 @@ use Rattle.event_log.specs.declared.log.Event.{Event}
 use Rattle.event_log.specs.States.{StatesView, AreWhole, with_event}
 use Rattle.vector_clock.specs.Events.{Events}
 use Rattle.vector_clock.specs.Filled.{is_left_out, filled_event, fill_from}
-use Rattle.trace_growth.specs.Growing.{TraceView, IsTrace, filled_for, trace_fault, with_trace_batch}
+use Rattle.trace_growth.specs.Growing.{TraceView, IsTrace, filled_for, trace_fault}
+use Rattle.trace_growth.specs.Growing.{with_trace_batch}
 use Rattle.counter_preds.specs.declared.values.Variable.{Variable}
 use Rattle.counter_preds.specs.Counters.{IsVariable, IsCounter}
 use Rattle.counter_preds.specs.Falls.{fall_fault, without_clock, without_clocks}
@@ -22,7 +23,8 @@ use Rattle.rctl_parts.specs.Pieces.{local, at_most, at_least, never, diff_at_mos
 use Rattle.rctl_parts.specs.MadeFor.{VariableFits, AtomFits, PieceFits, PiecesFit, EachFits, AllFit}
 use Rattle.part_pulls.specs.declared.observed.Observed.{Observed}
 use Rattle.part_pulls.specs.Observing.{scope_seen}
-use Rattle.session.specs.Growing.{GrowingView, Keeps, counter_fault, first_fault}
+use Rattle.session.specs.Growing.{GrowingView, counter_fault, first_fault}
+use Rattle.session.specs.inside.Growing.{Keeps}
 use Rattle.part_pulls.specs.Counters.{CountersRise, counter, counters_of_atom, counters_of_part, counters_of_operand, counters_of_parts, counters_of}
 
 -- ---- each counter is a variable of the trace

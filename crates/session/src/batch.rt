@@ -11,7 +11,7 @@ ghost use Rattle.conjunctions.specs.Settling.{AreFloors, AreSettled};
 ghost use Rattle.conjunctions.specs.Answering.{IsAnswer};
 ghost use Rattle.watch.specs.Saying.{said_by};
 ghost use Rattle.watch_feeding.specs.Fed.{HaveRows};
-ghost use Rattle.session.specs.Growing.{Completes};
+ghost use Rattle.session.specs.inside.Growing.{Completes};
 ghost use Rattle.session.specs.Fed.{Feeds};
 ghost use Rattle.session.specs.Taken.{AreWorkers};
 

@@ -4,7 +4,8 @@ ghost use Rattle.event_log.specs.States.{IsHeader};
 ghost use Rattle.rctl_parts.specs.Pieces.{disjuncts_of};
 ghost use Rattle.rctl_parts.specs.MadeFor.{AreMadeFor};
 ghost use Rattle.part_pulls.specs.Observing.{scope_seen};
-ghost use Rattle.session.specs.Growing.{opened_observed, opened_growing, counter_fault, Keeps};
+ghost use Rattle.session.specs.Growing.{opened_observed, opened_growing, counter_fault};
+ghost use Rattle.session.specs.inside.Growing.{Keeps};
 
 use crate::counters::counters_of;
 use conjunctions::Answer;
@@ -39,7 +40,8 @@ impl Model for Growing {
     ghost use Rattle.rctl_parts.specs.contracts.part.Part as e;
     ghost use Rattle.rctl_parts.specs.Pieces.{disjuncts_of};
     ghost use Rattle.part_pulls.specs.Counters.{counters_of};
-    ghost use Rattle.session.specs.Growing.{GrowingView, Keeps};
+    ghost use Rattle.session.specs.Growing.{GrowingView};
+    ghost use Rattle.session.specs.inside.Growing.{Keeps};
 
     ghost Value = { GrowingView };
 

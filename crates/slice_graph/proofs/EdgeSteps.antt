@@ -10,7 +10,7 @@ use Rattle.run_model.proofs.EdgeLemmas.{denoted_is_cuts}
 use Rattle.slice_graph.specs.Views.{SliceView, slice_of, last_row}
 use Rattle.slice_graph.specs.Words.{filled, row_words}
 use Rattle.slice_graph.specs.Fitting.{FitsOrder}
-use Rattle.slice_graph.specs.Edges.{edge_by}
+use Rattle.slice_graph.specs.inside.Edges.{edge_by}
 use Rattle.slice_graph.proofs.Lasts.{cut_last}
 
 -- the words of a row that is there are its counts

@@ -8,12 +8,14 @@ use Rattle.std.proofs.lemmas.List.Sums.{get_or-le-sum_by}
 use Rattle.std.proofs.lemmas.List.Concat.{flat_map-append}
 use Rattle.std.proofs.lemmas.List.FromFn.{length-map-range_with_len, get_or-map-range_with_len}
 use Rattle.pull_system.specs.declared.pull.Pull.{Pull}
-use Rattle.pull_fans.specs.Fans.{FanView, AreTables, pull_of_fan, pulls_of_fan, pulls_of_fans}
+use Rattle.pull_fans.specs.Fans.{FanView, pull_of_fan, pulls_of_fan, pulls_of_fans}
+use Rattle.pull_fans.specs.inside.Fans.{AreTables}
 use Rattle.run_model.specs.Cut.{Clocks, count, lengths}
 use Rattle.run_model.specs.Consistent.{IsOrder}
 use Rattle.slice_graph.specs.Views.{SliceView, HasAllRows, slice_of, last_row}
 use Rattle.slice_graph.specs.Words.{past_ends, row_words}
-use Rattle.slice_graph.specs.PullLists.{other, past_count}
+use Rattle.slice_graph.specs.PullLists.{past_count}
+use Rattle.slice_graph.specs.inside.PullLists.{other}
 use Rattle.slice_graph.proofs.Words.{filled_most, past_ends_most}
 use Rattle.slice_graph.proofs.OrderPulls.{counts_within}
 use Rattle.slice_graph.proofs.SlicePulls.{last_is_row}

@@ -11,7 +11,8 @@ use Rattle.pull_system.specs.declared.pull.Pull.{Pull}
 use Rattle.pull_system.specs.System.{no_pull}
 use Rattle.pull_system.specs.Growth.{PullGrows, PullStays}
 use Rattle.pull_system.proofs.Staying.{AllStay, stay_none, stay_one, stay_flat}
-use Rattle.slice_graph.specs.PullLists.{past_count, order_entry, order_table, order_pull, pulls_of_order}
+use Rattle.slice_graph.specs.PullLists.{past_count, order_entry, order_table, order_pull}
+use Rattle.slice_graph.specs.PullLists.{pulls_of_order}
 use Rattle.slice_graph.proofs.OrderPulls.{entry_at, counts_rise, order_pulls_count}
 
 -- ---- one pull

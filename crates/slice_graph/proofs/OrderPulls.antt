@@ -14,7 +14,8 @@ use Rattle.pull_system.specs.declared.pull.Pull.{Pull}
 use Rattle.pull_system.specs.System.{SystemView, IsPull, IsClosed, RisesWithin, no_pull}
 use Rattle.pull_system.specs.Pulls.{HoldsAt, ClosedUnder}
 use Rattle.slice_graph.specs.Fitting.{HasOrder}
-use Rattle.slice_graph.specs.PullLists.{past_count, order_entry, order_table, order_pull, pulls_of_order}
+use Rattle.slice_graph.specs.PullLists.{past_count, order_entry, order_table, order_pull}
+use Rattle.slice_graph.specs.PullLists.{pulls_of_order}
 use Rattle.slice_graph.proofs.Pairs.{all_pairs, all_pairs_at, length_flat, all_but_one}
 
 -- an entry within a table

@@ -19,7 +19,8 @@ use Rattle.pull_system.specs.Rows.{start_of, row_at}
 use Rattle.slice_graph.specs.Views.{SliceView, HasAllRows, no_row, slice_of, last_row}
 use Rattle.slice_graph.specs.Words.{filled, row_words}
 use Rattle.slice_graph.specs.Fitting.{FitsOrder}
-use Rattle.slice_graph.specs.PullLists.{order_entry, order_table, order_pull, pulls_of_order, slice_entry, slice_table, slice_pull, pulls_of_slice}
+use Rattle.slice_graph.specs.PullLists.{order_entry, order_table, order_pull, pulls_of_order}
+use Rattle.slice_graph.specs.PullLists.{slice_entry, slice_table, slice_pull, pulls_of_slice}
 use Rattle.slice_graph.specs.Starting.{AreWithinClosed}
 use Rattle.slice_graph.proofs.Words.{rows_pushed, count-past_ends, length-filled}
 use Rattle.slice_graph.proofs.Events.{event_of_row, row_there}

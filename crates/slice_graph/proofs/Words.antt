@@ -8,7 +8,8 @@ use Rattle.run_model.specs.Slice.{HasWithin}
 use Rattle.causal_order.specs.Blocks.{rows_of}
 use Rattle.causal_order.proofs.Rows.{length-rows_of, row_at, rows_push, row_within}
 use Rattle.slice_graph.specs.Views.{SliceView, IsCut, IsRow, AreCuts, no_row}
-use Rattle.slice_graph.specs.Words.{past_ends, filled, cut_in, cuts_in, IsFilled, AreFilled}
+use Rattle.slice_graph.specs.Words.{past_ends, filled, cut_in, cuts_in}
+use Rattle.slice_graph.specs.inside.Words.{IsFilled, AreFilled}
 
 -- ---- words of a row
 

@@ -1,8 +1,8 @@
 -- What a slice, a system of pulls and its least vectors have to do with the order of a run.
 use Rattle.std.specs.Prelude.{◌≡◌, ℕ, ◌+◌, List, length, sum, Option, Some, None}
 use Rattle.run_model.specs.Cut.{Cut, Clocks, IsWithin, lengths}
-use Rattle.run_model.specs.Consistent.{IsEvent, IsConsistent}
-use Rattle.run_model.specs.Slice.{Slice, Fits}
+use Rattle.run_model.specs.Consistent.{IsConsistent}
+use Rattle.run_model.specs.Slice.{Fits}
 use Rattle.pull_system.specs.System.{SystemView, IsClosed}
 use Rattle.slice_graph.specs.Views.{SliceView, slice_of}
 
@@ -11,13 +11,6 @@ pub record FitsOrder (o : Clocks) (v : SliceView) : Type 0 where
   pub shape : v.lens ≡ lengths o
   pub count : length v.rows ≡ sum v.lens + 1
   pub stands : Fits o (slice_of v)
-
--- the code's slice has the order's shape, and the bottom and the events' rows of the model's slice
-pub record Agrees (o : Clocks) (s : Slice) (v : SliceView) : Type 0 where
-  pub shape : v.lens ≡ lengths o
-  pub count : length v.rows ≡ sum v.lens + 1
-  pub bottom : s.bottom ≡ (slice_of v).bottom
-  pub rows : (i a : ℕ) → IsEvent (lengths o) i a → s.row i a ≡ (slice_of v).row i a
 
 -- the system has the order's pulls: what is closed under it is consistent
 abbrev pub HasOrder : Clocks → SystemView → Type 0

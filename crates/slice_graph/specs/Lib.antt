@@ -4,3 +4,4 @@ pub mod Fitting
 pub mod PullLists
 pub mod Edges
 pub mod Starting
+pub mod inside

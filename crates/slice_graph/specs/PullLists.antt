@@ -1,5 +1,5 @@
 -- The pulls of an order and those of a slice, by source and then by target.
-use Rattle.std.specs.Prelude.{ℕ, zero, suc, ◌+◌, ◌==◌, min, nat_le, nat_lt, List, [], ◌∷◌}
+use Rattle.std.specs.Prelude.{ℕ, zero, suc, ◌+◌, ◌==◌, min, nat_le, List, [], ◌∷◌}
 use Rattle.std.specs.Prelude.{length, map, flat_map, if◌then◌else◌}
 use Rattle.std.specs.List.{range_with_len}
 use Rattle.run_model.specs.Cut.{Clocks, count, lengths}
@@ -48,7 +48,3 @@ slice_pull v i j = record { src = i; dst = j; table = slice_table v i j } ∷ []
 -- the pulls of the slice: a cut is closed under them exactly where the slice has it
 abbrev pub pulls_of_slice : SliceView → List Pull
 pulls_of_slice v = by_pairs (slice_pull v) (length v.lens)
-
--- the process at this index among all but one
-abbrev pub other : ℕ → ℕ → ℕ
-other process index = if nat_lt index process then index else index + 1

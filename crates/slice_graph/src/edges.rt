@@ -9,7 +9,8 @@ ghost use Rattle.run_model.specs.Sublattice.{IsGreatest};
 ghost use Rattle.run_model.specs.Slice.{Cuts, Denoted, IsPrintedAs, cut_of, edge_into, edges_of};
 ghost use Rattle.slice_graph.specs.Views.{slice_of, joined_rows};
 ghost use Rattle.slice_graph.specs.Fitting.{FitsOrder};
-ghost use Rattle.slice_graph.specs.Edges.{edge_of, edge_by};
+ghost use Rattle.slice_graph.specs.Edges.{edge_of};
+ghost use Rattle.slice_graph.specs.inside.Edges.{edge_by};
 
 use crate::slice::Slice;
 use causal_order::Order;

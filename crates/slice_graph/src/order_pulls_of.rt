@@ -7,7 +7,8 @@ ghost use Rattle.run_model.specs.Consistent.{IsConsistent};
 ghost use Rattle.pull_system.specs.System.{IsPull};
 ghost use Rattle.pull_system.specs.Pulls.{ClosedUnder};
 ghost use Rattle.pull_fans.specs.Fans.{pulls_of_fan, pulls_of_fans};
-ghost use Rattle.slice_graph.specs.PullLists.{past_count, order_pull, other, pulls_of_order};
+ghost use Rattle.slice_graph.specs.PullLists.{past_count, order_pull, pulls_of_order};
+ghost use Rattle.slice_graph.specs.inside.PullLists.{other};
 
 use causal_order::Order;
 use pota_base::{EventId, List, NoMemory};

@@ -25,7 +25,8 @@ pub struct CutTable {
 
 impl Model for CutTable {
     ghost use Rattle.slice_graph.specs.Views.{SliceView};
-    ghost use Rattle.slice_graph.specs.Words.{AreFilled, cuts_in};
+    ghost use Rattle.slice_graph.specs.Words.{cuts_in};
+    ghost use Rattle.slice_graph.specs.inside.Words.{AreFilled};
 
     ghost Value = { SliceView };
 

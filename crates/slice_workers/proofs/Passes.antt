@@ -8,9 +8,10 @@ use Rattle.pull_system.specs.System.{SystemView}
 use Rattle.pull_system.specs.Marks.{marked}
 use Rattle.pull_system.proofs.Climbing.{set_case}
 use Rattle.bound_table.specs.Views.{SeatView}
-use Rattle.slice_workers.specs.Reaching.{rows_left, AreHanded, HasReachedRows, handed_events, ReachesFirst}
+use Rattle.slice_workers.specs.Reaching.{rows_left, ReachesFirst}
+use Rattle.slice_workers.specs.inside.Reaching.{AreHanded, HasReachedRows, handed_events}
 use Rattle.slice_workers.specs.Calls.{IsPaid}
-use Rattle.slice_workers.specs.Settling.{HasOnlyRisen, HasSettled, process_looks}
+use Rattle.slice_workers.specs.inside.Settling.{HasOnlyRisen, HasSettled, process_looks}
 use Rattle.slice_workers.proofs.Reached.{handed_more, handed_set, final_more, reached_more}
 
 pub passed_none : (system : SystemView) (finals bottom : List ℕ) (old new : SeatView) (handed : List Bool) (steps : ℕ) → new.table ≡ old.table → new.floor ≡ old.floor → AreHanded system old.floor handed → HasSettled system finals bottom old new handed handed steps steps

@@ -13,7 +13,9 @@ use Rattle.raise_machine.specs.Bounds.{AreBounds, word_at, has_start}
 use Rattle.raise_machine.proofs.Raising.{word_below, has_start-bottom, has_start-event}
 use Rattle.bound_table.proofs.Lends.{has_start_next}
 use Rattle.bound_table.specs.Kept.{Follows}
-use Rattle.slice_workers.specs.Reaching.{Reaches, IsReached, ReachesAll, ReachesFirst, AreHanded, AreFinal, HasReachedRows, row_before}
+use Rattle.slice_workers.specs.Reaching.{Reaches, ReachesFirst, AreFinal}
+use Rattle.slice_workers.specs.inside.Reaching.{IsReached, ReachesAll, AreHanded, HasReachedRows}
+use Rattle.slice_workers.specs.inside.Reaching.{row_before}
 use Rattle.pull_system.proofs.Sums.{sum-within}
 use Rattle.pull_system.proofs.Starts.{start_of-bottom}
 

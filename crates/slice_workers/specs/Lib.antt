@@ -1,4 +1,3 @@
 pub mod Reaching
 pub mod Calls
-pub mod Settling
-pub mod Jobs
+pub mod inside

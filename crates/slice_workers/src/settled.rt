@@ -1,6 +1,7 @@
 ghost use Rattle.std.specs.Prelude.{◌≡◌, ℕ, ◌≤◌, length, IfOk, OnOk};
 ghost use Rattle.pull_system.specs.System.{IsSystem};
-ghost use Rattle.slice_workers.specs.Reaching.{AreHanded, AreFinal, ReachesAll, rows_left};
+ghost use Rattle.slice_workers.specs.Reaching.{AreFinal, rows_left};
+ghost use Rattle.slice_workers.specs.inside.Reaching.{AreHanded, ReachesAll};
 ghost use Rattle.slice_workers.specs.Calls.{HasRisen, AreSettledRows, TakesLooks};
 
 use crate::threads::{make_jobs, meet_all, run};

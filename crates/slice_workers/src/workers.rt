@@ -1,8 +1,9 @@
 //! Which processes a worker settles, and what is left to the calling thread.
 ghost use Rattle.std.specs.Prelude.{◌≡◌, ◌≢◌, ℕ, ◌<◌, ◌≤◌, true, false, length};
 ghost use Rattle.std.specs.Prelude.{slice_index_or, slice_set};
-ghost use Rattle.slice_workers.specs.Reaching.{AreFinal, HasReachedRows};
-ghost use Rattle.slice_workers.specs.Settling.{HasClaimed, HasSettled};
+ghost use Rattle.slice_workers.specs.Reaching.{AreFinal};
+ghost use Rattle.slice_workers.specs.inside.Reaching.{HasReachedRows};
+ghost use Rattle.slice_workers.specs.inside.Settling.{HasClaimed, HasSettled};
 
 use crate::process::settle_process;
 use bound_table::{BoundTable, Seat};

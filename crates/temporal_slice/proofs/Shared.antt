@@ -16,7 +16,7 @@ use Rattle.slice_graph.specs.Views.{SliceView, slice_of, last_row, IsCut}
 use Rattle.slice_graph.specs.Words.{filled, row_words}
 use Rattle.slice_graph.specs.Fitting.{FitsOrder}
 use Rattle.slice_graph.proofs.Events.{rows_apart, row_there}
-use Rattle.temporal_slice.specs.Operands.{IsInRow, Shares}
+use Rattle.temporal_slice.specs.inside.Operands.{IsInRow, Shares}
 use Rattle.temporal_slice.proofs.Rows.{event_in, row_of_last, consistent_cut}
 
 -- the row of an event, where the slice has the final cut: it is the least cut with the event

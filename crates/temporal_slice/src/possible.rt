@@ -7,7 +7,8 @@ ghost use Rattle.run_model.specs.Sublattice.{IsSublattice};
 ghost use Rattle.run_model.specs.Slice.{Cuts, StandsFor};
 ghost use Rattle.run_model.specs.Operators.{SomeTime, whole, lowered};
 ghost use Rattle.slice_graph.specs.Views.{slice_of};
-ghost use Rattle.slice_graph.specs.Fitting.{FitsOrder, Agrees};
+ghost use Rattle.slice_graph.specs.Fitting.{FitsOrder};
+ghost use Rattle.slice_graph.specs.inside.Fitting.{Agrees};
 
 use causal_order::Order;
 use cut_lattice::Cut;

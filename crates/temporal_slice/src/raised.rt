@@ -6,8 +6,8 @@ ghost use Rattle.run_model.specs.Cut.{max_cut, lengths};
 ghost use Rattle.run_model.specs.Consistent.{IsConsistent};
 ghost use Rattle.run_model.specs.Operators.{raised};
 ghost use Rattle.slice_graph.specs.Views.{IsCut, IsRow};
-ghost use Rattle.slice_graph.specs.Fitting.{Agrees};
-ghost use Rattle.temporal_slice.specs.Operands.{operand, FitsOperand};
+ghost use Rattle.slice_graph.specs.inside.Fitting.{Agrees};
+ghost use Rattle.temporal_slice.specs.inside.Operands.{operand, FitsOperand};
 
 use causal_order::Order;
 use cut_lattice::Cut;

@@ -9,7 +9,7 @@ ghost use Rattle.run_model.specs.Operators.{Staying, HasPairs};
 ghost use Rattle.slice_graph.specs.Views.{IsCut, slice_of};
 ghost use Rattle.slice_graph.specs.Words.{row_words};
 ghost use Rattle.slice_graph.specs.Fitting.{FitsOrder};
-ghost use Rattle.temporal_slice.specs.Operands.{IsInRow, Shares};
+ghost use Rattle.temporal_slice.specs.inside.Operands.{IsInRow, Shares};
 
 use crate::raised::cuts_from;
 use causal_order::Order;

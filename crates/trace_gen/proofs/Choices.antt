@@ -23,7 +23,9 @@ use Rattle.vector_clock.proofs.FirstPlaces.{first_with, own_same, same_refl}
 use Rattle.vector_clock.proofs.Growth.{length-clocks_of, own_count}
 use Rattle.trace_gen.specs.declared.queue.Sent.{Sent}
 use Rattle.trace_gen.specs.declared.process.Process.{Process}
-use Rattle.trace_gen.specs.Making.{Processes, Made, process_at, advanced, received, internal_by, send_by, receipt_by, internal, sending, receiving, taking, peer, position_is, seen_is, made}
+use Rattle.trace_gen.specs.Making.{Processes, Made, process_at, advanced, received, internal_by}
+use Rattle.trace_gen.specs.Making.{send_by, receipt_by, internal, sending, receiving, taking, peer}
+use Rattle.trace_gen.specs.Making.{position_is, seen_is, made}
 use Rattle.trace_gen.proofs.Places.{HasMore, send_stays}
 use Rattle.trace_gen.proofs.Steps.{to_process, IsOnItsWay, AreQueued, AreUnsent, GoesOn, Going, IsNext, order_after, past_after, queue_after, queue_more, few_after, unsent_after, unread_after, idle, active, queued_last}
 use Rattle.trace_gen.proofs.Turns.{turn, line_at, made_low, made_send, made_else}

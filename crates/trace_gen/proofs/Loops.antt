@@ -5,7 +5,8 @@ use Rattle.event_log.specs.States.{with_event, with_batch}
 use Rattle.vector_clock.specs.Events.{Events, no_events}
 use Rattle.vector_clock.proofs.Counting.{batch_push}
 use Rattle.trace_gen.specs.Words.{word, first_state, next_state}
-use Rattle.trace_gen.specs.Making.{Processes, Made, CanStep, CanMake, process_at, made}
+use Rattle.trace_gen.specs.Making.{Processes, Made, process_at, made}
+use Rattle.trace_gen.specs.inside.Making.{CanStep, CanMake}
 use Rattle.trace_gen.specs.Generated.{events_from, at_rest, generated_events}
 use Rattle.trace_gen.proofs.Steps.{Going, can_step}
 use Rattle.trace_gen.proofs.Choices.{made_well}

@@ -20,13 +20,16 @@ use Rattle.vector_clock.specs.Events.{Events, no_events, clocks_of}
 use Rattle.vector_clock.proofs.Growth.{length-clocks_of}
 use Rattle.counter_preds.specs.declared.values.Variable.{Variable}
 use Rattle.counter_preds.specs.Counters.{IsVariable}
-use Rattle.counter_preds.specs.Falls.{value_now, behind_event, is_lowered, fall_of, fall_fault, assigned_value, left_by}
+use Rattle.counter_preds.specs.Falls.{value_now, behind_event, is_lowered, fall_of, fall_fault}
+use Rattle.counter_preds.specs.inside.Falls.{assigned_value, left_by}
 use Rattle.counter_preds.proofs.Growing.{opening_in, value_behind}
 use Rattle.counter_preds.proofs.Behind.{value_left, value_now_by, variable_behind}
 use Rattle.trace_gen.specs.declared.queue.Sent.{Sent}
 use Rattle.trace_gen.specs.declared.process.Process.{Process}
 use Rattle.trace_gen.specs.Words.{word, first_state, next_state}
-use Rattle.trace_gen.specs.Making.{Processes, Made, nobody, process_at, advanced, received, with_message, internal, sending, receiving, taking, peer, position_is, seen_is, made}
+use Rattle.trace_gen.specs.Making.{Processes, Made, nobody, process_at, advanced, received}
+use Rattle.trace_gen.specs.Making.{with_message, internal, sending, receiving, taking, peer}
+use Rattle.trace_gen.specs.Making.{position_is, seen_is, made}
 use Rattle.trace_gen.specs.Generated.{names_from, opening, header_of, events_from, at_rest, generated_events}
 use Rattle.trace_gen.proofs.Steps.{Going}
 use Rattle.trace_gen.proofs.Choices.{peer_differs, made_well}

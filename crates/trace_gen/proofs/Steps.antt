@@ -18,7 +18,8 @@ use Rattle.vector_clock.proofs.FirstPlaces.{own_same}
 use Rattle.vector_clock.proofs.Growth.{length-clocks_of, own_count, clocks_one}
 use Rattle.trace_gen.specs.declared.queue.Sent.{Sent}
 use Rattle.trace_gen.specs.declared.process.Process.{Process}
-use Rattle.trace_gen.specs.Making.{Processes, CanStep, process_at}
+use Rattle.trace_gen.specs.Making.{Processes, process_at}
+use Rattle.trace_gen.specs.inside.Making.{CanStep}
 use Rattle.trace_gen.proofs.Next.{next_order, next_kept, next_past}
 use Rattle.trace_gen.proofs.Places.{none_kept, own_other, one_more, send_stays}
 

@@ -5,7 +5,8 @@ use Rattle.std.proofs.lemmas.Bool.{cond-true, cond-false, le-leb, lt-leb}
 use Rattle.event_log.specs.declared.log.Event.{Event}
 use Rattle.trace_gen.specs.declared.queue.Sent.{Sent}
 use Rattle.trace_gen.specs.declared.process.Process.{Process}
-use Rattle.trace_gen.specs.Making.{Processes, Made, process_at, advanced, received, receipt_by, taking, sending, internal, peer, made}
+use Rattle.trace_gen.specs.Making.{Processes, Made, process_at, advanced, received, receipt_by}
+use Rattle.trace_gen.specs.Making.{taking, sending, internal, peer, made}
 
 pub receipt_is : (ps : Processes) (i line : ℕ) (p q : Process) (m : Sent) (others : List Sent) (e : Event) → process_at ps i ≡ p → p.waiting ≡ m ∷ others
     → e ≡ receipt_by i line m (advanced (record p { waiting = others }) i) → q ≡ received (advanced (record p { waiting = others }) i) m

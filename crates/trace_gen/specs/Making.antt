@@ -1,7 +1,6 @@
 -- One event more of a run: what the process of the event does, and what the processes are then.
-use Rattle.std.specs.Prelude.{◌≡◌, ℕ, pos, ◌+◌, ◌-◌, ◌/◌, ◌%◌, ◌<◌, ◌≤◌, ◌==◌, ◌&&◌, nat_le, List}
-use Rattle.std.specs.Prelude.{[], ◌∷◌, ◌++◌, length, get_or, set, if◌then◌else◌}
-use Rattle.std.specs.List.{AllByRecursion}
+use Rattle.std.specs.Prelude.{ℕ, pos, ◌+◌, ◌-◌, ◌/◌, ◌%◌, ◌==◌, ◌&&◌, nat_le, List}
+use Rattle.std.specs.Prelude.{[], ◌∷◌, ◌++◌, get_or, set, if◌then◌else◌}
 use Rattle.run_model.specs.Cut.{count, max_cut, with_next}
 use Rattle.event_log.specs.declared.log.Event.{Event}
 use Rattle.event_log.specs.declared.log.Kind.TheVariants as kind
@@ -54,6 +53,7 @@ internal_by i line p = record {
   clock = p.clock;
   kind = kind.Internal;
   assigns = position_is (count p.clock i) ∷ [];
+
 }
 
 abbrev pub internal : ℕ → ℕ → Processes → Made
@@ -68,6 +68,7 @@ send_by i line to id p = record {
   clock = p.clock;
   kind = kind.Send to id;
   assigns = position_is (count p.clock i) ∷ [];
+
 }
 
 abbrev pub sending : ℕ → ℕ → ℕ → ℕ → Processes → Made
@@ -85,6 +86,7 @@ receipt_by i line m p = record {
   clock = (received p m).clock;
   kind = kind.Receive m.sender m.id;
   assigns = position_is (count p.clock i) ∷ seen_is (received p m).seen ∷ [];
+
 }
 
 -- process i receives m, behind which these others wait
@@ -110,18 +112,3 @@ made procs k w ps =
     if nat_le (w % 4) 1 then taking i line (process_at ps i).waiting ps
     else if (w % 4 == 3) && nat_le 2 procs then sending i line (peer procs i w) k ps
     else internal i line ps
-
--- process i of so many may make event number k: its counts fit, and its waiting messages have one
--- count for each process
-pub record CanStep (procs k : ℕ) (p : Process) : Type 0 where
-  pub wide : length p.clock ≡ procs
-  pub low : (j : ℕ) → count p.clock j ≤ k
-  pub few : p.seen ≤ k
-  pub waiting : AllByRecursion (λ (m : Sent). length m.clock ≡ procs) p.waiting
-
--- 1 to 32 processes may make event number k
-pub record CanMake (k : ℕ) (ps : Processes) : Type 0 where
-  pub some : 1 ≤ length ps
-  pub few : length ps ≤ 32
-  pub limit : k < 50000
-  pub each : (i : ℕ) → i < length ps → CanStep (length ps) k (process_at ps i)

@@ -4,7 +4,8 @@ ghost use Rattle.std.specs.Prelude.{length};
 ghost use Rattle.run_model.specs.Cut.{count};
 ghost use Rattle.trace_gen.specs.Making.{internal, sending, receiving, taking, made, peer};
 ghost use Rattle.trace_gen.specs.Making.{process_at, advanced, received, receipt_by, position_is};
-ghost use Rattle.trace_gen.specs.Making.{seen_is, CanMake};
+ghost use Rattle.trace_gen.specs.Making.{seen_is};
+ghost use Rattle.trace_gen.specs.inside.Making.{CanMake};
 
 use crate::process::Process;
 use crate::queue::Sent;

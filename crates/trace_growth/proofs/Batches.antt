@@ -13,7 +13,8 @@ use Rattle.vector_clock.specs.Filled.{filled_batch, fill_from}
 use Rattle.vector_clock.specs.Admitted.{HasAdmitted}
 use Rattle.vector_clock.proofs.Growth.{length-clocks_of, lengths_of}
 use Rattle.vector_clock.proofs.FilledBatches.{known_from, length-fill_from}
-use Rattle.trace_growth.specs.Growing.{TraceView, FitsTrace, trace_fault, with_trace_batch, one_more}
+use Rattle.trace_growth.specs.Growing.{TraceView, FitsTrace, trace_fault, with_trace_batch}
+use Rattle.trace_growth.specs.Growing.{one_more}
 
 pub may_be_filled : (states : StatesView) (clocks : code.Clocks) (trace : TraceView) (batch : List Event) → HasAdmitted clocks states.events → states ≡ trace.states → FitsTrace trace batch
     → BatchStands (length clocks.order) (sum (lengths clocks.order)) batch

@@ -11,7 +11,8 @@ use Rattle.run_model.specs.Run as run
 use Rattle.causal_order.specs.Growth.{HasGrown}
 use Rattle.causal_order.proofs.Growing.{grown_none}
 use Rattle.vector_clock.specs.declared.clocks.Clocks as code
-use Rattle.vector_clock.specs.Events.{Events, EventFits, EventStands, clocks_of, own_events, no_events}
+use Rattle.vector_clock.specs.Events.{Events, EventFits, EventStands, clocks_of, own_events}
+use Rattle.vector_clock.specs.Events.{no_events}
 use Rattle.vector_clock.specs.Faults.{batch_fault}
 use Rattle.vector_clock.specs.Filled.{filled_batch}
 use Rattle.vector_clock.specs.Faultless.{AreFaultless, no_batch, one_batch}
@@ -21,7 +22,8 @@ use Rattle.vector_clock.proofs.BatchLaws.{trace_clocks}
 use Rattle.vector_clock.proofs.Growth.{length-clocks_of, clocks_more, fits_have_clocks, grown_with, length-with_batch}
 use Rattle.vector_clock.proofs.Delivered.{events_grow}
 use Rattle.vector_clock.proofs.Receipts.{faultless_count, faultless_run, run_events}
-use Rattle.trace_growth.specs.Growing.{TraceView, FitsTrace, HasTaken, KeepsTrace, IsTrace}
+use Rattle.trace_growth.specs.Growing.{TraceView, FitsTrace, IsTrace}
+use Rattle.trace_growth.specs.inside.Growing.{HasTaken, KeepsTrace}
 use Rattle.trace_growth.specs.Laws.{StatesHaveGrown}
 
 -- ---- each moment

@@ -4,15 +4,13 @@ use Rattle.std.specs.List.{AllByRecursion}
 use Rattle.event_log.specs.declared.log.Event.{Event}
 use Rattle.event_log.specs.declared.log.Header.{Header}
 use Rattle.event_log.specs.declared.item.LogFault.{LogFault}
-use Rattle.event_log.specs.States.{StatesView, IsHeader, AreWhole, MayFollow, opened, with_batch}
+use Rattle.event_log.specs.States.{StatesView, AreWhole, MayFollow, opened, with_batch}
 use Rattle.event_log.specs.States.{trace_of}
 use Rattle.run_model.specs.Run as run
-use Rattle.vector_clock.specs.declared.clocks.Clocks.{Clocks}
 use Rattle.vector_clock.specs.Events.{EventStands, clocks_of}
 use Rattle.vector_clock.specs.Faults.{batch_fault}
 use Rattle.vector_clock.specs.Filled.{filled_batch}
 use Rattle.vector_clock.specs.Faultless.{AreFaultless, IsLoggedRun}
-use Rattle.vector_clock.specs.Admitted.{HasAdmitted}
 
 -- the data of the events that were taken, how many batches they came in, and whether memory was
 -- wanted
@@ -46,6 +44,7 @@ with_trace_batch trace batch = record {
   };
   batches = one_more trace.batches;
   spent = trace.spent;
+
 }
 
 -- the batch fits the batches before it: it may follow their events, and each of its events has its
@@ -62,13 +61,3 @@ pub record IsTrace (states : StatesView) : Type 0 where
   pub faultless : AreFaultless (length states.header.procs) states.events
   pub clocks : run.clocks_of (trace_of states) ≡ clocks_of states.events
   pub run : IsLoggedRun (trace_of states)
-
--- the fields fit each other: the clocks are those of the states' events, which came without a fault
-pub record HasTaken (states : StatesView) (clocks : Clocks) : Type 0 where
-  pub header : IsHeader states.header
-  pub admitted : HasAdmitted clocks states.events
-  pub faultless : AreFaultless (length states.header.procs) states.events
-
--- unless memory was wanted
-abbrev pub KeepsTrace : StatesView → Clocks → Bool → Type 0
-KeepsTrace states clocks spent = spent ≡ false → HasTaken states clocks

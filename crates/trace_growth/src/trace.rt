@@ -31,7 +31,8 @@ pub struct Trace {
 }
 
 impl Model for Trace {
-    ghost use Rattle.trace_growth.specs.Growing.{TraceView, KeepsTrace};
+    ghost use Rattle.trace_growth.specs.Growing.{TraceView};
+    ghost use Rattle.trace_growth.specs.inside.Growing.{KeepsTrace};
 
     ghost Value = { TraceView };
 

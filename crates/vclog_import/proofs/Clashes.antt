@@ -9,7 +9,7 @@ use Rattle.vclog_import.specs.declared.fault.ImportCode.TheVariants as code
 use Rattle.vclog_import.specs.Lines.{Record}
 use Rattle.vclog_import.specs.Hosts.{Host, name_of, with_host, hosts_from, hosts_of, do_clash}
 use Rattle.vclog_import.specs.Faults.{clash_fault}
-use Rattle.vclog_import.specs.Scans.{Has, AreApart}
+use Rattle.vclog_import.specs.inside.Scans.{Has, AreApart}
 use Rattle.vclog_import.proofs.HostLaws.{any-with_host, any-hosts}
 
 same_bytes : (g h : Host) → g ≡ h → bytes_eq g h ≡ true

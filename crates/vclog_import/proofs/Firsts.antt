@@ -8,7 +8,7 @@ use Rattle.vclog_import.specs.declared.fault.ImportCode.TheVariants as code
 use Rattle.vclog_import.specs.declared.fault.ImportFault.{ImportFault}
 use Rattle.vclog_import.specs.Lines.{Record}
 use Rattle.vclog_import.specs.Faults.{Judge, at_line, first_of, is_bad, clock_fault, number_fault, line_fault}
-use Rattle.vclog_import.specs.Scans.{plain_fault, until, bad_clock, first_bad_clock}
+use Rattle.vclog_import.specs.inside.Scans.{plain_fault, until, bad_clock, first_bad_clock}
 
 pub cases_Option : {A : Type 0} (o : Option A) → (o ≡ None) ⊎ ((x : A) × (o ≡ Some x))
 cases_Option None = inl refl

@@ -27,11 +27,12 @@ use Rattle.vclog_import.specs.declared.fault.ImportCode.{ImportCode}
 use Rattle.vclog_import.specs.declared.fault.ImportCode.TheVariants as code
 use Rattle.vclog_import.specs.declared.fault.ImportFault.{ImportFault}
 use Rattle.vclog_import.specs.Lines.{Record, is_due_behind}
-use Rattle.vclog_import.specs.Hosts.{Host, name_byte, name_of, hosts_of, records_of, do_clash, IsNamed}
+use Rattle.vclog_import.specs.Hosts.{Host, name_byte, name_of, hosts_of, records_of, do_clash}
+use Rattle.vclog_import.specs.inside.Hosts.{IsNamed}
 use Rattle.vclog_import.specs.Clock.{counter, clock_of, count_of}
 use Rattle.vclog_import.specs.Faults.{Judge, first_of, is_bad, is_host_too_many, is_record_too_many, clock_fault, number_fault, line_fault, clash_fault, unknown_fault, is_too_long, is_truncated, ended_at, last_line, judged, judged_lines, earlier, fault_of}
 use Rattle.vclog_import.specs.Imported.{counting, header_of, event_of, events_from}
-use Rattle.vclog_import.specs.Scans.{Has, AreApart, IsFine}
+use Rattle.vclog_import.specs.inside.Scans.{Has, AreApart, IsFine}
 use Rattle.vclog_import.specs.Laws.{ImportedLogsFit}
 use Rattle.vclog_import.proofs.Firsts.{cases_Option, first_of-none, first_of-some}
 use Rattle.vclog_import.proofs.HostLaws.{hosts_are_distinct, hosts_from-push, all-hosts, placed-from}

@@ -15,8 +15,9 @@ use Rattle.vclog_import.specs.Lines.{Record}
 use Rattle.vclog_import.specs.Hosts.{hosts_of}
 use Rattle.vclog_import.specs.Faults.{first_of, is_bad, number_fault, unknown_fault, end_fault, host_fault, earlier, judged, fault_of, IfFault}
 use Rattle.vclog_import.specs.Imported.{header_of, events_from, imported}
-use Rattle.vclog_import.specs.Reading.{records}
-use Rattle.vclog_import.specs.Scans.{plain_fault, until, first_bad_clock, hosts_in, IsFine, fault_with, IsScan}
+use Rattle.vclog_import.specs.inside.Reading.{records}
+use Rattle.vclog_import.specs.inside.Scans.{plain_fault, until, first_bad_clock, hosts_in, IsFine}
+use Rattle.vclog_import.specs.inside.Scans.{fault_with, IsScan}
 use Rattle.vclog_import.proofs.Firsts.{two_scans, until_all}
 use Rattle.vclog_import.proofs.Fits.{AllQuiet, all_quiet}
 

@@ -12,7 +12,7 @@ use Rattle.std.proofs.lemmas.Slice.Eq.{bytes_eq-Decides}
 use Rattle.std.proofs.lemmas.Bool.{or_right}
 use Rattle.std.proofs.lemmas.List.{take-append-drop, take_all, drop_all, drop_more, take_more, length-map}
 use Rattle.vclog_import.specs.Hosts.{Host, with_host}
-use Rattle.vclog_import.specs.Scans.{hosts_in, Has}
+use Rattle.vclog_import.specs.inside.Scans.{hosts_in, Has}
 use Rattle.vclog_import.proofs.HostLaws.{same_host}
 use Rattle.vclog_import.proofs.LineLists.{host_at}
 

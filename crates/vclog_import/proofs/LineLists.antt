@@ -12,12 +12,13 @@ use Rattle.vclog_import.specs.declared.fault.ImportCode.{ImportCode}
 use Rattle.vclog_import.specs.declared.fault.ImportCode.TheVariants as code
 use Rattle.vclog_import.specs.declared.host_lines.HostLine.{HostLine}
 use Rattle.vclog_import.specs.Lines.{Record}
-use Rattle.vclog_import.specs.Hosts.{Host, name_of, IsNamed}
+use Rattle.vclog_import.specs.Hosts.{Host, name_of}
+use Rattle.vclog_import.specs.inside.Hosts.{IsNamed}
 use Rattle.vclog_import.specs.Clock.{clock_in}
 use Rattle.vclog_import.specs.Faults.{at_line, is_bad}
 use Rattle.vclog_import.specs.Imported.{counting, header_of}
-use Rattle.vclog_import.specs.Reading.{record_of, records}
-use Rattle.vclog_import.specs.Scans.{hosts_in, bad_clock, first_bad_clock}
+use Rattle.vclog_import.specs.inside.Reading.{record_of, records}
+use Rattle.vclog_import.specs.inside.Scans.{hosts_in, bad_clock, first_bad_clock}
 use Rattle.vclog_import.proofs.Firsts.{bad_clock-none, bad_clock-some, no_bad_clock}
 
 -- ---- clocks

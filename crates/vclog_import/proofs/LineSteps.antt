@@ -9,7 +9,8 @@ use Rattle.memchr.specs.Find.{Nowhere, Passes, is_byte, IsFirstByte}
 use Rattle.event_log.specs.Moments.{HasNoFeed}
 use Rattle.vclog_import.specs.declared.host_lines.HostLines.{HostLines}
 use Rattle.vclog_import.specs.Lines.{Line, Record, lines_in, feeds, is_passed, parted, record_in, records_in, is_due_behind}
-use Rattle.vclog_import.specs.Reading.{lines_left, left, due_at_end, line_at_end, Goes, TakesLine, EndsLines, Gives, Ends}
+use Rattle.vclog_import.specs.inside.Reading.{lines_left, left, due_at_end, line_at_end, Goes}
+use Rattle.vclog_import.specs.inside.Reading.{TakesLine, EndsLines, Gives, Ends}
 
 -- ---- lines and their feeds
 

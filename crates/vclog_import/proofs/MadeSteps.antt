@@ -27,9 +27,10 @@ use Rattle.vclog_import.specs.Hosts.{Host, hosts_of, records_of}
 use Rattle.vclog_import.specs.Clock.{clock_in, clock_of, count_of, all_known}
 use Rattle.vclog_import.specs.Faults.{at_line, first_of, unknown_fault, earlier}
 use Rattle.vclog_import.specs.Imported.{event_of, events_from}
-use Rattle.vclog_import.specs.Made.{HasMade}
-use Rattle.vclog_import.specs.Reading.{record_of, records}
-use Rattle.vclog_import.specs.Scans.{hosts_in, bad_clock, first_bad_clock, fault_with, IsFine}
+use Rattle.vclog_import.specs.inside.Made.{HasMade}
+use Rattle.vclog_import.specs.inside.Reading.{record_of, records}
+use Rattle.vclog_import.specs.inside.Scans.{hosts_in, bad_clock, first_bad_clock, fault_with}
+use Rattle.vclog_import.specs.inside.Scans.{IsFine}
 use Rattle.vclog_import.proofs.HostLaws.{host_is_placed}
 use Rattle.vclog_import.proofs.LineLists.{bad_where_none, good_where_some}
 use Rattle.vclog_import.proofs.Firsts.{first_of-none, first_of-some, first_of-nil, bad_clock-none, bad_clock-some, no_bad_clock}

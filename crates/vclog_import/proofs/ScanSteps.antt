@@ -15,8 +15,10 @@ use Rattle.vclog_import.specs.declared.scanning.Scan.{Scan}
 use Rattle.vclog_import.specs.Lines.{Record, is_due_behind, feeds}
 use Rattle.vclog_import.specs.Hosts.{with_host, hosts_from, hosts_of, do_clash}
 use Rattle.vclog_import.specs.Faults.{at_line, first_of, is_bad, is_host_too_many, is_record_too_many, clash_fault, is_too_long, judged, judged_lines, last_line, ended_at, is_truncated, end_fault}
-use Rattle.vclog_import.specs.Reading.{record_of, records, lines_left, left, due_at_end, line_at_end, Gives, Ends}
-use Rattle.vclog_import.specs.Scans.{plain_fault, until, hosts_in, Has, AreApart, HasScanned, IsScan}
+use Rattle.vclog_import.specs.inside.Reading.{record_of, records, lines_left, left, due_at_end}
+use Rattle.vclog_import.specs.inside.Reading.{line_at_end, Gives, Ends}
+use Rattle.vclog_import.specs.inside.Scans.{plain_fault, until, hosts_in, Has, AreApart, HasScanned}
+use Rattle.vclog_import.specs.inside.Scans.{IsScan}
 use Rattle.vclog_import.proofs.HostLaws.{hosts_from-push}
 use Rattle.vclog_import.proofs.Clashes.{no_hosts_apart, known_clashes_not, apart_more, clash_is, clash_with}
 use Rattle.vclog_import.proofs.Firsts.{here, first_of-push, first_of-none, first_of-some, first_of-nil, until-none, until-some, until-nil}

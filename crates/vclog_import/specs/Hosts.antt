@@ -1,10 +1,10 @@
 -- Hosts in their order, and their names.
-use Rattle.std.specs.Prelude.{◌≡◌, ℕ, Bool, true, false, ◌&&◌, nat_le, not, List, [], ◌∷◌, map}
+use Rattle.std.specs.Prelude.{ℕ, Bool, false, ◌&&◌, nat_le, not, List, [], ◌∷◌, map}
 use Rattle.std.specs.Prelude.{count_by, if◌then◌else◌}
 use Rattle.std.specs.Cmp.Lexicographic.{slice_cmp}
 use Rattle.std.specs.Ordering.{match_ordering, nat_cmp}
 use Rattle.std.specs.Str.{bytes_eq}
-use Rattle.pota_names.specs.Names.{is_name, is_name_byte}
+use Rattle.pota_names.specs.Names.{is_name_byte}
 use Rattle.vclog_import.specs.Lines.{Record}
 
 -- the bytes of a host
@@ -47,7 +47,3 @@ records_of host rs = count_by (λ (r : Record). bytes_eq r.host host) rs
 -- two hosts whose processes would have one name
 abbrev pub do_clash : Host → Host → Bool
 do_clash g h = bytes_eq (name_of g) (name_of h) && not (bytes_eq g h)
-
--- the process of the host has a name
-abbrev pub IsNamed : Host → Type 0
-IsNamed host = is_name (name_of host) ≡ true

@@ -4,6 +4,4 @@ pub mod Hosts
 pub mod Imported
 pub mod Laws
 pub mod Lines
-pub mod Made
-pub mod Reading
-pub mod Scans
+pub mod inside

@@ -11,9 +11,9 @@ ghost use Rattle.vclog_import.specs.Hosts.{hosts_of};
 ghost use Rattle.vclog_import.specs.Clock.{clock_of, count_of};
 ghost use Rattle.vclog_import.specs.Faults.{at_line, earlier, IfFault};
 ghost use Rattle.vclog_import.specs.Imported.{events_from};
-ghost use Rattle.vclog_import.specs.Reading.{record_of, records};
-ghost use Rattle.vclog_import.specs.Scans.{hosts_in, bad_clock, first_bad_clock, IsFine};
-ghost use Rattle.vclog_import.specs.Scans.{fault_with};
+ghost use Rattle.vclog_import.specs.inside.Reading.{record_of, records};
+ghost use Rattle.vclog_import.specs.inside.Scans.{hosts_in, bad_clock, first_bad_clock, IsFine};
+ghost use Rattle.vclog_import.specs.inside.Scans.{fault_with};
 
 use crate::clock::clock_in;
 use crate::fault::{ImportCode, ImportFault};
@@ -98,7 +98,7 @@ pub struct Events<'a> {
 }
 
 impl<'a> Events<'a> {
-    ghost use Rattle.vclog_import.specs.Made.{HasMade};
+    ghost use Rattle.vclog_import.specs.inside.Made.{HasMade};
 
     // No event.
     fn new(alloc: Global, hosts: &'a [&'a [u8]]) -> Events<'a>

@@ -54,7 +54,7 @@ fn parted(line: &[u8]) -> Option<(&[u8], &[u8])>
 }
 
 impl<'a> HostLine<'a> {
-    ghost use Rattle.vclog_import.specs.Reading.{record_of};
+    ghost use Rattle.vclog_import.specs.inside.Reading.{record_of};
 
     // The host line of this number.
     fn of(line: u32, bytes: &'a [u8]) -> HostLine<'a>
@@ -72,8 +72,8 @@ impl<'a> HostLine<'a> {
 }
 
 impl<'a> HostLines<'a> {
-    ghost use Rattle.vclog_import.specs.Reading.{record_of, left, lines_left, line_at_end};
-    ghost use Rattle.vclog_import.specs.Reading.{TakesLine, EndsLines, Gives, Ends};
+    ghost use Rattle.vclog_import.specs.inside.Reading.{record_of, left, lines_left, line_at_end};
+    ghost use Rattle.vclog_import.specs.inside.Reading.{TakesLine, EndsLines, Gives, Ends};
 
     /// Those of the text; of a text that is too long, those before the byte that is too much.
     pub fn new(text: &'a [u8]) -> HostLines<'a>

@@ -2,7 +2,7 @@
 
 ghost use Rattle.std.specs.Prelude.{◌≡◌, false, IfOk, OnOk};
 ghost use Rattle.vclog_import.specs.Hosts.{with_host};
-ghost use Rattle.vclog_import.specs.Scans.{hosts_in, Has};
+ghost use Rattle.vclog_import.specs.inside.Scans.{hosts_in, Has};
 
 use pota_base::NoMemory;
 use std::cmp::Ordering;

@@ -3,10 +3,11 @@
 ghost use Rattle.std.specs.Prelude.{◌≡◌, ◌∷◌, [], true, None, Some, IfOk};
 ghost use Rattle.std.specs.List.{AllByRecursion};
 ghost use Rattle.pota_names.specs.Names.{is_name};
-ghost use Rattle.vclog_import.specs.Hosts.{name_of, IsNamed};
+ghost use Rattle.vclog_import.specs.Hosts.{name_of};
+ghost use Rattle.vclog_import.specs.inside.Hosts.{IsNamed};
 ghost use Rattle.vclog_import.specs.Faults.{fault_of, IfFault};
 ghost use Rattle.vclog_import.specs.Imported.{counting, header_of, imported};
-ghost use Rattle.vclog_import.specs.Scans.{hosts_in};
+ghost use Rattle.vclog_import.specs.inside.Scans.{hosts_in};
 
 use crate::events::{events_of, first_bad_clock};
 use crate::fault::ImportFault;

@@ -3,7 +3,7 @@
 ghost use Rattle.std.specs.Prelude.{◌≡◌, length, IfOk};
 ghost use Rattle.vclog_import.specs.Hosts.{name_byte, name_of, begins_with_digit, do_clash};
 ghost use Rattle.std.specs.List.{list_any};
-ghost use Rattle.vclog_import.specs.Scans.{hosts_in};
+ghost use Rattle.vclog_import.specs.inside.Scans.{hosts_in};
 
 use pota_base::NoMemory;
 use pota_names::is_byte_of_name;

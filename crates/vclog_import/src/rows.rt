@@ -4,7 +4,7 @@ ghost use Rattle.std.specs.Prelude.{◌≡◌, ◌<◌, true, length, map, IfOk,
 ghost use Rattle.serde_json.specs.View.{members_view};
 ghost use Rattle.log_lines.specs.Names.{place_of, are_distinct};
 ghost use Rattle.vclog_import.specs.Clock.{all_known, count_of};
-ghost use Rattle.vclog_import.specs.Scans.{hosts_in};
+ghost use Rattle.vclog_import.specs.inside.Scans.{hosts_in};
 
 use crate::clock::counter;
 use log_lines::place_of;

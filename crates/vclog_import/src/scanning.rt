@@ -4,8 +4,8 @@ ghost use Rattle.std.specs.Prelude.{◌≡◌, ◌++◌, ◌∷◌, [], ◌||◌
 ghost use Rattle.std.specs.Prelude.{if◌then◌else◌};
 ghost use Rattle.vclog_import.specs.declared.fault.ImportCode.TheVariants.{HostClash};
 ghost use Rattle.vclog_import.specs.Faults.{is_bad, ended_at};
-ghost use Rattle.vclog_import.specs.Reading.{record_of};
-ghost use Rattle.vclog_import.specs.Scans.{plain_fault, hosts_in};
+ghost use Rattle.vclog_import.specs.inside.Reading.{record_of};
+ghost use Rattle.vclog_import.specs.inside.Scans.{plain_fault, hosts_in};
 
 use crate::fault::{ImportCode, ImportFault};
 use crate::host_lines::{HostLine, HostLines};
@@ -62,8 +62,8 @@ impl<'a> Scan<'a> {
     ghost use Rattle.std.specs.List.{list_any};
     ghost use Rattle.vclog_import.specs.Hosts.{do_clash};
     ghost use Rattle.vclog_import.specs.Faults.{at_line};
-    ghost use Rattle.vclog_import.specs.Reading.{records};
-    ghost use Rattle.vclog_import.specs.Scans.{HasScanned, IsScan};
+    ghost use Rattle.vclog_import.specs.inside.Reading.{records};
+    ghost use Rattle.vclog_import.specs.inside.Scans.{HasScanned, IsScan};
 
     // No line.
     fn new(alloc: Global) -> Scan<'a>

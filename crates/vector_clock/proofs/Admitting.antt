@@ -13,7 +13,8 @@ use Rattle.event_log.specs.States.{with_batch, with_batches}
 use Rattle.event_log.proofs.Keeping.{sum_batch}
 use Rattle.run_model.specs.Cut.{Clocks, lengths}
 use Rattle.vector_clock.specs.declared.clocks.Clocks as code
-use Rattle.vector_clock.specs.Events.{Events, EventFits, EventStands, BatchFits, BatchStands, AllStand, CanBeChecked, no_events, clocks_of}
+use Rattle.vector_clock.specs.Events.{Events, EventFits, EventStands, BatchFits, BatchStands}
+use Rattle.vector_clock.specs.Events.{AllStand, CanBeChecked, no_events, clocks_of}
 use Rattle.vector_clock.specs.Faults.{batch_fault, batches_fault, log_fault, fault_from}
 use Rattle.vector_clock.specs.Admitted.{HasAdmitted, IfFault}
 use Rattle.pota_base.specs.declared.fault.Refused.{Refused}

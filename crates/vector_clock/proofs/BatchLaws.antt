@@ -19,7 +19,8 @@ use Rattle.run_model.specs.Consistent.{IsOrder}
 use Rattle.causal_order.specs.Growth.{HasClock, HasGrown, with_row, with_clocks}
 use Rattle.causal_order.proofs.Growing.{grown_none}
 use Rattle.causal_order.proofs.Orders.{no_events_order}
-use Rattle.vector_clock.specs.Events.{Events, EventFits, EventStands, AllFit, AllStand, CanBeChecked, clocks_of, place, no_events}
+use Rattle.vector_clock.specs.Events.{Events, EventFits, EventStands, AllFit, AllStand}
+use Rattle.vector_clock.specs.Events.{CanBeChecked, clocks_of, place, no_events}
 use Rattle.vector_clock.specs.Faults.{clock_fault, message_fault, event_fault, at_line, fault_from, batch_fault, batches_fault}
 use Rattle.vector_clock.proofs.SoundOrders.{AllSound, sound_order, order_sound, sound_along}
 use Rattle.vector_clock.proofs.Growth.{length-clocks_of, own_count, clocks_one, clocks_more, clocks_none, length-with_batch, fits_have_clocks, grown_with, next_clock, sound_more}

@@ -18,7 +18,8 @@ use Rattle.vector_clock.specs.declared.nodes.Node.{Node}
 use Rattle.vector_clock.specs.Messages.{message_sent}
 use Rattle.vector_clock.specs.Fill.{no_event}
 use Rattle.vector_clock.specs.Filled.{is_left_out}
-use Rattle.vector_clock.specs.Nodes.{event_in, node_at, admitted_start, starts_of, AreStarts, StartsAt, AreCounts, HaveCounts, HaveMore}
+use Rattle.vector_clock.specs.inside.Nodes.{event_in, node_at, admitted_start, starts_of, AreStarts}
+use Rattle.vector_clock.specs.inside.Nodes.{StartsAt, AreCounts, HaveCounts, HaveMore}
 
 pub no_send : (p : ℕ) (k : Kind) → ((to id : ℕ) → k ≡ kind.Send to id → ⊥) → message_sent p k ≡ None
 no_send p kind.Internal h = refl

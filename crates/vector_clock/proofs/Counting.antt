@@ -5,7 +5,8 @@ use Rattle.std.proofs.lemmas.List.{length-set, length-map, map-set, take_more, l
 use Rattle.std.proofs.lemmas.List.Sums.{sum_by-cons}
 use Rattle.event_log.specs.declared.log.Event.{Event}
 use Rattle.event_log.specs.States.{with_event, with_batch}
-use Rattle.vector_clock.specs.Events.{Events, EventFits, own_events, place, raised}
+use Rattle.vector_clock.specs.Events.{Events, EventFits, own_events, place}
+use Rattle.vector_clock.specs.inside.Events.{raised}
 use Rattle.vector_clock.proofs.Below.{count_is}
 
 -- ---- one event more

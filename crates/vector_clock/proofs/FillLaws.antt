@@ -23,7 +23,10 @@ use Rattle.vector_clock.specs.declared.nodes.Node.{Node}
 use Rattle.vector_clock.specs.Events.{Events, EventStands, own_events, clocks_of, place}
 use Rattle.vector_clock.specs.Fill.{Place, IsThere, event_at, IsLeftOut, IsWritten, IsBefore, IsSendOf, Links, Gives, no_event}
 use Rattle.vector_clock.specs.Filled.{is_left_out, clock_of, filled_event, fill_from, filled_batch}
-use Rattle.vector_clock.specs.Nodes.{event_in, node_place, target_place, IsTarget, Finds, admitted_start, starts_of, node_at, AreNodes, HaveTargets, AreReaders, StartsAt, HaveCounts, AreFilled, with_clock}
+use Rattle.vector_clock.specs.inside.Nodes.{event_in, node_place, target_place, IsTarget, Finds}
+use Rattle.vector_clock.specs.inside.Nodes.{admitted_start, starts_of, node_at, AreNodes}
+use Rattle.vector_clock.specs.inside.Nodes.{HaveTargets, AreReaders, StartsAt, HaveCounts}
+use Rattle.vector_clock.specs.inside.Nodes.{AreFilled, with_clock}
 use Rattle.vector_clock.proofs.Growth.{own_clocks, lengths_of, own_count, clock_behind, length-clocks_of}
 use Rattle.vector_clock.proofs.CountLaws.{nothing}
 use Rattle.vector_clock.proofs.ClockOf.{has_clock}

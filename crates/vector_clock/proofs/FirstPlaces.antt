@@ -11,8 +11,8 @@ use Rattle.event_log.specs.States.{with_event}
 use Rattle.vector_clock.specs.declared.message.Message.{Message}
 use Rattle.vector_clock.specs.Events.{Events, no_events, own_events, place}
 use Rattle.vector_clock.specs.Messages.{is_same, first_place}
-use Rattle.vector_clock.specs.Met.{without, is_place}
-use Rattle.vector_clock.specs.Admitted.{StandsIn}
+use Rattle.vector_clock.specs.inside.Met.{without, is_place}
+use Rattle.vector_clock.specs.inside.Admitted.{StandsIn}
 
 -- ---- one list of events
 

@@ -5,7 +5,7 @@ use Rattle.event_log.specs.declared.log.Event.{Event}
 use Rattle.run_model.specs.Cut.{Cut, Clocks}
 use Rattle.run_model.specs.Consistent.{clock}
 use Rattle.causal_order.specs.Growth.{with_row, with_clocks}
-use Rattle.vector_clock.specs.Sound.{joined_clocks}
+use Rattle.vector_clock.specs.inside.Sound.{joined_clocks}
 
 pub length-joined : (o added : Clocks) → length (joined_clocks o added) ≡ length o
 length-joined [] added = refl

@@ -13,10 +13,12 @@ use Rattle.run_model.specs.Consistent.{IsOrder}
 use Rattle.causal_order.specs.Growth.{HasClock, HasGrown, with_row, with_clocks}
 use Rattle.causal_order.proofs.Growing.{count-lengths, grown_none, with_clocks-push, length-with_clocks, length-lengths}
 use Rattle.vector_clock.specs.declared.messages.Messages.{Messages}
-use Rattle.vector_clock.specs.Events.{Events, own_events, clocks_of, place, raised}
+use Rattle.vector_clock.specs.Events.{Events, own_events, clocks_of, place}
+use Rattle.vector_clock.specs.inside.Events.{raised}
 use Rattle.vector_clock.specs.Faults.{clock_fault, event_fault, at_line, fault_from, batch_fault}
 use Rattle.vector_clock.specs.Sound.{IsSound}
-use Rattle.vector_clock.specs.Admitted.{HasMessages, StandsIn}
+use Rattle.vector_clock.specs.Admitted.{HasMessages}
+use Rattle.vector_clock.specs.inside.Admitted.{StandsIn}
 use Rattle.vector_clock.proofs.Below.{count_is}
 use Rattle.vector_clock.proofs.SoundOrders.{AllSound, sound_order, order_sound, sound_along}
 use Rattle.vector_clock.proofs.Growth.{length-clocks_of, own_count, clocks_more, length-with_batch, grown_with, next_there}

@@ -15,11 +15,16 @@ use Rattle.vector_clock.specs.declared.places.Places.{Places}
 use Rattle.vector_clock.specs.declared.nodes.Target.{Target}
 use Rattle.vector_clock.specs.declared.nodes.Target.TheVariants.{Admitted, InBatch}
 use Rattle.vector_clock.specs.declared.nodes.Node.{Node}
-use Rattle.vector_clock.specs.Events.{Events, EventStands, own_events, place, raised}
+use Rattle.vector_clock.specs.Events.{Events, EventStands, own_events, place}
+use Rattle.vector_clock.specs.inside.Events.{raised}
 use Rattle.vector_clock.specs.Messages.{is_same, message_sent, sends}
-use Rattle.vector_clock.specs.Met.{met_at, IsNoted}
+use Rattle.vector_clock.specs.Met.{met_at}
+use Rattle.vector_clock.specs.inside.Met.{IsNoted}
 use Rattle.vector_clock.specs.Fill.{Place, IsBefore, no_event}
-use Rattle.vector_clock.specs.Nodes.{event_in, node_place, target_place, IsTarget, IsBeforeInBatch, Finds, first_index, AreSends, admitted_at, send_of, node_at, IsNode, HaveTargets, AreWithin}
+use Rattle.vector_clock.specs.inside.Nodes.{event_in, node_place, target_place, IsTarget}
+use Rattle.vector_clock.specs.inside.Nodes.{IsBeforeInBatch, Finds, first_index, AreSends}
+use Rattle.vector_clock.specs.inside.Nodes.{admitted_at, send_of, node_at, IsNode, HaveTargets}
+use Rattle.vector_clock.specs.inside.Nodes.{AreWithin}
 use Rattle.vector_clock.proofs.FirstPlaces.{same_message, own_same, own_other}
 use Rattle.vector_clock.proofs.Counting.{batch_next, no_batch, is_next}
 use Rattle.vector_clock.proofs.Growth.{length-with_batch}

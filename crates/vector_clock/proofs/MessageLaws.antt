@@ -15,8 +15,10 @@ use Rattle.vector_clock.specs.declared.places.Met.{Met}
 use Rattle.vector_clock.specs.Events.{Events}
 use Rattle.vector_clock.specs.Messages.{message_sent, message_received, first_send, first_receipt}
 use Rattle.vector_clock.specs.Faults.{is_twice, is_unsent, is_early, message_fault}
-use Rattle.vector_clock.specs.Met.{met_at, HasPlaces, is_place}
-use Rattle.vector_clock.specs.Admitted.{HasMessages, StandsIn}
+use Rattle.vector_clock.specs.Met.{met_at}
+use Rattle.vector_clock.specs.inside.Met.{HasPlaces, is_place}
+use Rattle.vector_clock.specs.Admitted.{HasMessages}
+use Rattle.vector_clock.specs.inside.Admitted.{StandsIn}
 use Rattle.vector_clock.proofs.FirstPlaces.{Key, none_noted, kept_for, before_is_less}
 
 abbrev pub sent_key : Key

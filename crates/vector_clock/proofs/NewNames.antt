@@ -7,7 +7,8 @@ use Rattle.run_model.specs.Consistent.{clock}
 use Rattle.event_log.specs.declared.log.Event.{Event}
 use Rattle.vector_clock.specs.Events.{is_beyond}
 use Rattle.vector_clock.specs.Faults.{names, named_clock, goes_back, is_open, is_loop}
-use Rattle.vector_clock.specs.Sound.{IsSound, counted_before, newly_names, is_newly_open, is_newly_loop}
+use Rattle.vector_clock.specs.Sound.{IsSound, counted_before, newly_names, is_newly_open}
+use Rattle.vector_clock.specs.Sound.{is_newly_loop}
 use Rattle.vector_clock.proofs.Below.{same_below, within_from, not_beyond}
 
 -- what fails at each event that isn't new is the same by either rule

@@ -9,7 +9,8 @@ use Rattle.vector_clock.specs.declared.message.Message.{Message}
 use Rattle.vector_clock.specs.declared.places.Met.{Met}
 use Rattle.vector_clock.specs.declared.places.Places.{Places}
 use Rattle.vector_clock.specs.Messages.{is_same}
-use Rattle.vector_clock.specs.Met.{message_cmp, nowhere, met_at, IsNoted}
+use Rattle.vector_clock.specs.Met.{message_cmp, nowhere, met_at}
+use Rattle.vector_clock.specs.inside.Met.{IsNoted}
 
 same_key : (n m : Message) → is_at (message_cmp n) m ≡ is_same n m
 same_key n m = grind (arith, common_steps)

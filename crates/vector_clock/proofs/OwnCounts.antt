@@ -8,7 +8,8 @@ use Rattle.causal_order.proofs.Growing.{count-lengths}
 use Rattle.event_log.specs.declared.log.Event.{Event}
 use Rattle.vector_clock.specs.Events.{is_beyond}
 use Rattle.vector_clock.specs.Faults.{named_clock, goes_back, is_open, is_loop, clock_fault}
-use Rattle.vector_clock.specs.Sound.{IsSound, AddsOnlyItself, counted_before, newly_names}
+use Rattle.vector_clock.specs.Sound.{IsSound, counted_before, newly_names}
+use Rattle.vector_clock.specs.inside.Sound.{AddsOnlyItself}
 use Rattle.vector_clock.proofs.Below.{none_from, not_beyond}
 use Rattle.vector_clock.proofs.NewNames.{same_open, same_loop}
 use Rattle.vector_clock.proofs.Faultless.{passed_to_dangling, right_own}

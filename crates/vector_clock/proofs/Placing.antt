@@ -10,7 +10,7 @@ use Rattle.run_model.specs.Cut.{Cut, Clocks}
 use Rattle.run_model.specs.Consistent.{clock}
 use Rattle.causal_order.specs.Growth.{HasClock, with_row, with_clocks}
 use Rattle.causal_order.proofs.Growing.{with_clocks-push, length-with_clocks, event_fits}
-use Rattle.vector_clock.specs.BatchPlaces.{clock_in, clocks_at, own_clocks, ArePlaces}
+use Rattle.vector_clock.specs.inside.BatchPlaces.{clock_in, clocks_at, own_clocks, ArePlaces}
 
 -- ---- the places of the first i events
 

@@ -13,7 +13,8 @@ use Rattle.vector_clock.specs.declared.nodes.Target.{Target}
 use Rattle.vector_clock.specs.declared.nodes.Target.TheVariants.{Admitted, InBatch}
 use Rattle.vector_clock.specs.declared.nodes.Node.{Node}
 use Rattle.vector_clock.specs.Filled.{is_left_out}
-use Rattle.vector_clock.specs.Nodes.{event_in, IsBeforeInBatch, node_at, LooksTo, AreReaders, with_reader}
+use Rattle.vector_clock.specs.inside.Nodes.{event_in, IsBeforeInBatch, node_at, LooksTo, AreReaders}
+use Rattle.vector_clock.specs.inside.Nodes.{with_reader}
 
 -- ---- one reader more
 

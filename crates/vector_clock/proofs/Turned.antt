@@ -16,7 +16,8 @@ use Rattle.vector_clock.specs.declared.nodes.Target.TheVariants.{Admitted}
 use Rattle.vector_clock.specs.Events.{Events, EventStands, own_events, place}
 use Rattle.vector_clock.specs.Messages.{is_same, message_sent, message_received, first_place, first_send, sends}
 use Rattle.vector_clock.specs.Fill.{Place, IsThere, event_at, IsSendOf, no_event}
-use Rattle.vector_clock.specs.Nodes.{event_in, node_place, Finds, first_index, admitted_at, sent_at, send_of}
+use Rattle.vector_clock.specs.inside.Nodes.{event_in, node_place, Finds, first_index, admitted_at}
+use Rattle.vector_clock.specs.inside.Nodes.{sent_at, send_of}
 use Rattle.vector_clock.proofs.FirstPlaces.{own_same, own_other, first_kept, first_added, first_le, same_message}
 use Rattle.vector_clock.proofs.Looks.{own_len}
 

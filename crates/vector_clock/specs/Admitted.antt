@@ -1,12 +1,11 @@
 -- What is known of the clocks of a log whose events were checked so far.
-use Rattle.std.specs.Prelude.{◌≡◌, ℕ, List, ◌∷◌, ◌++◌, Result, Ok, Err}
+use Rattle.std.specs.Prelude.{◌≡◌, Result, Ok, Err}
 use Rattle.pota_base.specs.declared.fault.Refused.{Refused}
 use Rattle.pota_base.specs.declared.fault.Refused.TheVariants.{Fault, NoMemory}
-use Rattle.event_log.specs.declared.log.Event.{Event}
 use Rattle.vector_clock.specs.declared.message.Message.{Message}
 use Rattle.vector_clock.specs.declared.messages.Messages.{Messages}
 use Rattle.vector_clock.specs.declared.clocks.Clocks.{Clocks}
-use Rattle.vector_clock.specs.Events.{Events, own_events, clocks_of, place}
+use Rattle.vector_clock.specs.Events.{Events, clocks_of}
 use Rattle.vector_clock.specs.Messages.{first_send, first_receipt}
 use Rattle.vector_clock.specs.Met.{met_at}
 
@@ -14,12 +13,6 @@ use Rattle.vector_clock.specs.Met.{met_at}
 pub record HasMessages (messages : Messages) (events : Events) : Type 0 where
   pub sent : (m : Message) → (met_at messages.places m).sent ≡ first_send events m
   pub received : (m : Message) → (met_at messages.places m).received ≡ first_receipt events m
-
--- the event stands at this place among all events, behind those before it
-pub record StandsIn (before all : Events) (e : Event) (a : ℕ) : Type 0 where
-  pub place_is : a ≡ place before e
-  pub rest : List Event
-  pub split : own_events all e.process ≡ own_events before e.process ++ e ∷ rest
 
 -- the clocks are those of these events, all of which were admitted
 pub record HasAdmitted (c : Clocks) (events : Events) : Type 0 where

@@ -1,7 +1,7 @@
 -- The events of a log by process, and their vector clocks.
 use Rattle.std.specs.Prelude.{ℕ, zero, suc, ◌≡◌, ◌+◌, ◌<◌, ◌≤◌, ◌⊎◌, Bool, false, ◌||◌, nat_lt}
-use Rattle.std.specs.Prelude.{List, [], ◌∷◌}
-use Rattle.std.specs.Prelude.{length, map, get_or, set, replicate}
+use Rattle.std.specs.Prelude.{List, []}
+use Rattle.std.specs.Prelude.{length, map, get_or, replicate}
 use Rattle.std.specs.List.{AllByRecursion}
 use Rattle.run_model.specs.Cut.{Cut, Clocks, count}
 use Rattle.event_log.specs.declared.log.Event.{Event}
@@ -26,11 +26,6 @@ clocks_of events = map (map (λ (e : Event). e.clock)) events
 -- the place of an event behind these events of its process, counted from 1
 abbrev pub place : Events → Event → ℕ
 place before e = length (own_events before e.process) + 1
-
--- how many events each process has after these events more
-unfoldable pub raised : List ℕ → List Event → List ℕ
-raised lens [] = lens
-raised lens (e ∷ es) = raised (set lens e.process (get_or lens e.process 0 + 1)) es
 
 -- some number below n passes the test
 unfoldable pub some_below : ℕ → (ℕ → Bool) → Bool

@@ -3,12 +3,11 @@ pub mod Messages
 pub mod Faults
 pub mod Fill
 pub mod Filled
-pub mod Nodes
 pub mod Worked
 pub mod WorkedFills
 pub mod Sound
-pub mod BatchPlaces
 pub mod Met
 pub mod Admitted
 pub mod Faultless
 pub mod Laws
+pub mod inside

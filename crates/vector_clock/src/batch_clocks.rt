@@ -3,7 +3,7 @@ ghost use Rattle.std.specs.Prelude.{◌≡◌, ℕ, ◌-◌, ◌<◌, ◌≤◌,
 ghost use Rattle.std.specs.List.{AllByRecursion};
 ghost use Rattle.run_model.specs.Consistent.{clock};
 ghost use Rattle.causal_order.specs.Growth.{HasClock, with_clocks};
-ghost use Rattle.vector_clock.specs.BatchPlaces.{ArePlaces, own_clocks};
+ghost use Rattle.vector_clock.specs.inside.BatchPlaces.{ArePlaces, own_clocks};
 
 use event_log::Event;
 use pota_base::{List, NoMemory};
@@ -25,7 +25,7 @@ pub struct BatchClocks<'a> {
 impl<'a> Model for BatchClocks<'a> {
     ghost use Rattle.std.specs.Prelude.{List as ListOf, ℕ, [], replicate};
     ghost use Rattle.causal_order.specs.Growth.{with_clocks};
-    ghost use Rattle.vector_clock.specs.BatchPlaces.{HasPlaces};
+    ghost use Rattle.vector_clock.specs.inside.BatchPlaces.{HasPlaces};
 
     ghost Value = { ListOf (ListOf (ListOf ℕ)) };
 

@@ -4,7 +4,7 @@ ghost use Rattle.std.specs.Prelude.{OnErr};
 ghost use Rattle.run_model.specs.Cut.{lengths};
 ghost use Rattle.event_log.specs.States.{with_batch};
 ghost use Rattle.vector_clock.specs.Events.{Events, BatchFits, BatchStands, no_events, clocks_of};
-ghost use Rattle.vector_clock.specs.Events.{raised};
+ghost use Rattle.vector_clock.specs.inside.Events.{raised};
 ghost use Rattle.vector_clock.specs.Filled.{filled_batch};
 ghost use Rattle.vector_clock.specs.Faults.{batch_fault};
 ghost use Rattle.vector_clock.specs.Admitted.{HasAdmitted, HasMessages, IfFault};

@@ -4,9 +4,10 @@ ghost use Rattle.std.specs.List.{AllByRecursion};
 ghost use Rattle.run_model.specs.Cut.{lengths};
 ghost use Rattle.greatest_reach.specs.Graph.{IsGraph};
 ghost use Rattle.vector_clock.specs.Events.{EventStands};
-ghost use Rattle.vector_clock.specs.Nodes.{IsTarget, HaveTargets, AreReaders, AreStarts, AreCounts};
-ghost use Rattle.vector_clock.specs.Nodes.{HaveCounts, HaveMore, AreFilled, admitted_start};
-ghost use Rattle.vector_clock.specs.Nodes.{starts_of};
+ghost use Rattle.vector_clock.specs.inside.Nodes.{IsTarget, HaveTargets, AreReaders, AreStarts};
+ghost use Rattle.vector_clock.specs.inside.Nodes.{AreCounts};
+ghost use Rattle.vector_clock.specs.inside.Nodes.{HaveCounts, HaveMore, AreFilled, admitted_start};
+ghost use Rattle.vector_clock.specs.inside.Nodes.{starts_of};
 
 use crate::nodes::{Node, Target};
 use causal_order::Order;

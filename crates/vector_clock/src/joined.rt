@@ -9,7 +9,8 @@ ghost use Rattle.event_log.specs.LogText.{KindWithin};
 ghost use Rattle.causal_order.specs.Growth.{HasClock, with_clocks};
 ghost use Rattle.vector_clock.specs.Faults.{clock_fault as fault_of_clock, goes_back as falls_back};
 ghost use Rattle.vector_clock.specs.Faults.{is_dangling as counts_too_many};
-ghost use Rattle.vector_clock.specs.Sound.{IsSound, AreSoundUpTo, AddsOnlyItself, JoinsNamed};
+ghost use Rattle.vector_clock.specs.Sound.{IsSound};
+ghost use Rattle.vector_clock.specs.inside.Sound.{AreSoundUpTo, AddsOnlyItself, JoinsNamed};
 ghost use Rattle.vector_clock.specs.Sound.{counted_before as counted_by};
 ghost use Rattle.vector_clock.specs.Sound.{is_newly_open as is_open, is_newly_loop as is_loop};
 
@@ -33,7 +34,7 @@ pub struct Joined<'a> {
 
 impl<'a> Model for Joined<'a> {
     ghost use Rattle.std.specs.Prelude.{List, ℕ};
-    ghost use Rattle.vector_clock.specs.Sound.{joined_clocks, AreJoined};
+    ghost use Rattle.vector_clock.specs.inside.Sound.{joined_clocks, AreJoined};
 
     ghost Value = { List (List (List ℕ)) };
 

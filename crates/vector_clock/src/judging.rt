@@ -6,11 +6,14 @@ ghost use Rattle.run_model.specs.Cut.{lengths};
 ghost use Rattle.run_model.specs.Consistent.{IsOrder};
 ghost use Rattle.event_log.specs.States.{with_batch};
 ghost use Rattle.causal_order.specs.Growth.{with_clocks};
-ghost use Rattle.vector_clock.specs.Events.{Events, EventFits, BatchFits, clocks_of, raised};
+ghost use Rattle.vector_clock.specs.Events.{Events, EventFits, BatchFits, clocks_of};
+ghost use Rattle.vector_clock.specs.inside.Events.{raised};
 ghost use Rattle.vector_clock.specs.Faults.{batch_fault, clock_fault as fault_of_clock};
 ghost use Rattle.vector_clock.specs.Faults.{event_fault as fault_of_event};
-ghost use Rattle.vector_clock.specs.Sound.{IsSound, AreSoundUpTo};
-ghost use Rattle.vector_clock.specs.Admitted.{HasMessages, StandsIn};
+ghost use Rattle.vector_clock.specs.Sound.{IsSound};
+ghost use Rattle.vector_clock.specs.inside.Sound.{AreSoundUpTo};
+ghost use Rattle.vector_clock.specs.Admitted.{HasMessages};
+ghost use Rattle.vector_clock.specs.inside.Admitted.{StandsIn};
 
 use crate::joined::Joined;
 use crate::messages::Messages;

@@ -3,7 +3,8 @@ ghost use Rattle.std.specs.Prelude.{◌≡◌, false, Some, None, length, sum, I
 ghost use Rattle.std.specs.List.{AllByRecursion};
 ghost use Rattle.run_model.specs.Cut.{lengths};
 ghost use Rattle.event_log.specs.States.{with_batch, with_batches};
-ghost use Rattle.vector_clock.specs.Events.{Events, BatchStands, CanBeChecked, no_events, clocks_of};
+ghost use Rattle.vector_clock.specs.Events.{Events, BatchStands, CanBeChecked, no_events};
+ghost use Rattle.vector_clock.specs.Events.{clocks_of};
 ghost use Rattle.vector_clock.specs.Faults.{batch_fault, log_fault};
 ghost use Rattle.vector_clock.specs.Filled.{is_left_out, filled_batch, filled_log};
 ghost use Rattle.vector_clock.specs.Admitted.{HasAdmitted, IfFault};

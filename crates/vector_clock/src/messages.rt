@@ -9,11 +9,12 @@ ghost use Rattle.event_log.specs.declared.item.LogCode.TheVariants.{ReceiveEarly
 ghost use Rattle.event_log.specs.LogText.{KindWithin};
 ghost use Rattle.log_lines.specs.Reading.{choose};
 ghost use Rattle.vector_clock.specs.Events.{Events, EventFits, no_events, place as place_of};
-ghost use Rattle.vector_clock.specs.Events.{raised};
+ghost use Rattle.vector_clock.specs.inside.Events.{raised};
 ghost use Rattle.vector_clock.specs.Faults.{message_fault as fault_of_message};
 ghost use Rattle.vector_clock.specs.Messages.{first_send};
-ghost use Rattle.vector_clock.specs.Met.{is_place};
-ghost use Rattle.vector_clock.specs.Admitted.{HasMessages, StandsIn};
+ghost use Rattle.vector_clock.specs.inside.Met.{is_place};
+ghost use Rattle.vector_clock.specs.Admitted.{HasMessages};
+ghost use Rattle.vector_clock.specs.inside.Admitted.{StandsIn};
 
 use crate::message::Message;
 use crate::places::{Met, Places};

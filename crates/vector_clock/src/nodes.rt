@@ -6,13 +6,14 @@ ghost use Rattle.std.specs.Option.{option_map};
 ghost use Rattle.vector_clock.specs.declared.nodes.Target.TheVariants.{InBatch};
 ghost use Rattle.pota_base.specs.Shape.{IsShape};
 ghost use Rattle.greatest_reach.specs.Graph.{IsGraph};
-ghost use Rattle.vector_clock.specs.Events.{Events, EventStands, raised};
+ghost use Rattle.vector_clock.specs.Events.{Events, EventStands};
+ghost use Rattle.vector_clock.specs.inside.Events.{raised};
 ghost use Rattle.vector_clock.specs.Messages.{message_received, first_send, sends};
 ghost use Rattle.vector_clock.specs.Met.{met_at};
 ghost use Rattle.vector_clock.specs.Admitted.{HasMessages};
-ghost use Rattle.vector_clock.specs.Nodes.{IsTarget, IsBeforeInBatch, AreWithin, AreSends};
-ghost use Rattle.vector_clock.specs.Nodes.{admitted_at, send_of as first_send_of, AreLasts};
-ghost use Rattle.vector_clock.specs.Nodes.{AreNodes, HaveTargets, AreReaders, with_reader};
+ghost use Rattle.vector_clock.specs.inside.Nodes.{IsTarget, IsBeforeInBatch, AreWithin, AreSends};
+ghost use Rattle.vector_clock.specs.inside.Nodes.{admitted_at, send_of as first_send_of, AreLasts};
+ghost use Rattle.vector_clock.specs.inside.Nodes.{AreNodes, HaveTargets, AreReaders, with_reader};
 
 use crate::message::Message;
 use crate::messages::Messages;

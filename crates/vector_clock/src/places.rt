@@ -1,7 +1,8 @@
 //! Where each message was met first.
 ghost use Rattle.std.specs.Prelude.{◌≡◌, ◌↔◌, Some, None, IsTrue, OnOk, OnErr};
 ghost use Rattle.std.specs.Option.{option_or};
-ghost use Rattle.vector_clock.specs.Met.{nowhere, met_at, without, HasPlaces, IsNoted, IsForgotten};
+ghost use Rattle.vector_clock.specs.Met.{nowhere, met_at};
+ghost use Rattle.vector_clock.specs.inside.Met.{without, HasPlaces, IsNoted, IsForgotten};
 
 use crate::message::Message;
 use pota_base::NoMemory;

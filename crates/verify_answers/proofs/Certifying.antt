@@ -10,7 +10,8 @@ use Rattle.certificate.specs.Following.{Follows}
 use Rattle.fault_line.specs.declared.fault.Fault.TheVariants as fault
 use Rattle.verify_answers.specs.declared.answer.Answer.{Answer}
 use Rattle.verify_answers.specs.declared.answer.Answer.TheVariants.{Faulty}
-use Rattle.verify_answers.specs.Judging.{IsJudged, HasJudged, answer_of}
+use Rattle.verify_answers.specs.Judging.{IsJudged, HasJudged}
+use Rattle.verify_answers.specs.inside.Judging.{answer_of}
 
 told_so : (left : Option (List ℕ)) (lf lf' : ℕ) (v : VerifierView NodesView) (bytes : List ℕ) (t : Told) → IsTold Follows left lf lf' v [] bytes t → IsJudged left lf lf' v bytes (answer_of t)
 told_so left lf lf' v bytes (tells.Accepted truth) h = h

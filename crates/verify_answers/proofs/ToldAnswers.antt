@@ -9,7 +9,8 @@ use Rattle.fault_line.specs.Lines.{Told, line_by}
 use Rattle.verify_answers.specs.declared.answer.Answer.{Answer}
 use Rattle.verify_answers.specs.declared.answer.Answer.TheVariants.{Accepted, Refused, Faulty}
 use Rattle.verify_answers.specs.declared.answer.Verified.{Verified}
-use Rattle.verify_answers.specs.Telling.{line_of, verified_as, IsTold, HasNoLine, fault_line_of}
+use Rattle.verify_answers.specs.Telling.{line_of, verified_as, IsTold, fault_line_of}
+use Rattle.verify_answers.specs.inside.Telling.{HasNoLine}
 
 pub told_whole : (held held' : Option (List ℕ)) (of of' : ℕ) (answer : Answer) (v : Verified) → v ≡ verified_as answer → Appends held held' (line_of answer) → IsTold held held' of of' answer v
 told_whole held held' of of' (Accepted truth) v is wrote = inl (is, wrote)

@@ -7,7 +7,6 @@ use Rattle.part_pulls.specs.Observing.{clocks_seen}
 use Rattle.log_check.specs.declared.checked.CheckedLog.{CheckedLog}
 use Rattle.certificate_text.specs.Taking.{VerifierView, fresh}
 use Rattle.certificate_text.specs.Bytes.{Judged, RefusedAt}
-use Rattle.certificate_input.specs.declared.told.Told.{Told}
 use Rattle.certificate_input.specs.declared.told.Told.TheVariants as tells
 use Rattle.certificate_input.specs.Pieces.{RefusedWithin, NoneRefused}
 use Rattle.certified_nodes.specs.Nodes.{NodesView, fresh_nodes}
@@ -46,12 +45,6 @@ pub record HasJudged (left left' : Option (List ℕ)) (lf lf' : ℕ) (start : Ve
   pub consumed : Consumes left left' read
   pub later : lf ≤ lf'
   pub is : IsJudged left' lf lf' start (front ++ read) answer
-
--- what is answered where this is told of a certificate
-abbrev pub answer_of : Told → Answer
-answer_of (tells.Accepted truth) = Accepted truth
-answer_of (tells.Refused n) = Refused n
-answer_of tells.Failed = Faulty fault.Read
 
 -- the certificate is accepted or refused
 abbrev pub IsDecided : Answer → Type 0

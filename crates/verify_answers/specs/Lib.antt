@@ -1,3 +1,4 @@
 pub mod Asking
 pub mod Telling
 pub mod Judging
+pub mod inside

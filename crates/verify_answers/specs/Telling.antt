@@ -1,4 +1,5 @@
 -- What is told of an answer: its line, its status, and the line of a fault.
+-- ---- how an answer is told
 use Rattle.std.specs.Prelude.{◌≡◌, ◌⊎◌, ℕ, ◌++◌, Bool, true, false, List, [], ◌∷◌, codes}
 use Rattle.std.specs.Prelude.{Option, None, Some}
 use Rattle.std.specs.Fmt.{decimal}
@@ -12,8 +13,6 @@ use Rattle.fault_line.specs.Lines.{line_by}
 use Rattle.verify_answers.specs.declared.answer.Answer.{Answer}
 use Rattle.verify_answers.specs.declared.answer.Answer.TheVariants.{Accepted, Refused, Faulty}
 use Rattle.verify_answers.specs.declared.answer.Verified.{Verified}
-
--- ---- how an answer is told
 
 abbrev pub truth_text : Bool → List ℕ
 truth_text true = codes "true"
@@ -49,9 +48,3 @@ abbrev pub fault_line_of : Option Fault → List ℕ
 fault_line_of None = []
 fault_line_of (Some fault.Usage) = usage_line
 fault_line_of (Some f) = line_by (codes "pota_verify") (Some f)
-
--- nothing is written of the answer
-abbrev pub HasNoLine : Answer → Type 0
-HasNoLine (Accepted told) = ⊥
-HasNoLine (Refused n) = ⊥
-HasNoLine (Faulty f) = Unit {0}

@@ -7,7 +7,8 @@ ghost use Rattle.part_pulls.specs.Observing.{IsReady, clocks_seen, scope_seen};
 ghost use Rattle.certified_nodes.specs.Nodes.{AreNodes, fresh_nodes};
 ghost use Rattle.certificate.specs.Numbering.{plan_of};
 ghost use Rattle.certificate_input.specs.Telling.{IsFresh};
-ghost use Rattle.verify_answers.specs.Judging.{HasJudged, IsDecided, answer_of, formula_line};
+ghost use Rattle.verify_answers.specs.Judging.{HasJudged, IsDecided, formula_line};
+ghost use Rattle.verify_answers.specs.inside.Judging.{answer_of};
 ghost use Rattle.verify_answers.specs.Judging.{start_at};
 
 use crate::answer::Answer;

@@ -5,7 +5,8 @@ ghost use Rattle.verify_answers.specs.declared.answer.Answer.TheVariants.{Refuse
 ghost use Rattle.std.specs.Io.KnownBytes.{Appends};
 ghost use Rattle.pota_base.specs.Outside.{AppendsPrefix, HasCause};
 ghost use Rattle.fault_line.specs.Lines.{Told};
-ghost use Rattle.verify_answers.specs.Telling.{HasNoLine, IsTold, fault_line_of, line_of};
+ghost use Rattle.verify_answers.specs.Telling.{IsTold, fault_line_of, line_of};
+ghost use Rattle.verify_answers.specs.inside.Telling.{HasNoLine};
 
 use crate::answer::{Answer, Verified};
 use fault_line::{Fault, tell};

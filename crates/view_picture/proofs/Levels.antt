@@ -13,7 +13,7 @@ use Rattle.causal_order.proofs.Orders.{HasLast, has_last, all_last, is_before, n
 use Rattle.std.proofs.lemmas.List.Sums.{sum_by-cons}
 use Rattle.event_log.proofs.Keeping.{item_le_sum}
 use Rattle.view_picture.specs.Columns.{Rows, column, HasBefore, AreColumns}
-use Rattle.view_picture.specs.Levels.{MayTake, IsPlaced, ArePlaced, AreTaken}
+use Rattle.view_picture.specs.inside.Levels.{MayTake, IsPlaced, ArePlaced, AreTaken}
 
 -- an event in this column that happened before one
 pub record HasAt (o : Clocks) (rows : Rows) (i a level : ℕ) : Type 0 where

@@ -1,5 +1,5 @@
 -- What is drawn of each event, message, edge and cut.
-use Rattle.std.specs.Prelude.{ℕ, pos, ◌≤◌, ◌+◌, ◌-◌, ◌*◌, ◌/◌, min, Bool, true, false, nat_lt}
+use Rattle.std.specs.Prelude.{ℕ, pos, ◌+◌, ◌-◌, ◌*◌, ◌/◌, min, Bool, true, false, nat_lt}
 use Rattle.std.specs.Prelude.{nat_le, List}
 use Rattle.std.specs.Prelude.{[], ◌∷◌, ◌++◌, length, take, get_or, codes, Option, None, Some}
 use Rattle.std.specs.Prelude.{if◌then◌else◌}
@@ -240,10 +240,3 @@ witness_drawn f rows (witness.Always path) = path_drawn f rows path.steps path.g
 witness_drawn f rows witness.StuckStart = []
 witness_drawn f rows witness.StuckFinish = []
 witness_drawn f rows (witness.StuckPair first other) = ring f rows first ++ ring f rows other
-
--- the goal of a path is a cut of at most 32 processes
-abbrev pub HasFewProcesses : Witness → Type 0
-HasFewProcesses (witness.Reach path) = length path.goal ≤ 32
-HasFewProcesses (witness.Against path) = length path.goal ≤ 32
-HasFewProcesses (witness.Always path) = length path.goal ≤ 32
-HasFewProcesses w = Unit {0}

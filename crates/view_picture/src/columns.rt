@@ -4,7 +4,7 @@ ghost use Rattle.std.specs.Prelude.{replicate};
 ghost use Rattle.std.specs.Prelude.{IfOk, OnOk};
 ghost use Rattle.run_model.specs.Consistent.{IsConsistent};
 ghost use Rattle.view_picture.specs.Columns.{column, AreColumns};
-ghost use Rattle.view_picture.specs.Levels.{MayTake, IsPlaced, ArePlaced, AreTaken};
+ghost use Rattle.view_picture.specs.inside.Levels.{MayTake, IsPlaced, ArePlaced, AreTaken};
 ghost use Rattle.view_picture.specs.Frame.{most};
 
 use causal_order::Order;

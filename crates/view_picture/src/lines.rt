@@ -2,7 +2,7 @@
 ghost use Rattle.std.specs.Prelude.{◌≡◌, ◌+◌, ◌<◌, ◌≤◌, ◌^◌, ◌++◌, length, OnOk};
 ghost use Rattle.view_picture.specs.Drawing.{corner, corners, cut_drawn, numeral, numbered};
 ghost use Rattle.view_picture.specs.Drawing.{steps_drawn, ring, path_drawn, witness_drawn};
-ghost use Rattle.view_picture.specs.Drawing.{HasFewProcesses};
+ghost use Rattle.view_picture.specs.inside.Drawing.{HasFewProcesses};
 
 use crate::columns::Columns;
 use crate::frame::Frame;

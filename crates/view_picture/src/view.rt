@@ -5,7 +5,7 @@ ghost use Rattle.report.specs.Spelling.{IsWellFormed};
 ghost use Rattle.vector_clock.specs.Events.{clocks_of};
 ghost use Rattle.view_parts.specs.Parts.{IsReportOf};
 ghost use Rattle.view_picture.specs.Columns.{AreColumns};
-ghost use Rattle.view_picture.specs.Drawing.{HasFewProcesses};
+ghost use Rattle.view_picture.specs.inside.Drawing.{HasFewProcesses};
 ghost use Rattle.view_picture.specs.Picture.{top_of, edges_of, bounds_drawn, slice_drawn};
 ghost use Rattle.view_picture.specs.Picture.{is_drawn, first_drawn, one_drawn, body};
 ghost use Rattle.view_picture.specs.Picture.{picture, IsPictureOf};

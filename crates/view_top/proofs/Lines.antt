@@ -6,8 +6,8 @@ use Rattle.std.specs.Io.KnownBytes.{Appends}
 use Rattle.std.proofs.KnownBytes.{Appends-trans, Appends-nil}
 use Rattle.pota_base.specs.Outside.{HasCause, Rose, AppendsPrefix}
 use Rattle.fault_line.specs.Lines.{Told}
-use Rattle.view_top.specs.Faults.{report_line}
-use Rattle.view_top.specs.Telling.{Puts}
+use Rattle.view_top.specs.inside.Faults.{report_line}
+use Rattle.view_top.specs.inside.Telling.{Puts}
 
 -- a whole text, or a front of it where a write failed
 pub told_text : {T E : Type 0} (r : Result T E) (old new : Option (List ℕ)) (before now : ℕ) (text : List ℕ)

@@ -28,7 +28,7 @@ use Rattle.log_judgement.proofs.Logs.{log_due as due_of_log, due_log}
 use Rattle.log_trace.specs.declared.trace.LogTrace.{LogTrace}
 use Rattle.log_trace.specs.Judging.{without_formula, IsRefused, HasTrace, Keeps}
 use Rattle.view_top.specs.Viewing.{report_in, log_in, log_due, HasLog, IsViewIn}
-use Rattle.view_top.specs.Inputs.{HasReadLog, StopsInLog, IsViewBehind, NoReportIn, NoViewIn}
+use Rattle.view_top.specs.inside.Inputs.{HasReadLog, StopsInLog, IsViewBehind, NoReportIn, NoViewIn}
 use Rattle.view_top.specs.declared.asking.View.{View}
 use Rattle.view_top.specs.declared.fault.Fault.{Fault}
 use Rattle.view_top.specs.declared.fault.Fault.TheVariants as fault

@@ -39,7 +39,3 @@ program = codes "pota_view"
 abbrev pub line_of : Option Fault → List ℕ
 line_of None = []
 line_of (Some f) = program ++ (codes ": " ++ (cause_of f ++ 10 ∷ []))
-
--- the line of a fault of the report
-abbrev pub report_line : (line : ℕ) → List ℕ
-report_line line = line_of (Some (fault.Report (record { line = line })))

@@ -1,5 +1,4 @@
 pub mod Asking
 pub mod Faults
-pub mod Inputs
-pub mod Telling
 pub mod Viewing
+pub mod inside

@@ -1,8 +1,9 @@
 //! The one line that tells why there is no view. It takes no memory.
 ghost use Rattle.std.specs.Prelude.{◌≡◌, Some};
 ghost use Rattle.fault_line.specs.Lines.{Told, line_by};
-ghost use Rattle.view_top.specs.Faults.{line_of, program, report_line};
-ghost use Rattle.view_top.specs.Telling.{Puts};
+ghost use Rattle.view_top.specs.Faults.{line_of, program};
+ghost use Rattle.view_top.specs.inside.Faults.{report_line};
+ghost use Rattle.view_top.specs.inside.Telling.{Puts};
 
 use crate::fault::Fault;
 use fault_line::Fault as Shared;

@@ -2,7 +2,7 @@
 ghost use Rattle.std.specs.Prelude.{◌≡◌, map, string_bytes};
 ghost use Rattle.fault_line.specs.Lines.{Told};
 ghost use Rattle.view_top.specs.Faults.{line_of, exit_status};
-ghost use Rattle.view_top.specs.Inputs.{PutsView};
+ghost use Rattle.view_top.specs.inside.Inputs.{PutsView};
 ghost use Rattle.view_top.specs.Viewing.{HasViewed};
 
 use crate::asking::{View, view_asked};

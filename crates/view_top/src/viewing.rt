@@ -7,8 +7,8 @@ ghost use Rattle.report.specs.Spelling.{IsWellFormed};
 ghost use Rattle.view_parts.specs.Parts.{IsReportOf};
 ghost use Rattle.log_trace.specs.Judging.{Keeps};
 ghost use Rattle.view_top.specs.Viewing.{IsViewOf, IsViewIn};
-ghost use Rattle.view_top.specs.Inputs.{HasReadLog, StopsInLog, IsReportIn, IsViewBehind};
-ghost use Rattle.view_top.specs.Inputs.{NoReportIn, NoViewIn};
+ghost use Rattle.view_top.specs.inside.Inputs.{HasReadLog, StopsInLog, IsReportIn, IsViewBehind};
+ghost use Rattle.view_top.specs.inside.Inputs.{NoReportIn, NoViewIn};
 
 use crate::asking::View;
 use crate::fault::Fault;

@@ -26,9 +26,9 @@ use Rattle.log_answers.specs.Inputs.{due_by, TellsDueBy, StopsBy, IsVerdictBy, C
 use Rattle.whole_answers.specs.declared.places.Places.{Places}
 use Rattle.whole_answers.specs.declared.standing.Standing.{Standing}
 use Rattle.whole_answers.specs.declared.standing.Standing.TheVariants.{Whole, Faulty, Failed}
-use Rattle.whole_answers.specs.Places.{place_by, placed_cause, placed_result}
-use Rattle.whole_answers.specs.Standing.{Input, reading_by, IsWhole, HasStood}
-use Rattle.whole_answers.specs.Checking.{CanBeChecked, HasPlaced, HasStopped, ChecksStanding}
+use Rattle.whole_answers.specs.inside.Places.{place_by, placed_cause, placed_result}
+use Rattle.whole_answers.specs.inside.Standing.{Input, reading_by, IsWhole, HasStood}
+use Rattle.whole_answers.specs.inside.Checking.{CanBeChecked, HasPlaced, HasStopped, ChecksStanding}
 
 -- ---- no log stands
 

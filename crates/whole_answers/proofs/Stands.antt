@@ -36,9 +36,9 @@ use Rattle.log_sources.specs.Gathering.{sources_fault, GathersTo, Gathers}
 use Rattle.whole_answers.specs.declared.places.Places.TheVariants.{Lines, Origins}
 use Rattle.whole_answers.specs.declared.standing.Standing.{Standing}
 use Rattle.whole_answers.specs.declared.standing.Standing.TheVariants.{Whole, Faulty, Failed}
-use Rattle.whole_answers.specs.Places.{place_by}
-use Rattle.whole_answers.specs.Standing.{clocks, sources, StandsAt, StandsTo, HasStood}
-use Rattle.whole_answers.specs.Checking.{CanBeChecked}
+use Rattle.whole_answers.specs.inside.Places.{place_by}
+use Rattle.whole_answers.specs.inside.Standing.{clocks, sources, StandsAt, StandsTo, HasStood}
+use Rattle.whole_answers.specs.inside.Checking.{CanBeChecked}
 
 -- ---- records of two lines
 

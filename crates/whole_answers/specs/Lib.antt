@@ -1,3 +1,1 @@
-pub mod Places
-pub mod Standing
-pub mod Checking
+pub mod inside

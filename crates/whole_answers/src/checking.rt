@@ -6,7 +6,7 @@ ghost use Rattle.log_check.specs.Checking.{IsCheckOf};
 ghost use Rattle.log_answers.specs.Inputs.{HasCheckedBy};
 ghost use Rattle.form_readings.specs.Clocks.{clocks_reading};
 ghost use Rattle.form_readings.specs.Sources.{merged_reading};
-ghost use Rattle.whole_answers.specs.Checking.{CanBeChecked, ChecksStanding};
+ghost use Rattle.whole_answers.specs.inside.Checking.{CanBeChecked, ChecksStanding};
 
 use crate::merging::read_sources;
 use crate::records::read_records;

@@ -5,7 +5,7 @@ ghost use Rattle.log_merge.specs.Merging.{merged};
 ghost use Rattle.log_sources.specs.Reading.{CanMerge};
 ghost use Rattle.whole_answers.specs.declared.places.Places.TheVariants.{Origins};
 ghost use Rattle.whole_answers.specs.declared.standing.Standing.TheVariants.{Whole};
-ghost use Rattle.whole_answers.specs.Standing.{HasStood, sources};
+ghost use Rattle.whole_answers.specs.inside.Standing.{HasStood, sources};
 
 use crate::places::Places;
 use crate::standing::Standing;

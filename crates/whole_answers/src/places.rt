@@ -2,7 +2,7 @@
 ghost use Rattle.std.specs.Prelude.{◌≡◌};
 ghost use Rattle.form_readings.specs.Sources.{origin_at};
 ghost use Rattle.log_judgement.specs.Due.{placed};
-ghost use Rattle.whole_answers.specs.Places.{place_by, placed_result};
+ghost use Rattle.whole_answers.specs.inside.Places.{place_by, placed_result};
 
 use event_log::LogFault;
 use log_answers::{Stop, StopCause, Verdict};

@@ -1,7 +1,7 @@
 //! Records of two lines, read as a log.
 ghost use Rattle.std.specs.Prelude.{ℕ, List, IfOk, OnErr};
 ghost use Rattle.input_reading.specs.Intakes.{ReadsShort};
-ghost use Rattle.whole_answers.specs.Standing.{HasStood, StandsAt, clocks};
+ghost use Rattle.whole_answers.specs.inside.Standing.{HasStood, StandsAt, clocks};
 
 use crate::places::Places;
 use crate::standing::Standing;

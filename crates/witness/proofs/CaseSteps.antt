@@ -23,7 +23,7 @@ use Rattle.slice_graph.specs.Views.{SliceView, slice_of, IsCut}
 use Rattle.witness_kinds.specs.declared.Path.{Path}
 use Rattle.witness_kinds.specs.declared.Witness.{Witness}
 use Rattle.witness.specs.Views.{place_of, places_of, path_of, witness_of}
-use Rattle.witness.specs.Twins.{IsRunOrder, IsOperand}
+use Rattle.witness.specs.inside.Twins.{IsRunOrder, IsOperand}
 
 -- ---- the initial cut
 

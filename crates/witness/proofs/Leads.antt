@@ -19,9 +19,9 @@ use Rattle.slice_graph.specs.Views.{SliceView, slice_of, last_row}
 use Rattle.slice_graph.specs.Words.{row_words}
 use Rattle.slice_graph.specs.Fitting.{FitsOrder}
 use Rattle.slice_graph.proofs.Words.{filled_within}
-use Rattle.witness.specs.Walks.{IsNext, HasNoNext, LeadsTo}
+use Rattle.witness.specs.inside.Walks.{IsNext, HasNoNext, LeadsTo}
 use Rattle.witness.specs.Views.{place_of, places_of}
-use Rattle.witness.specs.Twins.{IsOperand}
+use Rattle.witness.specs.inside.Twins.{IsOperand}
 
 -- ---- sets in which a walk leads to the greatest cut
 

@@ -15,8 +15,8 @@ use Rattle.pota_base.specs.Shape.{HasEvent}
 use Rattle.slice_graph.specs.Views.{SliceView, slice_of, IsRow}
 use Rattle.slice_graph.specs.Words.{filled, row_words}
 use Rattle.witness.specs.Views.{place_of}
-use Rattle.witness.specs.Searches.{IsFirstOf}
-use Rattle.witness.specs.Twins.{HasLaterTwin, LastHas, IsOperand, HasFinal}
+use Rattle.witness.specs.inside.Searches.{IsFirstOf}
+use Rattle.witness.specs.inside.Twins.{HasLaterTwin, LastHas, IsOperand, HasFinal}
 use Rattle.witness.proofs.Twinned.{row_from, row_there, own_later, other_later, none_later, words_of, filled_some, filled_one}
 
 -- ---- searches

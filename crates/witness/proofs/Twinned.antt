@@ -13,7 +13,7 @@ use Rattle.run_model.proofs.SliceLemmas.{least_of_member}
 use Rattle.slice_graph.specs.Views.{SliceView, slice_of, last_row, IsRow, no_row}
 use Rattle.slice_graph.specs.Words.{filled, past_ends, row_words}
 use Rattle.slice_graph.proofs.Words.{count-past_ends}
-use Rattle.witness.specs.Twins.{HasLaterTwin, IsOperand, HasFinal}
+use Rattle.witness.specs.inside.Twins.{HasLaterTwin, IsOperand, HasFinal}
 
 -- ---- the row order
 

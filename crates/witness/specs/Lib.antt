@@ -1,4 +1,2 @@
-pub mod Walks
 pub mod Views
-pub mod Twins
-pub mod Searches
+pub mod inside

@@ -14,8 +14,8 @@ ghost use Rattle.run_model.specs.Witness.{ExistsFinally as Finally, AlwaysGlobal
 ghost use Rattle.run_model.specs.Witness.{ExistsGlobally as Globally, ExistsNext as Next};
 ghost use Rattle.slice_graph.specs.Views.{slice_of};
 ghost use Rattle.slice_graph.specs.Fitting.{FitsOrder};
-ghost use Rattle.witness.specs.Walks.{LeadsTo};
-ghost use Rattle.witness.specs.Twins.{IsRunOrder, IsOperand};
+ghost use Rattle.witness.specs.inside.Walks.{LeadsTo};
+ghost use Rattle.witness.specs.inside.Twins.{IsRunOrder, IsOperand};
 ghost use Rattle.witness.specs.Views.{path_of, place_of, witness_of, operator_of};
 
 use crate::search::first_event;

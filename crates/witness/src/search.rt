@@ -6,7 +6,7 @@ ghost use Rattle.pota_base.specs.Shape.{HasEvent};
 ghost use Rattle.run_model.specs.Cut.{lengths};
 ghost use Rattle.run_model.specs.Witness.{Place, IsPlace, IsFirst};
 ghost use Rattle.witness.specs.Views.{place_of};
-ghost use Rattle.witness.specs.Searches.{IsFirstOf};
+ghost use Rattle.witness.specs.inside.Searches.{IsFirstOf};
 
 use causal_order::Order;
 use pota_base::EventId;

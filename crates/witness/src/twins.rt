@@ -6,7 +6,7 @@ ghost use Rattle.run_model.specs.Cut.{IsWithin, lengths};
 ghost use Rattle.run_model.specs.Witness.{Departs, Shares};
 ghost use Rattle.slice_graph.specs.Views.{slice_of};
 ghost use Rattle.witness.specs.Views.{place_of};
-ghost use Rattle.witness.specs.Twins.{HasLaterTwin, LastHas, IsOperand, HasFinal};
+ghost use Rattle.witness.specs.inside.Twins.{HasLaterTwin, LastHas, IsOperand, HasFinal};
 
 use crate::search::EventTest;
 use causal_order::Order;

@@ -3,7 +3,7 @@
 ghost use Rattle.std.specs.Prelude.{◌≡◌, ℕ, ◌+◌, ◌<◌, ◌≤◌, ◌↔◌, length, IsTrue, IfOk, MatchOption};
 ghost use Rattle.run_model.specs.Cut.{Cut as CutOf, count, with_next};
 ghost use Rattle.run_model.specs.Witness.{FirstSteps};
-ghost use Rattle.witness.specs.Walks.{IsNext, HasNoNext, LeadsTo};
+ghost use Rattle.witness.specs.inside.Walks.{IsNext, HasNoNext, LeadsTo};
 ghost use Rattle.witness.specs.Views.{places_of};
 
 use cut_lattice::Cut;

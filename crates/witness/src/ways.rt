@@ -5,7 +5,7 @@ ghost use Rattle.run_model.specs.Cut.{IsWithin, count, with_next};
 ghost use Rattle.run_model.specs.Consistent.{IsConsistent};
 ghost use Rattle.run_model.specs.Slice.{Cuts};
 ghost use Rattle.slice_graph.specs.Views.{slice_of};
-ghost use Rattle.witness.specs.Twins.{IsOperand};
+ghost use Rattle.witness.specs.inside.Twins.{IsOperand};
 
 use crate::walk::Way;
 use causal_order::Order;

@@ -1,5 +1,5 @@
 use Rattle.std.proofs.Common.{◌+◌, ◌-◌, ◌*◌, ◌≤◌, length, sum}
-use Rattle.least_cut.specs.Climb.{AreMarks, AreHeld}
+use Rattle.least_cut.specs.inside.Climb.{AreMarks, AreHeld}
 use Rattle.pull_system.specs.System.{IsBelowLeast}
 use Rattle.pull_system.specs.Marks.{marked}
 use Rattle.least_cut.proofs.least.Given as goal

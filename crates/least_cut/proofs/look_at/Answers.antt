@@ -1,5 +1,5 @@
 use Rattle.std.proofs.Common.{rules, refl}
-use Rattle.least_cut.specs.Climb.IsLook.{Held, Raised}
+use Rattle.least_cut.specs.inside.Climb.IsLook.{Held, Raised}
 use Rattle.least_cut.proofs.Looks.{climb_none, climb_raised}
 use Rattle.least_cut.proofs.look_at.Goals as goal
 

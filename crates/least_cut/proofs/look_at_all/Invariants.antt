@@ -1,5 +1,5 @@
 use Rattle.std.proofs.Common.{◌≡◌, ◌+◌, ◌<◌}
-use Rattle.least_cut.specs.Climb.{IsClimb, AreHeld}
+use Rattle.least_cut.specs.inside.Climb.{IsClimb, AreHeld}
 use Rattle.least_cut.proofs.look_at_all.Given as goal
 
 abbrev pub invariant-loop-k : goal.invariant-loop-k

@@ -2,7 +2,7 @@ use Rattle.std.proofs.Common.{ap, rules, refl}
 use Rattle.rctl_parse.proofs.LeafSteps.{passes_on}
 use Rattle.rctl_class.specs.NamedParts.{disjuncts_of}
 use Rattle.rctl_parts.specs.Pieces.{disjuncts_of as parts_of}
-use Rattle.rctl_names.specs.Seen.{watched_in}
+use Rattle.rctl_names.specs.inside.Seen.{watched_in}
 use Rattle.rctl_names.proofs.Whole.{whole_fault, whole_outcome, whole_resolved}
 use Rattle.rctl_names.proofs.resolve.Goals as goal
 

@@ -1,5 +1,5 @@
 use Rattle.std.proofs.Common.{◌≡◌, ◌≤◌, ◌^◌, drop}
-use Rattle.answer_report.specs.Choosing.{first_true}
+use Rattle.answer_report.specs.inside.Choosing.{first_true}
 use Rattle.answer_report.proofs.choice.first_true.Given as goal
 
 abbrev pub invariant-loop-part : goal.invariant-loop-part

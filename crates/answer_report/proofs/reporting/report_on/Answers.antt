@@ -8,8 +8,8 @@ use Rattle.event_log.specs.declared.log.Header.{Header}
 use Rattle.report.specs.Spelling.{SliceFits}
 use Rattle.conjunctions.specs.declared.answer.PartAnswer.{PartAnswer}
 use Rattle.conjunctions.specs.Answering.{all_places}
-use Rattle.answer_report.specs.Choosing.{chosen}
-use Rattle.answer_report.specs.Showing.{HasOperand, IsSliceTold, TellAll}
+use Rattle.answer_report.specs.inside.Choosing.{chosen}
+use Rattle.answer_report.specs.inside.Showing.{HasOperand, IsSliceTold, TellAll}
 use Rattle.answer_report.proofs.Parts.{operands_fit}
 use Rattle.answer_report.proofs.Said.{says}
 use Rattle.answer_report.proofs.Formed.{formed}

@@ -1,5 +1,5 @@
 use Rattle.std.proofs.Common.{refl}
-use Rattle.answer_report.specs.Choosing.{first_false}
+use Rattle.answer_report.specs.inside.Choosing.{first_false}
 use Rattle.answer_report.proofs.Loops.{completed}
 use Rattle.answer_report.proofs.witnesses.witnesses_of_false.Goals as goal
 

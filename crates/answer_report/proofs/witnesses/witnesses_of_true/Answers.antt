@@ -1,6 +1,6 @@
 use Rattle.std.proofs.Common.{ℕ, subst, refl}
-use Rattle.answer_report.specs.Choosing.{of_disjunct}
-use Rattle.answer_report.specs.Showing.{TellAll}
+use Rattle.answer_report.specs.inside.Choosing.{of_disjunct}
+use Rattle.answer_report.specs.inside.Showing.{TellAll}
 use Rattle.answer_report.proofs.Loops.{completed}
 use Rattle.answer_report.proofs.witnesses.witnesses_of_true.Goals as goal
 

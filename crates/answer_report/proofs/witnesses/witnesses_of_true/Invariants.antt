@@ -1,7 +1,7 @@
 use Rattle.std.proofs.Common.{List, ◌++◌, drop}
 use Rattle.report_lines.specs.declared.kinds.WitnessText.{WitnessText}
-use Rattle.answer_report.specs.Choosing.{of_disjunct}
-use Rattle.answer_report.specs.Showing.{TellAll}
+use Rattle.answer_report.specs.inside.Choosing.{of_disjunct}
+use Rattle.answer_report.specs.inside.Showing.{TellAll}
 use Rattle.answer_report.proofs.witnesses.witnesses_of_true.Given as goal
 
 abbrev pub invariant-loop-part : goal.invariant-loop-part

@@ -3,7 +3,7 @@ use Rattle.std.proofs.lemmas.Bool.{OnTrue_at}
 use Rattle.certificate_lines.specs.declared.line.Line.{Line}
 use Rattle.certificate_lines.specs.declared.line.Line.TheVariants.{Row, Raise}
 use Rattle.certified_nodes.specs.Nodes.{OfPresent, with_begun_row, with_present, with_raised_row}
-use Rattle.canonical_nodes.specs.Coming.{IsNextOfRows, with_line}
+use Rattle.canonical_nodes.specs.inside.Coming.{IsNextOfRows, with_line}
 use Rattle.canonical_nodes.proofs.Steps.{may_begin, may_raise}
 use Rattle.canonical_nodes.proofs.rows.take_of_rows.Goals as goal
 

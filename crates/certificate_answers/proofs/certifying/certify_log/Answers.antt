@@ -1,4 +1,4 @@
-use Rattle.certificate_answers.specs.Certifying.{aim_for}
+use Rattle.certificate_answers.specs.inside.Certifying.{aim_for}
 use Rattle.certificate_answers.proofs.Certificates.{certified_log, not_read, whole_there}
 use Rattle.certificate_answers.proofs.certifying.certify_log.Goals as goal
 

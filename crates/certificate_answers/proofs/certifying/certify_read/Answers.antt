@@ -1,4 +1,4 @@
-use Rattle.certificate_answers.specs.Certifying.{aim_for}
+use Rattle.certificate_answers.specs.inside.Certifying.{aim_for}
 use Rattle.certificate_answers.proofs.Certificates.{seen_log}
 use Rattle.certificate_answers.proofs.certifying.certify_read.Goals as goal
 

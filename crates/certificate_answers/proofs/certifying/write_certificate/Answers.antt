@@ -1,7 +1,7 @@
 use Rattle.std.proofs.Common.{◌∙◌, ap, refl}
 use Rattle.certificate_lines.specs.Spelling.{formula_line}
 use Rattle.rctl_parts.specs.Pieces.{disjuncts_of}
-use Rattle.certificate_answers.specs.Certifying.{unwatched}
+use Rattle.certificate_answers.specs.inside.Certifying.{unwatched}
 use Rattle.certificate_answers.proofs.Certificates.{unwritten, written_so}
 use Rattle.certificate_answers.proofs.certifying.write_certificate.Goals as goal
 

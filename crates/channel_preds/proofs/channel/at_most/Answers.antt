@@ -4,7 +4,8 @@ use Rattle.std.proofs.lemmas.Result.{IfOk-weaker}
 use Rattle.pull_system.specs.declared.pull.Pull.{Pull}
 use Rattle.pull_system.specs.System.{IsPull}
 use Rattle.pull_system.specs.Pulls.{ClosedUnder}
-use Rattle.channel_preds.specs.Channels.{IsChannel, sent_at, received_at, at_most_pull}
+use Rattle.channel_preds.specs.Channels.{sent_at, received_at, at_most_pull}
+use Rattle.channel_preds.specs.inside.Channels.{IsChannel}
 use Rattle.channel_preds.proofs.Tables.{at_most_fits, at_most_closes}
 use Rattle.channel_preds.proofs.channel.at_most.Goals as goal
 

@@ -1,6 +1,7 @@
 use Rattle.std.proofs.Common.{◌<◌, ◌≤◌, ◌≡◌, length, arith, sym, subst, ◌∙◌, List, ℕ}
 use Rattle.std.specs.Prelude.{true, false}
-use Rattle.channel_preds.specs.Channels.{events_at, AreCounts}
+use Rattle.channel_preds.specs.Channels.{events_at}
+use Rattle.channel_preds.specs.inside.Channels.{AreCounts}
 use Rattle.channel_preds.proofs.Counting.{CountedSoFar, counted_more, counted_all, counts_are, length-counts_of, length-events_at, few_events}
 use Rattle.channel_preds.proofs.counted.count_along.Goals as goal
 use Rattle.channel_preds.proofs.counted.count_along.Goals.{then-has, else-has}

@@ -4,7 +4,7 @@ use Rattle.pull_system.specs.declared.pull.Pull.{Pull}
 use Rattle.pull_system.specs.System.{IsPull}
 use Rattle.rctl_parts.specs.Pieces.{Piece, piece_of}
 use Rattle.part_pulls.specs.Observing.{lens_seen}
-use Rattle.conjunctions.specs.Gathering.{AddsPulls}
+use Rattle.conjunctions.specs.inside.Gathering.{AddsPulls}
 use Rattle.conjunctions.specs.Answering.{HoldsAtFirst}
 use Rattle.part_pulls.proofs.Atoms.{atom_of}
 use Rattle.conjunctions.proofs.Parts.{atom_adds}

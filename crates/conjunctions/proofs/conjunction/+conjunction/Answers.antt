@@ -16,7 +16,7 @@ use Rattle.rctl_parts.specs.MadeFor.{EachFits, parts_count}
 use Rattle.part_pulls.specs.declared.observed.Observed.{Observed}
 use Rattle.conjunctions.specs.Rounds.{RoundView}
 use Rattle.conjunctions.specs.Settling.{AreFloors, Settles}
-use Rattle.conjunctions.specs.Beginning.{FloorFits}
+use Rattle.conjunctions.specs.inside.Beginning.{FloorFits}
 use Rattle.conjunctions.proofs.Beginning.{floor_more}
 use Rattle.conjunctions.proofs.InTurn.{settles_on}
 use Rattle.conjunctions.proofs.Settled.{slice_settled, rows_settled}
@@ -25,10 +25,11 @@ use Rattle.conjunctions.proofs.Gathering.{PartsAdded, added_none, added_more, fl
 use Rattle.conjunctions.proofs.Ending.{begins_with_order, first_pulls_are, pulls_fit, pulls_count, pulls_have_order, can_begin_by, settles_one_by, few_parts}
 use Rattle.conjunctions.specs.declared.answer.PartAnswer.{PartAnswer}
 use Rattle.part_pulls.specs.Systems.{is_atom}
-use Rattle.conjunctions.specs.Numbering.{gives_order, within, conjunctions_in}
+use Rattle.conjunctions.specs.Numbering.{within, conjunctions_in}
+use Rattle.conjunctions.specs.inside.Numbering.{gives_order}
 use Rattle.conjunctions.specs.Answering.{IsSliceOf, IsPartAnswer, place}
 use Rattle.part_pulls.specs.Observing.{clocks_seen, lens_seen, scope_seen}
-use Rattle.conjunctions.specs.Gathering.{AddsPulls, first_pulls, AddsOperator}
+use Rattle.conjunctions.specs.inside.Gathering.{AddsPulls, first_pulls, AddsOperator}
 use Rattle.part_pulls.specs.Counters.{AllRise, counters_of_parts}
 use Rattle.part_pulls.specs.Operating.{Operated, FitsProcesses}
 use Rattle.part_pulls.proofs.Rising.{temporal_rises, rises_at}

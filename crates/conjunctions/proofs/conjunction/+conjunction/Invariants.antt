@@ -1,8 +1,8 @@
 use Rattle.std.proofs.Common.{take}
 use Rattle.rctl_parts.specs.Pieces.{pieces_of}
-use Rattle.conjunctions.specs.Numbering.{gives_order}
+use Rattle.conjunctions.specs.inside.Numbering.{gives_order}
 use Rattle.part_pulls.specs.Observing.{clocks_seen}
-use Rattle.conjunctions.specs.Gathering.{first_pulls}
+use Rattle.conjunctions.specs.inside.Gathering.{first_pulls}
 use Rattle.conjunctions.proofs.Gathering.{PartsAdded}
 use Rattle.conjunctions.proofs.conjunction.+conjunction.Given as goal
 

@@ -3,7 +3,8 @@ use Rattle.std.specs.Prelude.{◌||◌}
 use Rattle.run_model.specs.Cut.{lengths}
 use Rattle.slice_graph.specs.Views.{SliceView}
 use Rattle.conjunctions.specs.declared.answer.PartAnswer.{PartAnswer}
-use Rattle.conjunctions.specs.Answering.{IsSliceOf, AddsAnswers, places_from}
+use Rattle.conjunctions.specs.Answering.{IsSliceOf, places_from}
+use Rattle.conjunctions.specs.inside.Answering.{AddsAnswers}
 use Rattle.conjunctions.specs.Settling.{AreFloors, Settles}
 use Rattle.rctl_parts.specs.Pieces.{Piece, pieces_of, disjuncts_of}
 use Rattle.std.proofs.lemmas.List.{length-map}
@@ -11,7 +12,7 @@ use Rattle.rctl_parts.specs.declared.part.Part.{Part}
 use Rattle.rctl_parts.specs.MadeFor.{AllFit, EachFits, parts_count, disjuncts_count}
 use Rattle.part_pulls.specs.Observing.{clocks_seen, lens_seen, scope_seen}
 use Rattle.conjunctions.specs.Numbering.{conjunctions_in, all_conjunctions}
-use Rattle.conjunctions.specs.Joining.{so_far}
+use Rattle.conjunctions.specs.inside.Joining.{so_far}
 use Rattle.part_pulls.specs.Counters.{AllRise, CountersRise, counters_of_parts}
 use Rattle.part_pulls.proofs.Readings.{is_order}
 use Rattle.part_pulls.proofs.Rising.{disjunct_rises}

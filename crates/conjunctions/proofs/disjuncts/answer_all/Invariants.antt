@@ -1,7 +1,7 @@
 use Rattle.std.proofs.Common.{take}
 use Rattle.rctl_parts.specs.Pieces.{disjuncts_of}
 use Rattle.part_pulls.specs.Observing.{lens_seen}
-use Rattle.conjunctions.specs.Joining.{so_far}
+use Rattle.conjunctions.specs.inside.Joining.{so_far}
 use Rattle.conjunctions.proofs.Answered.{Answered}
 use Rattle.conjunctions.proofs.disjuncts.answer_all.Given as goal
 

@@ -1,7 +1,7 @@
 use Rattle.std.proofs.Common.{◌≡◌, Option, sym, subst}
 use Rattle.slice_graph.specs.Views.{SliceView}
 use Rattle.graft.specs.Joined.{joined_views}
-use Rattle.conjunctions.specs.Joining.{so_far}
+use Rattle.conjunctions.specs.inside.Joining.{so_far}
 use Rattle.conjunctions.proofs.Answered.{first_alone}
 use Rattle.conjunctions.proofs.disjuncts.join_disjunct.Goals as goal
 

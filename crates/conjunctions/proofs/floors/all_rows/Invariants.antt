@@ -1,4 +1,4 @@
-use Rattle.conjunctions.specs.Beginning.{AreWithin}
+use Rattle.conjunctions.specs.inside.Beginning.{AreWithin}
 use Rattle.conjunctions.proofs.floors.all_rows.Given as goal
 
 abbrev pub invariant-loop-process : goal.invariant-loop-process

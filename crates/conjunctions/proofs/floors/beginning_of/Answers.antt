@@ -1,6 +1,6 @@
 use Rattle.std.proofs.Common.{Bool, subst}
 use Rattle.run_model.specs.Cut.{lengths}
-use Rattle.conjunctions.specs.Settling.{IsFloorOf}
+use Rattle.conjunctions.specs.inside.Settling.{IsFloorOf}
 use Rattle.conjunctions.proofs.floors.beginning_of.Goals as goal
 
 pub beginning_of_atoms-requires : goal.beginning_of_atoms-requires

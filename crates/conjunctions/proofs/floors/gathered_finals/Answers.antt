@@ -1,5 +1,5 @@
 use Rattle.std.proofs.Common.{Bool, sym, subst}
-use Rattle.conjunctions.specs.Beginning.{GatheredFinals}
+use Rattle.conjunctions.specs.inside.Beginning.{GatheredFinals}
 use Rattle.conjunctions.proofs.floors.gathered_finals.Goals as goal
 
 pub returns-then-alone : goal.returns-then-alone

@@ -1,6 +1,6 @@
 use Rattle.std.proofs.Common.{take, sym, ◌∙◌, ap}
 use Rattle.rctl_parts.specs.Pieces.{piece_of, pieces_of}
-use Rattle.conjunctions.specs.Numbering.{gives_order}
+use Rattle.conjunctions.specs.inside.Numbering.{gives_order}
 use Rattle.part_pulls.proofs.Taken.{splits_at, taken_more}
 use Rattle.conjunctions.proofs.Ordering.{some_gives, none_and_one}
 use Rattle.conjunctions.proofs.kinds.give_order.Goals as goal

@@ -9,8 +9,9 @@ use Rattle.pull_system.specs.Rows.{RowsView, AreLeastRows}
 use Rattle.bound_table.specs.Views.{SeatView}
 use Rattle.raise_machine.specs.Bounds.{AreBounds}
 use Rattle.conjunctions.specs.Counting.{first_of, floor_words}
-use Rattle.conjunctions.specs.Settling.{IsFloorOf}
-use Rattle.conjunctions.specs.Beginning.{GatheredView, BeginsAtoms, BeginsOthers, FinalsOfAtoms, FinalsOfOthers}
+use Rattle.conjunctions.specs.inside.Settling.{IsFloorOf}
+use Rattle.conjunctions.specs.inside.Beginning.{GatheredView, BeginsAtoms, BeginsOthers}
+use Rattle.conjunctions.specs.inside.Beginning.{FinalsOfAtoms, FinalsOfOthers}
 use Rattle.slice_workers.specs.Reaching.{AreFinal}
 use Rattle.slice_workers.proofs.Passes.{sum-left}
 use Rattle.conjunctions.proofs.Finals.{finals_are}

@@ -1,5 +1,6 @@
 use Rattle.std.proofs.Common.{◌≡◌, ℕ, ◌<◌, false, take}
-use Rattle.counter_preds.specs.Falls.{value_now, behind_batch, falls_at}
+use Rattle.counter_preds.specs.Falls.{value_now, behind_batch}
+use Rattle.counter_preds.specs.inside.Falls.{falls_at}
 use Rattle.counter_preds.proofs.falls.first_lowering.Given as goal
 
 abbrev pub invariant-loop-place : goal.invariant-loop-place

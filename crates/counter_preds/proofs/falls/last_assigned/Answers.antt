@@ -4,7 +4,7 @@ use Rattle.std.specs.Prelude.{FitsSigned}
 use Rattle.std.proofs.lemmas.Int.{to_z-of_z}
 use Rattle.std.proofs.lemmas.List.{take_all}
 use Rattle.event_log.specs.declared.log.Assign.{Assign}
-use Rattle.counter_preds.specs.Falls.{assigned_value}
+use Rattle.counter_preds.specs.inside.Falls.{assigned_value}
 use Rattle.counter_preds.proofs.Lowering.{assigned_more}
 use Rattle.counter_preds.proofs.falls.last_assigned.Goals as goal
 

@@ -1,5 +1,5 @@
 use Rattle.std.proofs.Common.{◌≡◌, take}
-use Rattle.counter_preds.specs.Falls.{assigned_value}
+use Rattle.counter_preds.specs.inside.Falls.{assigned_value}
 use Rattle.counter_preds.proofs.falls.last_assigned.Given as goal
 
 abbrev pub invariant-loop-assign : goal.invariant-loop-assign

@@ -3,7 +3,7 @@ use Rattle.rctl_parts.specs.Exprs.{Expr, expr_of}
 use Rattle.rctl_parts.specs.declared.expr.LocalExpr.TheVariants as local_expr
 use Rattle.rctl_parts.specs.declared.expr.LocalExpr.TheViews.{the_lemmas}
 use Rattle.rctl_parts.proofs.Folds.{expr-Not, expr-And, expr-Or}
-use Rattle.local_preds.specs.Rows.{IsReadableIn}
+use Rattle.local_preds.specs.inside.Rows.{IsReadableIn}
 use Rattle.local_preds.proofs.holding.+truth.Goals as goal
 
 pub holds-holds-requires : goal.holds-holds-requires

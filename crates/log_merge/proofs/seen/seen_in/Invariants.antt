@@ -1,5 +1,6 @@
 use Rattle.std.proofs.Common.{◌≡◌, drop}
-use Rattle.log_merge.specs.Sources.{own_event_lines, seen_after, all_events}
+use Rattle.log_merge.specs.Sources.{own_event_lines, all_events}
+use Rattle.log_merge.specs.inside.Sources.{seen_after}
 use Rattle.log_merge.proofs.seen.seen_in.Given as goal
 
 abbrev pub invariant-loop-batch : goal.invariant-loop-batch

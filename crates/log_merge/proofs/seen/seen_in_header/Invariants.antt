@@ -1,6 +1,7 @@
 use Rattle.std.proofs.Common.{◌≡◌, drop}
 use Rattle.log_merge.specs.declared.seen.Seen.TheVariants.{Nothing}
-use Rattle.log_merge.specs.Sources.{own_vars_lines, seen_after}
+use Rattle.log_merge.specs.Sources.{own_vars_lines}
+use Rattle.log_merge.specs.inside.Sources.{seen_after}
 use Rattle.log_merge.proofs.seen.seen_in_header.Given as goal
 
 abbrev pub invariant-loop-i : goal.invariant-loop-i

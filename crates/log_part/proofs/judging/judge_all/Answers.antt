@@ -3,7 +3,7 @@ use Rattle.std.proofs.Common.{◌≡◌, Bool, ◌∷◌, [], rules, sym, ◌∙
 use Rattle.log_judgement.specs.Judgement.{Judgement, judge, judged}
 use Rattle.log_check.specs.Aims.{Aim, rules_of}
 use Rattle.log_check.specs.Checking.{IsCheckOf, IsRefusedAs, MayFollow}
-use Rattle.log_part.specs.Reading.{JudgesTo}
+use Rattle.log_part.specs.inside.Reading.{JudgesTo}
 use Rattle.std.proofs.lemmas.List.{nil_from_length}
 use Rattle.log_part.proofs.ItemSteps.{begins, may_take, goes_on, refused_so, stops, all_done}
 use Rattle.log_part.proofs.judging.judge_all.Goals as goal

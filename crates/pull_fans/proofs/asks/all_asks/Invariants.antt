@@ -1,5 +1,5 @@
 use Rattle.std.proofs.Common.{◌≡◌, ◌+◌, ◌<◌, ℕ, [], length, slice_index, slice_index_or}
-use Rattle.pull_fans.specs.Asks.{AreAskRows}
+use Rattle.pull_fans.specs.inside.Asks.{AreAskRows}
 use Rattle.pull_fans.specs.Fans.{pulls_of_fans}
 use Rattle.pull_fans.proofs.asks.all_asks.Given as goal
 

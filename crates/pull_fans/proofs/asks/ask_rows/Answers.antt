@@ -1,7 +1,7 @@
 use Rattle.std.proofs.Common.{rules, arith, ◌≡◌, ℕ, ◌+◌, ◌<◌, List, length, get_or, take, sym, subst, ◌∙◌}
 use Rattle.pull_system.specs.declared.pull.Pull.{Pull}
 use Rattle.pull_fans.specs.Fans.{pulls_of_fans}
-use Rattle.pull_fans.specs.Asks.{AreAskRows, AreRaised}
+use Rattle.pull_fans.specs.inside.Asks.{AreAskRows, AreRaised}
 use Rattle.pull_fans.proofs.Raising.{ask_rows_more, ask_rows_other, written_back}
 use Rattle.pull_fans.proofs.Placing.{item_is, pulls_more, fan_fits}
 use Rattle.pull_fans.proofs.asks.ask_rows.Goals as goal

@@ -1,5 +1,5 @@
 use Rattle.std.proofs.Common.{◌+◌, slice_index, take}
-use Rattle.pull_fans.specs.Asks.{AreAskRows}
+use Rattle.pull_fans.specs.inside.Asks.{AreAskRows}
 use Rattle.pull_fans.specs.Fans.{pulls_of_fans}
 use Rattle.pull_fans.proofs.asks.ask_rows.Given as goal
 

@@ -1,7 +1,7 @@
 use Rattle.std.proofs.Common.{rules, ◌≡◌, ◌<◌, List, length, subst, sym, take}
 use Rattle.pull_system.specs.declared.pull.Pull.{Pull}
 use Rattle.pull_fans.specs.Fans.{pulls_of_fans}
-use Rattle.pull_fans.specs.Places.{ArePlaces, fan_at}
+use Rattle.pull_fans.specs.inside.Places.{ArePlaces, fan_at}
 use Rattle.pull_fans.proofs.Placing.{item_is, pulls_more}
 use Rattle.pull_fans.proofs.places.places_of.Goals as goal
 

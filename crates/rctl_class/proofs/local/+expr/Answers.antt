@@ -2,8 +2,9 @@ use Rattle.std.proofs.Common.{◌∷◌, [], map, sym, ap, ◌∙◌}
 use Rattle.std.proofs.lemmas.List.{map-append}
 use Rattle.rctl_class.specs.NamedParts.{expr_of, exprs}
 use Rattle.rctl_class.specs.Nodes.{node_of, nodes_of}
-use Rattle.rctl_class.specs.Seen.{expr_seen, name_seen, some_if}
-use Rattle.rctl_class.specs.Walk.{is_over, expr_from, exprs_from}
+use Rattle.rctl_class.specs.inside.Seen.{expr_seen, name_seen, some_if}
+use Rattle.rctl_class.specs.Walk.{expr_from, exprs_from}
+use Rattle.rctl_class.specs.inside.Walk.{is_over}
 use Rattle.rctl_class.proofs.Locals.{absent, present}
 use Rattle.rctl_class.proofs.Members.{over_more, over_fails, exprs_more}
 use Rattle.rctl_class.proofs.local.+expr.Goals as goal

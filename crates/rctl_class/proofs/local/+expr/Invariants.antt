@@ -1,8 +1,9 @@
 use Rattle.std.proofs.Common.{◌≡◌, map, take, true}
 use Rattle.rctl_class.specs.NamedParts.{expr_of, exprs}
 use Rattle.rctl_class.specs.Nodes.{node_of, nodes_of}
-use Rattle.rctl_class.specs.Seen.{name_seen}
-use Rattle.rctl_class.specs.Walk.{all_over, exprs_from}
+use Rattle.rctl_class.specs.inside.Seen.{name_seen}
+use Rattle.rctl_class.specs.Walk.{exprs_from}
+use Rattle.rctl_class.specs.inside.Walk.{all_over}
 use Rattle.rctl_class.proofs.local.+expr.Given as goal
 
 abbrev pub invariant-exprs_at-members : goal.invariant-exprs_at-members

@@ -1,6 +1,6 @@
 use Rattle.std.proofs.Common.{sym, ap, ◌∙◌}
 use Rattle.rctl_class.specs.Nodes.{node_of}
-use Rattle.rctl_class.specs.Seen.{place_seen}
+use Rattle.rctl_class.specs.inside.Seen.{place_seen}
 use Rattle.rctl_class.specs.Uses.{uses_of}
 use Rattle.rctl_class.specs.Walk.{first_place}
 use Rattle.rctl_class.proofs.Folds.{node-Until}

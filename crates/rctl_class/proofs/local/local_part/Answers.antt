@@ -1,8 +1,9 @@
 use Rattle.std.proofs.Common.{Some, sym, ap, ◌∙◌}
 use Rattle.rctl_class.specs.NamedParts.{expr_of}
 use Rattle.rctl_class.specs.Nodes.{node_of}
-use Rattle.rctl_class.specs.Seen.{expr_seen, name_seen, some_if}
-use Rattle.rctl_class.specs.Walk.{is_over, expr_from, local_part}
+use Rattle.rctl_class.specs.inside.Seen.{expr_seen, name_seen, some_if}
+use Rattle.rctl_class.specs.Walk.{expr_from, local_part}
+use Rattle.rctl_class.specs.inside.Walk.{is_over}
 use Rattle.rctl_class.proofs.Folds.{piece-Local}
 use Rattle.rctl_class.proofs.Locals.{local_test, made_local, absent, present}
 use Rattle.rctl_class.proofs.local.local_part.Goals as goal

@@ -4,7 +4,7 @@ use Rattle.rctl_parse.proofs.LeafSteps.{passes_on}
 use Rattle.run_model.specs.Class.{is_local}
 use Rattle.rctl_class.specs.NamedParts.{piece_of, pieces_of}
 use Rattle.rctl_class.specs.Nodes.{node_of, formula_of, under, stepping}
-use Rattle.rctl_class.specs.Seen.{part_seen}
+use Rattle.rctl_class.specs.inside.Seen.{part_seen}
 use Rattle.rctl_class.specs.Walk.{local_part}
 use Rattle.rctl_class.proofs.Folds.{node-Leaf, node-Temporal, node-Next}
 use Rattle.rctl_class.proofs.Locals.{absent, present, local_free, local_parts, leaf_alone, under_made, next_made}

@@ -3,7 +3,7 @@ use Rattle.rctl_parse.proofs.LeafSteps.{passes_on}
 use Rattle.run_model.specs.Class.{is_local}
 use Rattle.rctl_class.specs.NamedParts.{piece_of, disjuncts_of}
 use Rattle.rctl_class.specs.Nodes.{node_of, formula_of}
-use Rattle.rctl_class.specs.Seen.{part_seen}
+use Rattle.rctl_class.specs.inside.Seen.{part_seen}
 use Rattle.rctl_class.specs.Walk.{local_part}
 use Rattle.rctl_class.proofs.Locals.{present, local_free, local_disjuncts}
 use Rattle.rctl_class.proofs.Members.{free_more, fault_found, disjuncts_more}

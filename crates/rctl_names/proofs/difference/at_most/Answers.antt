@@ -1,6 +1,6 @@
 use Rattle.std.specs.Int.{w128}
 use Rattle.std.proofs.lemmas.Int.{to_z-of_z}
-use Rattle.rctl_names.specs.Seen.{header_names}
+use Rattle.rctl_names.specs.inside.Seen.{header_names}
 use Rattle.rctl_names.proofs.Made.{at_most_made}
 use Rattle.rctl_names.proofs.difference.at_most.Goals as goal
 

@@ -4,9 +4,9 @@ use Rattle.rctl_parse.proofs.LeafSteps.{passes_on}
 use Rattle.rctl_class.specs.NamedParts as named
 use Rattle.rctl_class.specs.NamedParts.{expr_of as named_of, exprs as named_list}
 use Rattle.rctl_parts.specs.Exprs.{expr_of, exprs}
-use Rattle.rctl_names.specs.Numbers.{Watched, all_local_names}
-use Rattle.rctl_names.specs.Resolving.{AreExprsIn, fault_on}
-use Rattle.rctl_names.specs.Seen.{variables_on, watched_in}
+use Rattle.rctl_names.specs.inside.Numbers.{Watched, all_local_names}
+use Rattle.rctl_names.specs.inside.Resolving.{AreExprsIn, fault_on}
+use Rattle.rctl_names.specs.inside.Seen.{variables_on, watched_in}
 use Rattle.rctl_names.proofs.Joined.{taken_split, taken_more, after_names, expr_fails, expr_passes, expr_after, exprs_more}
 use Rattle.rctl_names.proofs.exprs.+expr.Goals as goal
 

@@ -4,9 +4,9 @@ use Rattle.rctl_parse.proofs.LeafSteps.{passes_on}
 use Rattle.rctl_class.specs.NamedParts as named
 use Rattle.rctl_class.specs.NamedParts.{piece_of as named_of, pieces as named_operand, pieces_of as named_list}
 use Rattle.rctl_parts.specs.Pieces.{piece_of, pieces, pieces_of}
-use Rattle.rctl_names.specs.Numbers.{part_fault, operand_fault, part_after}
-use Rattle.rctl_names.specs.Resolving.{ArePiecesIn}
-use Rattle.rctl_names.specs.Seen.{names_in, watched_in}
+use Rattle.rctl_names.specs.inside.Numbers.{part_fault, operand_fault, part_after}
+use Rattle.rctl_names.specs.inside.Resolving.{ArePiecesIn}
+use Rattle.rctl_names.specs.inside.Seen.{names_in, watched_in}
 use Rattle.rctl_names.proofs.Joined.{taken_split, taken_more, piece_fails, piece_passes, piece_after, pieces_more}
 use Rattle.rctl_names.proofs.Made.{same_names}
 use Rattle.rctl_names.proofs.parts.+part.Goals as goal

@@ -4,9 +4,10 @@ use Rattle.rctl_parse.proofs.LeafSteps.{passes_on}
 use Rattle.rctl_class.specs.NamedParts as named
 use Rattle.rctl_class.specs.NamedParts.{pieces as named_operand, pieces_of as named_list, disjuncts_of as named_disjuncts}
 use Rattle.rctl_parts.specs.Pieces.{pieces_of, disjuncts_of}
-use Rattle.rctl_names.specs.Numbers.{disjuncts_fault, operand_fault, operand_after}
-use Rattle.rctl_names.specs.Resolving.{AreDisjunctsIn, piece_in, pieces_in}
-use Rattle.rctl_names.specs.Seen.{names_in, watched_in}
+use Rattle.rctl_names.specs.inside.Numbers.{disjuncts_fault, operand_fault, operand_after}
+use Rattle.rctl_names.specs.Resolving.{piece_in, pieces_in}
+use Rattle.rctl_names.specs.inside.Resolving.{AreDisjunctsIn}
+use Rattle.rctl_names.specs.inside.Seen.{names_in, watched_in}
 use Rattle.rctl_names.proofs.Joined.{taken_split, taken_more, disjunct_fails, disjunct_passes, disjunct_after}
 use Rattle.rctl_names.proofs.Made.{still_same_names, listed_in}
 use Rattle.rctl_names.proofs.parts.resolve_disjuncts.Goals as goal

@@ -1,5 +1,6 @@
 use Rattle.std.proofs.Common.{arith, map}
-use Rattle.slice_graph.specs.Edges.{edge_of, edge_by}
+use Rattle.slice_graph.specs.Edges.{edge_of}
+use Rattle.slice_graph.specs.inside.Edges.{edge_by}
 use Rattle.slice_graph.proofs.Pairs.{flat_next}
 use Rattle.slice_graph.proofs.edges.push_edges_of.Goals as goal
 

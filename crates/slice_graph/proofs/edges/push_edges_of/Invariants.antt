@@ -1,6 +1,7 @@
 use Rattle.std.proofs.Common.{◌≡◌, ◌++◌, map, flat_map}
 use Rattle.std.specs.List.{range_with_len}
-use Rattle.slice_graph.specs.Edges.{edge_of, edge_by}
+use Rattle.slice_graph.specs.Edges.{edge_of}
+use Rattle.slice_graph.specs.inside.Edges.{edge_by}
 use Rattle.slice_graph.proofs.edges.push_edges_of.Given as goal
 
 abbrev pub invariant-loop-process : goal.invariant-loop-process

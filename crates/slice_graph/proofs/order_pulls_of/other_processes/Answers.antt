@@ -1,4 +1,4 @@
-use Rattle.slice_graph.specs.PullLists.{other}
+use Rattle.slice_graph.specs.inside.PullLists.{other}
 use Rattle.slice_graph.proofs.Pairs.{entry_more}
 use Rattle.slice_graph.proofs.order_pulls_of.other_processes.Goals as goal
 

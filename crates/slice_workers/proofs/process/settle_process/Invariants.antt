@@ -1,7 +1,8 @@
 use Rattle.std.proofs.Common.{◌+◌, ◌-◌, ◌*◌, ◌≤◌, length, sum}
 use Rattle.slice_workers.specs.Calls.{IsPaid}
-use Rattle.slice_workers.specs.Reaching.{IsReached, ReachesFirst}
-use Rattle.slice_workers.specs.Settling.{HasOnlyRisen}
+use Rattle.slice_workers.specs.Reaching.{ReachesFirst}
+use Rattle.slice_workers.specs.inside.Reaching.{IsReached}
+use Rattle.slice_workers.specs.inside.Settling.{HasOnlyRisen}
 use Rattle.slice_workers.proofs.Reached.{IsBefore}
 use Rattle.slice_workers.proofs.process.settle_process.Given as goal
 

@@ -1,8 +1,8 @@
 use Rattle.std.proofs.Common.{◌≡◌, vec_len}
 use Rattle.std.specs.Prelude.{All}
 use Rattle.pull_system.specs.Vector.{IsAtMost}
-use Rattle.slice_workers.specs.Jobs.{IsDone}
-use Rattle.slice_workers.specs.Reaching.{AreHanded}
+use Rattle.slice_workers.specs.inside.Jobs.{IsDone}
+use Rattle.slice_workers.specs.inside.Reaching.{AreHanded}
 use Rattle.slice_workers.proofs.threads.meet_all.Given as goal
 
 abbrev pub invariant-loop-done : goal.invariant-loop-done

@@ -1,7 +1,7 @@
 use Rattle.std.proofs.Common.{subst, sym, ◌∙◌, List, ℕ, true, false, get_or, ap, inl, inr}
 use Rattle.pull_system.specs.System.{SystemView}
 use Rattle.pull_system.proofs.Climbing.{set_case}
-use Rattle.slice_workers.specs.Reaching.{HasReachedRows}
+use Rattle.slice_workers.specs.inside.Reaching.{HasReachedRows}
 use Rattle.slice_workers.proofs.Passes.{passed_none, passed_on}
 use Rattle.slice_workers.proofs.workers.claim_one.Goals as goal
 

@@ -1,6 +1,6 @@
 use Rattle.std.proofs.Common.{ℕ, ◌≡◌, ◌≤◌, false, slice_index_or}
-use Rattle.slice_workers.specs.Reaching.{HasReachedRows}
-use Rattle.slice_workers.specs.Settling.{HasSettled}
+use Rattle.slice_workers.specs.inside.Reaching.{HasReachedRows}
+use Rattle.slice_workers.specs.inside.Settling.{HasSettled}
 use Rattle.slice_workers.proofs.workers.settle_claimed.Given as goal
 
 abbrev pub invariant-loop-process : goal.invariant-loop-process

@@ -6,7 +6,7 @@ use Rattle.run_model.specs.Cut.{max_cut, lengths}
 use Rattle.run_model.specs.Operators.{raised}
 use Rattle.slice_graph.specs.Views.{SliceView, IsCut}
 use Rattle.slice_graph.proofs.Building.{BuiltBy, IsRowOf, built_agrees}
-use Rattle.temporal_slice.specs.Operands.{operand}
+use Rattle.temporal_slice.specs.inside.Operands.{operand}
 use Rattle.temporal_slice.proofs.Rows.{consistent_cut, event_pushed}
 use Rattle.temporal_slice.proofs.raised.cuts_from.Goals as goal
 

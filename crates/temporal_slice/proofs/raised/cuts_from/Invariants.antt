@@ -3,7 +3,7 @@ use Rattle.std.specs.Option.{option_copied}
 use Rattle.run_model.specs.Cut.{lengths}
 use Rattle.run_model.specs.Operators.{raised}
 use Rattle.slice_graph.proofs.Building.{BuiltBy, IsRowOf}
-use Rattle.temporal_slice.specs.Operands.{operand}
+use Rattle.temporal_slice.specs.inside.Operands.{operand}
 use Rattle.temporal_slice.proofs.raised.cuts_from.Given as goal
 
 abbrev pub invariant-loop-row : goal.invariant-loop-row

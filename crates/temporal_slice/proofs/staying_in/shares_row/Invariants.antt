@@ -1,6 +1,6 @@
 use Rattle.std.proofs.Common.{ℕ, ◌<◌}
 use Rattle.run_model.specs.Cut.{count}
-use Rattle.temporal_slice.specs.Operands.{IsInRow}
+use Rattle.temporal_slice.specs.inside.Operands.{IsInRow}
 use Rattle.temporal_slice.proofs.staying_in.shares_row.Given as goal
 
 abbrev pub invariant-loop-process : goal.invariant-loop-process

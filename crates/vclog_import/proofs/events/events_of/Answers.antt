@@ -3,8 +3,8 @@ use Rattle.std.specs.Borrow.{Bor}
 use Rattle.log_lines.specs.Names.{are_distinct}
 use Rattle.vclog_import.specs.declared.fault.ImportFault.{ImportFault}
 use Rattle.vclog_import.specs.Faults.{earlier}
-use Rattle.vclog_import.specs.Reading.{records}
-use Rattle.vclog_import.specs.Scans.{hosts_in}
+use Rattle.vclog_import.specs.inside.Reading.{records}
+use Rattle.vclog_import.specs.inside.Scans.{hosts_in}
 use Rattle.vclog_import.proofs.HostLaws.{hosts_are_distinct}
 use Rattle.vclog_import.proofs.MadeSteps.{making_all, bad_line_here, unknown_line_here, line_more, line_host, lines_past}
 use Rattle.std.specs.Prelude.{Option, None}

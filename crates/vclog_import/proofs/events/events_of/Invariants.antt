@@ -1,5 +1,5 @@
-use Rattle.vclog_import.specs.Reading.{records}
-use Rattle.vclog_import.specs.Scans.{hosts_in}
+use Rattle.vclog_import.specs.inside.Reading.{records}
+use Rattle.vclog_import.specs.inside.Scans.{hosts_in}
 use Rattle.vclog_import.proofs.MadeSteps.{Making}
 use Rattle.vclog_import.proofs.events.events_of.Given as goal
 

@@ -1,6 +1,6 @@
 use Rattle.std.proofs.Common.{◌≡◌, drop}
-use Rattle.vclog_import.specs.Reading.{records}
-use Rattle.vclog_import.specs.Scans.{first_bad_clock}
+use Rattle.vclog_import.specs.inside.Reading.{records}
+use Rattle.vclog_import.specs.inside.Scans.{first_bad_clock}
 use Rattle.vclog_import.proofs.events.first_bad_clock.Given as goal
 
 abbrev pub invariant-loop-line : goal.invariant-loop-line

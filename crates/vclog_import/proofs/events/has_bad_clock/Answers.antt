@@ -1,6 +1,6 @@
 use Rattle.std.proofs.Common.{sym, ap, ◌∙◌}
 use Rattle.std.specs.Prelude.{is_some}
-use Rattle.vclog_import.specs.Reading.{record_of}
+use Rattle.vclog_import.specs.inside.Reading.{record_of}
 use Rattle.vclog_import.proofs.LineLists.{bad_where_bad, told_bad}
 use Rattle.vclog_import.proofs.events.has_bad_clock.Goals as goal
 

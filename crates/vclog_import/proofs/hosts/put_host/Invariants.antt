@@ -1,5 +1,5 @@
 use Rattle.std.proofs.Common.{◌≡◌}
-use Rattle.vclog_import.specs.Scans.{hosts_in}
+use Rattle.vclog_import.specs.inside.Scans.{hosts_in}
 use Rattle.vclog_import.proofs.Inserting.{Walks}
 use Rattle.vclog_import.proofs.hosts.put_host.Given as goal
 

@@ -6,10 +6,11 @@ use Rattle.std.proofs.lemmas.Result.{err_from_is_err_and}
 use Rattle.vclog_import.specs.declared.host_lines.HostLine.{HostLine}
 use Rattle.event_log.specs.declared.log.Event.{Event}
 use Rattle.vclog_import.specs.Faults.{fault_of}
-use Rattle.vclog_import.specs.Hosts.{hosts_of, IsNamed}
+use Rattle.vclog_import.specs.Hosts.{hosts_of}
+use Rattle.vclog_import.specs.inside.Hosts.{IsNamed}
 use Rattle.vclog_import.specs.Imported.{header_of, events_from}
-use Rattle.vclog_import.specs.Reading.{records}
-use Rattle.vclog_import.specs.Scans.{hosts_in, first_bad_clock, fault_with, IsFine}
+use Rattle.vclog_import.specs.inside.Reading.{records}
+use Rattle.vclog_import.specs.inside.Scans.{hosts_in, first_bad_clock, fault_with, IsFine}
 use Rattle.vclog_import.proofs.Fits.{hosts_are_named}
 use Rattle.vclog_import.proofs.ImportSteps.{faulty, lines_fine, fault_left, hosts_left, log_is, carried}
 use Rattle.vclog_import.proofs.importing.import.Goals as goal

@@ -1,7 +1,7 @@
 use Rattle.std.proofs.Common.{◌≡◌, drop}
 use Rattle.std.specs.List.{list_any}
 use Rattle.vclog_import.specs.Hosts.{Host, do_clash}
-use Rattle.vclog_import.specs.Scans.{hosts_in}
+use Rattle.vclog_import.specs.inside.Scans.{hosts_in}
 use Rattle.vclog_import.proofs.names.clashes.Given as goal
 
 abbrev pub invariant-loop-other : goal.invariant-loop-other

@@ -6,7 +6,7 @@ use Rattle.serde_json.specs.View.{view, members_view}
 use Rattle.serde_json.specs.declared.value.Value.{Value}
 use Rattle.log_lines.specs.Names.{place_of}
 use Rattle.vclog_import.specs.Clock.{all_known}
-use Rattle.vclog_import.specs.Scans.{hosts_in}
+use Rattle.vclog_import.specs.inside.Scans.{hosts_in}
 use Rattle.vclog_import.proofs.Filling.{fill, number_in, filled, fresh, fill_found, fill_missing, fill_none, known_found, known_zero, unknown_key, and_none}
 use Rattle.vclog_import.proofs.rows.counts_of.Goals as goal
 

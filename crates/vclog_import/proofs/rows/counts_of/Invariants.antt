@@ -2,7 +2,7 @@ use Rattle.std.proofs.Common.{◌≡◌, length}
 use Rattle.std.specs.Prelude.{◌&&◌}
 use Rattle.serde_json.specs.View.{members_view}
 use Rattle.vclog_import.specs.Clock.{all_known}
-use Rattle.vclog_import.specs.Scans.{hosts_in}
+use Rattle.vclog_import.specs.inside.Scans.{hosts_in}
 use Rattle.vclog_import.proofs.Filling.{fill}
 use Rattle.vclog_import.proofs.rows.counts_of.Given as goal
 

@@ -1,6 +1,6 @@
 use Rattle.std.proofs.Common.{◌≡◌, ◌-◌, ◌∙◌, [], length, take, get_or, ap, sym, arith}
 use Rattle.std.specs.Prelude.{ℕ}
-use Rattle.vector_clock.specs.BatchPlaces.{own_clocks}
+use Rattle.vector_clock.specs.inside.BatchPlaces.{own_clocks}
 use Rattle.vector_clock.proofs.Placing.{one_seen, none_seen, seen_clock}
 use Rattle.vector_clock.proofs.batch_clocks.clock_among.Goals as goal
 use Rattle.vector_clock.proofs.batch_clocks.clock_among.Goals.{then-event-process+else-left-eq0, else-event-process}

@@ -1,5 +1,5 @@
 use Rattle.std.proofs.Common.{◌≡◌, ◌+◌, ◌<◌, length, take}
-use Rattle.vector_clock.specs.BatchPlaces.{own_clocks}
+use Rattle.vector_clock.specs.inside.BatchPlaces.{own_clocks}
 use Rattle.vector_clock.proofs.batch_clocks.clock_among.Given as goal
 
 abbrev pub invariant-loop-event : goal.invariant-loop-event

@@ -1,6 +1,6 @@
 use Rattle.std.proofs.Common.{◌≡◌, ◌∙◌, ℕ, ap, subst, sym, length, arith}
 use Rattle.causal_order.proofs.Growing.{length-lengths}
-use Rattle.vector_clock.specs.Nodes.{AreCounts, HaveCounts}
+use Rattle.vector_clock.specs.inside.Nodes.{AreCounts, HaveCounts}
 use Rattle.vector_clock.proofs.CountLaws.{counts_more}
 use Rattle.vector_clock.proofs.counts.clocks_of.Goals as goal
 

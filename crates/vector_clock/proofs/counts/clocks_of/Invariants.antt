@@ -1,5 +1,5 @@
 use Rattle.std.proofs.Common.{◌≡◌, [], replicate}
-use Rattle.vector_clock.specs.Nodes.{HaveCounts}
+use Rattle.vector_clock.specs.inside.Nodes.{HaveCounts}
 use Rattle.vector_clock.proofs.counts.clocks_of.Given as goal
 
 abbrev pub invariant-loop-event : goal.invariant-loop-event

@@ -1,5 +1,5 @@
 use Rattle.std.proofs.Common.{◌≡◌, ℕ, [], ◌<◌, length, get_or}
-use Rattle.vector_clock.specs.Nodes.{event_in, with_clock}
+use Rattle.vector_clock.specs.inside.Nodes.{event_in, with_clock}
 use Rattle.vector_clock.proofs.counts.copy_filled.Given as goal
 
 abbrev pub invariant-loop-i : goal.invariant-loop-i

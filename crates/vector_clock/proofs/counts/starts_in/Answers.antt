@@ -1,6 +1,6 @@
 use Rattle.std.proofs.Common.{◌≡◌, ◌∙◌, ◌++◌, ℕ, ap, subst, sym, length, arith}
 use Rattle.event_log.specs.declared.log.Event.{Event}
-use Rattle.vector_clock.specs.Nodes.{node_at, starts_of, AreStarts}
+use Rattle.vector_clock.specs.inside.Nodes.{node_at, starts_of, AreStarts}
 use Rattle.vector_clock.proofs.Looks.{event_is}
 use Rattle.vector_clock.proofs.CountLaws.{starts_more}
 use Rattle.vector_clock.proofs.counts.starts_in.Goals as goal

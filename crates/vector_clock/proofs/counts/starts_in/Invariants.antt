@@ -1,4 +1,4 @@
-use Rattle.vector_clock.specs.Nodes.{AreStarts}
+use Rattle.vector_clock.specs.inside.Nodes.{AreStarts}
 use Rattle.vector_clock.proofs.counts.starts_in.Given as goal
 
 abbrev pub invariant-loop-i : goal.invariant-loop-i

@@ -1,6 +1,6 @@
 use Rattle.std.proofs.Common.{◌≡◌, ℕ, ◌<◌, length, get_or}
 use Rattle.std.specs.Prelude.{None}
-use Rattle.vector_clock.specs.Nodes.{admitted_at}
+use Rattle.vector_clock.specs.inside.Nodes.{admitted_at}
 use Rattle.vector_clock.proofs.nodes.lasts_of.Given as goal
 
 abbrev pub invariant-loop-process : goal.invariant-loop-process

@@ -3,7 +3,7 @@ use Rattle.std.specs.Prelude.{List, None}
 use Rattle.std.proofs.lemmas.List.{length-set, length-map, get_or_default}
 use Rattle.event_log.specs.declared.log.Event.{Event}
 use Rattle.vector_clock.specs.declared.nodes.Node.{Node}
-use Rattle.vector_clock.specs.Nodes.{IsNode, AreNodes, IsTarget, HaveTargets, no_node}
+use Rattle.vector_clock.specs.inside.Nodes.{IsNode, AreNodes, IsTarget, HaveTargets, no_node}
 use Rattle.vector_clock.proofs.Below.{count_is}
 use Rattle.vector_clock.proofs.Counting.{counts_next, few_taken, raised_none, length-raised}
 use Rattle.vector_clock.proofs.Looks.{IsLast, one_stands, pushed_each, first_targets, admitted_last, last_next, lasts_there, more_target, targets_more, no_targets, next_node}

@@ -1,8 +1,9 @@
 use Rattle.std.proofs.Common.{◌≡◌, ℕ, ◌<◌, length, map, take, get_or}
 use Rattle.std.specs.Prelude.{None}
-use Rattle.vector_clock.specs.Events.{Events, raised}
+use Rattle.vector_clock.specs.Events.{Events}
+use Rattle.vector_clock.specs.inside.Events.{raised}
 use Rattle.vector_clock.specs.Admitted.{HasMessages}
-use Rattle.vector_clock.specs.Nodes.{IsTarget, AreNodes, HaveTargets}
+use Rattle.vector_clock.specs.inside.Nodes.{IsTarget, AreNodes, HaveTargets}
 use Rattle.vector_clock.proofs.Looks.{IsLast}
 use Rattle.vector_clock.proofs.nodes.nodes_in.Given as goal
 

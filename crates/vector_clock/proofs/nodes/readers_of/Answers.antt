@@ -1,7 +1,7 @@
 use Rattle.std.proofs.Common.{◌≡◌, ◌∙◌, ◌+◌, ℕ, ap, sym, subst, length, arith, refl}
 use Rattle.std.specs.Prelude.{List}
 use Rattle.std.specs.Global.{Vec}
-use Rattle.vector_clock.specs.Nodes.{node_at, AreReaders, with_reader}
+use Rattle.vector_clock.specs.inside.Nodes.{node_at, AreReaders, with_reader}
 use Rattle.vector_clock.proofs.CountLaws.{left_out_at, written_at}
 use Rattle.vector_clock.proofs.Readers.{written_reader, reader_more, readers_are_nodes}
 use Rattle.vector_clock.proofs.nodes.readers_of.Goals as goal

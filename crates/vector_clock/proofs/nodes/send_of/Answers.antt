@@ -1,6 +1,6 @@
 use Rattle.std.proofs.Common.{◌∙◌, ap, sym, subst, length}
 use Rattle.vector_clock.specs.declared.places.Met.{Met}
-use Rattle.vector_clock.specs.Nodes.{IsTarget}
+use Rattle.vector_clock.specs.inside.Nodes.{IsTarget}
 use Rattle.vector_clock.specs.Messages.{sends}
 use Rattle.vector_clock.proofs.Looks.{index_target}
 use Rattle.vector_clock.proofs.nodes.send_of.Goals as goal

@@ -5,7 +5,7 @@ use Rattle.vector_clock.specs.declared.message.Message.{Message}
 use Rattle.vector_clock.specs.declared.places.Met.{Met}
 use Rattle.vector_clock.specs.declared.places.Places.{Places}
 use Rattle.vector_clock.specs.Messages.{message_sent}
-use Rattle.vector_clock.specs.Nodes.{AreSends}
+use Rattle.vector_clock.specs.inside.Nodes.{AreSends}
 use Rattle.vector_clock.proofs.Looks.{no_sends, sends_kept, sends_noted, all_sends}
 use Rattle.vector_clock.proofs.CountLaws.{no_send}
 use Rattle.vector_clock.proofs.nodes.sends_in.Goals as goal

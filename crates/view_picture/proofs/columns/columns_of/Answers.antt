@@ -4,7 +4,7 @@ use Rattle.std.proofs.lemmas.Bool.{false≢true}
 use Rattle.run_model.specs.Cut.{lengths}
 use Rattle.run_model.proofs.Counts.{total, total_within, length-lengths}
 use Rattle.view_picture.specs.Columns.{Rows}
-use Rattle.view_picture.specs.Levels.{AreTaken}
+use Rattle.view_picture.specs.inside.Levels.{AreTaken}
 use Rattle.view_picture.proofs.Levels.{placed_first, placed_next, placed_all, goes_on, level_small, placed_small}
 use Rattle.view_picture.proofs.columns.columns_of.Goals as goal
 

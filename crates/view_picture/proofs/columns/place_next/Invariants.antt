@@ -1,5 +1,5 @@
 use Rattle.std.proofs.Common.{◌≡◌, ℕ, ◌<◌, ◌≤◌, [], length, get_or}
-use Rattle.view_picture.specs.Levels.{MayTake, IsPlaced}
+use Rattle.view_picture.specs.inside.Levels.{MayTake, IsPlaced}
 use Rattle.view_picture.proofs.columns.place_next.Given as goal
 
 abbrev pub invariant-loop-process : goal.invariant-loop-process

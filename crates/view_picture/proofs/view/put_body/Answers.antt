@@ -9,7 +9,8 @@ use Rattle.event_log.specs.States.{StatesView}
 use Rattle.slice_graph.specs.declared.edges.Edge.{Edge}
 use Rattle.report_lines.specs.declared.kinds.WitnessText.{WitnessText}
 use Rattle.view_parts.specs.Each.{each_below, places}
-use Rattle.view_picture.specs.Drawing.{lane_drawn, arrow_to, edge_drawn, mark, HasFewProcesses}
+use Rattle.view_picture.specs.Drawing.{lane_drawn, arrow_to, edge_drawn, mark}
+use Rattle.view_picture.specs.inside.Drawing.{HasFewProcesses}
 use Rattle.view_picture.specs.Picture.{most_edges, top_of, edges_of, slice_drawn, first_drawn, one_drawn, edges_note}
 use Rattle.view_picture.proofs.Drawn.{few_drawn}
 use Rattle.view_picture.proofs.view.put_body.Goals as goal

@@ -1,4 +1,4 @@
-use Rattle.view_top.specs.Faults.{report_line}
+use Rattle.view_top.specs.inside.Faults.{report_line}
 use Rattle.view_top.proofs.Lines.{told_text}
 use Rattle.view_top.proofs.telling.put_report_line.Goals as goal
 

@@ -4,7 +4,7 @@ use Rattle.std.specs.Fmt.{decimal}
 use Rattle.std.specs.Io.KnownBytes.{Appends}
 use Rattle.pota_base.specs.Outside.{AppendsPrefix}
 use Rattle.pota_base.specs.declared.fault.Failed.{Failed}
-use Rattle.view_top.specs.Telling.{Puts}
+use Rattle.view_top.specs.inside.Telling.{Puts}
 use Rattle.view_top.proofs.Lines.{first_fails, second_fails, third_put, report_line_is}
 use Rattle.view_top.proofs.telling.write_report_line.Goals as goal
 

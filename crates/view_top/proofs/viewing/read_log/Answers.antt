@@ -1,7 +1,7 @@
 use Rattle.std.proofs.Common.{[], sym, subst}
 use Rattle.event_log.specs.declared.item.LogFault.{LogFault}
 use Rattle.view_top.specs.declared.fault.Fault.TheVariants as fault
-use Rattle.view_top.specs.Inputs.{StopsInLog}
+use Rattle.view_top.specs.inside.Inputs.{StopsInLog}
 use Rattle.view_top.proofs.Whole.{items_fit_first, item_fault, byte_fault, read_so_far}
 use Rattle.view_top.proofs.viewing.read_log.Goals as goal
 

@@ -1,4 +1,4 @@
-use Rattle.whole_answers.specs.Standing.{clocks}
+use Rattle.whole_answers.specs.inside.Standing.{clocks}
 use Rattle.whole_answers.proofs.Dues.{checked}
 use Rattle.whole_answers.proofs.Stands.{clocks_can}
 use Rattle.whole_answers.proofs.checking.check_clocks.Goals as goal

@@ -1,4 +1,4 @@
-use Rattle.whole_answers.specs.Standing.{sources}
+use Rattle.whole_answers.specs.inside.Standing.{sources}
 use Rattle.whole_answers.proofs.Dues.{checked}
 use Rattle.whole_answers.proofs.Stands.{sources_can}
 use Rattle.whole_answers.proofs.checking.check_sources.Goals as goal

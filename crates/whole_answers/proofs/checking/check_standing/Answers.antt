@@ -2,7 +2,7 @@ use Rattle.std.proofs.Common.{Ok, refl, sym, ap, subst, ◌∙◌}
 use Rattle.std.proofs.Common.{Result}
 use Rattle.pota_base.specs.declared.fault.NoMemory.{NoMemory}
 use Rattle.whole_answers.specs.declared.standing.Standing.{Standing}
-use Rattle.whole_answers.specs.Checking.{ChecksStanding}
+use Rattle.whole_answers.specs.inside.Checking.{ChecksStanding}
 use Rattle.whole_answers.proofs.checking.check_standing.Goals as goal
 
 pub returns-in-Ok-Whole : goal.returns-in-Ok-Whole

@@ -1,6 +1,6 @@
 use Rattle.std.proofs.Common.{ℕ, ◌≡◌, ◌+◌, ◌<◌, ◌≤◌, length, slice_index}
 use Rattle.pull_fans.proofs.Asking.{pulls_from_first}
-use Rattle.bound_table.specs.Asking.{IsSettling, HoldSeen}
+use Rattle.bound_table.specs.inside.Asking.{IsSettling, HoldSeen}
 use Rattle.bound_table.proofs.table.BoundTable.ask_all.Given as goal
 
 abbrev pub invariant-loop-process : goal.invariant-loop-process

@@ -1,6 +1,6 @@
 use Rattle.std.proofs.Common.{◌≡◌, ◌+◌, ◌-◌, ◌*◌, ◌≤◌, length, sum}
 use Rattle.pull_system.specs.Vector.{IsAtMost}
-use Rattle.bound_table.specs.Asking.{IsAsking}
+use Rattle.bound_table.specs.inside.Asking.{IsAsking}
 use Rattle.bound_table.proofs.table.BoundTable.close_row.Given as goal
 
 abbrev pub invariant-loop-asked : goal.invariant-loop-asked

@@ -2,7 +2,7 @@ use Rattle.std.proofs.Common.{rules, arith, ap, subst, ◌≡◌, ◌+◌, ◌*�
 use Rattle.std.proofs.lemmas.List.{take_all}
 use Rattle.pull_system.specs.Rows.{RowsView}
 use Rattle.pull_system.specs.System.{SystemView}
-use Rattle.bound_table.specs.Rule.{word_count}
+use Rattle.bound_table.specs.inside.Rule.{word_count}
 use Rattle.bound_table.proofs.table.BoundTable.floors.Goals as goal
 
 abbrev rows_view : List ℕ → List ℕ → RowsView

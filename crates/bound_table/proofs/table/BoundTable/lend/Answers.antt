@@ -2,7 +2,7 @@ use Rattle.std.proofs.Common.{rules, arith, sym, ◌∙◌, ◌<◌, ℕ, length
 use Rattle.pull_system.specs.System.{SystemView}
 use Rattle.pull_system.specs.Vector.{IsAtMost}
 use Rattle.pull_system.specs.Rows.{place_of}
-use Rattle.bound_table.specs.Asking.{IsRaised}
+use Rattle.bound_table.specs.inside.Asking.{IsRaised}
 use Rattle.bound_table.proofs.Allowed.{lend_allowed}
 use Rattle.bound_table.proofs.Floors.{within_trans}
 use Rattle.bound_table.proofs.Moves.{few_words}

@@ -1,6 +1,6 @@
 use Rattle.std.proofs.Common.{ℕ, ◌<◌, ◌≤◌, slice_index}
-use Rattle.bound_table.specs.Asking.{IsSettling}
-use Rattle.bound_table.specs.Lending.{MayLend}
+use Rattle.bound_table.specs.inside.Asking.{IsSettling}
+use Rattle.bound_table.specs.inside.Lending.{MayLend}
 use Rattle.bound_table.proofs.table.BoundTable.lend_row.Given as goal
 
 abbrev pub invariant-loop-process : goal.invariant-loop-process

@@ -1,7 +1,7 @@
 use Rattle.std.proofs.Common.{rules, arith, refl, ◌∙◌, ◌+◌, ◌^◌, ◌<◌, ℕ, List, subst}
 use Rattle.pota_base.specs.Shape.{IsShape}
 use Rattle.pull_system.specs.System.{SystemView, IsSystem}
-use Rattle.bound_table.specs.Rule.{word_count}
+use Rattle.bound_table.specs.inside.Rule.{word_count}
 use Rattle.bound_table.proofs.Claiming.{keeps_trans}
 use Rattle.bound_table.proofs.Floors.{within_trans}
 use Rattle.bound_table.proofs.Lends.{set_within}

@@ -2,7 +2,7 @@ use Rattle.std.proofs.Common.{rules, arith, ◌≡◌, ◌<◌, ℕ, subst, sym,
 use Rattle.pull_system.specs.System.{SystemView}
 use Rattle.raise_machine.specs.Bounds.{AreBounds}
 use Rattle.bound_table.specs.declared.seat.SeenBounds.{SeenBounds}
-use Rattle.bound_table.specs.Rule.{IsSound, word_count}
+use Rattle.bound_table.specs.inside.Rule.{IsSound, word_count}
 use Rattle.bound_table.proofs.Moves.{meets, some_words, together_sound, met_maximum}
 use Rattle.bound_table.proofs.table.BoundTable.meet.Goals as goal
 

@@ -1,5 +1,5 @@
 use Rattle.std.proofs.Common.{rules, arith, ◌<◌, refl}
-use Rattle.bound_table.specs.Rule.{word_count, lent}
+use Rattle.bound_table.specs.inside.Rule.{word_count, lent}
 use Rattle.bound_table.proofs.Moves.{lifts}
 use Rattle.bound_table.proofs.Allowed.{lend_step_bound, lend_parts, bound_along, bounds_along, step_along}
 use Rattle.bound_table.proofs.Floors.{place_there}

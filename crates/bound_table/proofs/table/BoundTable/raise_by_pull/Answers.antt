@@ -1,7 +1,7 @@
 use Rattle.std.proofs.Common.{rules, ap, refl}
 use Rattle.bound_table.proofs.Moves.{lifts}
 use Rattle.bound_table.proofs.Allowed.{pull_step_bound, bound_along, bounds_along, step_along}
-use Rattle.bound_table.specs.Rule.{pulled}
+use Rattle.bound_table.specs.inside.Rule.{pulled}
 use Rattle.pull_system.specs.Rows.{place_of}
 use Rattle.bound_table.proofs.table.BoundTable.raise_by_pull.Goals as goal
 

@@ -1,5 +1,5 @@
 use Rattle.std.proofs.Common.{ℕ, ◌<◌, ◌≤◌, slice_index}
-use Rattle.bound_table.specs.Asking.{IsSettling}
+use Rattle.bound_table.specs.inside.Asking.{IsSettling}
 use Rattle.bound_table.proofs.table.BoundTable.rise_to.Given as goal
 
 abbrev pub invariant-loop-target : goal.invariant-loop-target

@@ -1,6 +1,7 @@
 use Rattle.std.proofs.Common.{◌<◌, sym, subst}
 use Rattle.certified_nodes.specs.Nodes.{NodesView, OfPresent}
-use Rattle.canonical_nodes.specs.Coming.{IsNextOfRows, lines_left}
+use Rattle.canonical_nodes.specs.Coming.{lines_left}
+use Rattle.canonical_nodes.specs.inside.Coming.{IsNextOfRows}
 use Rattle.canonical_nodes.proofs.Steps.{of_these, rows_less}
 use Rattle.canonical_nodes.proofs.nodes.CanonicalNodes.line_of_rows.Goals as goal
 

@@ -5,7 +5,7 @@ use Rattle.pull_system.specs.declared.pull.Pull.{Pull}
 use Rattle.pull_fans.specs.Fans.{pulls_of_fans}
 use Rattle.pull_system.specs.Rows.{RowsView, AreLeastRows}
 use Rattle.slice_graph.specs.PullLists.{pulls_of_slice}
-use Rattle.conjunctions.specs.Beginning.{GatheredView, MayBeginFrom}
+use Rattle.conjunctions.specs.inside.Beginning.{GatheredView, MayBeginFrom}
 use Rattle.conjunctions.proofs.Beginning.{floor_more, slice_floor, slice_least}
 use Rattle.conjunctions.proofs.gathered.Gathered.add_slice.Goals as goal
 

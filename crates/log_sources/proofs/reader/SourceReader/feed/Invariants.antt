@@ -1,6 +1,7 @@
 use Rattle.std.proofs.Common.{length}
 use Rattle.log_sources.specs.Sources.{Sources}
-use Rattle.log_sources.specs.Reading.{HasReadSources, TakesBytes}
+use Rattle.log_sources.specs.Reading.{HasReadSources}
+use Rattle.log_sources.specs.inside.Reading.{TakesBytes}
 use Rattle.log_sources.proofs.reader.SourceReader.feed.Given as goal
 
 abbrev pub invariant-sources : goal.invariant-sources

@@ -1,5 +1,5 @@
 use Rattle.std.proofs.Common.{◌-◌, ◌≤◌, length}
-use Rattle.pull_fans.specs.Asks.{AreRaisedIn}
+use Rattle.pull_fans.specs.inside.Asks.{AreRaisedIn}
 use Rattle.pull_fans.proofs.fan.Fan.raise.Given as goal
 
 abbrev pub invariant-loop-first : goal.invariant-loop-first

@@ -1,4 +1,4 @@
-use Rattle.pull_fans.specs.Asks.{AreRaisedIn}
+use Rattle.pull_fans.specs.inside.Asks.{AreRaisedIn}
 use Rattle.pull_fans.proofs.fan.Fan.raise_run.Given as goal
 
 abbrev pub invariant-loop-x : goal.invariant-loop-x

@@ -3,8 +3,8 @@ use Rattle.std.specs.Int.{w64}
 use Rattle.event_log.specs.declared.log.Assign.{Assign}
 use Rattle.event_log.specs.declared.log.Kind.TheVariants as kind
 use Rattle.log_lines.specs.Names.{place_of}
-use Rattle.vclog_import.specs.Reading.{record_of}
-use Rattle.vclog_import.specs.Scans.{hosts_in}
+use Rattle.vclog_import.specs.inside.Reading.{record_of}
+use Rattle.vclog_import.specs.inside.Scans.{hosts_in}
 use Rattle.vclog_import.proofs.MadeSteps.{made_more, small_count, signed_count}
 use Rattle.vclog_import.proofs.events.Events.add.Goals as goal
 

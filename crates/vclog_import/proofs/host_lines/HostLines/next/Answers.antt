@@ -1,5 +1,5 @@
 use Rattle.std.proofs.Common.{refl, sym, ◌∙◌, subst}
-use Rattle.vclog_import.specs.Reading.{Gives}
+use Rattle.vclog_import.specs.inside.Reading.{Gives}
 use Rattle.vclog_import.proofs.LineSteps.{passed_more, then_gives, then_ends, passes_description, passes_line, gives_record, ends_records}
 use Rattle.vclog_import.proofs.host_lines.HostLines.next.Goals as goal
 

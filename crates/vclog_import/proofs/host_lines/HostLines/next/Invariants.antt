@@ -1,5 +1,5 @@
 use Rattle.std.proofs.Common.{length}
-use Rattle.vclog_import.specs.Reading.{lines_left}
+use Rattle.vclog_import.specs.inside.Reading.{lines_left}
 use Rattle.vclog_import.proofs.LineSteps.{Passed}
 use Rattle.vclog_import.proofs.host_lines.HostLines.next.Given as goal
 

@@ -1,6 +1,6 @@
 use Rattle.std.proofs.Common.{◌≡◌, refl, ap, ◌∙◌, Bool, []}
 use Rattle.vclog_import.specs.Lines.{lines_in}
-use Rattle.vclog_import.specs.Reading.{lines_left}
+use Rattle.vclog_import.specs.inside.Reading.{lines_left}
 use Rattle.vclog_import.proofs.LineSteps.{takes_whole, takes_last, ends_lines, no_whole_line, nothing_left, some_bytes, no_bytes}
 use Rattle.vclog_import.proofs.host_lines.HostLines.next_line.Goals as goal
 use Rattle.vclog_import.proofs.host_lines.HostLines.next_line.Goals.{else-self-via-then-self+else-not-is_empty, else-self-via-else-self}

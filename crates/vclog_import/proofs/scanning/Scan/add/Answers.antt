@@ -1,6 +1,6 @@
 use Rattle.std.proofs.Common.{ap, sym, ◌∙◌, refl, arith, List}
 use Rattle.vclog_import.specs.declared.host_lines.HostLine.{HostLine}
-use Rattle.vclog_import.specs.Reading.{records}
+use Rattle.vclog_import.specs.inside.Reading.{records}
 use Rattle.vclog_import.proofs.ScanSteps.{is_host_33, is_record_50001, is_no_fault, scanned_new, scanned_known, records-push, no_clash_yet, some_clash}
 use Rattle.vclog_import.proofs.scanning.Scan.add.Goals as goal
 use Rattle.vclog_import.proofs.scanning.Scan.add.Goals.{else-is_new-via-then-is_new+else-is_none, else-is_new-via-else-is_new}

@@ -1,6 +1,6 @@
 use Rattle.std.proofs.Common.{sym, ◌∙◌, ap, refl, ℕ}
 use Rattle.std.specs.Prelude.{◌==◌}
-use Rattle.vclog_import.specs.Reading.{record_of}
+use Rattle.vclog_import.specs.inside.Reading.{record_of}
 use Rattle.vclog_import.proofs.ScanSteps.{scanning_more, scan_faulty, scan_ends}
 use Rattle.vclog_import.proofs.scanning.Scan.of.Goals as goal
 

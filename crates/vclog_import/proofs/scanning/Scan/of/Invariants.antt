@@ -1,5 +1,5 @@
 use Rattle.std.proofs.Common.{length}
-use Rattle.vclog_import.specs.Reading.{left}
+use Rattle.vclog_import.specs.inside.Reading.{left}
 use Rattle.vclog_import.proofs.ScanSteps.{Scanning}
 use Rattle.vclog_import.proofs.scanning.Scan.of.Given as goal
 

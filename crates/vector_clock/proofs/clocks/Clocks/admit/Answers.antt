@@ -3,7 +3,8 @@ use Rattle.std.specs.Prelude.{ℕ, List, Some, map}
 use Rattle.std.specs.List.{AllByRecursion}
 use Rattle.event_log.specs.States.{with_batch}
 use Rattle.causal_order.proofs.Growing.{length-lengths}
-use Rattle.vector_clock.specs.Events.{Events, EventFits, clocks_of, raised}
+use Rattle.vector_clock.specs.Events.{Events, EventFits, clocks_of}
+use Rattle.vector_clock.specs.inside.Events.{raised}
 use Rattle.vector_clock.specs.Faults.{batch_fault}
 use Rattle.vector_clock.specs.declared.messages.Messages.{Messages}
 use Rattle.vector_clock.specs.Admitted.{HasAdmitted, HasMessages}

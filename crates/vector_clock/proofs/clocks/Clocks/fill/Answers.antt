@@ -6,7 +6,7 @@ use Rattle.run_model.specs.Cut.{Cut, lengths}
 use Rattle.causal_order.proofs.Growing.{length-lengths}
 use Rattle.vector_clock.specs.declared.nodes.Node.{Node}
 use Rattle.vector_clock.specs.Events.{EventStands}
-use Rattle.vector_clock.specs.Nodes.{HaveTargets, AreReaders, HaveCounts, AreFilled}
+use Rattle.vector_clock.specs.inside.Nodes.{HaveTargets, AreReaders, HaveCounts, AreFilled}
 use Rattle.vector_clock.proofs.Growth.{lengths_of, length-clocks_of}
 use Rattle.vector_clock.proofs.FillLaws.{batch_is_filled}
 use Rattle.vector_clock.proofs.clocks.Clocks.fill.Goals as goal

@@ -3,7 +3,8 @@ use Rattle.std.specs.Prelude.{List}
 use Rattle.std.specs.List.{AllByRecursion}
 use Rattle.event_log.specs.States.{with_batch}
 use Rattle.vector_clock.specs.Admitted.{HasMessages}
-use Rattle.vector_clock.specs.Events.{EventFits, raised}
+use Rattle.vector_clock.specs.Events.{EventFits}
+use Rattle.vector_clock.specs.inside.Events.{raised}
 use Rattle.vector_clock.proofs.Below.{count_is}
 use Rattle.vector_clock.proofs.Counting.{is_next, counts_next, one_fits, front_fits, no_batch, raised_none, length-raised, lens_raised, few_taken}
 use Rattle.vector_clock.proofs.messages.Messages.note_all.Goals as goal

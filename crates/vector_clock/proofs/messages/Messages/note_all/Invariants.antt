@@ -1,6 +1,7 @@
 use Rattle.std.proofs.Common.{◌≡◌, length, map, take}
 use Rattle.event_log.specs.States.{with_batch}
-use Rattle.vector_clock.specs.Events.{Events, raised}
+use Rattle.vector_clock.specs.Events.{Events}
+use Rattle.vector_clock.specs.inside.Events.{raised}
 use Rattle.vector_clock.specs.Admitted.{HasMessages}
 use Rattle.vector_clock.proofs.messages.Messages.note_all.Given as goal
 

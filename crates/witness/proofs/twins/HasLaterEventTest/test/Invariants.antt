@@ -1,5 +1,5 @@
 use Rattle.std.proofs.Common.{ℕ, ◌<◌}
-use Rattle.witness.specs.Twins.{LastHas}
+use Rattle.witness.specs.inside.Twins.{LastHas}
 use Rattle.witness.specs.Views.{place_of}
 use Rattle.witness.proofs.twins.HasLaterEventTest.test.Given as goal
 

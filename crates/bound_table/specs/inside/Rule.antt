@@ -12,7 +12,7 @@ use Rattle.raise_machine.specs.declared.step.Step.TheVariants.{Pull, Lend}
 use Rattle.raise_machine.specs.Bounds.{AreBounds}
 use Rattle.raise_machine.specs.Machine.{is_allowed}
 use Rattle.bound_table.specs.declared.seat.SeenBounds.{SeenBounds}
-use Rattle.bound_table.specs.Kept.{larger}
+use Rattle.bound_table.specs.inside.Kept.{larger}
 
 -- the words that are bounds: one per row and process
 abbrev pub word_count : List ℕ → ℕ

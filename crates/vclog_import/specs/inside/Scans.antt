@@ -14,7 +14,7 @@ use Rattle.vclog_import.specs.Lines.{Record}
 use Rattle.vclog_import.specs.Hosts.{Host, name_of, hosts_of}
 use Rattle.vclog_import.specs.Faults.{Judge, at_line, first_of, is_bad, number_fault, clock_fault}
 use Rattle.vclog_import.specs.Faults.{clash_fault, unknown_fault, earlier, judged, end_fault}
-use Rattle.vclog_import.specs.Reading.{records}
+use Rattle.vclog_import.specs.inside.Reading.{records}
 
 -- the faults that need no clock
 abbrev pub plain_fault : Judge

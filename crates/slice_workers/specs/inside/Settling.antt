@@ -7,7 +7,8 @@ use Rattle.pull_system.specs.Marks.{marked}
 use Rattle.raise_machine.specs.Bounds.{AreBounds}
 use Rattle.bound_table.specs.Views.{SeatView, KeepsClaims}
 use Rattle.slice_workers.specs.Calls.{IsPaid}
-use Rattle.slice_workers.specs.Reaching.{AreHanded, HasReachedRows, handed_events, rows_left}
+use Rattle.slice_workers.specs.Reaching.{rows_left}
+use Rattle.slice_workers.specs.inside.Reaching.{AreHanded, HasReachedRows, handed_events}
 
 -- the seat claims what it claimed, no number of its floor fell, and the floor is within the bounds
 pub record HasOnlyRisen (system : SystemView) (old new : SeatView) : Type 0 where

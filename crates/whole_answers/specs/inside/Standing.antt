@@ -12,7 +12,7 @@ use Rattle.form_readings.specs.Sources.{merged_fault, merged_log_of, merged_plac
 use Rattle.whole_answers.specs.declared.places.Places.{Places}
 use Rattle.whole_answers.specs.declared.standing.Standing.{Standing}
 use Rattle.whole_answers.specs.declared.standing.Standing.TheVariants.{Whole, Faulty, Failed}
-use Rattle.whole_answers.specs.Places.{place_by}
+use Rattle.whole_answers.specs.inside.Places.{place_by}
 
 -- a form of input: the fault of its bytes, their log, and how a fault at a line of that is told
 pub record Input : Type 0 where

@@ -17,7 +17,8 @@ use Rattle.part_pulls.specs.Observing.{Reading, AreAnswers, clocks_seen, lens_se
 use Rattle.part_pulls.specs.Observing.{names_seen}
 use Rattle.part_pulls.specs.Operating.{Operated, operator_gives_order}
 use Rattle.part_pulls.specs.Systems.{pulls_of_parts}
-use Rattle.conjunctions.specs.Numbering.{all_atoms, gives_order}
+use Rattle.conjunctions.specs.Numbering.{all_atoms}
+use Rattle.conjunctions.specs.inside.Numbering.{gives_order}
 use Rattle.conjunctions.specs.Counting.{rooms_of}
 
 -- the pulls that a conjunction begins with: none where a part gives the order, and else those of

@@ -4,7 +4,7 @@ use Rattle.vclog_import.specs.declared.events.Events.{Events}
 use Rattle.vclog_import.specs.Lines.{Record}
 use Rattle.vclog_import.specs.Hosts.{records_of}
 use Rattle.vclog_import.specs.Imported.{events_from}
-use Rattle.vclog_import.specs.Scans.{hosts_in}
+use Rattle.vclog_import.specs.inside.Scans.{hosts_in}
 
 -- the events are those of these records, and the counts are those of their hosts
 pub record HasMade (made : Events) (before : List Record) : Type 0 where

@@ -14,7 +14,7 @@ use Rattle.log_answers.specs.Whole.{HasWhole}
 use Rattle.whole_answers.specs.declared.places.Places.{Places}
 use Rattle.whole_answers.specs.declared.standing.Standing.{Standing}
 use Rattle.whole_answers.specs.declared.standing.Standing.TheVariants.{Whole, Faulty, Failed}
-use Rattle.whole_answers.specs.Places.{place_by, placed_result}
+use Rattle.whole_answers.specs.inside.Places.{place_by, placed_result}
 
 -- a log that may be checked: one batch of events that fit
 pub record MayBeChecked (log : Log) : Type 0 where

@@ -1,0 +1,86 @@
+-- Of the calls inside, which no caller rests on.
+use Rattle.std.specs.Prelude.{◌≡◌, ℕ, ◌<◌, ◌≤◌, Bool, List, [], ◌++◌, length, Option, None}
+use Rattle.std.specs.Prelude.{Result, Ok, Err}
+use Rattle.std.specs.Io.KnownBytes.{Appends, Consumes, IsAtEnd}
+use Rattle.event_log.specs.declared.reader.Reader.{Reader}
+use Rattle.event_log.specs.Faults.{fault_of}
+use Rattle.event_log.specs.LogText.{onto}
+use Rattle.event_log.specs.Reader.{HasRead}
+use Rattle.log_judgement.specs.declared.refusal.Refusal.{Refusal}
+use Rattle.log_judgement.specs.Readings.{log_reading}
+use Rattle.log_check.specs.Aims.{Says, Aim}
+use Rattle.log_check.specs.declared.check.LogCheck.{LogCheck}
+use Rattle.log_answers.specs.declared.stop.StopCause.TheVariants as causes
+use Rattle.log_answers.specs.declared.stop.Stop.{Stop}
+use Rattle.batch_answers.specs.declared.reading.Turn.{Turn}
+use Rattle.batch_answers.specs.declared.reading.Turn.TheVariants as turn
+use Rattle.log_answers.specs.Checking.{Stands}
+use Rattle.log_answers.specs.Inputs.{TellsDueBy}
+use Rattle.batch_answers.specs.Reading.{IsWhole, StopsAt, judgement_in}
+
+-- these bytes were read and judged without a fault, and this text was written
+pub record HasJudged {X : Type 0} {P : X → Type 0} (says : Says X P) (aim : Aim) (each : Bool)
+    (r : Reader) (check : LogCheck X P)
+    (bytes text : List ℕ) : Type 0 where
+  pub read : HasRead r (onto bytes [])
+  pub free : fault_of bytes ≡ None
+  pub stands : Stands says aim each check (judgement_in aim bytes) text
+
+-- this fault, or none, is due of the text of a log, and a stop behind such bytes, before the report
+-- on the whole log
+abbrev pub TellsDue : Aim → (each ended : Bool) → (bytes text : List ℕ) → Option Refusal → ℕ
+    → Type 0
+TellsDue aim each ended bytes text why batches =
+    TellsDueBy log_reading aim each ended bytes text why batches
+
+abbrev pub PieceTo : {X : Type 0} {P : X → Type 0} → Option (List ℕ) → ℕ → ℕ → ℕ → ℕ → Says X P
+    → Aim → Bool → Reader → LogCheck X P
+    → List ℕ → List ℕ → Result Turn Stop → Type 0
+PieceTo left lf lf' of of' says aim each r check bytes text (Ok turn.More) =
+    HasJudged says aim each r check bytes text
+PieceTo left lf lf' of of' says aim each r check bytes text (Ok turn.End) = ⊥
+PieceTo left lf lf' of of' says aim each r check bytes text (Err stop) =
+    StopsAt stop.cause stop.batches left lf lf' of of' aim each bytes text
+
+-- these are all bytes with the piece, behind this text
+pub record TakesPiece {X : Type 0} {P : X → Type 0} (held held' : Option (List ℕ)) (of of' : ℕ)
+    (says : Says X P) (aim : Aim)
+    (each : Bool) (r : Reader) (check : LogCheck X P) (bytes text : List ℕ)
+    (result : Result Turn Stop)
+    : Type 0 where
+  pub written : List ℕ
+  pub wrote : Appends held held' written
+  pub later : of ≤ of'
+  pub to : (left : Option (List ℕ)) (lf lf' : ℕ)
+      → PieceTo left lf lf' of of' says aim each r check bytes (text ++ written) result
+
+abbrev pub Finishes : {X : Type 0} {P : X → Type 0} → ℕ → Says X P → Aim → Bool → LogCheck X P
+    → List ℕ → List ℕ → Result Turn Stop
+    → Type 0
+Finishes of says aim each check bytes text (Ok turn.More) = ⊥
+Finishes of says aim each check bytes text (Ok turn.End) = IsWhole says aim each check bytes text
+Finishes of says aim each check bytes text (Err stop) =
+    (left : Option (List ℕ)) (lf lf' : ℕ) → IsAtEnd left
+    → StopsAt stop.cause stop.batches left lf lf' of of aim each bytes text
+
+abbrev pub TurnsTo : {X : Type 0} {P : X → Type 0} → Option (List ℕ) → ℕ → ℕ → ℕ → ℕ → Says X P
+    → Aim → Bool → Reader → LogCheck X P
+    → List ℕ → List ℕ → List ℕ → Result Turn Stop → Type 0
+TurnsTo left lf lf' of of' says aim each r check bytes read text (Ok turn.More) =
+    (0 < length read) × HasJudged says aim each r check (bytes ++ read) text
+TurnsTo left lf lf' of of' says aim each r check bytes read text (Ok turn.End) =
+    IsAtEnd left × IsWhole says aim each check (bytes ++ read) text
+TurnsTo left lf lf' of of' says aim each r check bytes read text (Err stop) =
+    StopsAt stop.cause stop.batches left lf lf' of of' aim each (bytes ++ read) text
+
+pub record Turns {X : Type 0} {P : X → Type 0} (left left' held held' : Option (List ℕ))
+    (lf lf' of of' : ℕ) (says : Says X P)
+    (aim : Aim) (each : Bool) (r : Reader) (check : LogCheck X P) (bytes text : List ℕ)
+    (result : Result Turn Stop) : Type 0 where
+  pub read : List ℕ
+  pub written : List ℕ
+  pub consumed : Consumes left left' read
+  pub wrote : Appends held held' written
+  pub log_later : lf ≤ lf'
+  pub out_later : of ≤ of'
+  pub to : TurnsTo left' lf lf' of of' says aim each r check bytes read (text ++ written) result

@@ -1,0 +1,67 @@
+-- Of the calls inside, which no caller rests on.
+use Rattle.std.specs.Prelude.{◌≡◌, ℕ, ◌≤◌, ◌↔◌, true, List, [], Option, Some, None, Result, Ok, Err}
+use Rattle.std.specs.Io.KnownBytes.{Appends}
+use Rattle.pota_base.specs.Outside.{Rose, IsPrefix}
+use Rattle.rctl_grammar.specs.declared.fault.FormulaFault.{FormulaFault}
+use Rattle.command_words.specs.declared.request.Sizes.{Sizes}
+use Rattle.run_report.specs.Benches.{IsSummaryOf}
+use Rattle.log_judgement.specs.declared.refusal.Refusal.TheVariants as refusal
+use Rattle.log_judgement.specs.WholeLogs.{all_of}
+use Rattle.log_check.specs.Aims.{Aim, asked_of, unknown_name, IsTrueSoFar}
+use Rattle.log_answers.specs.declared.stop.StopCause.{StopCause}
+use Rattle.log_answers.specs.declared.stop.StopCause.TheVariants as causes
+use Rattle.log_answers.specs.declared.stop.Stop.{Stop}
+use Rattle.log_answers.specs.declared.stop.Verdict.{Verdict}
+use Rattle.run_promise.specs.Run.{sizes_of, made_by}
+
+-- the summary of a bench of the log that is made
+abbrev pub IsSummary : Aim → Sizes → List ℕ → Type 0
+IsSummary aim sizes text =
+    IsSummaryOf (sizes_of sizes) (asked_of aim) (made_by sizes).header (made_by sizes).batches
+    aim.watches text
+
+-- the first name that the log lacks, if it lacks one
+abbrev pub missing_name : Aim → Sizes → Option FormulaFault
+missing_name aim sizes =
+    unknown_name aim.node aim.names (made_by sizes).header
+
+-- the summary was written, and this is the verdict
+pub record IsBenchOf (aim : Aim) (sizes : Sizes) (text : List ℕ) (v : Verdict)
+    : Type 0 where
+  pub named : missing_name aim sizes ≡ None
+  pub summary : IsSummary aim sizes text
+  pub truth : (v.truth ≡ true) ↔ IsTrueSoFar aim (all_of (made_by sizes))
+  pub batches : v.batches ≡ 1
+
+-- a prefix of the summary was written
+pub record IsBenchPart (aim : Aim) (sizes : Sizes) (text : List ℕ) (batches : ℕ)
+    : Type 0 where
+  pub named : missing_name aim sizes ≡ None
+  pub summary : List ℕ
+  pub is : IsSummary aim sizes summary
+  pub part : IsPrefix text summary
+  pub count : batches ≡ 1
+
+abbrev pub BenchStops : StopCause → ℕ → ℕ → ℕ → Aim → Sizes → List ℕ → Type 0
+BenchStops (causes.Refused (refusal.Formula f)) n of of' aim sizes text =
+    (missing_name aim sizes ≡ Some f) × (text ≡ []) × (n ≡ 0)
+BenchStops (causes.Refused (refusal.Log f)) n of of' aim sizes text = ⊥
+BenchStops (causes.Refused (refusal.Import f)) n of of' aim sizes text = ⊥
+BenchStops (causes.Refused (refusal.Merge f)) n of of' aim sizes text = ⊥
+BenchStops causes.Write n of of' aim sizes text =
+    IsBenchPart aim sizes text n × Rose of of'
+BenchStops causes.Memory n of of' aim sizes text = (text ≡ []) × (n ≡ 0)
+BenchStops causes.Read n of of' aim sizes text = ⊥
+
+abbrev pub BenchesTo : ℕ → ℕ → Aim → Sizes → List ℕ → Result Verdict Stop → Type 0
+BenchesTo of of' aim sizes text (Ok v) = IsBenchOf aim sizes text v
+BenchesTo of of' aim sizes text (Err stop) =
+    BenchStops stop.cause stop.batches of of' aim sizes text
+
+-- a bench was done
+pub record HasMade (held held' : Option (List ℕ)) (of of' : ℕ) (aim : Aim)
+    (sizes : Sizes) (result : Result Verdict Stop) : Type 0 where
+  pub written : List ℕ
+  pub wrote : Appends held held' written
+  pub later : of ≤ of'
+  pub to : BenchesTo of of' aim sizes written result

@@ -1,0 +1,5 @@
+-- What only the calls inside say to each other.
+pub mod Asking
+pub mod Kept
+pub mod Lending
+pub mod Rule

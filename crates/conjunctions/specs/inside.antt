@@ -1,0 +1,7 @@
+-- What only the calls inside say to each other.
+pub mod Answering
+pub mod Beginning
+pub mod Gathering
+pub mod Joining
+pub mod Numbering
+pub mod Settling

@@ -1,0 +1,57 @@
+-- Of the calls inside, which no caller rests on.
+use Rattle.std.specs.Prelude.{◌≡◌, ℕ, ◌+◌, ◌≤◌, ◌↔◌, Bool, true, List, [], ◌∷◌, ◌++◌, length}
+use Rattle.std.specs.Prelude.{drop, Option, Some}
+use Rattle.run_model.specs.Cut.{Cut, Clocks, lengths}
+use Rattle.run_model.specs.Consistent.{IsConsistent}
+use Rattle.run_model.specs.Slice.{Cuts}
+use Rattle.pull_system.specs.declared.pull.Pull.{Pull}
+use Rattle.pull_system.specs.System.{SystemView, IsSystem, IsClosed}
+use Rattle.slice_graph.specs.Views.{SliceView, slice_of}
+use Rattle.slice_graph.specs.Fitting.{FitsOrder}
+use Rattle.pull_system.specs.Rows.{RowsView, AreLeastRows}
+use Rattle.pull_system.specs.Growth.{DidNotFall, grown_words}
+use Rattle.raise_machine.specs.Bounds.{AreBounds}
+use Rattle.rctl_parts.specs.Pieces.{Piece}
+use Rattle.rctl_parts.specs.MadeFor.{PieceFits, part_count}
+use Rattle.part_pulls.specs.declared.observed.Observed.{Observed}
+use Rattle.part_pulls.specs.Observing.{scope_seen}
+use Rattle.part_pulls.specs.Counters.{AllRise, counters_of_part}
+use Rattle.conjunctions.specs.Numbering.{within}
+use Rattle.conjunctions.specs.Rounds.{RoundView}
+use Rattle.conjunctions.specs.Counting.{first_of, steps_for}
+use Rattle.conjunctions.specs.Settling.{AreFloors, CutsStay}
+
+-- a part can be settled: it is made for what was observed and has few parts, none of its counters
+-- falls, and the conjunctions within it may begin from the rows of before
+pub record CanSettlePart (seen : Observed) (before : List RowsView) (p : Piece) : Type 0 where
+  pub fits : PieceFits (scope_seen seen) p
+  pub count : part_count p ≤ 128
+  pub counters : AllRise seen (counters_of_part p)
+  pub floors : AreFloors seen before (within p)
+
+-- one conjunction with these pulls was settled: its rows are the least ones of the system, they
+-- stand behind the others, and the slice has the consistent cuts that are closed under the pulls
+pub record SettlesOne (o : Clocks) (pulls : List Pull) (keeps : Bool) (workers : ℕ)
+    (old new : RoundView) (steps_before steps_after : ℕ) (slice : SliceView) : Type 0 where
+  pub before : new.before ≡ drop 1 old.before
+  pub rows : RowsView
+  pub settled : new.settled ≡ old.settled ++ rows ∷ []
+  pub lens : rows.lens ≡ lengths o
+  pub system : IsSystem (record { lens = lengths o; pulls = pulls })
+  pub least : AreLeastRows (record { lens = lengths o; pulls = pulls }) rows.words
+  pub looks : workers ≡ 1 → steps_after
+      ≤ steps_before + steps_for (length pulls) keeps (lengths o) (first_of old.before) rows
+  pub fits : FitsOrder o slice
+  pub cuts : (c : Cut) → IsConsistent o c → Cuts o (slice_of slice) c
+      ↔ IsClosed (record { lens = lengths o; pulls = pulls }) c
+
+-- rows of before that are kept are of no more events than there are now
+pub record IsFloorOf (lens : List ℕ) (keeps : Bool) (before : Option RowsView) : Type 0 where
+  pub fell : (rows : RowsView) → keeps ≡ true → before ≡ Some rows → DidNotFall rows.lens lens
+
+-- and a table of the system may begin from them, grown, where those with a cut are final
+pub record CanBegin (system : SystemView) (keeps : Bool) (before : Option RowsView) : Type 0 where
+  pub fell : IsFloorOf system.lens keeps before
+  pub floor : (rows : RowsView) → keeps ≡ true → before ≡ Some rows
+      → AreBounds system (grown_words system.lens rows)
+  pub stays : (rows : RowsView) → keeps ≡ true → before ≡ Some rows → CutsStay system rows

@@ -1,0 +1,40 @@
+-- Of the calls inside, which no caller rests on.
+use Rattle.std.specs.Prelude.{◌≡◌, ℕ, ◌≤◌, Bool, List, Option}
+use Rattle.std.specs.Prelude.{Result, Ok, Err}
+use Rattle.std.specs.Io.KnownBytes.{Appends}
+use Rattle.pota_base.specs.Outside.{Rose, IsPrefix}
+use Rattle.run_report.specs.Benches as bench
+use Rattle.log_judgement.specs.Judgement.{Judgement}
+use Rattle.log_check.specs.Aims.{Says, Aim}
+use Rattle.log_check.specs.Checking.{GoesOn, IsRefusedAs}
+use Rattle.log_check.specs.declared.check.LogCheck.{LogCheck}
+use Rattle.log_answers.specs.declared.stop.StopCause.{StopCause}
+use Rattle.log_answers.specs.declared.stop.StopCause.TheVariants as causes
+use Rattle.log_answers.specs.declared.stop.Stop.{Stop}
+
+-- a text was to be written
+abbrev pub PutsTo : {T : Type 0} → ℕ → ℕ → List ℕ → ℕ → List ℕ → Result T Stop → Type 0
+PutsTo of of' text batches written (Ok x) = written ≡ text
+PutsTo of of' text batches written (Err stop) =
+    (stop ≡ record { batches = batches; cause = causes.Write }) × IsPrefix written text
+    × Rose of of'
+
+pub record Puts {T : Type 0} (held held' : Option (List ℕ)) (of of' : ℕ) (text : List ℕ)
+    (batches : ℕ) (result : Result T Stop) : Type 0 where
+  pub written : List ℕ
+  pub wrote : Appends held held' written
+  pub later : of ≤ of'
+  pub to : PutsTo of of' text batches written result
+
+-- an item led from one judgement to the next, and a `batch` line closed a batch or not
+abbrev pub JudgeStops : StopCause → ℕ → Judgement → Judgement → Type 0
+JudgeStops (causes.Refused r) n before after = IsRefusedAs before after n r
+JudgeStops causes.Memory n before after = n ≡ 0
+JudgeStops causes.Read n before after = ⊥
+JudgeStops causes.Write n before after = ⊥
+
+abbrev pub Judges : {X : Type 0} {P : X → Type 0} → Says X P → Aim → LogCheck X P → Judgement
+    → Judgement → Result Bool Stop → Type 0
+Judges says aim check before after (Ok closed) = GoesOn says aim check before after closed
+Judges says aim check before after (Err stop) =
+    JudgeStops stop.cause stop.batches before after

@@ -1,0 +1,5 @@
+-- What only the calls inside say to each other.
+pub mod Asks
+pub mod Fans
+pub mod Places
+pub mod Sources

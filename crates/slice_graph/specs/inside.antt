@@ -1,0 +1,5 @@
+-- What only the calls inside say to each other.
+pub mod Edges
+pub mod Fitting
+pub mod PullLists
+pub mod Words

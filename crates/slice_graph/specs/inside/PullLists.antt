@@ -1,0 +1,7 @@
+-- Of the calls inside, which no caller rests on.
+use Rattle.std.specs.Prelude.{ℕ, ◌+◌, nat_lt}
+use Rattle.std.specs.Prelude.{if◌then◌else◌}
+
+-- the process at this index among all but one
+abbrev pub other : ℕ → ℕ → ℕ
+other process index = if nat_lt index process then index else index + 1

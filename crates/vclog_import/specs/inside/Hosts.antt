@@ -1,0 +1,8 @@
+-- Of the calls inside, which no caller rests on.
+use Rattle.std.specs.Prelude.{◌≡◌, true}
+use Rattle.pota_names.specs.Names.{is_name}
+use Rattle.vclog_import.specs.Hosts.{Host, name_of}
+
+-- the process of the host has a name
+abbrev pub IsNamed : Host → Type 0
+IsNamed host = is_name (name_of host) ≡ true

@@ -1,0 +1,10 @@
+-- Of the calls inside, which no caller rests on.
+use Rattle.fault_line.specs.declared.fault.Fault.TheVariants as fault
+use Rattle.verify_answers.specs.declared.answer.Answer.{Answer}
+use Rattle.verify_answers.specs.declared.answer.Answer.TheVariants.{Accepted, Refused, Faulty}
+
+-- nothing is written of the answer
+abbrev pub HasNoLine : Answer → Type 0
+HasNoLine (Accepted told) = ⊥
+HasNoLine (Refused n) = ⊥
+HasNoLine (Faulty f) = Unit {0}

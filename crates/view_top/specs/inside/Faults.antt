@@ -1,0 +1,10 @@
+-- Of the calls inside, which no caller rests on.
+use Rattle.std.specs.Prelude.{ℕ, List, Some}
+use Rattle.fault_line.specs.Lines as pota
+use Rattle.fault_line.specs.declared.fault.Fault.TheVariants as shared
+use Rattle.view_top.specs.declared.fault.Fault.TheVariants as fault
+use Rattle.view_top.specs.Faults.{line_of}
+
+-- the line of a fault of the report
+abbrev pub report_line : (line : ℕ) → List ℕ
+report_line line = line_of (Some (fault.Report (record { line = line })))

@@ -1,0 +1,4 @@
+-- What only the calls inside say to each other.
+pub mod Checking
+pub mod Places
+pub mod Standing
