@@ -58,7 +58,6 @@ channel_of states sender receiver = record {
   receiver = receiver;
   sent = counts_of (sends_to sender receiver) (events_at states sender);
   received = counts_of (receipts_from sender receiver) (events_at states receiver);
-
 }
 
 -- the channel is between processes of the shape, and has a count after each number of their events
@@ -107,7 +106,6 @@ at_most_pull channel k = record {
   src = channel.sender;
   dst = channel.receiver;
   table = first_positions channel.sent 0 channel.received k;
-
 }
 
 -- at least k messages are under way: the sends have reached the receipts, with k
@@ -116,5 +114,4 @@ at_least_pull channel k = record {
   src = channel.receiver;
   dst = channel.sender;
   table = first_positions channel.received k channel.sent 0;
-
 }

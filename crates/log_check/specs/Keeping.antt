@@ -40,7 +40,6 @@ trace_after log = record {
   };
   batches = counted log.batches;
   spent = false;
-
 }
 
 -- the watches, by their numbers and by their names

@@ -34,7 +34,6 @@ known_in names = record {
   is_process = λ p. is_some (place_of names.processes p);
   is_variable = λ p v. is_some (place_of (variables_of names p) v);
   is_watch = λ w. is_some (place_of names.watches w);
-
 }
 
 -- ---- faults

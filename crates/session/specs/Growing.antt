@@ -32,7 +32,6 @@ opened_observed header on = record {
   trace = opened_trace header;
   watch_process = on;
   watch_rows = replicate (length on) [];
-
 }
 
 -- before the first batch
@@ -43,7 +42,6 @@ opened_growing header on disjuncts = record {
   settled = [];
   answer = None;
   spent = false;
-
 }
 
 -- a batch was taken, memory sufficed so far, and the answer on the trace so far was made

@@ -9,5 +9,4 @@ edge_of e = record {
   cause_position = e.cause.position;
   effect = e.effect.process;
   effect_position = e.effect.position;
-
 }

@@ -53,7 +53,6 @@ internal_by i line p = record {
   clock = p.clock;
   kind = kind.Internal;
   assigns = position_is (count p.clock i) ∷ [];
-
 }
 
 abbrev pub internal : ℕ → ℕ → Processes → Made
@@ -68,7 +67,6 @@ send_by i line to id p = record {
   clock = p.clock;
   kind = kind.Send to id;
   assigns = position_is (count p.clock i) ∷ [];
-
 }
 
 abbrev pub sending : ℕ → ℕ → ℕ → ℕ → Processes → Made
@@ -86,7 +84,6 @@ receipt_by i line m p = record {
   clock = (received p m).clock;
   kind = kind.Receive m.sender m.id;
   assigns = position_is (count p.clock i) ∷ seen_is (received p m).seen ∷ [];
-
 }
 
 -- process i receives m, behind which these others wait

@@ -44,7 +44,6 @@ with_trace_batch trace batch = record {
   };
   batches = one_more trace.batches;
   spent = trace.spent;
-
 }
 
 -- the batch fits the batches before it: it may follow their events, and each of its events has its
