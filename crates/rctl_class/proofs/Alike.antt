@@ -29,6 +29,7 @@ use Rattle.rctl_class.specs.Uses.{earlier, uses_of}
 use Rattle.rctl_class.specs.Faults.{first_fault, first_of, operator_fault}
 use Rattle.rctl_class.specs.NamedParts.{NamedPiece, name_on, side_formula, expr_formula, expr_formulas, part_formula, part_formulas, pieces}
 use Rattle.rctl_class.specs.Walk as walk
+use Rattle.rctl_class.specs.inside.Walk as inside_walk
 use Rattle.rctl_class.specs.Walk.{first_place, side_from, expr_from, exprs_from, local_part, bounds}
 use Rattle.rctl_class.specs.Walk.{difference_bounds, next_count, parts_from, disjuncts_from}
 use Rattle.rctl_class.specs.inside.Walk.{is_on, is_over, all_over}
@@ -142,7 +143,7 @@ pub on_same : (q : Option Name) (name : Name) → is_on q name ≡ true → some
 on_same None name h = absurd (false≢true h)
 on_same (Some p) name h = (bytes_eq-Decides p name).0 h
 
-side_named : (q : Option Name) (right : Side) → walk.side_is_over q right ≡ true → side_formula (some_name q) (side_from right) ≡ model_side (plain_side right)
+side_named : (q : Option Name) (right : Side) → inside_walk.side_is_over q right ≡ true → side_formula (some_name q) (side_from right) ≡ model_side (plain_side right)
 side_named q (side.Number value) h = refl
 side_named q (side.Variable p v) h = rw (on_same q p.name h) refl
 
@@ -150,7 +151,7 @@ mutual
   expr_named : (q : Option Name) (n : Node) → is_over q n ≡ true → expr_formula (some_name q) (expr_from n) ≡ formula_of n
   expr_named q (leaf (atom.Truth value) at) h = refl
   expr_named q (leaf (atom.Local p v compare right) at) h =
-      let both = and_parts (is_on q p.name) (walk.side_is_over q right) h in
+      let both = and_parts (is_on q p.name) (inside_walk.side_is_over q right) h in
       ap (model.Comparison (some_name q) v.name (relation_of compare)) (side_named q right both.1)
       ∙ ap (λ name. model.Comparison name v.name (relation_of compare) (model_side (plain_side right))) (on_same q p.name both.0)
   expr_named q (leaf (atom.Watch p w) at) h = ap (λ name. model.Watched name w.name) (on_same q p.name h)

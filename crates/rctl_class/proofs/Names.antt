@@ -19,6 +19,7 @@ use Rattle.rctl_class.specs.Faults.{first_fault, first_of, operator_fault}
 use Rattle.rctl_class.specs.NamedParts as named
 use Rattle.rctl_class.specs.NamedParts.{NamedPiece, Pieces, name_on, side_uses, expr_uses, all_expr_uses, process_use, part_uses, operand_uses, parts_uses, disjuncts_uses, pieces}
 use Rattle.rctl_class.specs.Walk as walk
+use Rattle.rctl_class.specs.inside.Walk as inside_walk
 use Rattle.rctl_class.specs.Walk.{first_place, side_from, expr_from, exprs_from, signed, local_part}
 use Rattle.rctl_class.specs.Walk.{bounds, difference_bounds, parts_from, disjuncts_from}
 use Rattle.rctl_class.specs.inside.Walk.{is_on, is_over, all_over}
@@ -141,7 +142,7 @@ named_once p us alone = record {
 
 -- ---- local formulas
 
-side_names : (q : Option Name) (p v : Place) (right : Side) → walk.side_is_over q right ≡ true → side_uses (some_name q) (side_from right) ≡ without_processes (used.side_uses right)
+side_names : (q : Option Name) (p v : Place) (right : Side) → inside_walk.side_is_over q right ≡ true → side_uses (some_name q) (side_from right) ≡ without_processes (used.side_uses right)
 side_names q p v (side.Number value) h = refl
 side_names q p v (side.Variable r w) h = rw (on_same q r.name h) refl
 
@@ -149,7 +150,7 @@ mutual
   expr_names : (q : Option Name) (n : Node) → is_over q n ≡ true → expr_uses (some_name q) (expr_from n) ≡ without_processes (uses_of n)
   expr_names q (leaf (atom.Truth value) at) h = refl
   expr_names q (leaf (atom.Local p v compare right) at) h =
-      let both = and_parts (is_on q p.name) (walk.side_is_over q right) h in
+      let both = and_parts (is_on q p.name) (inside_walk.side_is_over q right) h in
       ap (λ us. used.variable (some_name q) v ∷ us) (side_names q p v right both.1) ∙ ap (λ name. used.variable name v ∷ without_processes (used.side_uses right)) (on_same q p.name both.0)
   expr_names q (leaf (atom.Watch p w) at) h = ap (λ name. used.watch name w ∷ []) (on_same q p.name h)
   expr_names q (leaf (atom.InTransit p r compare k) at) h = absurd (false≢true h)
