@@ -39,11 +39,11 @@ abbrev pub IsCounter : StatesView → Variable → Type 0
 IsCounter states v = AreRising (values_of states v)
 
 -- both are variables of the states, and neither ever falls
-pub record AreCounters (states : StatesView) (left right : Variable) : Type 0 where
-  pub left : IsVariable states left
-  pub right : IsVariable states right
-  pub left_rises : IsCounter states left
-  pub right_rises : IsCounter states right
+pub record AreCounters (states : StatesView) (v w : Variable) : Type 0 where
+  pub left : IsVariable states v
+  pub right : IsVariable states w
+  pub left_rises : IsCounter states v
+  pub right_rises : IsCounter states w
 
 -- ---- the pulls
 

@@ -4,6 +4,18 @@ use Rattle.certify.proofs.Fronts.{nothing_written, on_err}
 use Rattle.certify.proofs.Certified.{certified_of, memory_of, nothing_of}
 use Rattle.certify.proofs.writing.certify_counted.Goals as goal
 
+pub nodes_for-requires-clause-ready : goal.nodes_for-requires-clause-ready
+nodes_for-requires-clause-ready g c = c.requires.can.ready
+
+pub nodes_for-requires-clause-fits : goal.nodes_for-requires-clause-fits
+nodes_for-requires-clause-fits g c = c.requires.can.fits
+
+pub nodes_for-requires-clause-counters : goal.nodes_for-requires-clause-counters
+nodes_for-requires-clause-counters g c = c.requires.can.counters
+
+pub nodes_for-requires-clause-count : goal.nodes_for-requires-clause-count
+nodes_for-requires-clause-count g c = c.requires.can.count
+
 pub returns-in_err-nodes-clause-memory : goal.returns-in_err-nodes-clause-memory
 returns-in_err-nodes-clause-memory g c = on_err _ (nothing_of _ _ _ _ (nothing_written _ _ _))
 

@@ -82,6 +82,12 @@ add_part-add_operator-requires-clause-floor g t c =
 pub add_part-add_atom-requires-clause-atom : goal.add_part-add_atom-requires-clause-atom
 add_part-add_atom-requires-clause-atom g t c = grind (arith, rules_of.pieces)
 
+pub add_part-add_atom-requires-clause-fits : goal.add_part-add_atom-requires-clause-fits
+add_part-add_atom-requires-clause-fits g t c = c.requires.part.fits
+
+pub add_part-add_atom-requires-clause-counters : goal.add_part-add_atom-requires-clause-counters
+add_part-add_atom-requires-clause-counters g t c = c.requires.part.counters
+
 pub add_part-returns-in_ok-truth-in-Temporal : goal.add_part-returns-in_ok-truth-in-Temporal
 add_part-returns-in_ok-truth-in-Temporal g t c =
     let seen = c.args.seen.now in
