@@ -13,7 +13,7 @@ ghost use Rattle.pull_system.specs.Rows.{start_of};
 /// minimum and maximum.
 pub fn cuts_are_vectors()
     ensures vector { (o : Clocks) (c : Cut) → IsConsistent o c → IsVector (lengths o) c }
-    ensures order { (c d : Cut) → cut.IsWithin c d ↔ vector.IsWithin c d }
+    ensures order { (c d : Cut) → cut.IsWithin c d ↔ vector.IsAtMost c d }
     ensures minimum { (c d : Cut) → length c ≡ length d → IsMinimum c d (min_cut c d) }
     ensures maximum { (c d : Cut) → length c ≡ length d → IsMaximum c d (max_cut c d) }
 {}

@@ -102,7 +102,7 @@ module _ {X : Type 0} {P : X → Type 0} (says : Says X P) where
 
   -- ---- the header
 
-  taken_none : (aim : Aim) (header : Header) (resolved : Resolved) (ds : List (List named.Piece)) (g : GrowingView) → HeaderFits header → IsClassed aim.node ds → IsResolved header aim.names ds resolved
+  taken_none : (aim : Aim) (header : Header) (resolved : Resolved) (ds : List (List named.NamedPiece)) (g : GrowingView) → HeaderFits header → IsClassed aim.node ds → IsResolved header aim.names ds resolved
       → g ≡ opened_growing header resolved.watch_process resolved.disjuncts → HasTaken aim g (record { header = header; batches = [] })
   taken_none aim header resolved ds g fits classed is opened_ = record {
     fits = fits;
@@ -118,7 +118,7 @@ module _ {X : Type 0} {P : X → Type 0} (says : Says X P) where
     watched = λ some. absurd (omega (arith, some));
   }
 
-  pub opens : (aim : Aim) (header : Header) (resolved : Resolved) (ds : List (List named.Piece)) (check now : LogCheck X P) (session : Session X P) → IsCheckOf says aim check waiting
+  pub opens : (aim : Aim) (header : Header) (resolved : Resolved) (ds : List (List named.NamedPiece)) (check now : LogCheck X P) (session : Session X P) → IsCheckOf says aim check waiting
       → HeaderFits header → IsClassed aim.node ds → IsResolved header aim.names ds resolved
       → session.growing ≡ opened_growing header resolved.watch_process resolved.disjuncts
       → (handed : List (Handed X P)) → handed ≡ check.watches.items → AreFedFrom says handed session.watches.items session.growing.seen

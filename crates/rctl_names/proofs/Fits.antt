@@ -71,7 +71,7 @@ local_keeps variables i s (a_watch w ∷ us) free =
     keeps_then s (put s i w) (local_after i (put s i w) us) (put_keeps s i w both.0) (local_keeps variables i (put s i w) us both.1)
 
 mutual
-  part_keeps : (names : Names) (s : Watched) (p : named.Piece) → part_fault names s p ≡ None → Keeps s (part_after names s p)
+  part_keeps : (names : Names) (s : Watched) (p : named.NamedPiece) → part_fault names s p ≡ None → Keeps s (part_after names s p)
   part_keeps names s (named.local None e) free = local_keeps [] 0 s (local_names e) free
   part_keeps names s (named.local (Some p) e) free =
       local_keeps (variables_of names p.name) (number names.processes p.name) s (local_names e)
@@ -90,7 +90,7 @@ mutual
       let both = none_both (part_fault names s p) (operand_fault names (part_after names s p) ps) free in
       keeps_then s (part_after names s p) (operand_after names (part_after names s p) ps) (part_keeps names s p both.0) (operand_keeps names (part_after names s p) ps both.1)
 
-pub disjuncts_keep : (names : Names) (s : Watched) (ds : List (List named.Piece)) → disjuncts_fault names s ds ≡ None → Keeps s (disjuncts_after names s ds)
+pub disjuncts_keep : (names : Names) (s : Watched) (ds : List (List named.NamedPiece)) → disjuncts_fault names s ds ≡ None → Keeps s (disjuncts_after names s ds)
 disjuncts_keep names s [] free = keeps_itself s
 disjuncts_keep names s (d ∷ ds) free =
     let both = none_both (operand_fault names s (named.pieces d)) (disjuncts_fault names (operand_after names s (named.pieces d)) ds) free in
@@ -233,11 +233,11 @@ operator_fits scope (operator.Ex p) h = absurd (false≢true h)
 operator_fits scope operator.Af h = absurd (false≢true h)
 operator_fits scope operator.Ax h = absurd (false≢true h)
 
-part_sized : (names : Names) (s : Watched) (p : named.Piece) → IsSized names s → part_fault names s p ≡ None → IsSized names (part_after names s p)
+part_sized : (names : Names) (s : Watched) (p : named.NamedPiece) → IsSized names s → part_fault names s p ≡ None → IsSized names (part_after names s p)
 part_sized names s p is free = record { paired = is.paired; same = part_names names s p ∙ is.same; sized = (part_keeps names s p free).sized ∙ is.sized }
 
 mutual
-  piece_fits : (names : Names) (s t : Watched) (p : named.Piece) → IsSized names s → named.PartFits p → part_fault names s p ≡ None → Keeps (part_after names s p) t → PieceFits (scope_for names t) (piece_in names p)
+  piece_fits : (names : Names) (s t : Watched) (p : named.NamedPiece) → IsSized names s → named.PartFits p → part_fault names s p ≡ None → Keeps (part_after names s p) t → PieceFits (scope_for names t) (piece_in names p)
   piece_fits names s t (named.local None e) is fits free keeps = constant_in [] names.watches e ∙ fits
   piece_fits names s t (named.local (Some p) e) is fits free keeps = local_fits names s t p e is fits free keeps
   piece_fits names s t (named.at_most p q k) is fits free keeps =
@@ -263,7 +263,7 @@ mutual
         operand_fits names u t ps (part_sized names s p is both.0) fits.1 both.1 keeps,
       )
 
-parts_fit : (names : Names) (s t : Watched) (ps : List named.Piece) → IsSized names s → named.EachFits ps → operand_fault names s (named.pieces ps) ≡ None → Keeps (operand_after names s (named.pieces ps)) t →
+parts_fit : (names : Names) (s t : Watched) (ps : List named.NamedPiece) → IsSized names s → named.EachFits ps → operand_fault names s (named.pieces ps) ≡ None → Keeps (operand_after names s (named.pieces ps)) t →
     EachFits (scope_for names t) (map (piece_in names) ps)
 parts_fit names s t [] is fits free keeps = tt
 parts_fit names s t (p ∷ ps) is fits free keeps =
@@ -273,7 +273,7 @@ parts_fit names s t (p ∷ ps) is fits free keeps =
       parts_fit names u t ps (part_sized names s p is both.0) fits.1 both.1 keeps,
     )
 
-pub disjuncts_fit : (names : Names) (s t : Watched) (ds : List (List named.Piece)) → IsSized names s → named.AllFit ds → disjuncts_fault names s ds ≡ None → Keeps (disjuncts_after names s ds) t →
+pub disjuncts_fit : (names : Names) (s t : Watched) (ds : List (List named.NamedPiece)) → IsSized names s → named.AllFit ds → disjuncts_fault names s ds ≡ None → Keeps (disjuncts_after names s ds) t →
     AllFit (scope_for names t) (map (map (piece_in names)) ds)
 disjuncts_fit names s t [] is fits free keeps = tt
 disjuncts_fit names s t (d ∷ ds) is fits free keeps =
@@ -322,7 +322,7 @@ mutual
       ∙ exprs_others variables ws i w u es (after_names i s (local_names e) ∙ same) both.1 ∙ expr_others variables ws i w s e same both.0
 
 mutual
-  part_others : (names : Names) (w : ℕ) (s : Watched) (p : named.Piece) → s.names ≡ names.watches → part_names_watch w (piece_in names p) ≡ false → get_or (part_after names s p).on w None ≡ get_or s.on w None
+  part_others : (names : Names) (w : ℕ) (s : Watched) (p : named.NamedPiece) → s.names ≡ names.watches → part_names_watch w (piece_in names p) ≡ false → get_or (part_after names s p).on w None ≡ get_or s.on w None
   part_others names w s (named.local None e) same h = expr_others [] names.watches 0 w s e same h
   part_others names w s (named.local (Some p) e) same h = expr_others (variables_of names p.name) names.watches (number names.processes p.name) w s e same h
   part_others names w s (named.at_most p q k) same h = refl
@@ -339,13 +339,13 @@ mutual
       let both = or_both (part_names_watch w (piece_in names p)) (operand_names_watch w (pieces_in names ps)) h in
       operand_others names w (part_after names s p) ps (part_names names s p ∙ same) both.1 ∙ part_others names w s p same both.0
 
-parts_others : (names : Names) (w : ℕ) (s : Watched) (ps : List named.Piece) → s.names ≡ names.watches → parts_name_watch w (map (piece_in names) ps) ≡ false → get_or (operand_after names s (named.pieces ps)).on w None ≡ get_or s.on w None
+parts_others : (names : Names) (w : ℕ) (s : Watched) (ps : List named.NamedPiece) → s.names ≡ names.watches → parts_name_watch w (map (piece_in names) ps) ≡ false → get_or (operand_after names s (named.pieces ps)).on w None ≡ get_or s.on w None
 parts_others names w s [] same h = refl
 parts_others names w s (p ∷ ps) same h =
     let both = or_both (part_names_watch w (piece_in names p)) (parts_name_watch w (map (piece_in names) ps)) h in
     parts_others names w (part_after names s p) ps (part_names names s p ∙ same) both.1 ∙ part_others names w s p same both.0
 
-pub disjuncts_others : (names : Names) (w : ℕ) (s : Watched) (ds : List (List named.Piece)) → s.names ≡ names.watches → disjuncts_name_watch w (map (map (piece_in names)) ds) ≡ false →
+pub disjuncts_others : (names : Names) (w : ℕ) (s : Watched) (ds : List (List named.NamedPiece)) → s.names ≡ names.watches → disjuncts_name_watch w (map (map (piece_in names)) ds) ≡ false →
     get_or (disjuncts_after names s ds).on w None ≡ get_or s.on w None
 disjuncts_others names w s [] same h = refl
 disjuncts_others names w s (d ∷ ds) same h =
@@ -355,7 +355,7 @@ disjuncts_others names w s (d ∷ ds) same h =
 -- ---- counts
 
 mutual
-  part_counted : (names : Names) (p : named.Piece) → made.part_count (piece_in names p) ≡ named.part_count p
+  part_counted : (names : Names) (p : named.NamedPiece) → made.part_count (piece_in names p) ≡ named.part_count p
   part_counted names (named.local None e) = refl
   part_counted names (named.local (Some p) e) = refl
   part_counted names (named.at_most p q k) = refl
@@ -370,10 +370,10 @@ mutual
   operand_counted names named.no_piece = refl
   operand_counted names (named.and_piece p ps) = rw (part_counted names p, operand_counted names ps) refl
 
-parts_counted : (names : Names) (ps : List named.Piece) → made.parts_count (map (piece_in names) ps) ≡ named.parts_count ps
+parts_counted : (names : Names) (ps : List named.NamedPiece) → made.parts_count (map (piece_in names) ps) ≡ named.parts_count ps
 parts_counted names [] = refl
 parts_counted names (p ∷ ps) = rw (part_counted names p, parts_counted names ps) refl
 
-pub disjuncts_counted : (names : Names) (ds : List (List named.Piece)) → made.disjuncts_count (map (map (piece_in names)) ds) ≡ named.disjuncts_count ds
+pub disjuncts_counted : (names : Names) (ds : List (List named.NamedPiece)) → made.disjuncts_count (map (map (piece_in names)) ds) ≡ named.disjuncts_count ds
 disjuncts_counted names [] = refl
 disjuncts_counted names (d ∷ ds) = rw (parts_counted names d, disjuncts_counted names ds) refl

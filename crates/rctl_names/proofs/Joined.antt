@@ -44,7 +44,7 @@ after_names p s (a_variable v ∷ us) = after_names p s us
 after_names p s (a_watch w ∷ us) = after_names p (put s p w) us ∙ put_names s p w
 
 mutual
-  pub part_names : (names : Names) (s : Watched) (p : named.Piece) → (part_after names s p).names ≡ s.names
+  pub part_names : (names : Names) (s : Watched) (p : named.NamedPiece) → (part_after names s p).names ≡ s.names
   part_names names s (named.local None e) = after_names 0 s (local_names e)
   part_names names s (named.local (Some p) e) = after_names _ s (local_names e)
   part_names names s (named.at_most p q k) = refl
@@ -59,7 +59,7 @@ mutual
   operand_names names s named.no_piece = refl
   operand_names names s (named.and_piece p ps) = operand_names names (part_after names s p) ps ∙ part_names names s p
 
-pub disjuncts_names : (names : Names) (s : Watched) (ds : List (List named.Piece)) → (disjuncts_after names s ds).names ≡ s.names
+pub disjuncts_names : (names : Names) (s : Watched) (ds : List (List named.NamedPiece)) → (disjuncts_after names s ds).names ≡ s.names
 disjuncts_names names s [] = refl
 disjuncts_names names s (d ∷ ds) = disjuncts_names names (operand_after names s (named.pieces d)) ds ∙ operand_names names s (named.pieces d)
 
@@ -128,27 +128,27 @@ exprs_more variables watches others xs x old e same before here =
 
 -- ---- parts
 
-pub operand_fault_joined : (names : Names) (s : Watched) (xs ys : List named.Piece) →
+pub operand_fault_joined : (names : Names) (s : Watched) (xs ys : List named.NamedPiece) →
     operand_fault names s (named.pieces (xs ++ ys)) ≡ earlier (operand_fault names s (named.pieces xs)) (operand_fault names (operand_after names s (named.pieces xs)) (named.pieces ys))
 operand_fault_joined names s [] ys = refl
 operand_fault_joined names s (x ∷ xs) ys =
     ap (earlier (part_fault names s x)) (operand_fault_joined names (part_after names s x) xs ys)
     ∙ sym (earlier_assoc (part_fault names s x) (operand_fault names (part_after names s x) (named.pieces xs)) (operand_fault names (operand_after names (part_after names s x) (named.pieces xs)) (named.pieces ys)))
 
-pub operand_after_joined : (names : Names) (s : Watched) (xs ys : List named.Piece) →
+pub operand_after_joined : (names : Names) (s : Watched) (xs ys : List named.NamedPiece) →
     operand_after names s (named.pieces (xs ++ ys)) ≡ operand_after names (operand_after names s (named.pieces xs)) (named.pieces ys)
 operand_after_joined names s [] ys = refl
 operand_after_joined names s (x ∷ xs) ys = operand_after_joined names (part_after names s x) xs ys
 
-pub piece_fails : (names : Names) (s t : Watched) (xs ys : List named.Piece) (x : named.Piece) (f : FormulaFault) → operand_fault names s (named.pieces xs) ≡ None →
+pub piece_fails : (names : Names) (s t : Watched) (xs ys : List named.NamedPiece) (x : named.NamedPiece) (f : FormulaFault) → operand_fault names s (named.pieces xs) ≡ None →
     t ≡ operand_after names s (named.pieces xs) → part_fault names t x ≡ Some f → operand_fault names s (named.pieces (xs ++ x ∷ ys)) ≡ Some f
 piece_fails names s t xs ys x f free after bad = operand_fault_joined names s xs (x ∷ ys) ∙ rw (free, ← after, bad) refl
 
-pub piece_passes : (names : Names) (s t : Watched) (xs : List named.Piece) (x : named.Piece) → operand_fault names s (named.pieces xs) ≡ None →
+pub piece_passes : (names : Names) (s t : Watched) (xs : List named.NamedPiece) (x : named.NamedPiece) → operand_fault names s (named.pieces xs) ≡ None →
     t ≡ operand_after names s (named.pieces xs) → part_fault names t x ≡ None → operand_fault names s (named.pieces (xs ++ x ∷ [])) ≡ None
 piece_passes names s t xs x free after good = operand_fault_joined names s xs (x ∷ []) ∙ rw (free, ← after, good) refl
 
-pub piece_after : (names : Names) (s t u : Watched) (xs : List named.Piece) (x : named.Piece) → t ≡ operand_after names s (named.pieces xs) →
+pub piece_after : (names : Names) (s t u : Watched) (xs : List named.NamedPiece) (x : named.NamedPiece) → t ≡ operand_after names s (named.pieces xs) →
     u ≡ part_after names t x → u ≡ operand_after names s (named.pieces (xs ++ x ∷ []))
 piece_after names s t u xs x before here = here ∙ ap (λ v. part_after names v x) before ∙ sym (operand_after_joined names s xs (x ∷ []))
 
@@ -160,38 +160,38 @@ pieces-append : (xs ys : List piece.Piece) → piece.pieces (xs ++ ys) ≡ piece
 pieces-append [] ys = refl
 pieces-append (x ∷ xs) ys = ap (piece.more x) (pieces-append xs ys)
 
-pieces_in-append : (names : Names) (xs ys : List named.Piece) →
+pieces_in-append : (names : Names) (xs ys : List named.NamedPiece) →
     pieces_in names (named.pieces (xs ++ ys)) ≡ pieces_joined (pieces_in names (named.pieces xs)) (pieces_in names (named.pieces ys))
 pieces_in-append names [] ys = refl
 pieces_in-append names (x ∷ xs) ys = ap (piece.more (piece_in names x)) (pieces_in-append names xs ys)
 
-pub pieces_more : (names others : Names) (xs : List named.Piece) (x : named.Piece) (old : List piece.Piece) (p : piece.Piece) → others ≡ names →
+pub pieces_more : (names others : Names) (xs : List named.NamedPiece) (x : named.NamedPiece) (old : List piece.Piece) (p : piece.Piece) → others ≡ names →
     piece.pieces old ≡ pieces_in names (named.pieces xs) → p ≡ piece_in others x → piece.pieces (old ++ p ∷ []) ≡ pieces_in names (named.pieces (xs ++ x ∷ []))
 pieces_more names others xs x old p same before here =
     pieces-append old (p ∷ []) ∙ rw (before, here, same) (sym (pieces_in-append names xs (x ∷ [])))
 
 -- ---- disjuncts
 
-pub disjuncts_fault_joined : (names : Names) (s : Watched) (ds es : List (List named.Piece)) →
+pub disjuncts_fault_joined : (names : Names) (s : Watched) (ds es : List (List named.NamedPiece)) →
     disjuncts_fault names s (ds ++ es) ≡ earlier (disjuncts_fault names s ds) (disjuncts_fault names (disjuncts_after names s ds) es)
 disjuncts_fault_joined names s [] es = refl
 disjuncts_fault_joined names s (d ∷ ds) es =
     ap (earlier (operand_fault names s (named.pieces d))) (disjuncts_fault_joined names (operand_after names s (named.pieces d)) ds es)
     ∙ sym (earlier_assoc (operand_fault names s (named.pieces d)) (disjuncts_fault names (operand_after names s (named.pieces d)) ds) (disjuncts_fault names (disjuncts_after names (operand_after names s (named.pieces d)) ds) es))
 
-pub disjuncts_after_joined : (names : Names) (s : Watched) (ds es : List (List named.Piece)) →
+pub disjuncts_after_joined : (names : Names) (s : Watched) (ds es : List (List named.NamedPiece)) →
     disjuncts_after names s (ds ++ es) ≡ disjuncts_after names (disjuncts_after names s ds) es
 disjuncts_after_joined names s [] es = refl
 disjuncts_after_joined names s (d ∷ ds) es = disjuncts_after_joined names (operand_after names s (named.pieces d)) ds es
 
-pub disjunct_fails : (names : Names) (s t : Watched) (ds es : List (List named.Piece)) (d : List named.Piece) (f : FormulaFault) → disjuncts_fault names s ds ≡ None →
+pub disjunct_fails : (names : Names) (s t : Watched) (ds es : List (List named.NamedPiece)) (d : List named.NamedPiece) (f : FormulaFault) → disjuncts_fault names s ds ≡ None →
     t ≡ disjuncts_after names s ds → operand_fault names t (named.pieces d) ≡ Some f → disjuncts_fault names s (ds ++ d ∷ es) ≡ Some f
 disjunct_fails names s t ds es d f free after bad = disjuncts_fault_joined names s ds (d ∷ es) ∙ rw (free, ← after, bad) refl
 
-pub disjunct_passes : (names : Names) (s t : Watched) (ds : List (List named.Piece)) (d : List named.Piece) → disjuncts_fault names s ds ≡ None →
+pub disjunct_passes : (names : Names) (s t : Watched) (ds : List (List named.NamedPiece)) (d : List named.NamedPiece) → disjuncts_fault names s ds ≡ None →
     t ≡ disjuncts_after names s ds → operand_fault names t (named.pieces d) ≡ None → disjuncts_fault names s (ds ++ d ∷ []) ≡ None
 disjunct_passes names s t ds d free after good = disjuncts_fault_joined names s ds (d ∷ []) ∙ rw (free, ← after, good) refl
 
-pub disjunct_after : (names : Names) (s t u : Watched) (ds : List (List named.Piece)) (d : List named.Piece) → t ≡ disjuncts_after names s ds →
+pub disjunct_after : (names : Names) (s t u : Watched) (ds : List (List named.NamedPiece)) (d : List named.NamedPiece) → t ≡ disjuncts_after names s ds →
     u ≡ operand_after names t (named.pieces d) → u ≡ disjuncts_after names s (ds ++ d ∷ [])
 disjunct_after names s t u ds d before here = here ∙ ap (λ v. operand_after names v (named.pieces d)) before ∙ sym (disjuncts_after_joined names s ds (d ∷ []))

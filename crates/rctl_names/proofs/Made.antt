@@ -55,19 +55,19 @@ names_with scope before after e = ap (λ ws. record { processes = scope.processe
 pub same_names : (scope : Scope) (before after : Watches) (ps : named.Pieces) → watched_in after ≡ operand_after (names_in scope before) (watched_in before) ps → names_in scope after ≡ names_in scope before
 same_names scope before after ps put = names_with scope before after (ap (λ (w : Watched). w.names) put ∙ operand_names (names_in scope before) (watched_in before) ps)
 
-pub still_same_names : (scope : Scope) (before after : Watches) (ds : List (List named.Piece)) → watched_in after ≡ disjuncts_after (names_in scope before) (watched_in before) ds → names_in scope after ≡ names_in scope before
+pub still_same_names : (scope : Scope) (before after : Watches) (ds : List (List named.NamedPiece)) → watched_in after ≡ disjuncts_after (names_in scope before) (watched_in before) ds → names_in scope after ≡ names_in scope before
 still_same_names scope before after ds put = names_with scope before after (ap (λ (w : Watched). w.names) put ∙ disjuncts_names (names_in scope before) (watched_in before) ds)
 
 listed_back : (ps : List piece.Piece) → piece.listed (piece.pieces ps) ≡ ps
 listed_back [] = refl
 listed_back (p ∷ ps) = ap (λ l. p ∷ l) (listed_back ps)
 
-listed_of : (names : Names) (ps : List named.Piece) → piece.listed (pieces_in names (named.pieces ps)) ≡ map (piece_in names) ps
+listed_of : (names : Names) (ps : List named.NamedPiece) → piece.listed (pieces_in names (named.pieces ps)) ≡ map (piece_in names) ps
 listed_of names [] = refl
 listed_of names (p ∷ ps) = ap (λ l. piece_in names p ∷ l) (listed_of names ps)
 
 -- the parts of a disjunct, in a list
-pub listed_in : (others names : Names) (xs : List named.Piece) (made : List piece.Piece) → others ≡ names → piece.pieces made ≡ pieces_in others (named.pieces xs) → made ≡ map (piece_in names) xs
+pub listed_in : (others names : Names) (xs : List named.NamedPiece) (made : List piece.Piece) → others ≡ names → piece.pieces made ≡ pieces_in others (named.pieces xs) → made ≡ map (piece_in names) xs
 listed_in others names xs made same is =
     sym (listed_back made) ∙ ap piece.listed (is ∙ ap (λ n. pieces_in n (named.pieces xs)) same) ∙ listed_of names xs
 

@@ -20,7 +20,7 @@ use Rattle.rctl_class.proofs.Meaning.{classed_means}
 use Rattle.rctl_names.specs.Seen.{names_of}
 use Rattle.rctl_names.specs.Resolving.{IsResolved}
 
-pub resolved_means : (n : Node) (ds : List (List named.Piece)) → IsClassed n ds → (header : Header) (watches : List Name) (resolved : Resolved) → IsResolved header watches ds resolved →
+pub resolved_means : (n : Node) (ds : List (List named.NamedPiece)) → IsClassed n ds → (header : Header) (watches : List Name) (resolved : Resolved) → IsResolved header watches ds resolved →
     (r : Run) → IsOrder r.clocks → (c : Cut) → IsConsistent r.clocks c →
     Sat r (disjunction_of (names_of header watches) (piece.disjuncts_of resolved.disjuncts)) c ↔ Sat r (formula_of n) c
 resolved_means n ds is header watches resolved made r order c k =
@@ -31,13 +31,13 @@ resolved_means n ds is header watches resolved made r order c k =
       λ h. disjuncts_spelled r names (piece.disjuncts_of resolved.disjuncts) c (subst P (sym made.spelled) (means.1 h)),
     )
 
-pub resolved_counters : (n : Node) (ds : List (List named.Piece)) → IsClassed n ds → (header : Header) (watches : List Name) (resolved : Resolved) → IsResolved header watches ds resolved →
+pub resolved_counters : (n : Node) (ds : List (List named.NamedPiece)) → IsClassed n ds → (header : Header) (watches : List Name) (resolved : Resolved) → IsResolved header watches ds resolved →
     HaveSameMembers (disjuncts_counters (part_formulas (names_of header watches) (piece.disjuncts_of resolved.disjuncts))) (counters_of (formula_of n))
 resolved_counters n ds is header watches resolved made =
     let P : List (List Formula) → Type 0 = λ fs. HaveSameMembers (disjuncts_counters fs) (counters_of (formula_of n)) in
     subst P (sym made.spelled) is.counters
 
-pub resolved_asks : (n : Node) (ds : List (List named.Piece)) → IsClassed n ds → (header : Header) (watches : List Name) (resolved : Resolved) → IsResolved header watches ds resolved →
+pub resolved_asks : (n : Node) (ds : List (List named.NamedPiece)) → IsClassed n ds → (header : Header) (watches : List Name) (resolved : Resolved) → IsResolved header watches ds resolved →
     (r : Run) → DisjunctsKeptFor r (part_formulas (names_of header watches) (piece.disjuncts_of resolved.disjuncts)) ↔ IsKeptFor r (formula_of n)
 resolved_asks n ds is header watches resolved made r =
     same_kept r (part_formulas (names_of header watches) (piece.disjuncts_of resolved.disjuncts)) (formula_of n) (resolved_counters n ds is header watches resolved made)

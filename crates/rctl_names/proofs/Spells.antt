@@ -153,7 +153,7 @@ analysed_operated names operator.Af f h = absurd (false≢true h)
 analysed_operated names operator.Ax f h = absurd (false≢true h)
 
 mutual
-  pub piece_spelled : (names : Names) (s : Watched) (p : named.Piece) → s.names ≡ names.watches → named.PartFits p → part_fault names s p ≡ None → formula_of names (piece_in names p) ≡ part_formula p
+  pub piece_spelled : (names : Names) (s : Watched) (p : named.NamedPiece) → s.names ≡ names.watches → named.PartFits p → part_fault names s p ≡ None → formula_of names (piece_in names p) ≡ part_formula p
   piece_spelled names s (named.local None e) same fits free = constant_over_none names.watches e fits
   piece_spelled names s (named.local (Some p) e) same fits free = local_spelled names s p e same free
   piece_spelled names s (named.at_most p q k) same fits free = channel_spelled names p q model.LessOrEqual k free
@@ -176,7 +176,7 @@ mutual
       ap (λ f. model.Cons f (formulas_of names (pieces_in names ps))) (piece_spelled names s p same fits.0 both.0)
       ∙ ap (model.Cons (part_formula p)) (operand_spelled names (part_after names s p) ps (part_names names s p ∙ same) fits.1 both.1)
 
-parts_spelled : (names : Names) (s : Watched) (ps : List named.Piece) → s.names ≡ names.watches → named.EachFits ps → operand_fault names s (named.pieces ps) ≡ None →
+parts_spelled : (names : Names) (s : Watched) (ps : List named.NamedPiece) → s.names ≡ names.watches → named.EachFits ps → operand_fault names s (named.pieces ps) ≡ None →
     map (formula_of names) (map (piece_in names) ps) ≡ map part_formula ps
 parts_spelled names s [] same fits free = refl
 parts_spelled names s (p ∷ ps) same fits free =
@@ -184,7 +184,7 @@ parts_spelled names s (p ∷ ps) same fits free =
     ap (λ f. f ∷ map (formula_of names) (map (piece_in names) ps)) (piece_spelled names s p same fits.0 both.0)
     ∙ ap (λ fs. part_formula p ∷ fs) (parts_spelled names (part_after names s p) ps (part_names names s p ∙ same) fits.1 both.1)
 
-pub disjuncts_spelled : (names : Names) (s : Watched) (ds : List (List named.Piece)) → s.names ≡ names.watches → named.AllFit ds → disjuncts_fault names s ds ≡ None →
+pub disjuncts_spelled : (names : Names) (s : Watched) (ds : List (List named.NamedPiece)) → s.names ≡ names.watches → named.AllFit ds → disjuncts_fault names s ds ≡ None →
     map (map (formula_of names)) (map (map (piece_in names)) ds) ≡ map (map part_formula) ds
 disjuncts_spelled names s [] same fits free = refl
 disjuncts_spelled names s (d ∷ ds) same fits free =

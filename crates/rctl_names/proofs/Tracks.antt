@@ -288,7 +288,7 @@ unfolding first_unknown seen_after
 none_follows names seen s tracks = (refl, λ free. tracks)
 
 mutual
-  part_follows : (names : Names) (seen : List Watching) (s : Watched) (p : named.Piece) → named.PartFits p → Tracks names seen s →
+  part_follows : (names : Names) (seen : List Watching) (s : Watched) (p : named.NamedPiece) → named.PartFits p → Tracks names seen s →
       Follows names seen s (part_fault names s p) (part_after names s p) (part_uses p)
   part_follows names seen s (named.local None e) fits tracks =
       rw (uses_on [] e, constant_names e fits) (none_follows names seen s tracks)
@@ -310,11 +310,11 @@ mutual
       then_follows names seen s (part_after names s p) (operand_after names (part_after names s p) ps) (part_fault names s p) (operand_fault names (part_after names s p) ps) (part_uses p) (operand_uses ps) first
       (λ free. operand_follows names (seen_after seen (part_uses p)) (part_after names s p) ps fits.1 (first.1 free))
 
-operand_of : (ps : List named.Piece) → named.EachFits ps → named.OperandFits (named.pieces ps)
+operand_of : (ps : List named.NamedPiece) → named.EachFits ps → named.OperandFits (named.pieces ps)
 operand_of [] h = tt
 operand_of (p ∷ ps) h = (h.0, operand_of ps h.1)
 
-pub disjuncts_follow : (names : Names) (seen : List Watching) (s : Watched) (ds : List (List named.Piece)) → named.AllFit ds → Tracks names seen s →
+pub disjuncts_follow : (names : Names) (seen : List Watching) (s : Watched) (ds : List (List named.NamedPiece)) → named.AllFit ds → Tracks names seen s →
     Follows names seen s (disjuncts_fault names s ds) (disjuncts_after names s ds) (disjuncts_uses ds)
 disjuncts_follow names seen s [] fits tracks = none_follows names seen s tracks
 disjuncts_follow names seen s (d ∷ ds) fits tracks =
@@ -325,5 +325,5 @@ disjuncts_follow names seen s (d ∷ ds) fits tracks =
     (λ free. disjuncts_follow names (seen_after seen (parts_uses d)) (operand_after names s (named.pieces d)) ds fits.1 (first.1 free))
 
 -- the first fault of the names of disjuncts
-pub same_faults : (names : Names) (ds : List (List named.Piece)) → named.AllFit ds → disjuncts_fault names (opened names) ds ≡ first_unknown (known_in names) [] (disjuncts_uses ds)
+pub same_faults : (names : Names) (ds : List (List named.NamedPiece)) → named.AllFit ds → disjuncts_fault names (opened names) ds ≡ first_unknown (known_in names) [] (disjuncts_uses ds)
 same_faults names ds fits = (disjuncts_follow names [] (opened names) ds fits (opens names)).0

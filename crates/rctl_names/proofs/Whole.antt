@@ -30,7 +30,7 @@ abbrev pub watched_from : List Name → List (Option ℕ) → Watched
 watched_from ws on = record { names = ws; on = on }
 
 -- the disjuncts have no fault, and are these with numbers
-abbrev pub Outcome : Names → Watched → List (List named.Piece) → Watched → List (List piece.Piece) → Type 0
+abbrev pub Outcome : Names → Watched → List (List named.NamedPiece) → Watched → List (List piece.Piece) → Type 0
 Outcome names s ds t made = (disjuncts_fault names s ds ≡ None) × (t ≡ disjuncts_after names s ds) × (made ≡ map (map (piece_in names)) ds)
 
 module _ (header : Header) (watches : List Name) (procs : List Name) (vars : List (List Binding)) (ws : List Name) (on : List (Option ℕ))
@@ -41,19 +41,19 @@ module _ (header : Header) (watches : List Name) (procs : List Name) (vars : Lis
   same_start : watched_from ws on ≡ opened (names_of header watches)
   same_start = ap (λ w. watched_from w on) is_watches ∙ ap (watched_from watches) is_on
 
-  pub whole_fault : (others ds : List (List named.Piece)) (f : FormulaFault) → others ≡ ds → named.AllFit ds → disjuncts_fault (names_from procs vars ws) (watched_from ws on) others ≡ Some f →
+  pub whole_fault : (others ds : List (List named.NamedPiece)) (f : FormulaFault) → others ≡ ds → named.AllFit ds → disjuncts_fault (names_from procs vars ws) (watched_from ws on) others ≡ Some f →
       first_unknown (known_in (names_of header watches)) [] (disjuncts_uses ds) ≡ Some f
   whole_fault others ds f e fits bad =
       sym (same_faults (names_of header watches) ds fits)
       ∙ ap (λ n. disjuncts_fault n (opened (names_of header watches)) ds) (sym same_names) ∙ ap (λ s. disjuncts_fault (names_from procs vars ws) s ds) (sym same_start)
       ∙ ap (disjuncts_fault (names_from procs vars ws) (watched_from ws on)) (sym e) ∙ bad
 
-  pub whole_outcome : (others ds : List (List named.Piece)) (t : Watched) (made : List (List piece.Piece)) → others ≡ ds → Outcome (names_from procs vars ws) (watched_from ws on) others t made →
+  pub whole_outcome : (others ds : List (List named.NamedPiece)) (t : Watched) (made : List (List piece.Piece)) → others ≡ ds → Outcome (names_from procs vars ws) (watched_from ws on) others t made →
       Outcome (names_of header watches) (opened (names_of header watches)) ds t made
   whole_outcome others ds t made e h =
       let P : Names → Type 0 = λ n. Outcome n (opened (names_of header watches)) ds t made in
       let Q : Watched → Type 0 = λ s. Outcome (names_from procs vars ws) s ds t made in
-      let R : List (List named.Piece) → Type 0 = λ l. Outcome (names_from procs vars ws) (watched_from ws on) l t made in
+      let R : List (List named.NamedPiece) → Type 0 = λ l. Outcome (names_from procs vars ws) (watched_from ws on) l t made in
       subst P same_names (subst Q same_start (subst R e h))
 
 -- ---- the whole
@@ -62,7 +62,7 @@ lengths_in : (vs : List (List Binding)) → map (λ (v : List Name). length v) (
 lengths_in [] = refl
 lengths_in (v ∷ vs) = ap (λ n. n ∷ map (λ (w : List Name). length w) (map variables_in vs)) (length-map v (λ (b : Binding). b.name)) ∙ ap (λ l. length v ∷ l) (lengths_in vs)
 
-pub whole_resolved : (header : Header) (watches : List Name) (ds : List (List named.Piece)) (resolved : Resolved) (t : Watched) → CanResolve header watches → AreDisjuncts ds →
+pub whole_resolved : (header : Header) (watches : List Name) (ds : List (List named.NamedPiece)) (resolved : Resolved) (t : Watched) → CanResolve header watches → AreDisjuncts ds →
     t.on ≡ resolved.watch_process → Outcome (names_of header watches) (opened (names_of header watches)) ds t (piece.disjuncts_of resolved.disjuncts) → IsResolved header watches ds resolved
 whole_resolved header watches ds resolved t can are on h =
     let names = names_of header watches in

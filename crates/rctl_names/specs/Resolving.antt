@@ -67,7 +67,7 @@ variable_in names p x = number (variables_of names p.name) x.name
 
 abbrev mutual
   -- a part
-  pub piece_in : Names → named.Piece → piece.Piece
+  pub piece_in : Names → named.NamedPiece → piece.Piece
   piece_in names (named.local on e) = piece.atom (local_in names on e)
   piece_in names (named.at_most p q k) =
       piece.atom (piece.at_most (process_in names p) (process_in names q) k)
@@ -105,7 +105,7 @@ scope_of header on =
     record { variables = map (λ (bs : List Binding). length bs) header.vars; watch_process = on }
 
 -- disjuncts with the numbers of a header's names and of these watches
-abbrev pub numbered_in : Header → List Name → List (List named.Piece) → List (List piece.Piece)
+abbrev pub numbered_in : Header → List Name → List (List named.NamedPiece) → List (List piece.Piece)
 numbered_in header watches ds = map (map (piece_in (names_of header watches))) ds
 
 -- the disjuncts of a formula of the class, by the numbers of a header and of these watches
@@ -114,7 +114,7 @@ numbered_disjuncts header watches n = numbered_in header watches (disjuncts_from
 
 -- the parts with numbers spell the very formulas of the parts with names, and are made for the
 -- header and the watches
-pub record IsResolved (header : Header) (watches : List Name) (ds : List (List named.Piece))
+pub record IsResolved (header : Header) (watches : List Name) (ds : List (List named.NamedPiece))
     (resolved : Resolved) : Type 0 where
   pub free : first_unknown (known_in (names_of header watches)) [] (named.disjuncts_uses ds) ≡ None
   pub spelled : part_formulas (names_of header watches) (piece.disjuncts_of resolved.disjuncts)

@@ -41,7 +41,7 @@ abbrev pub fault_on : Process → Watches → List LocalName → Option FormulaF
 fault_on on watches us = local_fault (variables_on on) on.number (watched_in watches) us
 
 -- a part, with numbers
-abbrev pub IsPieceIn : Scope → Watches → Watches → named.Piece → piece.Piece → Type 0
+abbrev pub IsPieceIn : Scope → Watches → Watches → named.NamedPiece → piece.Piece → Type 0
 IsPieceIn scope old new p made =
     (part_fault (names_in scope old) (watched_in old) p ≡ None)
     × (watched_in new ≡ part_after (names_in scope old) (watched_in old) p)
@@ -55,7 +55,7 @@ ArePiecesIn scope old new ps made =
     × (made ≡ pieces_in (names_in scope old) ps)
 
 -- disjuncts, with numbers
-abbrev pub AreDisjunctsIn : Scope → Watches → Watches → List (List named.Piece)
+abbrev pub AreDisjunctsIn : Scope → Watches → Watches → List (List named.NamedPiece)
     → List (List piece.Piece) → Type 0
 AreDisjunctsIn scope old new ds made =
     (disjuncts_fault (names_in scope old) (watched_in old) ds ≡ None)

@@ -36,7 +36,7 @@ resolve_parts-parts-preserved t c =
     let so_far = c.parts.invariant in
     let here = c.in_ok-resolve_part.ensures in
     let same = same_names scope before now (named_operand xs) so_far.1 in
-    let P : List named.Piece → Type 0 = λ ps. ArePiecesIn scope before c.resolve_part.new.watches (named_operand ps) (pieces (pieces_of c.push.new.self)) in
+    let P : List named.NamedPiece → Type 0 = λ ps. ArePiecesIn scope before c.resolve_part.new.watches (named_operand ps) (pieces (pieces_of c.push.new.self)) in
     subst P (sym (taken_more named_of all i m c.parts-test.true c.part-item.is)) (
       piece_passes names (watched_in before) (watched_in now) xs (named_of m) so_far.0 so_far.1 (ap (λ n. part_fault n (watched_in now) (named_of m)) (sym same) ∙ here.0),
       piece_after names (watched_in before) (watched_in now) (watched_in c.resolve_part.new.watches) xs (named_of m) so_far.1 (here.1 ∙ ap (λ n. part_after n (watched_in now) (named_of m)) same),

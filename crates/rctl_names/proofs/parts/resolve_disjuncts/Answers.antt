@@ -39,7 +39,7 @@ disjuncts-preserved c =
     let so_far = c.disjuncts.invariant in
     let here = c.in_ok-resolve_parts.ensures in
     let same = still_same_names scope before now xs so_far.1 in
-    let P : List (List named.Piece) → Type 0 = λ ds. AreDisjunctsIn scope before c.resolve_parts.new.watches ds (disjuncts_of c.push.new.self) in
+    let P : List (List named.NamedPiece) → Type 0 = λ ds. AreDisjunctsIn scope before c.resolve_parts.new.watches ds (disjuncts_of c.push.new.self) in
     let lent = ap (λ l. named_operand (named_list l)) c.as_slice.ensures in
     subst P (sym (taken_more named_list all i d c.disjuncts-test.true c.disjunct-item.is)) (
       disjunct_passes names (watched_in before) (watched_in now) xs (named_list d) so_far.0 so_far.1
