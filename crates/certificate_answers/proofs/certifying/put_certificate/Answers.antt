@@ -5,8 +5,8 @@ use Rattle.certify.specs.Certifying.{CanBeCertified, HasFront, IsCertifying}
 use Rattle.certificate_answers.proofs.Certificates.{stopped}
 use Rattle.certificate_answers.proofs.certifying.put_certificate.Goals as goal
 
-pub certify-told-requires-clause-can : goal.certify-told-requires-clause-can
-certify-told-requires-clause-can g c =
+pub certify-told-requires : goal.certify-told-requires
+certify-told-requires g c =
     subst (λ (ps : List (List Part)). CanBeCertified c.args.checked.seen (disjuncts_of ps)) (sym c.as_slice.ensures)
     (record { ready = c.requires.ready; fits = c.requires.made.fit; counters = c.requires.rise; count = c.requires.made.parts })
 
