@@ -7,9 +7,11 @@ use Rattle.certificate_answers.proofs.certifying.put_certificate.Goals as goal
 
 pub certify-told-requires : goal.certify-told-requires
 certify-told-requires g c =
-    record { can =
-      subst (λ (ps : List (List Part)). CanBeCertified c.args.checked.seen (disjuncts_of ps)) (sym c.as_slice.ensures)
-      (record { ready = c.requires.ready; fits = c.requires.made.fit; counters = c.requires.rise; count = c.requires.made.parts }) }
+    record {
+      can =
+          subst (λ (ps : List (List Part)). CanBeCertified c.args.checked.seen (disjuncts_of ps)) (sym c.as_slice.ensures)
+          (record { ready = c.requires.ready; fits = c.requires.made.fit; counters = c.requires.rise; count = c.requires.made.parts });
+    }
 
 pub returns-in-Ok : goal.returns-in-Ok
 returns-in-Ok g c =
