@@ -2,10 +2,10 @@
 //!
 //! Between any two steps each word lies between its row's start and the row's least closed vector,
 //! and has reached each seat's floor for it; a process that a seat claims is claimed by no other
-//! (`specs/Rule.antt`). `settle` gives the least closed vector of a row (clause `least`) with at
-//! most `P * (1 + rise)` look-ups (`looks`), and `settle_after` gives it from a closed row that the
-//! caller holds, each look-up paid for by a rise above that row (`pays`). No call lowers a floor.
-//! Nothing is said of an order between callers, of progress, nor of time.
+//! (`specs/inside/Rule.antt`). `settle` gives the least closed vector of a row (clause `least`)
+//! with at most `P * (1 + rise)` look-ups (`looks`), and `settle_after` gives it from a closed row
+//! that the caller holds, each look-up paid for by a rise above that row (`pays`). No call lowers a
+//! floor. Nothing is said of an order between callers, of progress, nor of time.
 #![tactic(auto)]
 
 mod narrow;

@@ -13,7 +13,8 @@ use Rattle.certificate_text.proofs.OneAnswer.{one_after}
 use Rattle.verifier.specs.declared.verifier.Checked.{Checked}
 use Rattle.verifier.specs.declared.verifier.Checked.TheVariants as checked
 use Rattle.verifier.specs.Checking.{checked_as, IsChecked}
-use Rattle.certificate_input.specs.Pieces.{Reaches, RefusedWithin, accepted_at, InputView, IsReady, IsTaken, StaysInLine, IsOver}
+use Rattle.certificate_input.specs.Pieces.{Reaches, RefusedWithin}
+use Rattle.certificate_input.specs.inside.Pieces.{accepted_at, InputView, IsReady, IsTaken, StaysInLine, IsOver}
 
 -- ---- what is picked by a test
 

@@ -8,8 +8,10 @@ use Rattle.certificate_lines.specs.declared.line.Line.{Line}
 use Rattle.certificate_text.specs.Taking.{VerifierView}
 use Rattle.certificate_input.specs.declared.told.Told.{Told}
 use Rattle.certificate_input.specs.declared.told.Told.TheVariants as told
-use Rattle.certificate_input.specs.Pieces.{Reaches, RefusedWithin, accepted_at, InputView, IsReady, IsTaken}
-use Rattle.certificate_input.specs.Telling.{IsFresh, IsTold, TellsBehind, TurnsTo, Turns}
+use Rattle.certificate_input.specs.Pieces.{Reaches, RefusedWithin}
+use Rattle.certificate_input.specs.inside.Pieces.{accepted_at, InputView, IsReady, IsTaken}
+use Rattle.certificate_input.specs.Telling.{IsFresh, IsTold, TellsBehind}
+use Rattle.certificate_input.specs.inside.Telling.{TurnsTo, Turns}
 use Rattle.certificate_input.proofs.PieceLaws.{reach_reach, reach_within, reach_refused, reach_judged, reach_further}
 
 -- how many bytes more there may be, before the lines can't be counted

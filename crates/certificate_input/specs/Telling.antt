@@ -1,5 +1,5 @@
 -- What is told of the bytes of an input.
-use Rattle.std.specs.Prelude.{◌≡◌, ◌⊎◌, ℕ, ◌<◌, ◌≤◌, List, [], ◌++◌, length, Option, None, Some}
+use Rattle.std.specs.Prelude.{◌≡◌, ◌⊎◌, ℕ, ◌≤◌, List, [], ◌++◌, Option}
 use Rattle.std.specs.Io.KnownBytes.{Consumes, IsAtEnd}
 use Rattle.pota_base.specs.Outside.{Rose}
 use Rattle.certificate_lines.specs.declared.line.Line.{Line}
@@ -8,7 +8,7 @@ use Rattle.certificate_text.specs.Taking.{VerifierView}
 use Rattle.certificate_text.specs.Bytes.{Judged, RefusedAt}
 use Rattle.certificate_input.specs.declared.told.Told.{Told}
 use Rattle.certificate_input.specs.declared.told.Told.TheVariants as told
-use Rattle.certificate_input.specs.Pieces.{InputView, IsTaken, LeadsOn, RefusedWithin}
+use Rattle.certificate_input.specs.Pieces.{LeadsOn, RefusedWithin}
 
 -- no line was taken
 pub record IsFresh {N : Type 0} (v : VerifierView N) : Type 0 where
@@ -40,27 +40,3 @@ abbrev pub Tells : {N : Type 0} → (N → Line → N → Type 0) → Option (Li
     → ℕ → ℕ → VerifierView N → List ℕ → Told → Type 0
 Tells follows left left' faults faults' v front t =
     TellsBehind follows left left' faults faults' v [] front t
-
--- ---- the parts of a call
-
--- what is told where no byte comes behind those that came
-abbrev pub IsEnd : {N : Type 0} → (N → Line → N → Type 0) → InputView N → Told → Type 0
-IsEnd follows v (told.Accepted truth) = Judged follows [] v.text v.line truth
-IsEnd follows v (told.Refused n) = RefusedAt follows [] v.text v.line n
-IsEnd follows v told.Failed = ⊥
-
--- some of these bytes lead on, or this is told of them
-abbrev pub TurnsTo : {N : Type 0} → (N → Line → N → Type 0) → Option (List ℕ) → ℕ → ℕ
-    → InputView N → List ℕ → InputView N → Option Told → Type 0
-TurnsTo follows left faults faults' v bytes after None =
-    (0 < length bytes) × IsTaken follows v bytes None after
-TurnsTo follows left faults faults' v bytes after (Some t) =
-    IsTold follows left faults faults' v.text v.line bytes t
-
--- some bytes were read by one read
-pub record Turns {N : Type 0} (follows : N → Line → N → Type 0) (left left' : Option (List ℕ))
-    (faults faults' : ℕ) (v after : InputView N) (t : Option Told) : Type 0 where
-  pub read : List ℕ
-  pub consumed : Consumes left left' read
-  pub later : faults ≤ faults'
-  pub to : TurnsTo follows left' faults faults' v read after t

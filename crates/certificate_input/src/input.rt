@@ -4,8 +4,9 @@ ghost use Rattle.std.specs.Prelude.{◌≡◌, ◌+◌, ◌^◌, ◌<◌, [], �
 ghost use Rattle.std.specs.Bool.{OnFalse, OnTrue};
 ghost use Rattle.certificate_text.specs.Bytes.{HasNoFeed};
 ghost use Rattle.verifier.specs.Checking.{IsChecked};
-ghost use Rattle.certificate_input.specs.Pieces.{IsReady, IsTaken, StaysInLine, IsOver};
-ghost use Rattle.certificate_input.specs.Telling.{IsFresh, IsEnd};
+ghost use Rattle.certificate_input.specs.inside.Pieces.{IsReady, IsTaken, StaysInLine, IsOver};
+ghost use Rattle.certificate_input.specs.Telling.{IsFresh};
+ghost use Rattle.certificate_input.specs.inside.Telling.{IsEnd};
 
 use crate::split::split_line;
 use crate::told::Told;
@@ -29,7 +30,7 @@ pub struct CertificateInput<N: Takes> {
 }
 
 impl<N: Takes> Model for CertificateInput<N> {
-    ghost use Rattle.certificate_input.specs.Pieces.{InputView};
+    ghost use Rattle.certificate_input.specs.inside.Pieces.{InputView};
 
     ghost Value = { InputView N };
 

@@ -2,8 +2,9 @@
 
 ghost use Rattle.std.specs.Prelude.{◌<◌, [], length, IfOk, OnErr};
 ghost use Rattle.input_reading.specs.Intakes.{ReadsShort};
-ghost use Rattle.certificate_input.specs.Pieces.{IsReady};
-ghost use Rattle.certificate_input.specs.Telling.{IsFresh, Tells, TellsBehind, Turns};
+ghost use Rattle.certificate_input.specs.inside.Pieces.{IsReady};
+ghost use Rattle.certificate_input.specs.Telling.{IsFresh, Tells, TellsBehind};
+ghost use Rattle.certificate_input.specs.inside.Telling.{Turns};
 
 use crate::input::CertificateInput;
 use crate::told::Told;

@@ -14,7 +14,7 @@ use Rattle.log_lines.proofs.WordLaws.{bind_some, text_takes}
 use Rattle.certificate_lines.specs.declared.line.Line.{Line}
 use Rattle.certificate_lines.specs.declared.line.Line.TheVariants.{Node, Row, Raise, Verdict}
 use Rattle.certificate_lines.specs.Spelling.{line_text, LineFits, Spells}
-use Rattle.certificate_lines.specs.Reading.{number_in, raise_in, after_in, row_in, node_in, verdict_in, line_in}
+use Rattle.certificate_lines.specs.inside.Reading.{number_in, raise_in, after_in, row_in, node_in, verdict_in, line_in}
 
 -- ---- numbers
 

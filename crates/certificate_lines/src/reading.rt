@@ -4,8 +4,8 @@ ghost use Rattle.std.specs.Prelude.{◌≡◌, ◌-◌, ◌^◌, IfSome, Some};
 ghost use Rattle.pota_base.specs.Number.{number_at, seen};
 ghost use Rattle.certificate_lines.specs.declared.line.Line.{Line};
 ghost use Rattle.certificate_lines.specs.Spelling.{Spells};
-ghost use Rattle.certificate_lines.specs.Reading.{number_in, raise_in, after_in, row_in, node_in};
-ghost use Rattle.certificate_lines.specs.Reading.{verdict_in, line_in};
+ghost use Rattle.certificate_lines.specs.inside.Reading.{number_in, raise_in, after_in, row_in};
+ghost use Rattle.certificate_lines.specs.inside.Reading.{node_in, verdict_in, line_in};
 
 use crate::line::Line;
 use log_lines::text_at;
@@ -30,7 +30,7 @@ fn number_in(bytes: &[u8]) -> Option<u32>
 }
 
 // The raise that is told behind its word.
-#[tactic(auto, unfolding(crate::specs::Reading::raise_in))]
+#[tactic(auto, unfolding(crate::specs::inside::Reading::raise_in))]
 fn raise_in(bytes: &[u8]) -> Option<Line>
     ensures { result ≡ raise_in bytes.now }
 {
@@ -41,7 +41,7 @@ fn raise_in(bytes: &[u8]) -> Option<Line>
 }
 
 // The row behind an earlier one that is told behind its number.
-#[tactic(auto, unfolding(crate::specs::Reading::after_in))]
+#[tactic(auto, unfolding(crate::specs::inside::Reading::after_in))]
 fn after_in(row: u32, bytes: &[u8]) -> Option<Line>
     ensures { result ≡ after_in row bytes.now }
 {
@@ -51,7 +51,7 @@ fn after_in(row: u32, bytes: &[u8]) -> Option<Line>
 }
 
 // The row that is told behind its word.
-#[tactic(auto, unfolding(crate::specs::Reading::row_in))]
+#[tactic(auto, unfolding(crate::specs::inside::Reading::row_in))]
 fn row_in(bytes: &[u8]) -> Option<Line>
     ensures { result ≡ row_in bytes.now }
 {
@@ -63,7 +63,7 @@ fn row_in(bytes: &[u8]) -> Option<Line>
 }
 
 // The node that is told behind its word.
-#[tactic(auto, unfolding(crate::specs::Reading::node_in))]
+#[tactic(auto, unfolding(crate::specs::inside::Reading::node_in))]
 fn node_in(bytes: &[u8]) -> Option<Line>
     ensures { result ≡ node_in bytes.now }
 {
@@ -85,7 +85,7 @@ fn verdict_in(line: &[u8]) -> Option<Line>
 }
 
 // What the line says, by its first word.
-#[tactic(auto, unfolding(crate::specs::Reading::line_in))]
+#[tactic(auto, unfolding(crate::specs::inside::Reading::line_in))]
 fn line_in(line: &[u8]) -> Option<Line>
     ensures { result ≡ line_in line.now }
 {

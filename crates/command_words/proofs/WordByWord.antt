@@ -7,7 +7,7 @@ use Rattle.std.specs.Option.{option_map_or, option_and_then}
 use Rattle.std.proofs.lemmas.Bool.{true≢false}
 use Rattle.std.proofs.lemmas.Slice.Eq.{bytes_eq-Decides}
 use Rattle.command_words.specs.Rule.{Text, Kind, takes_value, flag, unknown, positional, options, flags, spelled, begins_dash, named_by, kind_of, Given, nothing_given, step, closed, given}
-use Rattle.command_words.specs.Seen.{Took}
+use Rattle.command_words.specs.inside.Seen.{Took}
 
 -- a word that is refused refuses all
 pub refused_stays : (words : List Text) → fold step None words ≡ None

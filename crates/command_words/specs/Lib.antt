@@ -3,3 +3,4 @@ pub mod Request
 pub mod Numbers
 pub mod ByClap
 pub mod Seen
+pub mod inside

@@ -1,7 +1,7 @@
 //! What a word is by its spelling.
 ghost use Rattle.std.specs.Prelude.{◌≡◌};
 ghost use Rattle.command_words.specs.Rule.{begins_dash, kind_of};
-ghost use Rattle.command_words.specs.Seen.{kind_seen};
+ghost use Rattle.command_words.specs.inside.Seen.{kind_seen};
 
 /// What a word is where no option waits for its value.
 #[derive(Clone, Copy, Debug)]

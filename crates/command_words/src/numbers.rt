@@ -2,7 +2,7 @@
 ghost use Rattle.std.specs.Prelude.{◌≡◌, ◌≤◌, ◌^◌, ◌-◌, ◌<◌, IfSome};
 ghost use Rattle.pota_base.specs.Number.{number_at, whole};
 ghost use Rattle.command_words.specs.Numbers.{number, workers_of, needed, sizes_of};
-ghost use Rattle.command_words.specs.Seen.{text_seen};
+ghost use Rattle.command_words.specs.inside.Seen.{text_seen};
 
 use crate::request::Sizes;
 use pota_base::read_u64;

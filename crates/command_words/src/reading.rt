@@ -2,9 +2,8 @@
 ghost use Rattle.std.specs.Prelude.{◌≡◌, Some, None, IfOk, OnOk, is_some, map};
 ghost use Rattle.std.specs.String.{string_bytes};
 ghost use Rattle.command_words.specs.Rule.{is_used, nothing_given, with_use, waiting, with_flag};
-ghost use Rattle.command_words.specs.Rule.{step};
-ghost use Rattle.command_words.specs.Rule.{with_word, with_place, given, kind_of};
-ghost use Rattle.command_words.specs.Seen.{given_seen, kind_seen, Took};
+ghost use Rattle.command_words.specs.Rule.{step, with_word, with_place, given, kind_of};
+ghost use Rattle.command_words.specs.inside.Seen.{given_seen, kind_seen, Took};
 
 use crate::kind::{WordKind, begins_dash, kind_of};
 use pota_base::NoMemory;

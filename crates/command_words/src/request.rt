@@ -3,11 +3,11 @@ ghost use Rattle.std.specs.Prelude.{◌≡◌, IfOk, IfErr, Some, List, option_m
 ghost use Rattle.std.specs.String.{string_bytes};
 ghost use Rattle.clap.specs.Words.{found_of, kind_of, rows_of};
 ghost use Rattle.command_words.specs.ByClap.{values_in};
-ghost use Rattle.command_words.specs.Request.{values_of, has_sizes, has_flags, form_of};
-ghost use Rattle.command_words.specs.Request.{check_of, certify_of, bench_of, task_of, wanted};
-ghost use Rattle.command_words.specs.Request.{request_of};
+ghost use Rattle.command_words.specs.Request.{values_of, has_sizes, has_flags, form_of, check_of};
+ghost use Rattle.command_words.specs.Request.{certify_of, bench_of, task_of, wanted, request_of};
 ghost use Rattle.command_words.specs.Rule.{Given, given};
-ghost use Rattle.command_words.specs.Seen.{values_seen, request_seen};
+ghost use Rattle.command_words.specs.Seen.{request_seen};
+ghost use Rattle.command_words.specs.inside.Seen.{values_seen};
 
 use crate::command::command;
 use crate::numbers::{sizes, workers};

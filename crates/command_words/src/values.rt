@@ -2,7 +2,7 @@
 ghost use Rattle.std.specs.Prelude.{◌≡◌, option_map};
 ghost use Rattle.clap.specs.Words.{first_of, rows_of, found_of};
 ghost use Rattle.command_words.specs.ByClap.{values_in, from_words, stands_in};
-ghost use Rattle.command_words.specs.Seen.{text_seen, values_seen};
+ghost use Rattle.command_words.specs.inside.Seen.{text_seen, values_seen};
 
 use clap::ArgMatches;
 use clap::parser::ValueSource;

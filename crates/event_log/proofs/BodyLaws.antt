@@ -19,7 +19,8 @@ use Rattle.event_log.specs.declared.log.Header.{Header}
 use Rattle.event_log.specs.declared.log.Event.{Event}
 use Rattle.event_log.specs.declared.log.Log.{Log}
 use Rattle.event_log.specs.Numbers.{variables_at, event_named}
-use Rattle.event_log.specs.Before.{Line, heading_of, version, names, filled, variables, events, begins_event, is_header_over, is_ended, header_of, Told, gives, refuses, event_told, body_told, told, AreFine, items_of}
+use Rattle.event_log.specs.Before.{Line, heading_of, version, names, filled, variables, events, begins_event, is_header_over, is_ended, header_of, Told, gives, refuses, event_told, body_told, told}
+use Rattle.event_log.specs.inside.Before.{AreFine, items_of}
 use Rattle.event_log.specs.LogText.{line_of, vars_lines, header_lines, event_lines, closing_line, batch_lines, lines_of, event_items, closing_item, batch_items, log_items, BindingsFit, HeaderFits, EventFits, EventsFit, BatchesFit, event_count, LogFits, HasVarLines, onto}
 use Rattle.event_log.proofs.Lists.{onto-push, length-onto, all_append}
 use Rattle.event_log.proofs.EventLaws.{SameVariables, event_takes}

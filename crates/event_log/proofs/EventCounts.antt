@@ -3,7 +3,8 @@ use Rattle.std.proofs.Common.{◌≡◌, ℕ, zero, suc, ◌+◌, ◌<◌, ◌�
 use Rattle.std.specs.List.{AllByRecursion}
 use Rattle.std.proofs.lemmas.List.{take_more, take_all, length-take}
 use Rattle.event_log.specs.declared.log.Event.{Event}
-use Rattle.event_log.specs.States.{HistoryView, HasRoom, with_batch}
+use Rattle.event_log.specs.States.{HistoryView, with_batch}
+use Rattle.event_log.specs.inside.States.{HasRoom}
 use Rattle.event_log.proofs.Growing.{with_batch-push}
 use Rattle.event_log.proofs.Keeping.{item_le_sum, sum_batch}
 

@@ -10,7 +10,8 @@ use Rattle.event_log.specs.declared.item.LogCode.{LogCode}
 use Rattle.event_log.specs.declared.item.LogCode.TheVariants as code
 use Rattle.event_log.specs.declared.item.LogFault.{LogFault}
 use Rattle.event_log.specs.declared.item.Item.{Item}
-use Rattle.event_log.specs.Before.{is_ended, AreFine, items_of, Told, gives, refuses, told}
+use Rattle.event_log.specs.Before.{is_ended, Told, gives, refuses, told}
+use Rattle.event_log.specs.inside.Before.{AreFine, items_of}
 use Rattle.event_log.specs.LogText.{onto}
 use Rattle.event_log.specs.Moments.{IsPlainByte, HasNoFeed, line_now, lines}
 use Rattle.event_log.specs.Faults.{is_heading_byte, byte_fault, feed_told, moment_told, placed, first_fault, items}

@@ -13,11 +13,13 @@ use Rattle.event_log.specs.declared.feeder.Feeder.{Feeder}
 use Rattle.event_log.specs.declared.feeder.LineGiven.{LineGiven}
 use Rattle.event_log.specs.Before.{Line, is_ended, Told, told}
 use Rattle.event_log.specs.LogText.{onto}
-use Rattle.event_log.specs.Lines.{HasReadLines, TakesLine, told_of}
+use Rattle.event_log.specs.Lines.{HasReadLines}
+use Rattle.event_log.specs.inside.Lines.{TakesLine, told_of}
 use Rattle.event_log.specs.Moments.{IsPlainByte, HasNoFeed, line_now, lines}
 use Rattle.event_log.specs.LogEnd.{is_whole, log_upto, behind_log}
 use Rattle.event_log.specs.Faults.{byte_fault, moment_told, placed, first_fault, items, FedIs}
-use Rattle.event_log.specs.Feeding.{Past, CountsLines, HasFed, Gains, placed_at, PlainTaken, TakesPlain, given_items, ClosesLine, TakesFedLine, TakesLog, JudgesRest}
+use Rattle.event_log.specs.Feeding.{Past, CountsLines, HasFed}
+use Rattle.event_log.specs.inside.Feeding.{Gains, placed_at, PlainTaken, TakesPlain, given_items, ClosesLine, TakesFedLine, TakesLog, JudgesRest}
 use Rattle.event_log.specs.declared.reader.Reader.{Reader}
 use Rattle.event_log.specs.declared.item.Fed.{Fed}
 use Rattle.event_log.specs.Reader.{HasRead, ReadsLog}

@@ -17,7 +17,8 @@ use Rattle.event_log.specs.declared.log.Binding.{Binding}
 use Rattle.event_log.specs.declared.log.Header.{Header}
 use Rattle.event_log.specs.declared.log.Event.{Event}
 use Rattle.event_log.specs.declared.log.Log.{Log}
-use Rattle.event_log.specs.Before.{Line, version, names, variables, events, is_header_over, is_ended, header_of, Told, gives, refuses, requires, event_told, vars_placed, body_told, told, AreFine, items_of}
+use Rattle.event_log.specs.Before.{Line, version, names, variables, events, is_header_over, is_ended, header_of, Told, gives, refuses, requires, event_told, vars_placed, body_told, told}
+use Rattle.event_log.specs.inside.Before.{AreFine, items_of}
 use Rattle.event_log.specs.LogText.{EventsFit, BatchesFit, LogFits, event_count, event_items, closing_item, batch_items, log_items}
 use Rattle.event_log.specs.Moments.{line_now, lines}
 use Rattle.event_log.specs.Faults.{byte_fault, feed_told, moment_told, first_fault, items}

@@ -7,7 +7,8 @@ use Rattle.std.proofs.lemmas.Bool.{cases_eq, cases_lt}
 use Rattle.std.proofs.lemmas.List.{length-set, length-map, get_or_past, get_or-set_same, get_or-set_other, get_or-map, take_at, ext_get_or, reverse-append}
 use Rattle.event_log.specs.declared.log.Event.{Event}
 use Rattle.event_log.specs.declared.log.Binding.{Binding}
-use Rattle.event_log.specs.States.{HistoryView, nothing, events_in, with_event, with_batch, AssignsWithin, Grown, HasRoom, Added}
+use Rattle.event_log.specs.States.{HistoryView, with_event, with_batch, AssignsWithin}
+use Rattle.event_log.specs.inside.States.{nothing, events_in, Grown, HasRoom, Added}
 
 -- a history with its first events alone
 abbrev pub shorter : HistoryView → ℕ → HistoryView

@@ -9,7 +9,8 @@ use Rattle.event_log.specs.declared.log.Event.{Event}
 use Rattle.event_log.specs.declared.log.Binding.{Binding}
 use Rattle.event_log.specs.declared.log.Header.{Header}
 use Rattle.run_model.specs.Run as run
-use Rattle.event_log.specs.States.{HistoryView, StatesView, nothing, events_in, openings_of, states_in, event_of, variable_of, processes_of, AssignsWithin, IsHeader, IsKnown, AreStates, Grown, HasRoom, Added, with_event, with_batch}
+use Rattle.event_log.specs.States.{HistoryView, StatesView, openings_of, states_in, event_of, variable_of, processes_of, AssignsWithin, IsHeader, IsKnown, AreStates, with_event, with_batch}
+use Rattle.event_log.specs.inside.States.{nothing, events_in, Grown, HasRoom, Added}
 use Rattle.event_log.proofs.Growing.{fresh, item_is}
 
 abbrev pub lens_in : List HistoryView → List ℕ

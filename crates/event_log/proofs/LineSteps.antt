@@ -24,7 +24,8 @@ use Rattle.event_log.specs.declared.line_reader.Stage.{Stage}
 use Rattle.event_log.specs.declared.line_reader.Stage.TheVariants as stage
 use Rattle.event_log.specs.Numbers.{event_named}
 use Rattle.event_log.specs.Before.{Line, filled, version, names, variables, variables_after, events, begins_event, is_header_over, is_ended, headed, header_of, Told, gives, refuses, heading_told, procs_told, vars_told, event_told, body_told, told}
-use Rattle.event_log.specs.Lines.{JudgedAs, told_of, header_items, StageIs, HasReadLines, events_after, stage_after, TakesHeading, TakesProcs, TakesVars, Passes, TakesLine}
+use Rattle.event_log.specs.Lines.{StageIs, HasReadLines}
+use Rattle.event_log.specs.inside.Lines.{JudgedAs, told_of, header_items, events_after, stage_after, TakesHeading, TakesProcs, TakesVars, Passes, TakesLine}
 
 -- ---- what a line gives, by the stage
 

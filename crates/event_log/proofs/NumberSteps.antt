@@ -11,7 +11,8 @@ use Rattle.event_log.specs.declared.item.LogCode.{LogCode}
 use Rattle.event_log.specs.declared.log.Assign.{Assign}
 use Rattle.event_log.specs.declared.log.Binding.{Binding}
 use Rattle.event_log.specs.Before.{filled}
-use Rattle.event_log.specs.Numbers.{assign_in, assigns_in, Agrees}
+use Rattle.event_log.specs.Numbers.{assign_in, assigns_in}
+use Rattle.event_log.specs.inside.Numbers.{Agrees}
 
 module _ (names : List Name) (front : List Assign) (settings : List Setting) (i : ℕ) (d : Setting) (lt : i < length settings) where
   pub assigns-next : (a : Assign) → assign_in names (value_of (slice_index_or settings i d)) ≡ Ok a

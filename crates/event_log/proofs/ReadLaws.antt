@@ -16,7 +16,8 @@ use Rattle.event_log.specs.declared.item.LogCode.TheVariants as code
 use Rattle.event_log.specs.declared.item.Item.{Item}
 use Rattle.event_log.specs.declared.log.Binding.{Binding}
 use Rattle.event_log.specs.Numbers.{binding_names}
-use Rattle.event_log.specs.Before.{Line, heading_of, IsVersion, version_in, version, names, filled, bindings_of, headed, variables, variables_after, events, begins_event, is_header_over, is_ended, Told, gives, refuses, requires, heading_told, procs_told, vars_placed, vars_told, told, AreFine, items_of}
+use Rattle.event_log.specs.Before.{Line, heading_of, IsVersion, version_in, version, names, filled, bindings_of, headed, variables, variables_after, events, begins_event, is_header_over, is_ended, Told, gives, refuses, requires, heading_told, procs_told, vars_placed, vars_told, told}
+use Rattle.event_log.specs.inside.Before.{AreFine, items_of}
 use Rattle.event_log.specs.LogText.{name_at, values_of, vars_lines, header_lines, BindingFits, BindingsFit, onto}
 use Rattle.event_log.proofs.Lists.{onto-push, all_push, all_append}
 use Rattle.event_log.proofs.NameLaws.{place_some}

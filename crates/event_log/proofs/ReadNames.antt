@@ -12,7 +12,7 @@ use Rattle.log_lines.specs.Names.{is_name}
 use Rattle.log_lines.specs.Spelling.{ValueFits}
 use Rattle.log_lines.specs.Drafts.{texts_of, values_of}
 use Rattle.event_log.specs.declared.item.LogCode.{LogCode}
-use Rattle.event_log.specs.Lines.{RefusedAs}
+use Rattle.event_log.specs.inside.Lines.{RefusedAs}
 
 same_ok : {A : Type 0} (x y : A) → ◌≡◌ {A = Result A (Refused LogCode)} (Ok x) (Ok y) → x ≡ y
 same_ok x y e = cc

@@ -4,8 +4,10 @@ use Rattle.std.specs.Prelude.{◌==◌}
 use Rattle.std.specs.List.{AllByRecursion}
 use Rattle.std.proofs.lemmas.Bool.{cases_Bool, eqb-true}
 use Rattle.std.proofs.lemmas.List.{append-nil}
-use Rattle.event_log.specs.Before.{Line, AreFine, is_ended, items_of}
-use Rattle.event_log.specs.Moments.{HasNoFeed, line_now, lines, IsText}
+use Rattle.event_log.specs.Before.{Line, is_ended}
+use Rattle.event_log.specs.inside.Before.{AreFine, items_of}
+use Rattle.event_log.specs.Moments.{HasNoFeed, line_now, lines}
+use Rattle.event_log.specs.inside.Moments.{IsText}
 use Rattle.event_log.specs.declared.log.Log.{Log}
 use Rattle.event_log.specs.LogText.{text_of, lines_of, log_text, log_items, LogFits, HasVarLines, lined, onto}
 use Rattle.event_log.proofs.Lists.{onto-append, all_onto}

@@ -12,7 +12,8 @@ use Rattle.event_log.specs.declared.item.LogCode.TheVariants as code
 use Rattle.event_log.specs.declared.item.LogFault.{LogFault}
 use Rattle.event_log.specs.declared.item.Item.{Item}
 use Rattle.event_log.specs.declared.log.Log.{Log}
-use Rattle.event_log.specs.Before.{Line, IsVersion, is_ended, AreFine, items_of, Told, refuses}
+use Rattle.event_log.specs.Before.{Line, IsVersion, is_ended, Told, refuses}
+use Rattle.event_log.specs.inside.Before.{AreFine, items_of}
 use Rattle.event_log.specs.LogText.{onto, log_text, log_items, lined}
 use Rattle.event_log.specs.Moments.{line_now, lines}
 use Rattle.event_log.specs.Faults.{heading_line, is_heading_byte, byte_fault, feed_told, moment_told, placed, first_fault, items, end_fault, items_in}

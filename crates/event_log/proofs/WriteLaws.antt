@@ -16,7 +16,8 @@ use Rattle.event_log.specs.declared.log.Header.{Header}
 use Rattle.event_log.specs.declared.log.Event.{Event}
 use Rattle.event_log.specs.declared.log.Log.{Log}
 use Rattle.event_log.specs.Numbers.{binding_names, event_named}
-use Rattle.event_log.specs.Before.{Line, heading_of, IsVersion, version, names, filled, bindings_of, variables, events, is_header_over, is_ended, headed, header_of, Told, gives, refuses, vars_told, event_told, body_told, told, AreFine, items_of}
+use Rattle.event_log.specs.Before.{Line, heading_of, IsVersion, version, names, filled, bindings_of, variables, events, is_header_over, is_ended, headed, header_of, Told, gives, refuses, vars_told, event_told, body_told, told}
+use Rattle.event_log.specs.inside.Before.{AreFine, items_of}
 use Rattle.event_log.specs.LogText.{name_at, values_of, line_of, vars_lines, header_lines, event_lines, closing_line, batch_lines, lines_of, event_items, batch_items, log_items, BindingFits, BindingsFit, HeaderFits, EventFits, EventsFit, BatchesFit, event_count, LogFits, HasVarLines, lined, onto}
 use Rattle.event_log.proofs.Lists.{onto-append, onto-push, length-onto}
 use Rattle.event_log.proofs.NameLaws.{place_again}
@@ -24,7 +25,7 @@ use Rattle.event_log.proofs.EventLaws.{SameVariables, event_again, line_fits}
 use Rattle.event_log.proofs.NumberSteps.{filled-done}
 use Rattle.event_log.proofs.LineSteps.{told-heading, told-procs, told-vars, told-first, told-body, vars_no_other, body_says, is_end_item, events_after_is}
 use Rattle.event_log.proofs.ReadLaws.{version_again, items-next, version-next, names-next, variables-added, variables-stay, events-next, ended-next, over_again, over_now, fine_again, bindings_back}
-use Rattle.event_log.specs.Lines.{events_after}
+use Rattle.event_log.specs.inside.Lines.{events_after}
 use Rattle.event_log.proofs.BodyLaws.{filled_same}
 
 -- ---- the header

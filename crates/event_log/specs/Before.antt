@@ -19,9 +19,6 @@ use Rattle.event_log.specs.Numbers.{event_named}
 abbrev pub Line : Type 0
 Line = List ℕ
 
-abbrev pub Lines : Type 0
-Lines = List Line
-
 -- `pota-log 1` or `pota-log 2`: 48 is the byte of the digit 0
 abbrev pub heading_of : ℕ → Line
 heading_of version =
@@ -183,14 +180,3 @@ told older line =
     (body_told (version older) (names older) (variables older) (length older + 1) (events older)
     line)
     else vars_told (names older) (variables older) line
-
--- ---- lines without a fault
-
-unfoldable pub AreFine : List Line → Type 0
-AreFine [] = Unit {0}
-AreFine (line ∷ older) = ((told older line).fault ≡ None) × AreFine older
-
--- what they give, in their order
-unfoldable pub items_of : List Line → List Item
-items_of [] = []
-items_of (line ∷ older) = items_of older ++ (told older line).items

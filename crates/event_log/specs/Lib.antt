@@ -11,3 +11,4 @@ pub mod Reader
 pub mod Laws
 pub mod NotedLines
 pub mod FittingItems
+pub mod inside

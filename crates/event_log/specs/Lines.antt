@@ -1,48 +1,11 @@
--- What the reader of lines keeps of the lines that it has read, and what it answers.
-use Rattle.std.specs.Prelude.{◌≡◌, ℕ, ◌+◌, true, false, List, [], ◌∷◌, ◌++◌, length, Option, None}
-use Rattle.std.specs.Prelude.{Some, unwrap_or, Result, Ok, Err}
-use Rattle.std.specs.Option.{option_to_list}
-use Rattle.pota_base.specs.declared.fault.Refused.{Refused}
-use Rattle.pota_base.specs.declared.fault.Refused.TheVariants as refused
-use Rattle.log_lines.specs.declared.draft.LineError.{LineError}
-use Rattle.log_lines.specs.declared.draft.LineError.TheVariants as error
-use Rattle.log_lines.specs.Reading.{procs_in}
-use Rattle.event_log.specs.declared.item.LogCode.{LogCode}
-use Rattle.event_log.specs.declared.item.Item.{Item}
-use Rattle.event_log.specs.declared.item.Item.TheVariants as item
+-- What the reader of lines keeps of the lines that it has read.
+use Rattle.std.specs.Prelude.{◌≡◌, true, false, List, length}
 use Rattle.event_log.specs.declared.log.Header.{Header}
 use Rattle.event_log.specs.declared.line_reader.LineReader.{LineReader}
-use Rattle.event_log.specs.declared.line_reader.LineTold.{LineTold}
 use Rattle.event_log.specs.declared.line_reader.Stage.{Stage}
 use Rattle.event_log.specs.declared.line_reader.Stage.TheVariants as stage
-use Rattle.event_log.specs.Before.{Line, version_in, version, names, variables, variables_after}
-use Rattle.event_log.specs.Before.{events, is_header_over, is_ended, Told, gives, refuses, told}
-
--- what was read, and this fault where it was malformed
-abbrev pub RefusedAs : {A : Type 0} → Result A LineError → LogCode → Result A (Refused LogCode)
-    → Type 0
-RefusedAs (Ok x) code answer = answer ≡ Ok x
-RefusedAs (Err error.Malformed) code answer = answer ≡ Err (refused.Fault code)
-RefusedAs (Err error.NoMemory) code answer = answer ≡ Err refused.NoMemory
-
--- an answer that says what the line gives, unless memory ran out
-abbrev pub JudgedAs : Result (Option Item) (Refused LogCode) → Told → Type 0
-JudgedAs (Ok i) told = told ≡ gives (option_to_list i)
-JudgedAs (Err (refused.Fault code)) told = told ≡ refuses code
-JudgedAs (Err refused.NoMemory) told = Unit {0}
-
-abbrev pub JudgedItem : Result Item (Refused LogCode) → Told → Type 0
-JudgedItem (Ok i) told = told ≡ gives (i ∷ [])
-JudgedItem (Err (refused.Fault code)) told = told ≡ refuses code
-JudgedItem (Err refused.NoMemory) told = Unit {0}
-
-abbrev pub header_items : Option Header → List Item
-header_items None = []
-header_items (Some h) = item.Header h ∷ []
-
--- what a line gave, seen as items and a fault
-abbrev pub told_of : LineTold → Told
-told_of t = record { items = header_items t.header ++ option_to_list t.item; fault = t.fault }
+use Rattle.event_log.specs.Before.{Line, version, names, variables}
+use Rattle.event_log.specs.Before.{events, is_header_over, is_ended}
 
 abbrev pub StageIs : Stage → List Line → Type 0
 StageIs stage.Header older = (is_header_over older ≡ false) × (is_ended older ≡ false)
@@ -57,58 +20,3 @@ pub record HasReadLines (r : LineReader) (older : List Line) : Type 0 where
   pub variables_are : r.variables ≡ variables older
   pub events_are : r.events ≡ events older
   pub stage_is : StageIs r.stage older
-
-abbrev pub events_after : Item → ℕ → ℕ
-events_after (item.Event e) n = n + 1
-events_after (item.Header h) n = n
-events_after item.BatchEnd n = n
-events_after item.End n = n
-
-abbrev pub stage_after : Item → Stage
-stage_after (item.Event e) = stage.Body
-stage_after (item.Header h) = stage.Body
-stage_after item.BatchEnd = stage.Body
-stage_after item.End = stage.Ended
-
--- the first line more
-pub record TakesHeading (old new : LineReader) (line : Line) : Type 0 where
-  pub lines_are : new.lines ≡ old.lines + 1
-  pub version_is : new.version ≡ unwrap_or (version_in line) 1
-  pub procs_are : new.procs ≡ old.procs
-  pub variables_are : new.variables ≡ old.variables
-  pub events_are : new.events ≡ old.events
-  pub stage_is : new.stage ≡ old.stage
-
--- one `procs` line more
-pub record TakesProcs (old new : LineReader) (line : Line) : Type 0 where
-  pub lines_are : new.lines ≡ old.lines + 1
-  pub version_is : new.version ≡ old.version
-  pub procs_are : new.procs ≡ unwrap_or (procs_in line) []
-  pub variables_are : new.variables ≡ old.variables
-  pub events_are : new.events ≡ old.events
-  pub stage_is : new.stage ≡ old.stage
-
--- one `vars` line more
-pub record TakesVars (old new : LineReader) (line : Line) : Type 0 where
-  pub lines_are : new.lines ≡ old.lines + 1
-  pub version_is : new.version ≡ old.version
-  pub procs_are : new.procs ≡ old.procs
-  pub variables_are : new.variables ≡ variables_after old.procs old.variables line
-  pub events_are : new.events ≡ old.events
-  pub stage_is : new.stage ≡ old.stage
-
--- one line more, which gave this item
-pub record Passes (old new : LineReader) (i : Item) : Type 0 where
-  pub lines_are : new.lines ≡ old.lines + 1
-  pub version_is : new.version ≡ old.version
-  pub procs_are : new.procs ≡ old.procs
-  pub variables_are : new.variables ≡ old.variables
-  pub events_are : new.events ≡ events_after i old.events
-  pub stage_is : new.stage ≡ stage_after i
-
--- What the lines so far and one line more give, unless memory ran out. Without a fault the reader
--- has read that line too.
-abbrev pub TakesLine : LineReader → Line → LineTold → LineReader → Type 0
-TakesLine old line t new =
-    (older : List Line) → HasReadLines old older
-    → (told_of t ≡ told older line) × (t.fault ≡ None → HasReadLines new (line ∷ older))

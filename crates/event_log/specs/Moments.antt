@@ -1,8 +1,8 @@
 -- Looking back over the bytes of a text. Each byte is a moment; the bytes so far, the newest first,
 -- are its past.
-use Rattle.std.specs.Prelude.{◌≡◌, ℕ, true, false, ◌==◌, List, [], ◌∷◌, ◌++◌, if◌then◌else◌}
+use Rattle.std.specs.Prelude.{◌≡◌, ℕ, false, ◌==◌, List, [], ◌∷◌, ◌++◌, if◌then◌else◌}
 use Rattle.std.specs.List.{AllByRecursion}
-use Rattle.event_log.specs.Before.{Line, is_ended, AreFine}
+use Rattle.event_log.specs.Before.{Line}
 
 abbrev pub IsPlainByte : ℕ → Type 0
 IsPlainByte b = (b == 10) ≡ false
@@ -20,9 +20,3 @@ line_now (b ∷ past) = if b == 10 then [] else line_now past ++ b ∷ []
 unfoldable pub lines : List ℕ → List Line
 lines [] = []
 lines (b ∷ past) = if b == 10 then line_now past ∷ lines past else lines past
-
--- a text of whole lines without a fault, the last one its `end` line
-pub record IsText (past : List ℕ) : Type 0 where
-  pub fine : AreFine (lines past)
-  pub ended : is_ended (lines past) ≡ true
-  pub whole : line_now past ≡ []

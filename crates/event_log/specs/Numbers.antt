@@ -1,9 +1,6 @@
 -- The names of an event line as numbers, with the first thing that is wrong with them.
-use Rattle.std.specs.Prelude.{◌≡◌, ℕ, Bool, true, false, not, ◌||◌, ◌==◌, nat_lt, List, [], ◌∷◌}
-use Rattle.std.specs.Prelude.{◌++◌, length, map, slice_index_or, Option, None, Some, Result, Ok}
-use Rattle.std.specs.Prelude.{Err}
-use Rattle.pota_base.specs.declared.fault.Refused.{Refused}
-use Rattle.pota_base.specs.declared.fault.Refused.TheVariants as refused
+use Rattle.std.specs.Prelude.{ℕ, Bool, true, false, not, ◌||◌, ◌==◌, nat_lt, List, [], ◌∷◌, ◌++◌}
+use Rattle.std.specs.Prelude.{length, map, slice_index_or, Option, None, Some, Result, Ok, Err}
 use Rattle.log_lines.specs.Names.{Name, place_of}
 use Rattle.log_lines.specs.Spelling.{NamedValue, Action, Internal, Send, Receive, EventLine}
 use Rattle.event_log.specs.declared.item.LogCode.{LogCode}
@@ -84,9 +81,3 @@ event_named version procs variables line events e =
     guarded code.TooManyEvents (nat_lt events 50000)
     (Ok (record { process = process; line = line; clock = e.clock; kind = kind; assigns = assigns }
     )))))
-
--- what a function that may run out of memory returned is this
-abbrev pub Agrees : {A : Type 0} → Result A (Refused LogCode) → Result A LogCode → Type 0
-Agrees (Ok x) judged = judged ≡ Ok x
-Agrees (Err (refused.Fault c)) judged = judged ≡ Err c
-Agrees (Err refused.NoMemory) judged = Unit {0}

@@ -66,12 +66,6 @@ pub record StatesView : Type 0 where
 abbrev pub openings_of : List (List Binding) → List (List ℤ)
 openings_of vars = map (map (λ (b : Binding). b.value)) vars
 
--- the histories that have these opening states and these events
-abbrev pub histories_of : List (List ℤ) → List (List Event) → List HistoryView
-histories_of [] events = []
-histories_of (o ∷ os) [] = []
-histories_of (o ∷ os) (es ∷ ess) = record { opening = o; events = es } ∷ histories_of os ess
-
 -- the run that is logged so
 abbrev pub processes_of : List (List ℕ) → List (List Binding) → List (List Event) → run.Trace
 processes_of [] vars events = []
@@ -124,9 +118,6 @@ pub record MayFollow (header : Header) (events : List (List Event)) (batch : Lis
 
 -- ---- what the code keeps
 
-abbrev pub events_in : List HistoryView → List (List Event)
-events_in histories = map (λ (h : HistoryView). h.events) histories
-
 -- the fields fit each other: one history for each process, with its opening values, and the shape
 -- is that of the events
 pub record AreStates (header : Header) (shape : List ℕ) (histories : List HistoryView)
@@ -134,28 +125,6 @@ pub record AreStates (header : Header) (shape : List ℕ) (histories : List Hist
   pub fits : IsHeader header
   pub openings : map (λ (h : HistoryView). h.opening) histories ≡ openings_of header.vars
   pub lens : shape ≡ map (λ (h : HistoryView). length h.events) histories
-
-abbrev pub nothing : HistoryView
-nothing = record { opening = []; events = [] }
-
--- each history is the old one with more events behind it
-pub record Grown (old new : List HistoryView) : Type 0 where
-  pub count : length new ≡ length old
-  pub each : (p : ℕ) → (more : List Event)
-      × (get_or new p nothing ≡ record (get_or old p nothing) {
-        events = (get_or old p nothing).events ++ more;
-      })
-
--- the history of the event's process is there, and has the variables that the event assigns
-pub record HasRoom (histories : List HistoryView) (e : Event) : Type 0 where
-  pub process : e.process < length histories
-  pub assigns : AssignsWithin (length (get_or histories e.process nothing).opening) e
-
--- the new histories are the old ones with each event of the batch behind those of its process
-pub record Added (old : List HistoryView) (batch : List Event) (new : List HistoryView)
-    : Type 0 where
-  pub grown : Grown old new
-  pub events : events_in new ≡ with_batch (events_in old) batch
 
 -- ---- the trace of a log
 

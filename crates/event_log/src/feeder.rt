@@ -3,7 +3,7 @@
 ghost use Rattle.std.specs.Prelude.{◌≡◌, ◌+◌, ◌^◌, ◌<◌, ◌≤◌, ◌++◌, ◌∷◌, [], false, length, None};
 ghost use Rattle.std.specs.Prelude.{IfOk, OnOk, IsTrue};
 ghost use Rattle.std.specs.Option.{option_to_list};
-ghost use Rattle.event_log.specs.Lines.{header_items};
+ghost use Rattle.event_log.specs.inside.Lines.{header_items};
 ghost use Rattle.event_log.specs.Faults.{byte_fault, is_heading_byte};
 
 use crate::item::{Fed, Item, LogCode, LogFault};
@@ -80,7 +80,7 @@ fn byte_fault(total: u32, ended: bool, width: usize, byte: u8) -> Option<LogCode
 
 impl LineGiven {
     ghost use Rattle.std.specs.Option.{option_map};
-    ghost use Rattle.event_log.specs.Feeding.{placed_at};
+    ghost use Rattle.event_log.specs.inside.Feeding.{placed_at};
 
     fn fault(fault: LogFault) -> LineGiven
         ensures { result ≡ record { header = None; item = None; fault = Some fault } }
@@ -130,8 +130,9 @@ impl Feeder {
     ghost use Rattle.event_log.specs.Before.{is_ended};
     ghost use Rattle.event_log.specs.Moments.{HasNoFeed, lines, IsPlainByte};
     ghost use Rattle.event_log.specs.Faults.{end_fault};
-    ghost use Rattle.event_log.specs.Feeding.{Past, CountsLines, HasFed, Gains, TakesPlain};
-    ghost use Rattle.event_log.specs.Feeding.{ClosesLine, TakesFedLine, TakesLog, JudgesRest};
+    ghost use Rattle.event_log.specs.Feeding.{Past, CountsLines, HasFed};
+    ghost use Rattle.event_log.specs.inside.Feeding.{Gains, TakesPlain, ClosesLine, TakesFedLine};
+    ghost use Rattle.event_log.specs.inside.Feeding.{TakesLog, JudgesRest};
 
     /// A reader that has read nothing. It takes no memory.
     #[tactic(auto, unfolding(crate::specs::Moments::lines, crate::specs::Moments::line_now, crate::specs::Faults::first_fault))]

@@ -67,7 +67,7 @@ fn version_in(line: &[u8]) -> Option<u32>
 }
 
 impl LineTold {
-    ghost use Rattle.event_log.specs.Lines.{JudgedAs, told_of, header_items};
+    ghost use Rattle.event_log.specs.inside.Lines.{JudgedAs, told_of, header_items};
     ghost use Rattle.event_log.specs.Before.{Told};
 
     fn fault(code: LogCode) -> LineTold
@@ -108,11 +108,12 @@ impl LineTold {
 
 impl LineReader {
     ghost use Rattle.event_log.specs.declared.line_reader.Stage.TheVariants.{Header as InHeader};
-    ghost use Rattle.event_log.specs.Before.{Lines, is_ended, heading_told, procs_told, vars_told};
+    ghost use Rattle.event_log.specs.Before.{is_ended, heading_told, procs_told, vars_told};
+    ghost use Rattle.event_log.specs.inside.Before.{Lines};
     ghost use Rattle.event_log.specs.Before.{body_told, filled, headed};
-    ghost use Rattle.event_log.specs.Lines.{HasReadLines, JudgedAs, JudgedItem};
-    ghost use Rattle.event_log.specs.Lines.{TakesHeading};
-    ghost use Rattle.event_log.specs.Lines.{TakesProcs, TakesVars, Passes, TakesLine};
+    ghost use Rattle.event_log.specs.Lines.{HasReadLines};
+    ghost use Rattle.event_log.specs.inside.Lines.{JudgedAs, JudgedItem, TakesHeading, TakesProcs};
+    ghost use Rattle.event_log.specs.inside.Lines.{TakesVars, Passes, TakesLine};
 
     /// A reader that has read no line. It takes no memory.
     #[tactic(auto, unfolding(crate::specs::Before::version, crate::specs::Before::names, crate::specs::Before::variables, crate::specs::Before::events, crate::specs::Before::is_header_over, crate::specs::Before::is_ended))]

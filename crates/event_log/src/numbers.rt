@@ -3,7 +3,8 @@
 ghost use Rattle.std.specs.Prelude.{◌≡◌, ◌<◌, ◌^◌, [], length, All, IfSome};
 ghost use Rattle.log_lines.specs.Names.{place_of};
 ghost use Rattle.log_lines.specs.Drafts.{action_of, event_of, value_of, values_of};
-ghost use Rattle.event_log.specs.Numbers.{Agrees, known, binding_names, variables_at, kind_in};
+ghost use Rattle.event_log.specs.Numbers.{known, binding_names, variables_at, kind_in};
+ghost use Rattle.event_log.specs.inside.Numbers.{Agrees};
 ghost use Rattle.event_log.specs.Numbers.{is_to_itself, may_stand, has_width, assign_in, assigns_in};
 ghost use Rattle.event_log.specs.Numbers.{event_named};
 ghost use Rattle.event_log.specs.declared.item.LogCode.TheVariants.{UnknownProcess as UnknownProcessFault};

@@ -1,6 +1,6 @@
 //! Lines that are not read so, as faults of the log.
 
-ghost use Rattle.event_log.specs.Lines.{RefusedAs};
+ghost use Rattle.event_log.specs.inside.Lines.{RefusedAs};
 
 use crate::item::LogCode;
 use log_lines::LineError;

@@ -6,7 +6,8 @@ ghost use Rattle.run_model.specs.Run.{state_after, states_of, process_at};
 ghost use Rattle.pota_base.specs.Shape.{HasEvent};
 ghost use Rattle.event_log.specs.declared.log.Event.{Event};
 ghost use Rattle.event_log.specs.States.{HistoryView, StatesView, IsHeader, AreWhole, MayFollow};
-ghost use Rattle.event_log.specs.States.{with_batch, trace_of, nothing, Grown, HasRoom, Added};
+ghost use Rattle.event_log.specs.States.{with_batch, trace_of};
+ghost use Rattle.event_log.specs.inside.States.{nothing, Grown, HasRoom, Added};
 
 use crate::counting::{MANY_EVENTS, count_events};
 use crate::history::History;

@@ -9,7 +9,7 @@ use Rattle.std.proofs.lemmas.List.Elements.{Contains-get_or, Contains-append_lef
 use Rattle.greatest_reach.specs.declared.reach.Start.{Start}
 use Rattle.greatest_reach.specs.Back.{Back, itself, further}
 use Rattle.greatest_reach.specs.Graph.{IsGraph, Reads, Starts, AreGreatest}
-use Rattle.greatest_reach.specs.Flow.{AreMarked, IsUnderway, IsGrown}
+use Rattle.greatest_reach.specs.inside.Flow.{AreMarked, IsUnderway, IsGrown}
 use Rattle.greatest_reach.proofs.Marks.{is_there}
 use Rattle.greatest_reach.proofs.Backs.{back_on}
 

@@ -6,7 +6,7 @@ use Rattle.std.proofs.lemmas.Bool.{cases_eq, cond-true, cond-false, eq-eqb, ne_e
 use Rattle.std.proofs.lemmas.List.{length-set, take_more, get_or_default}
 use Rattle.std.proofs.lemmas.List.Sums.{sum_by-set}
 use Rattle.std.proofs.lemmas.List.Elements.{Contains-append_left, Contains-append_right, Contains-append_cases, Contains-push, Contains-push_cases}
-use Rattle.greatest_reach.specs.Flow.{AreMarked}
+use Rattle.greatest_reach.specs.inside.Flow.{AreMarked}
 
 -- only what is there has a number
 pub is_there : (xs : List ℕ) (e : ℕ) → 0 < get_or xs e 0 → e < length xs

@@ -1,3 +1,3 @@
 pub mod Back
 pub mod Graph
-pub mod Flow
+pub mod inside

@@ -4,7 +4,7 @@ ghost use Rattle.std.specs.List.{All, Contains};
 ghost use Rattle.std.specs.List.Sorted.{IsNonDecreasingBy};
 ghost use Rattle.greatest_reach.specs.Back.{IsGreatest};
 ghost use Rattle.greatest_reach.specs.Graph.{IsGraph, StartsIn, Reads, Starts, AreGreatest};
-ghost use Rattle.greatest_reach.specs.Flow.{AreMarked, IsUnderway, IsGrown};
+ghost use Rattle.greatest_reach.specs.inside.Flow.{AreMarked, IsUnderway, IsGrown};
 
 use pota_base::{List, NoMemory};
 use std::alloc::Global;

@@ -6,7 +6,7 @@ use Rattle.std.proofs.lemmas.List.{length-set, take_more, take_at, drop_at}
 use Rattle.std.proofs.lemmas.Fmt.{decimal_digit, decimal_step}
 use Rattle.log_lines.specs.Spelling.{clock_rest, clock_text, ClockFits}
 use Rattle.log_lines.specs.Reading.{number_at, text_at, clock_at}
-use Rattle.log_lines.specs.Frames.{clock_front, FrameFits}
+use Rattle.log_lines.specs.inside.Frames.{clock_front, FrameFits}
 use Rattle.pota_base.proofs.NumberLaws.{number_takes, starts_digit}
 use Rattle.log_lines.proofs.WordLaws.{text_takes}
 use Rattle.log_lines.proofs.ItemLaws.{clock_again}

@@ -31,10 +31,6 @@ values_of settings = map value_of settings
 abbrev pub texts_of : List (Bor (List ℕ)) → List Name
 texts_of names = map (λ n. n.now) names
 
-abbrev pub value_seen : Option (Setting × Bor (List ℕ)) → Option (NamedValue × List ℕ)
-value_seen None = None
-value_seen (Some v) = Some (value_of v.0, v.1.now)
-
 abbrev pub action_of : ActionDraft → Action
 action_of drafted.Internal = Internal
 action_of (drafted.Send to id) = Send to.now id
@@ -60,11 +56,3 @@ Fails error.Malformed read = read ≡ None
 abbrev pub Gives : {X Y : Type 0} → (X → Y) → Result X LineError → Option Y → Type 0
 Gives view (Ok x) read = read ≡ Some (view x)
 Gives view (Err e) read = Fails e read
-
-abbrev pub message_seen : Option (Bor (List ℕ) × ℕ × Bor (List ℕ)) → Option (Name × ℕ × List ℕ)
-message_seen None = None
-message_seen (Some m) = Some (m.0.now, m.1, m.2.now)
-
-abbrev pub action_seen : Option (ActionDraft × Bor (List ℕ)) → Option (Action × List ℕ)
-action_seen None = None
-action_seen (Some a) = Some (action_of a.0, a.1.now)

@@ -2,4 +2,4 @@ pub mod Names
 pub mod Spelling
 pub mod Reading
 pub mod Drafts
-pub mod Frames
+pub mod inside

@@ -10,7 +10,7 @@ ghost use Rattle.std.specs.Fmt.{decimal};
 ghost use Rattle.log_lines.specs.Spelling.{clock_rest, clock_text, event_clock_text};
 ghost use Rattle.log_lines.specs.Reading.{clock_at, event_clock_at};
 ghost use Rattle.log_lines.specs.Drafts.{Gives};
-ghost use Rattle.log_lines.specs.Frames.{FrameFits, clock_front};
+ghost use Rattle.log_lines.specs.inside.Frames.{FrameFits, clock_front};
 
 use crate::counts::count_at;
 use crate::draft::LineError;

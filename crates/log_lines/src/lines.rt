@@ -9,7 +9,7 @@ ghost use Rattle.log_lines.specs.Spelling.{batch_line, end_line};
 ghost use Rattle.log_lines.specs.Reading.{event_clock_at, message_at, action_at, event_in, vars_in};
 ghost use Rattle.log_lines.specs.Reading.{procs_in, begins_vars};
 ghost use Rattle.log_lines.specs.Drafts.{Gives, action_of, event_of, vars_of, texts_of};
-ghost use Rattle.log_lines.specs.Drafts.{message_seen, action_seen};
+ghost use Rattle.log_lines.specs.inside.Drafts.{message_seen, action_seen};
 
 use crate::draft::{ActionDraft, EventDraft, LineError, VarsDraft};
 use crate::frames::Frames;

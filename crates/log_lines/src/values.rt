@@ -3,7 +3,8 @@
 ghost use Rattle.std.specs.Prelude.{◌≡◌, ◌^◌, ◌<◌, ◌≤◌, [], ◌∷◌, length, map};
 ghost use Rattle.log_lines.specs.Reading.{value_at, names_from, values_from, values_at, clock_from};
 ghost use Rattle.log_lines.specs.Reading.{clock_at, event_clock_at};
-ghost use Rattle.log_lines.specs.Drafts.{Gives, value_of, values_of, value_seen, texts_of};
+ghost use Rattle.log_lines.specs.Drafts.{Gives, value_of, values_of, texts_of};
+ghost use Rattle.log_lines.specs.inside.Drafts.{value_seen};
 
 use crate::counts::count_at;
 use crate::draft::{LineError, Setting, Settings};

@@ -1,7 +1,7 @@
 -- The log at the front of an input, checked as its bytes come.
 -- ---- items
-use Rattle.std.specs.Prelude.{◌≡◌, ℕ, ◌-◌, Bool, true, false, List, [], Option, Some, None}
-use Rattle.std.specs.Io.KnownBytes.{IsAtEnd}
+use Rattle.std.specs.Prelude.{◌≡◌, ℕ, ◌-◌, ◌≤◌, Bool, true, false, List, [], Option, Some, None}
+use Rattle.std.specs.Io.KnownBytes.{Consumes, IsAtEnd}
 use Rattle.pota_base.specs.Outside.{Rose}
 use Rattle.event_log.specs.LogEnd.{is_whole, log_upto, behind_log}
 use Rattle.event_log.specs.Faults.{first_fault, items}
@@ -78,3 +78,11 @@ IsFront says aim left faults faults' bytes (front.Refused why) =
     × ((due_of_front aim ended bytes).fault ≡ Some why)
 IsFront says aim left faults faults' bytes front.Failed =
     Rose faults faults' × IsCutShort aim bytes
+
+-- some bytes were read, and this is at their front
+pub record HasReadFront {X : Type 0} {P : X → Type 0} (says : Says X P) (aim : Aim)
+    (left left' : Option (List ℕ)) (faults faults' : ℕ) (front : Front X P) : Type 0 where
+  pub read : List ℕ
+  pub consumed : Consumes left left' read
+  pub later : faults ≤ faults'
+  pub is : IsFront says aim left' faults faults' read front

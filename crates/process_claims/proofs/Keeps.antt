@@ -9,7 +9,8 @@ use lib.ListN.{get_elem?}
 use Rattle.atomic_table.specs.Table.{State, Me, step, keeps, Allows, Splits, Joins, opening}
 use Rattle.atomic_table.proofs.Lists.{at_set, at_snoc, at_longer, set_again, set_else}
 use Rattle.process_claims.specs.declared.claimer.SeenClaims.{SeenClaims}
-use Rattle.process_claims.specs.Claims.{IsTrueOf, IsOwned, HasClaims, ClaimsHold, opened, claimless, together, after_swap, Swapped}
+use Rattle.process_claims.specs.Claims.{IsTrueOf, IsOwned, HasClaims, ClaimsHold}
+use Rattle.process_claims.specs.inside.Claims.{opened, claimless, together, after_swap, Swapped}
 
 -- what stands at j after a write at i
 set_case : (v : List ℕ) (i z j : ℕ) → (get_or (set v i z) j 0 ≡ get_or v j 0) ⊎ ((j ≡ i) × (get_or (set v i z) j 0 ≡ z))

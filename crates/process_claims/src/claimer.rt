@@ -1,5 +1,6 @@
 //! What a caller holds, and the rule that each of its steps keeps.
-ghost use Rattle.process_claims.specs.Claims.{ClaimsHold, Swapped, opened, claimless, together};
+ghost use Rattle.process_claims.specs.Claims.{ClaimsHold};
+ghost use Rattle.process_claims.specs.inside.Claims.{Swapped, opened, claimless, together};
 
 use atomic_table::{Join, Play, Split, TableRule};
 use std::collections::LinkedList;

@@ -1,5 +1,5 @@
 -- What stands at the front of a text: the longest token there, a blank, or neither.
-use Rattle.std.specs.Prelude.{ℕ, ◌+◌, ◌<◌, Bool, false, ◌&&◌, ◌||◌, ◌==◌, not, List, [], ◌∷◌, take}
+use Rattle.std.specs.Prelude.{ℕ, ◌+◌, Bool, false, ◌&&◌, ◌||◌, ◌==◌, not, List, [], ◌∷◌, take}
 use Rattle.std.specs.Prelude.{Option, Some, None, ℤ, if◌then◌else◌}
 use Rattle.pota_base.specs.Number.{is_digit, signed_at, whole}
 use Rattle.pota_names.specs.Names.{is_name, is_name_start, is_name_byte}
@@ -100,9 +100,3 @@ front (b ∷ rest) =
     else if leads_number b rest then
     (if begins_number b rest then number_front (b ∷ rest) (run_of is_digit rest) else at_front.Bad)
     else sign_front b rest
-
--- a token has at most so many bytes
-abbrev pub IsShorter : ℕ → Front → Type 0
-IsShorter len at_front.Blank = Unit {0}
-IsShorter len (at_front.Token kind extra) = extra < len
-IsShorter len at_front.Bad = Unit {0}

@@ -3,3 +3,4 @@ pub mod Words
 pub mod Front
 pub mod Lexing
 pub mod Worked
+pub mod inside

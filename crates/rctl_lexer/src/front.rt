@@ -3,7 +3,8 @@
 ghost use Rattle.std.specs.Prelude.{◌≡◌, ◌+◌, ◌<◌, ◌≤◌, length, IfOk};
 ghost use Rattle.rctl_lexer.specs.Front.{begins_number, front, is_blank, leads_number};
 ghost use Rattle.rctl_lexer.specs.Front.{number_front, number_value, sign_front, sign_of};
-ghost use Rattle.rctl_lexer.specs.Front.{starts_digit, with_equals, word_front, IsShorter};
+ghost use Rattle.rctl_lexer.specs.Front.{starts_digit, with_equals, word_front};
+ghost use Rattle.rctl_lexer.specs.inside.Front.{IsShorter};
 
 use crate::run::{Class, run_of};
 use crate::word::word_of;

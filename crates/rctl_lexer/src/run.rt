@@ -1,7 +1,8 @@
 //! How far bytes of one class go.
 
 ghost use Rattle.std.specs.Prelude.{◌≡◌, ◌≤◌, length};
-ghost use Rattle.rctl_lexer.specs.Runs.{is_of, run_of};
+ghost use Rattle.rctl_lexer.specs.Runs.{run_of};
+ghost use Rattle.rctl_lexer.specs.inside.Runs.{is_of};
 
 use pota_names::is_byte_of_name;
 

@@ -20,10 +20,11 @@ use Rattle.rctl_parse.specs.declared.parser.Prefix.{Prefix}
 use Rattle.rctl_parse.specs.declared.parser.Prefix.TheVariants as prefix
 use Rattle.rctl_parse.specs.declared.symbol.Symbol.{Symbol}
 use Rattle.rctl_parse.specs.declared.symbol.Symbol.TheVariants as symbol
-use Rattle.rctl_parse.specs.Limits.{Opened, Entered}
-use Rattle.rctl_parse.specs.Prefixes.{IsPrefix, prefix_tree}
-use Rattle.rctl_parse.specs.Reading.{Faults, found, symbol_in, here}
-use Rattle.rctl_parse.specs.Parts.{NoUnary, IsWordOf, UnaryFault, UnaryRead, PathRead, FormulaFails, FormulaRead, EnclosedRead, Unclosed, EnclosedFault}
+use Rattle.rctl_parse.specs.inside.Limits.{Opened, Entered}
+use Rattle.rctl_parse.specs.inside.Prefixes.{IsPrefix, prefix_tree}
+use Rattle.rctl_parse.specs.Reading.{Faults}
+use Rattle.rctl_parse.specs.inside.Reading.{found, symbol_in, here}
+use Rattle.rctl_parse.specs.inside.Parts.{NoUnary, IsWordOf, UnaryFault, UnaryRead, PathRead, FormulaFails, FormulaRead, EnclosedRead, Unclosed, EnclosedFault}
 use Rattle.rctl_parse.proofs.LeafSteps.{for_fault, found_shorter}
 use Rattle.rctl_parse.proofs.PartSteps.{negation_read, negation_bound, negation_fault, temporal_read, temporal_bound, temporal_fault, group_read, group_fault, group_unclosed, LeftRead, left_read, left_fault, left_unclosed, until_read, right_fault, right_unclosed, inside_end}
 

@@ -13,7 +13,8 @@ use Rattle.rctl_grammar.specs.declared.tree.Atom.{Atom}
 use Rattle.rctl_grammar.specs.declared.tree.Atom.TheVariants as atom
 use Rattle.rctl_grammar.specs.Grammar.{Spelled, Variable, difference, tok, named, placed_name}
 use Rattle.rctl_grammar.specs.Machine.{process_dot, left_side, subtracting, subtracted_process, subtracted_dot, both_sides, difference_compared, going, whole, word_in, compare_in, dot_in}
-use Rattle.rctl_parse.specs.Reading.{Faults, found, minus_in, place_in, comparison_in, BoundRead, LeafFault, Moves, LeafRead}
+use Rattle.rctl_parse.specs.Reading.{Faults}
+use Rattle.rctl_parse.specs.inside.Reading.{found, minus_in, place_in, comparison_in, BoundRead, LeafFault, Moves, LeafRead}
 use Rattle.rctl_parse.proofs.LeafSteps.{for_fault, moves, stops, and_then, then_fault, place_word, compare_word, compare_token, variable_of, behind_dot, behind_minus, behind_subtracted, behind_subtracted_dot, behind_both, subtracted_on_the_left}
 use Rattle.rctl_parse.proofs.LeafReads.{MissesHere}
 

@@ -14,7 +14,7 @@ use Rattle.rctl_grammar.specs.declared.tree.Side.TheVariants as side
 use Rattle.rctl_grammar.specs.declared.tree.Atom.TheVariants as atom
 use Rattle.rctl_grammar.specs.Grammar.{Spelled, Channel, Variable, number, variable, comparison, watch, transit, emptiness, tok, named, placed_name, side_of, in_range, number_of}
 use Rattle.rctl_grammar.specs.Machine.{process_dot, left_side, compared, right_process, right_dot, process_at, channel_word, channel_opened, channel_sender, channel_comma, channel_receiver, transit_channel, transit_compared, ChannelWord, of_transit, of_emptiness, going, whole, step_channel, word_in, compare_in, number_in, dot_in, comma_in, open_round_in, close_round_in}
-use Rattle.rctl_parse.specs.Reading.{found, here, minus_in, place_in, comparison_in, CountRead, LeafFault, Moves, LeafRead, SideRead, ChannelRead}
+use Rattle.rctl_parse.specs.inside.Reading.{found, here, minus_in, place_in, comparison_in, CountRead, LeafFault, Moves, LeafRead, SideRead, ChannelRead}
 use Rattle.rctl_parse.proofs.LeafSteps.{found_is, number_token, number_is, moves, stops, and_then, then_fault, place_word, compare_word, process_on_the_right, behind_dot, compared_on_the_left, left_stops, behind_right, behind_right_dot, behind_at, behind_channel_word, behind_opened, behind_sender, behind_comma, behind_receiver, behind_channel, variable_of, channel_of, compare_token}
 
 -- what misses a token at this place

@@ -17,7 +17,8 @@ use Rattle.rctl_grammar.specs.declared.tree.Place.{Place}
 use Rattle.rctl_grammar.specs.Grammar.{Spelled, Channel, Variable, variable, comparison, watch, tok, named, placed_name}
 use Rattle.rctl_grammar.specs.Machine.{Front, process_dot, left_side, compared, right_process, right_dot, process_at, channel_word, channel_opened, channel_sender, channel_comma, channel_receiver, transit_channel, transit_compared, subtracting, subtracted_process, subtracted_dot, both_sides, difference_compared, ChannelWord, of_transit, of_emptiness, LeafStep, going, whole, step_left, step_leaf, step_channel, put_leaf, Open, in_leaf, text_front, word_in, compare_in, number_in, dot_in, comma_in, open_round_in, close_round_in}
 use Rattle.rctl_grammar.specs.FirstFault.{front_limit, fault_of, placed, then_on}
-use Rattle.rctl_parse.specs.Reading.{Faults, beside, found, here, minus_in, place_in, comparison_in, LeafFault, Moves, text_step}
+use Rattle.rctl_parse.specs.Reading.{Faults}
+use Rattle.rctl_parse.specs.inside.Reading.{beside, found, here, minus_in, place_in, comparison_in, LeafFault, Moves, text_step}
 
 -- ---- what stops a call that called another
 

@@ -11,8 +11,8 @@ use Rattle.rctl_grammar.specs.Grammar.{Disjunction, one_conjunction, or, one_una
 use Rattle.rctl_grammar.specs.Machine.{nothing, bar, Outer, first_of, next_of, after}
 use Rattle.rctl_grammar.specs.FirstFault.{fault_of, nodes_outer, nodes_before, too_many_at}
 use Rattle.rctl_parse.specs.declared.around.Around.{Around}
-use Rattle.rctl_parse.specs.Reading.{found, amp_in, bar_in}
-use Rattle.rctl_parse.specs.Parts.{UnaryFault, UnaryRead, ConjunctionFault, ConjunctionRead, ConjunctionSoFar, FormulaFails, FormulaRead, FormulaSoFar}
+use Rattle.rctl_parse.specs.inside.Reading.{found, amp_in, bar_in}
+use Rattle.rctl_parse.specs.inside.Parts.{UnaryFault, UnaryRead, ConjunctionFault, ConjunctionRead, ConjunctionSoFar, FormulaFails, FormulaRead, FormulaSoFar}
 use Rattle.rctl_parse.proofs.LeafSteps.{found_is, longer}
 use Rattle.rctl_parse.proofs.UnarySteps.{node_passes, node_stops}
 

@@ -17,9 +17,9 @@ use Rattle.rctl_grammar.specs.Grammar.{negation, temporal, group, until, Path, D
 use Rattle.rctl_grammar.specs.Machine.{Before, nothing, Outer, in_group, in_left, in_right, Open, first_of, in_negation, in_temporal, State, operand, after, plug, joined, settled, no_sign, close_round_in, close_square_in, until_in, step_close, by_another, following, whole_now}
 use Rattle.rctl_grammar.specs.FirstFault.{fault_of, placed, then_on, depth, nodes_open, level_opens, node_stands, either, is_operator, too_deep_at}
 use Rattle.rctl_parse.specs.declared.around.Around.{Around}
-use Rattle.rctl_parse.specs.Reading.{found, beside, here, amp_in, bar_in, until_at}
-use Rattle.rctl_parse.specs.Parts.{sign_of, UnaryFault, UnaryRead, PathRead, FormulaFails, FormulaRead}
-use Rattle.rctl_parse.specs.Limits.{Opened, Entered}
+use Rattle.rctl_parse.specs.inside.Reading.{found, beside, here, amp_in, bar_in, until_at}
+use Rattle.rctl_parse.specs.inside.Parts.{sign_of, UnaryFault, UnaryRead, PathRead, FormulaFails, FormulaRead}
+use Rattle.rctl_parse.specs.inside.Limits.{Opened, Entered}
 use Rattle.rctl_parse.proofs.LeafSteps.{beside_is, found_is, longer, close_round_is}
 use Rattle.rctl_parse.proofs.UnarySteps.{level_passes, level_stops, node_passes, settle, word_free, word_bound}
 

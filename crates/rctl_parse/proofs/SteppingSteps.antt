@@ -14,9 +14,9 @@ use Rattle.rctl_grammar.specs.Grammar.{stepping, spelled, named, tree_unary}
 use Rattle.rctl_grammar.specs.Machine.{Open, operand, a_stepping, in_stepping, no_sign, word_in}
 use Rattle.rctl_grammar.specs.FirstFault.{fault_of, depth, nodes_open, level_opens, node_stands, either}
 use Rattle.rctl_parse.specs.declared.around.Around.{Around}
-use Rattle.rctl_parse.specs.Reading.{found, here, place_in}
-use Rattle.rctl_parse.specs.Parts.{sign_of, UnaryFault, UnaryRead, SteppingRead}
-use Rattle.rctl_parse.specs.Limits.{Entered}
+use Rattle.rctl_parse.specs.inside.Reading.{found, here, place_in}
+use Rattle.rctl_parse.specs.inside.Parts.{sign_of, UnaryFault, UnaryRead, SteppingRead}
+use Rattle.rctl_parse.specs.inside.Limits.{Entered}
 use Rattle.rctl_parse.proofs.LeafSteps.{found_is, word_is, longer, place_word}
 use Rattle.rctl_parse.proofs.UnarySteps.{level_passes, node_passes, settle, word_free, word_bound}
 use Rattle.rctl_parse.proofs.PartSteps.{missing_close}

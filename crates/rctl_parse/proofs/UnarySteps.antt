@@ -21,11 +21,12 @@ use Rattle.rctl_grammar.specs.Grammar.{Spelled, constant, Unary, leaf, negation,
 use Rattle.rctl_grammar.specs.Machine.{Open, first_of, next_of, in_negation, in_temporal, in_stepping, State, operand, a_word, in_leaf, a_path, a_stepping, after, plug, settled, step_now, step_kind, whole_now, whole_of, process_dot, process_at, channel_word, of_transit, of_emptiness, no_sign, sign}
 use Rattle.rctl_grammar.specs.FirstFault.{fault_of, end_fault, end_limit, limit, limit_now, nodes_open, level_opens, node_stands, word_limit, too_deep_at, too_many_at}
 use Rattle.rctl_parse.specs.declared.around.Around.{Around}
-use Rattle.rctl_parse.specs.Reading.{Faults, here, LeafFault, LeafRead}
+use Rattle.rctl_parse.specs.Reading.{Faults}
+use Rattle.rctl_parse.specs.inside.Reading.{here, LeafFault, LeafRead}
 use Rattle.rctl_parse.proofs.LeafSteps.{for_fault}
 use Rattle.rctl_parse.specs.declared.role.LeafRole.{LeafRole}
 use Rattle.rctl_parse.specs.declared.role.LeafRole.TheVariants as leaf_role
-use Rattle.rctl_parse.specs.Parts.{sign_of, NoRole, IsLeafRole, WordRead, WordFault, UnaryFault, UnaryRead}
+use Rattle.rctl_parse.specs.inside.Parts.{sign_of, NoRole, IsLeafRole, WordRead, WordFault, UnaryFault, UnaryRead}
 
 -- ---- the limits
 

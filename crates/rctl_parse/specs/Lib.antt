@@ -1,5 +1,3 @@
-pub mod Limits
 pub mod Reading
-pub mod Parts
-pub mod Prefixes
 pub mod Parsing
+pub mod inside

@@ -3,8 +3,9 @@
 ghost use Rattle.pota_base.specs.declared.fault.Refused.TheVariants.{Fault};
 ghost use Rattle.rctl_grammar.specs.FirstFault.{either, level_opens, node_stands, too_deep_at};
 ghost use Rattle.rctl_grammar.specs.FirstFault.{too_many_at};
-ghost use Rattle.rctl_parse.specs.Limits.{Opened, Entered};
-ghost use Rattle.rctl_parse.specs.Reading.{Faults, cut_short, here};
+ghost use Rattle.rctl_parse.specs.inside.Limits.{Opened, Entered};
+ghost use Rattle.rctl_parse.specs.Reading.{Faults};
+ghost use Rattle.rctl_parse.specs.inside.Reading.{cut_short, here};
 ghost use Rattle.std.specs.Prelude.{◌≡◌, Some, ◌+◌, ◌<◌, ◌≤◌, MatchResult};
 
 use pota_base::Refused;

@@ -10,9 +10,10 @@ ghost use Rattle.rctl_grammar.specs.Machine.{of_emptiness, transit_compared, sub
 ghost use Rattle.rctl_grammar.specs.Machine.{difference_compared};
 ghost use Rattle.rctl_grammar.specs.declared.tree.Compare.{Compare as Compared};
 ghost use Rattle.rctl_grammar.specs.declared.tree.Side.TheVariants.{Number};
-ghost use Rattle.rctl_parse.specs.Reading.{Faults, Misses, found, place_in, comparison_in};
-ghost use Rattle.rctl_parse.specs.Reading.{BoundRead, CountRead, SideRead, ChannelRead, LeafRead};
-ghost use Rattle.rctl_parse.specs.Reading.{LeafFault};
+ghost use Rattle.rctl_parse.specs.Reading.{Faults};
+ghost use Rattle.rctl_parse.specs.inside.Reading.{Misses, found, place_in, comparison_in};
+ghost use Rattle.rctl_parse.specs.inside.Reading.{BoundRead, CountRead, SideRead, ChannelRead};
+ghost use Rattle.rctl_parse.specs.inside.Reading.{LeafRead, LeafFault};
 ghost use Rattle.run_model.specs.Run.{Name as Bytes};
 ghost use Rattle.std.specs.Prelude.{◌≡◌, ℕ, false, true, IfOk, MatchOption, MatchResult};
 

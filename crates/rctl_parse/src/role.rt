@@ -1,6 +1,6 @@
 //! What the first tokens of a unary begin.
 
-ghost use Rattle.rctl_parse.specs.Parts.{sign_of, IsOpening, IsRole, IsRoleAlone};
+ghost use Rattle.rctl_parse.specs.inside.Parts.{sign_of, IsOpening, IsRole, IsRoleAlone};
 ghost use Rattle.std.specs.Prelude.{◌≡◌};
 
 use crate::symbol::{Symbol, after};

@@ -1,6 +1,7 @@
 //! The tokens that are always the same.
 
-ghost use Rattle.rctl_parse.specs.Reading.{found, here, symbol_in, Faults};
+ghost use Rattle.rctl_parse.specs.Reading.{Faults};
+ghost use Rattle.rctl_parse.specs.inside.Reading.{found, here, symbol_in};
 ghost use Rattle.std.specs.Prelude.{◌≡◌, None, Some, is_some, MatchOption, MatchResult};
 
 use crate::around::{Stop, refused_here};

@@ -2,7 +2,7 @@
 use Rattle.std.proofs.Common.{◌≡◌, ◌≤◌, true, List, [], ◌∷◌, map, length, refl, sym, arith}
 use Rattle.rctl_grammar.specs.Shape.{Shape, Shapes, one, more, conjunction_on, disjunction_on}
 use Rattle.rctl_print.specs.Canonical.{is_amp, encloses, needs_brackets}
-use Rattle.rctl_print.specs.Members.{joined_of}
+use Rattle.rctl_print.specs.inside.Members.{joined_of}
 use Rattle.rctl_print.specs.declared.joint.Joint.{Joint}
 use Rattle.rctl_print.specs.declared.joint.Joint.TheVariants.{Amp, Bar}
 

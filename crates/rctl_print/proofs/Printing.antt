@@ -5,8 +5,8 @@ use Rattle.std.proofs.Math.Seq.{take-suc}
 use Rattle.rctl_grammar.specs.declared.tree.Operator.{Operator}
 use Rattle.rctl_grammar.specs.declared.tree.Operator.TheVariants as operator
 use Rattle.rctl_grammar.specs.Shape.{Shape, not, under_of, stepped, until_of, Shapes, one, more, conjunction_on, disjunction_on}
-use Rattle.rctl_print.specs.Canonical.{canonical, joined, member, joint_text, operator_word, next_words, until_word}
-use Rattle.rctl_print.specs.Members.{joined_of, each_behind}
+use Rattle.rctl_print.specs.Canonical.{canonical, joined, joint_text, operator_word, next_words, until_word}
+use Rattle.rctl_print.specs.inside.Members.{joined_of, member, each_behind}
 use Rattle.rctl_print.specs.declared.joint.Joint.{Joint}
 use Rattle.rctl_print.specs.declared.joint.Joint.TheVariants.{Amp, Bar}
 

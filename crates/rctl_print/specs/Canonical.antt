@@ -122,7 +122,3 @@ abbrev mutual
   joined joint (one s) = member_text joint s (canonical s)
   joined joint (more front s) =
       joined joint front ++ joint_text joint ++ member_text joint s (canonical s)
-
--- a formula as a member, or as an operand
-abbrev pub member : Joint → Shape → List ℕ
-member joint s = member_text joint s (canonical s)

@@ -3,7 +3,7 @@ ghost use Rattle.std.specs.Prelude.{◌≡◌, map};
 ghost use Rattle.rctl_grammar.specs.Shape.{shape_of};
 ghost use Rattle.rctl_print.specs.Canonical.{is_amp, joint_text, encloses, needs_brackets};
 ghost use Rattle.rctl_print.specs.Canonical.{truth_word};
-ghost use Rattle.rctl_print.specs.Members.{joined_of};
+ghost use Rattle.rctl_print.specs.inside.Members.{joined_of};
 
 use rctl_grammar::Tree;
 

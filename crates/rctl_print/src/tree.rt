@@ -1,9 +1,8 @@
 //! The text of a tree, with the brackets that it needs.
 ghost use Rattle.std.specs.Prelude.{◌≡◌, ◌++◌, OnOk, codes, map};
 ghost use Rattle.rctl_grammar.specs.Shape.{shape_of};
-ghost use Rattle.rctl_print.specs.Canonical.{canonical, member, next_words, operator_word};
-ghost use Rattle.rctl_print.specs.Canonical.{until_word};
-ghost use Rattle.rctl_print.specs.Members.{joined_of};
+ghost use Rattle.rctl_print.specs.Canonical.{canonical, next_words, operator_word, until_word};
+ghost use Rattle.rctl_print.specs.inside.Members.{joined_of, member};
 
 use crate::atom::{put_atom, put_name};
 use crate::joint::Joint;

@@ -6,8 +6,10 @@ ghost use Rattle.certificate_lines.specs.Spelling.{Spells};
 ghost use Rattle.certificate_text.specs.declared.said.Stage.TheVariants as stage;
 ghost use Rattle.certificate_text.specs.Taking.{Justifies, IsUnjustified, fresh, taken};
 ghost use Rattle.certificate_text.specs.Taking.{stage_after};
-ghost use Rattle.verifier.specs.Checking.{IsChecked, IsText, IsNoLine, IsSaid, IsUnsaid};
-ghost use Rattle.verifier.specs.Checking.{KeepsText, checked_as, number_at};
+ghost use Rattle.verifier.specs.Checking.{IsChecked, IsNoLine};
+ghost use Rattle.verifier.specs.inside.Checking.{IsText, IsSaid, IsUnsaid};
+ghost use Rattle.verifier.specs.Checking.{checked_as, number_at};
+ghost use Rattle.verifier.specs.inside.Checking.{KeepsText};
 ghost use Rattle.verifier.specs.declared.verifier.Checked.TheVariants as checked;
 
 use crate::takes::Takes;

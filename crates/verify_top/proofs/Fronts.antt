@@ -9,8 +9,7 @@ use Rattle.log_check.specs.Aims.{Says, Aim}
 use Rattle.log_part.specs.declared.front.Front.{Front}
 use Rattle.log_part.specs.declared.front.Front.TheVariants as front
 use Rattle.log_part.specs.declared.part.LogPart.{LogPart}
-use Rattle.log_part.specs.Reading.{IsOpen, IsDone, IsFront, IsWholeLog}
-use Rattle.log_part.specs.inside.Reading.{HasReadFront}
+use Rattle.log_part.specs.Reading.{HasReadFront, IsDone, IsFront, IsOpen, IsWholeLog}
 use Rattle.log_part.proofs.PieceSteps.{cut_short}
 
 module _ {X : Type 0} {P : X → Type 0} (says : Says X P) (aim : Aim) (left left' : Option (List ℕ)) (lf lf' : ℕ) where

@@ -32,8 +32,7 @@ use Rattle.log_check.specs.Checked.{IsCheckedLog, observed_alone}
 use Rattle.log_check.specs.Checking.{IsCheckOf, HasClosed}
 use Rattle.log_check.specs.Keeping.{reading_of}
 use Rattle.log_part.specs.Fronts.{due_of_front}
-use Rattle.log_part.specs.Reading.{IsWholeLog}
-use Rattle.log_part.specs.inside.Reading.{HasReadFront}
+use Rattle.log_part.specs.Reading.{HasReadFront, IsWholeLog}
 use Rattle.log_part.specs.declared.front.Front.{Front}
 use Rattle.log_part.specs.declared.front.Front.TheVariants as front
 use Rattle.log_part.proofs.FrontLaws.{front_stays, behind_stays}

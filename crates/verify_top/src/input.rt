@@ -5,7 +5,7 @@ ghost use Rattle.input_reading.specs.Intakes.{ReadsShort};
 ghost use Rattle.log_judgement.specs.Judgement.{waiting};
 ghost use Rattle.log_check.specs.Aims.{Aim, said_by};
 ghost use Rattle.log_check.specs.Checking.{IsCheckOf};
-ghost use Rattle.log_part.specs.inside.Reading.{HasReadFront};
+ghost use Rattle.log_part.specs.Reading.{HasReadFront};
 ghost use Rattle.verify_answers.specs.Asking.{AsksAbout, IsFormulaOf};
 ghost use Rattle.verify_top.specs.Asking.{aim_for};
 ghost use Rattle.verify_top.specs.Verifying.{Answers};

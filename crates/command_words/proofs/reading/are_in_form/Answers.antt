@@ -1,6 +1,6 @@
 use Rattle.std.proofs.Common.{rules, arith}
 use Rattle.std.specs.String.{string_bytes}
-use Rattle.command_words.specs.Seen.{given_seen}
+use Rattle.command_words.specs.inside.Seen.{given_seen}
 use Rattle.command_words.proofs.WordByWord.{refused, went_on}
 use Rattle.command_words.proofs.reading.are_in_form.Goals as goal
 

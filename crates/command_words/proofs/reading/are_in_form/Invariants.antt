@@ -2,7 +2,7 @@ use Rattle.std.proofs.Common.{◌≡◌, Some, map, drop}
 use Rattle.std.specs.List.{fold}
 use Rattle.std.specs.String.{string_bytes}
 use Rattle.command_words.specs.Rule.{nothing_given, step}
-use Rattle.command_words.specs.Seen.{given_seen}
+use Rattle.command_words.specs.inside.Seen.{given_seen}
 use Rattle.command_words.proofs.reading.are_in_form.Given as goal
 
 abbrev pub invariant-loop-word : goal.invariant-loop-word

@@ -1,6 +1,7 @@
 use Rattle.std.proofs.Common.{◌≡◌, length, get_or, set, arith, ◌∙◌, ap, sym, subst, List, reverse}
 use Rattle.std.proofs.lemmas.List.{reverse-reverse}
-use Rattle.event_log.specs.States.{HistoryView, nothing, AssignsWithin}
+use Rattle.event_log.specs.States.{HistoryView, AssignsWithin}
+use Rattle.event_log.specs.inside.States.{nothing}
 use Rattle.event_log.specs.declared.log.Event.{Event}
 use Rattle.event_log.proofs.Growing.{AddedSoFar, longer, item_is, so_far_none, so_far_more, next_has_room, turned}
 use Rattle.event_log.proofs.states.add_all.Goals as goal

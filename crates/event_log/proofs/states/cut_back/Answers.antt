@@ -1,5 +1,6 @@
 use Rattle.std.proofs.Common.{◌≡◌, ◌+◌, ◌<◌, length, get_or, arith, ◌∙◌, ap, sym, subst, set}
-use Rattle.event_log.specs.States.{HistoryView, nothing}
+use Rattle.event_log.specs.States.{HistoryView}
+use Rattle.event_log.specs.inside.States.{nothing}
 use Rattle.event_log.proofs.Growing.{CutBelow, shorter, cut_more, cut_all, item_is}
 use Rattle.event_log.proofs.states.cut_back.Goals as goal
 

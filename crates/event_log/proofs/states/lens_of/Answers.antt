@@ -1,6 +1,7 @@
 use Rattle.std.proofs.Common.{◌≡◌, length, get_or, arith, ap}
 use Rattle.std.proofs.lemmas.List.{get_or-map}
-use Rattle.event_log.specs.States.{HistoryView, nothing}
+use Rattle.event_log.specs.States.{HistoryView}
+use Rattle.event_log.specs.inside.States.{nothing}
 use Rattle.event_log.proofs.Growing.{item_is}
 use Rattle.event_log.proofs.Keeping.{lens_in, item_le_sum}
 use Rattle.event_log.proofs.states.lens_of.Goals as goal

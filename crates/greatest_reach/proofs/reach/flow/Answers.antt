@@ -1,5 +1,5 @@
 use Rattle.std.proofs.Common.{◌≡◌, List, [], ◌∷◌, ℕ, ◌-◌, arith, subst, refl}
-use Rattle.greatest_reach.specs.Flow.{AreMarked, IsUnderway}
+use Rattle.greatest_reach.specs.inside.Flow.{AreMarked, IsUnderway}
 use Rattle.greatest_reach.proofs.Flows.{start_at, AreSettled, one_settled, are_greatest}
 use Rattle.greatest_reach.proofs.reach.flow.Goals as goal
 

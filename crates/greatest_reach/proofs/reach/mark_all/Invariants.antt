@@ -1,5 +1,5 @@
 use Rattle.std.proofs.Common.{take}
-use Rattle.greatest_reach.specs.Flow.{AreMarked}
+use Rattle.greatest_reach.specs.inside.Flow.{AreMarked}
 use Rattle.greatest_reach.proofs.reach.mark_all.Given as goal
 
 abbrev pub invariant-loop-node : goal.invariant-loop-node

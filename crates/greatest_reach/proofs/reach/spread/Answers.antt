@@ -1,5 +1,5 @@
 use Rattle.std.proofs.Common.{List, ℕ, ◌∙◌, subst}
-use Rattle.greatest_reach.specs.Flow.{AreMarked, IsUnderway}
+use Rattle.greatest_reach.specs.inside.Flow.{AreMarked, IsUnderway}
 use Rattle.greatest_reach.proofs.Flows.{top_there, readers_there, row_is, spread_on, grown_on}
 use Rattle.greatest_reach.proofs.reach.spread.Goals as goal
 

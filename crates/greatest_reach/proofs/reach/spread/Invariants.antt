@@ -1,5 +1,5 @@
 use Rattle.std.proofs.Common.{◌+◌, length}
-use Rattle.greatest_reach.specs.Flow.{unmarked, IsUnderway, IsGrown}
+use Rattle.greatest_reach.specs.inside.Flow.{unmarked, IsUnderway, IsGrown}
 use Rattle.greatest_reach.proofs.reach.spread.Given as goal
 
 abbrev pub invariant-loop-node : goal.invariant-loop-node

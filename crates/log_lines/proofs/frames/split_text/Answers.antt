@@ -1,6 +1,6 @@
 use Rattle.std.proofs.Common.{◌≡◌, ◌<◌, take, drop, get_or, length, arith, refl, ap, subst, ◌∙◌}
 use Rattle.std.specs.Fmt.{decimal}
-use Rattle.log_lines.specs.Frames.{clock_front}
+use Rattle.log_lines.specs.inside.Frames.{clock_front}
 use Rattle.log_lines.proofs.FrameLaws.{split_at, front_more}
 use Rattle.log_lines.proofs.frames.split_text.Goals as goal
 

@@ -1,5 +1,5 @@
 use Rattle.std.proofs.Common.{◌≡◌, length, take}
-use Rattle.log_lines.specs.Frames.{clock_front}
+use Rattle.log_lines.specs.inside.Frames.{clock_front}
 use Rattle.log_lines.proofs.frames.split_text.Given as goal
 
 abbrev pub invariant-loop-k : goal.invariant-loop-k

@@ -1,5 +1,6 @@
 use Rattle.std.proofs.Common.{◌≡◌, ◌+◌, drop}
-use Rattle.rctl_lexer.specs.Runs.{is_of, run_of}
+use Rattle.rctl_lexer.specs.Runs.{run_of}
+use Rattle.rctl_lexer.specs.inside.Runs.{is_of}
 use Rattle.rctl_lexer.proofs.run.run_of.Given as goal
 
 abbrev pub invariant-loop-i : goal.invariant-loop-i

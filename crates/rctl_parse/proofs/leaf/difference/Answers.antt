@@ -4,7 +4,7 @@ use Rattle.std.specs.Int.{w64}
 use Rattle.std.proofs.lemmas.Int.{to_z-of_z}
 use Rattle.rctl_grammar.specs.declared.tree.Atom.TheVariants.{Difference}
 use Rattle.rctl_grammar.specs.Machine.{subtracting}
-use Rattle.rctl_parse.specs.Reading.{LeafRead}
+use Rattle.rctl_parse.specs.inside.Reading.{LeafRead}
 use Rattle.rctl_parse.proofs.LeafSteps.{passes_on}
 use Rattle.rctl_parse.proofs.DifferenceReads.{subtracted, without_right_dot, without_right_name, without_sign, without_bound, difference_read}
 use Rattle.rctl_parse.proofs.leaf.difference.Goals as goal

@@ -2,7 +2,7 @@ use Rattle.std.proofs.Common.{◌≡◌, refl, inl}
 use Rattle.rctl_grammar.specs.declared.token.Kind.TheVariants as kind
 use Rattle.rctl_grammar.specs.Grammar.{tok, spelled, word_of}
 use Rattle.rctl_grammar.specs.FirstFault.{too_deep_at, too_many_at}
-use Rattle.rctl_parse.specs.Parts.{UnaryFault}
+use Rattle.rctl_parse.specs.inside.Parts.{UnaryFault}
 use Rattle.rctl_parse.proofs.LeafSteps.{passes_on, stops_with}
 use Rattle.rctl_parse.proofs.PartSteps.{group_bound}
 use Rattle.rctl_parse.proofs.MemberSteps.{counted_over, one_more, conjunction_one, conjunction_fault, conjunction_bound, conjunction_init, conjunction_stops, conjunction_turn, conjunction_ends, formula_one, formula_fault, formula_bound, formula_init, formula_stops, formula_turn, formula_ends}

@@ -1,5 +1,5 @@
 use Rattle.std.proofs.Common.{◌+◌, ◌*◌, length}
-use Rattle.rctl_parse.specs.Parts.{ConjunctionSoFar, FormulaSoFar}
+use Rattle.rctl_parse.specs.inside.Parts.{ConjunctionSoFar, FormulaSoFar}
 use Rattle.rctl_parse.proofs.parser.+parser.Given as goal
 
 abbrev pub decreases-unary : goal.decreases-unary

@@ -2,7 +2,7 @@ use Rattle.std.proofs.Common.{ℕ, ◌≡◌, ◌∷◌, subst}
 use Rattle.rctl_grammar.specs.declared.token.Kind.TheVariants as kind
 use Rattle.rctl_grammar.specs.Grammar.{tok}
 use Rattle.rctl_parse.specs.declared.role.LeafRole.{LeafRole}
-use Rattle.rctl_parse.specs.Parts.{IsLeafRole, WordFault}
+use Rattle.rctl_parse.specs.inside.Parts.{IsLeafRole, WordFault}
 use Rattle.rctl_parse.proofs.LeafSteps.{stops_with}
 use Rattle.rctl_parse.proofs.UnarySteps.{compared_answer, watched_answer, constant_word, transit_answer, emptiness_answer, no_role_fault}
 use Rattle.rctl_parse.proofs.parser.atom.Goals as goal

@@ -4,7 +4,7 @@ use Rattle.std.proofs.lemmas.List.{take_all}
 use Rattle.std.proofs.lemmas.Bool.Decides.{nat_tests}
 use Rattle.rctl_grammar.specs.Shape.{shape_of, not, under_of, stepped, until_of}
 use Rattle.rctl_grammar.proofs.Shapes.{shape-Not, shape-Temporal, shape-Next, shape-Until}
-use Rattle.rctl_print.specs.Members.{each_behind}
+use Rattle.rctl_print.specs.inside.Members.{each_behind}
 use Rattle.rctl_print.proofs.Printing.{put_not, put_under, put_stepped, put_until, put_more, all_text}
 use Rattle.rctl_print.proofs.tree.+tree.Goals as goal
 

@@ -1,6 +1,6 @@
 use Rattle.std.proofs.Common.{◌≡◌, ◌++◌, map, take}
 use Rattle.rctl_grammar.specs.Shape.{shape_of}
-use Rattle.rctl_print.specs.Members.{each_behind}
+use Rattle.rctl_print.specs.inside.Members.{each_behind}
 use Rattle.rctl_print.proofs.tree.+tree.Given as goal
 
 abbrev pub invariant-put_joined-members : goal.invariant-put_joined-members

@@ -1,6 +1,6 @@
 use Rattle.std.proofs.Common.{◌≡◌, length, [], ◌∷◌, Some, None, refl, sym, subst, arith}
 use Rattle.event_log.specs.declared.item.LogFault.{LogFault}
-use Rattle.event_log.specs.Feeding.{TakesPlain}
+use Rattle.event_log.specs.inside.Feeding.{TakesPlain}
 use Rattle.event_log.proofs.FeedSteps.{Knows, byte_faults, byte_takes}
 use Rattle.event_log.proofs.feeder.Feeder.take_byte.Goals as goal
 

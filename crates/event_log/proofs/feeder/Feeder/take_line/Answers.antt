@@ -2,7 +2,7 @@ use Rattle.std.proofs.Common.{◌≡◌, length, Option, refl, subst, arith}
 use Rattle.std.proofs.lemmas.List.{nil_from_length}
 use Rattle.std.proofs.lemmas.Result.{IfOk-weaker}
 use Rattle.event_log.specs.declared.item.LogFault.{LogFault}
-use Rattle.event_log.specs.Feeding.{TakesPlain}
+use Rattle.event_log.specs.inside.Feeding.{TakesPlain}
 use Rattle.event_log.proofs.FeedSteps.{whole_line, line_faults_is, kept_line}
 use Rattle.event_log.proofs.feeder.Feeder.take_line.Goals as goal
 

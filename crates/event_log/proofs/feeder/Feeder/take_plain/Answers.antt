@@ -1,7 +1,7 @@
 use Rattle.std.proofs.Common.{◌≡◌, ℕ, ◌+◌, List, take, drop, get_or, [], ◌∷◌, ◌++◌, Option, Some, None, sym, ap, ◌∙◌, subst}
 use Rattle.std.proofs.lemmas.List.{take_more, take-append-drop}
 use Rattle.event_log.specs.declared.item.LogFault.{LogFault}
-use Rattle.event_log.specs.Feeding.{TakesPlain}
+use Rattle.event_log.specs.inside.Feeding.{TakesPlain}
 use Rattle.event_log.proofs.FeedSteps.{quiet_takes, then_plain, fault_stays}
 use Rattle.event_log.proofs.feeder.Feeder.take_plain.Goals as goal
 

@@ -1,7 +1,8 @@
 use Rattle.std.proofs.Common.{◌≤◌, ◌+◌, ◌∙◌, sym, ap, subst, sum, map, length, get_or, arith, ℕ, List}
 use Rattle.std.specs.List.{AllByRecursion}
 use Rattle.event_log.specs.declared.log.Event.{Event}
-use Rattle.event_log.specs.States.{HistoryView, StatesView, HasRoom, IsKnown, nothing}
+use Rattle.event_log.specs.States.{HistoryView, StatesView, IsKnown}
+use Rattle.event_log.specs.inside.States.{HasRoom, nothing}
 use Rattle.event_log.proofs.Growing.{grown_fits}
 use Rattle.event_log.proofs.Keeping.{lens_in, known_room, states_grown, added_sum}
 use Rattle.event_log.proofs.states.States.extend.Goals as goal

@@ -1,6 +1,6 @@
 use Rattle.std.proofs.Common.{◌≡◌, ℕ, List, take, drop, ◌+◌, ◌++◌, ap, ◌∙◌}
 use Rattle.log_lines.specs.Spelling.{clock_rest}
-use Rattle.log_lines.specs.Frames.{clock_front}
+use Rattle.log_lines.specs.inside.Frames.{clock_front}
 use Rattle.log_lines.proofs.FrameLaws.{frame_fits}
 use Rattle.log_lines.proofs.frames.Frame.renewed.Goals as goal
 

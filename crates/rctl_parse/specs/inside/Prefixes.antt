@@ -10,7 +10,7 @@ use Rattle.rctl_grammar.specs.Grammar.{tok, spelled, operator_of, word_of}
 use Rattle.rctl_grammar.specs.Machine.{no_sign}
 use Rattle.rctl_parse.specs.declared.parser.Prefix.{Prefix}
 use Rattle.rctl_parse.specs.declared.parser.Prefix.TheVariants as prefix
-use Rattle.rctl_parse.specs.Parts.{sign_of}
+use Rattle.rctl_parse.specs.inside.Parts.{sign_of}
 
 abbrev pub IsPrefix : Prefix → Token → ℕ → List Token → Type 0
 IsPrefix prefix.Negation first at ts = first ≡ tok kind.Bang at

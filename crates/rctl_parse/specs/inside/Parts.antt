@@ -34,9 +34,9 @@ use Rattle.rctl_parse.specs.declared.role.Role.{Role}
 use Rattle.rctl_parse.specs.declared.role.Role.TheVariants as role
 use Rattle.rctl_parse.specs.declared.role.Opening.{Opening}
 use Rattle.rctl_parse.specs.declared.role.Opening.TheVariants as opening
-use Rattle.rctl_parse.specs.Limits.{Entered}
+use Rattle.rctl_parse.specs.inside.Limits.{Entered}
 use Rattle.rctl_parse.specs.declared.symbol.Symbol.{Symbol}
-use Rattle.rctl_parse.specs.Reading.{found, here, symbol_in, amp_in, bar_in}
+use Rattle.rctl_parse.specs.inside.Reading.{found, here, symbol_in, amp_in, bar_in}
 
 -- ---- what stands first
 
