@@ -37,3 +37,9 @@ pub record HasRow (row : List ℕ) (before now : List (List ℕ)) : Type 0 where
   pub size : length now ≡ length before
   pub each : (j : ℕ) → j < length before
       → get_or now j [] ≡ get_or before j [] ++ get_or row j 0 ∷ []
+
+-- one table for each process, with its first entries
+pub record AreTables (entry : ℕ → ℕ → ℕ) (procs count : ℕ) (tables : List (List ℕ)) : Type 0 where
+  pub size : length tables ≡ procs
+  pub each : (j : ℕ) → j < procs
+      → get_or tables j [] ≡ map (entry j) (range_with_len 0 count)

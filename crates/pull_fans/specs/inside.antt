@@ -1,5 +1,6 @@
 -- What only the calls inside say to each other.
 pub mod Asks
 pub mod Fans
+pub mod First
 pub mod Places
 pub mod Sources

@@ -1,11 +1,12 @@
-ghost use Rattle.std.specs.Prelude.{◌≡◌, ℕ, ◌+◌, ◌^◌, ◌<◌, ◌≤◌, ◌↔◌, length, slice_index, All};
-ghost use Rattle.std.specs.Prelude.{IsTrue, IfOk, []};
+ghost use Rattle.std.specs.Prelude.{◌≡◌, ℕ, ◌+◌, ◌^◌, ◌<◌, ◌≤◌, ◌↔◌, ◌++◌, length, take};
+ghost use Rattle.std.specs.Prelude.{slice_index, All, IsTrue, IfOk, []};
 ghost use Rattle.pull_system.specs.System.{IsPull, HoldsPull};
 ghost use Rattle.pull_fans.specs.Sources.{numbers_from};
 ghost use Rattle.pull_fans.specs.Fans.{pulls_of_fans};
 
 use crate::asks::all_asks;
 use crate::fan::{Fan, row_of};
+use crate::first::{fans_with, first_of, first_pulls, forget_behind, joined, learn_behind};
 use crate::places::{Place, places_of, sort_by_source};
 use pota_base::{List, NoMemory, Shape, Steps};
 use pull_system::Pull;
@@ -74,9 +75,80 @@ impl System {
             (λ system. system ≡ record { lens = shape.now; pulls = pulls_of_fans fans }) }
     {
         let shape = shape.copy(alloc)?;
-        let places = places_of(alloc, &fans)?;
+        let places = places_of(alloc, fans.as_slice())?;
         let by_source = sort_by_source(alloc, &shape, &fans, &places)?;
         let asks = all_asks(alloc, &shape, &fans)?;
+        Ok(System {
+            shape,
+            fans,
+            places,
+            by_source,
+            asks,
+        })
+    }
+
+    /// The system with the pulls of these fans behind its own, fewer than 2^32 in all. Of what the
+    /// processes ask, that of the fans' sources is raised, and the rest stays as it is.
+    pub fn with_fans(self, alloc: Global, fans: List<Fan>) -> Result<System, NoMemory>
+        requires pulls { All (IsPull self.lens) (pulls_of_fans fans) }
+        requires count { length self.pulls + length (pulls_of_fans fans) < 2 ^ 32 }
+        ensures { IfOk result (λ system. system
+            ≡ record self { pulls = self.pulls ++ pulls_of_fans fans }) }
+    {
+        let System {
+            shape,
+            fans: own,
+            mut places,
+            mut by_source,
+            mut asks,
+        } = self;
+        let known = own.len();
+        let fans = joined(own, fans)?;
+        learn_behind(
+            alloc,
+            &shape,
+            fans.as_slice(),
+            known,
+            &mut places,
+            &mut by_source,
+            &mut asks,
+        )?;
+        Ok(System {
+            shape,
+            fans,
+            places,
+            by_source,
+            asks,
+        })
+    }
+
+    /// The system of the first so many of its pulls. What processes ask from which no other pull
+    /// comes stays as it is.
+    pub fn with_first_pulls(self, alloc: Global, count: u32) -> Result<System, NoMemory>
+        ensures { IfOk result (λ system. system ≡ record self { pulls = take count self.pulls }) }
+    {
+        let System {
+            shape,
+            fans,
+            places,
+            mut by_source,
+            mut asks,
+        } = self;
+        drop(places);
+        let count = count as usize;
+        let Some(stay) = fans_with(fans.as_slice(), count) else {
+            return System::new(alloc, &shape, first_pulls(alloc, &fans, count)?);
+        };
+        forget_behind(
+            alloc,
+            &shape,
+            fans.as_slice(),
+            stay,
+            &mut by_source,
+            &mut asks,
+        )?;
+        let fans = first_of(fans, stay);
+        let places = places_of(alloc, fans.as_slice())?;
         Ok(System {
             shape,
             fans,

@@ -10,8 +10,7 @@ use Rattle.run_model.specs.Operators.{nowhere}
 use Rattle.run_model.proofs.Orders.{has_process}
 use Rattle.run_model.proofs.SliceLemmas.{stands_rows, stands_fits}
 use Rattle.slice_graph.specs.Views.{SliceView, slice_of, no_row}
-use Rattle.slice_graph.specs.Fitting.{FitsOrder}
-use Rattle.slice_graph.specs.inside.Fitting.{Agrees}
+use Rattle.slice_graph.specs.Fitting.{FitsOrder, Agrees}
 use Rattle.slice_graph.proofs.Events.{rows_apart, row_there}
 
 -- the first n rows are there, each as it should be

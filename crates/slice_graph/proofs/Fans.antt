@@ -8,8 +8,7 @@ use Rattle.std.proofs.lemmas.List.Sums.{get_or-le-sum_by}
 use Rattle.std.proofs.lemmas.List.Concat.{flat_map-append}
 use Rattle.std.proofs.lemmas.List.FromFn.{length-map-range_with_len, get_or-map-range_with_len}
 use Rattle.pull_system.specs.declared.pull.Pull.{Pull}
-use Rattle.pull_fans.specs.Fans.{FanView, pull_of_fan, pulls_of_fan, pulls_of_fans}
-use Rattle.pull_fans.specs.inside.Fans.{AreTables}
+use Rattle.pull_fans.specs.Fans.{FanView, pull_of_fan, pulls_of_fan, pulls_of_fans, AreTables}
 use Rattle.run_model.specs.Cut.{Clocks, count, lengths}
 use Rattle.run_model.specs.Consistent.{IsOrder}
 use Rattle.slice_graph.specs.Views.{SliceView, HasAllRows, slice_of, last_row}

@@ -2,8 +2,7 @@
 use Rattle.std.proofs.Common.{◌≡◌, ℕ, zero, suc, ◌+◌, ◌<◌, ◌≤◌, List, [], ◌∷◌, length, get_or, take, replicate, refl, ap, ◌∙◌, arith}
 use Rattle.std.proofs.lemmas.List.{length-replicate}
 use Rattle.run_model.specs.Cut.{count}
-use Rattle.pull_fans.specs.Fans.{HasRow}
-use Rattle.pull_fans.specs.inside.Fans.{AreTables}
+use Rattle.pull_fans.specs.Fans.{HasRow, AreTables}
 use Rattle.slice_graph.proofs.Pairs.{entry_more}
 
 no_tables : (n i : ℕ) → get_or {A = List ℕ} (replicate n []) i [] ≡ []

@@ -1,15 +1,15 @@
 -- Rows that a table may begin from: those of a slice, and the clocks of an order.
 use Rattle.std.proofs.Common.{◌≡◌, ℕ, zero, suc, ◌+◌, ◌-◌, ◌*◌, ◌<◌, ◌≤◌, min, eqb, List, [], ◌∷◌, ◌++◌, length, get_or, take, drop, replicate, sum, All, Option, Some, None, refl, sym, ap, ◌∙◌, subst, arith, inl, inr, below_more, length-append}
 use Rattle.std.proofs.lemmas.Bool.{cases_lt, cases_eq, cond-false, ne_eqb}
-use Rattle.std.proofs.lemmas.List.{get_or_append_left, get_or_push}
+use Rattle.std.proofs.lemmas.List.{ext_get_or, get_or_append_left, get_or_push}
 use Rattle.std.proofs.lemmas.List.Elements.{All-head}
 use Rattle.pota_base.specs.Shape.{HasEvent, row_of}
 use Rattle.pota_base.specs.declared.shape.EventId.{EventId}
-use Rattle.run_model.specs.Cut.{Cut, Clocks, count, lengths}
+use Rattle.run_model.specs.Cut.{Cut, Clocks, count, lengths, max_cut}
 use Rattle.run_model.specs.Consistent.{IsOrder, IsEvent, clock}
 use Rattle.run_model.specs.Sublattice.{Having}
 use Rattle.run_model.specs.Slice.{IsLeastOf, Cuts}
-use Rattle.run_model.proofs.Counts.{count_past, length-lengths}
+use Rattle.run_model.proofs.Counts.{count_past, count-max, length-max, length-lengths}
 use Rattle.causal_order.specs.Blocks.{rows_of}
 use Rattle.causal_order.proofs.Rows.{length-rows_of, row_at as row_cut_out}
 use Rattle.pull_system.specs.declared.pull.Pull.{Pull}
@@ -21,7 +21,7 @@ use Rattle.slice_graph.specs.Words.{filled, row_words}
 use Rattle.slice_graph.specs.Fitting.{FitsOrder}
 use Rattle.slice_graph.specs.PullLists.{order_entry, order_table, order_pull, pulls_of_order}
 use Rattle.slice_graph.specs.PullLists.{slice_entry, slice_table, slice_pull, pulls_of_slice}
-use Rattle.slice_graph.specs.Starting.{AreWithinClosed}
+use Rattle.slice_graph.specs.Starting.{AreAbove, AreWithinClosed}
 use Rattle.slice_graph.proofs.Words.{rows_pushed, count-past_ends, length-filled}
 use Rattle.slice_graph.proofs.Events.{event_of_row, row_there}
 use Rattle.slice_graph.proofs.Kept.{bottom_start, event_start}
@@ -96,11 +96,6 @@ above_start lens words event row there = elim (cases_lt 0 row) [
 
 -- ---- the clocks of an order
 
--- the row is its event's clock, and the bottom's has none
-pub record IsClockRow (o : Clocks) (r : ℕ) (row : List ℕ) : Type 0 where
-  pub bottom : r ≡ 0 → row ≡ replicate (length o) 0
-  pub event : (e : EventId) → HasEvent (lengths o) e → row_of (lengths o) e ≡ r → row ≡ clock o e.process e.position
-
 order_asks : (o : Clocks) → IsOrder o → (c : List ℕ) → IsVector (lengths o) c → ClosedUnder (pulls_of_order o) c → (i j x : ℕ) → i < length o → j < length o → (i ≡ j → ⊥)
     → x ≤ count c i → IsEvent (lengths o) i x → count (clock o i x) j ≤ count c j
 order_asks o order c vector closed i j x there less ne up ev =
@@ -128,21 +123,49 @@ order_row_below o order c vector closed e there up j =
       ]
     ]
 
-pub order_begins : (o : Clocks) → IsOrder o → (words : List ℕ) → length words ≡ (sum (lengths o) + 1) * length (lengths o)
-    → ((row : ℕ) → row ≤ sum (lengths o) → IsClockRow o row (row_at (lengths o) words row)) → AreWithinClosed (lengths o) (pulls_of_order o) words
-order_begins o order words size rows = record {
+-- the row is its event's clock, raised to the vector, and the bottom's is the vector
+pub record IsRaisedRow (o : Clocks) (v : List ℕ) (r : ℕ) (row : List ℕ) : Type 0 where
+  pub bottom : r ≡ 0 → row ≡ v
+  pub event : (e : EventId) → HasEvent (lengths o) e → row_of (lengths o) e ≡ r → row ≡ max_cut (clock o e.process e.position) v
+
+pub raised_begins : (o : Clocks) → IsOrder o → (v : List ℕ) (pulls : List Pull) → AreAbove o pulls v → (words : List ℕ) → length words ≡ (sum (lengths o) + 1) * length (lengths o)
+    → ((row : ℕ) → row ≤ sum (lengths o) → IsRaisedRow o v row (row_at (lengths o) words row)) → AreWithinClosed (lengths o) pulls words
+raised_begins o order v pulls more words size rows = record {
   size = size;
   above = above_start (lengths o) words (λ e there.
       let ev : IsEvent (lengths o) e.process e.position = (omega (arith, there.first), there.last) in
-      omega (arith, ap (λ (row : List ℕ). count row e.process) (clock_at e there), order.own e.process e.position ev));
+      omega (arith, ap (λ (row : List ℕ). count row e.process) (raised_at e there), count-max (clock o e.process e.position) v e.process, order.own e.process e.position ev));
   below = λ row here c vector above closed. below_start (lengths o) words c
-      (λ i. omega (arith, ap (λ (row : List ℕ). count row i) ((rows 0 (omega arith)).bottom refl), (zero_counts (length o) i).1))
-      (λ e there up i. omega (arith, ap (λ (row : List ℕ). count row i) (clock_at e there), order_row_below o order c vector closed e there up i))
+      (λ i. omega (arith, ap (λ (row : List ℕ). count row i) ((rows 0 (omega arith)).bottom refl), (more.above c vector closed).each i))
+      (λ e there up i. omega (
+        arith,
+        ap (λ (row : List ℕ). count row i) (raised_at e there),
+        count-max (clock o e.process e.position) v i,
+        order_row_below o order c vector (more.order c closed) e there up i,
+        (more.above c vector closed).each i,
+      ))
       row here above;
 }
   where
-    clock_at : (e : EventId) → HasEvent (lengths o) e → row_at (lengths o) words (row_of (lengths o) e) ≡ clock o e.process e.position
-    clock_at e there = (rows (row_of (lengths o) e) (row_there (lengths o) e there)).event e there refl
+    raised_at : (e : EventId) → HasEvent (lengths o) e → row_at (lengths o) words (row_of (lengths o) e) ≡ max_cut (clock o e.process e.position) v
+    raised_at e there = (rows (row_of (lengths o) e) (row_there (lengths o) e there)).event e there refl
+
+-- zeros raise nothing
+pub above_zeros : (o : Clocks) (v : List ℕ) → v ≡ replicate (length o) 0 → AreAbove o (pulls_of_order o) v
+above_zeros o v zeros = record {
+  order = λ c closed. closed;
+  above = λ c vector closed. record { each = λ i. omega (arith, ap (λ (row : List ℕ). count row i) zeros, (zero_counts (length o) i).1) };
+}
+
+pub max_zeros : (n : ℕ) (c v : List ℕ) → v ≡ replicate n 0 → length c ≡ n → max_cut c v ≡ c
+max_zeros n c v zeros size =
+    ext_get_or 0 (max_cut c v) c (omega (arith, length-max c v, ap length zeros, (zero_counts n 0).0))
+    (λ i lt. let e : count (max_cut c v) i ≡ count c i = omega (arith, count-max c v i, ap (λ (row : List ℕ). count row i) zeros, (zero_counts n i).1) in e)
+
+pub zeros_max : (n : ℕ) (c v : List ℕ) → c ≡ replicate n 0 → length v ≡ n → max_cut c v ≡ v
+zeros_max n c v zeros size =
+    ext_get_or 0 (max_cut c v) v (omega (arith, length-max c v, ap length zeros, (zero_counts n 0).0))
+    (λ i lt. let e : count (max_cut c v) i ≡ count v i = omega (arith, count-max c v i, ap (λ (row : List ℕ). count row i) zeros, (zero_counts n i).1) in e)
 
 -- ---- the rows of a slice
 

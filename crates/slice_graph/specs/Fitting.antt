@@ -1,8 +1,8 @@
 -- What a slice, a system of pulls and its least vectors have to do with the order of a run.
 use Rattle.std.specs.Prelude.{◌≡◌, ℕ, ◌+◌, List, length, sum, Option, Some, None}
 use Rattle.run_model.specs.Cut.{Cut, Clocks, IsWithin, lengths}
-use Rattle.run_model.specs.Consistent.{IsConsistent}
-use Rattle.run_model.specs.Slice.{Fits}
+use Rattle.run_model.specs.Consistent.{IsConsistent, IsEvent}
+use Rattle.run_model.specs.Slice.{Slice, Fits}
 use Rattle.pull_system.specs.System.{SystemView, IsClosed}
 use Rattle.slice_graph.specs.Views.{SliceView, slice_of}
 
@@ -25,3 +25,10 @@ ClosedCuts o system c = IsConsistent o c × IsClosed system c
 abbrev pub IsCutOfVector : List ℕ → List ℕ → Option Cut → Type 0
 IsCutOfVector lens vector None = IsWithin vector lens → ⊥
 IsCutOfVector lens vector (Some c) = (c ≡ vector) × IsWithin vector lens
+
+-- the code's slice has the order's shape, and the bottom and the events' rows of the model's slice
+pub record Agrees (o : Clocks) (s : Slice) (v : SliceView) : Type 0 where
+  pub shape : v.lens ≡ lengths o
+  pub count : length v.rows ≡ sum v.lens + 1
+  pub bottom : s.bottom ≡ (slice_of v).bottom
+  pub rows : (i a : ℕ) → IsEvent (lengths o) i a → s.row i a ≡ (slice_of v).row i a

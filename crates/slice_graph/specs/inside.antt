@@ -1,5 +1,4 @@
 -- What only the calls inside say to each other.
 pub mod Edges
-pub mod Fitting
 pub mod PullLists
 pub mod Words

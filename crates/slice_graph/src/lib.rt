@@ -23,11 +23,11 @@ mod slice_pulls;
 mod starting;
 mod table;
 
-pub use cuts::{event_at, is_within, join_into, set_words};
+pub use cuts::{is_within, set_words};
 pub use edges::Edge;
 pub use laws::{least_or_none, order_grows, rows_of_one_slice, systems_of_an_order};
 pub use order_pulls_of::{order_fans, order_pulls};
 pub use slice::Slice;
 pub use slice_pulls::all_processes;
-pub use starting::order_rows;
+pub use starting::{order_rows, order_rows_above};
 pub use table::CutTable;

@@ -3,14 +3,14 @@ ghost use Rattle.std.specs.Prelude.{◌≡◌, ℕ, ◌+◌, ◌<◌, ◌≤◌,
 ghost use Rattle.std.specs.Prelude.{replicate, IsTrue, IfOk, MatchOption, option_map};
 ghost use Rattle.std.specs.Option.{option_copied};
 ghost use Rattle.pota_base.specs.Shape.{HasEvent};
-ghost use Rattle.run_model.specs.Cut.{Cut as CutOfRun, Clocks, count, lengths};
+ghost use Rattle.run_model.specs.Cut.{Cut as CutOfRun, Clocks, count, max_cut, lengths};
 ghost use Rattle.run_model.specs.Consistent.{IsOrder};
 ghost use Rattle.run_model.specs.Sublattice.{IsGreatest, Having};
 ghost use Rattle.run_model.specs.Slice.{Cuts, IsLeastOf};
 ghost use Rattle.slice_graph.specs.Words.{past_ends, filled};
 ghost use Rattle.slice_graph.specs.Views.{AreCuts, joined_onto, joined_rows, slice_of, no_row};
 
-use crate::cuts::{is_within, join_words, set_words};
+use crate::cuts::{is_within, set_words};
 use crate::table::CutTable;
 use cut_lattice::Cut;
 use pota_base::{EventId, NoMemory, Shape};
@@ -225,5 +225,15 @@ fn join_row(table: &CutTable, row: usize, into: &mut [u32])
 {
     if let Some(cut) = table.cut(row) {
         join_words(cut, into);
+    }
+}
+
+/// Makes `into` the componentwise maximum of the words and itself.
+fn join_words(words: &[u32], into: &mut [u32])
+    requires { length words.now ≡ length into.old }
+    ensures { into.new ≡ max_cut words.now into.old }
+{
+    for process in 0..words.len() {
+        into[process] = into[process].max(words[process]);
     }
 }

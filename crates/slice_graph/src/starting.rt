@@ -1,15 +1,17 @@
 //! Rows that a table of a system may begin from: those of a slice, and the clocks of an order.
-ghost use Rattle.std.specs.Prelude.{◌≡◌, ℕ, ◌+◌, ◌<◌, ◌≤◌, length, get_or, replicate, sum, IfOk};
+ghost use Rattle.std.specs.Prelude.{◌≡◌, ℕ, ◌+◌, ◌<◌, ◌≤◌, List, length, get_or, replicate, sum};
+ghost use Rattle.std.specs.Prelude.{IfOk};
 ghost use Rattle.pota_base.specs.Shape.{HasEvent, row_of};
 ghost use Rattle.pota_base.specs.declared.shape.EventId.{EventId};
-ghost use Rattle.run_model.specs.Cut.{Clocks, lengths};
+ghost use Rattle.run_model.specs.Cut.{Clocks, lengths, max_cut};
 ghost use Rattle.run_model.specs.Consistent.{clock};
+ghost use Rattle.pull_system.specs.declared.pull.Pull.{Pull};
 ghost use Rattle.pull_system.specs.Rows.{row_at};
 ghost use Rattle.slice_graph.specs.Views.{no_row};
 ghost use Rattle.slice_graph.specs.Words.{filled};
 ghost use Rattle.slice_graph.specs.Fitting.{FitsOrder};
 ghost use Rattle.slice_graph.specs.PullLists.{pulls_of_order, pulls_of_slice};
-ghost use Rattle.slice_graph.specs.Starting.{AreWithinClosed};
+ghost use Rattle.slice_graph.specs.Starting.{AreAbove, AreWithinClosed};
 
 use crate::slice::Slice;
 use causal_order::Order;
@@ -53,15 +55,33 @@ pub fn order_rows(alloc: Global, order: &Order) -> Result<Floor, NoMemory>
     ensures begins { IfOk result (λ rows.
         AreWithinClosed (lengths order.now) (pulls_of_order order.now) rows.words) }
 {
+    let zeros = [0; 32];
+    order_rows_above(alloc, order, &zeros[..order.shape().procs() as usize])
+}
+
+/// The rows of `order_rows`, raised to the vector where they lie below it: so it is the bottom's.
+/// A table may begin from them where each of its closed vectors is at or above the vector.
+pub fn order_rows_above(alloc: Global, order: &Order, vector: &[u64]) -> Result<Floor, NoMemory>
+    requires { length vector.now ≡ length order.now }
+    ensures lens { IfOk result (λ rows. rows.lens ≡ lengths order.now) }
+    ensures bottom { IfOk result (λ rows.
+        row_at (lengths order.now) rows.words 0 ≡ vector.now) }
+    ensures events { IfOk result (λ rows. (e : EventId) → HasEvent (lengths order.now) e
+        → row_at (lengths order.now) rows.words (row_of (lengths order.now) e)
+        ≡ max_cut (clock order.now e.process e.position) vector.now) }
+    ensures begins { (pulls : List Pull) → AreAbove order.now pulls vector.now → IfOk result
+        (λ rows. AreWithinClosed (lengths order.now) pulls rows.words) }
+{
     let shape = order.shape();
     let procs = shape.procs() as usize;
-    let zeros = [0; 32];
-    let none = &zeros[..procs];
+    let none = [0; 32];
+    let none = &none[..procs];
     let mut room = [0; 32];
     let room = &mut room[..procs];
     let mut words = Vec::with_capacity(alloc, (shape.events() as usize + 1) * procs)?;
     for row in 0..shape.events() + 1 {
-        widen(clock_of(order, row, none), room);
+        room.copy_from_slice(vector);
+        raise_to(clock_of(order, row, none), room);
         words.extend_from_slice(room)?;
     }
     Floor::from_words(alloc, shape, words)
@@ -90,5 +110,15 @@ fn widen(row: &[u32], into: &mut [u64])
 {
     for process in 0..row.len() {
         into[process] = row[process] as u64;
+    }
+}
+
+/// Raises each number of `into` to that of the row, where it lies below it.
+fn raise_to(row: &[u32], into: &mut [u64])
+    requires { length row.now ≡ length into.old }
+    ensures { into.new ≡ max_cut row.now into.old }
+{
+    for process in 0..row.len() {
+        into[process] = into[process].max(row[process] as u64);
     }
 }

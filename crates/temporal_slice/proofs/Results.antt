@@ -9,8 +9,7 @@ use Rattle.run_model.proofs.SliceLemmas.{exact_slice, cuts_closed}
 use Rattle.run_model.proofs.ClosureLemmas.{some_time_closed, each_time_closed, staying_closed}
 use Rattle.run_model.proofs.ResultSlices.{some_time_slice, some_time_nowhere, each_time_slice, each_time_nowhere, staying_slice, staying_nowhere}
 use Rattle.slice_graph.specs.Views.{SliceView, slice_of}
-use Rattle.slice_graph.specs.Fitting.{FitsOrder}
-use Rattle.slice_graph.specs.inside.Fitting.{Agrees}
+use Rattle.slice_graph.specs.Fitting.{FitsOrder, Agrees}
 use Rattle.slice_graph.proofs.Building.{agrees_stands, fits_of_set}
 
 -- the consistent cuts at which an operator says so

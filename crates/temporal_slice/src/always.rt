@@ -8,11 +8,12 @@ ghost use Rattle.run_model.specs.Operators.{EachTime, HoldsAlways};
 ghost use Rattle.slice_graph.specs.Views.{IsCut, slice_of};
 ghost use Rattle.slice_graph.specs.Fitting.{FitsOrder};
 
+use crate::cuts::{event_at, join_into};
 use crate::raised::cuts_from;
 use causal_order::Order;
 use cut_lattice::Cut;
 use pota_base::{EventId, NoMemory};
-use slice_graph::{Slice, event_at, join_into, set_words};
+use slice_graph::{Slice, set_words};
 use std::alloc::Global;
 
 /// The slice of the consistent cuts from which each cut of every path is a cut of the child.

@@ -12,6 +12,7 @@
 
 mod always;
 mod behind_next;
+mod cuts;
 mod laws;
 mod possible;
 mod raised;

@@ -7,13 +7,13 @@ ghost use Rattle.run_model.specs.Sublattice.{IsSublattice};
 ghost use Rattle.run_model.specs.Slice.{Cuts, StandsFor};
 ghost use Rattle.run_model.specs.Operators.{SomeTime, whole, lowered};
 ghost use Rattle.slice_graph.specs.Views.{slice_of};
-ghost use Rattle.slice_graph.specs.Fitting.{FitsOrder};
-ghost use Rattle.slice_graph.specs.inside.Fitting.{Agrees};
+ghost use Rattle.slice_graph.specs.Fitting.{FitsOrder, Agrees};
 
+use crate::cuts::event_at;
 use causal_order::Order;
 use cut_lattice::Cut;
 use pota_base::{EventId, NoMemory};
-use slice_graph::{CutTable, Slice, event_at};
+use slice_graph::{CutTable, Slice};
 use std::alloc::Global;
 
 /// The slice of the consistent cuts from which some path ends in a cut of the child.

@@ -6,13 +6,14 @@ ghost use Rattle.run_model.specs.Cut.{max_cut, lengths};
 ghost use Rattle.run_model.specs.Consistent.{IsConsistent};
 ghost use Rattle.run_model.specs.Operators.{raised};
 ghost use Rattle.slice_graph.specs.Views.{IsCut, IsRow};
-ghost use Rattle.slice_graph.specs.inside.Fitting.{Agrees};
+ghost use Rattle.slice_graph.specs.Fitting.{Agrees};
 ghost use Rattle.temporal_slice.specs.inside.Operands.{operand, FitsOperand};
 
+use crate::cuts::event_at;
 use causal_order::Order;
 use cut_lattice::Cut;
 use pota_base::{EventId, NoMemory};
-use slice_graph::{CutTable, Slice, event_at, set_words};
+use slice_graph::{CutTable, Slice, set_words};
 use std::alloc::Global;
 
 /// The slice of the cuts that hold the bottom, among those of the child, or among all consistent

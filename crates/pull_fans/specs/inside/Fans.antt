@@ -1,6 +1,5 @@
 -- Of the calls inside, which no caller rests on.
-use Rattle.std.specs.Prelude.{◌≡◌, ℕ, ◌*◌, ◌<◌, ◌≤◌, List, [], length, get_or, map}
-use Rattle.std.specs.List.{range_with_len}
+use Rattle.std.specs.Prelude.{◌≡◌, ℕ, ◌*◌, ◌≤◌, List, [], length, get_or}
 use Rattle.pull_fans.specs.Fans.{FanView}
 
 -- so many rows of this width, and none where a row has no entry
@@ -11,9 +10,3 @@ pub record AreEntries (width values : ℕ) (entries : List ℕ) : Type 0 where
 -- what the pull to the target at this index asks for at a value
 abbrev pub entry_of : FanView → ℕ → ℕ → ℕ
 entry_of fan i x = get_or (get_or fan.tables i []) x 0
-
--- one table for each process, with its first entries
-pub record AreTables (entry : ℕ → ℕ → ℕ) (procs count : ℕ) (tables : List (List ℕ)) : Type 0 where
-  pub size : length tables ≡ procs
-  pub each : (j : ℕ) → j < procs
-      → get_or tables j [] ≡ map (entry j) (range_with_len 0 count)

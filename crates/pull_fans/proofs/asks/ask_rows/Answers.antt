@@ -9,7 +9,7 @@ use Rattle.pull_fans.proofs.asks.ask_rows.Goals as goal
 pub loop-fan-preserved-then-source-process : goal.loop-fan-preserved-then-source-process
 loop-fan-preserved-then-source-process c =
     let there : c.loop-fan.fan-index < length c.args.fans.now = search rules in
-    let is = item_is c.args.fans.now c.as_slice-fan-items.result.now c.loop-fan.fan-index c.fan-item.result (search rules) (search rules) c.fan-item.is in
+    let is = item_is c.args.fans.now c.args.fans.now c.loop-fan.fan-index c.fan-item.result (search rules) (search rules) c.fan-item.is in
     let values : ℕ = get_or c.args.shape.now c.args.process 0 + 2 in
     let P : List Pull → Type 0 = λ pulls. AreAskRows record { lens = c.args.shape.now; pulls = pulls } c.args.process values c.loop-fan.rows.items in
     subst P (sym (pulls_more c.args.fans.now c.loop-fan.fan-index c.fan-item.result there is))
@@ -18,19 +18,19 @@ loop-fan-preserved-then-source-process c =
 pub raise-requires-clause-values : goal.raise-requires-clause-values
 raise-requires-clause-values c =
     let there : c.loop-fan.fan-index < length c.args.fans.now = search rules in
-    let is = item_is c.args.fans.now c.as_slice-fan-items.result.now c.loop-fan.fan-index c.fan-item.result (search rules) (search rules) c.fan-item.is in
+    let is = item_is c.args.fans.now c.args.fans.now c.loop-fan.fan-index c.fan-item.result (search rules) (search rules) c.fan-item.is in
     let fits = fan_fits c.args.shape.now c.args.fans.now c.loop-fan.fan-index c.args.process c.fan-item.result c.requires.system.pulls there is (search rules) in λ i inside. omega (arith, fits.sizes i inside, c.len_of.ensures.len)
 
 pub raise-requires-clause-targets : goal.raise-requires-clause-targets
 raise-requires-clause-targets c =
     let there : c.loop-fan.fan-index < length c.args.fans.now = search rules in
-    let is = item_is c.args.fans.now c.as_slice-fan-items.result.now c.loop-fan.fan-index c.fan-item.result (search rules) (search rules) c.fan-item.is in
+    let is = item_is c.args.fans.now c.args.fans.now c.loop-fan.fan-index c.fan-item.result (search rules) (search rules) c.fan-item.is in
     let fits = fan_fits c.args.shape.now c.args.fans.now c.loop-fan.fan-index c.args.process c.fan-item.result c.requires.system.pulls there is (search rules) in λ i inside. omega (arith, fits.targets i inside, c.procs-procs.ensures.count)
 
 pub loop-fan-preserved : goal.loop-fan-preserved
 loop-fan-preserved c =
     let there : c.loop-fan.fan-index < length c.args.fans.now = search rules in
-    let is = item_is c.args.fans.now c.as_slice-fan-items.result.now c.loop-fan.fan-index c.fan-item.result (search rules) (search rules) c.fan-item.is in
+    let is = item_is c.args.fans.now c.args.fans.now c.loop-fan.fan-index c.fan-item.result (search rules) (search rules) c.fan-item.is in
     let from : c.fan-item.result.src ≡ c.args.process = search rules in
     let fits = fan_fits c.args.shape.now c.args.fans.now c.loop-fan.fan-index c.args.process c.fan-item.result c.requires.system.pulls there is from in
     let values : ℕ = get_or c.args.shape.now c.args.process 0 + 2 in

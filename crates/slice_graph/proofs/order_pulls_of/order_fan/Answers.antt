@@ -3,8 +3,7 @@ use Rattle.std.specs.List.{range_with_len}
 use Rattle.std.proofs.lemmas.List.FromFn.{length-map-range_with_len}
 use Rattle.run_model.specs.Cut.{lengths, count}
 use Rattle.run_model.proofs.Counts.{length-lengths}
-use Rattle.pull_fans.specs.Fans.{FanView}
-use Rattle.pull_fans.specs.inside.Fans.{AreTables}
+use Rattle.pull_fans.specs.Fans.{FanView, AreTables}
 use Rattle.slice_graph.specs.PullLists.{past_count, order_entry, order_table}
 use Rattle.slice_graph.specs.inside.PullLists.{other}
 use Rattle.slice_graph.proofs.RowByRow.{tables_none, tables_more, zeros_of, zero_counts}

@@ -1,6 +1,6 @@
 use Rattle.std.proofs.Common.{◌≡◌, ◌-◌, length, map}
 use Rattle.std.specs.List.{range_with_len}
-use Rattle.pull_fans.specs.inside.Fans.{AreTables}
+use Rattle.pull_fans.specs.Fans.{AreTables}
 use Rattle.slice_graph.specs.PullLists.{order_entry}
 use Rattle.slice_graph.specs.inside.PullLists.{other}
 use Rattle.slice_graph.proofs.order_pulls_of.order_fan.Given as goal

@@ -3,8 +3,7 @@ use Rattle.std.specs.List.{range_with_len}
 use Rattle.std.proofs.lemmas.List.{map-id}
 use Rattle.std.proofs.lemmas.List.FromFn.{length-map-range_with_len}
 use Rattle.run_model.specs.Cut.{count}
-use Rattle.pull_fans.specs.Fans.{FanView}
-use Rattle.pull_fans.specs.inside.Fans.{AreTables}
+use Rattle.pull_fans.specs.Fans.{FanView, AreTables}
 use Rattle.slice_graph.specs.PullLists.{slice_entry, slice_table}
 use Rattle.slice_graph.proofs.Words.{count-past_ends, length-past_ends}
 use Rattle.slice_graph.proofs.RowByRow.{tables_none, tables_more}

@@ -3,8 +3,7 @@ use Rattle.std.specs.List.{range_with_len}
 use Rattle.std.proofs.lemmas.List.{map-id, length-replicate}
 use Rattle.std.proofs.lemmas.List.FromFn.{length-map-range_with_len}
 use Rattle.run_model.specs.Cut.{count}
-use Rattle.pull_fans.specs.Fans.{FanView}
-use Rattle.pull_fans.specs.inside.Fans.{AreTables}
+use Rattle.pull_fans.specs.Fans.{FanView, AreTables}
 use Rattle.slice_graph.proofs.RowByRow.{tables_none, tables_more}
 use Rattle.slice_graph.proofs.Fans.{fan_pulls, flat_ones}
 use Rattle.temporal_slice.specs.NextPulls.{next_entry, next_table}

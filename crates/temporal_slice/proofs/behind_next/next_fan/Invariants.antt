@@ -1,6 +1,6 @@
 use Rattle.std.proofs.Common.{◌≡◌, length, map}
 use Rattle.std.specs.List.{range_with_len}
-use Rattle.pull_fans.specs.inside.Fans.{AreTables}
+use Rattle.pull_fans.specs.Fans.{AreTables}
 use Rattle.temporal_slice.specs.NextPulls.{next_entry}
 use Rattle.temporal_slice.proofs.behind_next.next_fan.Given as goal
 
