@@ -26,7 +26,7 @@ use Rattle.conjunctions.specs.Settling.{AreFloors, Settles}
 use Rattle.conjunctions.specs.Answering.{IsSliceOf, IsAnswer, places_from, all_places}
 use Rattle.conjunctions.specs.Answering.{ArePartAnswers}
 use Rattle.conjunctions.specs.inside.Answering.{AddsAnswers}
-use Rattle.conjunctions.proofs.InTurn.{settles_none, settles_on, floors_left, floors_right}
+use Rattle.conjunctions.proofs.InTurn.{settles_anew, settles_on, floors_left, floors_right}
 use Rattle.conjunctions.proofs.Adding.{answers_none, answers_more}
 use Rattle.graft.specs.Joined.{min_rows, joined_views}
 use Rattle.graft.proofs.Joining.{joined_fits, joined_stands_for}
@@ -64,10 +64,10 @@ empty_fits o slice is = subst (FitsOrder o) (sym is) (record {
   stands = stands_empty o (lengths o) (sum (lengths o) + 1) _ (λ c h. subst (λ (row : Option Cut). HasWithin row c) (none_at (sum (lengths o) + 1) 0) h.from_bottom);
 })
 
-pub answered_none : (seen : Observed) (workers : ℕ) (round : RoundView) (steps : ℕ) (slice : SliceView)
-    → slice ≡ record { lens = lens_seen seen; rows = replicate (sum (lens_seen seen) + 1) no_row } → Answered seen workers round round steps steps [] false slice []
+pub answered_none : (seen : Observed) (workers : ℕ) (round : RoundView) (steps : ℕ) (slice : SliceView) → slice ≡ record { lens = lens_seen seen; rows = replicate (sum (lens_seen seen) + 1) no_row }
+    → Answered seen workers round (record round { system = None }) steps steps [] false slice []
 answered_none seen workers round steps slice is = record {
-  settles = settles_none seen workers round steps;
+  settles = settles_anew seen workers round steps;
   told = answers_none seen [];
   truth = λ reading are. (λ h. absurd (cc), λ h. absurd h);
   fits = empty_fits (clocks_seen seen) slice is;

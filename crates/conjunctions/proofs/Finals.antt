@@ -3,18 +3,17 @@ use Rattle.std.proofs.Common.{◌≡◌, ℕ, zero, suc, ◌+◌, ◌<◌, ◌�
 use Rattle.std.specs.Prelude.{IfSome}
 use Rattle.std.proofs.lemmas.Bool.{cases_lt}
 use Rattle.std.proofs.lemmas.List.{get_or-take, length-take-le}
-use Rattle.run_model.specs.Cut.{Clocks, lengths}
 use Rattle.pull_system.specs.declared.pull.Pull.{Pull}
 use Rattle.pull_system.specs.System.{SystemView, IsSystem}
 use Rattle.pull_system.specs.Rows.{RowsView, AreLeastRows, row_at}
 use Rattle.pull_system.specs.Growth.{DidNotFall, grown_words}
 use Rattle.pull_system.proofs.Starts.{get_or-row_at}
-use Rattle.slice_workers.specs.Reaching.{AreFinal, ReachesFirst}
+use Rattle.slice_workers.specs.Reaching.{AreFinal, HasReachedFinals, ReachesFirst}
 use Rattle.slice_workers.proofs.Reached.{first_none, none_final}
 use Rattle.slice_workers.proofs.Firsts.{sum_old}
-use Rattle.conjunctions.specs.inside.Beginning.{GatheredView, FloorFits, BeginsAtoms, BeginsOthers}
-use Rattle.conjunctions.specs.inside.Beginning.{AreNone, AreWithin, HaveCuts, FinalsOfAtoms}
-use Rattle.conjunctions.specs.inside.Beginning.{FinalsOfOthers}
+use Rattle.conjunctions.specs.inside.Beginning.{GatheredView, FloorFits, BeginsOthers, AtomsBegin}
+use Rattle.conjunctions.specs.inside.Beginning.{AreNone, AreWithin, HaveCuts, OthersBegin}
+use Rattle.conjunctions.specs.inside.Beginning.{FinalsOfOthers, FindsBottom}
 use Rattle.conjunctions.specs.Settling.{CutsStay}
 use Rattle.conjunctions.specs.inside.Settling.{CanBegin}
 
@@ -79,12 +78,12 @@ least_are system is words finals least within = record {
   };
 }
 
-atoms_are : (o : Clocks) (pulls : List Pull) → IsSystem (record { lens = lengths o; pulls = pulls }) → (before : Option RowsView) (words finals : List ℕ) → CanBegin (record { lens = lengths o; pulls = pulls }) true before
-    → BeginsAtoms o before words → FinalsOfAtoms before finals → AreFinal (record { lens = lengths o; pulls = pulls }) words (take (length (lengths o)) finals)
-atoms_are o pulls is None words finals can begins none = none_are (record { lens = lengths o; pulls = pulls }) is words finals none
-atoms_are o pulls is (Some rows) words finals can begins have =
-    subst (λ (w : List ℕ). AreFinal (record { lens = lengths o; pulls = pulls }) w (take (length (lengths o)) finals)) (sym begins)
-    (cuts_are (record { lens = lengths o; pulls = pulls }) is rows finals (can.fell.fell rows refl refl) (can.stays rows refl refl) have)
+atoms_are : (lens : List ℕ) (pulls : List Pull) → IsSystem (record { lens = lens; pulls = pulls }) → (before : Option RowsView) (words finals : List ℕ) → CanBegin (record { lens = lens; pulls = pulls }) true before
+    → AtomsBegin lens pulls before words finals → AreFinal (record { lens = lens; pulls = pulls }) words (take (length lens) finals)
+atoms_are lens pulls is None words finals can begins = none_are (record { lens = lens; pulls = pulls }) is words finals begins.firsts
+atoms_are lens pulls is (Some rows) words finals can begins =
+    subst (λ (w : List ℕ). AreFinal (record { lens = lens; pulls = pulls }) w (take (length lens) finals)) (sym begins.rows)
+    (cuts_are (record { lens = lens; pulls = pulls }) is rows finals (can.fell.fell rows refl refl) (can.stays rows refl refl) begins.firsts)
 
 others_are : (lens : List ℕ) (pulls : List Pull) → IsSystem (record { lens = lens; pulls = pulls }) → (floor : Option RowsView) (alone : Bool) (words finals : List ℕ)
     → (alone ≡ true → IfSome floor (λ rows. AreLeastRows (record { lens = lens; pulls = pulls }) rows.words)) → BeginsOthers lens floor words → FinalsOfOthers lens floor alone finals
@@ -95,11 +94,23 @@ others_are lens pulls is (Some rows) true words finals least begins within =
     subst (λ (w : List ℕ). AreFinal (record { lens = lens; pulls = pulls }) w (take (length lens) finals)) (sym begins)
     (least_are (record { lens = lens; pulls = pulls }) is rows.words finals (least refl) within)
 
+first_are : (lens : List ℕ) (gathered : GatheredView) (keeps : Bool) (before : Option RowsView) (words finals : List ℕ) → IsSystem (record { lens = lens; pulls = gathered.pulls })
+    → CanBegin (record { lens = lens; pulls = gathered.pulls }) keeps before → FloorFits lens gathered → (keeps ≡ true → AtomsBegin lens gathered.pulls before words finals)
+    → (keeps ≡ false → OthersBegin lens gathered.floor gathered.alone words finals) → AreFinal (record { lens = lens; pulls = gathered.pulls }) words (take (length lens) finals)
+first_are lens gathered true before words finals is can fits atoms others = atoms_are lens gathered.pulls is before words finals can (atoms refl)
+first_are lens gathered false before words finals is can fits atoms others =
+    others_are lens gathered.pulls is gathered.floor gathered.alone words finals fits.least (others refl).rows (others refl).firsts
+
 -- the rows that are taken as final where a conjunction begins are
-pub finals_are : (o : Clocks) (gathered : GatheredView) (keeps : Bool) (before : Option RowsView) (words finals : List ℕ) → IsSystem (record { lens = lengths o; pulls = gathered.pulls })
-    → CanBegin (record { lens = lengths o; pulls = gathered.pulls }) keeps before → FloorFits (lengths o) gathered → (keeps ≡ true → BeginsAtoms o before words)
-    → (keeps ≡ false → BeginsOthers (lengths o) gathered.floor words) → (keeps ≡ true → FinalsOfAtoms before finals) → (keeps ≡ false → FinalsOfOthers (lengths o) gathered.floor gathered.alone finals)
-    → AreFinal (record { lens = lengths o; pulls = gathered.pulls }) words (take (length (lengths o)) finals)
-finals_are o gathered true before words finals is can fits atoms others of_atoms of_others = atoms_are o gathered.pulls is before words finals can (atoms refl) (of_atoms refl)
-finals_are o gathered false before words finals is can fits atoms others of_atoms of_others =
-    others_are (lengths o) gathered.pulls is gathered.floor gathered.alone words finals fits.least (others refl) (of_others refl)
+pub finals_are : (lens : List ℕ) (gathered : GatheredView) (keeps : Bool) (before : Option RowsView) (words finals : List ℕ) (bottom : Bool) (steps steps_now : ℕ) → IsSystem (record { lens = lens; pulls = gathered.pulls })
+    → CanBegin (record { lens = lens; pulls = gathered.pulls }) keeps before → FloorFits lens gathered → (keeps ≡ true → AtomsBegin lens gathered.pulls before words finals)
+    → (keeps ≡ false → OthersBegin lens gathered.floor gathered.alone words finals) → FindsBottom (record { lens = lens; pulls = gathered.pulls }) keeps before bottom words steps steps_now
+    → HasReachedFinals (record { lens = lens; pulls = gathered.pulls }) words (record { firsts = take (length lens) finals; bottom = bottom })
+finals_are lens gathered keeps before words finals bottom steps steps_now is can fits atoms others finds = record {
+  firsts = first_are lens gathered keeps before words finals is can fits atoms others;
+  bottom = λ final. record {
+    vector = row_at lens words 0;
+    is = finds.least final;
+    below = λ i there. omega (arith, get_or-row_at lens words 0 i there);
+  };
+}

@@ -1,12 +1,12 @@
 -- Conjunctions that are settled one after the other.
-use Rattle.std.proofs.Common.{◌≡◌, ℕ, suc, zero, ◌+◌, List, [], ◌∷◌, ◌++◌, length, drop, refl, sym, ◌∙◌, ap, arith, append_assoc, append-nil, length-append}
+use Rattle.std.proofs.Common.{◌≡◌, ℕ, suc, zero, ◌+◌, List, [], ◌∷◌, ◌++◌, length, drop, None, refl, sym, ◌∙◌, ap, arith, append_assoc, append-nil, length-append}
 use Rattle.std.proofs.lemmas.List.{drop-drop}
 use Rattle.pull_system.specs.Rows.{RowsView}
 use Rattle.rctl_parts.specs.Pieces.{Piece}
 use Rattle.part_pulls.specs.declared.observed.Observed.{Observed}
-use Rattle.part_pulls.specs.Observing.{lens_seen}
+use Rattle.part_pulls.specs.Observing.{clocks_seen, lens_seen}
 use Rattle.conjunctions.specs.Counting.{bounds}
-use Rattle.conjunctions.specs.Rounds.{RoundView}
+use Rattle.conjunctions.specs.Rounds.{RoundView, HasOrderSystem}
 use Rattle.conjunctions.specs.Settling.{AreSettled, AreFloors, Settles}
 
 pub are_settled_joined : (seen : Observed) (cs ds : List (List Piece)) (rs qs : List RowsView) → AreSettled seen cs rs → AreSettled seen ds qs → AreSettled seen (cs ++ ds) (rs ++ qs)
@@ -37,9 +37,14 @@ bounds_joined seen lens before (c ∷ cs) ds (r ∷ rs) qs h =
     let left = ap (λ left. bounds lens left ds qs) (drop_next before (length cs)) in
     omega (arith, later, left)
 
-pub settles_none : (seen : Observed) (workers : ℕ) (round : RoundView) (steps : ℕ) → Settles seen workers round round steps steps []
-settles_none seen workers round steps =
-    record { before = refl; added = []; settled = sym (append-nil round.settled); rows = tt; looks = λ one. omega arith }
+pub settles_none : (seen : Observed) (workers : ℕ) (round : RoundView) (steps : ℕ) → HasOrderSystem (clocks_seen seen) round → Settles seen workers round round steps steps []
+settles_none seen workers round steps order =
+    record { before = refl; added = []; settled = sym (append-nil round.settled); rows = tt; looks = λ one. omega arith; order = order }
+
+-- a round that begins an answer
+pub settles_anew : (seen : Observed) (workers : ℕ) (round : RoundView) (steps : ℕ) → Settles seen workers round (record round { system = None }) steps steps []
+settles_anew seen workers round steps =
+    record { before = refl; added = []; settled = sym (append-nil round.settled); rows = tt; looks = λ one. omega arith; order = record { own = tt } }
 
 pub settles_on : (seen : Observed) (workers : ℕ) (a b c : RoundView) (s t u : ℕ) (cs ds : List (List Piece))
     → Settles seen workers a b s t cs → Settles seen workers b c t u ds → Settles seen workers a c s u (cs ++ ds)
@@ -54,6 +59,7 @@ settles_on seen workers a b c s t u cs ds first second = record {
       let left = ap (λ left. bounds (lens_seen seen) left ds second.added) first.before in
       let both = bounds_joined seen (lens_seen seen) a.before cs ds first.added second.added first.rows in
       omega (arith, left, both);
+  order = second.order;
 }
   where
     drop_both : (rows : List RowsView) (m n : ℕ) → drop n (drop m rows) ≡ drop (m + n) rows

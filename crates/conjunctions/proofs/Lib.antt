@@ -15,6 +15,7 @@ mod Parts
 mod Gathering
 mod Beginning
 mod SettlingOne
+mod Anew
 mod Ending
 mod Answered
 mod OneAnswer

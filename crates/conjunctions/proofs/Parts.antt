@@ -23,7 +23,7 @@ use Rattle.conjunctions.specs.Numbering.{within, within_operand, conjunctions_in
 use Rattle.conjunctions.specs.inside.Numbering.{part_gives_order}
 use Rattle.conjunctions.specs.Counting.{room_of}
 use Rattle.pull_system.specs.Rows.{RowsView}
-use Rattle.conjunctions.specs.Rounds.{RoundView}
+use Rattle.conjunctions.specs.Rounds.{RoundView, HasOrderSystem}
 use Rattle.conjunctions.specs.Settling.{AreFloors, Settles}
 use Rattle.part_pulls.specs.Operating.{Operated}
 use Rattle.conjunctions.specs.inside.Gathering.{AddsOperator, AddsPulls}
@@ -139,5 +139,5 @@ pub none_within : (p : Piece) → is_atom p ≡ true → within p ≡ []
 none_within (atom a) h = refl
 none_within (temporal o ps) h = absurd (cc)
 
-pub atom_settles : (seen : Observed) (workers : ℕ) (round : RoundView) (s : ℕ) (p : Piece) → is_atom p ≡ true → Settles seen workers round round s s (within p)
-atom_settles seen workers round s p h = subst (Settles seen workers round round s s) (sym (none_within p h)) (settles_none seen workers round s)
+pub atom_settles : (seen : Observed) (workers : ℕ) (round : RoundView) (s : ℕ) (p : Piece) → is_atom p ≡ true → HasOrderSystem (clocks_seen seen) round → Settles seen workers round round s s (within p)
+atom_settles seen workers round s p h order = subst (Settles seen workers round round s s) (sym (none_within p h)) (settles_none seen workers round s order)

@@ -112,6 +112,7 @@ rows_settled seen pulls ps workers old new s t slice order adds one = record {
       let looks = one.looks single in
       let more = more_steps (length pulls) (pulls_bound (length (lens_seen seen)) ps) (all_atoms ps) (lens_seen seen) (first_of old.before) one.rows (few_pulls seen pulls ps order adds) in
       omega arith;
+  order = one.order;
 }
   where
     o : Clocks

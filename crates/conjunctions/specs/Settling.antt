@@ -2,7 +2,7 @@
 -- the lists of rows.
 use Rattle.std.specs.Prelude.{◌≡◌, ℕ, ◌+◌, ◌<◌, ◌≤◌, Bool, true, List, [], ◌∷◌, ◌++◌, length}
 use Rattle.std.specs.Prelude.{drop, sum, take, slice_index, get_or, Some, None}
-use Rattle.run_model.specs.Cut.{Cut, IsWithin, lengths}
+use Rattle.run_model.specs.Cut.{Cut, IsWithin}
 use Rattle.run_model.specs.Sublattice.{IsLeast}
 use Rattle.pull_system.specs.System.{SystemView, IsSystem}
 use Rattle.pull_system.specs.Rows.{RowsView, AreLeastRows, start_of, row_at}
@@ -17,9 +17,9 @@ use Rattle.trace_growth.specs.Laws.{StatesHaveGrown}
 use Rattle.channel_preds.specs.Truth.{HasMoreEvents}
 use Rattle.part_pulls.specs.Observing.{Reading, AreAnswers, Satisfying, clocks_seen, lens_seen}
 use Rattle.part_pulls.specs.Observing.{trace_seen}
-use Rattle.conjunctions.specs.Numbering.{all_atoms, within}
+use Rattle.conjunctions.specs.Numbering.{all_atoms}
 use Rattle.part_pulls.specs.Systems.{system_of}
-use Rattle.conjunctions.specs.Rounds.{RoundView}
+use Rattle.conjunctions.specs.Rounds.{RoundView, HasOrderSystem}
 use Rattle.conjunctions.specs.Counting.{bounds}
 
 -- the members that hold the start
@@ -75,8 +75,15 @@ AreFloors seen [] cs = Unit {0}
 AreFloors seen (rows ∷ before) [] = Unit {0}
 AreFloors seen (rows ∷ before) (ps ∷ cs) = IsFloor seen ps rows × AreFloors seen before cs
 
+-- these conjunctions may be settled in the round: each may begin from its rows of before, and the
+-- system that the round has is that of the order
+pub record CanSettle (seen : Observed) (round : RoundView) (cs : List (List Piece)) : Type 0 where
+  pub floors : AreFloors seen round.before cs
+  pub order : HasOrderSystem (clocks_seen seen) round
+
 -- these conjunctions were settled: their rows stand behind the others, as many rows of before are
--- used up, and one worker took no more steps than each may
+-- used up, one worker took no more steps than each may, and the system that the round has is that
+-- of the order
 pub record Settles (seen : Observed) (workers : ℕ) (old new : RoundView)
     (steps_before steps_after : ℕ) (cs : List (List Piece)) : Type 0 where
   pub before : new.before ≡ drop (length cs) old.before
@@ -84,6 +91,7 @@ pub record Settles (seen : Observed) (workers : ℕ) (old new : RoundView)
   pub settled : new.settled ≡ old.settled ++ added
   pub rows : AreSettled seen cs added
   pub looks : workers ≡ 1 → steps_after ≤ steps_before + bounds (lens_seen seen) old.before cs added
+  pub order : HasOrderSystem (clocks_seen seen) new
 
 -- what was observed later: the same processes and watches, and more behind what was there
 pub record IsLater (before after : Observed) : Type 0 where

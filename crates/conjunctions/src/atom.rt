@@ -1,10 +1,11 @@
 //! Atoms among the parts of a conjunction.
-ghost use Rattle.std.specs.Prelude.{◌≡◌, ◌∷◌, [], true, false, IfOk, OnOk};
+ghost use Rattle.std.specs.Prelude.{◌≡◌, ◌∷◌, [], true, IfOk, OnOk};
 ghost use Rattle.rctl_parts.specs.Pieces.{piece_of};
 ghost use Rattle.rctl_parts.specs.MadeFor.{PieceFits};
 ghost use Rattle.part_pulls.specs.Observing.{IsReady, scope_seen};
 ghost use Rattle.part_pulls.specs.Counters.{AllRise, counters_of_part};
 ghost use Rattle.part_pulls.specs.Systems.{is_atom};
+ghost use Rattle.conjunctions.specs.inside.Beginning.{KeepsFloor};
 ghost use Rattle.conjunctions.specs.inside.Gathering.{AddsPulls};
 ghost use Rattle.conjunctions.specs.Answering.{HoldsAtFirst};
 
@@ -28,8 +29,8 @@ pub fn add_atom(
     requires counters { AllRise seen.now (counters_of_part (piece_of part.now)) }
     ensures pulls { OnOk result
         (AddsPulls seen.now gathered.old.pulls gathered.new.pulls (piece_of part.now ∷ [])) }
-    ensures floor { gathered.new.floor ≡ gathered.old.floor }
-    ensures alone { OnOk result (gathered.new.alone ≡ false) }
+    ensures order { gathered.new.order ≡ gathered.old.order }
+    ensures floor { OnOk result (KeepsFloor gathered.old gathered.new) }
     ensures truth { IfOk result (HoldsAtFirst seen.now (piece_of part.now)) }
 {
     let found = pulls_of_atom(alloc, seen, part)?;

@@ -7,7 +7,7 @@ ghost use Rattle.conjunctions.specs.Numbering.{within, conjunctions_in};
 ghost use Rattle.part_pulls.specs.Counters.{AllRise, counters_of_parts};
 ghost use Rattle.conjunctions.specs.inside.Gathering.{AddsPulls};
 ghost use Rattle.conjunctions.specs.inside.Beginning.{FloorFits};
-ghost use Rattle.conjunctions.specs.Settling.{AreFloors, Settles};
+ghost use Rattle.conjunctions.specs.Settling.{CanSettle, Settles};
 ghost use Rattle.conjunctions.specs.inside.Settling.{CanSettlePart};
 ghost use Rattle.conjunctions.specs.Answering.{IsSliceOf, IsPartAnswer, places_from};
 ghost use Rattle.conjunctions.specs.inside.Answering.{AddsAnswers};
@@ -44,7 +44,7 @@ pub fn settle_conjunction<R: Threads + Sync, G: Gate, L: Ledger>(
     requires fits { EachFits (scope_seen seen.now) (pieces_of parts.now) }
     requires count { parts_count (pieces_of parts.now) ≤ 128 }
     requires counters { AllRise seen.now (counters_of_parts (pieces_of parts.now)) }
-    requires floors { AreFloors seen.now round.old.before (conjunctions_in (pieces_of parts.now)) }
+    requires begins { CanSettle seen.now round.old (conjunctions_in (pieces_of parts.now)) }
     ensures slice { IfOk result (λ slice. IsSliceOf seen.now slice (pieces_of parts.now)) }
     ensures settles { OnOk result (Settles seen.now means.now.workers round.old round.new steps.old
         steps.new (conjunctions_in (pieces_of parts.now))) }
@@ -84,13 +84,14 @@ fn add_part<R: Threads + Sync, G: Gate, L: Ledger>(
     steps: &mut Steps<L>,
 ) -> Result<PartAnswer, NoMemory>
     requires ready { IsReady seen.now }
-    requires part { CanSettlePart seen.now round.old.before (piece_of part.now) }
+    requires part { CanSettlePart seen.now round.old (piece_of part.now) }
     requires floor { FloorFits (lens_seen seen.now) gathered.old }
     ensures answer { IfOk result
         (IsPartAnswer seen.now (place disjunct number (piece_of part.now))) }
     ensures pulls { OnOk result
         (AddsPulls seen.now gathered.old.pulls gathered.new.pulls (piece_of part.now ∷ [])) }
     ensures floor { OnOk result (FloorFits (lens_seen seen.now) gathered.new) }
+    ensures order { OnOk result (gathered.new.order ≡ gathered.old.order) }
     ensures settles { OnOk result (Settles seen.now means.now.workers round.old round.new steps.old
         steps.new (within (piece_of part.now))) }
 {

@@ -12,6 +12,7 @@ ghost use Rattle.conjunctions.specs.inside.Joining.{so_far};
 
 use crate::answer::Answer;
 use crate::conjunction::settle_conjunction;
+use crate::kinds::sharers_in;
 use crate::means::Means;
 use crate::round::Round;
 use graft::join_slices;
@@ -43,6 +44,15 @@ fn joined_slice(alloc: Global, shape: &Shape, joined: Option<Slice>) -> Result<S
         Some(slice) => Ok(slice),
         None => Slice::empty(alloc, shape),
     }
+}
+
+/// How many conjunctions of the disjuncts begin with the order's pulls.
+fn sharers_of_all(disjuncts: &[List<Part>]) -> u32 {
+    let mut sharers: u32 = 0;
+    for disjunct in disjuncts {
+        sharers = sharers.saturating_add(sharers_in(disjunct.as_slice()));
+    }
+    sharers
 }
 
 /// The answer of the formula that these disjuncts are, on what was observed. Each conjunction is
@@ -79,6 +89,7 @@ pub fn answer_all<R: Threads + Sync, G: Gate, L: Ledger>(
         workers,
         gate,
     };
+    round.begin(sharers_of_all(disjuncts));
     let mut parts = List::new(alloc);
     let mut truth = false;
     let mut joined = None;

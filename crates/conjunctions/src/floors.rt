@@ -1,41 +1,52 @@
 //! Where the rows of a conjunction begin, and which of them are final there.
 ghost use Rattle.std.specs.Prelude.{◌≡◌, ℕ, ◌+◌, ◌<◌, ◌≤◌, ◌↔◌, true, false, length, sum, take};
-ghost use Rattle.std.specs.Prelude.{slice_index, IsTrue, IfOk, IfSome};
+ghost use Rattle.std.specs.Prelude.{slice_index, IsTrue, IfOk, IfSome, None};
 ghost use Rattle.run_model.specs.Cut.{lengths};
 ghost use Rattle.pull_system.specs.Vector.{IsAtMost};
 ghost use Rattle.pull_system.specs.Rows.{row_at};
-ghost use Rattle.conjunctions.specs.inside.Beginning.{BeginsAtoms, BeginsOthers, FinalsOfAtoms};
-ghost use Rattle.conjunctions.specs.inside.Beginning.{FinalsOfOthers, GatheredFinals};
+ghost use Rattle.slice_graph.specs.Starting.{AreWithinClosed};
 ghost use Rattle.conjunctions.specs.inside.Beginning.{AreNone, AreWithin, HaveCuts};
+ghost use Rattle.conjunctions.specs.inside.Beginning.{BeginsWithOrder, AtomsBegin, OthersBegin};
+ghost use Rattle.conjunctions.specs.inside.Beginning.{FindsBottom, GatheredFinals};
 ghost use Rattle.conjunctions.specs.inside.Settling.{IsFloorOf};
 
 use bound_table::widened;
 use causal_order::Order;
-use pota_base::{EventId, NoMemory, Shape};
+use least_cut::least;
+use pota_base::{EventId, NoMemory, Shape, Steps};
+use pull_fans::System;
 use pull_system::{Floor, Rows};
-use slice_graph::order_rows;
+use slice_graph::order_rows_above;
 use slice_workers::Settled;
 use std::alloc::Global;
+use std::sync::ledger::Ledger;
 
-/// The rows from which a conjunction begins, and how many first ones of each process are final:
-/// they are the least already.
+/// The rows from which a conjunction begins, and which of them are final, since they are the least
+/// already: so many first ones of each process, and the bottom's or not.
 #[derive(Drop)]
 pub struct Beginning {
     pub floor: Floor,
     pub finals: [u32; 32],
+    pub bottom: bool,
 }
 
 /// Where a conjunction of atoms begins: at its rows of before, grown, of which those with a cut are
-/// final, and where there are none at the clocks of the events.
-fn beginning_of_atoms(
+/// final, and where there are none anew.
+fn beginning_of_atoms<L: Ledger>(
     alloc: Global,
     order: &Order,
+    system: &System,
     before: Option<Settled>,
+    steps: &mut Steps<L>,
 ) -> Result<Beginning, NoMemory>
-    requires { IsFloorOf (lengths order.now) true before }
+    requires before { IsFloorOf (lengths order.now) true before }
+    requires system { system.now.lens ≡ lengths order.now }
+    requires order { BeginsWithOrder order.now system.now.pulls }
     ensures lens { IfOk result (λ begins. begins.floor.lens ≡ lengths order.now) }
-    ensures rows { IfOk result (λ begins. BeginsAtoms order.now before begins.floor.words) }
-    ensures finals { IfOk result (λ begins. FinalsOfAtoms before begins.finals) }
+    ensures atoms { IfOk result (λ begins. AtomsBegin (lengths order.now) system.now.pulls before
+        begins.floor.words begins.finals) }
+    ensures bottom { IfOk result (λ begins. FindsBottom system.now true before begins.bottom
+        begins.floor.words steps.old steps.new) }
 {
     match before {
         Some(settled) => {
@@ -43,14 +54,46 @@ fn beginning_of_atoms(
             let rows = Rows::grown(alloc, settled.rows(), order.shape())?;
             drop(settled);
             let floor = widened(alloc, &rows)?;
-            Ok(Beginning { floor, finals })
+            let bottom = false;
+            Ok(Beginning {
+                floor,
+                finals,
+                bottom,
+            })
         }
-        None => {
-            let floor = order_rows(alloc, order)?;
-            let finals = no_rows();
-            Ok(Beginning { floor, finals })
-        }
+        None => beginning_anew(alloc, order, system, steps),
     }
+}
+
+/// Where a conjunction of atoms begins that has no rows of before: at the clocks of the events,
+/// raised to the least closed vector of all, which is the bottom's. So the rows of early events,
+/// whose clocks lie far below it, have nothing left to rise by but what they lack a cut for.
+fn beginning_anew<L: Ledger>(
+    alloc: Global,
+    order: &Order,
+    system: &System,
+    steps: &mut Steps<L>,
+) -> Result<Beginning, NoMemory>
+    requires system { system.now.lens ≡ lengths order.now }
+    requires order { BeginsWithOrder order.now system.now.pulls }
+    ensures lens { IfOk result (λ begins. begins.floor.lens ≡ lengths order.now) }
+    ensures rows { IfOk result (λ begins.
+        AreWithinClosed (lengths order.now) system.now.pulls begins.floor.words) }
+    ensures finals { IfOk result (λ begins. AreNone begins.finals) }
+    ensures bottom { IfOk result (λ begins. FindsBottom system.now true None begins.bottom
+        begins.floor.words steps.old steps.new) }
+{
+    let mut vector = [0; 32];
+    let vector = &mut vector[..system.shape().procs() as usize];
+    least(system, vector, steps);
+    let floor = order_rows_above(alloc, order, vector)?;
+    let finals = no_rows();
+    let bottom = true;
+    Ok(Beginning {
+        floor,
+        finals,
+        bottom,
+    })
 }
 
 /// Where another conjunction begins: at the rows that were gathered, all final where one temporal
@@ -63,49 +106,59 @@ fn beginning_of_others(
 ) -> Result<Beginning, NoMemory>
     requires { IfSome gathered (λ rows. rows.lens ≡ lengths order.now) }
     ensures lens { IfOk result (λ begins. begins.floor.lens ≡ lengths order.now) }
-    ensures rows { IfOk result
-        (λ begins. BeginsOthers (lengths order.now) gathered begins.floor.words) }
-    ensures finals { IfOk result
-        (λ begins. FinalsOfOthers (lengths order.now) gathered alone begins.finals) }
+    ensures others { IfOk result (λ begins. OthersBegin (lengths order.now) gathered alone
+        begins.floor.words begins.finals) }
+    ensures bottom { IfOk result (λ begins. begins.bottom ≡ false) }
 {
+    let bottom = false;
     match gathered {
         Some(floor) => {
             let finals = gathered_finals(order.shape(), alone);
-            Ok(Beginning { floor, finals })
+            Ok(Beginning {
+                floor,
+                finals,
+                bottom,
+            })
         }
         None => {
             let rows = Rows::new(alloc, order.shape())?;
             let floor = widened(alloc, &rows)?;
             let finals = no_rows();
-            Ok(Beginning { floor, finals })
+            Ok(Beginning {
+                floor,
+                finals,
+                bottom,
+            })
         }
     }
 }
 
 /// Where a conjunction begins: where it keeps its rows, as one of atoms, and else at those that
 /// were gathered.
-pub fn beginning_of(
+pub fn beginning_of<L: Ledger>(
     alloc: Global,
     order: &Order,
+    system: &System,
     keeps: bool,
     before: Option<Settled>,
     gathered: Option<Floor>,
     alone: bool,
+    steps: &mut Steps<L>,
 ) -> Result<Beginning, NoMemory>
     requires before { IsFloorOf (lengths order.now) keeps before }
     requires gathered { IfSome gathered (λ rows. rows.lens ≡ lengths order.now) }
+    requires system { system.now.lens ≡ lengths order.now }
+    requires order { keeps ≡ true → BeginsWithOrder order.now system.now.pulls }
     ensures lens { IfOk result (λ begins. begins.floor.lens ≡ lengths order.now) }
-    ensures atoms { keeps ≡ true → IfOk result
-        (λ begins. BeginsAtoms order.now before begins.floor.words) }
-    ensures others { keeps ≡ false → IfOk result
-        (λ begins. BeginsOthers (lengths order.now) gathered begins.floor.words) }
-    ensures atoms_finals { keeps ≡ true → IfOk result
-        (λ begins. FinalsOfAtoms before begins.finals) }
-    ensures others_finals { keeps ≡ false → IfOk result
-        (λ begins. FinalsOfOthers (lengths order.now) gathered alone begins.finals) }
+    ensures atoms { keeps ≡ true → IfOk result (λ begins. AtomsBegin (lengths order.now)
+        system.now.pulls before begins.floor.words begins.finals) }
+    ensures others { keeps ≡ false → IfOk result (λ begins. OthersBegin (lengths order.now)
+        gathered alone begins.floor.words begins.finals) }
+    ensures bottom { IfOk result (λ begins. FindsBottom system.now keeps before begins.bottom
+        begins.floor.words steps.old steps.new) }
 {
     if keeps {
-        beginning_of_atoms(alloc, order, before)
+        beginning_of_atoms(alloc, order, system, before, steps)
     } else {
         beginning_of_others(alloc, order, gathered, alone)
     }

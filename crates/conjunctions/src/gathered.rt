@@ -9,6 +9,7 @@ ghost use Rattle.slice_graph.specs.PullLists.{pulls_of_slice};
 ghost use Rattle.rctl_parts.specs.Pieces.{pieces_of};
 ghost use Rattle.conjunctions.specs.inside.Numbering.{gives_order};
 ghost use Rattle.conjunctions.specs.inside.Gathering.{first_pulls};
+ghost use Rattle.conjunctions.specs.inside.Asked.{asked_pulls};
 ghost use Rattle.conjunctions.specs.inside.Beginning.{FloorFits};
 
 use crate::kinds::{are_atoms, give_order};
@@ -17,14 +18,28 @@ use pota_base::{List, NoMemory, Shape};
 use pull_fans::Fan;
 use pull_system::{Floor, Pull};
 use rctl_parts::Part;
-use slice_graph::{Slice, order_fans, order_rows};
+use slice_graph::{Slice, order_rows};
 use std::alloc::Global;
 use std::marker::Model;
+use std::snapshot::Snapshot;
 
-/// What the parts so far ask of cuts. Contracts see the pulls of the fans, one after the other, the
-/// floor, and whether one slice asks alone.
+/// The fans of a conjunction's parts, and whether a part gives the order. If none does, the order's
+/// pulls come before them.
 #[derive(Debug, Drop)]
+pub struct Asked {
+    pub has_order: bool,
+    pub fans: List<Fan>,
+}
+
+/// What the parts so far ask of cuts. Contracts see the pulls, those of the order first where the
+/// conjunction begins with them, the floor, and whether one slice asks alone.
+#[derive(Drop)]
 pub struct Gathered {
+    /// The order of the trace, for contracts alone.
+    order: Snapshot<Order>,
+    /// Whether a part gives the order. If none does, the conjunction begins with the order's pulls.
+    has_order: bool,
+    /// What the parts ask.
     fans: List<Fan>,
     /// Rows from which the conjunction may begin: the clocks, or the rows of the first slice of an
     /// operator.
@@ -34,13 +49,16 @@ pub struct Gathered {
 }
 
 impl Model for Gathered {
+    ghost use Rattle.std.specs.Prelude.{◌++◌};
     ghost use Rattle.pull_fans.specs.Fans.{pulls_of_fans};
     ghost use Rattle.conjunctions.specs.inside.Beginning.{GatheredView};
+    ghost use Rattle.conjunctions.specs.inside.Gathering.{first_pulls};
 
     ghost Value = { GatheredView };
 
     ghost view = { λ gathered. record {
-      pulls = pulls_of_fans gathered.fans;
+      order = gathered.order.value;
+      pulls = first_pulls gathered.order.value gathered.has_order ++ pulls_of_fans gathered.fans;
       floor = gathered.floor;
       alone = gathered.alone;
     } };
@@ -51,23 +69,24 @@ impl Gathered {
     /// the pulls of the order. The clocks are the rows to begin from, but where all parts are atoms:
     /// these have rows of their own.
     pub fn new(alloc: Global, order: &Order, parts: &[Part]) -> Result<Gathered, NoMemory>
+        ensures order { IfOk result (λ gathered. gathered.order ≡ order.now) }
         ensures pulls { IfOk result (λ gathered. gathered.pulls
             ≡ first_pulls order.now (gives_order (pieces_of parts.now))) }
         ensures floor { IfOk result (FloorFits (lengths order.now)) }
     {
-        let mut gathered = Gathered {
-            fans: List::new(alloc),
-            floor: None,
-            alone: false,
+        let has_order = give_order(parts);
+        let floor = if has_order || are_atoms(parts) {
+            None
+        } else {
+            Some(order_rows(alloc, order)?)
         };
-        if give_order(parts) {
-            return Ok(gathered);
-        }
-        gathered.fans = order_fans(alloc, order)?;
-        if !are_atoms(parts) {
-            gathered.floor = Some(order_rows(alloc, order)?);
-        }
-        Ok(gathered)
+        Ok(Gathered {
+            order: Snapshot::of(order),
+            has_order,
+            fans: List::new(alloc),
+            floor,
+            alone: false,
+        })
     }
 
     /// Puts pulls behind the others.
@@ -79,6 +98,7 @@ impl Gathered {
     ) -> Result<(), NoMemory>
         requires { All (IsPull shape.now) added.now }
         ensures pulls { OnOk result (self.new.pulls ≡ self.old.pulls ++ added.now) }
+        ensures order { self.new.order ≡ self.old.order }
         ensures floor { self.new.floor ≡ self.old.floor }
         ensures alone { self.new.alone ≡ false }
     {
@@ -93,6 +113,7 @@ impl Gathered {
     /// Puts the pulls of an operator's slice behind the others, and keeps the rows of the first such
     /// slice. Where nothing was asked before, the slice asks alone.
     pub fn add_slice(&mut self, alloc: Global, slice: &Slice) -> Result<(), NoMemory>
+        ensures order { self.new.order ≡ self.old.order }
         ensures pulls { OnOk result (self.new.pulls ≡ self.old.pulls ++ pulls_of_slice slice.now) }
         ensures floor { (o : Clocks) → FitsOrder o slice.now → FloorFits (lengths o) self.old
             → OnOk result (FloorFits (lengths o) self.new) }
@@ -111,6 +132,7 @@ impl Gathered {
     /// Puts fans behind the others.
     pub fn add_fans(&mut self, added: List<Fan>) -> Result<(), NoMemory>
         ensures pulls { OnOk result (self.new.pulls ≡ self.old.pulls ++ pulls_of_fans added) }
+        ensures order { self.new.order ≡ self.old.order }
         ensures floor { self.new.floor ≡ self.old.floor }
         ensures alone { self.new.alone ≡ false }
     {
@@ -126,7 +148,7 @@ impl Gathered {
         ensures pulls { result ≡ true → self.now.pulls ≡ [] }
         ensures floor { result ≡ true → self.now.floor ≡ None }
     {
-        self.floor.is_none() && self.fans.is_empty()
+        self.has_order && self.floor.is_none() && self.fans.is_empty()
     }
 
     /// Whether one slice asks alone.
@@ -136,12 +158,19 @@ impl Gathered {
         self.alone
     }
 
-    /// The fans, and the floor.
-    pub fn into_fans(self) -> (List<Fan>, Option<Floor>)
-        ensures pulls { pulls_of_fans result.0 ≡ self.pulls }
+    /// What is asked, and the floor.
+    pub fn into_asked(self) -> (Asked, Option<Floor>)
+        ensures pulls { self.pulls ≡ asked_pulls self.order result.0 }
         ensures floor { result.1 ≡ self.floor }
     {
-        let Gathered { fans, floor, .. } = self;
-        (fans, floor)
+        let Gathered {
+            order,
+            has_order,
+            fans,
+            floor,
+            alone: _,
+        } = self;
+        drop(order);
+        (Asked { has_order, fans }, floor)
     }
 }

@@ -74,3 +74,28 @@ pub fn give_order(parts: &[Part]) -> bool
     }
     false
 }
+
+/// How many conjunctions of these parts, with those within them, begin with the order's pulls.
+/// Nothing that is promised rests on the number: the system that they share is kept for so many.
+#[cycle(sharers)]
+pub fn sharers_in(parts: &[Part]) -> u32 {
+    let mut sharers: u32 = if give_order(parts) { 0 } else { 1 };
+    for part in parts {
+        sharers = sharers.saturating_add(sharers_of(part));
+    }
+    sharers
+}
+
+/// How many conjunctions within the part do.
+#[cycle(sharers)]
+fn sharers_of(part: &Part) -> u32 {
+    match part {
+        Part::Temporal { parts, .. } => sharers_in(parts.as_slice()),
+        Part::Local { .. }
+        | Part::AtMost { .. }
+        | Part::AtLeast { .. }
+        | Part::Never
+        | Part::DiffAtMost { .. }
+        | Part::DiffAtLeast { .. } => 0,
+    }
+}

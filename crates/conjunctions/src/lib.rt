@@ -10,6 +10,9 @@
 //! `settles`). What was observed has one answer (`one_answer`), and the rows of before may be begun
 //! from once more was observed (`settled_rows_are_kept`).
 //!
+//! Conjunctions of atoms, and those whose operators are all EX, begin with the order's pulls. The
+//! first of them makes their system, and each leaves it to the next in the round.
+//!
 //! A difference of counters is an atom. Its pulls say what it means where neither counter ever
 //! falls, which the caller has to show (clause `counters`; `counters_are_kept` hands it on). EX asks
 //! by the slice of its operand and has none of its own: a cut that is closed under its pulls need
@@ -31,6 +34,7 @@ mod means;
 mod operator;
 mod round;
 mod settling;
+mod systems;
 
 pub use answer::{Answer, PartAnswer};
 pub use disjuncts::answer_all;

@@ -33,6 +33,7 @@ fn add_operated(
     ensures pulls { OnOk result (AddsOperator order.now operator operand.now gathered.old.pulls
         gathered.new.pulls) }
     ensures floor { OnOk result (FloorFits (lengths order.now) gathered.new) }
+    ensures order { gathered.new.order ≡ gathered.old.order }
     ensures truth { IfOk result (λ truth. IsTrue truth
         ↔ Operated operator order.now (Cuts order.now (slice_of operand.now))
         (initial order.now)) }
@@ -56,6 +57,7 @@ fn add_next(
     ensures pulls { OnOk result (AddsOperator order.now (Ex process) operand.now gathered.old.pulls
         gathered.new.pulls) }
     ensures floor { OnOk result (FloorFits (lengths order.now) gathered.new) }
+    ensures order { gathered.new.order ≡ gathered.old.order }
     ensures truth { IfOk result (λ truth. IsTrue truth
         ↔ Operated (Ex process) order.now (Cuts order.now (slice_of operand.now))
         (initial order.now)) }
@@ -78,6 +80,7 @@ pub fn add_operator(
     ensures pulls { OnOk result (AddsOperator order.now operator operand.now gathered.old.pulls
         gathered.new.pulls) }
     ensures floor { OnOk result (FloorFits (lengths order.now) gathered.new) }
+    ensures order { gathered.new.order ≡ gathered.old.order }
     ensures truth { IfOk result (λ truth. IsTrue truth
         ↔ Operated operator order.now (Cuts order.now (slice_of operand.now))
         (initial order.now)) }

@@ -2,3 +2,4 @@ pub mod Rises
 pub mod Reached
 pub mod Passes
 pub mod Firsts
+pub mod Appended

@@ -10,8 +10,8 @@ use Rattle.pull_system.proofs.Climbing.{set_case}
 use Rattle.bound_table.specs.Views.{SeatView}
 use Rattle.slice_workers.specs.Reaching.{rows_left, ReachesFirst}
 use Rattle.slice_workers.specs.inside.Reaching.{AreHanded, HasReachedRows, handed_events}
-use Rattle.slice_workers.specs.Calls.{IsPaid}
-use Rattle.slice_workers.specs.inside.Settling.{HasOnlyRisen, HasSettled, process_looks}
+use Rattle.slice_workers.specs.Calls.{IsPaid, process_looks}
+use Rattle.slice_workers.specs.inside.Settling.{HasOnlyRisen, HasSettled}
 use Rattle.slice_workers.proofs.Reached.{handed_more, handed_set, final_more, reached_more}
 
 pub passed_none : (system : SystemView) (finals bottom : List ℕ) (old new : SeatView) (handed : List Bool) (steps : ℕ) → new.table ≡ old.table → new.floor ≡ old.floor → AreHanded system old.floor handed → HasSettled system finals bottom old new handed handed steps steps
@@ -101,13 +101,6 @@ passed_mark system finals bottom old new handed process steps steps_now there fe
           (events_set left handed process (omega (arith, size, there)) (omega (arith, are.size)) free) now;
     }
 
--- no more are marked than there are processes
-pub marked_few : (marks : List Bool) (n : ℕ) → ((i : ℕ) → get_or marks i false ≡ true → i < n) → marked marks ≤ n
-marked_few [] n there = omega arith
-marked_few (true ∷ marks) zero there = absurd (omega (arith, there 0 refl))
-marked_few (true ∷ marks) (suc n) there = omega (arith, sum_by-cons (λ (b : Bool). if b then 1 else 0) true marks, marked_few marks n (λ i is. omega (arith, there (suc i) is)))
-marked_few (false ∷ marks) n there = omega (arith, sum_by-cons (λ (b : Bool). if b then 1 else 0) false marks, marked_few marks n (λ i is. omega (arith, there (suc i) is)))
-
 pub none_marked : (marks : List Bool) → ((i : ℕ) → get_or marks i false ≡ false) → marked marks ≡ 0
 none_marked [] none = refl
 none_marked (true ∷ marks) none = let e : true ≡ false = none 0 in absurd (cc)
@@ -118,12 +111,6 @@ none_events [] marks none = refl
 none_events (len ∷ lens) [] none = refl
 none_events (len ∷ lens) (true ∷ marks) none = let e : true ≡ false = none 0 in absurd (cc)
 none_events (len ∷ lens) (false ∷ marks) none = omega (arith, none_events lens marks (λ i. none (suc i)))
-
-pub events_few : (lens : List ℕ) (marks : List Bool) → handed_events lens marks ≤ sum lens
-events_few [] marks = omega arith
-events_few (len ∷ lens) [] = omega arith
-events_few (len ∷ lens) (true ∷ marks) = omega (arith, sum_by-cons (λ (n : ℕ). n) len lens, events_few lens marks)
-events_few (len ∷ lens) (false ∷ marks) = omega (arith, sum_by-cons (λ (n : ℕ). n) len lens, events_few lens marks)
 
 -- The bottom's row and those of each process: `top` is what the components add up to at most.
 pub total : (pulls procs top bottom marks start last : ℕ) → 1 ≤ procs → procs ≤ top → bottom ≤ top → marks ≤ procs → last ≤ start + pulls * (1 + bottom) + pulls * (top - bottom) * marks

@@ -99,18 +99,3 @@ claimed_looks pulls rise start steps steps_now before bottom none marks free fir
 
 pub claimed_paid : (pulls start steps steps_now old mid new none events : ℕ) → none ≡ 0 → steps + pulls * old ≤ start + pulls * (1 + mid) → steps_now + pulls * (mid + none) ≤ steps + pulls * (new + events) → steps_now + pulls * old ≤ start + pulls * (1 + events + new)
 claimed_paid pulls start steps steps_now old mid new none events free first rest = let e : pulls * (mid + none) ≡ pulls * mid = ap (λ n. pulls * n) (let z : mid + none ≡ mid = omega arith in z) in omega (arith, first, rest, e)
-
-pub here_looks : (pulls rise start steps steps_now bottom before marks : ℕ) → steps ≤ start + pulls * (1 + bottom) + rise * before → steps_now + rise * before ≤ steps + rise * marks → steps_now ≤ start + pulls * (1 + bottom) + rise * marks
-here_looks pulls rise start steps steps_now bottom before marks first rest = omega arith
-
-pub here_paid : (pulls start steps steps_now old mid new before events all : ℕ) → events ≤ all → steps + pulls * old ≤ start + pulls * (1 + before + mid) → steps_now + pulls * (mid + before) ≤ steps + pulls * (new + events)
-    → steps_now + pulls * old ≤ start + pulls * (all + 1 + new)
-here_paid pulls start steps steps_now old mid new before events all few first rest = omega (arith, first, rest, mul-le-mul_left pulls few)
-
--- a floor that rose further
-pub takes_more : (system : SystemView) (left : List ℕ) (old mid new : SeatView) (steps steps_now : ℕ) → AreBounds system mid.floor → AreBounds system new.floor → IsAtMost mid.floor new.floor → TakesLooks system left old mid steps steps_now → TakesLooks system left old new steps steps_now
-takes_more system left old mid new steps steps_now bounds bounds_now rises takes =
-    let more : sum mid.floor ≤ sum new.floor = sum-within _ _ (bounds.size ∙ sym bounds_now.size) rises.each in record {
-      looks = takes.looks;
-      rises_paid = omega (arith, takes.rises_paid, mul-le-mul_left (length system.pulls) more);
-    }

@@ -1,5 +1,5 @@
 -- Rows that are settled, said of a seat's floor from below: so it stays true while the floor rises.
-use Rattle.std.specs.Prelude.{◌≡◌, ℕ, ◌+◌, ◌-◌, ◌<◌, ◌≤◌, List, [], ◌∷◌}
+use Rattle.std.specs.Prelude.{◌≡◌, ℕ, ◌+◌, ◌-◌, ◌<◌, ◌≤◌, Bool, true, List, [], ◌∷◌}
 use Rattle.std.specs.Prelude.{length, sum, take, slice_index}
 use Rattle.pull_system.specs.System.{SystemView}
 use Rattle.pull_system.specs.Rows.{IsLeast}
@@ -23,6 +23,17 @@ pub record AreFinal (system : SystemView) (floor finals : List ℕ) : Type 0 whe
   pub few : (process : ℕ) → slice_index finals process ≤ slice_index system.lens process
   pub each : (process : ℕ) → process < length system.lens
       → ReachesFirst system process (slice_index finals process) floor
+
+-- which rows are final: so many first ones of each process, and the bottom's or not
+pub record FinalsView : Type 0 where
+  pub firsts : List ℕ
+  pub bottom : Bool
+
+-- the floor has reached the rows that are final
+pub record HasReachedFinals (system : SystemView) (floor : List ℕ) (finals : FinalsView)
+    : Type 0 where
+  pub firsts : AreFinal system floor finals.firsts
+  pub bottom : finals.bottom ≡ true → Reaches system 0 floor
 
 -- how many rows of each process are not final
 abbrev pub rows_left : List ℕ → List ℕ → List ℕ

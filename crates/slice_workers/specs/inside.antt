@@ -1,4 +1,5 @@
 -- What only the calls inside say to each other.
 pub mod Jobs
+pub mod Keeping
 pub mod Reaching
 pub mod Settling

@@ -7,8 +7,8 @@ ghost use Rattle.bound_table.specs.Views.{KeepsClaims};
 ghost use Rattle.slice_workers.specs.Reaching.{ReachesFirst};
 ghost use Rattle.slice_workers.specs.inside.Reaching.{CanSettle, IsReached, MayLendTo};
 ghost use Rattle.slice_workers.specs.inside.Reaching.{row_before};
-ghost use Rattle.slice_workers.specs.Calls.{IsPaid};
-ghost use Rattle.slice_workers.specs.inside.Settling.{HasOnlyRisen, process_looks};
+ghost use Rattle.slice_workers.specs.Calls.{IsPaid, process_looks};
+ghost use Rattle.slice_workers.specs.inside.Settling.{HasOnlyRisen};
 
 use bound_table::{BoundTable, Seat};
 use pota_base::{EventId, Steps};
@@ -82,7 +82,7 @@ fn go_behind(
 }
 
 /// Settles a row from the row before on its process.
-fn settle_next<L: Ledger>(
+pub(crate) fn settle_next<L: Ledger>(
     table: &BoundTable,
     seat: &mut Seat,
     process: u32,

@@ -1,11 +1,12 @@
 ghost use Rattle.std.specs.Prelude.{◌≡◌, ℕ, ◌≤◌, length, IfOk, OnOk};
-ghost use Rattle.pull_system.specs.System.{IsSystem};
-ghost use Rattle.slice_workers.specs.Reaching.{AreFinal, rows_left};
+ghost use Rattle.slice_workers.specs.Reaching.{AreFinal, HasReachedFinals};
 ghost use Rattle.slice_workers.specs.inside.Reaching.{AreHanded, ReachesAll};
-ghost use Rattle.slice_workers.specs.Calls.{HasRisen, AreSettledRows, TakesLooks};
+ghost use Rattle.slice_workers.specs.Calls.{HasRisen, AreSettledRows, TakesLooks, TakesBehind};
 
+use crate::alone::settle_alone;
+use crate::finals::Finals;
 use crate::threads::{make_jobs, meet_all, run};
-use crate::workers::{none_handed, settle_claimed, settle_rest};
+use crate::workers::{none_handed, settle_rest};
 use bound_table::{BoundTable, Seat};
 use pota_base::{Gate, NoMemory, Steps};
 use pull_system::Rows;
@@ -63,41 +64,52 @@ pub fn settle_all<R: Threads + Sync, G: Gate, L: Ledger>(
     ensures takes { workers ≡ 1 → TakesLooks table.now.system table.now.system.lens
         seat.old seat.new steps.old steps.new }
 {
-    let procs = table.system().shape().procs() as usize;
-    let none = [0; 32];
-    settle_behind(rt, alloc, table, seat, &none[..procs], workers, gate, steps)
+    let none = Finals::new(table.system().shape(), [0; 32], false);
+    settle_behind(rt, alloc, table, seat, &none, workers, gate, steps)
 }
 
-/// Settles all rows of the table as `settle_all` does, where the seat's floor has reached the first
-/// rows of each process, so many as `finals` says. These rows are left as they are: they are
-/// neither lent to nor looked up, and the count of one worker doesn't pay for them.
+/// Settles all rows of the table as `settle_all` does, where the seat's floor has reached those that
+/// `finals` names. These rows are left as they are: they are neither lent to nor looked up, and the
+/// count of one worker doesn't pay for them. Of several workers each looks up the bottom's.
 pub fn settle_behind<R: Threads + Sync, G: Gate, L: Ledger>(
     rt: &R,
     alloc: Global,
     table: &BoundTable,
     seat: &mut Seat,
-    finals: &[u32],
+    finals: &Finals,
     workers: u32,
     gate: &G,
     steps: &mut Steps<L>,
 ) -> Result<Settled, NoMemory>
     requires fits { seat.old.table ≡ table.now }
-    requires finals { AreFinal table.now.system seat.old.floor finals.now }
+    requires finals { HasReachedFinals table.now.system seat.old.floor finals.now }
     requires some { 1 ≤ workers }
     requires few { workers ≤ 16 }
     ensures risen { HasRisen seat.old seat.new }
     ensures settled { IfOk result (AreSettledRows table.now.system seat.new.floor) }
-    ensures takes { workers ≡ 1
-        → TakesLooks table.now.system (rows_left table.now.system.lens finals.now)
-        seat.old seat.new steps.old steps.new }
+    ensures takes { workers ≡ 1 → TakesBehind table.now.system finals.now seat.old seat.new
+        steps.old steps.new }
 {
-    settle_rows(rt, alloc, table, seat, finals, workers, gate, steps)?;
+    if workers == 1 {
+        let kept = settle_alone(alloc, table, seat, finals, gate, steps)?;
+        return Ok(Settled { rows: kept });
+    }
+    settle_rows(
+        rt,
+        alloc,
+        table,
+        seat,
+        finals.firsts(),
+        workers,
+        gate,
+        steps,
+    )?;
     seat.bounds();
     let rows = table.floors(alloc, seat)?;
     Ok(Settled { rows })
 }
 
-/// Raises the seat's floor to the least closed vector on every row.
+/// Raises the seat's floor to the least closed vector on every row, by workers on threads.
 fn settle_rows<R: Threads + Sync, G: Gate, L: Ledger>(
     rt: &R,
     alloc: Global,
@@ -112,69 +124,13 @@ fn settle_rows<R: Threads + Sync, G: Gate, L: Ledger>(
     requires finals { AreFinal table.now.system seat.old.floor finals.now }
     ensures risen { HasRisen seat.old seat.new }
     ensures reaches { OnOk result (ReachesAll table.now.system seat.new.floor) }
-    ensures takes { workers ≡ 1
-        → TakesLooks table.now.system (rows_left table.now.system.lens finals.now)
-        seat.old seat.new steps.old steps.new }
 {
-    if workers == 1 {
-        settle_alone(table, seat, finals, gate, steps);
-        return Ok(());
-    }
     let jobs = make_jobs(alloc, table, seat, finals, workers)?;
     let dones = run(rt, table, finals, gate, jobs)?;
     let mut handed = none_handed();
     meet_all(table, seat, dones, &mut handed);
     finish(table, seat, finals, &mut handed, steps);
     Ok(())
-}
-
-/// The one worker's rows, on the calling thread.
-fn settle_alone<G: Gate, L: Ledger>(
-    table: &BoundTable,
-    seat: &mut Seat,
-    finals: &[u32],
-    gate: &G,
-    steps: &mut Steps<L>,
-)
-    requires fits { seat.old.table ≡ table.now }
-    requires finals { AreFinal table.now.system seat.old.floor finals.now }
-    ensures risen { HasRisen seat.old seat.new }
-    ensures reaches { ReachesAll table.now.system seat.new.floor }
-    ensures takes { TakesLooks table.now.system (rows_left table.now.system.lens finals.now)
-        seat.old seat.new steps.old steps.new }
-{
-    let procs = table.system().shape().procs() as usize;
-    let mut bottom = [0; 32];
-    let mut into = [0; 32];
-    let (bottom, into) = (&mut bottom[..procs], &mut into[..procs]);
-    settle_here(table, seat, finals, gate, bottom, into, steps);
-}
-
-/// The one worker's rows, with the room that they need.
-fn settle_here<G: Gate, L: Ledger>(
-    table: &BoundTable,
-    seat: &mut Seat,
-    finals: &[u32],
-    gate: &G,
-    bottom: &mut [u16],
-    into: &mut [u16],
-    steps: &mut Steps<L>,
-)
-    requires system { IsSystem table.now.system }
-    requires fits { seat.old.table ≡ table.now }
-    requires finals { AreFinal table.now.system seat.old.floor finals.now }
-    requires bottom { length bottom.old ≡ length table.now.system.lens }
-    requires into { length into.old ≡ length table.now.system.lens }
-    ensures risen { HasRisen seat.old seat.new }
-    ensures reaches { ReachesAll table.now.system seat.new.floor }
-    ensures takes { TakesLooks table.now.system (rows_left table.now.system.lens finals.now)
-        seat.old seat.new steps.old steps.new }
-{
-    let mut handed = none_handed();
-    gate.enter(1);
-    settle_claimed(table, seat, finals, bottom, into, &mut handed, steps);
-    gate.leave(1);
-    settle_rest(table, seat, finals, bottom, into, &mut handed, steps);
 }
 
 /// Settles what no worker has handed back.

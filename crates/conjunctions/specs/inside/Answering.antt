@@ -1,5 +1,5 @@
 -- Of the calls inside, which no caller rests on.
-use Rattle.std.specs.Prelude.{◌≡◌, ◌+◌, List, ◌++◌}
+use Rattle.std.specs.Prelude.{◌≡◌, List, ◌++◌}
 use Rattle.part_pulls.specs.declared.observed.Observed.{Observed}
 use Rattle.conjunctions.specs.declared.answer.PartAnswer.{PartAnswer}
 use Rattle.conjunctions.specs.Answering.{ArePartAnswers, Place}

@@ -1,17 +1,19 @@
 -- Where the rows of a conjunction begin, and which of them are final there.
-use Rattle.std.specs.Prelude.{◌≡◌, ℕ, ◌+◌, ◌<◌, ◌≤◌, ◌++◌, Bool, true, false, List, length, sum}
+use Rattle.std.specs.Prelude.{◌≡◌, ℕ, ◌+◌, ◌*◌, ◌<◌, ◌≤◌, ◌++◌, Bool, true, false, List, length, sum}
 use Rattle.std.specs.Prelude.{take, slice_index, Option, Some, None, IfSome}
 use Rattle.run_model.specs.Cut.{Clocks, lengths}
 use Rattle.pull_system.specs.declared.pull.Pull.{Pull}
+use Rattle.pull_system.specs.System.{SystemView}
 use Rattle.pull_system.specs.Vector.{IsAtMost}
-use Rattle.pull_system.specs.Rows.{RowsView, AreLeastRows, row_at, starts}
+use Rattle.pull_system.specs.Rows.{RowsView, AreLeastRows, IsLeast, row_at, starts}
 use Rattle.pull_system.specs.Growth.{grown_words}
 use Rattle.slice_graph.specs.PullLists.{pulls_of_order}
 use Rattle.slice_graph.specs.Starting.{AreWithinClosed}
 
--- what the parts so far ask of cuts, where there are some, rows to begin from, and whether one
--- operator's slice alone asks it
+-- what the parts so far ask of cuts, behind the order's pulls where these come first, the clocks of
+-- that order, where there are some, rows to begin from, and whether one operator's slice alone asks
 pub record GatheredView : Type 0 where
+  pub order : Clocks
   pub pulls : List Pull
   pub floor : Option RowsView
   pub alone : Bool
@@ -28,16 +30,21 @@ pub record FloorFits (lens : List ℕ) (gathered : GatheredView) : Type 0 where
   pub least : gathered.alone ≡ true → IfSome gathered.floor
       (λ rows. AreLeastRows (record { lens = lens; pulls = gathered.pulls }) rows.words)
 
+-- the rows to begin from are as before, and no slice asks alone
+pub record KeepsFloor (old new : GatheredView) : Type 0 where
+  pub floor_is : new.floor ≡ old.floor
+  pub others : new.alone ≡ false
+
 -- the first pulls are those of the order
 pub record BeginsWithOrder (o : Clocks) (pulls : List Pull) : Type 0 where
   pub others : List Pull
   pub is : pulls ≡ pulls_of_order o ++ others
 
 -- where the rows of a conjunction of atoms begin: those of before, grown, and where there are none
--- rows that may begin under the pulls of the order
-abbrev pub BeginsAtoms : Clocks → Option RowsView → List ℕ → Type 0
-BeginsAtoms o None words = AreWithinClosed (lengths o) (pulls_of_order o) words
-BeginsAtoms o (Some rows) words = words ≡ grown_words (lengths o) rows
+-- rows that may begin under its pulls
+abbrev pub BeginsAtoms : List ℕ → List Pull → Option RowsView → List ℕ → Type 0
+BeginsAtoms lens pulls None words = AreWithinClosed lens pulls words
+BeginsAtoms lens pulls (Some rows) words = words ≡ grown_words lens rows
 
 -- where those of another conjunction begin: at the rows that were gathered, and else at the starts
 abbrev pub BeginsOthers : List ℕ → Option RowsView → List ℕ → Type 0
@@ -76,3 +83,26 @@ GatheredFinals lens true finals = AreWithin lens finals
 abbrev pub FinalsOfOthers : List ℕ → Option RowsView → Bool → List ℕ → Type 0
 FinalsOfOthers lens None alone finals = AreNone finals
 FinalsOfOthers lens (Some rows) alone finals = GatheredFinals lens alone finals
+
+-- where a conjunction of atoms begins, and which first rows are final there
+pub record AtomsBegin (lens : List ℕ) (pulls : List Pull) (before : Option RowsView)
+    (words finals : List ℕ) : Type 0 where
+  pub rows : BeginsAtoms lens pulls before words
+  pub firsts : FinalsOfAtoms before finals
+
+-- where another conjunction begins, and which first rows are final there
+pub record OthersBegin (lens : List ℕ) (gathered : Option RowsView) (alone : Bool)
+    (words finals : List ℕ) : Type 0 where
+  pub rows : BeginsOthers lens gathered words
+  pub firsts : FinalsOfOthers lens gathered alone finals
+
+-- Whether the bottom's row is final where a conjunction begins, with the look-ups that this took:
+-- only a conjunction of atoms that has no rows of before looks for it.
+pub record FindsBottom (system : SystemView) (keeps : Bool) (before : Option RowsView)
+    (bottom : Bool) (words : List ℕ) (steps steps_now : ℕ) : Type 0 where
+  pub none : bottom ≡ false → steps_now ≡ steps
+  pub atoms : bottom ≡ true → keeps ≡ true
+  pub anew : bottom ≡ true → before ≡ None
+  pub least : bottom ≡ true → IsLeast system 0 (row_at system.lens words 0)
+  pub looks : bottom ≡ true → steps_now
+      ≤ steps + length system.pulls * (1 + sum (row_at system.lens words 0))

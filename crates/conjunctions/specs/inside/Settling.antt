@@ -17,20 +17,32 @@ use Rattle.part_pulls.specs.declared.observed.Observed.{Observed}
 use Rattle.part_pulls.specs.Observing.{scope_seen}
 use Rattle.part_pulls.specs.Counters.{AllRise, counters_of_part}
 use Rattle.conjunctions.specs.Numbering.{within}
-use Rattle.conjunctions.specs.Rounds.{RoundView}
+use Rattle.conjunctions.specs.Rounds.{RoundView, HasOrderSystem}
 use Rattle.conjunctions.specs.Counting.{first_of, steps_for}
-use Rattle.conjunctions.specs.Settling.{AreFloors, CutsStay}
+use Rattle.conjunctions.specs.inside.Beginning.{GatheredView}
+use Rattle.conjunctions.specs.Settling.{CanSettle, CutsStay}
 
 -- a part can be settled: it is made for what was observed and has few parts, none of its counters
--- falls, and the conjunctions within it may begin from the rows of before
-pub record CanSettlePart (seen : Observed) (before : List RowsView) (p : Piece) : Type 0 where
+-- falls, and the conjunctions within it may be settled in the round
+pub record CanSettlePart (seen : Observed) (round : RoundView) (p : Piece) : Type 0 where
   pub fits : PieceFits (scope_seen seen) p
   pub count : part_count p ≤ 128
   pub counters : AllRise seen (counters_of_part p)
-  pub floors : AreFloors seen before (within p)
+  pub begins : CanSettle seen round (within p)
+
+-- what was gathered and the system that the round has are of this order
+pub record SharesOrder (o : Clocks) (gathered : GatheredView) (round : RoundView) : Type 0 where
+  pub same : gathered.order ≡ o
+  pub system : HasOrderSystem o round
+
+-- the rows of the round are as before
+pub record KeepsRows (old new : RoundView) : Type 0 where
+  pub before_is : new.before ≡ old.before
+  pub settled_is : new.settled ≡ old.settled
 
 -- one conjunction with these pulls was settled: its rows are the least ones of the system, they
--- stand behind the others, and the slice has the consistent cuts that are closed under the pulls
+-- stand behind the others, the slice has the consistent cuts that are closed under the pulls, and
+-- the system that the round has is that of the order
 pub record SettlesOne (o : Clocks) (pulls : List Pull) (keeps : Bool) (workers : ℕ)
     (old new : RoundView) (steps_before steps_after : ℕ) (slice : SliceView) : Type 0 where
   pub before : new.before ≡ drop 1 old.before
@@ -41,6 +53,7 @@ pub record SettlesOne (o : Clocks) (pulls : List Pull) (keeps : Bool) (workers :
   pub least : AreLeastRows (record { lens = lengths o; pulls = pulls }) rows.words
   pub looks : workers ≡ 1 → steps_after
       ≤ steps_before + steps_for (length pulls) keeps (lengths o) (first_of old.before) rows
+  pub order : HasOrderSystem o new
   pub fits : FitsOrder o slice
   pub cuts : (c : Cut) → IsConsistent o c → Cuts o (slice_of slice) c
       ↔ IsClosed (record { lens = lengths o; pulls = pulls }) c

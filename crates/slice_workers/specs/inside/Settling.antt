@@ -1,12 +1,12 @@
 -- What settling more rows does to a seat, to the marks of what is done, and to the count of steps.
-use Rattle.std.specs.Prelude.{◌≡◌, ℕ, ◌+◌, ◌-◌, ◌*◌, ◌≤◌, List, Bool, true, false, length, sum}
+use Rattle.std.specs.Prelude.{◌≡◌, ℕ, ◌+◌, ◌*◌, ◌≤◌, List, Bool, true, false, length, sum}
 use Rattle.std.specs.Prelude.{slice_index_or}
 use Rattle.pull_system.specs.Vector.{IsAtMost}
 use Rattle.pull_system.specs.System.{SystemView}
 use Rattle.pull_system.specs.Marks.{marked}
 use Rattle.raise_machine.specs.Bounds.{AreBounds}
 use Rattle.bound_table.specs.Views.{SeatView, KeepsClaims}
-use Rattle.slice_workers.specs.Calls.{IsPaid}
+use Rattle.slice_workers.specs.Calls.{IsPaid, process_looks}
 use Rattle.slice_workers.specs.Reaching.{rows_left}
 use Rattle.slice_workers.specs.inside.Reaching.{AreHanded, HasReachedRows, handed_events}
 
@@ -15,12 +15,6 @@ pub record HasOnlyRisen (system : SystemView) (old new : SeatView) : Type 0 wher
   pub keeps : KeepsClaims old new
   pub rises : IsAtMost old.floor new.floor
   pub bounds : AreBounds system new.floor
-
--- the most look-ups that the rows of one process take, one after the other, from the bottom's
--- vector on
-abbrev pub process_looks : SystemView → List ℕ → ℕ
-process_looks system bottom =
-    length system.pulls * (sum system.lens + length system.lens - sum bottom)
 
 -- The bottom's row is settled, and the rows of the marked processes: the floor rose and reached
 -- them, and the look-ups are paid for by these rows and by the rise.

@@ -14,7 +14,7 @@ use Rattle.std.proofs.lemmas.Result.{IfOk-weaker}
 use Rattle.pull_system.specs.declared.pull.Pull.{Pull}
 use Rattle.rctl_parts.specs.MadeFor.{EachFits, parts_count}
 use Rattle.part_pulls.specs.declared.observed.Observed.{Observed}
-use Rattle.conjunctions.specs.Rounds.{RoundView}
+use Rattle.conjunctions.specs.Rounds.{RoundView, HasOrderSystem}
 use Rattle.conjunctions.specs.Settling.{AreFloors, Settles}
 use Rattle.conjunctions.specs.inside.Beginning.{FloorFits}
 use Rattle.conjunctions.proofs.Beginning.{floor_more}
@@ -47,10 +47,13 @@ add_part-settle_conjunction-requires-clause-count g t c = λ κs lives.
     let is = ap piece_of c.in-Temporal.is ∙ piece-Temporal c.in-Temporal.operator c.in-Temporal.parts in
     rw c.as_slice.ensures (temporal_count (piece_of c.args.part.now) c.in-Temporal.operator (pieces_of c.in-Temporal.parts) is c.requires.part.count)
 
-pub add_part-settle_conjunction-requires-clause-floors : goal.add_part-settle_conjunction-requires-clause-floors
-add_part-settle_conjunction-requires-clause-floors g t c = λ κs lives.
+pub add_part-settle_conjunction-requires-clause-begins : goal.add_part-settle_conjunction-requires-clause-begins
+add_part-settle_conjunction-requires-clause-begins g t c = λ κs lives.
     let is = ap piece_of c.in-Temporal.is ∙ piece-Temporal c.in-Temporal.operator c.in-Temporal.parts in
-    rw c.as_slice.ensures (temporal_floors c.args.seen.now c.args.round.now.before (piece_of c.args.part.now) c.in-Temporal.operator (pieces_of c.in-Temporal.parts) is c.requires.part.floors)
+    record {
+      floors = rw c.as_slice.ensures (temporal_floors c.args.seen.now c.args.round.now.before (piece_of c.args.part.now) c.in-Temporal.operator (pieces_of c.in-Temporal.parts) is c.requires.part.begins.floors);
+      order = c.requires.part.begins.order;
+    }
 
 pub add_part-settle_conjunction-requires-clause-counters : goal.add_part-settle_conjunction-requires-clause-counters
 add_part-settle_conjunction-requires-clause-counters g t c = λ κs lives.
@@ -109,6 +112,7 @@ add_part-returns-in_ok-truth-in-Temporal g t c =
       pulls = subst (λ (p : Piece). AddsPulls seen c.args.gathered.now.pulls c.add_operator.new.gathered.pulls (p ∷ [])) (sym is)
           (temporal_adds seen trace o ps operand c.args.gathered.now.pulls c.add_operator.new.gathered.pulls fits operand_is adds);
       floor = subst (λ (k : Clocks). FloorFits (lengths k) c.add_operator.new.gathered) order told.floor;
+      order = told.order;
       settles = temporal_settles seen c.args.means.now.workers c.args.round.now c.settle_conjunction.new.round c.args.steps.now c.settle_conjunction.new.steps (piece_of c.args.part.now) o ps is
           (rw c.as_slice.ensures at c.in_ok-operand-in-Temporal.ensures.settles);
     }
@@ -123,8 +127,9 @@ add_part-returns-in_ok-truth-in-Local g t c =
       answer = atom_answer seen p c.args.disjunct c.args.number answer is refl refl refl refl c.in_ok-truth-in-Local.ensures.truth;
       pulls = c.in_ok-truth-in-Local.ensures.pulls;
       floor = let adds = c.in_ok-truth-in-Local.ensures.pulls in
-          floor_more (lens_seen seen) c.args.gathered.now c.add_atom.new.gathered adds.added adds.is c.in_ok-truth-in-Local.ensures.floor (λ is. let e : false ≡ true = sym c.in_ok-truth-in-Local.ensures.alone ∙ is in absurd (cc)) c.requires.floor;
-      settles = atom_settles seen c.args.means.now.workers c.args.round.now c.args.steps.now p is;
+          floor_more (lens_seen seen) c.args.gathered.now c.add_atom.new.gathered adds.added adds.is c.in_ok-truth-in-Local.ensures.floor.floor_is (λ is. let e : false ≡ true = sym c.in_ok-truth-in-Local.ensures.floor.others ∙ is in absurd (cc)) c.requires.floor;
+      order = c.in_ok-truth-in-Local.ensures.order;
+      settles = atom_settles seen c.args.means.now.workers c.args.round.now c.args.steps.now p is c.requires.part.begins.order;
     }
 
 pub settle_conjunction-parts-init : goal.settle_conjunction-parts-init
@@ -134,7 +139,7 @@ settle_conjunction-parts-init g t c =
     let gives : Bool = gives_order (pieces_of c.args.parts.now) in
     added_none seen c.args.means.now.workers c.args.disjunct c.args.round.now c.args.steps.now c.args.answers.now (first_pulls (clocks_seen seen) gives) c.in_ok-gathered.gathered
     (c.in_ok-gathered.ensures.pulls ∙ ap (λ (o : Clocks). first_pulls o gives) order_is)
-    (subst (λ (o : Clocks). FloorFits (lengths o) c.in_ok-gathered.gathered) order_is c.in_ok-gathered.ensures.floor)
+    (c.in_ok-gathered.ensures.order ∙ order_is) (subst (λ (o : Clocks). FloorFits (lengths o) c.in_ok-gathered.gathered) order_is c.in_ok-gathered.ensures.floor) c.requires.begins.order
 
 pub settle_conjunction-overflow_cast-number : goal.settle_conjunction-overflow_cast-number
 settle_conjunction-overflow_cast-number g t c = omega (arith, few_parts c.args.parts.now c.requires.count, c.parts-test.true)
@@ -152,8 +157,11 @@ settle_conjunction-add_part-requires-clause-part g t c = λ κs lives.
       fits = fits_at (scope_seen seen) _ p splits.later (subst (EachFits (scope_seen seen)) splits.is c.requires.fits);
       count = omega (arith, ap parts_count splits.is, count_at earlier p splits.later, c.requires.count);
       counters = rises_at seen earlier p splits.later (subst (λ (ps : List Piece). AllRise seen (counters_of_parts ps)) splits.is c.requires.counters);
-      floors = floors_at seen c.args.means.now.workers c.args.round.now c.parts.round c.args.steps.now c.parts.steps earlier p splits.later
-          (subst (λ (ps : List Piece). AreFloors seen c.args.round.now.before (conjunctions_in ps)) splits.is c.requires.floors) c.parts.invariant.settles;
+      begins = record {
+        floors = floors_at seen c.args.means.now.workers c.args.round.now c.parts.round c.args.steps.now c.parts.steps earlier p splits.later
+            (subst (λ (ps : List Piece). AreFloors seen c.args.round.now.before (conjunctions_in ps)) splits.is c.requires.begins.floors) c.parts.invariant.settles;
+        order = c.parts.invariant.settles.order;
+      };
     }
 
 pub settle_conjunction-parts-preserved : goal.settle_conjunction-parts-preserved
@@ -168,7 +176,7 @@ settle_conjunction-parts-preserved g t c =
     subst (PartsAdded seen c.args.means.now.workers c.args.disjunct c.args.round.now c.add_part.new.round c.args.steps.now c.add_part.new.steps c.args.answers.now c.push.new.self begun c.add_part.new.gathered)
     (sym (taken_more c.args.parts.now c.parts.index c.index-parts-index.result there c.index-parts-index.is))
     (added_more seen c.args.means.now.workers c.args.disjunct c.args.round.now c.parts.round c.add_part.new.round c.args.steps.now c.parts.steps c.add_part.new.steps c.args.answers.now c.parts.answers c.push.new.self
-    begun c.parts.gathered c.add_part.new.gathered ps p c.in_ok-answer.answer c.parts.invariant c.in_ok-answer.ensures.pulls c.in_ok-answer.ensures.floor c.in_ok-answer.ensures.settles is c.in_ok-push.ensures.ok)
+    begun c.parts.gathered c.add_part.new.gathered ps p c.in_ok-answer.answer c.parts.invariant c.in_ok-answer.ensures.pulls c.in_ok-answer.ensures.order c.in_ok-answer.ensures.floor c.in_ok-answer.ensures.settles is c.in_ok-push.ensures.ok)
 
 -- all parts were taken
 adds_all : (seen : Observed) (pulls : List Pull) (parts : List Part) (i : ℕ) → length parts ≤ i → AddsPulls seen (first_pulls (clocks_seen seen) (gives_order (pieces_of parts))) pulls (pieces_of (take i parts))
@@ -210,7 +218,7 @@ settle_conjunction-settle_gathered-requires-clause-before g t c = λ κs lives.
     let settles = settles_all seen c.args.means.now.workers c.args.round.now c.parts.round c.args.steps.now c.parts.steps c.args.parts.now c.parts.index c.parts-test.false c.parts.invariant.settles in
     can_begin_by seen c.parts.round.before c.parts.gathered.pulls (pieces_of c.args.parts.now)
     (adds_all seen c.parts.gathered.pulls c.args.parts.now c.parts.index c.parts-test.false c.parts.invariant.adds)
-    (floors_last seen c.args.means.now.workers c.args.round.now c.parts.round c.args.steps.now c.parts.steps (pieces_of c.args.parts.now) c.requires.floors settles)
+    (floors_last seen c.args.means.now.workers c.args.round.now c.parts.round c.args.steps.now c.parts.steps (pieces_of c.args.parts.now) c.requires.begins.floors settles)
     c.order-order.result.now (c.order-order.ensures.order ∙ sym c.order-order.ensures.trace.clocks) c.are_atoms.result c.are_atoms.ensures
 
 pub settle_conjunction-returns-clause-slice : goal.settle_conjunction-returns-clause-slice
@@ -240,3 +248,9 @@ settle_conjunction-returns-clause-settles g t c =
     (settles_one_by seen c.parts.gathered.pulls ps c.args.means.now.workers c.parts.round c.settle_gathered.new.round c.parts.steps c.settle_gathered.new.steps slice c.order-order.result.now
     (c.order-order.ensures.order ∙ sym trace.clocks) c.are_atoms.result c.are_atoms.ensures one)))
     c.settle_gathered.ensures
+
+pub settle_conjunction-settle_gathered-requires-clause-shared : goal.settle_conjunction-settle_gathered-requires-clause-shared
+settle_conjunction-settle_gathered-requires-clause-shared g t c = λ κs lives.
+    let seen = c.args.seen.now in
+    let is = c.order-order.ensures.order ∙ sym c.order-order.ensures.trace.clocks in
+    record { same = c.parts.invariant.order ∙ sym is; system = subst (λ (o : Clocks). HasOrderSystem o c.parts.round) (sym is) c.parts.invariant.settles.order }

@@ -5,6 +5,7 @@ use Rattle.slice_graph.specs.Views.{SliceView}
 use Rattle.conjunctions.specs.declared.answer.PartAnswer.{PartAnswer}
 use Rattle.conjunctions.specs.Answering.{IsSliceOf, places_from}
 use Rattle.conjunctions.specs.inside.Answering.{AddsAnswers}
+use Rattle.conjunctions.specs.Rounds.{RoundView}
 use Rattle.conjunctions.specs.Settling.{AreFloors, Settles}
 use Rattle.rctl_parts.specs.Pieces.{Piece, pieces_of, disjuncts_of}
 use Rattle.std.proofs.lemmas.List.{length-map}
@@ -23,8 +24,10 @@ use Rattle.conjunctions.proofs.disjuncts.answer_all.Goals as goal
 pub disjuncts-init : goal.disjuncts-init
 disjuncts-init g c =
     let seen = c.args.seen.now in
-    subst (λ (parts : List PartAnswer). Answered seen c.args.workers c.args.round.now c.args.round.now c.args.steps.now c.args.steps.now parts false (so_far (lens_seen seen) None) []) (sym c.new-parts.ensures)
-    (answered_none seen c.args.workers c.args.round.now c.args.steps.now (so_far (lens_seen seen) None) refl)
+    let shown = so_far (lens_seen seen) None in
+    let none = answered_none seen c.args.workers c.args.round.now c.args.steps.now shown refl in
+    subst (λ (parts : List PartAnswer). Answered seen c.args.workers c.args.round.now c.begin.new.self c.args.steps.now c.args.steps.now parts false shown []) (sym c.new-parts.ensures)
+    (subst (λ (round : RoundView). Answered seen c.args.workers c.args.round.now round c.args.steps.now c.args.steps.now [] false shown []) (sym c.begin.ensures) none)
 
 pub settle_conjunction-requires-clause-fits : goal.settle_conjunction-requires-clause-fits
 settle_conjunction-requires-clause-fits g c = λ κs lives.
@@ -44,13 +47,13 @@ settle_conjunction-requires-clause-count g c = λ κs lives.
       ap (λ (parts : List Part). parts_count (pieces_of parts)) c.as_slice-disjunct.ensures,
     )
 
-pub settle_conjunction-requires-clause-floors : goal.settle_conjunction-requires-clause-floors
-settle_conjunction-requires-clause-floors g c = λ κs lives.
+pub settle_conjunction-requires-clause-begins : goal.settle_conjunction-requires-clause-begins
+settle_conjunction-requires-clause-begins g c = λ κs lives.
     let seen = c.args.seen.now in
     let splits = disjunct_at c.args.disjuncts.now c.disjuncts.index c.index-disjuncts-index.result c.disjuncts-test.true c.index-disjuncts-index.is in
     let floors = disjunct_floors seen c.args.workers c.args.round.now c.disjuncts.round c.args.steps.now c.disjuncts.steps (disjuncts_of (take c.disjuncts.index c.args.disjuncts.now)) (pieces_of c.index-disjuncts-index.result) splits.later
     (subst (λ (ds : List (List Piece)). AreFloors seen c.args.round.now.before (all_conjunctions ds)) splits.is c.requires.floors) c.disjuncts.invariant.settles in
-    subst (λ (parts : List Part). AreFloors seen c.disjuncts.round.before (conjunctions_in (pieces_of parts))) (sym c.as_slice-disjunct.ensures) floors
+    record { floors = subst (λ (parts : List Part). AreFloors seen c.disjuncts.round.before (conjunctions_in (pieces_of parts))) (sym c.as_slice-disjunct.ensures) floors; order = c.disjuncts.invariant.settles.order }
 
 pub settle_conjunction-requires-clause-counters : goal.settle_conjunction-requires-clause-counters
 settle_conjunction-requires-clause-counters g c = λ κs lives.

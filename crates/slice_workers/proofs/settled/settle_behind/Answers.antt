@@ -1,23 +1,17 @@
-use Rattle.std.proofs.Common.{rules, sym, ap, subst, ℕ, List}
+use Rattle.std.proofs.Common.{arith, sym, ap, subst, ℕ, List}
 use Rattle.pull_system.specs.System.{SystemView}
 use Rattle.pull_system.specs.Rows.{AreLeastRows}
-use Rattle.bound_table.proofs.Allowed.{bounds_along}
-use Rattle.slice_workers.specs.Reaching.{rows_left}
 use Rattle.slice_workers.proofs.Reached.{all_least, all_more}
-use Rattle.slice_workers.proofs.Rises.{takes_more}
 use Rattle.slice_workers.proofs.settled.settle_behind.Goals as goal
 
+pub returns-in_err-settle_rows-clause-takes : goal.returns-in_err-settle_rows-clause-takes
+returns-in_err-settle_rows-clause-takes g c = λ one. absurd (omega (arith, one, c.if-workers-eq1.false))
+
 pub returns-in_err-rows-clause-takes : goal.returns-in_err-rows-clause-takes
-returns-in_err-rows-clause-takes g c =
-    let system : SystemView = c.args.table.now.system in
-    let bounds = bounds_along _ system _ c.settle_rows.new.seat.floor (search rules) (search rules) c.bounds.ensures in
-    λ one. takes_more system (rows_left system.lens c.args.finals.now) c.args.seat.now c.settle_rows.new.seat c.floors.new.seat c.args.steps.now c.settle_rows.new.steps bounds c.floors.ensures.bounds c.floors.ensures.rises (c.settle_rows.ensures.takes one)
+returns-in_err-rows-clause-takes g c = λ one. absurd (omega (arith, one, c.if-workers-eq1.false))
 
 pub returns-clause-takes : goal.returns-clause-takes
-returns-clause-takes g c =
-    let system : SystemView = c.args.table.now.system in
-    let bounds = bounds_along _ system _ c.settle_rows.new.seat.floor (search rules) (search rules) c.bounds.ensures in
-    λ one. takes_more system (rows_left system.lens c.args.finals.now) c.args.seat.now c.settle_rows.new.seat c.floors.new.seat c.args.steps.now c.settle_rows.new.steps bounds c.floors.ensures.bounds c.floors.ensures.rises (c.settle_rows.ensures.takes one)
+returns-clause-takes g c = λ one. absurd (omega (arith, one, c.if-workers-eq1.false))
 
 pub returns-clause-settled : goal.returns-clause-settled
 returns-clause-settled g c =

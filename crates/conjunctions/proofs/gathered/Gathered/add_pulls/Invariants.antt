@@ -3,4 +3,10 @@ use Rattle.pull_fans.specs.Fans.{pulls_of_fans}
 use Rattle.conjunctions.proofs.gathered.Gathered.add_pulls.Given as goal
 
 abbrev pub invariant-loop-pull : goal.invariant-loop-pull
-invariant-loop-pull l = (pulls_of_fans l.self-inside.fans ≡ pulls_of_fans l.initial.self-inside.fans ++ take l.pull-index l.added) × ((l.self-inside.floor ≡ l.initial.self-inside.floor) × (l.self-inside.alone ≡ false))
+invariant-loop-pull l = record {
+  pulls : pulls_of_fans l.self-inside.fans ≡ pulls_of_fans l.initial.self-inside.fans ++ take l.pull-index l.added;
+  order : l.self-inside.order ≡ l.initial.self-inside.order;
+  first : l.self-inside.has_order ≡ l.initial.self-inside.has_order;
+  floor : l.self-inside.floor ≡ l.initial.self-inside.floor;
+  alone : l.self-inside.alone ≡ false;
+}

@@ -6,6 +6,7 @@ use Rattle.pull_fans.specs.Fans.{pulls_of_fans}
 use Rattle.pull_system.specs.Rows.{RowsView, AreLeastRows}
 use Rattle.slice_graph.specs.PullLists.{pulls_of_slice}
 use Rattle.conjunctions.specs.inside.Beginning.{GatheredView, MayBeginFrom}
+use Rattle.conjunctions.specs.inside.Gathering.{first_pulls}
 use Rattle.conjunctions.proofs.Beginning.{floor_more, slice_floor, slice_least}
 use Rattle.conjunctions.proofs.gathered.Gathered.add_slice.Goals as goal
 
@@ -30,7 +31,7 @@ returns-in_ok-rows-clause-floor c = λ o fits before.
 
 pub returns-else-is_none-clause-floor : goal.returns-else-is_none-clause-floor
 returns-else-is_none-clause-floor c = λ o fits before.
-    let new : GatheredView = record { pulls = pulls_of_fans c.self.inside.fans; floor = c.self.inside.floor; alone = c.asks_nothing-alone.result } in
+    let new : GatheredView = record { order = c.self.inside.order.value; pulls = first_pulls c.self.inside.order.value c.self.inside.has_order ++ pulls_of_fans c.self.inside.fans; floor = c.self.inside.floor; alone = c.asks_nothing-alone.result } in
     let same : new.pulls ≡ c.add_fans.new.self.pulls = search rules in
     let kept : new.floor ≡ c.args.self.now.floor = search rules in
     let others : new.alone ≡ true → ⊥ = λ is. let none : new.floor ≡ None = kept ∙ c.asks_nothing-alone.ensures.floor is in search rules in
