@@ -1,11 +1,11 @@
-ghost use Rattle.std.specs.Prelude.{◌≡◌, ◌<◌, IfOk};
+ghost use Rattle.std.specs.Prelude.{◌≡◌, ◌<◌, length, IfOk};
 
 use causal_order::Order;
 use event_log::{Event, Kind};
 use pota_base::{List, NoMemory, Shape, Steps};
 use pull_fans::{System, pulls_of};
 use pull_system::Pull;
-use slice_graph::{CutTable, Slice, order_fans, order_rows};
+use slice_graph::{CutTable, Slice, order_fans, order_rows, order_rows_above};
 use std::alloc::Global;
 use std::marker::Brand;
 use std::process::Abort;
@@ -58,7 +58,9 @@ fn event(alloc: Global, process: u32, line: u32, clock: &[u32]) -> Result<Event,
 }
 
 /// Two processes, with two events and one; the one comes after the first of the two.
-fn three_events(alloc: Global) -> Result<Order, NoMemory> {
+fn three_events(alloc: Global) -> Result<Order, NoMemory>
+    ensures { IfOk result (λ order. length order ≡ 2) }
+{
     let mut order = Order::new(alloc, 2)?;
     let first = event(alloc, 0, 3, &[1, 0])?;
     let second = event(alloc, 0, 4, &[2, 0])?;
@@ -72,6 +74,14 @@ fn a_table_begins_from_the_clocks(rt: HostRuntime) -> Result<(), Fail> {
     let order = three_events(rt.alloc())?;
     let rows = order_rows(rt.alloc(), &order)?;
     assert_eq!(rt; rows.as_words(), [0, 0, 1, 0, 2, 0, 1, 1].as_slice());
+    Ok(())
+}
+
+#[test]
+fn a_table_begins_from_the_clocks_and_the_least_cut(rt: HostRuntime) -> Result<(), Fail> {
+    let order = three_events(rt.alloc())?;
+    let rows = order_rows_above(rt.alloc(), &order, &[0, 1])?;
+    assert_eq!(rt; rows.as_words(), [0, 1, 1, 1, 2, 1, 1, 1].as_slice());
     Ok(())
 }
 

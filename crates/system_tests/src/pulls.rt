@@ -172,6 +172,103 @@ fn asks_are_the_most_of_each_fan(rt: HostRuntime) -> Result<(), Fail> {
     Ok(())
 }
 
+/// The three fans, and behind them one from process 1 to the others and one from process 2.
+fn with_two_more(rt: &impl Abort, alloc: Global) -> Result<System, NoMemory> {
+    let system = three_fans(rt, alloc)?;
+    let mut fans = List::new(alloc);
+    let rows: [&[u32]; 4] = [&[1, 0], &[1, 1], &[3, 1], &[4, 2]];
+    fans.push(fan(rt, alloc, 1, &[0, 2], &rows)?)?;
+    let rows: [&[u32]; 3] = [&[0], &[2], &[3]];
+    fans.push(fan(rt, alloc, 2, &[1], &rows)?)?;
+    let pulls = pulls_of(alloc, fans.as_slice())?;
+    assert!(rt; all_fit(pulls.as_slice(), system.shape()));
+    assert!(rt; pulls.len() == 3);
+    assert!(rt; system.pulls() == 4);
+    system.with_fans(alloc, fans)
+}
+
+#[test]
+fn fans_are_put_behind_those_of_a_system(rt: HostRuntime) -> Result<(), Fail> {
+    let system = with_two_more(&rt, rt.alloc())?;
+    assert!(rt; system.pulls() == 7);
+    assert!(rt; system.shape().procs() == 3);
+    assert_eq!(rt; system.ends(5), (1, 2));
+    assert_eq!(rt; system.pulls_from(0), [0, 1, 3].as_slice());
+    assert_eq!(rt; system.pulls_from(1), [2, 4, 5].as_slice());
+    assert_eq!(rt; system.pulls_from(2), [6].as_slice());
+    for (process, x, target, asked) in [
+        (0, 2, 1, 2),
+        (1, 0, 0, 1),
+        (1, 1, 0, 2),
+        (1, 1, 2, 1),
+        (2, 1, 1, 2),
+    ] {
+        assert_eq!(rt;
+            asked_at::<Brand>(&rt, Blank::new(1), &system, process, x, target),
+            asked
+        );
+    }
+    Ok(())
+}
+
+/// That the system has the three fans alone: nothing is left of what others asked.
+fn has_three_fans(rt: &impl Abort, system: &System) {
+    assert!(rt; system.pulls() == 4);
+    assert!(rt; system.shape().procs() == 3);
+    assert_eq!(rt; system.ends(3), (0, 1));
+    assert_eq!(rt; system.pulls_from(0), [0, 1, 3].as_slice());
+    assert_eq!(rt; system.pulls_from(1), [2].as_slice());
+    assert_eq!(rt; system.pulls_from(2), [].as_slice());
+    for (process, x, target, asked) in [
+        (0, 2, 1, 2),
+        (0, 2, 2, 1),
+        (1, 0, 0, 0),
+        (1, 1, 2, 0),
+        (1, 3, 0, 4),
+        (2, 1, 1, 0),
+    ] {
+        assert_eq!(rt;
+            asked_at::<Brand>(rt, Blank::new(1), system, process, x, target),
+            asked
+        );
+    }
+}
+
+#[test]
+fn fans_are_taken_off_again(rt: HostRuntime) -> Result<(), Fail> {
+    let system = with_two_more(&rt, rt.alloc())?;
+    has_three_fans(&rt, &system.with_first_pulls(rt.alloc(), 4)?);
+    Ok(())
+}
+
+#[test]
+fn a_fan_may_be_kept_in_part(rt: HostRuntime) -> Result<(), Fail> {
+    let system = with_two_more(&rt, rt.alloc())?.with_first_pulls(rt.alloc(), 5)?;
+    assert!(rt; system.pulls() == 5);
+    assert!(rt; system.shape().procs() == 3);
+    assert_eq!(rt; system.pulls_from(1), [2, 4].as_slice());
+    for (process, x, target, asked) in [(1, 0, 0, 1), (1, 1, 2, 0), (2, 1, 1, 0)] {
+        assert_eq!(rt;
+            asked_at::<Brand>(&rt, Blank::new(1), &system, process, x, target),
+            asked
+        );
+    }
+    has_three_fans(&rt, &system.with_first_pulls(rt.alloc(), 4)?);
+    Ok(())
+}
+
+#[test]
+fn no_pull_may_be_kept_and_all(rt: HostRuntime) -> Result<(), Fail> {
+    let system = three_fans(&rt, rt.alloc())?.with_first_pulls(rt.alloc(), 9)?;
+    has_three_fans(&rt, &system);
+    let system = system.with_first_pulls(rt.alloc(), 0)?;
+    assert_eq!(rt; system.pulls(), 0);
+    assert!(rt; system.shape().procs() == 3);
+    assert_eq!(rt; system.pulls_from(0), [].as_slice());
+    assert_eq!(rt; asked_at::<Brand>(&rt, Blank::new(1), &system, 0, 4, 1), 0);
+    Ok(())
+}
+
 #[test]
 fn rows_grow_with_their_shape(rt: HostRuntime) -> Result<(), Fail> {
     let mut old = Rows::new(rt.alloc(), &Shape::new(rt.alloc(), &[1, 1])?)?;

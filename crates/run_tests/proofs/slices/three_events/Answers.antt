@@ -4,6 +4,7 @@ use Rattle.run_model.specs.Consistent.{IsOrder, clock}
 use Rattle.run_model.proofs.ListedSlices.{ordered, ordered_is}
 use Rattle.event_log.specs.declared.log.Event.{Event}
 use Rattle.causal_order.specs.Growth.{MayExtend, with_row, with_clocks}
+use Rattle.causal_order.proofs.Growing.{length-with_clocks}
 use Rattle.run_tests.proofs.slices.three_events.Goals as goal
 
 abbrev no_events : Clocks
@@ -50,3 +51,6 @@ extend-requires c = may_extend c.in_ok-order.order c.in_ok-first.first c.in_ok-s
     (record { here = c.in_ok-first.ensures.0; past = c.in_ok-first.ensures.1 })
     (record { here = c.in_ok-second.ensures.0; past = c.in_ok-second.ensures.1 })
     (record { here = c.in_ok-other.ensures.0; past = c.in_ok-other.ensures.1 })
+
+pub returns : goal.returns
+returns c = ap length c.in_ok-extend.ensures.ok ∙ length-with_clocks _ _ ∙ ap length c.in_ok-order.ensures
