@@ -1,6 +1,6 @@
 -- The rows of a history: one state after the other, all of one width.
 use Rattle.std.proofs.Common.{◌≡◌, ℕ, zero, suc, ◌+◌, ◌-◌, ◌*◌, ◌<◌, ◌≤◌, List, [], ◌∷◌, ◌++◌, length, map, take, drop, get_or, set, refl, sym, ap, ◌∙◌, subst, arith, append_assoc, append-nil, mul-le-mul_right, length-append}
-use Rattle.std.specs.Prelude.{ℤ, pos, Result, Ok, Err, OnOk, is_ok, is_err, false, if◌then◌else◌}
+use Rattle.std.specs.Prelude.{ℤ, pos, Result, Ok, Err, OnOk, OnErr, is_ok, is_err, true, false, if◌then◌else◌}
 use Rattle.std.proofs.lemmas.List.{length-set, length-map, take_all, take-take, take-map, take-append-le, take_more, length-drop, get_or-drop, map_push, take_at, get_or_append_left, get_or-append-add}
 use Rattle.std.proofs.Math.Seq.{drop-append-add, take-append-add}
 use Rattle.run_model.specs.Run.{Assignment, Event, assigned, state_from, states_from}
@@ -296,7 +296,11 @@ pub when_ok : {A E : Type 0} (r : Result A E) (P : Type 0) → OnOk r P → is_e
 when_ok (Ok x) P h no_error = h
 when_ok (Err e) P h no_error = cc
 
-pub items_when_ok : {A E : Type 0} (r : Result A E) (new old : List logged.Event) (e : logged.Event) → new ≡ (if is_ok r then old ++ e ∷ [] else old) → is_err r ≡ false → new ≡ old ++ e ∷ []
+pub when_err : {A E : Type 0} (r : Result A E) (P : Type 0) → OnErr r P → is_err r ≡ true → P
+when_err (Ok x) P h error = cc
+when_err (Err e) P h error = h
+
+pub items_when_ok : {A E X : Type 0} (r : Result A E) (new old : List X) (e : X) → new ≡ (if is_ok r then old ++ e ∷ [] else old) → is_err r ≡ false → new ≡ old ++ e ∷ []
 items_when_ok (Ok x) new old e h no_error = h
 items_when_ok (Err x) new old e h no_error = cc
 

@@ -10,8 +10,7 @@ use Rattle.event_log.specs.declared.log.Binding.{Binding}
 use Rattle.event_log.specs.declared.log.Header.{Header}
 use Rattle.run_model.specs.Run as run
 use Rattle.event_log.specs.States.{HistoryView, StatesView, openings_of, states_in, event_of, variable_of, processes_of, AssignsWithin, IsHeader, IsKnown, AreStates, with_event, with_batch}
-use Rattle.event_log.specs.inside.States.{nothing, events_in, Grown, HasRoom, Added}
-use Rattle.event_log.proofs.Growing.{fresh, item_is}
+use Rattle.event_log.specs.inside.States.{nothing, events_in, fresh, Grown, HasRoom, Added}
 
 abbrev pub lens_in : List HistoryView → List ℕ
 lens_in hs = map (λ (h : HistoryView). length h.events) hs
@@ -70,6 +69,15 @@ lens_shape hs shape is same few = record {
   events = few;
 }
 
+-- one length more
+pub lens_more : (hs : List HistoryView) (i n : ℕ) (lens : List ℕ) → lens ≡ lens_in (take i hs) → i < length hs → n ≡ length (get_or hs i nothing).events → lens ++ n ∷ [] ≡ lens_in (take (i + 1) hs)
+lens_more hs i n lens is lt len =
+    ap (λ (l : List ℕ). l ++ n ∷ []) is ∙ ap (λ (m : ℕ). lens_in (take i hs) ++ m ∷ []) len
+    ∙ sym (ap lens_in (take_more hs i nothing lt) ∙ map_push (λ (h : HistoryView). length h.events) (take i hs) (get_or hs i nothing))
+
+pub lens_all : (hs : List HistoryView) (i : ℕ) (lens : List ℕ) → lens ≡ lens_in (take i hs) → length hs ≤ i → lens ≡ lens_in hs
+lens_all hs i lens is all = is ∙ ap lens_in (take_all i hs all)
+
 -- ---- without events
 
 fresh_lens : (vars : List (List Binding)) → sum (lens_in (fresh vars)) ≡ 0
@@ -84,32 +92,32 @@ fresh_openings : (vars : List (List Binding)) → map (λ (h : HistoryView). h.o
 fresh_openings [] = refl
 fresh_openings (v ∷ vars) = ap (λ (l : List (List ℤ)). map (λ (b : Binding). b.value) v ∷ l) (fresh_openings vars)
 
+-- what holds of histories of these variables
 pub record StartsFresh (header : Header) (histories : List HistoryView) : Type 0 where
   pub few : sum (lens_in histories) ≤ 50000
   pub shape : (lens : List ℕ) → lens ≡ lens_in histories → IsShape lens
   pub states : (lens : List ℕ) → lens ≡ lens_in histories → AreStates header lens histories
   pub events : events_in histories ≡ replicate (length header.procs) []
 
-starts : (header : Header) → IsHeader header → StartsFresh header (fresh header.vars)
-starts header h =
-    let none = fresh_lens header.vars in
-    let count : length (lens_in (fresh header.vars)) ≡ length header.vars =
-    length-map (fresh header.vars) (λ (x : HistoryView). length x.events) ∙ length-map header.vars (λ (v : List Binding). let x : HistoryView = record { opening = map (λ (b : Binding). b.value) v; events = [] } in x) in
-    record {
-      few = omega (arith, none);
-      shape = λ lens is. record {
-        some = omega (arith, ap length is, count, h.some, h.vars);
-        few = omega (arith, ap length is, count, h.few, h.vars);
-        events = omega (arith, ap sum is, none);
-      };
-      states = λ lens is. record { fits = h; openings = fresh_openings header.vars; lens = is };
-      events = fresh_events header.vars ∙ ap (λ (n : ℕ). replicate n []) h.vars;
-    }
+pub starts_fresh : (header : Header) (histories : List HistoryView) → IsHeader header → histories ≡ fresh header.vars → StartsFresh header histories
+starts_fresh header histories h is = subst (StartsFresh header) (sym is) (record {
+  few = omega (arith, none);
+  shape = λ lens new. record {
+    some = omega (arith, ap length new, count, h.some, h.vars);
+    few = omega (arith, ap length new, count, h.few, h.vars);
+    events = omega (arith, ap sum new, none);
+  };
+  states = λ lens new. record { fits = h; openings = fresh_openings header.vars; lens = new };
+  events = fresh_events header.vars ∙ ap (λ (n : ℕ). replicate n []) h.vars;
+})
+  where
+    none : sum (lens_in (fresh header.vars)) ≡ 0
+    none = fresh_lens header.vars
 
-pub starts_fresh : (header : Header) (histories : List HistoryView) (i : ℕ) → IsHeader header → histories ≡ fresh (take i header.vars) → length header.vars ≤ i → StartsFresh header histories
-starts_fresh header histories i h is all =
-    let whole : histories ≡ fresh header.vars = is ∙ ap fresh (take_all i header.vars all) in
-    subst (StartsFresh header) (sym whole) (starts header h)
+    count : length (lens_in (fresh header.vars)) ≡ length header.vars
+    count =
+        length-map (fresh header.vars) (λ (x : HistoryView). length x.events)
+        ∙ length-map header.vars (λ (v : List Binding). let x : HistoryView = record { opening = map (λ (b : Binding). b.value) v; events = [] } in x)
 
 -- ---- one more batch
 
@@ -195,52 +203,36 @@ value_of_run header shape hs p a v h lt le =
     ∙ ap (λ (q : run.Process). run.state_after q a) (sym process) in
     ap (λ (s : List ℤ). get_or s v (pos 0)) (state ∙ same)
 
--- one list of variables more
-pub fresh_more : (vars : List (List Binding)) (i : ℕ) (histories histories' : List HistoryView) (h : HistoryView) (v : List Binding) → histories ≡ fresh (take i vars) → i < length vars
-    → v ≡ get_or vars i v → h ≡ record { opening = map (λ (b : Binding). b.value) v; events = [] } → histories' ≡ histories ++ h ∷ [] → histories' ≡ fresh (take (i + 1) vars)
-fresh_more vars i histories histories' h v is lt read new pushed =
-    let start = λ (x : List Binding). let y : HistoryView = record { opening = map (λ (b : Binding). b.value) x; events = [] } in y in
-    pushed ∙ ap (λ (hs : List HistoryView). hs ++ h ∷ []) is ∙ ap (λ (x : HistoryView). fresh (take i vars) ++ x ∷ []) (new ∙ ap start read)
-    ∙ sym (ap fresh (take_more vars i v lt) ∙ map_push start (take i vars) (get_or vars i v))
-
 pub same_states : (header : Header) (events events' : List (List Event)) → events ≡ events' → ◌≡◌ {A = StatesView} (record { header = header; events = events }) (record { header = header; events = events' })
 same_states header events events' e = ap (λ (x : List (List Event)). let s : StatesView = record { header = header; events = x } in s) e
 
 -- what the history of a process is, as callers see the states
-pub record IsThere (header : Header) (hs : List HistoryView) (s : StatesView) (p : ℕ) (h : HistoryView) : Type 0 where
+pub record IsThere (hs : List HistoryView) (s : StatesView) (p : ℕ) : Type 0 where
   pub within : p < length hs
-  pub read : h ≡ get_or hs p nothing
-  pub events : length h.events ≡ length (get_or s.events p [])
-  pub width : length h.opening ≡ length (get_or s.header.vars p [])
+  pub events : length (get_or hs p nothing).events ≡ length (get_or s.events p [])
+  pub width : length (get_or hs p nothing).opening ≡ length (get_or s.header.vars p [])
 
-pub is_there : (header : Header) (shape : List ℕ) (hs : List HistoryView) (s : StatesView) (p : ℕ) (h : HistoryView) → AreStates header shape hs
-    → ◌≡◌ {A = StatesView} (record { header = header; events = events_in hs }) s → p < length s.events → h ≡ get_or hs p h → IsThere header hs s p h
-is_there header shape hs s p h states view lt is =
+pub is_there : (header : Header) (shape : List ℕ) (hs : List HistoryView) (s : StatesView) (p : ℕ) → AreStates header shape hs
+    → ◌≡◌ {A = StatesView} (record { header = header; events = events_in hs }) s → p < length s.events → IsThere hs s p
+is_there header shape hs s p states view lt =
     let count : length s.events ≡ length hs = sym (ap (λ (x : StatesView). length x.events) view) ∙ length-map hs (λ (x : HistoryView). x.events) in
     let within : p < length hs = omega (arith, count) in
-    let read = item_is hs p h within is in
     record {
       within = within;
-      read = read;
-      events = ap (λ (x : HistoryView). length x.events) read ∙ ap length (sym (get_or-map (λ (x : HistoryView). x.events) hs p nothing [] within))
-          ∙ ap (λ (x : StatesView). length (get_or x.events p [])) view;
-      width = ap (λ (x : HistoryView). length x.opening) read ∙ ap length (opening_is header shape hs p states within) ∙ length-map (get_or header.vars p []) (λ (b : Binding). b.value)
+      events = ap length (sym (get_or-map (λ (x : HistoryView). x.events) hs p nothing [] within)) ∙ ap (λ (x : StatesView). length (get_or x.events p [])) view;
+      width = ap length (opening_is header shape hs p states within) ∙ length-map (get_or header.vars p []) (λ (b : Binding). b.value)
           ∙ ap (λ (x : StatesView). length (get_or x.header.vars p [])) view;
     }
 
-pub value_is : (header : Header) (shape : List ℕ) (hs : List HistoryView) (s : StatesView) (p a v : ℕ) (h : HistoryView) → AreStates header shape hs
-    → ◌≡◌ {A = StatesView} (record { header = header; events = events_in hs }) s → IsThere header hs s p h → a ≤ length h.events
-    → get_or (get_or (states_in h) a []) v (pos 0) ≡ get_or (run.state_after (run.process_at (processes_of s.header.procs s.header.vars s.events) p) a) v (pos 0)
-value_is header shape hs s p a v h states view there le =
-    ap (λ (x : HistoryView). get_or (get_or (states_in x) a []) v (pos 0)) there.read
-    ∙ value_of_run header shape hs p a v states there.within (omega (arith, le, ap (λ (x : HistoryView). length x.events) there.read))
+pub value_is : (header : Header) (shape : List ℕ) (hs : List HistoryView) (s : StatesView) (p a v : ℕ) → AreStates header shape hs
+    → ◌≡◌ {A = StatesView} (record { header = header; events = events_in hs }) s → IsThere hs s p → a ≤ length (get_or hs p nothing).events
+    → get_or (get_or (states_in (get_or hs p nothing)) a []) v (pos 0) ≡ get_or (run.state_after (run.process_at (processes_of s.header.procs s.header.vars s.events) p) a) v (pos 0)
+value_is header shape hs s p a v states view there le = value_of_run header shape hs p a v states there.within le
     ∙ ap (λ (x : StatesView). get_or (run.state_after (run.process_at (processes_of x.header.procs x.header.vars x.events) p) a) v (pos 0)) view
 
 -- a state that is kept, as callers see the states
-pub state_is : (header : Header) (shape : List ℕ) (hs : List HistoryView) (s : StatesView) (p a : ℕ) (h : HistoryView) → AreStates header shape hs
-    → ◌≡◌ {A = StatesView} (record { header = header; events = events_in hs }) s → IsThere header hs s p h
-    → get_or (states_in h) a [] ≡ get_or (run.states_of (run.process_at (processes_of s.header.procs s.header.vars s.events) p)) a []
-state_is header shape hs s p a h states view there =
-    ap (λ (x : HistoryView). get_or (states_in x) a []) there.read
-    ∙ ap (λ (rows : List (List ℤ)). get_or rows a []) (states_of_run header shape hs p states there.within)
+pub state_is : (header : Header) (shape : List ℕ) (hs : List HistoryView) (s : StatesView) (p a : ℕ) → AreStates header shape hs
+    → ◌≡◌ {A = StatesView} (record { header = header; events = events_in hs }) s → IsThere hs s p
+    → get_or (states_in (get_or hs p nothing)) a [] ≡ get_or (run.states_of (run.process_at (processes_of s.header.procs s.header.vars s.events) p)) a []
+state_is header shape hs s p a states view there = ap (λ (rows : List (List ℤ)). get_or rows a []) (states_of_run header shape hs p states there.within)
     ∙ ap (λ (x : StatesView). get_or (run.states_of (run.process_at (processes_of x.header.procs x.header.vars x.events) p)) a []) view

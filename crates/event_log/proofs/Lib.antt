@@ -16,6 +16,7 @@ pub mod NameNumbers
 pub mod Narrow
 pub mod NotedLines
 pub mod NumberSteps
+pub mod Placing
 pub mod Plain
 pub mod ReadLaws
 pub mod ReadNames

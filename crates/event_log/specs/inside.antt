@@ -4,4 +4,5 @@ pub mod Feeding
 pub mod Lines
 pub mod Moments
 pub mod Numbers
+pub mod Places
 pub mod States

@@ -15,6 +15,7 @@
 //! Not said: how much memory there is, and how long a call takes.
 #![tactic(auto)]
 
+mod all_histories;
 mod copies;
 mod counting;
 mod feeder;
@@ -32,7 +33,6 @@ mod writing;
 
 pub use copies::{Copies, copy_of, names_of, var_lines_of};
 pub use counting::{MANY_EVENTS, count_events};
-pub use history::History;
 pub use item::{Fed, Item, LogCode, LogFault};
 pub use laws::{a_log_reads_back, items_fit, lines_are_noted, no_fault_is_a_log};
 pub use log::{Assign, Binding, Event, Header, Kind, Log};

@@ -1,5 +1,6 @@
 -- What the steps of taking a batch keep of the histories.
 use Rattle.std.specs.Prelude.{◌≡◌, ℕ, ◌<◌, List, [], ◌++◌, length, map, get_or}
+use Rattle.event_log.specs.declared.log.Binding.{Binding}
 use Rattle.event_log.specs.declared.log.Event.{Event}
 use Rattle.event_log.specs.States.{HistoryView, AssignsWithin, with_batch}
 
@@ -8,6 +9,14 @@ events_in histories = map (λ (h : HistoryView). h.events) histories
 
 abbrev pub nothing : HistoryView
 nothing = record { opening = []; events = [] }
+
+-- a process with these variables, without events
+abbrev pub without_events : List Binding → HistoryView
+without_events variables =
+    record { opening = map (λ (b : Binding). b.value) variables; events = [] }
+
+abbrev pub fresh : List (List Binding) → List HistoryView
+fresh vars = map without_events vars
 
 -- each history is the old one with more events behind it
 pub record Grown (old new : List HistoryView) : Type 0 where
