@@ -2,14 +2,19 @@
 use Rattle.std.proofs.Common.{◌≡◌, ℕ, zero, suc, ◌+◌, ◌-◌, ◌*◌, ◌<◌, ◌≤◌, ◌⊎◌, inl, inr, Some, List, [], ◌∷◌, length, get_or, drop, refl, arith, sym, ap, ◌∙◌, subst, length-append}
 use Rattle.std.proofs.lemmas.List.{length-take, length-drop, get_or-take, get_or-drop}
 use Rattle.std.proofs.Math.Nat.{mul-le-mul_left}
-use Rattle.std.specs.Prelude.{slice_get}
 use Rattle.std.proofs.lemmas.Option.{get_or_from_slice_get}
 use Rattle.std.specs.List.{slice_range}
+use Rattle.std.specs.Prelude.{slice_get}
 use Rattle.pull_system.specs.declared.pull.Pull.{Pull}
 use Rattle.pull_system.specs.System.{SystemView, IsSystem, IsPull, pull_at, target_of}
 use Rattle.pull_fans.specs.Sources.{numbers_from}
 use Rattle.pull_fans.specs.Asks.{IsAskedBy, AreAsks}
-use Rattle.pull_fans.specs.inside.Asks.{AreAskRows, AreAllAsks}
+use Rattle.pull_fans.specs.Fans.{FanView}
+use Rattle.pull_fans.specs.declared.asks.AskRows.{AskRows}
+use Rattle.pull_fans.specs.declared.asks.AskRows.TheVariants.{OfFan}
+use Rattle.pull_fans.specs.inside.Asks.{AreAskRows, HoldsAsks, IsFanOfAsks, no_rows}
+use Rattle.pull_fans.specs.inside.Fans.{AreFanRows, HasProcessRows}
+use Rattle.pull_fans.specs.inside.Places.{fan_at, no_fan}
 use Rattle.pull_system.proofs.Pulls.{pull-of}
 use Rattle.pull_fans.proofs.Numbers.{numbers_case, source_in}
 
@@ -76,19 +81,26 @@ pulls_from_few pulls zero processes = omega (arith, none_from pulls processes)
 pulls_from_few pulls (suc count) processes =
     elim (one_more pulls count processes) [ inl h ↦ omega (arith, h.0, pulls_from_few pulls count processes) | inr h ↦ omega (arith, h.0, pulls_from_few pulls count processes) ]
 
+-- the rows of a fan that is held are the rows of asks
+pub fan_read : (system : SystemView) (fans : List FanView) (process count number : ℕ) (asks : List AskRows) (held : AskRows) (fan : FanView) (rows : List ℕ) → HoldsAsks system fans process count (get_or asks process no_rows) → slice_get asks process ≡ Some held → held ≡ OfFan number
+    → slice_get fans number ≡ Some fan → ((procs n : ℕ) → HasProcessRows fan procs n → AreFanRows fan procs n rows) → AreAskRows system process count rows
+fan_read system fans process count number asks held fan rows holds found is there read =
+    let P : AskRows → Type 0 = λ h. HoldsAsks system fans process count h in
+    let of_fan : IsFanOfAsks system fans process count number = subst P (get_or_from_slice_get asks process held no_rows found ∙ is) holds in
+    let same : fan_at fans number ≡ fan = get_or_from_slice_get fans number fan no_fan there in
+    of_fan.rows rows
+    (subst (λ (f : FanView). AreFanRows f (length system.lens) count rows) (sym same) (read (length system.lens) count (subst (λ (f : FanView). HasProcessRows f (length system.lens) count) same of_fan.has)))
+
 -- where the row of one value stands among the rows of asks that were read
 pub record HasAsks (system : SystemView) (process x procs : ℕ) (rows : List ℕ) : Type 0 where
   pub room : x * procs + procs ≤ length rows
   pub row : (asks : List ℕ) → asks ≡ slice_range rows (x * procs) (x * procs + procs) → AreAsks system process x asks
 
-pub has_asks : (system : SystemView) → IsSystem system → (asks : List (List ℕ)) → AreAllAsks system asks → (process x procs : ℕ) → process < length system.lens → x ≤ get_or system.lens process 0 + 1 → procs ≡ length system.lens
-    → (item rows : List ℕ) → slice_get asks process ≡ Some item → rows ≡ item → HasAsks system process x procs rows
-has_asks system is asks all process x procs there less count item rows found same =
-    let at : rows ≡ get_or asks process [] = same ∙ sym (get_or_from_slice_get asks process item [] found) in
-    let P : List ℕ → Type 0 = AreAskRows system process (get_or system.lens process 0 + 2) in
-    let rows_are : AreAskRows system process (get_or system.lens process 0 + 2) rows = subst P (sym at) (all.each process there) in
+pub has_asks : (system : SystemView) → IsSystem system → (process x procs : ℕ) → x ≤ get_or system.lens process 0 + 1 → procs ≡ length system.lens
+    → (rows : List ℕ) → AreAskRows system process (get_or system.lens process 0 + 2) rows → HasAsks system process x procs rows
+has_asks system is process x procs less count rows are =
     let Q : ℕ → Type 0 = λ n. HasAsks system process x n rows in
     subst Q (sym count) record {
-      room = omega (arith, rows_are.size, mul-le-mul_left (length system.lens) (let h : x + 1 ≤ get_or system.lens process 0 + 2 = omega arith in h));
-      row = λ asked is_row. row_read system is process (get_or system.lens process 0 + 2) x rows asked rows_are (omega arith) is_row;
+      room = omega (arith, are.size, mul-le-mul_left (length system.lens) (let h : x + 1 ≤ get_or system.lens process 0 + 2 = omega arith in h));
+      row = λ asked is_row. row_read system is process (get_or system.lens process 0 + 2) x rows asked are (omega arith) is_row;
     }

@@ -1,13 +1,16 @@
 -- The columns of rows: none, one row more, and a table that is the only one.
-use Rattle.std.proofs.Common.{◌≡◌, ℕ, zero, suc, ◌+◌, ◌*◌, ◌<◌, List, [], ◌∷◌, ◌++◌, length, get_or, map, replicate, refl, sym, ap, ◌∙◌, arith, append_assoc, ◌-◌, ◌≤◌, ◌⊎◌, inl, inr, drop, subst}
-use Rattle.std.specs.List.{range_with_len, slice_range}
-use Rattle.std.proofs.lemmas.List.{same_lists, get_or-append-add, get_or-take, get_or-drop}
+use Rattle.std.proofs.Common.{◌≡◌, ℕ, zero, suc, ◌+◌, ◌*◌, ◌<◌, List, [], ◌∷◌, ◌++◌, length, get_or, map, replicate, refl, sym, ap, ◌∙◌, arith, append_assoc}
+use Rattle.std.specs.List.{range_with_len}
+use Rattle.std.proofs.lemmas.List.{same_lists, get_or-append-add}
 use Rattle.std.proofs.lemmas.List.FromFn.{get_or-map-range_with_len, length-map-range_with_len, map-range_with_len_more}
 use Rattle.std.proofs.lemmas.Grind.{same_number_lists}
 use Rattle.std.proofs.lemmas.Nat.{mul-add-lt}
 use Rattle.std.proofs.Math.ListN.{get_or-append}
 use Rattle.pull_system.specs.declared.pull.Pull.{Pull}
-use Rattle.pull_fans.specs.Fans.{FanView, column, columns, HasRow, pull_of_fan, pulls_of_fan}
+use Rattle.pull_fans.specs.Fans.{FanView, column, HasRow, pull_of_fan, pulls_of_fan}
+use Rattle.pull_fans.specs.declared.layout.Layout.{Layout}
+use Rattle.pull_fans.specs.declared.layout.Layout.TheVariants.{ByTarget}
+use Rattle.pull_fans.specs.inside.Layouts.{place_in, tables_in}
 
 -- numbers that are the same one by one
 pub same_maps : {X : Type 0} (f g : ℕ → X) (n : ℕ) → ((k : ℕ) → k < n → f k ≡ g k) → map f (range_with_len 0 n) ≡ map g (range_with_len 0 n)
@@ -17,13 +20,14 @@ same_maps f g n same =
     let below : k < n = omega (arith, there, length-map-range_with_len f 0 n) in
     get_or-map-range_with_len f 0 n k k d below (omega arith) ∙ same k below ∙ sym (get_or-map-range_with_len g 0 n k k d below (omega arith)))
 
-pub column_at : (width values : ℕ) (entries : List ℕ) (i : ℕ) → i < width → get_or (columns width values entries) i [] ≡ column width values entries i
-column_at width values entries i there = get_or-map-range_with_len (column width values entries) 0 width i i [] there (omega arith)
+-- the table of a target stands in the column of its place
+pub table_at : (layout : Layout) (targets : List ℕ) (width values : ℕ) (entries : List ℕ) (i : ℕ) → i < length targets → get_or (tables_in layout targets width values entries) i [] ≡ column width values entries (place_in layout targets i)
+table_at layout targets width values entries i there = get_or-map-range_with_len (λ index. column width values entries (place_in layout targets index)) 0 (length targets) i i [] there (omega arith)
 
-pub no_columns : (width : ℕ) (entries : List ℕ) → columns width 0 entries ≡ replicate width []
-no_columns width entries = none 0 width
+pub no_tables : (layout : Layout) (targets : List ℕ) (width : ℕ) (entries : List ℕ) → tables_in layout targets width 0 entries ≡ replicate (length targets) []
+no_tables layout targets width entries = none 0 (length targets)
   where
-    none : (a n : ℕ) → map (column width 0 entries) (range_with_len a n) ≡ replicate n []
+    none : (a n : ℕ) → map (λ index. column width 0 entries (place_in layout targets index)) (range_with_len a n) ≡ replicate n []
     none a zero = refl
     none a (suc n) = ap (λ (ts : List (List ℕ)). [] ∷ ts) (none (a + 1) n)
 
@@ -45,12 +49,15 @@ column_more width values entries row i size there =
     last = ap (λ (n : ℕ). get_or (entries ++ row) (n + i) 0) (sym size) ∙ get_or-append-add entries row i 0
 
 -- one row more
-pub has_row : (width values : ℕ) (entries row : List ℕ) → length entries ≡ values * width → HasRow row (columns width values entries) (columns width (values + 1) (entries ++ row))
-has_row width values entries row size = record {
-  size = length-map-range_with_len (column width (values + 1) (entries ++ row)) 0 width ∙ sym (length-map-range_with_len (column width values entries) 0 width);
+pub has_row : (layout : Layout) (targets : List ℕ) (width values : ℕ) (entries row whole : List ℕ) → length entries ≡ values * width → ((i : ℕ) → i < length targets → place_in layout targets i < width)
+    → ((i : ℕ) → i < length targets → get_or whole (place_in layout targets i) 0 ≡ get_or row i 0) → HasRow row (tables_in layout targets width values entries) (tables_in layout targets width (values + 1) (entries ++ whole))
+has_row layout targets width values entries row whole size within is = record {
+  size = length-map-range_with_len (λ i. column width (values + 1) (entries ++ whole) (place_in layout targets i)) 0 (length targets) ∙ sym (length-map-range_with_len (λ i. column width values entries (place_in layout targets i)) 0 (length targets));
   each = λ j inside.
-      let there : j < width = omega (arith, inside, length-map-range_with_len (column width values entries) 0 width) in
-      column_at width (values + 1) (entries ++ row) j there ∙ column_more width values entries row j size there ∙ ap (λ (xs : List ℕ). xs ++ get_or row j 0 ∷ []) (sym (column_at width values entries j there));
+      let there : j < length targets = omega (arith, inside, length-map-range_with_len (λ i. column width values entries (place_in layout targets i)) 0 (length targets)) in
+      let place : ℕ = place_in layout targets j in
+      table_at layout targets width (values + 1) (entries ++ whole) j there ∙ column_more width values entries whole place size (within j there)
+      ∙ ap (λ (n : ℕ). column width values entries place ++ n ∷ []) (is j there) ∙ ap (λ (xs : List ℕ). xs ++ get_or row j 0 ∷ []) (sym (table_at layout targets width values entries j there));
 }
 
 pub one_column : (table : List ℕ) → column 1 (length table) table 0 ≡ table
@@ -88,52 +95,11 @@ pulls_next old before now fan i src dst table is more source target entries =
 
 -- the fan of one pull
 pub fan_of_one : (pull : Pull) (targets entries : List ℕ) (values : ℕ) → targets ≡ pull.dst ∷ [] → entries ≡ pull.table → values ≡ length pull.table
-    → pulls_of_fan record { src = pull.src; targets = targets; tables = columns (length targets) values entries } ≡ pull ∷ []
+    → pulls_of_fan record { src = pull.src; targets = targets; tables = tables_in ByTarget targets 1 values entries } ≡ pull ∷ []
 fan_of_one pull targets entries values target table size =
-    let fan : List ℕ → ℕ → List ℕ → FanView = λ ts n es. record { src = pull.src; targets = ts; tables = columns (length ts) n es } in
+    let fan : List ℕ → ℕ → List ℕ → FanView = λ ts n es. record { src = pull.src; targets = ts; tables = tables_in ByTarget ts 1 n es } in
     let one : List ℕ → List Pull = λ t. record { src = pull.src; dst = pull.dst; table = t } ∷ [] in
     ap (λ (ts : List ℕ). pulls_of_fan (fan ts values entries)) target
     ∙ ap (λ (n : ℕ). pulls_of_fan (fan (pull.dst ∷ []) n entries)) size
     ∙ ap (λ (es : List ℕ). pulls_of_fan (fan (pull.dst ∷ []) (length pull.table) es)) table
     ∙ ap one (one_column pull.table)
-
--- where an entry of a table stands
-pub record StandsAt (width values index x : ℕ) (entries : List ℕ) (tables : List (List ℕ)) : Type 0 where
-  pub below : x < values
-  pub inside : x * width + index < length entries
-  pub is : get_or entries (x * width + index) 0 ≡ get_or (get_or tables index []) x 0
-
-pub entry_stands : (width values index x : ℕ) (entries : List ℕ) (tables : List (List ℕ)) → columns width values entries ≡ tables → length entries ≡ values * width → index < width → x < length (get_or tables index [])
-    → StandsAt width values index x entries tables
-entry_stands width values index x entries tables same size there value =
-    let at : get_or tables index [] ≡ column width values entries index = ap (λ (ts : List (List ℕ)). get_or ts index []) (sym same) ∙ column_at width values entries index there in
-    let entry : ℕ → ℕ = λ y. get_or entries (y * width + index) 0 in
-    let below : x < values = omega (arith, value, ap length at, length-map-range_with_len entry 0 values) in
-    let inside : x * width + index < width * values = mul-add-lt x width index values below there in
-    record {
-      below = below;
-      inside = omega (arith, inside, size);
-      is = sym (ap (λ (t : List ℕ). get_or t x 0) at ∙ get_or-map-range_with_len entry 0 values x x 0 below (omega arith));
-    }
-
--- a row of entries, which has one entry of each table
-pub record RowStands (width x : ℕ) (entries : List ℕ) (tables : List (List ℕ)) : Type 0 where
-  pub room : x * width + width ≤ length entries
-  pub each : (row : List ℕ) → row ≡ slice_range entries (x * width) (x * width + width) → (i : ℕ) → i < width → get_or row i 0 ≡ get_or (get_or tables i []) x 0
-
-none_or_some : (n : ℕ) → (n ≡ 0) ⊎ (1 ≤ n)
-none_or_some n = grind arith
-
-pub row_stands : (width values most x : ℕ) (entries : List ℕ) (tables : List (List ℕ)) → columns width values entries ≡ tables → length entries ≡ values * width → ((i : ℕ) → i < width → length (get_or tables i []) ≡ most) → x < most
-    → RowStands width x entries tables
-row_stands width values most x entries tables same size sizes below = record {
-  room = elim (none_or_some width) [
-    | inl none ↦ let P : ℕ → Type 0 = λ n. x * n + n ≤ length entries in subst P (sym none) (omega arith)
-    | inr some ↦ let last = stands (width - 1) (omega (arith, some)) in omega (arith, last.inside, some)
-  ];
-  each = λ row is i there.
-      ap (λ (xs : List ℕ). get_or xs i 0) is ∙ get_or-take (x * width + width - x * width) (drop (x * width) entries) i 0 (omega arith) ∙ get_or-drop (x * width) entries i 0 ∙ (stands i there).is;
-}
-  where
-    stands : (i : ℕ) → i < width → StandsAt width values i x entries tables
-    stands i there = entry_stands width values i x entries tables same size there (omega (arith, below, sizes i there))

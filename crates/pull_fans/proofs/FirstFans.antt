@@ -1,8 +1,10 @@
 -- The first fans of a system, one more of them, and the others taken off.
-use Rattle.std.proofs.Common.{◌≡◌, ◌≢◌, ℕ, zero, suc, ◌+◌, ◌-◌, ◌*◌, ◌^◌, ◌<◌, ◌≤◌, ◌⊎◌, inl, inr, List, [], ◌∷◌, ◌++◌, All, length, get_or, map, take, drop, set, refl, arith, sym, ap, ◌∙◌, subst, append-nil, append_assoc, length-append}
+use Rattle.std.proofs.Common.{◌≡◌, ◌≢◌, ℕ, zero, suc, ◌+◌, ◌-◌, ◌*◌, ◌^◌, ◌<◌, ◌≤◌, ◌⊎◌, inl, inr, Some, List, [], ◌∷◌, ◌++◌, All, length, get_or, map, take, drop, set, refl, arith, sym, ap, ◌∙◌, subst, append-nil, append_assoc, length-append}
 use Rattle.std.specs.List.{range_with_len}
-use Rattle.std.proofs.lemmas.List.{get_or-append-add, get_or-set_other, get_or-set_same, get_or_push, take-append-drop, take_all}
+use Rattle.std.proofs.lemmas.List.{get_or-append-add, get_or-set_other, get_or-set_same, get_or-take, get_or_push, length-take, nil_from_length, take-append-drop, take_all}
 use Rattle.std.proofs.Math.ListN.{length-set}
+use Rattle.std.proofs.lemmas.Option.{get_or_from_slice_get}
+use Rattle.std.specs.Prelude.{slice_get}
 use Rattle.std.proofs.lemmas.Grind.{flat_map-append}
 use Rattle.std.proofs.lemmas.List.Elements.{All-append, All-get_or, All-take}
 use Rattle.std.proofs.lemmas.List.Folds.{length-flat_map-take}
@@ -14,8 +16,11 @@ use Rattle.pull_system.specs.System.{SystemView, IsSystem, IsPull, no_pull}
 use Rattle.pull_fans.specs.Sources.{numbers_from}
 use Rattle.pull_fans.specs.Fans.{FanView, pull_of_fan, pulls_of_fan, pulls_of_fans}
 use Rattle.pull_fans.specs.Asks.{IsAskedBy}
-use Rattle.pull_fans.specs.inside.Asks.{AreAskRows, AreAllAsks}
+use Rattle.pull_fans.specs.inside.Asks.{AreAskRows, AreAllAsks, HoldsAsks, OwnAreAsks, StaysWith, no_rows}
+use Rattle.pull_fans.specs.declared.asks.AskRows.{AskRows}
+use Rattle.pull_fans.specs.declared.asks.AskRows.TheVariants.{Own, OfFan}
 use Rattle.pull_fans.specs.declared.places.Place.{Place}
+use Rattle.pull_fans.specs.inside.Fans.{AreFanRows, HasProcessRows}
 use Rattle.pull_fans.specs.inside.First.{first_system, HavePulls, IsFromOther, IsKnown}
 use Rattle.pull_fans.specs.inside.Places.{no_fan, no_place, fan_at, ArePlaces}
 use Rattle.pull_fans.specs.inside.Sources.{AreBySource}
@@ -31,23 +36,23 @@ within_one i n h = grind arith
 
 -- ---- one item put in the place of another
 
-pub record IsPutAt (old new : List (List ℕ)) (place : ℕ) (item : List ℕ) : Type 0 where
+pub record IsPutAt {X : Type 0} (default : X) (old new : List X) (place : ℕ) (item : X) : Type 0 where
   pub size : length new ≡ length old
-  pub here : get_or new place [] ≡ item
-  pub others : (q : ℕ) → q ≢ place → get_or new q [] ≡ get_or old q []
+  pub here : get_or new place default ≡ item
+  pub others : (q : ℕ) → q ≢ place → get_or new q default ≡ get_or old q default
 
-pub put_once : (old : List (List ℕ)) (place : ℕ) (item : List ℕ) → place < length old → IsPutAt old (set old place item) place item
-put_once old place item there = record {
+pub put_once : {X : Type 0} (default : X) (old : List X) (place : ℕ) (item : X) → place < length old → IsPutAt default old (set old place item) place item
+put_once default old place item there = record {
   size = length-set old place item;
-  here = get_or-set_same old place item [] there;
-  others = λ q other. get_or-set_other old place q item [] other;
+  here = get_or-set_same old place item default there;
+  others = λ q other. get_or-set_other old place q item default other;
 }
 
-pub put_twice : (old middle new : List (List ℕ)) (place : ℕ) (first item : List ℕ) → place < length old → middle ≡ set old place first → new ≡ set middle place item → IsPutAt old new place item
-put_twice old middle new place first item there once twice =
-    let one = put_once old place first there in
-    let two = put_once (set old place first) place item (omega (arith, there, one.size)) in
-    subst (λ (list : List (List ℕ)). IsPutAt old list place item) (sym (twice ∙ ap (λ (list : List (List ℕ)). set list place item) once)) record {
+pub put_twice : {X : Type 0} (default : X) (old middle new : List X) (place : ℕ) (first item : X) → place < length old → middle ≡ set old place first → new ≡ set middle place item → IsPutAt default old new place item
+put_twice {X} default old middle new place first item there once twice =
+    let one = put_once default old place first there in
+    let two = put_once default (set old place first) place item (omega (arith, there, one.size)) in
+    subst (λ (list : List X). IsPutAt default old list place item) (sym (twice ∙ ap (λ (list : List X). set list place item) once)) record {
       size = two.size ∙ one.size;
       here = two.here;
       others = λ q other. two.others q other ∙ one.others q other;
@@ -61,6 +66,9 @@ with_none fans number fan there is none =
     pulls_more fans number fan there (item_is fans fans number fan refl there is)
     ∙ ap (λ (ts : List ℕ). pulls_of_fans (take number fans) ++ map (pull_of_fan fan) (range_with_len 0 (length ts))) none
     ∙ append-nil (pulls_of_fans (take number fans))
+
+pub with_no_target : (fans : List FanView) (number : ℕ) (fan : FanView) → number < length fans → fan ≡ get_or fans number fan → length fan.targets ≡ 0 → pulls_of_fans (take (number + 1) fans) ≡ pulls_of_fans (take number fans)
+with_no_target fans number fan there is none = with_none fans number fan there is (nil_from_length fan.targets none)
 
 -- the fan of this number, which has a target
 pub record FanThere (lens : List ℕ) (fans : List FanView) (number : ℕ) (fan : FanView) : Type 0 where
@@ -78,17 +86,36 @@ fan_there lens fans number fan all there found some = record {
     is : fan_at fans number ≡ fan
     is = item_is fans fans number fan refl there found
 
-pub all_raised : (lens : List ℕ) (pulls : List Pull) (fan : FanView) (old new : List (List ℕ)) (now : List ℕ) → AreAllAsks record { lens = lens; pulls = pulls } old → IsPutAt old new fan.src now
-    → AreAskRows record { lens = lens; pulls = pulls ++ pulls_of_fan fan } fan.src (get_or lens fan.src 0 + 2) now → AreAllAsks record { lens = lens; pulls = pulls ++ pulls_of_fan fan } new
-all_raised lens pulls fan old new now all put rows = record {
+-- a fan from another process asks for nothing in what is held
+holds_other : (lens : List ℕ) (pulls : List Pull) (fan : FanView) (fans : List FanView) (process values : ℕ) (held : AskRows) → HoldsAsks record { lens = lens; pulls = pulls } fans process values held → (fan.src ≡ process → ⊥)
+    → HoldsAsks record { lens = lens; pulls = pulls ++ pulls_of_fan fan } fans process values held
+holds_other lens pulls fan fans process values (Own rows) is other = ask_rows_other lens pulls fan process values rows is other
+holds_other lens pulls fan fans process values (OfFan number) is other = record { there = is.there; has = is.has; rows = λ rows are. ask_rows_other lens pulls fan process values rows (is.rows rows are) other }
+
+-- rows of their own are those that are held
+own_are : (system : SystemView) (fans : List FanView) (process values : ℕ) (held : AskRows) (rows : List ℕ) → HoldsAsks system fans process values held → held ≡ Own rows → AreAskRows system process values rows
+own_are system fans process values held rows holds same = subst (λ (h : AskRows). HoldsAsks system fans process values h) same holds
+
+-- so they are where what is held is read among the first fans
+pub own_held : (lens : List ℕ) (fans front : List FanView) (number process : ℕ) (asks : List AskRows) (held : AskRows) → AreAllAsks (first_system lens fans number) fans asks → front ≡ take number fans → process < length lens → slice_get asks process ≡ Some held
+    → OwnAreAsks record { lens = lens; pulls = pulls_of_fans front } process (get_or lens process 0 + 2) held
+own_held lens fans front number process asks held all same there found =
+    let P : List FanView → Type 0 = λ fs. OwnAreAsks record { lens = lens; pulls = pulls_of_fans fs } process (get_or lens process 0 + 2) held in
+    let Q : AskRows → Type 0 = λ h. HoldsAsks (first_system lens fans number) fans process (get_or lens process 0 + 2) h in
+    let holds : HoldsAsks (first_system lens fans number) fans process (get_or lens process 0 + 2) held = subst Q (get_or_from_slice_get asks process held no_rows found) (all.each process there) in
+    subst P (sym same) (λ rows is. own_are (first_system lens fans number) fans process (get_or lens process 0 + 2) held rows holds is)
+
+pub all_raised : (lens : List ℕ) (pulls : List Pull) (fan : FanView) (fans : List FanView) (old new : List AskRows) (now : List ℕ) → AreAllAsks record { lens = lens; pulls = pulls } fans old → IsPutAt no_rows old new fan.src (Own now)
+    → AreAskRows record { lens = lens; pulls = pulls ++ pulls_of_fan fan } fan.src (get_or lens fan.src 0 + 2) now → AreAllAsks record { lens = lens; pulls = pulls ++ pulls_of_fan fan } fans new
+all_raised lens pulls fan fans old new now all put rows = record {
   count = put.size ∙ all.count;
   each = λ p there. elim (same_or_not p fan.src) [
     | inl same ↦
-        let P : ℕ → Type 0 = λ q. AreAskRows system q (get_or lens q 0 + 2) (get_or new q []) in
-        subst P (sym same) (subst (λ (r : List ℕ). AreAskRows system fan.src (get_or lens fan.src 0 + 2) r) (sym put.here) rows)
+        let P : ℕ → Type 0 = λ q. HoldsAsks system fans q (get_or lens q 0 + 2) (get_or new q no_rows) in
+        subst P (sym same) (subst (λ (h : AskRows). HoldsAsks system fans fan.src (get_or lens fan.src 0 + 2) h) (sym put.here) rows)
     | inr other ↦
-        subst (λ (r : List ℕ). AreAskRows system p (get_or lens p 0 + 2) r) (sym (put.others p other))
-        (ask_rows_other lens pulls fan p (get_or lens p 0 + 2) (get_or old p []) (all.each p there) (λ from. other (sym from)))
+        subst (λ (h : AskRows). HoldsAsks system fans p (get_or lens p 0 + 2) h) (sym (put.others p other))
+        (holds_other lens pulls fan fans p (get_or lens p 0 + 2) (get_or old p no_rows) (all.each p there) (λ from. other (sym from)))
   ];
 }
   where
@@ -96,17 +123,17 @@ all_raised lens pulls fan old new now all put rows = record {
     system = record { lens = lens; pulls = pulls ++ pulls_of_fan fan }
 
 -- the rows of asks of one process more
-pub asks_more : (system : SystemView) (process : ℕ) (old new : List (List ℕ)) (rows : List ℕ) → length old ≡ process → new ≡ old ++ rows ∷ []
-    → ((p : ℕ) → p < process → AreAskRows system p (get_or system.lens p 0 + 2) (get_or old p [])) → AreAskRows system process (get_or system.lens process 0 + 2) rows
-    → (p : ℕ) → p < process + 1 → AreAskRows system p (get_or system.lens p 0 + 2) (get_or new p [])
-asks_more system process old new rows size is before here p there = elim (within_one p process there) [
+pub asks_more : (system : SystemView) (fans : List FanView) (process : ℕ) (old new : List AskRows) (held : AskRows) → length old ≡ process → new ≡ old ++ held ∷ []
+    → ((p : ℕ) → p < process → HoldsAsks system fans p (get_or system.lens p 0 + 2) (get_or old p no_rows)) → HoldsAsks system fans process (get_or system.lens process 0 + 2) held
+    → (p : ℕ) → p < process + 1 → HoldsAsks system fans p (get_or system.lens p 0 + 2) (get_or new p no_rows)
+asks_more system fans process old new held size is before here p there = elim (within_one p process there) [
   | inl less ↦
-      let P : List ℕ → Type 0 = λ r. AreAskRows system p (get_or system.lens p 0 + 2) r in
-      subst P (sym (ap (λ (list : List (List ℕ)). get_or list p []) is ∙ get_or-append old (rows ∷ []) [] p (omega (arith, less, size)))) (before p less)
+      let P : AskRows → Type 0 = λ h. HoldsAsks system fans p (get_or system.lens p 0 + 2) h in
+      subst P (sym (ap (λ (list : List AskRows). get_or list p no_rows) is ∙ get_or-append old (held ∷ []) no_rows p (omega (arith, less, size)))) (before p less)
   | inr same ↦
-      let P : ℕ → Type 0 = λ q. AreAskRows system q (get_or system.lens q 0 + 2) (get_or new q []) in
-      let Q : List ℕ → Type 0 = λ r. AreAskRows system process (get_or system.lens process 0 + 2) r in
-      subst P (sym same) (subst Q (sym (ap (λ (list : List (List ℕ)). get_or list process []) is ∙ get_or_push old rows [] process size)) here)
+      let P : ℕ → Type 0 = λ q. HoldsAsks system fans q (get_or system.lens q 0 + 2) (get_or new q no_rows) in
+      let Q : AskRows → Type 0 = λ h. HoldsAsks system fans process (get_or system.lens process 0 + 2) h in
+      subst P (sym same) (subst Q (sym (ap (λ (list : List AskRows). get_or list process no_rows) is ∙ get_or_push old held no_rows process size)) here)
 ]
 
 -- ---- numbers
@@ -169,7 +196,7 @@ numbers_all ps qs process (suc k) all h =
     ]
 
 pub numbers_pushed : (lens : List ℕ) (pulls : List Pull) (fan : FanView) (old new : List (List ℕ)) → fan.src < length lens → AreBySource record { lens = lens; pulls = pulls } old
-    → IsPutAt old new fan.src (get_or old fan.src [] ++ range_with_len (length pulls) (length fan.targets)) → AreBySource record { lens = lens; pulls = pulls ++ pulls_of_fan fan } new
+    → IsPutAt [] old new fan.src (get_or old fan.src [] ++ range_with_len (length pulls) (length fan.targets)) → AreBySource record { lens = lens; pulls = pulls ++ pulls_of_fan fan } new
 numbers_pushed lens pulls fan old new below by put = record {
   count = put.size ∙ by.count;
   each = λ p there. elim (same_or_not p fan.src) [
@@ -232,16 +259,31 @@ asks_stay lens ps qs process values rows others are = record {
           absurd (All-get_or (IsFromOther process) qs i no_pull inside others (ap (λ (p : Pull). p.src) (sym behind) ∙ by.from))
     ]
 
+-- what is held stays where the others don't come from the process and the fan that is held, if one is, stays
+holds_stay : (lens : List ℕ) (ps qs : List Pull) (fans : List FanView) (stay process values : ℕ) (held : AskRows) → All (IsFromOther process) qs → StaysWith stay held → stay ≤ length fans → HoldsAsks record { lens = lens; pulls = ps ++ qs } fans process values held
+    → HoldsAsks record { lens = lens; pulls = ps } (take stay fans) process values held
+holds_stay lens ps qs fans stay process values (Own rows) others stays few is = asks_stay lens ps qs process values rows others is
+holds_stay lens ps qs fans stay process values (OfFan number) others stays few is =
+    let below : number < stay = stays number refl in
+    let P : FanView → Type 0 = λ fan. HasProcessRows fan (length lens) values in
+    let Q : FanView → Type 0 = λ fan. (rows : List ℕ) → AreFanRows fan (length lens) values rows → AreAskRows record { lens = lens; pulls = ps } process values rows in
+    let same : fan_at fans number ≡ fan_at (take stay fans) number = sym (get_or-take stay fans number no_fan below) in
+    record {
+      there = omega (arith, below, few, length-take stay fans);
+      has = subst P same is.has;
+      rows = subst Q same (λ rows are. asks_stay lens ps qs process values rows others (is.rows rows are));
+    }
+
 -- the processes before this one have what the first fans say, the others what all say
-pub record AreForgotten (lens : List ℕ) (fans : List FanView) (stay process : ℕ) (by_source asks : List (List ℕ)) : Type 0 where
+pub record AreForgotten (lens : List ℕ) (fans : List FanView) (stay process : ℕ) (by_source : List (List ℕ)) (asks : List AskRows) : Type 0 where
   pub numbers : length by_source ≡ length lens
   pub count : length asks ≡ length lens
   pub sources : (p : ℕ) → p < process → get_or by_source p [] ≡ numbers_from (pulls_of_fans (take stay fans)) p (length (pulls_of_fans (take stay fans)))
-  pub rows : (p : ℕ) → p < process → AreAskRows (first_system lens fans stay) p (get_or lens p 0 + 2) (get_or asks p [])
+  pub rows : (p : ℕ) → p < process → HoldsAsks (first_system lens fans stay) (take stay fans) p (get_or lens p 0 + 2) (get_or asks p no_rows)
   pub sources_left : (p : ℕ) → process ≤ p → p < length lens → get_or by_source p [] ≡ numbers_from (pulls_of_fans fans) p (length (pulls_of_fans fans))
-  pub rows_left : (p : ℕ) → process ≤ p → p < length lens → AreAskRows record { lens = lens; pulls = pulls_of_fans fans } p (get_or lens p 0 + 2) (get_or asks p [])
+  pub rows_left : (p : ℕ) → process ≤ p → p < length lens → HoldsAsks record { lens = lens; pulls = pulls_of_fans fans } fans p (get_or lens p 0 + 2) (get_or asks p no_rows)
 
-pub none_forgotten : (lens : List ℕ) (fans : List FanView) (stay : ℕ) (by_source asks : List (List ℕ)) → AreBySource record { lens = lens; pulls = pulls_of_fans fans } by_source → AreAllAsks record { lens = lens; pulls = pulls_of_fans fans } asks
+pub none_forgotten : (lens : List ℕ) (fans : List FanView) (stay : ℕ) (by_source : List (List ℕ)) (asks : List AskRows) → AreBySource record { lens = lens; pulls = pulls_of_fans fans } by_source → AreAllAsks record { lens = lens; pulls = pulls_of_fans fans } fans asks
     → AreForgotten lens fans stay 0 by_source asks
 none_forgotten lens fans stay by_source asks by all = record {
   numbers = by.count;
@@ -252,10 +294,10 @@ none_forgotten lens fans stay by_source asks by all = record {
   rows_left = λ p from there. all.each p there;
 }
 
--- a process that no other fan comes from keeps what it has
-pub forgets_nothing : (lens : List ℕ) (fans : List FanView) (stay process : ℕ) (by_source asks : List (List ℕ)) → AreForgotten lens fans stay process by_source asks → process < length lens → All (IsFromOther process) (pulls_of_fans (drop stay fans))
-    → AreForgotten lens fans stay (process + 1) by_source asks
-forgets_nothing lens fans stay process by_source asks so_far there none = record {
+-- a process that no other fan comes from, and whose rows are not those of another, keeps what it has
+pub forgets_nothing : (lens : List ℕ) (fans : List FanView) (stay process : ℕ) (by_source : List (List ℕ)) (asks : List AskRows) → AreForgotten lens fans stay process by_source asks → process < length lens → stay ≤ length fans
+    → All (IsFromOther process) (pulls_of_fans (drop stay fans)) → StaysWith stay (get_or asks process no_rows) → AreForgotten lens fans stay (process + 1) by_source asks
+forgets_nothing lens fans stay process by_source asks so_far there few none stays = record {
   numbers = so_far.numbers;
   count = so_far.count;
   sources = λ p below. elim (within_one p process below) [
@@ -267,9 +309,9 @@ forgets_nothing lens fans stay process by_source asks so_far there none = record
   rows = λ p below. elim (within_one p process below) [
     | inl less ↦ so_far.rows p less
     | inr same ↦
-        let P : ℕ → Type 0 = λ q. AreAskRows (first_system lens fans stay) q (get_or lens q 0 + 2) (get_or asks q []) in
-        let Q : List Pull → Type 0 = λ list. AreAskRows record { lens = lens; pulls = list } process (get_or lens process 0 + 2) (get_or asks process []) in
-        subst P (sym same) (asks_stay lens ps qs process (get_or lens process 0 + 2) (get_or asks process []) none (subst Q split (so_far.rows_left process (omega arith) there)))
+        let P : ℕ → Type 0 = λ q. HoldsAsks (first_system lens fans stay) (take stay fans) q (get_or lens q 0 + 2) (get_or asks q no_rows) in
+        let Q : List Pull → Type 0 = λ list. HoldsAsks record { lens = lens; pulls = list } fans process (get_or lens process 0 + 2) (get_or asks process no_rows) in
+        subst P (sym same) (holds_stay lens ps qs fans stay process (get_or lens process 0 + 2) (get_or asks process no_rows) none stays few (subst Q split (so_far.rows_left process (omega arith) there)))
   ];
   sources_left = λ p from inside. so_far.sources_left p (omega arith) inside;
   rows_left = λ p from inside. so_far.rows_left p (omega arith) inside;
@@ -285,10 +327,10 @@ forgets_nothing lens fans stay process by_source asks so_far there none = record
     split = split_pulls fans stay
 
 -- of another both are made anew
-pub forgets : (lens : List ℕ) (fans : List FanView) (stay process : ℕ) (by_source asks by_new asks_new : List (List ℕ)) (numbers rows : List ℕ) → AreForgotten lens fans stay process by_source asks
-    → IsPutAt by_source by_new process numbers → IsPutAt asks asks_new process rows → numbers ≡ numbers_from (pulls_of_fans (take stay fans)) process (length (pulls_of_fans (take stay fans)))
-    → AreAskRows (first_system lens fans stay) process (get_or lens process 0 + 2) rows → AreForgotten lens fans stay (process + 1) by_new asks_new
-forgets lens fans stay process by_source asks by_new asks_new numbers rows so_far by put made asked = record {
+pub forgets : (lens : List ℕ) (fans : List FanView) (stay process : ℕ) (by_source by_new : List (List ℕ)) (asks asks_new : List AskRows) (numbers : List ℕ) (held : AskRows) → AreForgotten lens fans stay process by_source asks
+    → IsPutAt [] by_source by_new process numbers → IsPutAt no_rows asks asks_new process held → numbers ≡ numbers_from (pulls_of_fans (take stay fans)) process (length (pulls_of_fans (take stay fans)))
+    → HoldsAsks (first_system lens fans stay) (take stay fans) process (get_or lens process 0 + 2) held → AreForgotten lens fans stay (process + 1) by_new asks_new
+forgets lens fans stay process by_source by_new asks asks_new numbers held so_far by put made holds = record {
   numbers = by.size ∙ so_far.numbers;
   count = put.size ∙ so_far.count;
   sources = λ p below. elim (within_one p process below) [
@@ -298,15 +340,15 @@ forgets lens fans stay process by_source asks by_new asks_new numbers rows so_fa
         subst P (sym same) (by.here ∙ made)
   ];
   rows = λ p below. elim (within_one p process below) [
-    | inl less ↦ let Q : List ℕ → Type 0 = λ r. AreAskRows (first_system lens fans stay) p (get_or lens p 0 + 2) r in subst Q (sym (put.others p (λ e. absurd (omega (arith, e, less))))) (so_far.rows p less)
+    | inl less ↦ let Q : AskRows → Type 0 = λ h. HoldsAsks (first_system lens fans stay) (take stay fans) p (get_or lens p 0 + 2) h in subst Q (sym (put.others p (λ e. absurd (omega (arith, e, less))))) (so_far.rows p less)
     | inr same ↦
-        let P : ℕ → Type 0 = λ q. AreAskRows (first_system lens fans stay) q (get_or lens q 0 + 2) (get_or asks_new q []) in
-        let Q : List ℕ → Type 0 = λ r. AreAskRows (first_system lens fans stay) process (get_or lens process 0 + 2) r in
-        subst P (sym same) (subst Q (sym put.here) asked)
+        let P : ℕ → Type 0 = λ q. HoldsAsks (first_system lens fans stay) (take stay fans) q (get_or lens q 0 + 2) (get_or asks_new q no_rows) in
+        let Q : AskRows → Type 0 = λ h. HoldsAsks (first_system lens fans stay) (take stay fans) process (get_or lens process 0 + 2) h in
+        subst P (sym same) (subst Q (sym put.here) holds)
   ];
   sources_left = λ p from inside. by.others p (λ e. absurd (omega (arith, e, from))) ∙ so_far.sources_left p (omega arith) inside;
   rows_left = λ p from inside.
-      let Q : List ℕ → Type 0 = λ r. AreAskRows record { lens = lens; pulls = pulls_of_fans fans } p (get_or lens p 0 + 2) r in
+      let Q : AskRows → Type 0 = λ h. HoldsAsks record { lens = lens; pulls = pulls_of_fans fans } fans p (get_or lens p 0 + 2) h in
       subst Q (sym (put.others p (λ e. absurd (omega (arith, e, from))))) (so_far.rows_left p (omega arith) inside);
 }
 
@@ -363,15 +405,30 @@ places_wider fans others places pulls are = record {
       };
 }
 
+-- what is held stays as it is where fans are put behind the others
+holds_wider : (system : SystemView) (fans others : List FanView) (process values : ℕ) (held : AskRows) → HoldsAsks system fans process values held → HoldsAsks system (fans ++ others) process values held
+holds_wider system fans others process values (Own rows) is = is
+holds_wider system fans others process values (OfFan number) is =
+    let P : FanView → Type 0 = λ fan. HasProcessRows fan (length system.lens) values in
+    let Q : FanView → Type 0 = λ fan. (rows : List ℕ) → AreFanRows fan (length system.lens) values rows → AreAskRows system process values rows in
+    let same : fan_at fans number ≡ fan_at (fans ++ others) number = sym (get_or-append fans others no_fan number is.there) in
+    record { there = omega (arith, is.there, length-append fans others); has = subst P same is.has; rows = subst Q same is.rows }
+
+all_wider : (system : SystemView) (fans others : List FanView) (asks : List AskRows) → AreAllAsks system fans asks → AreAllAsks system (fans ++ others) asks
+all_wider system fans others asks all = record {
+  count = all.count;
+  each = λ process there. holds_wider system fans others process (get_or system.lens process 0 + 2) (get_or asks process no_rows) (all.each process there);
+}
+
 -- what was known of fans is known of them where others stand behind
-pub known_before : (lens : List ℕ) (own others fans : List FanView) (places : List Place) (by_source asks : List (List ℕ)) → fans ≡ own ++ others → ArePlaces own places (pulls_of_fans own) → AreBySource record { lens = lens; pulls = pulls_of_fans own } by_source
-    → AreAllAsks record { lens = lens; pulls = pulls_of_fans own } asks → IsKnown lens fans (length own) places by_source asks
+pub known_before : (lens : List ℕ) (own others fans : List FanView) (places : List Place) (by_source : List (List ℕ)) (asks : List AskRows) → fans ≡ own ++ others → ArePlaces own places (pulls_of_fans own) → AreBySource record { lens = lens; pulls = pulls_of_fans own } by_source
+    → AreAllAsks record { lens = lens; pulls = pulls_of_fans own } own asks → IsKnown lens fans (length own) places by_source asks
 known_before lens own others fans places by_source asks is places_are numbers rows =
     subst (λ (fs : List FanView). IsKnown lens fs (length own) places by_source asks) (sym is) record {
       there = omega (arith, length-append own others);
       places_are = subst (ArePlaces (own ++ others) places) (ap pulls_of_fans own_is) (places_wider own others places (pulls_of_fans own) places_are);
       numbers = subst (λ (fs : List FanView). AreBySource record { lens = lens; pulls = pulls_of_fans fs } by_source) own_is numbers;
-      rows = subst (λ (fs : List FanView). AreAllAsks record { lens = lens; pulls = pulls_of_fans fs } asks) own_is rows;
+      rows = subst (λ (fs : List FanView). AreAllAsks record { lens = lens; pulls = pulls_of_fans fs } (own ++ others) asks) own_is (all_wider record { lens = lens; pulls = pulls_of_fans own } own others asks rows);
     }
   where
     own_is : own ≡ take (length own) (own ++ others)
@@ -389,16 +446,16 @@ joined_is lens own others fans is system fit count =
     }
 
 -- what is known of all fans
-pub record AllKnown (lens : List ℕ) (fans : List FanView) (places : List Place) (by_source asks : List (List ℕ)) : Type 0 where
+pub record AllKnown (lens : List ℕ) (fans : List FanView) (places : List Place) (by_source : List (List ℕ)) (asks : List AskRows) : Type 0 where
   pub places_are : ArePlaces fans places (pulls_of_fans fans)
   pub numbers : AreBySource record { lens = lens; pulls = pulls_of_fans fans } by_source
-  pub rows : AreAllAsks record { lens = lens; pulls = pulls_of_fans fans } asks
+  pub rows : AreAllAsks record { lens = lens; pulls = pulls_of_fans fans } fans asks
 
-pub known_all : (lens : List ℕ) (fans : List FanView) (places : List Place) (by_source asks : List (List ℕ)) → IsKnown lens fans (length fans) places by_source asks → AllKnown lens fans places by_source asks
+pub known_all : (lens : List ℕ) (fans : List FanView) (places : List Place) (by_source : List (List ℕ)) (asks : List AskRows) → IsKnown lens fans (length fans) places by_source asks → AllKnown lens fans places by_source asks
 known_all lens fans places by_source asks known = record {
   places_are = subst (λ (fs : List FanView). ArePlaces fans places (pulls_of_fans fs)) whole known.places_are;
   numbers = subst (λ (fs : List FanView). AreBySource record { lens = lens; pulls = pulls_of_fans fs } by_source) whole known.numbers;
-  rows = subst (λ (fs : List FanView). AreAllAsks record { lens = lens; pulls = pulls_of_fans fs } asks) whole known.rows;
+  rows = subst (λ (fs : List FanView). AreAllAsks record { lens = lens; pulls = pulls_of_fans fs } fans asks) whole known.rows;
 }
   where
     whole : take (length fans) fans ≡ fans

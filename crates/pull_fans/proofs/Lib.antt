@@ -1,6 +1,9 @@
 pub mod Numbers
 pub mod Fans
 pub mod FirstFans
+pub mod Layouts
+pub mod LongerFans
+pub mod LoneFans
 pub mod Raising
 pub mod Placing
 pub mod Asking

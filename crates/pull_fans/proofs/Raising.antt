@@ -129,7 +129,7 @@ raised_in_next fan procs first end x begin asked before now new run so_far piece
 
 -- ---- one fan after another
 
-zeros : (n i : ℕ) → slice_index (replicate n 0) i ≡ 0
+pub zeros : (n i : ℕ) → slice_index (replicate n 0) i ≡ 0
 zeros zero i = refl
 zeros (suc n) zero = refl
 zeros (suc n) (suc i) = zeros n i

@@ -15,10 +15,6 @@ abbrev pub column : ℕ → ℕ → List ℕ → ℕ → List ℕ
 column width values entries index =
     map (λ x. get_or entries (x * width + index) 0) (range_with_len 0 values)
 
--- the columns of the first rows
-abbrev pub columns : ℕ → ℕ → List ℕ → List (List ℕ)
-columns width values entries = map (column width values entries) (range_with_len 0 width)
-
 -- the pull to the target at this index
 abbrev pub pull_of_fan : FanView → ℕ → Pull
 pull_of_fan fan i =

@@ -1,4 +1,5 @@
 pub mod Sources
 pub mod Fans
 pub mod Asks
+pub mod Growing
 pub mod inside

@@ -2,5 +2,7 @@
 pub mod Asks
 pub mod Fans
 pub mod First
+pub mod Growing
+pub mod Layouts
 pub mod Places
 pub mod Sources

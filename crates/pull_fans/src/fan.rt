@@ -1,11 +1,16 @@
 //! The pulls from one process, held side by side.
-ghost use Rattle.std.specs.Prelude.{◌≡◌, ℕ, ◌+◌, ◌*◌, ◌^◌, ◌<◌, ◌≤◌, [], ◌∷◌, ◌++◌, length};
+ghost use Rattle.std.specs.Prelude.{◌≡◌, ◌⊎◌, ℕ, ◌+◌, ◌*◌, ◌^◌, ◌<◌, ◌≤◌, [], ◌∷◌, ◌++◌, length};
 ghost use Rattle.std.specs.Prelude.{replicate, slice_index, slice_range, get_or, IfOk, OnOk, OnErr};
+ghost use Rattle.std.specs.Prelude.{IsTrue, IsFalse};
 ghost use Rattle.pull_fans.specs.Fans.{HasRow, pulls_of_fan, pulls_of_fans};
-ghost use Rattle.pull_fans.specs.inside.Fans.{entry_of};
+ghost use Rattle.pull_fans.specs.inside.Fans.{entry_of, HasProcessRows, AreFanRows, IsToAll};
+ghost use Rattle.pull_fans.specs.inside.Fans.{IsToOthers};
+ghost use Rattle.pull_fans.specs.inside.Growing.{kept_tables};
 ghost use Rattle.pull_fans.specs.inside.Asks.{AreInTurn, AreRaisedIn, AreRaised};
 ghost use Rattle.pull_system.specs.Vector.{IsMaximum};
 
+use crate::layout::{Layout, layout_of};
+use crate::narrow::push_narrow;
 use pota_base::{List, NoMemory};
 use pull_system::Pull;
 use std::alloc::Global;
@@ -17,26 +22,31 @@ use std::marker::Model;
 pub struct Fan {
     src: u32,
     targets: List<u32>,
+    layout: Layout,
+    /// How many entries a row has.
+    width: usize,
     /// How many rows there are. Rows without entries are not counted.
     values: usize,
-    /// Row by row, one entry per target.
+    /// Row by row, as the layout says.
     entries: Vec<u16>,
 }
 
 impl Model for Fan {
-    ghost use Rattle.std.specs.Prelude.{length};
-    ghost use Rattle.pull_fans.specs.Fans.{FanView, columns};
+    ghost use Rattle.pull_fans.specs.Fans.{FanView};
     ghost use Rattle.pull_fans.specs.inside.Fans.{AreEntries};
+    ghost use Rattle.pull_fans.specs.inside.Layouts.{tables_in, IsLaidOut, AreZeroAt};
 
     ghost Value = { FanView };
 
     ghost view = { λ fan. record {
       src = fan.src;
       targets = fan.targets;
-      tables = columns (length fan.targets) fan.values fan.entries.items;
+      tables = tables_in fan.layout fan.targets fan.width fan.values fan.entries.items;
     } };
 
-    ghost invariant = { λ fan. AreEntries (length fan.targets) fan.values fan.entries.items };
+    ghost invariant = { λ fan. AreEntries fan.width fan.values fan.entries.items
+        × IsLaidOut fan.layout fan.src fan.targets fan.width
+        × AreZeroAt fan.layout fan.src fan.width fan.values fan.entries.items };
 }
 
 impl Fan {
@@ -48,10 +58,14 @@ impl Fan {
           tables = replicate (length targets) [];
         }) }
     {
-        let entries = Vec::with_capacity(alloc, room.saturating_mul(targets.len()))?;
+        let layout = layout_of(src, targets.as_slice());
+        let width = layout.width(targets.as_slice());
+        let entries = Vec::with_capacity(alloc, room.saturating_mul(width))?;
         Ok(Fan {
             src,
             targets,
+            layout,
+            width,
             values: 0,
             entries,
         })
@@ -69,7 +83,7 @@ impl Fan {
         if self.targets.is_empty() {
             return Ok(());
         }
-        push_narrow(&mut self.entries, row)?;
+        self.layout.push_row(&mut self.entries, self.src, row)?;
         self.values += 1;
         Ok(())
     }
@@ -86,9 +100,30 @@ impl Fan {
         Ok(Fan {
             src: pull.src,
             targets,
+            layout: Layout::ByTarget,
+            width: 1,
             values: pull.table.len(),
             entries,
         })
+    }
+
+    /// Keeps the first so many rows.
+    pub(crate) fn keep(&mut self, count: usize)
+        ensures { self.new ≡ record self.old { tables = kept_tables count self.old } }
+    {
+        if self.values <= count {
+            return;
+        }
+        self.entries.truncate(count * self.width);
+        self.values = count;
+    }
+
+    /// Whether there are no pulls.
+    pub(crate) fn is_empty(&self) -> bool
+        ensures none { IsTrue result → self.now ≡ record self.now { targets = []; tables = [] } }
+        ensures some { IsFalse result → 0 < length self.now.targets }
+    {
+        self.targets.as_slice().is_empty()
     }
 
     /// The process that the pulls come from.
@@ -111,7 +146,39 @@ impl Fan {
         requires value { x < length (get_or self.now.tables index []) }
         ensures { result ≡ entry_of self.now index x }
     {
-        self.entries[x * self.targets.len() + index]
+        self.entries[x * self.width + self.layout.place(self.targets.as_slice(), index)]
+    }
+
+    /// The rows with what the pulls ask for, one after the other: of one entry per process, where
+    /// the pulls go to each process in turn, or to each but their source.
+    pub(crate) fn rows(&self) -> &[u16]
+        ensures { (procs count : ℕ) → HasProcessRows self.now procs count
+            → AreFanRows self.now procs count result.now }
+    {
+        self.entries.as_slice()
+    }
+
+    /// Whether the pulls go to each process in turn.
+    fn goes_to_all(&self, procs: u32) -> bool
+        ensures { IsTrue result → IsToAll self.now procs }
+    {
+        let targets = self.targets.as_slice();
+        for i in 0..targets.len() {
+            if targets[i] as usize != i {
+                return false;
+            }
+        }
+        targets.len() == procs as usize
+    }
+
+    /// Whether the pulls go to each process in turn, or to each but their source.
+    pub(crate) fn goes_around(&self, procs: u32) -> bool
+        ensures { IsTrue result → IsToAll self.now procs ⊎ IsToOthers self.now procs }
+    {
+        match self.layout {
+            Layout::ByTarget => self.goes_to_all(procs),
+            Layout::ByProcess => self.width == procs as usize,
+        }
     }
 
     /// Raises the rows of so many values, with one entry per process, to what the pulls ask there.
@@ -143,10 +210,12 @@ impl Fan {
         requires room { values * procs ≤ length rows.old }
         ensures { AreRaisedIn self.now procs first end values rows.old rows.new }
     {
-        let width = self.targets.len();
-        let target = self.targets.as_slice()[first] as usize;
+        let targets = self.targets.as_slice();
+        let target = targets[first] as usize;
+        let place = self.layout.place(targets, first);
         for x in 0..values {
-            let asked = &row_of(self.entries.as_slice(), x, width)[first..end];
+            let row = row_of(self.entries.as_slice(), x, self.width);
+            let asked = &row[place..place + (end - first)];
             let begin = x * procs + target;
             raise_each(&mut rows[begin..begin + asked.len()], asked);
         }
@@ -169,10 +238,10 @@ impl Fan {
         requires { index < length self.now.targets }
         ensures { IfOk result (λ table. table ≡ get_or self.now.tables index []) }
     {
-        let width = self.targets.len();
+        let place = self.layout.place(self.targets.as_slice(), index);
         let mut table = List::with_capacity(alloc, self.values)?;
         for x in 0..self.values {
-            table.push(self.entries[x * width + index] as u32)?;
+            table.push(self.entries[x * self.width + place] as u32)?;
         }
         Ok(table)
     }
@@ -218,29 +287,5 @@ fn raise_each(row: &mut [u16], asked: &[u16])
 {
     for i in 0..asked.len() {
         row[i] = row[i].max(asked[i]);
-    }
-}
-
-/// Appends the numbers of the row, which fit 16 bits. Without memory for all of them none is
-/// appended.
-fn push_narrow(entries: &mut Vec<u16>, row: &[u32]) -> Result<(), NoMemory>
-    requires { (i : ℕ) → slice_index row.now i < 2 ^ 16 }
-    ensures ok { OnOk result (entries.new.items ≡ entries.old.items ++ row.now) }
-    ensures err { OnErr result (entries.new.items ≡ entries.old.items) }
-{
-    let begin = entries.len();
-    entries.resize(begin + row.len(), 0)?;
-    narrow(row, &mut entries[begin..]);
-    Ok(())
-}
-
-/// Writes the numbers of the row, which fit 16 bits.
-fn narrow(row: &[u32], places: &mut [u16])
-    requires size { length row.now ≡ length places.old }
-    requires entries { (i : ℕ) → slice_index row.now i < 2 ^ 16 }
-    ensures { places.new ≡ row.now }
-{
-    for (i, &entry) in row.iter().enumerate() {
-        places[i] = entry as u16;
     }
 }

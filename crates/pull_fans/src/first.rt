@@ -1,14 +1,14 @@
 //! The first fans of a system: more put behind them, and the others taken off.
-ghost use Rattle.std.specs.Prelude.{◌≡◌, ◌<◌, ◌≤◌, ◌++◌, false, length, take, All, IfOk, IfSome};
-ghost use Rattle.std.specs.Prelude.{OnOk};
+ghost use Rattle.std.specs.Prelude.{◌≡◌, ◌≤◌, ◌++◌, length, take, All, IsTrue, IfOk, IfSome, OnOk};
 ghost use Rattle.pull_system.specs.System.{IsSystem};
 ghost use Rattle.pull_fans.specs.Fans.{pulls_of_fans};
-ghost use Rattle.pull_fans.specs.inside.Asks.{AreAllAsks};
+ghost use Rattle.pull_fans.specs.inside.Asks.{AreAllAsks, StaysWith};
 ghost use Rattle.pull_fans.specs.inside.First.{first_system, HavePulls, IsFromOther, IsKnown};
 ghost use Rattle.pull_fans.specs.inside.Sources.{AreBySource};
 
-use crate::asks::{ask_rows, raise_asks};
+use crate::asks::{AskRows, held_asks, raise_asks};
 use crate::fan::{Fan, pulls_of};
+use crate::lone::first_from;
 use crate::places::{Place, numbers_from, places_of, push_numbers, push_places};
 use pota_base::{List, NoMemory, Shape};
 use pull_system::Pull;
@@ -63,16 +63,13 @@ pub(crate) fn first_pulls(
     Ok(first_of(pulls_of(alloc, fans.as_slice())?, count))
 }
 
-/// Whether some pull of the fans comes from the process.
-fn come_from(fans: &[Fan], process: u32) -> bool
-    ensures { result ≡ false → All (IsFromOther process) (pulls_of_fans fans.now) }
+/// Whether what is held of a process's rows of asks stays as it is without the other fans, those
+/// behind the first so many: none of their pulls comes from it, and its rows are none of theirs.
+fn keeps_asks(others: &[Fan], stay: usize, process: u32, held: &AskRows) -> bool
+    ensures from { IsTrue result → All (IsFromOther process) (pulls_of_fans others.now) }
+    ensures held { IsTrue result → StaysWith stay held.now }
 {
-    for fan in fans {
-        if fan.source() == process {
-            return true;
-        }
-    }
-    false
+    first_from(others, process).is_none() && held.stays_with(stay)
 }
 
 /// Takes up the pulls of the fans behind the first so many: their places, their numbers, and what
@@ -84,7 +81,7 @@ pub(crate) fn learn_behind(
     known: usize,
     places: &mut List<Place>,
     by_source: &mut List<List<u32>>,
-    asks: &mut List<List<u16>>,
+    asks: &mut List<AskRows>,
 ) -> Result<(), NoMemory>
     requires system { IsSystem record { lens = shape.now; pulls = pulls_of_fans fans.now } }
     requires known { IsKnown shape.now fans.now known places.old by_source.old asks.old }
@@ -94,40 +91,41 @@ pub(crate) fn learn_behind(
     for number in known..fans.len() {
         push_numbers(alloc, shape, fans, number, places.len(), by_source)?;
         push_places(number, &fans[number], places)?;
-        raise_asks(alloc, shape, fans, number, asks);
+        raise_asks(alloc, shape, fans, number, asks)?;
     }
     Ok(())
 }
 
 /// Forgets the pulls of the fans behind the first so many: makes anew the numbers of the pulls and
-/// the rows of asks of the processes that they come from.
+/// the rows of asks of the processes that they come from, and of those whose rows are theirs.
 pub(crate) fn forget_behind(
     alloc: Global,
     shape: &Shape,
     fans: &[Fan],
     stay: usize,
     by_source: &mut List<List<u32>>,
-    asks: &mut List<List<u16>>,
+    asks: &mut List<AskRows>,
 ) -> Result<(), NoMemory>
     requires system { IsSystem record { lens = shape.now; pulls = pulls_of_fans fans.now } }
     requires stay { stay ≤ length fans.now }
     requires numbers { AreBySource record { lens = shape.now; pulls = pulls_of_fans fans.now }
         by_source.old }
-    requires asks { AreAllAsks record { lens = shape.now; pulls = pulls_of_fans fans.now }
+    requires asks { AreAllAsks record { lens = shape.now; pulls = pulls_of_fans fans.now } fans.now
         asks.old }
     ensures numbers { OnOk result
         (AreBySource (first_system shape.now fans.now stay) by_source.new) }
-    ensures asks { OnOk result (AreAllAsks (first_system shape.now fans.now stay) asks.new) }
+    ensures asks { OnOk result
+        (AreAllAsks (first_system shape.now fans.now stay) (take stay fans.now) asks.new) }
 {
     let (first, others) = fans.split_at(stay);
     let places = places_of(alloc, first)?;
     for process in 0..shape.procs() {
-        if !come_from(others, process) {
+        if keeps_asks(others, stay, process, asks.get(process as usize)) {
             continue;
         }
         let numbers = numbers_from(alloc, process, first, places.as_slice())?;
         drop(by_source.replace(process as usize, numbers));
-        let rows = ask_rows(alloc, shape, first, process)?;
+        let rows = held_asks(alloc, shape, first, process)?;
         drop(asks.replace(process as usize, rows));
     }
     Ok(())

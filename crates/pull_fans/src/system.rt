@@ -3,10 +3,12 @@ ghost use Rattle.std.specs.Prelude.{slice_index, All, IsTrue, IfOk, []};
 ghost use Rattle.pull_system.specs.System.{IsPull, HoldsPull};
 ghost use Rattle.pull_fans.specs.Sources.{numbers_from};
 ghost use Rattle.pull_fans.specs.Fans.{pulls_of_fans};
+ghost use Rattle.pull_fans.specs.Growing.{grown_pulls};
 
-use crate::asks::all_asks;
+use crate::asks::{AskRows, all_asks};
 use crate::fan::{Fan, row_of};
 use crate::first::{fans_with, first_of, first_pulls, forget_behind, joined, learn_behind};
+use crate::growing::grown_fans;
 use crate::places::{Place, places_of, sort_by_source};
 use pota_base::{List, NoMemory, Shape, Steps};
 use pull_system::Pull;
@@ -25,8 +27,8 @@ pub struct System {
     /// The numbers of each process's outgoing pulls.
     by_source: List<List<u32>>,
     /// For each process one row per value of its component, of one entry per target: the most that
-    /// a pull asks of it, 0 for none.
-    asks: List<List<u16>>,
+    /// a pull asks of it, 0 for none. These may be the rows of a fan.
+    asks: List<AskRows>,
 }
 
 impl Model for System {
@@ -45,7 +47,7 @@ impl Model for System {
         × ArePlaces system.fans system.places (pulls_of_fans system.fans)
         × AreBySource record { lens = system.shape; pulls = pulls_of_fans system.fans }
         system.by_source
-        × AreAllAsks record { lens = system.shape; pulls = pulls_of_fans system.fans }
+        × AreAllAsks record { lens = system.shape; pulls = pulls_of_fans system.fans } system.fans
         system.asks };
 }
 
@@ -55,6 +57,7 @@ impl System {
     ghost use Rattle.pull_system.specs.System.{SystemView, IsSystem, IsClosed, pull_at, ask};
     ghost use Rattle.pull_system.specs.System.{source_of, target_of};
     ghost use Rattle.pull_fans.specs.Asks.{AreAsks};
+    ghost use Rattle.pull_fans.specs.inside.Asks.{AreAskRows};
 
     /// The system of these pulls, of which there are fewer than 2^32. They keep their order.
     pub fn new(alloc: Global, shape: &Shape, pulls: List<Pull>) -> Result<System, NoMemory>
@@ -158,6 +161,36 @@ impl System {
         })
     }
 
+    /// The system of the same pulls on a longer shape. Of each table the first entries stay, one for
+    /// each value up to the source's old length. Behind them come those that `more` has for its
+    /// source and target, by rows of one entry per process.
+    pub fn grown(self, alloc: Global, shape: &Shape, more: &[List<u32>]) -> Result<System, NoMemory>
+        requires procs { length shape.now ≡ length self.lens }
+        requires rows { length more.now ≡ length self.lens }
+        requires pulls { All (IsPull shape.now) (grown_pulls self.lens more.now self.pulls) }
+        ensures { IfOk result (λ system. system
+            ≡ record { lens = shape.now; pulls = grown_pulls self.lens more.now self.pulls }) }
+    {
+        let shape = shape.copy(alloc)?;
+        let System {
+            shape: before,
+            fans,
+            places,
+            by_source,
+            asks,
+        } = self;
+        drop(asks);
+        let fans = grown_fans(alloc, &before, fans, more)?;
+        let asks = all_asks(alloc, &shape, &fans)?;
+        Ok(System {
+            shape,
+            fans,
+            places,
+            by_source,
+            asks,
+        })
+    }
+
     /// The entry `x` of the table of pull `k`; counts one step.
     pub fn pull<L: Ledger>(&self, k: u32, x: u64, steps: &mut Steps<L>) -> u64
         requires pull { k < length self.now.pulls }
@@ -183,8 +216,22 @@ impl System {
         ensures system { IsSystem self.now }
     {
         count_looks(self.pulls_from(process).len(), steps);
-        let rows = self.asks.get(process as usize);
-        row_of(rows.as_slice(), x as usize, self.shape.procs() as usize)
+        row_of(
+            self.ask_rows(process),
+            x as usize,
+            self.shape.procs() as usize,
+        )
+    }
+
+    /// The rows of asks of the process, one after the other.
+    fn ask_rows(&self, process: u32) -> &[u16]
+        requires { process < length self.now.lens }
+        ensures { AreAskRows self.now process (slice_index self.now.lens process + 2) result.now }
+    {
+        match self.asks.get(process as usize) {
+            AskRows::Own(rows) => rows.as_slice(),
+            AskRows::OfFan(number) => self.fans.get(*number).rows(),
+        }
     }
 
     /// The source and the target of pull `k`. It reads no table.

@@ -269,6 +269,148 @@ fn no_pull_may_be_kept_and_all(rt: HostRuntime) -> Result<(), Fail> {
     Ok(())
 }
 
+/// Three processes with three, two and one events. The fan from process 0 goes to each process in
+/// turn and is its only one; that from process 1 to each too, but not in turn.
+fn lone_fans(rt: &impl Abort, alloc: Global) -> Result<System, NoMemory> {
+    let shape = Shape::new(alloc, &[3, 2, 1])?;
+    let mut fans = List::new(alloc);
+    let rows: [&[u32]; 4] = [&[0, 0, 0], &[1, 2, 0], &[2, 3, 1], &[3, 4, 2]];
+    fans.push(fan(rt, alloc, 1, &[1, 0, 2], &rows)?)?;
+    let rows: [&[u32]; 5] = [&[0, 0, 0], &[1, 0, 0], &[2, 1, 0], &[3, 1, 1], &[4, 3, 2]];
+    fans.push(fan(rt, alloc, 0, &[0, 1, 2], &rows)?)?;
+    let pulls = pulls_of(alloc, fans.as_slice())?;
+    assert!(rt; all_fit(pulls.as_slice(), &shape));
+    assert!(rt; pulls.len() == 6);
+    System::of_fans(alloc, &shape, fans)
+}
+
+/// That the fans to all processes are all that is asked.
+fn has_lone_fans(rt: &impl Abort, system: &System) {
+    assert!(rt; system.pulls() == 6);
+    assert!(rt; system.shape().procs() == 3);
+    for (process, x, target, asked) in [
+        (0, 0, 2, 0),
+        (0, 1, 0, 1),
+        (0, 1, 1, 0),
+        (0, 3, 1, 1),
+        (0, 4, 0, 4),
+        (0, 4, 2, 2),
+        (1, 1, 0, 2),
+        (1, 1, 1, 1),
+        (1, 2, 2, 1),
+        (2, 1, 0, 0),
+    ] {
+        assert_eq!(rt;
+            asked_at::<Brand>(rt, Blank::new(1), system, process, x, target),
+            asked
+        );
+    }
+}
+
+#[test]
+fn a_fan_to_all_is_what_is_asked(rt: HostRuntime) -> Result<(), Fail> {
+    has_lone_fans(&rt, &lone_fans(&rt, rt.alloc())?);
+    Ok(())
+}
+
+/// The fans to all, and behind them two more from process 0 and, between these, one from process 2
+/// to all in turn.
+fn lone_fans_and_three(rt: &impl Abort, alloc: Global) -> Result<System, NoMemory> {
+    let system = lone_fans(rt, alloc)?;
+    let mut fans = List::new(alloc);
+    let rows: [&[u32]; 5] = [&[0], &[2], &[2], &[2], &[3]];
+    fans.push(fan(rt, alloc, 0, &[1], &rows)?)?;
+    let rows: [&[u32]; 3] = [&[1, 0, 0], &[1, 2, 1], &[4, 3, 2]];
+    fans.push(fan(rt, alloc, 2, &[0, 1, 2], &rows)?)?;
+    let rows: [&[u32]; 5] = [&[0], &[0], &[1], &[2], &[2]];
+    fans.push(fan(rt, alloc, 0, &[2], &rows)?)?;
+    let pulls = pulls_of(alloc, fans.as_slice())?;
+    assert!(rt; all_fit(pulls.as_slice(), system.shape()));
+    assert!(rt; pulls.len() == 5);
+    assert!(rt; system.pulls() == 6);
+    system.with_fans(alloc, fans)
+}
+
+#[test]
+fn a_fan_behind_raises_what_a_fan_to_all_asks(rt: HostRuntime) -> Result<(), Fail> {
+    let system = lone_fans_and_three(&rt, rt.alloc())?;
+    assert!(rt; system.pulls() == 11);
+    assert!(rt; system.shape().procs() == 3);
+    assert_eq!(rt; system.pulls_from(0), [3, 4, 5, 6, 10].as_slice());
+    for (process, x, target, asked) in [
+        (0, 1, 0, 1),
+        (0, 1, 1, 2),
+        (0, 3, 1, 2),
+        (0, 3, 2, 2),
+        (1, 1, 0, 2),
+        (2, 0, 0, 1),
+        (2, 1, 1, 2),
+    ] {
+        assert_eq!(rt;
+            asked_at::<Brand>(&rt, Blank::new(1), &system, process, x, target),
+            asked
+        );
+    }
+    has_lone_fans(&rt, &system.with_first_pulls(rt.alloc(), 6)?);
+    Ok(())
+}
+
+#[test]
+fn a_fan_to_all_may_be_taken_off(rt: HostRuntime) -> Result<(), Fail> {
+    let system = lone_fans_and_three(&rt, rt.alloc())?.with_first_pulls(rt.alloc(), 7)?;
+    assert!(rt; system.pulls() == 7);
+    assert!(rt; system.shape().procs() == 3);
+    for (process, x, target, asked) in [(0, 1, 1, 2), (0, 1, 0, 1), (0, 3, 2, 1), (2, 1, 1, 0)] {
+        assert_eq!(rt;
+            asked_at::<Brand>(&rt, Blank::new(1), &system, process, x, target),
+            asked
+        );
+    }
+    let system = lone_fans(&rt, rt.alloc())?.with_first_pulls(rt.alloc(), 3)?;
+    assert!(rt; system.pulls() == 3);
+    assert!(rt; system.shape().procs() == 3);
+    for (process, x, target, asked) in [(0, 4, 0, 0), (0, 1, 0, 0), (1, 1, 0, 2)] {
+        assert_eq!(rt;
+            asked_at::<Brand>(&rt, Blank::new(1), &system, process, x, target),
+            asked
+        );
+    }
+    Ok(())
+}
+
+/// Three processes with three, two and one events. From process 1 there is a fan to both others.
+fn a_fan_to_others(rt: &impl Abort, alloc: Global) -> Result<System, NoMemory> {
+    let shape = Shape::new(alloc, &[3, 2, 1])?;
+    let mut fans = List::new(alloc);
+    let rows: [&[u32]; 4] = [&[0, 0], &[2, 0], &[3, 1], &[4, 2]];
+    fans.push(fan(rt, alloc, 1, &[0, 2], &rows)?)?;
+    let pulls = pulls_of(alloc, fans.as_slice())?;
+    assert!(rt; all_fit(pulls.as_slice(), &shape));
+    assert!(rt; pulls.len() == 2);
+    System::of_fans(alloc, &shape, fans)
+}
+
+#[test]
+fn a_fan_to_the_others_is_what_is_asked(rt: HostRuntime) -> Result<(), Fail> {
+    let system = a_fan_to_others(&rt, rt.alloc())?;
+    assert!(rt; system.pulls() == 2);
+    assert!(rt; system.shape().procs() == 3);
+    assert_eq!(rt; system.ends(1), (1, 2));
+    for (process, x, target, asked) in [
+        (1, 1, 0, 2),
+        (1, 2, 2, 1),
+        (1, 3, 1, 0),
+        (1, 3, 2, 2),
+        (0, 1, 2, 0),
+    ] {
+        assert_eq!(rt;
+            asked_at::<Brand>(&rt, Blank::new(1), &system, process, x, target),
+            asked
+        );
+    }
+    Ok(())
+}
+
 #[test]
 fn rows_grow_with_their_shape(rt: HostRuntime) -> Result<(), Fail> {
     let mut old = Rows::new(rt.alloc(), &Shape::new(rt.alloc(), &[1, 1])?)?;

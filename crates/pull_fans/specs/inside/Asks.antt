@@ -3,8 +3,11 @@ use Rattle.std.specs.Prelude.{◌≡◌, ◌≢◌, ◌⊎◌, ℕ, ◌+◌, ◌
 use Rattle.std.specs.Prelude.{slice_index, slice_index_or}
 use Rattle.pull_system.specs.System.{SystemView, source_of, target_of, ask}
 use Rattle.pull_fans.specs.Fans.{FanView}
-use Rattle.pull_fans.specs.inside.Fans.{entry_of}
+use Rattle.pull_fans.specs.inside.Fans.{entry_of, AreFanRows, HasProcessRows}
+use Rattle.pull_fans.specs.inside.Places.{fan_at}
 use Rattle.pull_fans.specs.Asks.{IsAskedBy}
+use Rattle.pull_fans.specs.declared.asks.AskRows.{AskRows}
+use Rattle.pull_fans.specs.declared.asks.AskRows.TheVariants.{Own, OfFan}
 
 -- the rows of asks of the first values of the process, one after the other
 pub record AreAskRows (system : SystemView) (process count : ℕ) (rows : List ℕ) : Type 0 where
@@ -15,12 +18,39 @@ pub record AreAskRows (system : SystemView) (process count : ℕ) (rows : List �
       → (slice_index rows (x * length system.lens + target) ≡ 0)
       ⊎ IsAskedBy system process x target (slice_index rows (x * length system.lens + target))
 
+-- the rows of the fan of this number are the rows of asks of the first values of the process
+pub record IsFanOfAsks (system : SystemView) (fans : List FanView) (process count number : ℕ)
+    : Type 0 where
+  pub there : number < length fans
+  pub has : HasProcessRows (fan_at fans number) (length system.lens) count
+  pub rows : (rows : List ℕ) → AreFanRows (fan_at fans number) (length system.lens) count rows
+      → AreAskRows system process count rows
+
+-- what is held are the rows of asks of the first values of the process, or the fan with these rows
+abbrev pub HoldsAsks : SystemView → List FanView → ℕ → ℕ → AskRows → Type 0
+HoldsAsks system fans process count (Own rows) = AreAskRows system process count rows
+HoldsAsks system fans process count (OfFan number) = IsFanOfAsks system fans process count number
+
+-- rows of their own, if such are held, are the rows of asks of the first values of the process
+abbrev pub OwnAreAsks : SystemView → ℕ → ℕ → AskRows → Type 0
+OwnAreAsks system process count held =
+    (rows : List ℕ) → held ≡ Own rows → AreAskRows system process count rows
+
+-- the fan whose rows are held, if there is one, is among the first
+abbrev pub StaysWith : ℕ → AskRows → Type 0
+StaysWith count held = (number : ℕ) → held ≡ OfFan number → number < count
+
+-- what is read where nothing is held
+abbrev pub no_rows : AskRows
+no_rows = Own []
+
 -- for each process its rows of asks, one for each value that its component may have
-pub record AreAllAsks (system : SystemView) (asks : List (List ℕ)) : Type 0 where
-  pub count : length asks ≡ length system.lens
-  pub each : (process : ℕ) → process < length system.lens
-      → AreAskRows system process (slice_index system.lens process + 2)
-      (slice_index_or asks process [])
+pub record AreAllAsks (system : SystemView) (fans : List FanView) (asks : List AskRows) : Type 0
+  where
+    pub count : length asks ≡ length system.lens
+    pub each : (process : ℕ) → process < length system.lens
+        → HoldsAsks system fans process (slice_index system.lens process + 2)
+        (slice_index_or asks process no_rows)
 
 -- a run: targets from the first index to the end, each one more than the one before. The target at
 -- the end, if there is one, is not.

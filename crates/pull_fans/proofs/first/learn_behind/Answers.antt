@@ -20,5 +20,5 @@ loop-number-preserved c =
           subst (λ (list : List Pull). ArePlaces fans c.push_places.new.places list) (sym (pulls_more fans number c.index-fans-number.result there is))
           (c.in_ok-push_places.ensures fans (pulls_of_fans (take number fans)) there is c.loop-number.invariant.places_are);
       numbers = c.in_ok-push_numbers.ensures;
-      rows = c.raise_asks.ensures;
+      rows = c.in_ok-raise_asks.ensures;
     }

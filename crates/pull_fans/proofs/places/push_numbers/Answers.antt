@@ -32,11 +32,11 @@ returns c =
     let place = c.source-process.result in
     let at : c.replace-numbers.result ≡ get_or old src [] = sym (get_or_from_slice_get old place c.replace-numbers.result [] c.replace-numbers.ensures.item) ∙ ap (λ (n : ℕ). get_or old n []) c.source-process.ensures in
     let below : place < length old = omega (arith, there.source, c.source-process.ensures, c.requires.numbers.count) in
-    let put = put_twice old c.replace-numbers.new.self new place c.new.result c.push_range.new.numbers below c.replace-numbers.ensures.list c.replace.ensures.list in
+    let put = put_twice [] old c.replace-numbers.new.self new place c.new.result c.push_range.new.numbers below c.replace-numbers.ensures.list c.replace.ensures.list in
     let item : c.push_range.new.numbers ≡ get_or old src [] ++ range_with_len (length pulls) (length fan.targets) =
     c.in_ok-push_range.ensures
     ∙ ap (λ (ns : List ℕ). ns ++ range_with_len c.args.first (length c.targets-2.result.now)) at
     ∙ ap (λ (n : ℕ). get_or old src [] ++ range_with_len n (length c.targets-2.result.now)) (sym c.requires.fans.are)
     ∙ ap (λ (ts : List ℕ). get_or old src [] ++ range_with_len (length pulls) (length ts)) c.targets-2.ensures in
-    let put_is = subst (λ (n : ℕ). IsPutAt old new n (get_or old src [] ++ range_with_len (length pulls) (length fan.targets))) c.source-process.ensures (subst (λ (r : List ℕ). IsPutAt old new place r) item put) in
+    let put_is = subst (λ (n : ℕ). IsPutAt [] old new n (get_or old src [] ++ range_with_len (length pulls) (length fan.targets))) c.source-process.ensures (subst (λ (r : List ℕ). IsPutAt [] old new place r) item put) in
     subst (λ (list : List Pull). AreBySource record { lens = c.args.shape.now; pulls = list } new) (sym there.more) (numbers_pushed c.args.shape.now pulls fan old new there.source c.requires.numbers put_is)

@@ -17,11 +17,11 @@ invariant_of-result c =
     let first : c.first_of-fans.result ≡ take stay all = c.first_of-fans.ensures in
     let same : c.as_slice-2.result.now ≡ all = c.as_slice-2.ensures in
     let numbers : AreBySource (first_system lens all stay) c.forget_behind.new.by_source = subst (λ (fs : List FanView). AreBySource (first_system lens fs stay) c.forget_behind.new.by_source) same c.in_ok-forget_behind.ensures.numbers in
-    let rows : AreAllAsks (first_system lens all stay) c.forget_behind.new.asks = subst (λ (fs : List FanView). AreAllAsks (first_system lens fs stay) c.forget_behind.new.asks) same c.in_ok-forget_behind.ensures.asks in (
+    let rows : AreAllAsks (first_system lens all stay) (take stay all) c.forget_behind.new.asks = subst (λ (fs : List FanView). AreAllAsks (first_system lens fs stay) (take stay fs) c.forget_behind.new.asks) same c.in_ok-forget_behind.ensures.asks in (
       subst (λ (fs : List FanView). IsSystem record { lens = lens; pulls = pulls_of_fans fs }) (sym first) (first_is lens all stay c.self.invariant.0),
       subst (λ (fs : List FanView). ArePlaces fs c.in_ok-places.places (pulls_of_fans fs)) c.as_slice-3.ensures c.in_ok-places.ensures,
       subst (λ (fs : List FanView). AreBySource record { lens = lens; pulls = pulls_of_fans fs } c.forget_behind.new.by_source) (sym first) numbers,
-      subst (λ (fs : List FanView). AreAllAsks record { lens = lens; pulls = pulls_of_fans fs } c.forget_behind.new.asks) (sym first) rows,
+      subst (λ (fs : List FanView). AreAllAsks record { lens = lens; pulls = pulls_of_fans fs } fs c.forget_behind.new.asks) (sym first) rows,
     )
 
 pub returns : goal.returns
