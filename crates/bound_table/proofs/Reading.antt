@@ -1,13 +1,9 @@
--- The words of all rows, read piece by piece.
-use Rattle.std.proofs.Common.{◌≡◌, ◌≢◌, ℕ, ◌+◌, ◌-◌, ◌<◌, ◌≤◌, inl, inr, List, ◌++◌, length, get_or, set, take, drop, slice_range, arith, sym, ap, ◌∙◌, get_or-set_same, length-append}
-use Rattle.std.proofs.lemmas.List.{get_or-set_other, get_or-append-add, get_or-take, get_or-drop, length-take, length-take-le, ext_get_or}
+-- The words of rows, read piece by piece.
+use Rattle.std.proofs.Common.{◌≡◌, ◌≢◌, ℕ, ◌+◌, ◌-◌, ◌<◌, ◌≤◌, inl, inr, List, ◌++◌, length, get_or, set, take, drop, slice_range, arith, sym, ap, ◌∙◌, get_or-set_same, length-append, append_assoc}
+use Rattle.std.proofs.lemmas.List.{get_or-set_other, get_or-append-add, get_or-take, get_or-drop, length-take, length-take-le, length-drop, ext_get_or, take_all, append-nil}
 use Rattle.std.proofs.Math.ListN.{get_or-append}
 use Rattle.pull_system.proofs.Climbing.{lt_or_le}
 use Rattle.bound_table.proofs.Seeing.{put_next}
-
--- the words are the first ones of the floor
-pub record AreRead (floor words : List ℕ) : Type 0 where
-  pub each : (i : ℕ) → i < length words → get_or words i 0 ≡ get_or floor i 0
 
 -- the other words are as they were
 pub word_kept : (word x : ℕ) (old new : List ℕ) → new ≡ set old word x → (k : ℕ) → k ≢ word → get_or new k 0 ≡ get_or old k 0
@@ -20,24 +16,56 @@ piece_next first i x old new piece now there room same put before =
     put_next (λ k n. n ≡ get_or new (first + k) 0) piece now i x room put (λ k below. before k below ∙ sym (word_kept (first + i) x old new same (first + k) (λ e. omega (arith, e, below))))
     (sym (ap (λ xs. get_or xs (first + i) 0) same ∙ get_or-set_same old (first + i) x 0 there))
 
--- a piece more, read from where the words end
-pub read_more : (first : ℕ) (old new words piece now : List ℕ) → first ≡ length words → AreRead old words → ((i : ℕ) → i < first → get_or new i 0 ≡ get_or old i 0)
-    → ((i : ℕ) → i < length piece → get_or piece i 0 ≡ get_or new (first + i) 0) → now ≡ words ++ piece → AreRead new now
-read_more first old new words piece now end read before here more = record {
-  each = λ i below. ap (λ xs. get_or xs i 0) more ∙ elim (lt_or_le i (length words)) [
-    | inl less ↦ get_or-append words piece 0 i less ∙ read.each i less ∙ sym (before i (omega (arith, end, less)))
-    | inr past ↦
-        let k : ℕ = i - first in
-        let at : i ≡ length words + k = omega (arith, end, past) in
-        let back : first + k ≡ i = omega (arith, end, past) in
-        ap (λ (n : ℕ). get_or (words ++ piece) n 0) at ∙ get_or-append-add words piece k 0 ∙ here k (omega (arith, end, past, below, ap length more, length-append words piece)) ∙ ap (λ (n : ℕ). get_or new n 0) back
-  ];
-}
+pub length-slice_range : (xs : List ℕ) (first last : ℕ) → last ≤ length xs → length (slice_range xs first last) ≡ last - first
+length-slice_range xs first last there = length-take-le (last - first) (drop first xs) (omega (arith, there, length-drop first xs))
 
--- with this many words read, they are the first ones of the floor
-pub read_whole : (count : ℕ) (floor words : List ℕ) → AreRead floor words → length words ≡ count → count ≤ length floor → words ≡ take count floor
-read_whole count floor words read size few =
-    ext_get_or 0 words (take count floor) (size ∙ sym (length-take-le count floor few)) (λ i below. read.each i below ∙ sym (get_or-take count floor i 0 (omega (arith, below, size))))
+pub get_or-slice_range : (xs : List ℕ) (first last i : ℕ) → i < last - first → get_or (slice_range xs first last) i 0 ≡ get_or xs (first + i) 0
+get_or-slice_range xs first last i less = get_or-take (last - first) (drop first xs) i 0 less ∙ get_or-drop first xs i 0
+
+-- a piece behind a range of a list
+pub range_next : (xs piece : List ℕ) (first last size : ℕ) → first ≤ last → last + size ≤ length xs → length piece ≡ size → ((i : ℕ) → i < length piece → get_or piece i 0 ≡ get_or xs (last + i) 0) → slice_range xs first last ++ piece ≡ slice_range xs first (last + size)
+range_next xs piece first last size from_first there width here =
+    let front : List ℕ = slice_range xs first last in
+    let front_size : length front ≡ last - first = length-slice_range xs first last (omega arith) in
+    let whole : length (slice_range xs first (last + size)) ≡ last + size - first = length-slice_range xs first (last + size) there in
+    ext_get_or 0 (front ++ piece) (slice_range xs first (last + size)) (length-append front piece ∙ omega (arith, front_size, width, whole)) (λ i below.
+    let less : i < last + size - first = omega (arith, below, length-append front piece, front_size, width) in
+    elim (lt_or_le i (length front)) [
+      | inl before ↦ get_or-append front piece 0 i before ∙ get_or-slice_range xs first last i (omega (arith, before, front_size)) ∙ sym (get_or-slice_range xs first (last + size) i less)
+      | inr past ↦
+          let k : ℕ = i - length front in
+          let at : i ≡ length front + k = omega (arith, past) in
+          let back : last + k ≡ first + i = omega (arith, past, front_size, from_first) in
+          ap (λ (n : ℕ). get_or (front ++ piece) n 0) at
+          ∙ get_or-append-add front piece k 0
+          ∙ here k (omega (arith, less, width, front_size, from_first))
+          ∙ ap (λ (n : ℕ). get_or xs n 0) back
+          ∙ sym (get_or-slice_range xs first (last + size) i less)
+    ])
+
+-- a range whose words stayed
+pub range_kept : (old new : List ℕ) (first last : ℕ) → length old ≡ length new → last ≤ length new → ((i : ℕ) → i < last → get_or new i 0 ≡ get_or old i 0) → slice_range old first last ≡ slice_range new first last
+range_kept old new first last same there kept =
+    let size : length (slice_range old first last) ≡ last - first = length-slice_range old first last (omega arith) in
+    ext_get_or 0 (slice_range old first last) (slice_range new first last) (size ∙ sym (length-slice_range new first last there)) (λ i below.
+    let less : i < last - first = omega (arith, below, size) in
+    get_or-slice_range old first last i less ∙ sym (kept (first + i) (omega (arith, less))) ∙ sym (get_or-slice_range new first last i less))
+
+-- a piece more, read behind what was read before
+pub read_more : (first last size : ℕ) (old new start words piece now : List ℕ) → words ≡ start ++ slice_range old first last → first ≤ last → last + size ≤ length new → length old ≡ length new → ((i : ℕ) → i < last → get_or new i 0 ≡ get_or old i 0)
+    → length piece ≡ size → ((i : ℕ) → i < length piece → get_or piece i 0 ≡ get_or new (last + i) 0) → now ≡ words ++ piece → now ≡ start ++ slice_range new first (last + size)
+read_more first last size old new start words piece now read from_first there same kept width here more =
+    more
+    ∙ ap (λ xs. xs ++ piece) (read ∙ ap (λ xs. start ++ xs) (range_kept old new first last same (omega arith) kept))
+    ∙ append_assoc start (slice_range new first last) piece
+    ∙ ap (λ xs. start ++ xs) (range_next new piece first last size from_first there width here)
+
+pub range_none : (xs start : List ℕ) (first last : ℕ) → last ≡ first → start ≡ start ++ slice_range xs first last
+range_none xs start first last same =
+    sym (ap (λ n. start ++ take n (drop first xs)) (let e : last - first ≡ 0 = omega arith in e) ∙ append-nil start)
+
+pub range_all : (xs : List ℕ) (first last : ℕ) → first ≡ 0 → length xs ≤ last → slice_range xs first last ≡ xs
+range_all xs first last none whole = ap (λ n. slice_range xs n last) none ∙ take_all (last - 0) xs (omega arith)
 
 -- a piece of a list, number by number
 pub range_at : (xs piece : List ℕ) (first last : ℕ) → piece ≡ slice_range xs first last → (i : ℕ) → i < length piece → get_or piece i 0 ≡ get_or xs (first + i) 0

@@ -1,5 +1,6 @@
 ghost use Rattle.std.specs.Prelude.{◌≡◌, ◌≢◌, ℕ, ◌+◌, ◌*◌, ◌<◌, ◌≤◌, List, [], ◌∷◌, ◌++◌, true};
-ghost use Rattle.std.specs.Prelude.{false, length, sum, take, slice_index, slice_set, IfOk};
+ghost use Rattle.std.specs.Prelude.{false, length, sum, slice_index, slice_range, slice_set};
+ghost use Rattle.std.specs.Prelude.{IfOk, OnOk};
 ghost use Rattle.pull_system.specs.Vector.{IsAtMost, IsMaximum};
 ghost use Rattle.pull_system.specs.System.{IsSystem};
 ghost use Rattle.pull_system.specs.Rows.{place_of};
@@ -7,7 +8,7 @@ ghost use Rattle.raise_machine.specs.declared.step.Step.TheVariants.{Lend};
 ghost use Rattle.raise_machine.specs.Bounds.{AreBounds, word_at, has_start};
 ghost use Rattle.raise_machine.specs.Machine.{is_allowed};
 ghost use Rattle.bound_table.specs.inside.Asking.{IsPullStep, IsRaised};
-ghost use Rattle.bound_table.specs.Kept.{Follows};
+ghost use Rattle.bound_table.specs.Kept.{Follows, rows_from};
 ghost use Rattle.bound_table.specs.Lending.{AreBothRows};
 ghost use Rattle.bound_table.specs.inside.Rule.{word_count};
 ghost use Rattle.bound_table.specs.Views.{KeepsClaims};
@@ -245,32 +246,64 @@ impl BoundTable {
     {
         seat.bounds();
         let shape = self.system.shape();
-        let count = (shape.events() as usize + 1) * shape.procs() as usize;
-        let words = self.load_first(alloc, seat, count)?;
+        let count = shape.events() + 1;
+        let mut words = Vec::with_capacity(alloc, count as usize * shape.procs() as usize)?;
+        self.push_rows(seat, 0, count, &mut words)?;
         Rows::from_words(alloc, shape, words)
     }
 
-    /// Reads the first words, which become the seat's floors for them.
+    /// Appends the words of so many rows from the first on, which become the seat's floors for
+    /// these rows.
+    pub fn push_rows(
+        &self,
+        seat: &mut Seat,
+        first: u32,
+        count: u32,
+        words: &mut Vec<u16>,
+    ) -> Result<(), NoMemory>
+        requires fits { seat.old.table ≡ self.now }
+        requires rows { first + count ≤ sum self.now.system.lens + 1 }
+        ensures keeps { KeepsClaims seat.old seat.new }
+        ensures words { OnOk result (words.new.items ≡ words.old.items
+            ++ rows_from self.now.system.lens seat.new.floor first count) }
+        ensures rises { IsAtMost seat.old.floor seat.new.floor }
+        ensures bounds { AreBounds self.now.system seat.new.floor }
+    {
+        let procs = self.system.shape().procs() as usize;
+        let end = (first + count) as usize * procs;
+        self.push_words(seat, first as usize * procs, end, words)
+    }
+
+    /// Appends the words from the first on up to the end, which become the seat's floors for them.
     // A piece is read into the cache and then appended at once. Pushed one by one, each word would
     // take a test for room and one for the error.
-    fn load_first(&self, alloc: Global, seat: &mut Seat, count: usize) -> Result<Vec<u16>, NoMemory>
+    fn push_words(
+        &self,
+        seat: &mut Seat,
+        first: usize,
+        end: usize,
+        words: &mut Vec<u16>,
+    ) -> Result<(), NoMemory>
         requires fits { seat.old.table ≡ self.now }
-        requires count { count ≤ word_count self.now.system.lens }
+        requires first { first ≤ end }
+        requires end { end ≤ word_count self.now.system.lens }
         ensures keeps { KeepsClaims seat.old seat.new }
-        ensures words { IfOk result (λ words. words.items ≡ take count seat.new.floor) }
+        ensures words { OnOk result (words.new.items
+            ≡ words.old.items ++ slice_range seat.new.floor first end) }
         ensures rises { IsAtMost seat.old.floor seat.new.floor }
         ensures bounds { AreBounds self.now.system seat.new.floor }
     {
         seat.bounds();
-        let mut words = Vec::with_capacity(alloc, count)?;
         let mut piece = [0; PIECE];
-        while words.len() < count {
-            let first = words.len();
-            let piece = &mut piece[..(count - first).min(PIECE)];
-            self.load_from(seat, first, piece);
+        let mut next = first;
+        while next < end {
+            let size = (end - next).min(PIECE);
+            let piece = &mut piece[..size];
+            self.load_from(seat, next, piece);
             words.extend_from_slice(piece)?;
+            next += size;
         }
-        Ok(words)
+        Ok(())
     }
 
     /// Reads the words from the first on into `into`. They become the seat's floors for them.

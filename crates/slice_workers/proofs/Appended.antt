@@ -7,22 +7,23 @@ use Rattle.std.proofs.Math.ListN.{get_or-append}
 use Rattle.std.proofs.Math.Nat.{mul-le-mul_left, mod-lt}
 use Rattle.pull_system.specs.Vector.{IsAtMost, IsVector}
 use Rattle.pull_system.specs.System.{SystemView}
-use Rattle.pull_system.specs.Rows.{AreLeastRows, row_at, start_of}
+use Rattle.pull_system.specs.Rows.{AreLeastRows, row_at, start_of, place_of}
 use Rattle.pull_system.proofs.Existence.{least_unique}
 use Rattle.pull_system.proofs.Climbing.{lt_or_le}
 use Rattle.pull_system.proofs.Starts.{get_or-row_at}
 use Rattle.pull_system.proofs.Sums.{sum-within, sum-is_vector}
 use Rattle.raise_machine.specs.Bounds.{AreBounds}
 use Rattle.raise_machine.proofs.Raising.{word_below}
-use Rattle.bound_table.specs.Kept.{Follows}
+use Rattle.bound_table.specs.Kept.{Follows, rows_from}
 use Rattle.bound_table.specs.Views.{SeatView, KeepsClaims}
 use Rattle.bound_table.proofs.Floors.{within_trans}
+use Rattle.bound_table.proofs.Reading.{length-slice_range, get_or-slice_range}
 use Rattle.slice_workers.specs.Calls.{IsPaid, HasRisen, TakesLooks, TakesOthers, TakesBehind, process_looks}
-use Rattle.slice_workers.specs.Reaching.{FinalsView, Reaches, rows_left}
+use Rattle.slice_workers.specs.Reaching.{FinalsView, Reaches, ReachesFirst, rows_left}
 use Rattle.slice_workers.specs.inside.Reaching.{IsReached}
 use Rattle.slice_workers.specs.inside.Keeping.{AreKept, KeepsUpTo, TakesBottom, TakesRows}
 use Rattle.slice_workers.specs.inside.Settling.{HasOnlyRisen}
-use Rattle.slice_workers.proofs.Reached.{reached_more, before_is, within_refl, final_seen, reached_least}
+use Rattle.slice_workers.proofs.Reached.{reaches_more, reached_more, floor_reached, before_is, within_refl, final_seen, reached_least}
 use Rattle.slice_workers.proofs.Rises.{row_paid}
 use Rattle.slice_workers.proofs.Passes.{length-left, get_or-left, total}
 
@@ -73,6 +74,61 @@ kept_push system floor count words v now kept reached same =
 
 pub kept_more : (system : SystemView) (floor now : List ℕ) (count : ℕ) (words : List ℕ) → IsAtMost floor now → AreKept system floor count words → AreKept system now count words
 kept_more system floor now count words within kept = record { size = kept.size; each = λ row below. reached_more system row floor now _ within (kept.each row below) }
+
+-- a row of a floor that is appended with others
+row_within : (lens words floor : List ℕ) (first count row : ℕ) → length words ≡ first * length lens → length floor ≡ (sum lens + 1) * length lens → first + count ≤ sum lens + 1 → first ≤ row → row < first + count
+    → row_at lens (words ++ rows_from lens floor first count) row ≡ row_at lens floor row
+row_within lens words floor first count row size whole fits from below =
+    let w : ℕ = length lens in
+    let start : ℕ = place_of lens first 0 in
+    let end : ℕ = place_of lens (first + count) 0 in
+    let rows : List ℕ = rows_from lens floor first count in
+    let there : end ≤ length floor = omega (arith, whole, mul-le-mul_left w fits) in
+    let span : length rows ≡ end - start = length-slice_range floor start end there in
+    let all : length (words ++ rows) ≡ (first + count) * w = omega (arith, length-append words rows, span, size) in
+    let less : row < sum lens + 1 = omega arith in
+    let one = row_size lens (words ++ rows) row (first + count) below (omega (arith, all)) in
+    ext_get_or 0 _ _ (one ∙ sym (row_size lens floor row (sum lens + 1) less (omega (arith, whole)))) (λ i short.
+    let i_there : i < w = omega arith in
+    let k : ℕ = row * w + i - start in
+    let before : start ≤ row * w + i = omega (arith, mul-le-mul_left w from) in
+    let after : row * w + i < end = omega (arith, place_less row (first + count) w i below i_there) in
+    get_or-row_at lens (words ++ rows) row i i_there
+    ∙ ap (λ n. get_or (words ++ rows) n 0) (let e : row * w + i ≡ length words + k = omega (arith, before, size) in e)
+    ∙ get_or-append-add words rows k 0
+    ∙ get_or-slice_range floor start end k (omega (arith, before, after))
+    ∙ ap (λ n. get_or floor n 0) (let e : start + k ≡ row * w + i = omega (arith, before) in e)
+    ∙ sym (get_or-row_at lens floor row i i_there))
+
+-- rows that the floor has reached, appended as the floor has them
+pub kept_rows : (system : SystemView) (floor : List ℕ) (first count : ℕ) (words now : List ℕ) → AreBounds system floor → first + count ≤ sum system.lens + 1 → AreKept system floor first words → ((row : ℕ) → first ≤ row → row < first + count → Reaches system row floor)
+    → now ≡ words ++ rows_from system.lens floor first count → AreKept system floor (first + count) now
+kept_rows system floor first count words now bounds fits kept reaches same =
+    let rows : List ℕ = rows_from system.lens floor first count in
+    let start : ℕ = place_of system.lens first 0 in
+    let end : ℕ = place_of system.lens (first + count) 0 in
+    let there : end ≤ length floor = omega (arith, bounds.size, mul-le-mul_left (length system.lens) fits) in
+    let P : List ℕ → Type 0 = AreKept system floor (first + count) in
+    subst P (sym same) (record {
+      size = omega (arith, length-append words rows, length-slice_range floor start end there, kept.size);
+      each = λ row below. let Q : List ℕ → Type 0 = IsReached system row floor in elim (lt_or_le row first) [
+        | inl less ↦ subst Q (sym (row_front system.lens words rows row first less kept.size)) (kept.each row less)
+        | inr from ↦ subst Q (sym (row_within system.lens words floor first count row kept.size bounds.size fits from below)) (floor_reached system floor row bounds (omega arith) (reaches row from below))
+      ];
+    })
+
+-- the first rows of a process are appended
+pub kept_firsts : (system : SystemView) (process row count : ℕ) (floor now : List ℕ) (words words_now : List ℕ) → row ≡ sum (take process system.lens) + 1 → AreBounds system now → row + count ≤ sum system.lens + 1 → IsAtMost floor now
+    → ReachesFirst system process count floor → AreKept system floor (sum (take process system.lens) + (0 + 1)) words → words_now ≡ words ++ rows_from system.lens now row count → AreKept system now (sum (take process system.lens) + (count + 1)) words_now
+kept_firsts system process row count floor now words words_now is bounds fits within first kept same =
+    let start : ℕ = sum (take process system.lens) in
+    let Q : ℕ → Type 0 = λ n. AreKept system floor n words in
+    let P : ℕ → Type 0 = λ n. AreKept system now n words_now in
+    let before : AreKept system floor row words = subst Q (let e : start + (0 + 1) ≡ row = omega (arith, is) in e) kept in
+    let reaches : (r : ℕ) → row ≤ r → r < row + count → Reaches system r now = λ r from below.
+    let R : ℕ → Type 0 = λ n. Reaches system n now in
+    subst R (let e : start + (r - start) ≡ r = omega (arith, is, from) in e) (reaches_more system _ floor now within (first.each (r - start) (omega (arith, is, from)) (omega (arith, is, below)))) in
+    subst P (let e : row + count ≡ start + (count + 1) = omega (arith, is) in e) (kept_rows system now row count words words_now bounds fits (kept_more system floor now row words within before) reaches same)
 
 pub kept_least : (system : SystemView) (floor words : List ℕ) → AreKept system floor (sum system.lens + 1) words → AreLeastRows system words
 kept_least system floor words kept = record { each = λ row there. (kept.each row (omega arith)).least }

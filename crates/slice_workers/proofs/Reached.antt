@@ -1,6 +1,6 @@
 -- Rows that a floor has reached stay reached while it rises, and together they are all rows.
 use Rattle.std.proofs.Common.{◌≡◌, ℕ, zero, suc, refl, ◌+◌, ◌-◌, ◌<◌, ◌≤◌, ◌⊎◌, inl, inr, Bool, true, false, List, [], ◌∷◌, length, get_or, set, sum, take, replicate, arith, sym, ap, ◌∙◌, subst}
-use Rattle.std.proofs.lemmas.List.{length-set, ext_get_or}
+use Rattle.std.proofs.lemmas.List.{ext_get_or}
 use Rattle.std.proofs.lemmas.List.Sums.{sum_by-cons}
 use Rattle.pull_system.specs.Vector.{IsAtMost, IsMaximum}
 use Rattle.pull_system.specs.System.{SystemView}
@@ -30,11 +30,7 @@ pub first_more : (system : SystemView) (process count : ℕ) (floor now : List �
 first_more system process count floor now within first = record { each = λ position one less. reaches_more system _ floor now within (first.each position one less) }
 
 pub handed_more : (system : SystemView) (floor now : List ℕ) (handed : List Bool) → IsAtMost floor now → AreHanded system floor handed → AreHanded system now handed
-handed_more system floor now handed within are = record {
-  size = are.size;
-  there = are.there;
-  each = λ process is. first_more system process _ floor now within (are.each process is);
-}
+handed_more system floor now handed within are = record { each = λ process is. first_more system process _ floor now within (are.each process is) }
 
 pub first_none : (system : SystemView) (process : ℕ) (floor : List ℕ) → ReachesFirst system process 0 floor
 first_none system process floor = record { each = λ position one less. absurd (omega arith) }
@@ -50,19 +46,12 @@ first_next system process count row floor same first reaches = record {
   ];
 }
 
-pub none_are_handed : (system : SystemView) (floor : List ℕ) (handed : List Bool) → length handed ≡ 32 → ((p : ℕ) → get_or handed p false ≡ false) → AreHanded system floor handed
-none_are_handed system floor handed size none = record {
-  size = size;
-  there = λ p is. let e : true ≡ false = sym is ∙ none p in absurd (cc);
-  each = λ p is. let e : true ≡ false = sym is ∙ none p in absurd (cc);
-}
+pub none_are_handed : (system : SystemView) (floor : List ℕ) (handed : List Bool) → ((p : ℕ) → get_or handed p false ≡ false) → AreHanded system floor handed
+none_are_handed system floor handed none = record { each = λ p is. let e : true ≡ false = sym is ∙ none p in absurd (cc) }
 
 -- one process more is handed
-pub handed_set : (system : SystemView) (floor : List ℕ) (handed : List Bool) (process : ℕ) → process < length system.lens → AreHanded system floor handed → ReachesFirst system process (get_or system.lens process 0) floor
-    → AreHanded system floor (set handed process true)
-handed_set system floor handed process there are first = record {
-  size = length-set handed process true ∙ are.size;
-  there = λ p is. elim (set_case handed process true p false) [ inl e ↦ are.there p (sym e ∙ is) | inr e ↦ omega (arith, e.0) ];
+pub handed_set : (system : SystemView) (floor : List ℕ) (handed : List Bool) (process : ℕ) → AreHanded system floor handed → ReachesFirst system process (get_or system.lens process 0) floor → AreHanded system floor (set handed process true)
+handed_set system floor handed process are first = record {
   each = λ p is. elim (set_case handed process true p false) [
     | inl e ↦ are.each p (sym e ∙ is)
     | inr e ↦ let P : ℕ → Type 0 = λ q. ReachesFirst system q (get_or system.lens q 0) floor in subst P (sym e.0) first
@@ -76,11 +65,9 @@ met_left v w m maximum = record { each = λ i. omega (arith, maximum.each i) }
 pub met_right : (v w m : List ℕ) → IsMaximum v w m → IsAtMost w m
 met_right v w m maximum = record { each = λ i. omega (arith, maximum.each i) }
 
-pub handed_met : (system : SystemView) (v w m : List ℕ) (handed more now : List Bool) → IsMaximum v w m → AreHanded system v handed → AreHanded system w more → length now ≡ 32
+pub handed_met : (system : SystemView) (v w m : List ℕ) (handed more now : List Bool) → IsMaximum v w m → AreHanded system v handed → AreHanded system w more
     → ((p : ℕ) → get_or now p false ≡ true → (get_or handed p false ≡ true) ⊎ (get_or more p false ≡ true)) → AreHanded system m now
-handed_met system v w m handed more now maximum left right size from = record {
-  size = size;
-  there = λ p is. elim (from p is) [ inl l ↦ left.there p l | inr r ↦ right.there p r ];
+handed_met system v w m handed more now maximum left right from = record {
   each = λ p is. elim (from p is) [
     | inl l ↦ first_more system p _ v m (met_left v w m maximum) (left.each p l)
     | inr r ↦ first_more system p _ w m (met_right v w m maximum) (right.each p r)
@@ -145,6 +132,10 @@ reached_least system floor row bounds there reaches =
 pub all_least : (system : SystemView) (floor : List ℕ) → AreBounds system floor → ReachesAll system floor → AreLeastRows system floor
 all_least system floor bounds all = record { each = λ row there. reached_least system floor row bounds there (all.each row there) }
 
+-- and it is the row's vector
+pub floor_reached : (system : SystemView) (floor : List ℕ) (row : ℕ) → AreBounds system floor → row ≤ sum system.lens → Reaches system row floor → IsReached system row floor (row_at system.lens floor row)
+floor_reached system floor row bounds there reaches = record { least = reached_least system floor row bounds there reaches; lent = λ i below. omega (arith, get_or-row_at system.lens floor row i below) }
+
 -- what a call that follows the row settled is reached
 pub follows_reaches : (system : SystemView) (row : ℕ) (old new v : List ℕ) → Follows system row old new v → IsLeast system row v → Reaches system row new
 follows_reaches system row old new v follows least = record { vector = v; is = least; below = λ process there. omega (arith, follows.each process there) }
@@ -192,9 +183,6 @@ all_more system floor now within all = record { each = λ row there. reaches_mor
 pub is_before : (lens : List ℕ) (process done before : ℕ) → before ≡ row_before lens process done → IsBefore lens process done before
 is_before lens process zero before is = AtBottom is
 is_before lens process (suc done) before is = After (omega arith) is
-
-pub more_rows : (first old new : ℕ) → old ≤ new → old ≤ first + new
-more_rows first old new more = omega arith
 
 -- the row of a final event, looked at
 pub final_seen : (system : SystemView) (row : ℕ) (old new v : List ℕ) → row ≤ sum system.lens → Follows system row old new v → Reaches system row old → IsLeast system row v

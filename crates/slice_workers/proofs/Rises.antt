@@ -11,8 +11,6 @@ use Rattle.pull_system.proofs.Starts.{get_or-row_at, length-row_at}
 use Rattle.pull_system.proofs.Sums.{sum-within}
 use Rattle.raise_machine.specs.Bounds.{AreBounds}
 use Rattle.bound_table.specs.Kept.{Follows}
-use Rattle.bound_table.specs.Views.{SeatView}
-use Rattle.slice_workers.specs.Calls.{TakesLooks}
 
 -- the sum of the first rows
 abbrev pub sum_rows : List ℕ → List ℕ → ℕ → ℕ
@@ -93,9 +91,3 @@ paid_on pulls start steps steps_now first old new done pays before = omega arith
 pub looks_of : (pulls start steps bottom last top : ℕ) → last ≤ top → bottom ≤ top → steps + pulls * bottom ≤ start + pulls * last → steps ≤ start + pulls * (top - bottom)
 looks_of pulls start steps bottom last top less few pays =
     let split : pulls * (top - bottom + bottom) ≡ pulls * top = ap (λ n. pulls * n) (let e : top - bottom + bottom ≡ top = omega arith in e) in omega (arith, pays, split, mul-le-mul_left pulls less)
-
-pub claimed_looks : (pulls rise start steps steps_now before bottom none marks : ℕ) → none ≡ 0 → steps + pulls * before ≤ start + pulls * (1 + bottom) → steps_now + rise * none ≤ steps + rise * marks → steps_now ≤ start + pulls * (1 + bottom) + rise * marks
-claimed_looks pulls rise start steps steps_now before bottom none marks free first rest = omega (arith, free, first, rest)
-
-pub claimed_paid : (pulls start steps steps_now old mid new none events : ℕ) → none ≡ 0 → steps + pulls * old ≤ start + pulls * (1 + mid) → steps_now + pulls * (mid + none) ≤ steps + pulls * (new + events) → steps_now + pulls * old ≤ start + pulls * (1 + events + new)
-claimed_paid pulls start steps steps_now old mid new none events free first rest = let e : pulls * (mid + none) ≡ pulls * mid = ap (λ n. pulls * n) (let z : mid + none ≡ mid = omega arith in z) in omega (arith, first, rest, e)

@@ -5,7 +5,7 @@ ghost use Rattle.std.specs.Prelude.{slice_index, IfOk, OnOk};
 ghost use Rattle.pull_system.specs.Rows.{IsLeast};
 ghost use Rattle.bound_table.specs.Kept.{Follows};
 ghost use Rattle.bound_table.specs.Views.{KeepsClaims};
-ghost use Rattle.slice_workers.specs.Reaching.{HasReachedFinals, Reaches};
+ghost use Rattle.slice_workers.specs.Reaching.{HasReachedFinals, Reaches, ReachesFirst};
 ghost use Rattle.slice_workers.specs.inside.Reaching.{CanSettle};
 ghost use Rattle.slice_workers.specs.Calls.{HasRisen, AreSettledRows, TakesBehind, IsPaid};
 ghost use Rattle.slice_workers.specs.Calls.{process_looks};
@@ -13,7 +13,7 @@ ghost use Rattle.slice_workers.specs.inside.Settling.{HasOnlyRisen};
 ghost use Rattle.slice_workers.specs.inside.Keeping.{AreKept, KeepsUpTo, TakesBottom, TakesRows};
 
 use crate::finals::Finals;
-use crate::process::settle_next;
+use crate::process::{go_behind, settle_next};
 use bound_table::{BoundTable, Seat};
 use pota_base::{EventId, Gate, NoMemory, Steps};
 use pull_system::Rows;
@@ -158,20 +158,37 @@ fn keep_firsts(
     ensures kept { IfOk result (λ before. KeepsUpTo table.now.system process first
         seat.new.floor before into.new words.new.items) }
 {
+    push_firsts(table, seat, process, first, words)?;
+    Ok(go_behind(table, seat, process, first, bottom, into))
+}
+
+/// Appends the first rows of the process, which are final, many words at once.
+fn push_firsts(
+    table: &BoundTable,
+    seat: &mut Seat,
+    process: u32,
+    first: u32,
+    words: &mut Vec<u16>,
+) -> Result<(), NoMemory>
+    requires fits { seat.old.table ≡ table.now }
+    requires process { process < length table.now.system.lens }
+    requires few { first ≤ slice_index table.now.system.lens process }
+    requires reached { ReachesFirst table.now.system process first seat.old.floor }
+    requires kept { AreKept table.now.system seat.old.floor
+        (sum (take process table.now.system.lens) + (0 + 1)) words.old.items }
+    ensures risen { HasOnlyRisen table.now.system seat.old seat.new }
+    ensures kept { OnOk result (AreKept table.now.system seat.new.floor
+        (sum (take process table.now.system.lens) + (first + 1)) words.new.items) }
+{
     seat.bounds();
-    into.copy_from_slice(bottom);
-    let mut before = 0;
-    let shape = table.system().shape();
-    for done in 0..first {
-        let row = shape.row_of(EventId {
-            process,
-            position: done + 1,
-        });
-        table.look_narrow(seat, row, into);
-        words.extend_from_slice(into)?;
-        before = row;
+    if first == 0 {
+        return Ok(());
     }
-    Ok(before)
+    let row = table.system().shape().row_of(EventId {
+        process,
+        position: 1,
+    });
+    table.push_rows(seat, row, first, words)
 }
 
 /// Settles the rows of the process in order behind its first ones, each from the row before, and

@@ -1,5 +1,5 @@
 //! The rows of one process, settled in order, each from the one before.
-ghost use Rattle.std.specs.Prelude.{◌≡◌, ℕ, ◌+◌, ◌-◌, ◌*◌, ◌<◌, ◌≤◌, length, sum, slice_index};
+ghost use Rattle.std.specs.Prelude.{◌≡◌, ℕ, ◌+◌, ◌*◌, ◌<◌, ◌≤◌, length, sum, slice_index};
 ghost use Rattle.pull_system.specs.Vector.{IsAtMost};
 ghost use Rattle.pull_system.specs.Rows.{row_at};
 ghost use Rattle.raise_machine.specs.Bounds.{word_at};
@@ -7,7 +7,7 @@ ghost use Rattle.bound_table.specs.Views.{KeepsClaims};
 ghost use Rattle.slice_workers.specs.Reaching.{ReachesFirst};
 ghost use Rattle.slice_workers.specs.inside.Reaching.{CanSettle, IsReached, MayLendTo};
 ghost use Rattle.slice_workers.specs.inside.Reaching.{row_before};
-ghost use Rattle.slice_workers.specs.Calls.{IsPaid, process_looks};
+ghost use Rattle.slice_workers.specs.Calls.{IsPaid};
 ghost use Rattle.slice_workers.specs.inside.Settling.{HasOnlyRisen};
 
 use bound_table::{BoundTable, Seat};
@@ -32,11 +32,7 @@ pub(crate) fn settle_process<L: Ledger>(
     ensures risen { HasOnlyRisen table.now.system seat.old seat.new }
     ensures reaches { let count = slice_index table.now.system.lens process in
         ReachesFirst table.now.system process count seat.new.floor }
-    ensures looks { steps.new ≤ steps.old + process_looks table.now.system bottom.now }
-    ensures rises_paid { let rows = slice_index table.now.system.lens process - first in
-        IsPaid table.now.system rows seat.old seat.new steps.old steps.new }
 {
-    seat.bounds();
     let mut before = go_behind(table, seat, process, first, bottom, into);
     let shape = table.system().shape();
     for done in first..shape.len_of(process) {
@@ -51,7 +47,7 @@ pub(crate) fn settle_process<L: Ledger>(
 
 /// The row of the process's last final event, or the bottom's where there is none, with its least
 /// closed vector in `into`.
-fn go_behind(
+pub(crate) fn go_behind(
     table: &BoundTable,
     seat: &mut Seat,
     process: u32,

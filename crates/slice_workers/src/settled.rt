@@ -68,9 +68,9 @@ pub fn settle_all<R: Threads + Sync, G: Gate, L: Ledger>(
     settle_behind(rt, alloc, table, seat, &none, workers, gate, steps)
 }
 
-/// Settles all rows of the table as `settle_all` does, where the seat's floor has reached those that
-/// `finals` names. These rows are left as they are: they are neither lent to nor looked up, and the
-/// count of one worker doesn't pay for them. Of several workers each looks up the bottom's.
+/// Settles all rows of the table as `settle_all` does, where the seat's floor has reached those
+/// that `finals` names. These rows are left as they are: they are neither lent to nor looked up,
+/// and the count of one worker doesn't pay for them. Of several workers each looks up the bottom's.
 pub fn settle_behind<R: Threads + Sync, G: Gate, L: Ledger>(
     rt: &R,
     alloc: Global,

@@ -1,9 +1,8 @@
 //! Which processes a worker settles, and what is left to the calling thread.
-ghost use Rattle.std.specs.Prelude.{◌≡◌, ◌≢◌, ℕ, ◌<◌, ◌≤◌, true, false, length};
-ghost use Rattle.std.specs.Prelude.{slice_index_or, slice_set};
+ghost use Rattle.std.specs.Prelude.{◌≡◌, ℕ, ◌<◌, ◌≤◌, true, false, length, slice_index_or};
 ghost use Rattle.slice_workers.specs.Reaching.{AreFinal};
-ghost use Rattle.slice_workers.specs.inside.Reaching.{HasReachedRows};
-ghost use Rattle.slice_workers.specs.inside.Settling.{HasClaimed, HasSettled};
+ghost use Rattle.slice_workers.specs.inside.Reaching.{AreHanded, HasReachedRows};
+ghost use Rattle.slice_workers.specs.inside.Settling.{HasSettled};
 
 use crate::process::settle_process;
 use bound_table::{BoundTable, Seat};
@@ -34,10 +33,9 @@ pub(crate) fn settle_claimed<L: Ledger>(
     requires bottom { length bottom.old ≡ length table.now.system.lens }
     requires into { length into.old ≡ length table.now.system.lens }
     requires none { (process : ℕ) → slice_index_or handed.old process false ≡ false }
-    ensures { HasClaimed table.now.system finals.now bottom.new seat.old seat.new
-        handed.new steps.old steps.new }
+    ensures table { seat.new.table ≡ seat.old.table }
+    ensures handed { AreHanded table.now.system seat.new.floor handed.new }
 {
-    seat.bounds();
     table.settle_narrow(seat, 0, bottom, steps);
     for process in 0..table.system().shape().procs() {
         claim_one(table, seat, process, finals, bottom, into, handed, steps);
@@ -58,8 +56,7 @@ pub(crate) fn settle_rest<L: Ledger>(
     requires into { length into.old ≡ length table.now.system.lens }
     requires reached { HasReachedRows table.now.system seat.old.floor finals.now bottom.now
         handed.old }
-    ensures settled { HasSettled table.now.system finals.now bottom.now seat.old seat.new
-        handed.old handed.new steps.old steps.new }
+    ensures settled { HasSettled table.now.system seat.old seat.new handed.old handed.new }
     ensures all { (process : ℕ) → process < length table.now.system.lens
         → slice_index_or handed.new process false ≡ true }
 {
@@ -85,11 +82,7 @@ fn claim_one<L: Ledger>(
     requires into { length into.old ≡ length table.now.system.lens }
     requires reached { HasReachedRows table.now.system seat.old.floor finals.now bottom.now
         handed.old }
-    requires free { slice_index_or handed.old process false ≡ false }
-    ensures settled { HasSettled table.now.system finals.now bottom.now seat.old seat.new
-        handed.old handed.new steps.old steps.new }
-    ensures others { (other : ℕ) → other ≢ process
-        → slice_index_or handed.new other false ≡ slice_index_or handed.old other false }
+    ensures settled { HasSettled table.now.system seat.old seat.new handed.old handed.new }
 {
     if table.claim(seat, process) {
         settle_marked(table, seat, process, finals, bottom, into, handed, steps);
@@ -113,8 +106,7 @@ fn settle_left<L: Ledger>(
     requires into { length into.old ≡ length table.now.system.lens }
     requires reached { HasReachedRows table.now.system seat.old.floor finals.now bottom.now
         handed.old }
-    ensures settled { HasSettled table.now.system finals.now bottom.now seat.old seat.new
-        handed.old handed.new steps.old steps.new }
+    ensures settled { HasSettled table.now.system seat.old seat.new handed.old handed.new }
     ensures marked { slice_index_or handed.new process false ≡ true }
 {
     if !handed[process as usize] {
@@ -122,7 +114,7 @@ fn settle_left<L: Ledger>(
     }
 }
 
-/// Settles the rows of the process, which is not marked, and marks it.
+/// Settles the rows of the process, and marks it.
 fn settle_marked<L: Ledger>(
     table: &BoundTable,
     seat: &mut Seat,
@@ -139,10 +131,8 @@ fn settle_marked<L: Ledger>(
     requires into { length into.old ≡ length table.now.system.lens }
     requires reached { HasReachedRows table.now.system seat.old.floor finals.now bottom.now
         handed.old }
-    requires free { slice_index_or handed.old process false ≡ false }
-    ensures settled { HasSettled table.now.system finals.now bottom.now seat.old seat.new
-        handed.old handed.new steps.old steps.new }
-    ensures marked { handed.new ≡ slice_set handed.old process true }
+    ensures settled { HasSettled table.now.system seat.old seat.new handed.old handed.new }
+    ensures marked { slice_index_or handed.new process false ≡ true }
 {
     let first = finals[process as usize];
     settle_process(table, seat, process, first, bottom, into, steps);

@@ -1,6 +1,6 @@
 -- Of the calls inside, which no caller rests on.
-use Rattle.std.specs.Prelude.{◌≡◌, ℕ, zero, suc, ◌+◌, ◌-◌, ◌<◌, ◌≤◌, List, [], ◌∷◌, Bool}
-use Rattle.std.specs.Prelude.{true, false, length, sum, take, slice_index, slice_index_or, if◌then◌else◌}
+use Rattle.std.specs.Prelude.{◌≡◌, ℕ, zero, suc, ◌+◌, ◌<◌, ◌≤◌, List, Bool}
+use Rattle.std.specs.Prelude.{true, false, length, sum, take, slice_index, slice_index_or}
 use Rattle.pull_system.specs.System.{SystemView}
 use Rattle.pull_system.specs.Rows.{IsLeast}
 use Rattle.raise_machine.specs.Bounds.{word_at, has_start}
@@ -30,21 +30,10 @@ pub record MayLendTo (lens floor : List ℕ) (from_row to_row : ℕ) : Type 0 wh
   pub to : to_row ≤ sum lens
   pub event : has_start lens floor to_row from_row ≡ true
 
--- the floor has reached those of all rows of the processes that are marked, and only processes that
--- are there are
+-- the floor has reached the least closed vectors of all rows of the processes that are marked
 pub record AreHanded (system : SystemView) (floor : List ℕ) (handed : List Bool) : Type 0 where
-  pub size : length handed ≡ 32
-  pub there : (process : ℕ) → slice_index_or handed process false ≡ true
-      → process < length system.lens
   pub each : (process : ℕ) → slice_index_or handed process false ≡ true
       → ReachesFirst system process (slice_index system.lens process) floor
-
--- how many events the marked processes have
-abbrev pub handed_events : List ℕ → List Bool → ℕ
-handed_events [] handed = 0
-handed_events (len ∷ lens) [] = 0
-handed_events (len ∷ lens) (is_handed ∷ handed) =
-    (if is_handed then len else 0) + handed_events lens handed
 
 -- the row of the process's event of this number, or the bottom's before the first
 abbrev pub row_before : List ℕ → ℕ → ℕ → ℕ

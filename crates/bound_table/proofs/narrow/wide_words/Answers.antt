@@ -1,17 +1,25 @@
-use Rattle.std.proofs.Common.{arith, refl, ◌∙◌, ap, length}
-use Rattle.std.proofs.lemmas.List.{take_all, length-take-le}
-use Rattle.bound_table.proofs.Reading.{read_more, read_whole, range_at}
+use Rattle.std.proofs.Common.{arith, refl, ap, ◌≡◌, ◌+◌, ◌∙◌, ◌++◌, [], ℕ, List, length, slice_range}
+use Rattle.std.proofs.lemmas.List.{length-take-le}
+use Rattle.bound_table.proofs.Reading.{range_at, range_next, range_none, range_all}
 use Rattle.bound_table.proofs.narrow.wide_words.Goals as goal
 
 pub loop-piece-init : goal.loop-piece-init
-loop-piece-init c = record { read = record { each = λ i below. absurd (omega (arith, below, ap length c.in_ok-words.ensures.items)) }; few = omega (arith, ap length c.in_ok-words.ensures.items) }
+loop-piece-init c =
+    let none = c.in_ok-words.ensures.items in record { read = none ∙ range_none c.args.from.now [] 0 _ (ap length none); few = omega (arith, ap length none) }
 
 pub loop-piece-preserved : goal.loop-piece-preserved
 loop-piece-preserved c =
-    let inv = c.loop-piece.invariant in record {
-      read = read_more c.len-first.result _ _ c.loop-piece.words.items _ _ (omega (arith, c.len-first.ensures)) inv.read (λ i below. refl) (range_at _ _ _ _ c.widen.ensures) c.in_ok-extend_from_slice.ensures.items;
-      few = omega (arith, c.in_ok-extend_from_slice.ensures.len, c.widen.auto.into, c.min-size.array_long, length-take-le c.min-size.result c.loop-piece.piece (omega (arith, c.min-size.array_long)));
+    let from : List ℕ = c.args.from.now in
+    let inv = c.loop-piece.invariant in
+    let size : ℕ = c.min-size.result in
+    let first : ℕ = c.len-first.result in
+    let width : length c.widen.new.into ≡ size = omega (arith, c.widen.auto.into, length-take-le size c.loop-piece.piece (omega (arith, c.min-size.array_long))) in
+    let more = c.in_ok-extend_from_slice.ensures in
+    let before : c.loop-piece.words.items ≡ slice_range from 0 first = inv.read ∙ ap (λ n. slice_range from 0 n) (let e : length c.loop-piece.words.items ≡ first = omega (arith, c.len-first.ensures) in e) in
+    let next = range_next from c.widen.new.into 0 first size (omega arith) (omega (arith, inv.few, c.len-first.ensures)) width (range_at from _ first (first + size) c.widen.ensures) in record {
+      read = more.items ∙ ap (λ xs. xs ++ c.widen.new.into) before ∙ next ∙ ap (λ n. slice_range from 0 n) (let e : first + size ≡ length c.extend_from_slice.new.self.items = omega (arith, more.len, width, c.len-first.ensures) in e);
+      few = omega (arith, more.len, width);
     }
 
 pub returns : goal.returns
-returns c = read_whole (length c.args.from.now) c.args.from.now c.loop-piece.words.items c.loop-piece.invariant.read (omega arith) (omega arith) ∙ take_all (length c.args.from.now) c.args.from.now (omega arith)
+returns c = c.loop-piece.invariant.read ∙ range_all c.args.from.now 0 _ refl (omega arith)

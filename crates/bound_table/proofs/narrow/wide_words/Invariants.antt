@@ -1,10 +1,9 @@
-use Rattle.std.proofs.Common.{◌-◌, ◌≤◌, length}
-use Rattle.bound_table.proofs.Reading.{AreRead}
+use Rattle.std.proofs.Common.{◌≡◌, ◌-◌, ◌≤◌, length, slice_range}
 use Rattle.bound_table.proofs.narrow.wide_words.Given as goal
 
 abbrev pub invariant-loop-piece : goal.invariant-loop-piece
 invariant-loop-piece l = record {
-  read : AreRead l.from l.words.items;
+  read : l.words.items ≡ slice_range l.from 0 (length l.words.items);
   few : length l.words.items ≤ length l.from;
 }
 

@@ -1,5 +1,4 @@
-use Rattle.std.proofs.Common.{◌+◌, ◌-◌, ◌*◌, ◌≤◌, length, sum}
-use Rattle.slice_workers.specs.Calls.{IsPaid}
+use Rattle.std.proofs.Common.{◌≤◌, sum}
 use Rattle.slice_workers.specs.Reaching.{ReachesFirst}
 use Rattle.slice_workers.specs.inside.Reaching.{IsReached}
 use Rattle.slice_workers.specs.inside.Settling.{HasOnlyRisen}
@@ -13,7 +12,4 @@ invariant-loop-done g l = record {
   start : IsBefore l.table.system.lens l.process l.done l.before;
   reached : IsReached l.table.system l.before l.seat.floor l.into;
   reaches : ReachesFirst l.table.system l.process l.done l.seat.floor;
-  pays : l.steps + length l.table.system.pulls * sum l.bottom ≤ l.fn.steps + length l.table.system.pulls * sum l.into;
-  paid : IsPaid l.table.system (l.done - l.first) l.fn.seat l.seat l.fn.steps l.steps;
-  from : l.first ≤ l.done;
 }

@@ -15,7 +15,7 @@ returns-clause-reaches g c =
     let system : SystemView = c.args.table.now.system in
     let rest = c.settle_rest.ensures in
     let begun = bottom_reaches system _ _ _ _ _ c.settle_narrow.ensures.follows c.settle_narrow.ensures.least c.requires.finals c.requires.handed in
-    let reached = passed_reaches system _ _ _ _ _ _ _ _ begun rest.settled in
+    let reached = passed_reaches system _ _ _ _ _ _ begun rest.settled in
     all_reached system _ _ (reaches_row system 0 _ _ reached.bottom) reached.handed rest.all
 
 pub returns-clause-risen : goal.returns-clause-risen

@@ -1,8 +1,8 @@
-use Rattle.std.proofs.Common.{rules, arith, ap, sym, refl, ◌≡◌, ◌≤◌, ◌∙◌, length, replicate, false, subst}
+use Rattle.std.proofs.Common.{rules, arith, ap, sym, refl, ◌≡◌, ◌≤◌, ◌∙◌, length, subst}
 use Rattle.std.proofs.Math.Nat.{mul-le-mul_left}
 use Rattle.slice_workers.proofs.Passes.{sum-left}
 use Rattle.pull_system.specs.System.{SystemView}
-use Rattle.slice_workers.specs.Reaching.{FinalsView, HasReachedFinals, rows_left}
+use Rattle.slice_workers.specs.Reaching.{FinalsView, HasReachedFinals}
 use Rattle.slice_workers.specs.Calls.{TakesBehind}
 use Rattle.slice_workers.proofs.Reached.{zeros, none_final, length-zeros, get_or-zeros}
 use Rattle.slice_workers.proofs.settled.settle_all.Goals as goal

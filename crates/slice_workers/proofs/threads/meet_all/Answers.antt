@@ -6,6 +6,6 @@ pub loop-done-init : goal.loop-done-init
 loop-done-init c = record {
   table = search rules;
   rises = within_refl _;
-  handed = none_are_handed _ _ _ (search rules) c.requires.none;
+  handed = none_are_handed _ _ _ c.requires.none;
   dones = c.requires.dones;
 }

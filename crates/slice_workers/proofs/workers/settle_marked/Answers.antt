@@ -6,4 +6,4 @@ pub returns-clause-settled : goal.returns-clause-settled
 returns-clause-settled g c =
     let system : SystemView = c.args.table.now.system in
     let done = c.settle_process.ensures in
-    passed_mark system c.args.finals.now c.args.bottom.now _ _ c.args.handed.now c.args.process _ _ c.requires.process c.requires.few c.requires.reached.handed c.requires.free done.risen done.reaches done.looks done.rises_paid
+    passed_mark system _ _ c.args.handed.now c.args.process c.requires.reached.handed done.risen done.reaches

@@ -8,7 +8,7 @@ pub loop-process-init : goal.loop-process-init
 loop-process-init g c =
     let system : SystemView = c.args.table.now.system in record {
       reached = c.requires.reached;
-      settled = passed_none system _ _ _ _ _ _ refl refl c.requires.reached.handed;
+      settled = passed_none system _ _ _ refl refl c.requires.reached.handed;
       done = λ p below. absurd (omega arith);
     }
 
@@ -22,8 +22,8 @@ loop-process-preserved g c =
     let system : SystemView = c.args.table.now.system in
     let inv = c.loop-process.invariant in
     let left = c.settle_left.ensures in record {
-      reached = passed_reaches system _ _ _ _ _ _ _ _ inv.reached left.settled;
-      settled = passed_on system _ _ _ _ _ _ _ _ _ _ _ inv.settled left.settled;
+      reached = passed_reaches system _ _ _ _ _ _ inv.reached left.settled;
+      settled = passed_on system _ _ _ _ _ _ inv.settled left.settled;
       done = upto_next (λ p. get_or c.settle_left.new.handed p false ≡ true) c.loop-process.process (λ p below. left.settled.stays p (inv.done p below)) left.marked;
     }
 

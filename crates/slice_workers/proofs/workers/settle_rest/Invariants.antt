@@ -6,6 +6,6 @@ use Rattle.slice_workers.proofs.workers.settle_rest.Given as goal
 abbrev pub invariant-loop-process : goal.invariant-loop-process
 invariant-loop-process g l = record {
   reached : HasReachedRows l.table.system l.seat.floor l.finals l.bottom l.handed;
-  settled : HasSettled l.table.system l.finals l.bottom l.fn.seat l.seat l.fn.handed l.handed l.fn.steps l.steps;
+  settled : HasSettled l.table.system l.fn.seat l.seat l.fn.handed l.handed;
   done : (process : ℕ) → process < l.process → slice_index_or l.handed process false ≡ true;
 }
