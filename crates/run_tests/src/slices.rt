@@ -4,7 +4,7 @@ use causal_order::Order;
 use event_log::{Event, Kind};
 use pota_base::{List, NoMemory, Shape, Steps};
 use pull_fans::{System, pulls_of};
-use pull_system::Pull;
+use pull_system::{Floor, Pull};
 use slice_graph::{CutTable, Slice, order_fans, order_rows, order_rows_above};
 use std::alloc::Global;
 use std::marker::Brand;
@@ -77,10 +77,22 @@ fn a_table_begins_from_the_clocks(rt: HostRuntime) -> Result<(), Fail> {
     Ok(())
 }
 
+/// The rows above a least cut without an event of process 0 and with one of process 1, where there
+/// are two processes.
+fn rows_above(alloc: Global, order: &Order) -> Result<Option<Floor>, NoMemory> {
+    if order.shape().procs() != 2 {
+        return Ok(None);
+    }
+    Ok(Some(order_rows_above(alloc, order, &[0, 1])?))
+}
+
 #[test]
 fn a_table_begins_from_the_clocks_and_the_least_cut(rt: HostRuntime) -> Result<(), Fail> {
     let order = three_events(rt.alloc())?;
-    let rows = order_rows_above(rt.alloc(), &order, &[0, 1])?;
+    let Some(rows) = rows_above(rt.alloc(), &order)? else {
+        assert!(rt; false);
+        return Ok(());
+    };
     assert_eq!(rt; rows.as_words(), [0, 1, 1, 1, 2, 1, 1, 1].as_slice());
     Ok(())
 }

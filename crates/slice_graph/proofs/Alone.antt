@@ -1,17 +1,14 @@
 -- The rows of a slice are the least closed vectors of its own pulls.
-use Rattle.std.proofs.Common.{◌≡◌, ℕ, zero, suc, ◌+◌, ◌*◌, ◌<◌, ◌≤◌, List, length, get_or, sum, Option, Some, None, refl, sym, ap, ◌∙◌, subst, arith, inl, inr}
+use Rattle.std.proofs.Common.{◌≡◌, ℕ, ◌≤◌, List, get_or, sum, Option, Some, None, refl, sym, ap, ◌∙◌, subst, arith, inl, inr}
 use Rattle.std.proofs.lemmas.Bool.{cases_lt}
-use Rattle.pota_base.specs.Shape.{HasEvent, row_of}
-use Rattle.pota_base.specs.declared.shape.EventId.{EventId}
+use Rattle.pota_base.specs.Shape.{row_of}
 use Rattle.run_model.specs.Cut.{Cut, Clocks, count, lengths}
 use Rattle.run_model.specs.Consistent.{IsEvent}
 use Rattle.run_model.specs.Sublattice.{Having}
 use Rattle.run_model.specs.Slice.{IsLeastOf, Cuts}
-use Rattle.pull_system.specs.declared.pull.Pull.{Pull}
-use Rattle.pull_system.specs.Vector.{IsAtMost, IsVector}
-use Rattle.pull_system.specs.System.{SystemView, IsSystem, IsClosed, IsClosedFrom, IsLeastFrom}
-use Rattle.pull_system.specs.Pulls.{ClosedUnder}
-use Rattle.pull_system.specs.Rows.{AreLeastRows, IsLeast, start_of, row_at}
+use Rattle.pull_system.specs.Vector.{IsVector}
+use Rattle.pull_system.specs.System.{SystemView, IsSystem, IsClosed}
+use Rattle.pull_system.specs.Rows.{AreLeastRows, start_of, row_at}
 use Rattle.pull_system.proofs.PullLists.{closed_under}
 use Rattle.pull_system.proofs.Climbing.{tops_closed}
 use Rattle.pull_system.proofs.Starts.{start_of-vector}

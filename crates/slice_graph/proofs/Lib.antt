@@ -13,3 +13,4 @@ pub mod EdgeSteps
 pub mod OrderGrowing
 pub mod StartingRows
 pub mod Alone
+pub mod GrownOrder

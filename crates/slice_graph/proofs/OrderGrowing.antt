@@ -29,7 +29,7 @@ clock_kept before after grown i (suc a) pos there =
     let g = grown.each i in
     sym (ap (λ (row : List Cut). get_or row a []) g.1 ∙ get_or_append_left (get_or before i []) g.0 [] a (omega (arith, there, count-lengths before i)))
 
-past_kept : (before after : Clocks) → HasGrown before after → (i j x : ℕ) → x ≤ count (lengths before) i → past_count before i j x ≡ past_count after i j x
+pub past_kept : (before after : Clocks) → HasGrown before after → (i j x : ℕ) → x ≤ count (lengths before) i → past_count before i j x ≡ past_count after i j x
 past_kept before after grown i j zero there = refl
 past_kept before after grown i j (suc x) there = ap (λ (c : Cut). count c j) (clock_kept before after grown i (suc x) (omega arith) there)
 

@@ -4,4 +4,5 @@ pub mod Fitting
 pub mod PullLists
 pub mod Edges
 pub mod Starting
+pub mod Growing
 pub mod inside

@@ -1,4 +1,5 @@
 -- What only the calls inside say to each other.
 pub mod Edges
+pub mod Growing
 pub mod PullLists
 pub mod Words

@@ -16,6 +16,7 @@
 mod cuts;
 mod edges;
 mod from_rows;
+mod growing;
 mod laws;
 mod order_pulls_of;
 mod slice;
@@ -25,6 +26,7 @@ mod table;
 
 pub use cuts::{is_within, set_words};
 pub use edges::Edge;
+pub use growing::grown_order_system;
 pub use laws::{least_or_none, order_grows, rows_of_one_slice, systems_of_an_order};
 pub use order_pulls_of::{order_fans, order_pulls};
 pub use slice::Slice;

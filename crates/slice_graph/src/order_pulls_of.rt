@@ -106,7 +106,7 @@ fn other(process: u32, index: u32) -> u32
 
 /// How many events of each process the pasts of the source's first events have, which is `none`
 /// where there is no event.
-fn past<'a>(order: &'a Order, source: u32, position: u32, none: &'a [u32]) -> &'a [u32]
+pub(crate) fn past<'a>(order: &'a Order, source: u32, position: u32, none: &'a [u32]) -> &'a [u32]
     requires source { source < length order.now }
     requires position { position ≤ count (lengths order.now) source }
     requires width { length none.now ≡ length order.now }

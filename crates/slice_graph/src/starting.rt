@@ -1,11 +1,12 @@
 //! Rows that a table of a system may begin from: those of a slice, and the clocks of an order.
 ghost use Rattle.std.specs.Prelude.{◌≡◌, ℕ, ◌+◌, ◌<◌, ◌≤◌, List, length, get_or, replicate, sum};
-ghost use Rattle.std.specs.Prelude.{IfOk};
+ghost use Rattle.std.specs.Prelude.{◌^◌, slice_index, IfOk};
 ghost use Rattle.pota_base.specs.Shape.{HasEvent, row_of};
 ghost use Rattle.pota_base.specs.declared.shape.EventId.{EventId};
 ghost use Rattle.run_model.specs.Cut.{Clocks, lengths, max_cut};
 ghost use Rattle.run_model.specs.Consistent.{clock};
 ghost use Rattle.pull_system.specs.declared.pull.Pull.{Pull};
+ghost use Rattle.pull_system.specs.Vector.{IsVector};
 ghost use Rattle.pull_system.specs.Rows.{row_at};
 ghost use Rattle.slice_graph.specs.Views.{no_row};
 ghost use Rattle.slice_graph.specs.Words.{filled};
@@ -62,7 +63,7 @@ pub fn order_rows(alloc: Global, order: &Order) -> Result<Floor, NoMemory>
 /// The rows of `order_rows`, raised to the vector where they lie below it: so it is the bottom's.
 /// A table may begin from them where each of its closed vectors is at or above the vector.
 pub fn order_rows_above(alloc: Global, order: &Order, vector: &[u64]) -> Result<Floor, NoMemory>
-    requires { length vector.now ≡ length order.now }
+    requires { IsVector (lengths order.now) vector.now }
     ensures lens { IfOk result (λ rows. rows.lens ≡ lengths order.now) }
     ensures bottom { IfOk result (λ rows.
         row_at (lengths order.now) rows.words 0 ≡ vector.now) }
@@ -76,13 +77,17 @@ pub fn order_rows_above(alloc: Global, order: &Order, vector: &[u64]) -> Result<
     let procs = shape.procs() as usize;
     let none = [0; 32];
     let none = &none[..procs];
-    let mut room = [0; 32];
-    let room = &mut room[..procs];
+    let (mut least, mut room, mut wide) = ([0; 32], [0; 32], [0; 32]);
+    let (least, room) = (&mut least[..procs], &mut room[..procs]);
+    let wide = &mut wide[..procs];
+    narrow(vector, least);
     let mut words = Vec::with_capacity(alloc, (shape.events() as usize + 1) * procs)?;
+    // A row is raised in 32 bits, which a processor does for four words at a time.
     for row in 0..shape.events() + 1 {
-        room.copy_from_slice(vector);
+        room.copy_from_slice(least);
         raise_to(clock_of(order, row, none), room);
-        words.extend_from_slice(room)?;
+        widen(room, wide);
+        words.extend_from_slice(wide)?;
     }
     Floor::from_words(alloc, shape, words)
 }
@@ -114,11 +119,22 @@ fn widen(row: &[u32], into: &mut [u64])
 }
 
 /// Raises each number of `into` to that of the row, where it lies below it.
-fn raise_to(row: &[u32], into: &mut [u64])
+fn raise_to(row: &[u32], into: &mut [u32])
     requires { length row.now ≡ length into.old }
     ensures { into.new ≡ max_cut row.now into.old }
 {
     for process in 0..row.len() {
-        into[process] = into[process].max(row[process] as u64);
+        into[process] = into[process].max(row[process]);
+    }
+}
+
+/// Makes `into` the numbers of the vector, which fit 32 bits.
+fn narrow(vector: &[u64], into: &mut [u32])
+    requires width { length vector.now ≡ length into.old }
+    requires small { (i : ℕ) → slice_index vector.now i < 2 ^ 32 }
+    ensures { into.new ≡ vector.now }
+{
+    for process in 0..vector.len() {
+        into[process] = vector[process] as u32;
     }
 }

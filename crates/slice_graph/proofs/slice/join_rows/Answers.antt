@@ -1,6 +1,6 @@
-use Rattle.std.proofs.Common.{rules, ◌≡◌, ◌∙◌, ℕ, List, length, replicate, ap, sym, arith}
+use Rattle.std.proofs.Common.{rules, ◌≡◌, ◌∙◌, ℕ, length, replicate, ap, arith}
 use Rattle.run_model.specs.Cut.{Cut}
-use Rattle.slice_graph.specs.Views.{joined_onto, joined_rows}
+use Rattle.slice_graph.specs.Views.{joined_onto}
 use Rattle.slice_graph.proofs.RowByRow.{zeros_of, zero_counts}
 use Rattle.slice_graph.proofs.slice.join_rows.Goals as goal
 

@@ -1,6 +1,6 @@
-use Rattle.std.proofs.Common.{rules, ◌≡◌, ◌∙◌, ℕ, List, length, take, replicate, ap, arith}
+use Rattle.std.specs.Prelude.{slice_index}
+use Rattle.std.proofs.Common.{◌≡◌, ◌≤◌, ◌∙◌, ℕ, List, length, replicate, ap, arith}
 use Rattle.std.proofs.lemmas.Result.{IfOk-weaker}
-use Rattle.run_model.specs.Cut.{lengths}
 use Rattle.run_model.specs.Consistent.{clock}
 use Rattle.run_model.proofs.Counts.{length-lengths}
 use Rattle.slice_graph.specs.PullLists.{pulls_of_order}
@@ -10,9 +10,12 @@ use Rattle.slice_graph.proofs.starting.order_rows.Goals as goal
 
 pub order_rows_above-requires : goal.order_rows_above-requires
 order_rows_above-requires c =
-    let o = c.args.order.now in
-    let procs : c.procs.result ≡ length o = omega (arith, c.procs.ensures.count, ap length c.shape.ensures.lens, length-lengths o) in
-    ap length (zeros_of 32 c.procs.result (omega (arith, c.procs.ensures.count, c.procs.ensures.shape.few))) ∙ (zero_counts c.procs.result 0).0 ∙ procs
+    let few : c.procs.result ≤ 32 = omega (arith, c.procs.ensures.count, c.procs.ensures.shape.few) in
+    let zeros = zeros_of 32 c.procs.result few in
+    record {
+      size = ap length zeros ∙ (zero_counts c.procs.result 0).0 ∙ c.procs.ensures.count ∙ ap length c.shape.ensures.lens;
+      within = λ i. omega (arith, ap (λ (l : List ℕ). slice_index l i) zeros, (zero_counts c.procs.result i).1);
+    }
 
 pub returns-clause-bottom : goal.returns-clause-bottom
 returns-clause-bottom c =

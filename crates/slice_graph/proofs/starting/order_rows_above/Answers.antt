@@ -1,8 +1,9 @@
+use Rattle.std.specs.Prelude.{slice_index}
+use Rattle.pull_system.proofs.Sums.{component_le}
 use Rattle.std.proofs.Common.{rules, ◌≡◌, ◌+◌, ◌∙◌, ℕ, List, length, replicate, sum, refl, ap, sym, subst, arith}
 use Rattle.std.proofs.lemmas.Result.{IfOk-weaker}
 use Rattle.pota_base.specs.Shape.{row_of}
 use Rattle.run_model.specs.Cut.{lengths, max_cut}
-use Rattle.run_model.specs.Consistent.{clock}
 use Rattle.run_model.proofs.Counts.{length-lengths, length-max}
 use Rattle.pull_system.specs.Rows.{RowsView, row_at}
 use Rattle.slice_graph.specs.Starting.{AreWithinClosed}
@@ -12,10 +13,23 @@ use Rattle.slice_graph.proofs.StartingRows.{IsRaisedRow, words_none, words_more,
 use Rattle.slice_graph.proofs.starting.order_rows_above.Goals as goal
 
 pub loop-row-init : goal.loop-row-init
-loop-row-init c = record { built = words_none (lengths c.args.order.now) (IsRaisedRow c.args.order.now c.args.vector.now) _ (search rules); width = search rules }
+loop-row-init c = record {
+  built = words_none (lengths c.args.order.now) (IsRaisedRow c.args.order.now c.args.vector.now) _ (search rules);
+  width = search rules;
+  wide_width = search rules;
+}
+
+pub narrow-requires-clause-width : goal.narrow-requires-clause-width
+narrow-requires-clause-width c =
+    let procs : c.procs-procs.result ≡ length (lengths c.args.order.now) = c.procs-procs.ensures.count ∙ ap length c.shape-shape.ensures.lens in
+    c.requires.size ∙ sym (ap length (zeros_of 32 c.procs-procs.result (omega (arith, c.procs-procs.ensures.count, c.procs-procs.ensures.shape.few))) ∙ (zero_counts c.procs-procs.result 0).0 ∙ procs)
+
+pub narrow-requires-clause-small : goal.narrow-requires-clause-small
+narrow-requires-clause-small c i =
+    omega (arith, c.requires.within i, c.procs-procs.ensures.shape.events, component_le c.shape-shape.result.now i, ap (λ (l : List ℕ). slice_index l i) c.shape-shape.ensures.lens)
 
 pub copy_from_slice-requires : goal.copy_from_slice-requires
-copy_from_slice-requires c = omega (arith, c.loop-row.invariant.width, c.requires, length-lengths c.args.order.now)
+copy_from_slice-requires c = omega (arith, c.loop-row.invariant.width, ap length c.narrow.ensures, c.requires.size)
 
 pub clock_of-requires-clause-width : goal.clock_of-requires-clause-width
 clock_of-requires-clause-width c =
@@ -25,7 +39,15 @@ clock_of-requires-clause-width c =
 pub raise_to-requires : goal.raise_to-requires
 raise_to-requires c =
     let copied : c.copy_from_slice.new.self ≡ c.args.vector.now = search rules in
-    c.clock_of.ensures.width ∙ sym (ap length copied ∙ c.requires)
+    c.clock_of.ensures.width ∙ sym (ap length copied ∙ c.requires.size ∙ length-lengths c.args.order.now)
+
+pub widen-requires : goal.widen-requires
+widen-requires c =
+    let o = c.args.order.now in
+    let v : List ℕ = c.args.vector.now in
+    let copied : c.copy_from_slice.new.self ≡ v = search rules in
+    let raised : c.raise_to.new.into ≡ max_cut c.clock_of.result.now v = c.raise_to.ensures ∙ ap (λ (xs : List ℕ). max_cut c.clock_of.result.now xs) copied in
+    omega (arith, ap length raised, length-max c.clock_of.result.now v, c.clock_of.ensures.width, c.requires.size, length-lengths o, c.loop-row.invariant.wide_width)
 
 pub loop-row-preserved : goal.loop-row-preserved
 loop-row-preserved c =
@@ -36,13 +58,16 @@ loop-row-preserved c =
     let raised : c.raise_to.new.into ≡ max_cut c.clock_of.result.now v = c.raise_to.ensures ∙ ap (λ (xs : List ℕ). max_cut c.clock_of.result.now xs) copied in
     let procs : c.procs-procs.result ≡ length o = omega (arith, c.procs-procs.ensures.count, ap length c.shape-shape.ensures.lens, length-lengths o) in
     let zeros = zeros_of 32 c.procs-procs.result (omega (arith, c.procs-procs.ensures.count, c.procs-procs.ensures.shape.few)) ∙ ap (λ (n : ℕ). replicate n 0) procs in
-    let width : length c.raise_to.new.into ≡ length (lengths o) = omega (arith, ap length raised, length-max c.clock_of.result.now v, c.clock_of.ensures.width, c.requires, length-lengths o) in
+    let width : length c.raise_to.new.into ≡ length (lengths o) = omega (arith, ap length raised, length-max c.clock_of.result.now v, c.clock_of.ensures.width, c.requires.size, length-lengths o) in
+    let wide : c.widen.new.into ≡ max_cut c.clock_of.result.now v = c.widen.ensures ∙ raised in
+    let wide_width : length c.widen.new.into ≡ length (lengths o) = ap length c.widen.ensures ∙ width in
     record {
-      built = words_more (lengths o) (IsRaisedRow o v) c.loop-row.row _ _ _ inv.built width (record {
-        bottom = λ first. raised ∙ zeros_max (length o) c.clock_of.result.now v (c.clock_of.ensures.bottom first ∙ zeros) c.requires;
-        event = λ e there at. raised ∙ ap (λ (xs : List ℕ). max_cut xs v) (c.clock_of.ensures.event e there at);
+      built = words_more (lengths o) (IsRaisedRow o v) c.loop-row.row _ _ _ inv.built wide_width (record {
+        bottom = λ first. wide ∙ zeros_max (length o) c.clock_of.result.now v (c.clock_of.ensures.bottom first ∙ zeros) (c.requires.size ∙ length-lengths o);
+        event = λ e there at. wide ∙ ap (λ (xs : List ℕ). max_cut xs v) (c.clock_of.ensures.event e there at);
       }) c.in_ok-extend_from_slice.ensures.items;
       width = width;
+      wide_width = wide_width;
     }
 
 pub returns-clause-bottom : goal.returns-clause-bottom

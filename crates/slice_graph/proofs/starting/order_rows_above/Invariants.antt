@@ -7,4 +7,5 @@ abbrev pub invariant-loop-row : goal.invariant-loop-row
 invariant-loop-row l = record {
   built : AreBuilt (lengths l.order) (IsRaisedRow l.order l.vector) l.row l.words.items;
   width : length l.room ≡ length (lengths l.order);
+  wide_width : length l.wide ≡ length (lengths l.order);
 }
