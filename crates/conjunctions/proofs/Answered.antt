@@ -21,12 +21,12 @@ use Rattle.conjunctions.specs.declared.answer.PartAnswer.{PartAnswer}
 use Rattle.conjunctions.specs.declared.answer.Answer.{Answer}
 use Rattle.part_pulls.specs.Observing.{Reading, AreAnswers, clocks_seen, lens_seen, run_seen, names_seen}
 use Rattle.conjunctions.specs.Numbering.{conjunctions_in, all_conjunctions}
-use Rattle.conjunctions.specs.Rounds.{RoundView}
+use Rattle.conjunctions.specs.Rounds.{RoundView, HasOrderSystem}
 use Rattle.conjunctions.specs.Settling.{AreFloors, Settles}
 use Rattle.conjunctions.specs.Answering.{IsSliceOf, IsAnswer, places_from, all_places}
 use Rattle.conjunctions.specs.Answering.{ArePartAnswers}
 use Rattle.conjunctions.specs.inside.Answering.{AddsAnswers}
-use Rattle.conjunctions.proofs.InTurn.{settles_anew, settles_on, floors_left, floors_right}
+use Rattle.conjunctions.proofs.InTurn.{settles_none, settles_on, floors_left, floors_right}
 use Rattle.conjunctions.proofs.Adding.{answers_none, answers_more}
 use Rattle.graft.specs.Joined.{min_rows, joined_views}
 use Rattle.graft.proofs.Joining.{joined_fits, joined_stands_for}
@@ -65,9 +65,9 @@ empty_fits o slice is = subst (FitsOrder o) (sym is) (record {
 })
 
 pub answered_none : (seen : Observed) (workers : ℕ) (round : RoundView) (steps : ℕ) (slice : SliceView) → slice ≡ record { lens = lens_seen seen; rows = replicate (sum (lens_seen seen) + 1) no_row }
-    → Answered seen workers round (record round { system = None }) steps steps [] false slice []
-answered_none seen workers round steps slice is = record {
-  settles = settles_anew seen workers round steps;
+    → HasOrderSystem (clocks_seen seen) round → Answered seen workers round round steps steps [] false slice []
+answered_none seen workers round steps slice is order = record {
+  settles = settles_none seen workers round steps order;
   told = answers_none seen [];
   truth = λ reading are. (λ h. absurd (cc), λ h. absurd h);
   fits = empty_fits (clocks_seen seen) slice is;

@@ -1,5 +1,5 @@
 -- Conjunctions that are settled one after the other.
-use Rattle.std.proofs.Common.{◌≡◌, ℕ, suc, zero, ◌+◌, List, [], ◌∷◌, ◌++◌, length, drop, None, refl, sym, ◌∙◌, ap, arith, append_assoc, append-nil, length-append}
+use Rattle.std.proofs.Common.{◌≡◌, ℕ, suc, zero, ◌+◌, List, [], ◌∷◌, ◌++◌, length, drop, refl, sym, ◌∙◌, ap, arith, append_assoc, append-nil, length-append}
 use Rattle.std.proofs.lemmas.List.{drop-drop}
 use Rattle.pull_system.specs.Rows.{RowsView}
 use Rattle.rctl_parts.specs.Pieces.{Piece}
@@ -40,11 +40,6 @@ bounds_joined seen lens before (c ∷ cs) ds (r ∷ rs) qs h =
 pub settles_none : (seen : Observed) (workers : ℕ) (round : RoundView) (steps : ℕ) → HasOrderSystem (clocks_seen seen) round → Settles seen workers round round steps steps []
 settles_none seen workers round steps order =
     record { before = refl; added = []; settled = sym (append-nil round.settled); rows = tt; looks = λ one. omega arith; order = order }
-
--- a round that begins an answer
-pub settles_anew : (seen : Observed) (workers : ℕ) (round : RoundView) (steps : ℕ) → Settles seen workers round (record round { system = None }) steps steps []
-settles_anew seen workers round steps =
-    record { before = refl; added = []; settled = sym (append-nil round.settled); rows = tt; looks = λ one. omega arith; order = record { own = tt } }
 
 pub settles_on : (seen : Observed) (workers : ℕ) (a b c : RoundView) (s t u : ℕ) (cs ds : List (List Piece))
     → Settles seen workers a b s t cs → Settles seen workers b c t u ds → Settles seen workers a c s u (cs ++ ds)

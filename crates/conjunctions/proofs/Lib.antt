@@ -1,3 +1,4 @@
+mod Earlier
 mod InTurn
 mod Ordering
 mod EachRising
@@ -7,7 +8,7 @@ mod Settled
 mod Staying
 mod Later
 mod FinalRows
-mod Kept
+mod KeptCounters
 mod Finals
 mod Asking
 mod Joining

@@ -1,9 +1,9 @@
 -- The rows of conjunctions, and the system that they share, as contracts see them.
-use Rattle.std.specs.Prelude.{◌≡◌, List, Option, IfSome}
-use Rattle.run_model.specs.Cut.{Clocks, lengths}
+use Rattle.std.specs.Prelude.{List, Option, IfSome}
+use Rattle.run_model.specs.Cut.{Clocks}
 use Rattle.pull_system.specs.System.{SystemView}
 use Rattle.pull_system.specs.Rows.{RowsView}
-use Rattle.slice_graph.specs.PullLists.{pulls_of_order}
+use Rattle.slice_graph.specs.Growing.{IsEarlierSystem}
 
 -- the rows of before that are left, those that were settled, and the system of the order's pulls
 -- where there is one
@@ -12,10 +12,7 @@ pub record RoundView : Type 0 where
   pub settled : List RowsView
   pub system : Option SystemView
 
--- the system of the order's pulls alone
-abbrev pub system_of_order : Clocks → SystemView
-system_of_order o = record { lens = lengths o; pulls = pulls_of_order o }
-
--- where the round has a system, it is that of the order's pulls alone
+-- where the round has a system, it is that of the order's pulls alone, from this order or from an
+-- earlier one
 pub record HasOrderSystem (o : Clocks) (round : RoundView) : Type 0 where
-  pub own : IfSome round.system (λ system. system ≡ system_of_order o)
+  pub own : IfSome round.system (IsEarlierSystem o)

@@ -76,14 +76,14 @@ AreFloors seen (rows ∷ before) [] = Unit {0}
 AreFloors seen (rows ∷ before) (ps ∷ cs) = IsFloor seen ps rows × AreFloors seen before cs
 
 -- these conjunctions may be settled in the round: each may begin from its rows of before, and the
--- system that the round has is that of the order
+-- system that the round has is that of the order, or of an earlier one
 pub record CanSettle (seen : Observed) (round : RoundView) (cs : List (List Piece)) : Type 0 where
   pub floors : AreFloors seen round.before cs
   pub order : HasOrderSystem (clocks_seen seen) round
 
 -- these conjunctions were settled: their rows stand behind the others, as many rows of before are
 -- used up, one worker took no more steps than each may, and the system that the round has is that
--- of the order
+-- of the order, or of an earlier one
 pub record Settles (seen : Observed) (workers : ℕ) (old new : RoundView)
     (steps_before steps_after : ℕ) (cs : List (List Piece)) : Type 0 where
   pub before : new.before ≡ drop (length cs) old.before

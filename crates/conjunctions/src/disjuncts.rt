@@ -6,7 +6,7 @@ ghost use Rattle.rctl_parts.specs.MadeFor.{AreMadeFor};
 ghost use Rattle.part_pulls.specs.Observing.{IsReady, scope_seen};
 ghost use Rattle.part_pulls.specs.Counters.{CountersRise};
 ghost use Rattle.conjunctions.specs.Numbering.{all_conjunctions};
-ghost use Rattle.conjunctions.specs.Settling.{AreFloors, Settles};
+ghost use Rattle.conjunctions.specs.Settling.{CanSettle, Settles};
 ghost use Rattle.conjunctions.specs.Answering.{IsAnswer};
 ghost use Rattle.conjunctions.specs.inside.Joining.{so_far};
 
@@ -74,8 +74,7 @@ pub fn answer_all<R: Threads + Sync, G: Gate, L: Ledger>(
     requires ready { IsReady seen.now }
     requires made { AreMadeFor (scope_seen seen.now) (disjuncts_of disjuncts.now) }
     requires counters { CountersRise seen.now (disjuncts_of disjuncts.now) }
-    requires floors { AreFloors seen.now round.old.before
-        (all_conjunctions (disjuncts_of disjuncts.now)) }
+    requires begins { CanSettle seen.now round.old (all_conjunctions (disjuncts_of disjuncts.now)) }
     requires some { 1 ≤ workers }
     requires few { workers ≤ 16 }
     ensures answer { IfOk result (IsAnswer seen.now (disjuncts_of disjuncts.now)) }

@@ -11,7 +11,8 @@
 //! from once more was observed (`settled_rows_are_kept`).
 //!
 //! Conjunctions of atoms, and those whose operators are all EX, begin with the order's pulls. The
-//! first of them makes their system, and each leaves it to the next in the round.
+//! first of them makes their system, and each leaves it to the next in the round. From the second
+//! answer on it is kept, and the next answer grows it (`Kept`).
 //!
 //! A difference of counters is an atom. Its pulls say what it means where neither counter ever
 //! falls, which the caller has to show (clause `counters`; `counters_are_kept` hands it on). EX asks
@@ -39,4 +40,4 @@ mod systems;
 pub use answer::{Answer, PartAnswer};
 pub use disjuncts::answer_all;
 pub use laws::{counters_are_kept, one_answer, rows_with_a_cut_are_final, settled_rows_are_kept};
-pub use round::Round;
+pub use round::{Kept, Round};

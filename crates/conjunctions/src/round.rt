@@ -8,18 +8,42 @@ use slice_workers::Settled;
 use std::alloc::Global;
 use std::marker::Model;
 
+/// What an answer leaves to the next one: the rows of the conjunctions in the order of their
+/// numbers, and the system of the order's pulls, where one was made and kept.
+#[derive(Drop)]
+pub struct Kept {
+    pub settled: List<Settled>,
+    pub system: Option<System>,
+}
+
+impl Kept {
+    /// Nothing, as before the first answer. It takes no memory.
+    pub fn new(alloc: Global) -> Kept
+        ensures settled { result.settled ≡ [] }
+        ensures system { result.system ≡ None }
+    {
+        Kept {
+            settled: List::new(alloc),
+            system: None,
+        }
+    }
+}
+
 /// The rows of the conjunctions in the order of their numbers: those of before that are still to
 /// come, and those that were settled now. Each conjunction takes one of the former, and leaves one
 /// of the latter.
 ///
 /// Conjunctions that begin with the order's pulls share the system of these: the first of them
-/// makes it, and each leaves it to the next one. The last one lets it go, so that it takes no room
-/// beside what comes after it.
+/// makes it, or grows that of the answer before, and each leaves it to the next one. In a first
+/// answer the last one lets it go, so that it takes no room beside what comes after it. Where there
+/// was an answer before, more are likely to come, and it is kept for them.
 #[derive(Drop)]
 pub struct Round {
     before: std::vec::IntoIter<Settled>,
     settled: List<Settled>,
     system: Option<System>,
+    /// Whether the system is kept for the next answer. Contracts don't see it.
+    keeps: bool,
     /// How many conjunctions are still to take the system. Contracts don't see it.
     sharers: u32,
 }
@@ -38,32 +62,34 @@ impl Model for Round {
 }
 
 impl Round {
-    /// A round over these rows of before, of which there are none in a first one. It has no system
-    /// yet. It takes no memory.
-    pub fn new(alloc: Global, before: List<Settled>) -> Round
-        ensures before { result.before ≡ before }
+    /// A round that goes on from what the answer before left. It takes no memory.
+    pub fn new(alloc: Global, kept: Kept) -> Round
+        ensures before { result.before ≡ kept.settled }
         ensures settled { result.settled ≡ [] }
-        ensures system { result.system ≡ None }
+        ensures system { result.system ≡ kept.system }
     {
+        let Kept { settled, system } = kept;
+        let keeps = !settled.is_empty();
         Round {
-            before: before.into_vec().into_iter(),
+            before: settled.into_vec().into_iter(),
             settled: List::new(alloc),
-            system: None,
+            system,
+            keeps,
             sharers: 0,
         }
     }
 
-    /// Begins an answer, in which so many conjunctions are to take the system. It has none yet.
+    /// Begins an answer, in which so many conjunctions are to take the system.
     pub(crate) fn begin(&mut self, sharers: u32)
-        ensures { self.new ≡ record self.old { system = None } }
+        ensures { self.new ≡ self.old }
     {
-        self.system = None;
         self.sharers = sharers;
     }
 
-    /// Whether a conjunction is still to take the system.
+    /// Whether the system is still wanted: by a conjunction that is to take it, or by the next
+    /// answer.
     pub(crate) fn is_shared(&self) -> bool {
-        self.sharers > 0
+        self.keeps || self.sharers > 0
     }
 
     /// The next rows of before.
@@ -101,18 +127,19 @@ impl Round {
         self.system = Some(system);
     }
 
-    /// The rows that were settled.
-    pub fn into_settled(self) -> List<Settled>
-        ensures { result ≡ self.settled }
+    /// What this answer leaves to the next one: the rows that were settled, and the system.
+    pub fn into_kept(self) -> Kept
+        ensures settled { result.settled ≡ self.settled }
+        ensures system { result.system ≡ self.system }
     {
         let Round {
             before,
             settled,
             system,
+            keeps: _,
             sharers: _,
         } = self;
         drop(before);
-        drop(system);
-        settled
+        Kept { settled, system }
     }
 }

@@ -1,11 +1,12 @@
-//! The system of a conjunction: that of the order's pulls, which conjunctions share, with the
-//! conjunction's own pulls behind them, or one of its own.
+//! The system of a conjunction: that of the order's pulls, which conjunctions share and answers
+//! hand on, with the conjunction's own pulls behind them, or one of its own.
 ghost use Rattle.std.specs.Prelude.{◌≡◌, ◌*◌, ◌-◌, ◌^◌, ◌<◌, ◌++◌, true, false, length, All, IfOk};
 ghost use Rattle.std.specs.Prelude.{None, OnOk};
 ghost use Rattle.run_model.specs.Cut.{lengths};
 ghost use Rattle.pull_system.specs.System.{IsPull};
 ghost use Rattle.slice_graph.specs.PullLists.{pulls_of_order};
-ghost use Rattle.conjunctions.specs.Rounds.{HasOrderSystem, system_of_order};
+ghost use Rattle.slice_graph.specs.Growing.{IsEarlierSystem, system_of_order};
+ghost use Rattle.conjunctions.specs.Rounds.{HasOrderSystem};
 ghost use Rattle.conjunctions.specs.inside.Asked.{asked_pulls};
 ghost use Rattle.conjunctions.specs.inside.Beginning.{BeginsWithOrder};
 ghost use Rattle.conjunctions.specs.inside.Settling.{KeepsRows};
@@ -15,18 +16,37 @@ use crate::round::Round;
 use causal_order::Order;
 use pota_base::NoMemory;
 use pull_fans::System;
-use slice_graph::order_fans;
+use slice_graph::{grown_order_system, order_fans};
 use std::alloc::Global;
 
-/// The system of the order's pulls alone: the round's, and where it has none a new one.
+/// The system of the order's pulls alone, made from nothing.
+fn new_system(alloc: Global, order: &Order) -> Result<System, NoMemory>
+    ensures { IfOk result (λ system. system ≡ system_of_order order.now) }
+{
+    System::of_fans(alloc, order.shape(), order_fans(alloc, order)?)
+}
+
+/// The system of the order's pulls, from that of the order itself or of an earlier one.
+fn grown(alloc: Global, order: &Order, system: System) -> Result<System, NoMemory>
+    requires { IsEarlierSystem order.now system }
+    ensures { IfOk result (λ system. system ≡ system_of_order order.now) }
+{
+    if system.shape().lens() == order.shape().lens() {
+        return Ok(system);
+    }
+    grown_order_system(alloc, order, system)
+}
+
+/// The system of the order's pulls alone: the round's, grown to this order, and where it has none a
+/// new one.
 fn order_system(alloc: Global, order: &Order, round: &mut Round) -> Result<System, NoMemory>
     requires { HasOrderSystem order.now round.old }
     ensures system { IfOk result (λ system. system ≡ system_of_order order.now) }
     ensures round { round.new ≡ record round.old { system = None } }
 {
     match round.take_system() {
-        Some(system) => Ok(system),
-        None => System::of_fans(alloc, order.shape(), order_fans(alloc, order)?),
+        Some(system) => grown(alloc, order, system),
+        None => new_system(alloc, order),
     }
 }
 

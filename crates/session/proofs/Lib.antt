@@ -6,4 +6,5 @@ mod Still
 mod Listing
 mod Going
 mod Completing
+mod Earlier
 mod OneTrace

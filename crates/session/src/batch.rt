@@ -1,12 +1,13 @@
 //! A batch of which the trace has the events already: the watches are fed. And what was observed is
 //! answered.
-ghost use Rattle.std.specs.Prelude.{◌≡◌, ◌+◌, ◌≤◌, [], false, length, IfOk, OnOk, OnErr};
+ghost use Rattle.std.specs.Prelude.{◌≡◌, ◌+◌, ◌≤◌, [], false, length, IfOk, IfSome, OnOk, OnErr};
 ghost use Rattle.rctl_parts.specs.Pieces.{disjuncts_of};
 ghost use Rattle.rctl_parts.specs.MadeFor.{AreMadeFor};
-ghost use Rattle.part_pulls.specs.Observing.{IsReady, lens_seen, scope_seen};
+ghost use Rattle.part_pulls.specs.Observing.{IsReady, clocks_seen, lens_seen, scope_seen};
 ghost use Rattle.part_pulls.specs.Counters.{CountersRise};
 ghost use Rattle.conjunctions.specs.Numbering.{all_conjunctions};
 ghost use Rattle.conjunctions.specs.Counting.{bounds};
+ghost use Rattle.slice_graph.specs.Growing.{IsEarlierSystem};
 ghost use Rattle.conjunctions.specs.Settling.{AreFloors, AreSettled};
 ghost use Rattle.conjunctions.specs.Answering.{IsAnswer};
 ghost use Rattle.watch.specs.Saying.{said_by};
@@ -15,11 +16,10 @@ ghost use Rattle.session.specs.inside.Growing.{Completes};
 ghost use Rattle.session.specs.Fed.{Feeds};
 ghost use Rattle.session.specs.Taken.{AreWorkers};
 
-use conjunctions::{Answer, Round, answer_all};
+use conjunctions::{Answer, Kept, Round, answer_all};
 use part_pulls::Observed;
 use pota_base::{Gate, List, NoMemory, Steps};
 use rctl_parts::Part;
-use slice_workers::Settled;
 use std::alloc::Global;
 use std::mem;
 use std::sync::ledger::Ledger;
@@ -53,23 +53,25 @@ pub(crate) fn feed_batch(
     Ok(())
 }
 
-// A round in which each conjunction begins from its rows of before. They are taken from the list.
-fn begin_round(alloc: Global, settled: &mut List<Settled>) -> Round
-    ensures before { result.before ≡ settled.old }
+// A round that goes on from what was kept. That is taken out.
+fn begin_round(alloc: Global, kept: &mut Kept) -> Round
+    ensures before { result.before ≡ kept.old.settled }
     ensures settled { result.settled ≡ [] }
+    ensures system { result.system ≡ kept.old.system }
 {
-    let before = mem::replace(settled, List::new(alloc));
+    let before = mem::replace(kept, Kept::new(alloc));
     Round::new(alloc, before)
 }
 
 /// Answers the formula on the trace so far. Each conjunction of atoms begins from its rows of
-/// before, and the new rows stand in their place.
+/// before, and the new rows stand in their place. The system of the order's pulls is grown where
+/// there is one.
 pub(crate) fn answer_seen<R: Threads + Sync, G: Gate, L: Ledger>(
     rt: &R,
     alloc: Global,
     seen: &Observed,
     disjuncts: &List<List<Part>>,
-    settled: &mut List<Settled>,
+    kept: &mut Kept,
     workers: u32,
     gate: &G,
     steps: &mut Steps<L>,
@@ -77,17 +79,20 @@ pub(crate) fn answer_seen<R: Threads + Sync, G: Gate, L: Ledger>(
     requires ready { IsReady seen.now }
     requires made { AreMadeFor (scope_seen seen.now) (disjuncts_of disjuncts.now) }
     requires rise { CountersRise seen.now (disjuncts_of disjuncts.now) }
-    requires floors { AreFloors seen.now settled.old
+    requires floors { AreFloors seen.now kept.old.settled
         (all_conjunctions (disjuncts_of disjuncts.now)) }
+    requires system { IfSome kept.old.system (IsEarlierSystem (clocks_seen seen.now)) }
     requires workers { AreWorkers workers }
     ensures answer { IfOk result (IsAnswer seen.now (disjuncts_of disjuncts.now)) }
     ensures settled { OnOk result (AreSettled seen.now
-        (all_conjunctions (disjuncts_of disjuncts.now)) settled.new) }
+        (all_conjunctions (disjuncts_of disjuncts.now)) kept.new.settled) }
     ensures looks { OnOk result (workers ≡ 1 → steps.new ≤ steps.old
-        + bounds (lens_seen seen.now) settled.old (all_conjunctions (disjuncts_of disjuncts.now))
-        settled.new) }
+        + bounds (lens_seen seen.now) kept.old.settled
+        (all_conjunctions (disjuncts_of disjuncts.now)) kept.new.settled) }
+    ensures system { OnOk result
+        (IfSome kept.new.system (IsEarlierSystem (clocks_seen seen.now))) }
 {
-    let mut round = begin_round(alloc, settled);
+    let mut round = begin_round(alloc, kept);
     let answer = answer_all(
         rt,
         alloc,
@@ -98,6 +103,6 @@ pub(crate) fn answer_seen<R: Threads + Sync, G: Gate, L: Ledger>(
         gate,
         steps,
     )?;
-    *settled = round.into_settled();
+    *kept = round.into_kept();
     Ok(answer)
 }

@@ -8,18 +8,18 @@ ghost use Rattle.session.specs.Growing.{opened_observed, opened_growing, counter
 ghost use Rattle.session.specs.inside.Growing.{Keeps};
 
 use crate::counters::counters_of;
-use conjunctions::Answer;
+use conjunctions::{Answer, Kept};
 use counter_preds::{Variable, first_fall};
 use event_log::{Event, Header, LogFault};
 use part_pulls::Observed;
 use pota_base::{List, NoMemory};
 use rctl_parts::{Part, Resolved};
-use slice_workers::Settled;
 use std::alloc::Global;
 use std::marker::Model;
 use trace_growth::Trace;
 
-/// A formula over what was observed of a trace so far, the rows of its conjunctions and its answer.
+/// A formula over what was observed of a trace so far, its answer, and what that leaves to the next
+/// one: the rows of its conjunctions, which contracts see, and a system, which they don't.
 ///
 /// After want of memory it is spent, and nothing more is known of it.
 #[derive(Drop)]
@@ -28,18 +28,20 @@ pub struct Growing {
     pub(crate) disjuncts: List<List<Part>>,
     /// The variables of the differences, none of which may fall.
     pub(crate) counters: List<Variable>,
-    pub(crate) settled: List<Settled>,
+    pub(crate) kept: Kept,
     pub(crate) answer: Option<Answer>,
     pub(crate) spent: bool,
     pub(crate) alloc: Global,
 }
 
 impl Model for Growing {
-    ghost use Rattle.std.specs.Prelude.{◌≡◌, false};
+    ghost use Rattle.std.specs.Prelude.{◌≡◌, false, IfSome};
     ghost use Rattle.std.specs.Coded.{codes};
     ghost use Rattle.rctl_parts.specs.contracts.part.Part as e;
     ghost use Rattle.rctl_parts.specs.Pieces.{disjuncts_of};
     ghost use Rattle.part_pulls.specs.Counters.{counters_of};
+    ghost use Rattle.part_pulls.specs.Observing.{clocks_seen};
+    ghost use Rattle.slice_graph.specs.Growing.{IsEarlierSystem};
     ghost use Rattle.session.specs.Growing.{GrowingView};
     ghost use Rattle.session.specs.inside.Growing.{Keeps};
 
@@ -50,13 +52,14 @@ impl Model for Growing {
     ghost view = { λ g. record {
       seen = g.seen;
       disjuncts = g.disjuncts;
-      settled = g.settled;
+      settled = g.kept.settled;
       answer = g.answer;
       spent = g.spent;
     } };
 
     ghost invariant = { λ g. (g.counters ≡ counters_of (disjuncts_of g.disjuncts))
-        × (g.spent ≡ false → Keeps g.seen g.disjuncts g.settled g.answer) };
+        × (g.spent ≡ false → Keeps g.seen g.disjuncts g.kept.settled g.answer)
+        × (g.spent ≡ false → IfSome g.kept.system (IsEarlierSystem (clocks_seen g.seen))) };
 }
 
 // An empty row for each watch.
@@ -98,7 +101,7 @@ impl Growing {
             },
             disjuncts,
             counters,
-            settled: List::new(alloc),
+            kept: Kept::new(alloc),
             answer: None,
             spent: false,
             alloc,

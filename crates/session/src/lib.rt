@@ -11,7 +11,8 @@
 //! `Session::answer` has the truth of the formula, its slice and its parts on the trace so far, and
 //! `Session::settled` the rows of each of the `Session::conjunctions`. The rows of a conjunction of
 //! atoms are kept from answer to answer (`rows`), and one worker takes at most the steps of their
-//! rise (`looks`). So batches that nobody asks an answer for cost no look-up.
+//! rise (`looks`). So batches that nobody asks an answer for cost no look-up. From the second answer
+//! on, the system of the order's pulls is kept too, and the next answer grows it.
 //!
 //! `Session::into_seen` hands over what was observed, with the formula by its disjuncts.
 //!

@@ -149,7 +149,7 @@ impl Session {
             self.growing.alloc,
             &self.growing.seen,
             &self.growing.disjuncts,
-            &mut self.growing.settled,
+            &mut self.growing.kept,
             workers,
             gate,
             steps,
@@ -278,7 +278,7 @@ impl Session {
         ensures { result ≡ length (all_conjunctions
             (disjuncts_of self.now.growing.disjuncts)) }
     {
-        self.growing.settled.len()
+        self.growing.kept.settled.len()
     }
 
     /// The rows of a conjunction on the trace so far: those that the answer's bound of look-ups
@@ -295,6 +295,6 @@ impl Session {
         ensures kept { result.now
             ≡ slice_index_or self.now.growing.settled (conjunction - 1) result.now }
     {
-        self.growing.settled.get(conjunction as usize - 1)
+        self.growing.kept.settled.get(conjunction as usize - 1)
     }
 }

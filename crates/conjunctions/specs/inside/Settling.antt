@@ -30,7 +30,8 @@ pub record CanSettlePart (seen : Observed) (round : RoundView) (p : Piece) : Typ
   pub counters : AllRise seen (counters_of_part p)
   pub begins : CanSettle seen round (within p)
 
--- what was gathered and the system that the round has are of this order
+-- what was gathered is of this order, and the system that the round has is of it or of an earlier
+-- one
 pub record SharesOrder (o : Clocks) (gathered : GatheredView) (round : RoundView) : Type 0 where
   pub same : gathered.order ≡ o
   pub system : HasOrderSystem o round
@@ -42,7 +43,7 @@ pub record KeepsRows (old new : RoundView) : Type 0 where
 
 -- one conjunction with these pulls was settled: its rows are the least ones of the system, they
 -- stand behind the others, the slice has the consistent cuts that are closed under the pulls, and
--- the system that the round has is that of the order
+-- the system that the round has is that of the order, or of an earlier one
 pub record SettlesOne (o : Clocks) (pulls : List Pull) (keeps : Bool) (workers : ℕ)
     (old new : RoundView) (steps_before steps_after : ℕ) (slice : SliceView) : Type 0 where
   pub before : new.before ≡ drop 1 old.before

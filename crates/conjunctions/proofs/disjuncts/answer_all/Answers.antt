@@ -25,7 +25,7 @@ pub disjuncts-init : goal.disjuncts-init
 disjuncts-init g c =
     let seen = c.args.seen.now in
     let shown = so_far (lens_seen seen) None in
-    let none = answered_none seen c.args.workers c.args.round.now c.args.steps.now shown refl in
+    let none = answered_none seen c.args.workers c.args.round.now c.args.steps.now shown refl c.requires.begins.order in
     subst (λ (parts : List PartAnswer). Answered seen c.args.workers c.args.round.now c.begin.new.self c.args.steps.now c.args.steps.now parts false shown []) (sym c.new-parts.ensures)
     (subst (λ (round : RoundView). Answered seen c.args.workers c.args.round.now round c.args.steps.now c.args.steps.now [] false shown []) (sym c.begin.ensures) none)
 
@@ -52,7 +52,7 @@ settle_conjunction-requires-clause-begins g c = λ κs lives.
     let seen = c.args.seen.now in
     let splits = disjunct_at c.args.disjuncts.now c.disjuncts.index c.index-disjuncts-index.result c.disjuncts-test.true c.index-disjuncts-index.is in
     let floors = disjunct_floors seen c.args.workers c.args.round.now c.disjuncts.round c.args.steps.now c.disjuncts.steps (disjuncts_of (take c.disjuncts.index c.args.disjuncts.now)) (pieces_of c.index-disjuncts-index.result) splits.later
-    (subst (λ (ds : List (List Piece)). AreFloors seen c.args.round.now.before (all_conjunctions ds)) splits.is c.requires.floors) c.disjuncts.invariant.settles in
+    (subst (λ (ds : List (List Piece)). AreFloors seen c.args.round.now.before (all_conjunctions ds)) splits.is c.requires.begins.floors) c.disjuncts.invariant.settles in
     record { floors = subst (λ (parts : List Part). AreFloors seen c.disjuncts.round.before (conjunctions_in (pieces_of parts))) (sym c.as_slice-disjunct.ensures) floors; order = c.disjuncts.invariant.settles.order }
 
 pub settle_conjunction-requires-clause-counters : goal.settle_conjunction-requires-clause-counters

@@ -2,6 +2,7 @@ use Rattle.std.proofs.Common.{rules, ◌≡◌, ◌∙◌, ◌≤◌, ◌+◌, �
 use Rattle.std.proofs.lemmas.Result.{IfOk-weaker}
 use Rattle.run_model.specs.Cut.{lengths}
 use Rattle.run_model.proofs.Counts.{length-lengths}
+use Rattle.pull_system.specs.Vector.{IsVector}
 use Rattle.pull_system.specs.System.{SystemView}
 use Rattle.pull_system.specs.Rows.{IsLeast, row_at}
 use Rattle.slice_workers.proofs.Reached.{zeros, length-zeros, get_or-zeros}
@@ -15,7 +16,7 @@ least-requires g c =
     record { size = length-zeros c.procs.result 32 few ∙ procs; within = λ i. omega (arith, get_or-zeros c.procs.result 32 i) }
 
 pub order_rows_above-requires : goal.order_rows_above-requires
-order_rows_above-requires g c = c.least.ensures.least.closed.vector.size ∙ ap length c.requires.system ∙ length-lengths c.args.order.now
+order_rows_above-requires g c = subst (λ (lens : List ℕ). IsVector lens c.least.new.vector) c.requires.system c.least.ensures.least.closed.vector
 
 pub returns-clause-rows : goal.returns-clause-rows
 returns-clause-rows g c =

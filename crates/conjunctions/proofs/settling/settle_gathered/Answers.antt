@@ -11,7 +11,7 @@ use Rattle.bound_table.specs.Views.{SeatView}
 use Rattle.raise_machine.specs.Bounds.{AreBounds}
 use Rattle.conjunctions.specs.Counting.{first_of, floor_words}
 use Rattle.conjunctions.specs.declared.gathered.Asked.{Asked}
-use Rattle.conjunctions.specs.Rounds.{system_of_order}
+use Rattle.slice_graph.specs.Growing.{IsEarlierSystem}
 use Rattle.conjunctions.specs.inside.Asked.{asked_pulls}
 use Rattle.conjunctions.specs.inside.Gathering.{first_pulls}
 use Rattle.conjunctions.specs.inside.Settling.{IsFloorOf}
@@ -120,7 +120,7 @@ give_back-requires-clause-lens g c = ap (λ (s : SystemView). s.lens) (c.close.e
 
 pub give_back-requires-clause-round : goal.give_back-requires-clause-round
 give_back-requires-clause-round g c =
-    record { own = subst (λ (s : Option SystemView). IfSome s (λ one. one ≡ system_of_order c.args.order.now)) (sym c.next.ensures.system) c.in_ok-system.ensures.order.own }
+    record { own = subst (λ (s : Option SystemView). IfSome s (IsEarlierSystem c.args.order.now)) (sym c.next.ensures.system) c.in_ok-system.ensures.order.own }
 
 pub returns : goal.returns
 returns g c =
@@ -153,7 +153,7 @@ returns g c =
       before = c.in_ok-keep.ensures.before ∙ c.in_ok-give_back.ensures.rows.before_is ∙ c.next.ensures.before ∙ ap (drop 1) c.in_ok-system.ensures.rows.before_is;
       rows = rows;
       settled = c.in_ok-keep.ensures.settled ∙ ap (λ (list : List RowsView). list ++ rows ∷ []) (c.in_ok-give_back.ensures.rows.settled_is ∙ c.next.ensures.settled ∙ c.in_ok-system.ensures.rows.settled_is);
-      order = record { own = subst (λ (s : Option SystemView). IfSome s (λ one. one ≡ system_of_order c.args.order.now)) (sym c.in_ok-keep.ensures.system) c.in_ok-give_back.ensures.order.own };
+      order = record { own = subst (λ (s : Option SystemView). IfSome s (IsEarlierSystem c.args.order.now)) (sym c.in_ok-keep.ensures.system) c.in_ok-give_back.ensures.order.own };
       lens = lens_is;
       system = is_system;
       least = least;

@@ -3,11 +3,13 @@ use Rattle.std.specs.Prelude.{IfSome}
 use Rattle.std.proofs.Math.Seq.{take-append_seam}
 use Rattle.run_model.specs.Cut.{lengths}
 use Rattle.run_model.proofs.Counts.{length-lengths}
+use Rattle.causal_order.proofs.Growing.{grown_none}
 use Rattle.pull_system.specs.declared.pull.Pull.{Pull}
 use Rattle.pull_system.specs.System.{SystemView}
 use Rattle.slice_graph.specs.PullLists.{pulls_of_order}
 use Rattle.slice_graph.proofs.OrderPulls.{order_pulls_count}
-use Rattle.conjunctions.specs.Rounds.{RoundView, system_of_order}
+use Rattle.slice_graph.specs.Growing.{IsEarlierSystem, system_of_order}
+use Rattle.conjunctions.specs.Rounds.{RoundView}
 use Rattle.conjunctions.proofs.systems.give_back.Goals as goal
 
 pub returns-clause-order : goal.returns-clause-order
@@ -21,4 +23,4 @@ returns-clause-order c =
     let by_lens : List ℕ → SystemView = λ lens. record { lens = lens; pulls = take (c.procs-procs.result * (c.procs-procs.result - 1)) c.args.system.pulls } in
     let by_pulls : List Pull → SystemView = λ list. record { lens = lengths o; pulls = list } in
     let is : c.in_ok-system.system ≡ system_of_order o = c.in_ok-system.ensures ∙ ap by_lens c.requires.lens ∙ ap by_pulls pulls in
-    record { own = subst (λ (r : RoundView). IfSome r.system (λ system. system ≡ system_of_order o)) (sym c.leave_system.ensures) is }
+    record { own = subst (λ (r : RoundView). IfSome r.system (IsEarlierSystem o)) (sym c.leave_system.ensures) (record { before = o; grown = grown_none o; is = is }) }
