@@ -74,21 +74,30 @@ fn asked_at<L: Ledger>(
     system.asks(process, x, &mut steps)[target as usize]
 }
 
-#[test]
-fn asks_are_the_most_of_each_source(rt: HostRuntime) -> Result<(), Fail> {
-    let system = empty_channel(&rt, rt.alloc())?;
-    for (process, x, target, asked) in [
-        (0, 0, 1, 0),
-        (0, 1, 1, 1),
-        (0, 3, 1, 2),
-        (0, 3, 0, 0),
-        (1, 2, 0, 1),
-    ] {
+/// That the pulls from each process ask this of the target: process, value, target, what is asked.
+fn ask(rt: &impl Abort, system: &System, expected: &[(u32, u64, u32, u16)]) {
+    for &(process, x, target, asked) in expected {
         assert_eq!(rt;
-            asked_at::<Brand>(&rt, Blank::new(1), &system, process, x, target),
+            asked_at::<Brand>(rt, Blank::new(1), system, process, x, target),
             asked
         );
     }
+}
+
+#[test]
+fn asks_are_the_most_of_each_source(rt: HostRuntime) -> Result<(), Fail> {
+    let system = empty_channel(&rt, rt.alloc())?;
+    ask(
+        &rt,
+        &system,
+        &[
+            (0, 0, 1, 0),
+            (0, 1, 1, 1),
+            (0, 3, 1, 2),
+            (0, 3, 0, 0),
+            (1, 2, 0, 1),
+        ],
+    );
     Ok(())
 }
 
@@ -110,21 +119,52 @@ fn fan(
     Ok(fan)
 }
 
-/// Three processes with three, two and one events. From process 0 there is a fan to both others and
-/// one to process 1 alone.
-fn three_fans(rt: &impl Abort, alloc: Global) -> Result<System, NoMemory> {
-    let shape = Shape::new(alloc, &[3, 2, 1])?;
+/// The source of a fan, its targets and its rows.
+type FanRows<'a> = (u32, &'a [u32], &'a [&'a [u32]]);
+
+fn fans(rt: &impl Abort, alloc: Global, texts: &[FanRows]) -> Result<List<Fan>, NoMemory> {
     let mut fans = List::new(alloc);
-    let rows: [&[u32]; 5] = [&[0, 0], &[1, 0], &[1, 1], &[2, 1], &[3, 2]];
-    fans.push(fan(rt, alloc, 0, &[1, 2], &rows)?)?;
-    let rows: [&[u32]; 4] = [&[0], &[2], &[3], &[4]];
-    fans.push(fan(rt, alloc, 1, &[0], &rows)?)?;
-    let rows: [&[u32]; 5] = [&[0], &[0], &[2], &[2], &[3]];
-    fans.push(fan(rt, alloc, 0, &[1], &rows)?)?;
+    for &(source, targets, rows) in texts {
+        fans.push(fan(rt, alloc, source, targets, rows)?)?;
+    }
+    Ok(fans)
+}
+
+/// Three processes with three, two and one events, and the pulls of these fans.
+fn system_of(rt: &impl Abort, alloc: Global, texts: &[FanRows]) -> Result<System, NoMemory> {
+    let shape = Shape::new(alloc, &[3, 2, 1])?;
+    let fans = fans(rt, alloc, texts)?;
     let pulls = pulls_of(alloc, fans.as_slice())?;
     assert!(rt; all_fit(pulls.as_slice(), &shape));
-    assert!(rt; pulls.len() == 4);
+    assert!(rt; pulls.len() <= 8);
     System::of_fans(alloc, &shape, fans)
+}
+
+/// The system with the pulls of these fans behind its own.
+fn with(
+    rt: &impl Abort,
+    alloc: Global,
+    system: System,
+    texts: &[FanRows],
+) -> Result<System, NoMemory> {
+    let fans = fans(rt, alloc, texts)?;
+    let pulls = pulls_of(alloc, fans.as_slice())?;
+    assert!(rt; all_fit(pulls.as_slice(), system.shape()));
+    assert!(rt; pulls.len() <= 8 && system.pulls() <= 8);
+    system.with_fans(alloc, fans)
+}
+
+/// From process 0 there is a fan to both others and one to process 1 alone.
+fn three_fans(rt: &impl Abort, alloc: Global) -> Result<System, NoMemory> {
+    system_of(
+        rt,
+        alloc,
+        &[
+            (0, &[1, 2], &[&[0, 0], &[1, 0], &[1, 1], &[2, 1], &[3, 2]]),
+            (1, &[0], &[&[0], &[2], &[3], &[4]]),
+            (0, &[1], &[&[0], &[0], &[2], &[2], &[3]]),
+        ],
+    )
 }
 
 /// What pull `k` asks of its target where its source is `x`.
@@ -157,34 +197,31 @@ fn pulls_of_fans_are_numbered_by_fan_and_target(rt: HostRuntime) -> Result<(), F
 #[test]
 fn asks_are_the_most_of_each_fan(rt: HostRuntime) -> Result<(), Fail> {
     let system = three_fans(&rt, rt.alloc())?;
-    for (process, x, target, asked) in [
-        (0, 2, 1, 2),
-        (0, 2, 2, 1),
-        (0, 4, 1, 3),
-        (1, 2, 0, 3),
-        (2, 1, 1, 0),
-    ] {
-        assert_eq!(rt;
-            asked_at::<Brand>(&rt, Blank::new(1), &system, process, x, target),
-            asked
-        );
-    }
+    ask(
+        &rt,
+        &system,
+        &[
+            (0, 2, 1, 2),
+            (0, 2, 2, 1),
+            (0, 4, 1, 3),
+            (1, 2, 0, 3),
+            (2, 1, 1, 0),
+        ],
+    );
     Ok(())
 }
 
 /// The three fans, and behind them one from process 1 to the others and one from process 2.
 fn with_two_more(rt: &impl Abort, alloc: Global) -> Result<System, NoMemory> {
-    let system = three_fans(rt, alloc)?;
-    let mut fans = List::new(alloc);
-    let rows: [&[u32]; 4] = [&[1, 0], &[1, 1], &[3, 1], &[4, 2]];
-    fans.push(fan(rt, alloc, 1, &[0, 2], &rows)?)?;
-    let rows: [&[u32]; 3] = [&[0], &[2], &[3]];
-    fans.push(fan(rt, alloc, 2, &[1], &rows)?)?;
-    let pulls = pulls_of(alloc, fans.as_slice())?;
-    assert!(rt; all_fit(pulls.as_slice(), system.shape()));
-    assert!(rt; pulls.len() == 3);
-    assert!(rt; system.pulls() == 4);
-    system.with_fans(alloc, fans)
+    with(
+        rt,
+        alloc,
+        three_fans(rt, alloc)?,
+        &[
+            (1, &[0, 2], &[&[1, 0], &[1, 1], &[3, 1], &[4, 2]]),
+            (2, &[1], &[&[0], &[2], &[3]]),
+        ],
+    )
 }
 
 #[test]
@@ -196,18 +233,17 @@ fn fans_are_put_behind_those_of_a_system(rt: HostRuntime) -> Result<(), Fail> {
     assert_eq!(rt; system.pulls_from(0), [0, 1, 3].as_slice());
     assert_eq!(rt; system.pulls_from(1), [2, 4, 5].as_slice());
     assert_eq!(rt; system.pulls_from(2), [6].as_slice());
-    for (process, x, target, asked) in [
-        (0, 2, 1, 2),
-        (1, 0, 0, 1),
-        (1, 1, 0, 2),
-        (1, 1, 2, 1),
-        (2, 1, 1, 2),
-    ] {
-        assert_eq!(rt;
-            asked_at::<Brand>(&rt, Blank::new(1), &system, process, x, target),
-            asked
-        );
-    }
+    ask(
+        &rt,
+        &system,
+        &[
+            (0, 2, 1, 2),
+            (1, 0, 0, 1),
+            (1, 1, 0, 2),
+            (1, 1, 2, 1),
+            (2, 1, 1, 2),
+        ],
+    );
     Ok(())
 }
 
@@ -219,19 +255,18 @@ fn has_three_fans(rt: &impl Abort, system: &System) {
     assert_eq!(rt; system.pulls_from(0), [0, 1, 3].as_slice());
     assert_eq!(rt; system.pulls_from(1), [2].as_slice());
     assert_eq!(rt; system.pulls_from(2), [].as_slice());
-    for (process, x, target, asked) in [
-        (0, 2, 1, 2),
-        (0, 2, 2, 1),
-        (1, 0, 0, 0),
-        (1, 1, 2, 0),
-        (1, 3, 0, 4),
-        (2, 1, 1, 0),
-    ] {
-        assert_eq!(rt;
-            asked_at::<Brand>(rt, Blank::new(1), system, process, x, target),
-            asked
-        );
-    }
+    ask(
+        rt,
+        system,
+        &[
+            (0, 2, 1, 2),
+            (0, 2, 2, 1),
+            (1, 0, 0, 0),
+            (1, 1, 2, 0),
+            (1, 3, 0, 4),
+            (2, 1, 1, 0),
+        ],
+    );
 }
 
 #[test]
@@ -247,12 +282,7 @@ fn a_fan_may_be_kept_in_part(rt: HostRuntime) -> Result<(), Fail> {
     assert!(rt; system.pulls() == 5);
     assert!(rt; system.shape().procs() == 3);
     assert_eq!(rt; system.pulls_from(1), [2, 4].as_slice());
-    for (process, x, target, asked) in [(1, 0, 0, 1), (1, 1, 2, 0), (2, 1, 1, 0)] {
-        assert_eq!(rt;
-            asked_at::<Brand>(&rt, Blank::new(1), &system, process, x, target),
-            asked
-        );
-    }
+    ask(&rt, &system, &[(1, 0, 0, 1), (1, 1, 2, 0), (2, 1, 1, 0)]);
     has_three_fans(&rt, &system.with_first_pulls(rt.alloc(), 4)?);
     Ok(())
 }
@@ -265,46 +295,51 @@ fn no_pull_may_be_kept_and_all(rt: HostRuntime) -> Result<(), Fail> {
     assert_eq!(rt; system.pulls(), 0);
     assert!(rt; system.shape().procs() == 3);
     assert_eq!(rt; system.pulls_from(0), [].as_slice());
-    assert_eq!(rt; asked_at::<Brand>(&rt, Blank::new(1), &system, 0, 4, 1), 0);
+    ask(&rt, &system, &[(0, 4, 1, 0)]);
     Ok(())
 }
 
-/// Three processes with three, two and one events. The fan from process 0 goes to each process in
-/// turn and is its only one; that from process 1 to each too, but not in turn.
+/// The fan from process 0 goes to each process in turn and is its only one; that from process 1 to
+/// each too, but not in turn.
 fn lone_fans(rt: &impl Abort, alloc: Global) -> Result<System, NoMemory> {
-    let shape = Shape::new(alloc, &[3, 2, 1])?;
-    let mut fans = List::new(alloc);
-    let rows: [&[u32]; 4] = [&[0, 0, 0], &[1, 2, 0], &[2, 3, 1], &[3, 4, 2]];
-    fans.push(fan(rt, alloc, 1, &[1, 0, 2], &rows)?)?;
-    let rows: [&[u32]; 5] = [&[0, 0, 0], &[1, 0, 0], &[2, 1, 0], &[3, 1, 1], &[4, 3, 2]];
-    fans.push(fan(rt, alloc, 0, &[0, 1, 2], &rows)?)?;
-    let pulls = pulls_of(alloc, fans.as_slice())?;
-    assert!(rt; all_fit(pulls.as_slice(), &shape));
-    assert!(rt; pulls.len() == 6);
-    System::of_fans(alloc, &shape, fans)
+    system_of(
+        rt,
+        alloc,
+        &[
+            (
+                1,
+                &[1, 0, 2],
+                &[&[0, 0, 0], &[1, 2, 0], &[2, 3, 1], &[3, 4, 2]],
+            ),
+            (
+                0,
+                &[0, 1, 2],
+                &[&[0, 0, 0], &[1, 0, 0], &[2, 1, 0], &[3, 1, 1], &[4, 3, 2]],
+            ),
+        ],
+    )
 }
 
 /// That the fans to all processes are all that is asked.
 fn has_lone_fans(rt: &impl Abort, system: &System) {
     assert!(rt; system.pulls() == 6);
     assert!(rt; system.shape().procs() == 3);
-    for (process, x, target, asked) in [
-        (0, 0, 2, 0),
-        (0, 1, 0, 1),
-        (0, 1, 1, 0),
-        (0, 3, 1, 1),
-        (0, 4, 0, 4),
-        (0, 4, 2, 2),
-        (1, 1, 0, 2),
-        (1, 1, 1, 1),
-        (1, 2, 2, 1),
-        (2, 1, 0, 0),
-    ] {
-        assert_eq!(rt;
-            asked_at::<Brand>(rt, Blank::new(1), system, process, x, target),
-            asked
-        );
-    }
+    ask(
+        rt,
+        system,
+        &[
+            (0, 0, 2, 0),
+            (0, 1, 0, 1),
+            (0, 1, 1, 0),
+            (0, 3, 1, 1),
+            (0, 4, 0, 4),
+            (0, 4, 2, 2),
+            (1, 1, 0, 2),
+            (1, 1, 1, 1),
+            (1, 2, 2, 1),
+            (2, 1, 0, 0),
+        ],
+    );
 }
 
 #[test]
@@ -316,19 +351,16 @@ fn a_fan_to_all_is_what_is_asked(rt: HostRuntime) -> Result<(), Fail> {
 /// The fans to all, and behind them two more from process 0 and, between these, one from process 2
 /// to all in turn.
 fn lone_fans_and_three(rt: &impl Abort, alloc: Global) -> Result<System, NoMemory> {
-    let system = lone_fans(rt, alloc)?;
-    let mut fans = List::new(alloc);
-    let rows: [&[u32]; 5] = [&[0], &[2], &[2], &[2], &[3]];
-    fans.push(fan(rt, alloc, 0, &[1], &rows)?)?;
-    let rows: [&[u32]; 3] = [&[1, 0, 0], &[1, 2, 1], &[4, 3, 2]];
-    fans.push(fan(rt, alloc, 2, &[0, 1, 2], &rows)?)?;
-    let rows: [&[u32]; 5] = [&[0], &[0], &[1], &[2], &[2]];
-    fans.push(fan(rt, alloc, 0, &[2], &rows)?)?;
-    let pulls = pulls_of(alloc, fans.as_slice())?;
-    assert!(rt; all_fit(pulls.as_slice(), system.shape()));
-    assert!(rt; pulls.len() == 5);
-    assert!(rt; system.pulls() == 6);
-    system.with_fans(alloc, fans)
+    with(
+        rt,
+        alloc,
+        lone_fans(rt, alloc)?,
+        &[
+            (0, &[1], &[&[0], &[2], &[2], &[2], &[3]]),
+            (2, &[0, 1, 2], &[&[1, 0, 0], &[1, 2, 1], &[4, 3, 2]]),
+            (0, &[2], &[&[0], &[0], &[1], &[2], &[2]]),
+        ],
+    )
 }
 
 #[test]
@@ -337,20 +369,19 @@ fn a_fan_behind_raises_what_a_fan_to_all_asks(rt: HostRuntime) -> Result<(), Fai
     assert!(rt; system.pulls() == 11);
     assert!(rt; system.shape().procs() == 3);
     assert_eq!(rt; system.pulls_from(0), [3, 4, 5, 6, 10].as_slice());
-    for (process, x, target, asked) in [
-        (0, 1, 0, 1),
-        (0, 1, 1, 2),
-        (0, 3, 1, 2),
-        (0, 3, 2, 2),
-        (1, 1, 0, 2),
-        (2, 0, 0, 1),
-        (2, 1, 1, 2),
-    ] {
-        assert_eq!(rt;
-            asked_at::<Brand>(&rt, Blank::new(1), &system, process, x, target),
-            asked
-        );
-    }
+    ask(
+        &rt,
+        &system,
+        &[
+            (0, 1, 0, 1),
+            (0, 1, 1, 2),
+            (0, 3, 1, 2),
+            (0, 3, 2, 2),
+            (1, 1, 0, 2),
+            (2, 0, 0, 1),
+            (2, 1, 1, 2),
+        ],
+    );
     has_lone_fans(&rt, &system.with_first_pulls(rt.alloc(), 6)?);
     Ok(())
 }
@@ -360,34 +391,25 @@ fn a_fan_to_all_may_be_taken_off(rt: HostRuntime) -> Result<(), Fail> {
     let system = lone_fans_and_three(&rt, rt.alloc())?.with_first_pulls(rt.alloc(), 7)?;
     assert!(rt; system.pulls() == 7);
     assert!(rt; system.shape().procs() == 3);
-    for (process, x, target, asked) in [(0, 1, 1, 2), (0, 1, 0, 1), (0, 3, 2, 1), (2, 1, 1, 0)] {
-        assert_eq!(rt;
-            asked_at::<Brand>(&rt, Blank::new(1), &system, process, x, target),
-            asked
-        );
-    }
+    ask(
+        &rt,
+        &system,
+        &[(0, 1, 1, 2), (0, 1, 0, 1), (0, 3, 2, 1), (2, 1, 1, 0)],
+    );
     let system = lone_fans(&rt, rt.alloc())?.with_first_pulls(rt.alloc(), 3)?;
     assert!(rt; system.pulls() == 3);
     assert!(rt; system.shape().procs() == 3);
-    for (process, x, target, asked) in [(0, 4, 0, 0), (0, 1, 0, 0), (1, 1, 0, 2)] {
-        assert_eq!(rt;
-            asked_at::<Brand>(&rt, Blank::new(1), &system, process, x, target),
-            asked
-        );
-    }
+    ask(&rt, &system, &[(0, 4, 0, 0), (0, 1, 0, 0), (1, 1, 0, 2)]);
     Ok(())
 }
 
-/// Three processes with three, two and one events. From process 1 there is a fan to both others.
+/// From process 1 there is a fan to both others.
 fn a_fan_to_others(rt: &impl Abort, alloc: Global) -> Result<System, NoMemory> {
-    let shape = Shape::new(alloc, &[3, 2, 1])?;
-    let mut fans = List::new(alloc);
-    let rows: [&[u32]; 4] = [&[0, 0], &[2, 0], &[3, 1], &[4, 2]];
-    fans.push(fan(rt, alloc, 1, &[0, 2], &rows)?)?;
-    let pulls = pulls_of(alloc, fans.as_slice())?;
-    assert!(rt; all_fit(pulls.as_slice(), &shape));
-    assert!(rt; pulls.len() == 2);
-    System::of_fans(alloc, &shape, fans)
+    system_of(
+        rt,
+        alloc,
+        &[(1, &[0, 2], &[&[0, 0], &[2, 0], &[3, 1], &[4, 2]])],
+    )
 }
 
 #[test]
@@ -396,18 +418,17 @@ fn a_fan_to_the_others_is_what_is_asked(rt: HostRuntime) -> Result<(), Fail> {
     assert!(rt; system.pulls() == 2);
     assert!(rt; system.shape().procs() == 3);
     assert_eq!(rt; system.ends(1), (1, 2));
-    for (process, x, target, asked) in [
-        (1, 1, 0, 2),
-        (1, 2, 2, 1),
-        (1, 3, 1, 0),
-        (1, 3, 2, 2),
-        (0, 1, 2, 0),
-    ] {
-        assert_eq!(rt;
-            asked_at::<Brand>(&rt, Blank::new(1), &system, process, x, target),
-            asked
-        );
-    }
+    ask(
+        &rt,
+        &system,
+        &[
+            (1, 1, 0, 2),
+            (1, 2, 2, 1),
+            (1, 3, 1, 0),
+            (1, 3, 2, 2),
+            (0, 1, 2, 0),
+        ],
+    );
     Ok(())
 }
 

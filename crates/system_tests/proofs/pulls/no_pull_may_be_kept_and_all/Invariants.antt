@@ -1,4 +1,0 @@
-use Rattle.system_tests.proofs.pulls.no_pull_may_be_kept_and_all.Given as goal
-
-abbrev pub ghosts-asked_at : goal.ghosts-asked_at
-ghosts-asked_at g a = record { name = a.blank.name; parts = a.blank.parts }
