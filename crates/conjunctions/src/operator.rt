@@ -18,8 +18,25 @@ use slice_graph::Slice;
 use std::alloc::Global;
 use temporal_slice::ex_fans;
 
+/// Memory of a floor's size. It is never written, so that no page of it is taken.
+fn room_for_floor(alloc: Global, order: &Order) -> Result<Vec<u64>, NoMemory> {
+    let shape = order.shape();
+    let rows = shape.events() as usize + 1;
+    Ok(Vec::with_capacity(alloc, rows * shape.procs() as usize)?)
+}
+
+/// Gives the memory back, by a call, since compilers leave out memory that is given back where it
+/// is taken.
+#[inline(never)]
+fn give_back(room: Vec<u64>) {
+    drop(room);
+}
+
 /// Gathers what EF, AG or EG over the operand asks, by its slice, and tells its truth at the
 /// initial cut.
+// The floor outlives the slice whose rows it is. Room that is taken before the slice and given back
+// behind it has the floor lie below the slice, and so the table takes the place of the slice. Else
+// that would stay a hole, a tenth of the peak of memory.
 fn add_operated(
     alloc: Global,
     order: &Order,
@@ -38,7 +55,9 @@ fn add_operated(
         ↔ Operated operator order.now (Cuts order.now (slice_of operand.now))
         (initial order.now)) }
 {
+    let room = room_for_floor(alloc, order)?;
     let slice = operate(alloc, order, operator, operand)?;
+    give_back(room);
     gathered.add_slice(alloc, &slice)?;
     has_initial(alloc, &slice)
 }
