@@ -1,10 +1,11 @@
 #!/usr/bin/env bash
 # Runs sessions over a generated log of 16 processes and 20,000 events, as one batch and as 100
-# batches, and prints times, and then look-ups: of the formula whose rows are kept and of one with an
-# operator, and the same where no rows are kept. It works on a scratch copy of the crates, where the
-# program is proved and built as the product is; the best of a line's runs counts. Since the counter
-# of steps takes no bytes, the look-ups come by a copy whose counter has some, and that is tried in
-# place of proved: no times there. Each of these two parts takes six minutes.
+# batches, and prints times, and then look-ups: of the formula whose rows are kept and of one with
+# an operator, and the same where no rows are kept. It works on a scratch copy of the crates, where
+# the program is proved and built as the product is; the best of a line's runs counts. Since the
+# counter of steps takes no bytes, the look-ups come by a copy whose counter has some, and that is
+# tried in place of proved: no times there. The look-ups take some six minutes with kept rows, and
+# as many without; the proof takes what is not kept of all crates below.
 set -eo pipefail
 here=$(cd "$(dirname "$0")" && pwd)
 . "$here/../scratch.sh"
