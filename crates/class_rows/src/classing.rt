@@ -46,9 +46,11 @@ pub fn class_of(alloc: Global, text: &[u8]) -> Result<String, AllocError> {
         Err(Refused::NoMemory) => return Err(AllocError),
     };
     read_formulas_are_within_limits();
-    match classify(alloc, &formula) {
+    let text = match classify(alloc, &formula) {
         Ok(classed) => disjuncts_text(alloc, &classed),
         Err(Refused::Fault(fault)) => fault_text(alloc, fault),
         Err(Refused::NoMemory) => Err(AllocError),
-    }
+    };
+    drop(formula);
+    text
 }

@@ -62,6 +62,23 @@ fn judge_refused(
     }
 }
 
+// What is wrong with what a reading of the text gave.
+fn judge_read(
+    alloc: Global,
+    text: &[u8],
+    read: Result<Formula, Refused<FormulaFault>>,
+    wanted: &Wanted,
+) -> Result<Option<String>, AllocError> {
+    match read {
+        Ok(formula) => {
+            let wrong = judge_formula(alloc, text, &formula, wanted);
+            drop(formula);
+            wrong
+        }
+        Err(refused) => judge_refused(alloc, refused, wanted),
+    }
+}
+
 // What is wrong with what the common reading and the reading of long texts give.
 fn judge_text(
     alloc: Global,
@@ -72,17 +89,11 @@ fn judge_text(
     if text.len() > LONGEST_OF_ALL {
         return Ok(Some(format!(in alloc; "too long for any reading")?));
     }
-    let wrong = match parse(alloc, text) {
-        Ok(formula) => judge_formula(alloc, text, &formula, wanted)?,
-        Err(refused) => judge_refused(alloc, refused, wanted)?,
-    };
+    let wrong = judge_read(alloc, text, parse(alloc, text), wanted)?;
     if wrong.is_some() {
         return Ok(wrong);
     }
-    match parse_long(alloc, text) {
-        Ok(formula) => judge_formula(alloc, text, &formula, long),
-        Err(refused) => judge_refused(alloc, refused, long),
-    }
+    judge_read(alloc, text, parse_long(alloc, text), long)
 }
 
 // What is wrong with the reading of a text that was printed, which must be printed as itself.

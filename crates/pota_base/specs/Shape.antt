@@ -1,11 +1,12 @@
 use Rattle.std.specs.Prelude.{◌≡◌, ℕ, ◌+◌, ◌≤◌, List, length, take, sum, slice_index}
+use Rattle.pota_base.specs.Limits.{most_processes, most_events}
 use Rattle.pota_base.specs.declared.shape.EventId.{EventId}
 
 -- the lengths of a run's processes: how many events each has
 pub record IsShape (lens : List ℕ) : Type 0 where
   pub some : 1 ≤ length lens
-  pub few : length lens ≤ 32
-  pub events : sum lens ≤ 50000
+  pub few : length lens ≤ most_processes
+  pub events : sum lens ≤ most_events
 
 -- the event is there: its process is one of the shape's, and its position counts from 1
 pub record HasEvent (lens : List ℕ) (event : EventId) : Type 0 where

@@ -6,13 +6,15 @@
 //! but row 0. Numbers are read exactly in their one spelling, and written so (`read_u64`,
 //! `read_i64`, `put_u64`, `put_i64`). A `Source` and a `Sink` say which bytes were taken or put,
 //! and that each failure has its cause in a count; `write_all` writes the whole or a prefix;
-//! `MemSource` and `MemSink` meet them, and say exactly when they fail.
+//! `MemSource` and `MemSink` meet them, and say exactly when they fail. What a run, a log and a
+//! formula may be at most has a name each (`MOST_PROCESSES`, `LONGEST_LOG`).
 //!
 //! Not said: that memory suffices. Tests show that the calls succeed where it is ample.
 #![tactic(auto)]
 
 mod fault;
 mod gate;
+mod limits;
 mod list;
 mod memory;
 mod number;
@@ -23,6 +25,10 @@ mod steps;
 
 pub use fault::{Failed, NoMemory, Refused};
 pub use gate::{FreeGate, Gate};
+pub use limits::{
+    DEEPEST, LONGEST_FORMULA, LONGEST_LINE, LONGEST_LOG, MOST_EVENTS, MOST_NODES, MOST_PROCESSES,
+    MOST_VARIABLES, MOST_WATCHES, MOST_WORKERS,
+};
 pub use list::{Bytes, List};
 pub use memory::{MemSink, MemSource};
 pub use number::{number_at, put_i64, put_u64, read_i64, read_u64, signed_at};

@@ -12,7 +12,7 @@ use crate::Failed;
 /// Bytes that come piece by piece.
 ///
 /// `left` is what is still to come, where that is told; `faults` counts the failures so far. A
-/// count never falls, and at 2^64 - 1 it stays: from there on every failure is taken to have its
+/// count rises only where a call fails, and never falls, and at 2^64 - 1 it stays: from there on every failure is taken to have its
 /// cause.
 pub trait Source {
     ghost left: { Self → Option (List ℕ) };
@@ -28,6 +28,7 @@ pub trait Source {
     fn read(&mut self, into: &mut [u8]) -> Result<usize, Failed>
         ensures bound { ReadsAtMost result into.new }
         ensures bytes { ReadConsumes (left self.old) (left self.new) result into.new }
+        ensures calm { OnOk result (faults self.new ≡ faults self.old) }
         ensures cause { HasCause (faults self.old) (faults self.new) result };
 }
 

@@ -1,6 +1,9 @@
 //! The lines before slice and witnesses.
 
 ghost use Rattle.std.specs.Prelude.{◌≡◌, ◌≤◌, IfOk, length, sum, if◌then◌else◌};
+ghost use Rattle.std.specs.Str.{bytes_eq};
+ghost use Rattle.rctl_grammar.specs.Shape.{shape_of};
+ghost use Rattle.rctl_print.specs.Canonical.{canonical};
 ghost use Rattle.report_lines.specs.Formula.{is_canonical};
 ghost use Rattle.report_lines.specs.Reading.{is_title, batch_in, lengths_in, formula_in};
 ghost use Rattle.report_lines.specs.Reading.{verdict_in};
@@ -9,6 +12,7 @@ use crate::parts::{cut_at, positive_at};
 use cut_lattice::Cut;
 use log_lines::text_at;
 use pota_base::{Bytes, NoMemory, Refused};
+use rctl_grammar::Formula;
 use rctl_parse::{parse_long, print};
 use std::alloc::Global;
 
@@ -65,22 +69,34 @@ pub fn read_lengths(alloc: Global, procs: usize, line: &[u8]) -> Result<Option<C
     }
 }
 
+// The text, where it is that of the formula.
+fn text_of(alloc: Global, formula: &Formula, text: &[u8]) -> Result<Option<Bytes>, NoMemory>
+    ensures { IfOk result (λ found. found
+        ≡ (if bytes_eq (canonical (shape_of formula.now.tree)) text.now then Some text.now
+            else None)) }
+{
+    let printed = print(alloc, formula)?;
+    if printed.as_slice() == text {
+        return Ok(Some(printed));
+    }
+    Ok(None)
+}
+
 // The text, where it is canonical.
 fn canonical_of(alloc: Global, text: &[u8]) -> Result<Option<Bytes>, NoMemory>
     requires { length text.now ≤ 65535 }
     ensures { IfOk result (λ found.
         found ≡ (if is_canonical text.now then Some text.now else None)) }
 {
-    let formula = match parse_long(alloc, text) {
-        Ok(formula) => formula,
-        Err(Refused::Fault(_)) => return Ok(None),
-        Err(Refused::NoMemory) => return Err(NoMemory),
-    };
-    let printed = print(alloc, &formula)?;
-    if printed.as_slice() == text {
-        return Ok(Some(printed));
+    match parse_long(alloc, text) {
+        Ok(formula) => {
+            let found = text_of(alloc, &formula, text);
+            drop(formula);
+            found
+        }
+        Err(Refused::Fault(_)) => Ok(None),
+        Err(Refused::NoMemory) => Err(NoMemory),
     }
-    Ok(None)
 }
 
 /// The canonical text of a formula that the line spells. It may be longer than the longest formula

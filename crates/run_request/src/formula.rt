@@ -35,7 +35,10 @@ fn state(alloc: Global, formula: Formula) -> Result<Stated, Refused<FormulaFault
 {
     let classed = match classify(alloc, &formula) {
         Ok(classed) => classed,
-        Err(refused) => return Err(refused),
+        Err(refused) => {
+            drop(formula);
+            return Err(refused);
+        }
     };
     match print(alloc, &formula) {
         Ok(text) => Ok(Stated {
@@ -43,7 +46,11 @@ fn state(alloc: Global, formula: Formula) -> Result<Stated, Refused<FormulaFault
             classed,
             text,
         }),
-        Err(_) => Err(Refused::NoMemory),
+        Err(_) => {
+            drop(classed);
+            drop(formula);
+            Err(Refused::NoMemory)
+        }
     }
 }
 

@@ -1,5 +1,5 @@
 //! What can be read, as a source.
-ghost use Rattle.std.specs.Prelude.{◌≡◌, IfOk, OnErr};
+ghost use Rattle.std.specs.Prelude.{◌≡◌, OnOk, OnErr};
 ghost use Rattle.std.specs.Io.{ReadsAtMost};
 ghost use Rattle.std.specs.Io.KnownBytes.{ReadConsumes};
 ghost use Rattle.pota_base.specs.Outside.{HasCause};
@@ -35,7 +35,7 @@ impl<R: Read> Source for Reading<R> {
         ensures bytes { ReadConsumes (R.remaining self.old.inner) (R.remaining self.new.inner)
             result into.new }
         ensures cause { HasCause self.old.faults self.new.faults result }
-        ensures same { IfOk result (λ _. self.new.faults ≡ self.old.faults) }
+        ensures calm { OnOk result (self.new.faults ≡ self.old.faults) }
         ensures error { OnErr result (self.new.faults ≡ one_more self.old.faults) }
     {
         match self.inner.read(into) {

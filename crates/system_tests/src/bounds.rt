@@ -1,6 +1,6 @@
 ghost use Rattle.std.specs.Prelude.{◌≡◌, ◌<◌, ◌≤◌, IfOk, ◌∷◌, []};
 
-use crate::systems::{empty_channel, order_and, pull, table_of};
+use crate::systems::{empty_channel, order_and_own, table_of};
 use bound_table::{BoundTable, Seat};
 use pota_base::{NoMemory, Steps};
 use std::alloc::Global;
@@ -15,6 +15,12 @@ fn empty_table(rt: &impl Abort, alloc: Global) -> Result<(BoundTable, Seat), NoM
     ensures lens { IfOk result (λ pair. pair.0.system.lens ≡ 3 ∷ 2 ∷ []) }
 {
     table_of(alloc, empty_channel(rt, alloc)?)
+}
+
+fn table_without_cuts(rt: &impl Abort, alloc: Global) -> Result<(BoundTable, Seat), NoMemory>
+    ensures { IfOk result (λ pair. pair.1.table ≡ pair.0) }
+{
+    table_of(alloc, order_and_own(rt, alloc, &[0, 4, 4, 4, 4])?)
 }
 
 fn settle_row<L: Ledger>(
@@ -67,8 +73,7 @@ fn rows_settle_to_their_least_cuts(rt: HostRuntime) -> Result<(), Fail> {
 
 #[test]
 fn rows_without_a_cut_pass_the_length(rt: HostRuntime) -> Result<(), Fail> {
-    let system = order_and(&rt, rt.alloc(), pull(rt.alloc(), 0, 0, &[0, 4, 4, 4, 4])?)?;
-    let (table, mut seat) = table_of(rt.alloc(), system)?;
+    let (table, mut seat) = table_without_cuts(&rt, rt.alloc())?;
     assert_eq!(rt; settled(&rt, &table, &mut seat, 1), [4, 2]);
     assert_eq!(rt; settled(&rt, &table, &mut seat, 4), [4, 2]);
     Ok(())

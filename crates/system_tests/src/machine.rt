@@ -22,33 +22,26 @@ fn word(rt: &impl Abort, machine: &mut Machine, row: u32, process: u32) -> u64 {
     machine.word(row, process)
 }
 
+/// That pull `k` is done at the row with `x` or refused, and which word of row 1 stands then.
+fn pulled(rt: &impl Abort, machine: &mut Machine, row: u32, k: u32, x: u64) -> (bool, u64) {
+    let done = machine.step(Step::Pull { row, k, x });
+    (done, word(rt, machine, 1, 1))
+}
+
 #[test]
 fn steps_raise_what_their_words_show(rt: HostRuntime) -> Result<(), Fail> {
     let mut machine = empty_machine(&rt, rt.alloc())?;
-    assert_eq!(rt;
-        machine.step(Step::Pull { row: 1, k: 2, x: 2 }),
-        false,
-        "past the source's word"
-    );
-    assert_eq!(rt;
-        machine.step(Step::Pull { row: 6, k: 2, x: 0 }),
-        false,
-        "no such row"
-    );
-    assert_eq!(rt;
-        machine.step(Step::Pull { row: 1, k: 3, x: 0 }),
-        false,
-        "no such pull"
-    );
-    assert_eq!(rt; word(&rt, &mut machine, 1, 1), 0);
-    assert_eq!(rt; machine.step(Step::Pull { row: 1, k: 2, x: 1 }), true);
-    assert_eq!(rt; word(&rt, &mut machine, 1, 1), 1);
-    assert_eq!(rt;
-        machine.step(Step::Pull { row: 1, k: 2, x: 0 }),
-        true,
-        "no word falls"
-    );
-    assert_eq!(rt; word(&rt, &mut machine, 1, 1), 1);
+    for (row, k, x, done, raised) in [
+        // past the source's word, at no row, and no pull
+        (1, 2, 2, false, 0),
+        (6, 2, 0, false, 0),
+        (1, 3, 0, false, 0),
+        (1, 2, 1, true, 1),
+        // no word falls
+        (1, 2, 0, true, 1),
+    ] {
+        assert_eq!(rt; pulled(&rt, &mut machine, row, k, x), (done, raised));
+    }
     Ok(())
 }
 

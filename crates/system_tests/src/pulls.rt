@@ -1,4 +1,5 @@
-ghost use Rattle.std.specs.Prelude.{◌≡◌, ◌<◌, ◌^◌, All, length};
+ghost use Rattle.std.specs.Prelude.{◌≡◌, ◌<◌, ◌≤◌, ◌^◌, All, IfOk, OnOk, length};
+ghost use Rattle.pull_fans.specs.Fans.{pulls_of_fans};
 ghost use Rattle.pull_system.specs.System.{IsPull};
 
 use crate::systems::{empty_channel, pull};
@@ -11,34 +12,40 @@ use std::process::Abort;
 use std::sync::ledger::{Blank, Ledger};
 use std::test::Fail;
 
-fn closed_at<L: Ledger>(rt: &impl Abort, blank: Blank, system: &System, vector: &[u64]) -> bool
+fn closed_at<L: Ledger>(rt: &impl Abort, blank: Blank, system: &System, vector: [u64; 2]) -> bool
     requires name { blank.name ≡ L.name }
     requires parts { blank.parts ≡ L.parts }
     requires some { 0 < blank.parts }
 {
-    assert!(rt; system.fits(vector));
-    system.is_closed(vector, &mut Steps::<L>::new(blank))
+    assert!(rt; system.fits(&vector));
+    system.is_closed(&vector, &mut Steps::<L>::new(blank))
+}
+
+/// That these vectors are closed or not.
+fn close(rt: &impl Abort, system: &System, expected: &[([u64; 2], bool)]) {
+    for &(vector, closed) in expected {
+        assert!(rt; closed_at::<Brand>(rt, Blank::new(1), system, vector) == closed);
+    }
 }
 
 #[test]
 fn closed_vectors_keep_each_pull(rt: HostRuntime) -> Result<(), Fail> {
     let system = empty_channel(&rt, rt.alloc())?;
-    assert_eq!(rt; system.pulls(), 3);
-    for (vector, closed) in [
-        ([0, 0], true),
-        ([1, 0], false),
-        ([1, 1], true),
-        ([2, 1], true),
-        ([3, 1], false),
-        ([0, 1], false),
-        ([4, 2], true),
-    ] {
-        assert_eq!(rt;
-            closed_at::<Brand>(&rt, Blank::new(1), &system, &vector),
-            closed
-        );
-    }
-    assert_eq!(rt; system.fits(&[5, 0]), false, "past the length by two");
+    close(
+        &rt,
+        &system,
+        &[
+            ([0, 0], true),
+            ([1, 0], false),
+            ([1, 1], true),
+            ([2, 1], true),
+            ([3, 1], false),
+            ([0, 1], false),
+            ([4, 2], true),
+        ],
+    );
+    assert!(rt; system.pulls() == 3);
+    assert!(rt; !system.fits(&[5, 0]));
     Ok(())
 }
 
@@ -130,14 +137,36 @@ fn fans(rt: &impl Abort, alloc: Global, texts: &[FanRows]) -> Result<List<Fan>, 
     Ok(fans)
 }
 
+/// That the pulls of the fans fit the shape, and that they are few.
+fn fit(rt: &impl Abort, alloc: Global, shape: &Shape, fans: &List<Fan>) -> Result<(), NoMemory>
+    ensures fit { OnOk result (All (IsPull shape.now) (pulls_of_fans fans.now)) }
+    ensures few { OnOk result (length (pulls_of_fans fans.now) ≤ 8) }
+{
+    let pulls = pulls_of(alloc, fans.as_slice())?;
+    assert!(rt; all_fit(pulls.as_slice(), shape));
+    assert!(rt; pulls.len() <= 8);
+    Ok(())
+}
+
+/// Fans whose pulls fit the shape.
+fn fitting(
+    rt: &impl Abort,
+    alloc: Global,
+    shape: &Shape,
+    texts: &[FanRows],
+) -> Result<List<Fan>, NoMemory>
+    ensures fit { IfOk result (λ fans. All (IsPull shape.now) (pulls_of_fans fans)) }
+    ensures few { IfOk result (λ fans. length (pulls_of_fans fans) ≤ 8) }
+{
+    let fans = fans(rt, alloc, texts)?;
+    fit(rt, alloc, shape, &fans)?;
+    Ok(fans)
+}
+
 /// Three processes with three, two and one events, and the pulls of these fans.
 fn system_of(rt: &impl Abort, alloc: Global, texts: &[FanRows]) -> Result<System, NoMemory> {
     let shape = Shape::new(alloc, &[3, 2, 1])?;
-    let fans = fans(rt, alloc, texts)?;
-    let pulls = pulls_of(alloc, fans.as_slice())?;
-    assert!(rt; all_fit(pulls.as_slice(), &shape));
-    assert!(rt; pulls.len() <= 8);
-    System::of_fans(alloc, &shape, fans)
+    System::of_fans(alloc, &shape, fitting(rt, alloc, &shape, texts)?)
 }
 
 /// The system with the pulls of these fans behind its own.
@@ -147,10 +176,8 @@ fn with(
     system: System,
     texts: &[FanRows],
 ) -> Result<System, NoMemory> {
-    let fans = fans(rt, alloc, texts)?;
-    let pulls = pulls_of(alloc, fans.as_slice())?;
-    assert!(rt; all_fit(pulls.as_slice(), system.shape()));
-    assert!(rt; pulls.len() <= 8 && system.pulls() <= 8);
+    assert!(rt; system.pulls() <= 8);
+    let fans = fitting(rt, alloc, system.shape(), texts)?;
     system.with_fans(alloc, fans)
 }
 
@@ -224,9 +251,8 @@ fn with_two_more(rt: &impl Abort, alloc: Global) -> Result<System, NoMemory> {
     )
 }
 
-#[test]
-fn fans_are_put_behind_those_of_a_system(rt: HostRuntime) -> Result<(), Fail> {
-    let system = with_two_more(&rt, rt.alloc())?;
+/// That the system has the five fans.
+fn has_five_fans(rt: &impl Abort, system: &System) {
     assert!(rt; system.pulls() == 7);
     assert!(rt; system.shape().procs() == 3);
     assert_eq!(rt; system.ends(5), (1, 2));
@@ -234,8 +260,8 @@ fn fans_are_put_behind_those_of_a_system(rt: HostRuntime) -> Result<(), Fail> {
     assert_eq!(rt; system.pulls_from(1), [2, 4, 5].as_slice());
     assert_eq!(rt; system.pulls_from(2), [6].as_slice());
     ask(
-        &rt,
-        &system,
+        rt,
+        system,
         &[
             (0, 2, 1, 2),
             (1, 0, 0, 1),
@@ -244,6 +270,11 @@ fn fans_are_put_behind_those_of_a_system(rt: HostRuntime) -> Result<(), Fail> {
             (2, 1, 1, 2),
         ],
     );
+}
+
+#[test]
+fn fans_are_put_behind_those_of_a_system(rt: HostRuntime) -> Result<(), Fail> {
+    has_five_fans(&rt, &with_two_more(&rt, rt.alloc())?);
     Ok(())
 }
 
@@ -386,9 +417,19 @@ fn a_fan_behind_raises_what_a_fan_to_all_asks(rt: HostRuntime) -> Result<(), Fai
     Ok(())
 }
 
+/// So many first ones of the pulls of the fans to all with three behind them.
+fn first_lone_fans(rt: &impl Abort, alloc: Global, pulls: u32) -> Result<System, NoMemory> {
+    lone_fans_and_three(rt, alloc)?.with_first_pulls(alloc, pulls)
+}
+
+/// So many first ones of the pulls of the fans to all alone.
+fn some_lone_fans(rt: &impl Abort, alloc: Global, pulls: u32) -> Result<System, NoMemory> {
+    lone_fans(rt, alloc)?.with_first_pulls(alloc, pulls)
+}
+
 #[test]
-fn a_fan_to_all_may_be_taken_off(rt: HostRuntime) -> Result<(), Fail> {
-    let system = lone_fans_and_three(&rt, rt.alloc())?.with_first_pulls(rt.alloc(), 7)?;
+fn a_fan_to_all_stays_where_others_are_taken_off(rt: HostRuntime) -> Result<(), Fail> {
+    let system = first_lone_fans(&rt, rt.alloc(), 7)?;
     assert!(rt; system.pulls() == 7);
     assert!(rt; system.shape().procs() == 3);
     ask(
@@ -396,7 +437,12 @@ fn a_fan_to_all_may_be_taken_off(rt: HostRuntime) -> Result<(), Fail> {
         &system,
         &[(0, 1, 1, 2), (0, 1, 0, 1), (0, 3, 2, 1), (2, 1, 1, 0)],
     );
-    let system = lone_fans(&rt, rt.alloc())?.with_first_pulls(rt.alloc(), 3)?;
+    Ok(())
+}
+
+#[test]
+fn a_fan_to_all_may_be_taken_off(rt: HostRuntime) -> Result<(), Fail> {
+    let system = some_lone_fans(&rt, rt.alloc(), 3)?;
     assert!(rt; system.pulls() == 3);
     assert!(rt; system.shape().procs() == 3);
     ask(&rt, &system, &[(0, 4, 0, 0), (0, 1, 0, 0), (1, 1, 0, 2)]);
@@ -412,15 +458,14 @@ fn a_fan_to_others(rt: &impl Abort, alloc: Global) -> Result<System, NoMemory> {
     )
 }
 
-#[test]
-fn a_fan_to_the_others_is_what_is_asked(rt: HostRuntime) -> Result<(), Fail> {
-    let system = a_fan_to_others(&rt, rt.alloc())?;
+/// That the system has the fan from process 1 to both others.
+fn has_a_fan_to_others(rt: &impl Abort, system: &System) {
     assert!(rt; system.pulls() == 2);
     assert!(rt; system.shape().procs() == 3);
     assert_eq!(rt; system.ends(1), (1, 2));
     ask(
-        &rt,
-        &system,
+        rt,
+        system,
         &[
             (1, 1, 0, 2),
             (1, 2, 2, 1),
@@ -429,6 +474,11 @@ fn a_fan_to_the_others_is_what_is_asked(rt: HostRuntime) -> Result<(), Fail> {
             (0, 1, 2, 0),
         ],
     );
+}
+
+#[test]
+fn a_fan_to_the_others_is_what_is_asked(rt: HostRuntime) -> Result<(), Fail> {
+    has_a_fan_to_others(&rt, &a_fan_to_others(&rt, rt.alloc())?);
     Ok(())
 }
 

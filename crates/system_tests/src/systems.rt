@@ -34,6 +34,13 @@ pub fn empty_channel(rt: &impl Abort, alloc: Global) -> Result<System, NoMemory>
     order_and(rt, alloc, pull(alloc, 0, 1, &[0, 1, 1, 1, 1])?)
 }
 
+/// The pulls of the order, and one of process 0 on itself.
+pub fn order_and_own(rt: &impl Abort, alloc: Global, table: &[u32]) -> Result<System, NoMemory>
+    ensures lens { IfOk result (λ system. system.lens ≡ 3 ∷ 2 ∷ []) }
+{
+    order_and(rt, alloc, pull(alloc, 0, 0, table)?)
+}
+
 /// The table of the system, whose rows begin at their starts.
 #[tactic(auto, using(raise_machine::proofs::Raising::starts_bounds))]
 pub fn table_of(alloc: Global, system: System) -> Result<(BoundTable, Seat), NoMemory>

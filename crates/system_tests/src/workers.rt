@@ -1,6 +1,6 @@
 ghost use Rattle.std.specs.Prelude.{◌≡◌, ◌<◌, ◌≤◌};
 
-use crate::systems::{empty_channel, order_and, pull, table_of};
+use crate::systems::{empty_channel, order_and_own, pull, table_of};
 use pota_base::{FreeGate, Gate, List, NoMemory, Shape, Steps};
 use pull_fans::System;
 use pull_system::all_fit;
@@ -75,7 +75,7 @@ fn rows_without_cuts(rt: HostRuntime) -> Result<(), Fail> {
     let alloc = rt.alloc();
     for workers in [1, 2, 3, 16] {
         assert!(rt; 1 <= workers && workers <= 16);
-        let system = order_and(&rt, alloc, pull(alloc, 0, 0, &[0, 4, 4, 4, 4])?)?;
+        let system = order_and_own(&rt, alloc, &[0, 4, 4, 4, 4])?;
         let rows = settled(&rt, alloc, system, workers, &FreeGate)?;
         assert_eq!(rt;
             rows.rows().as_words(),
