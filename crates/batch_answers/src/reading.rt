@@ -1,6 +1,6 @@
 //! Reading a log to its end, and checking it as it comes.
 ghost use Rattle.std.specs.Prelude.{◌≡◌, ◌<◌, ◌++◌, [], ℕ, List, length};
-ghost use Rattle.log_judgement.specs.Judgement.{waiting};
+ghost use Rattle.log_rules.specs.Judgement.{waiting};
 ghost use Rattle.log_check.specs.Aims.{Aim, said_by};
 ghost use Rattle.log_check.specs.Checking.{IsCheckOf};
 ghost use Rattle.batch_answers.specs.Reading.{HasReadLog};
@@ -8,7 +8,7 @@ ghost use Rattle.batch_answers.specs.inside.Reading.{Finishes, HasJudged, TakesP
 
 use event_log::{Fed, Reader};
 use log_answers::{Checking, Means, Stop, StopCause};
-use log_judgement::Refusal;
+use fault_kinds::Refusal;
 use pota_base::{Gate, Sink, Source};
 use std::sync::ledger::Ledger;
 use std::thread::Threads;

@@ -23,18 +23,19 @@ use Rattle.vector_clock.specs.Events.{no_events}
 use Rattle.vector_clock.specs.Faults.{batch_fault, batches_fault}
 use Rattle.vector_clock.specs.Filled.{filled_batches, filled_log}
 use Rattle.vector_clock.proofs.FilledBatches.{length-filled}
-use Rattle.log_judgement.specs.declared.refusal.Refusal.{Refusal}
-use Rattle.log_judgement.specs.declared.refusal.Refusal.TheVariants as refusal
+use Rattle.fault_kinds.specs.declared.refusal.Refusal.{Refusal}
+use Rattle.fault_kinds.specs.declared.refusal.Refusal.TheVariants as refusal
 use Rattle.counter_preds.specs.declared.values.Variable.{Variable}
 use Rattle.counter_preds.specs.Falls.{fall_fault, behind_batch}
-use Rattle.log_judgement.specs.Judgement.{Prefix, followed_by, events_of, states_of, with_clocks, clock_fault, fault_behind, Rules, with_rules, Judgement, waiting, growing, finished, refused, opened, closing, judged}
-use Rattle.log_judgement.specs.Readings.{log_reading}
-use Rattle.log_judgement.specs.Due.{after_each, prefixes, counted, placed, fault_in, told, due}
-use Rattle.log_judgement.specs.WholeLogs.{first_fall, IsLogFor, IsDueOfLog}
-use Rattle.log_judgement.proofs.Items.{prefix_at, refused-stays, after_each-push}
-use Rattle.log_judgement.proofs.Dues.{text_free}
-use Rattle.log_judgement.proofs.Orders.{with_batches-push, chosen_none}
-use Rattle.log_judgement.proofs.Readings.{text_none}
+use Rattle.log_rules.specs.Judgement.{Prefix, followed_by, events_of, states_of, with_clocks, clock_fault, fault_behind, Rules, with_rules, Judgement, waiting, growing, finished, refused, opened, closing, judged}
+use Rattle.log_rules.specs.Readings.{log_reading}
+use Rattle.log_rules.specs.Due.{after_each, prefixes, placed, fault_in, told, due}
+use Rattle.log_rules.specs.SoFar.{counted}
+use Rattle.log_rules.specs.WholeLogs.{first_fall, IsLogFor, IsDueOfLog}
+use Rattle.log_rules.proofs.Items.{prefix_at, refused-stays, after_each-push}
+use Rattle.log_rules.proofs.Dues.{text_free}
+use Rattle.log_rules.proofs.Orders.{with_batches-push, chosen_none}
+use Rattle.log_rules.proofs.Readings.{text_none}
 
 -- ---- the items of batches
 

@@ -26,17 +26,17 @@ use Rattle.counter_preds.specs.Falls.{fall_fault, fall_of, is_lowered, behind_ev
 use Rattle.counter_preds.specs.Truth.{process_of, variable_of}
 use Rattle.counter_preds.proofs.Meaning.{named_value, never_falls}
 use Rattle.counter_preds.proofs.Staying.{counters_stay_lem, opened_counter}
-use Rattle.run_report.specs.Reports.{Asked, trace_so_far}
-use Rattle.log_judgement.specs.Judgement.{Prefix, states_of, with_clocks, clock_fault, with_rules}
+use Rattle.log_rules.specs.SoFar.{trace_so_far}
+use Rattle.log_rules.specs.Judgement.{Prefix, states_of, with_clocks, clock_fault, with_rules}
 use Rattle.rctl_class.specs.Counters.{Counter, counters_of, NoneFalls}
 use Rattle.rctl_class.proofs.Kept.{stays_kept}
-use Rattle.log_judgement.specs.Counters.{variable_in, counters_in}
-use Rattle.log_judgement.specs.Readings.{Reading, IsReading}
-use Rattle.log_judgement.specs.Due.{due}
-use Rattle.log_judgement.specs.Texts.{reported}
-use Rattle.log_judgement.proofs.Items.{prefix_at}
-use Rattle.log_judgement.proofs.Orders.{event_count_is, with_batches-push, chosen_none}
-use Rattle.log_judgement.proofs.Sound.{Follows, all_sound}
+use Rattle.log_rules.specs.Counters.{variable_in, counters_in}
+use Rattle.log_rules.specs.Readings.{Reading, IsReading}
+use Rattle.log_rules.specs.Due.{due}
+use Rattle.log_rules.specs.Reported.{reported}
+use Rattle.log_rules.proofs.Items.{prefix_at}
+use Rattle.log_rules.proofs.Orders.{event_count_is, with_batches-push, chosen_none}
+use Rattle.log_rules.proofs.Sound.{Follows, all_sound}
 
 -- ---- one counter among several
 
@@ -201,18 +201,18 @@ module _ (states : StatesView) (watches : Watches) (whole : AreWhole states) whe
 
 -- ---- what gets a report
 
-module _ (q : Asked) (watches : Watches) where
+module _ (f : Formula) (watches : Watches) where
   -- no variable of the formula's differences falls in the run of the log so far
   abbrev pub IsKept : Prefix → Type 0
-  IsKept log = IsKeptFor (run_of (trace_so_far log.header log.batches) watches) q.formula
+  IsKept log = IsKeptFor (run_of (trace_so_far log.header log.batches) watches) f
 
-  rising_kept : (logs : List Prefix) → AllByRecursion (IsRising (counters_in q.formula)) logs → AllByRecursion IsKept logs
+  rising_kept : (logs : List Prefix) → AllByRecursion (IsRising (counters_in f)) logs → AllByRecursion IsKept logs
   rising_kept [] each = tt
   rising_kept (log ∷ logs) each =
-      (kept_for (states_of log) watches (whole_log log each.0.fits) q.formula each.0.each, rising_kept logs each.1)
+      (kept_for (states_of log) watches (whole_log log each.0.fits) f each.0.each, rising_kept logs each.1)
 
   pub all_kept : (most : ℕ) (reading : Reading) → IsReading most reading → (names : Header → Option FormulaFault) (each ended : Bool) (bytes : List ℕ)
-      → AllByRecursion IsKept (reported each (due reading (with_rules names (counters_in q.formula)) ended bytes))
+      → AllByRecursion IsKept (reported each (due reading (with_rules names (counters_in f)) ended bytes))
   all_kept most reading is names each ended bytes =
-      rising_kept (reported each (due reading (with_rules names (counters_in q.formula)) ended bytes))
-      (all_sound (with_rules names (counters_in q.formula)) (IsRising (counters_in q.formula)) (rising_first (counters_in q.formula)) (rising_next names (counters_in q.formula)) most reading is ended bytes each)
+      rising_kept (reported each (due reading (with_rules names (counters_in f)) ended bytes))
+      (all_sound (with_rules names (counters_in f)) (IsRising (counters_in f)) (rising_first (counters_in f)) (rising_next names (counters_in f)) most reading is ended bytes each)

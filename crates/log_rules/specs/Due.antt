@@ -1,15 +1,16 @@
 -- What is due of the bytes of a log: the batches that have a report of their own, the number of
 -- batches that were closed, and one fault at most.
-use Rattle.std.specs.Prelude.{ℕ, min, Bool, true, false, List, [], ◌∷◌, ◌++◌, length}
+use Rattle.std.specs.Prelude.{ℕ, Bool, true, false, List, [], ◌∷◌, ◌++◌, length}
 use Rattle.std.specs.Prelude.{Option, None, Some}
 use Rattle.event_log.specs.declared.item.LogFault.{LogFault}
 use Rattle.event_log.specs.declared.log.Event.{Event}
 use Rattle.event_log.specs.declared.log.Header.{Header}
-use Rattle.log_judgement.specs.declared.refusal.Refusal.{Refusal}
-use Rattle.log_judgement.specs.declared.refusal.Refusal.TheVariants as refusal
-use Rattle.log_judgement.specs.Judgement.{Prefix, followed_by, Rules, Judgement, waiting, growing}
-use Rattle.log_judgement.specs.Judgement.{finished, refused, judged}
-use Rattle.log_judgement.specs.Readings.{Reading}
+use Rattle.fault_kinds.specs.declared.refusal.Refusal.{Refusal}
+use Rattle.fault_kinds.specs.declared.refusal.Refusal.TheVariants as refusal
+use Rattle.log_rules.specs.Judgement.{Prefix, followed_by, Rules, Judgement, waiting, growing}
+use Rattle.log_rules.specs.Judgement.{finished, refused, judged}
+use Rattle.log_rules.specs.Readings.{Reading}
+use Rattle.log_rules.specs.SoFar.{counted}
 
 -- ---- what a judgement says
 
@@ -37,10 +38,6 @@ whole_of waiting = None
 whole_of (growing log since) = None
 whole_of (finished log last) = Some (followed_by log last)
 whole_of (refused log why) = None
-
--- how many batches there are, as far as 32 bits count
-abbrev pub counted : List (List Event) → ℕ
-counted batches = min (length batches) 4294967295
 
 -- how many batches were closed without fault
 abbrev pub batches_of : Judgement → ℕ

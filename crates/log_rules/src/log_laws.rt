@@ -4,10 +4,10 @@ ghost use Rattle.rctl_grammar.specs.declared.fault.FormulaFault.{FormulaFault};
 ghost use Rattle.event_log.specs.declared.log.Header.{Header};
 ghost use Rattle.event_log.specs.declared.log.Log.{Log};
 ghost use Rattle.counter_preds.specs.declared.values.Variable.{Variable};
-ghost use Rattle.log_judgement.specs.Judgement.{with_rules};
-ghost use Rattle.log_judgement.specs.Readings.{log_reading};
-ghost use Rattle.log_judgement.specs.Due.{due};
-ghost use Rattle.log_judgement.specs.WholeLogs.{IsLogFor, IsDueOfLog};
+ghost use Rattle.log_rules.specs.Judgement.{with_rules};
+ghost use Rattle.log_rules.specs.Readings.{log_reading};
+ghost use Rattle.log_rules.specs.Due.{due};
+ghost use Rattle.log_rules.specs.WholeLogs.{IsLogFor, IsDueOfLog};
 
 /// Of a log without a fault that has the names, the log after each batch is due and no fault.
 pub fn no_fault_is_due_of_a_log()

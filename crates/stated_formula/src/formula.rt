@@ -3,8 +3,8 @@ ghost use Rattle.std.specs.Prelude.{MatchResult, ℕ, List};
 ghost use Rattle.run_model.specs.Class.{IsOfClass};
 ghost use Rattle.rctl_class.specs.Nodes.{formula_of, node_of};
 ghost use Rattle.rctl_parse.specs.Reading.{Faults};
-ghost use Rattle.run_request.specs.Questions.{IsShortText, IsStated, IsFormulaFault};
-ghost use Rattle.run_request.specs.declared.formula.Stated.{Stated as StatedIs};
+ghost use Rattle.stated_formula.specs.Stating.{IsShortText, IsStated, IsFormulaFault};
+ghost use Rattle.stated_formula.specs.declared.formula.Stated.{Stated as StatedIs};
 
 use pota_base::{Bytes, Refused};
 use rctl_class::{Classed, classify};
