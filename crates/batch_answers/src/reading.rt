@@ -7,8 +7,8 @@ ghost use Rattle.batch_answers.specs.Reading.{HasReadLog};
 ghost use Rattle.batch_answers.specs.inside.Reading.{Finishes, HasJudged, TakesPiece, Turns};
 
 use event_log::{Fed, Reader};
-use log_answers::{Checking, Means, Stop, StopCause};
 use fault_kinds::Refusal;
+use log_answers::{Checking, Means, Stop, StopCause};
 use pota_base::{Gate, Sink, Source};
 use std::sync::ledger::Ledger;
 use std::thread::Threads;

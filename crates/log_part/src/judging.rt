@@ -6,8 +6,8 @@ ghost use Rattle.log_check.specs.Checking.{IsCheckOf, MayFollow};
 ghost use Rattle.log_part.specs.inside.Reading.{IsRefusalIn, JudgesTo};
 
 use event_log::Item;
-use log_check::LogCheck;
 use fault_kinds::Refusal;
+use log_check::LogCheck;
 use pota_base::{List, NoMemory, Refused};
 use std::alloc::Global;
 use watch::{Handed, Watch};

@@ -5,8 +5,8 @@ ghost use Rattle.log_rules.specs.Due.{placed};
 ghost use Rattle.whole_answers.specs.inside.Places.{place_by, placed_result};
 
 use event_log::LogFault;
-use log_answers::{Stop, StopCause, Verdict};
 use fault_kinds::Refusal;
+use log_answers::{Stop, StopCause, Verdict};
 use log_merge::{MergeCode, MergeFault, Origin};
 use pota_base::List;
 
