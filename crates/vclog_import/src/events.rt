@@ -20,6 +20,7 @@ use crate::host_lines::HostLine;
 use crate::rows::counts_of;
 use crate::scanning::is_bad;
 use event_log::{Assign, Event, Kind};
+use fault_kinds::{ImportCode, ImportFault};
 use log_lines::place_of;
 use pota_base::{List, NoMemory, Refused};
 use std::alloc::Global;

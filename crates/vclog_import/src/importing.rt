@@ -13,6 +13,7 @@ use crate::events::{events_of, first_bad_clock};
 use crate::names::name_of;
 use crate::scanning::Scan;
 use event_log::{Binding, Header, Log, Name};
+use fault_kinds::ImportFault;
 use pota_base::{List, NoMemory, Refused};
 use std::alloc::Global;
 

@@ -10,6 +10,7 @@ ghost use Rattle.vclog_import.specs.inside.Scans.{plain_fault, hosts_in};
 use crate::host_lines::{HostLine, HostLines};
 use crate::hosts::put_host;
 use crate::names::{clashes, name_len};
+use fault_kinds::{ImportCode, ImportFault};
 use pota_base::NoMemory;
 use pota_names::LONGEST_NAME;
 use std::alloc::Global;
