@@ -38,3 +38,18 @@ scratch_crates() {
         grep "^$name:" "$top/crates.txt" >> "$scratch/crates.txt"
     done
 }
+
+# Where READ_ONLY isn't empty, the first call of rt compiles the program as it is, without its proofs, and the script ends there: with
+# exit status 0 where the compiler took it.
+rt() {
+    if [ -z "$READ_ONLY" ]; then
+        command rt "$@"
+        return
+    fi
+    command rt try --steps 1 --seconds 1 < /dev/null > "$scratch/read" 2>&1 || true
+    if grep -q '^run=none' "$scratch/read"; then
+        grep error "$scratch/read" >&2
+        exit 1
+    fi
+    exit 0
+}

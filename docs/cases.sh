@@ -17,7 +17,7 @@
 # - a row of a table whose second cell is `formula byte ..`: the formula in the first cell gives this fault
 # - a row whose second cell is `log line N: ..`: the log gives this fault where line N, or the last where there is no such
 #   line, is the first cell; `log source S line N: ..` speaks of line N of file S. `\` and two hexadecimal digits stand for one
-#   byte
+#   byte. Where the fourth cell begins with a line, the log has no fault with that line in its place
 # - a row whose third cell is "true on" or "false on" and a file below examples/: the verdict of the formula in the second
 #   cell, which is canonical
 #
@@ -289,6 +289,7 @@ function read_processes(path, count,    i, j, of, part, name) {
         of = 0
         for (i = 1; i <= count; i += 2) {
             split(lines[i], part, " ")
+            gsub(/[^A-Za-z0-9_]/, "_", part[1])
             if (!(part[1] in events)) {
                 for (j = ++of; j > 1 && names[j - 1] > part[1]; j--)
                     names[j] = names[j - 1]
@@ -307,7 +308,38 @@ function read_processes(path, count,    i, j, of, part, name) {
     return of
 }
 
-function put_verdict(formula, verdict, path,    count, of, i, closed, procs, lengths) {
+# The log is taken with the mended line.
+function put_mended(text, fault,    count, at) {
+    begin_case()
+    print "word check"
+    print "word true"
+    if (tried_with != "")
+        print "word " tried_with
+    at = line_of(fault, tried_on)
+    put_log(tried_on, 0, at, text)
+    count = read_log(tried_on)
+    count = lay_in(text, at > count ? count : at, count)
+    put_report("true", "true", tried_on, count, tried_with == "" ? closed_of(count) : 1)
+}
+
+# Lays a text, of one line or several, into lines[1..] in place of one, and gives the number of all.
+function lay_in(text, at, count,    parts, more, i) {
+    more = split(text, parts, /\\0a/) - 1
+    for (i = count; i > at; i--)
+        lines[i + more] = lines[i]
+    for (i = 0; i <= more; i++)
+        lines[at + i] = parts[i + 1]
+    return count + more
+}
+
+# The batches that lines[1..] close.
+function closed_of(count,    i, closed) {
+    for (i = 1; i <= count; i++)
+        closed += lines[i] == "batch" || lines[i] == "end"
+    return closed
+}
+
+function put_verdict(formula, verdict, path,    count) {
     begin_case()
     print "word check"
     print "word " formula
@@ -315,7 +347,11 @@ function put_verdict(formula, verdict, path,    count, of, i, closed, procs, len
         print "word --vclog"
     put_log(path, 0, 0, "")
     count = read_log(path)
-    closed = path ~ /\.vclog$/ ? 1 : closed_before(path, count) + 1
+    put_report(formula, verdict, path, count, path ~ /\.vclog$/ ? 1 : closed_of(count))
+}
+
+# What is printed of the log in lines[1..].
+function put_report(formula, verdict, path, count, closed,    of, i, procs, lengths) {
     print "status " (verdict == "true" ? 0 : 1)
     print "batches " closed
     of = read_processes(path, count)
@@ -337,8 +373,11 @@ function take_row(row,    cells, second, third) {
     third = cells[4]
     if (second ~ /^formula byte /)
         put_formula_fault(code_of(cells[2]), second)
-    else if (second ~ /^log (line|source) /)
+    else if (second ~ /^log (line|source) /) {
         put_log_fault(code_of(cells[2]), second)
+        if (cells[5] ~ /^ `/)
+            put_mended(code_of(cells[5]), second)
+    }
     else if (third ~ /^ (true|false) on `/)
         put_verdict(second, third ~ /^ true/ ? "true" : "false", "examples/" code_of(third))
 }

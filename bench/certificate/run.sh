@@ -9,8 +9,8 @@
 # crates/pota and crates/pota_verify makes.
 set -e
 here=$(cd "$(dirname "$0")" && pwd)
-pota=$(realpath "${1:-$here/../../crates/pota/out/pota}")
-verify=$(realpath "${2:-$here/../../crates/pota_verify/out/pota_verify}")
+pota=$(realpath -m "${1:-$here/../../crates/pota/out/pota}")
+verify=$(realpath -m "${2:-$here/../../crates/pota_verify/out/pota_verify}")
 . "$here/../scratch.sh"
 formula='EF (P1.n >= 1000 & P16.n >= 1000)'
 scratch_crates $(crates_below trace_gen)
