@@ -1,9 +1,10 @@
 """Two processes that log: python3 pair.py client|store FOLDER CLIENT_PORT STORE_PORT [no-clocks]
 
-The client has the store keep the numbers from 1 to 5. Of the messages that come to the store every
-third is lost, and every second comes twice; so the client asks until it has its answer.
+The client has the store keep the numbers from 1 to 40, one behind the other. Of the messages that
+come to the store every third is lost, and every second comes twice; so the client asks until it has
+its answer.
 """
-import json, socket, sys
+import json, socket, sys, time
 from potalog import Log
 
 
@@ -21,7 +22,8 @@ def received(network):
 
 
 def run_client(log, network, store):
-    for number in range(1, 6):
+    for number in range(1, 41):
+        time.sleep(0.05)
         stamp = log.send("store", asked=number)
         while True:
             send(network, store, stamp, number)  # again the same message, so the same stamp

@@ -138,6 +138,7 @@ def run_pair(folder, form):
         store.kill()
         store.wait()
         store = start("store")
+        wait_for(" int kept=0", folder / "store.log")
         wait_for(" told=4", folder / "client.log")
         client.kill()
         client.wait()
