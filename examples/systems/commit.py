@@ -71,7 +71,9 @@ class Participant(Node):
         if transaction < self.prepared:
             return
         self.prepared = transaction
-        self.disk.write_text(str(transaction))
+        fresh = self.disk.with_suffix(".fresh")
+        fresh.write_text(str(transaction))
+        fresh.replace(self.disk)  # a kill leaves the old file or the new one
         self.log.set(prepared=transaction)
         self.vote(transaction)
 
