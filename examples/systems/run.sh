@@ -13,6 +13,7 @@
 # leave it.
 here=$(cd "$(dirname "$0")" && pwd)
 pota=${POTA:-$here/../../crates/pota/out/pota}
+export PYTHONDONTWRITEBYTECODE=1
 
 usage() {
     sed -n '2,/^[^#]/s/^# \{0,1\}//p' "$0" >&2
@@ -48,17 +49,23 @@ joined() {
 
 # Prints the row of the table for one system in one form.
 row() {
-    local system=$1 form=$2 shown=0 found=0 run question
+    local system=$1 form=$2 shown=0 found=0 run question logged answer
     question=$(python3 "$here/$system.py" question) || return 1
     python3 "$here/$system.py" "$form" "$room/$system-$form" --runs "$runs" "${kill[@]}" || return 1
     for run in "$room/$system-$form"/*; do
-        [ "$(cat "$run/order_shows")" = bad ] && shown=$((shown + 1))
+        logged=$(cat "$run/order_shows")
+        [ "$logged" = bad ] && shown=$((shown + 1))
         joined "$run" | "$pota" check --merged "$question" > "$run/report"
-        case $? in
+        answer=$?
+        case $answer in
             0) found=$((found + 1)) ;;
             1) ;;
             *) echo "run.sh: no answer of $run" >&2; return 1 ;;
         esac
+        if [ "$answer $logged ${#kill[@]}" = "1 bad 0" ]; then
+            echo "run.sh: the logged order of $run has the bad state, and pota finds it in none" >&2
+            return 1
+        fi
     done
     printf '%-8s %-8s %6d %14d %12d\n' "$system" "$form" "$runs" "$shown" "$found"
 }

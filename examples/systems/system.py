@@ -25,10 +25,11 @@ class Log(potalog.Log):
         super().__init__(me, procs, variables, folder)
 
     def write_held(self):
-        if self.held:
-            line = f"ev {self.me} {self.held[0]}{self.words(self.held[1])}\n"
-            os.write(self.common, line.encode())
+        held = self.held
         super().write_held()
+        if held:
+            line = f"ev {self.me} {held[0]}{self.words(held[1])}\n"
+            os.write(self.common, line.encode())
 
 
 class Node:
@@ -146,7 +147,9 @@ def run(folder, nodes, form, victim):
     time.sleep(max(0.05, end - time.monotonic()))
     for process in running.values():
         os.kill(process, signal.SIGTERM)
-    return all([os.waitpid(process, 0)[1] == 0 for process in running.values()])
+    ends = {name: os.waitpid(process, 0)[1] for name, process in running.items()}
+    # what was begun again may be told to stop before its logger has taken over the signal
+    return not any(end for name, end in ends.items() if (name, end) != (victim, signal.SIGTERM))
 
 
 def is_shown(folder, is_bad):

@@ -1,6 +1,6 @@
 """Two processes that log: python3 pair.py client|store FOLDER CLIENT_PORT STORE_PORT [no-clocks]
 
-The client has the store keep the numbers from 1 to 40, one behind the other. Of the messages that
+The client has the store keep the numbers from 1 to 400, one behind the other. Of the messages that
 come to the store every third is lost, and every second comes twice; so the client asks until it has
 its answer.
 """
@@ -22,7 +22,7 @@ def received(network):
 
 
 def run_client(log, network, store):
-    for number in range(1, 41):
+    for number in range(1, 401):
         time.sleep(0.05)
         stamp = log.send("store", asked=number)
         while True:

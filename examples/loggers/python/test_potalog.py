@@ -115,8 +115,8 @@ def free_ports():
 
 
 def wait_for(text, path):
-    """Waits until a log has a text, up to five seconds."""
-    for _ in range(500):
+    """Waits until a log has a text, up to twenty seconds."""
+    for _ in range(2000):
         if path.exists() and text in path.read_text():
             return
         time.sleep(0.01)
@@ -140,10 +140,11 @@ def run_pair(folder, form):
         store = start("store")
         wait_for(" int kept=0", folder / "store.log")
         wait_for(" told=4", folder / "client.log")
+        wait_for(" int\n", folder / "store.log")
         client.kill()
         client.wait()
         store.terminate()
-        store.wait(5)
+        store.wait(20)
     finally:
         for it in started:
             it.kill()
@@ -177,6 +178,49 @@ class TwoProcesses(unittest.TestCase):
             for formula in BY_NUMBERS:
                 two_lines, numbered = two_line_log(logs), numbered_log(logs)
                 self.assertEqual(answer(two_lines, formula, "--vclog"), answer(numbered, formula))
+
+
+class Page(unittest.TestCase):
+    """The client and the store of docs/LOGGING.md, as they are on the page."""
+
+    def setUp(self):
+        page = (HERE / "../../../docs/LOGGING.md").read_text()
+        self.room = tempfile.TemporaryDirectory()
+        self.addCleanup(self.room.cleanup)
+        self.folder = pathlib.Path(self.room.name)
+        (self.folder / "run1").mkdir()
+        programs = re.findall(r"(?s)```python\n(.*?)```", page)
+        port = free_ports()[0]
+        for name, text in zip(("client", "store"), programs, strict=True):
+            (self.folder / f"{name}.py").write_text(text.replace("7001", port))
+        self.asked = re.search(r"(?s)\n    cat (run1/\S+) \| pota (.*?)\n\n```\n(.*?)```", page)
+
+    def start(self, name):
+        words = [sys.executable, f"{name}.py"]
+        search = {**os.environ, "PYTHONPATH": str(HERE)}
+        return subprocess.Popen(words, cwd=self.folder, env=search, stderr=subprocess.DEVNULL)
+
+    def test_page(self):
+        store = self.start("store")
+        self.addCleanup(store.kill)
+        clients = (self.start("client") for _ in range(50) if not time.sleep(0.1))
+        self.assertTrue(any(client.wait(20) == 0 for client in clients), "no client ended well")
+        self.assertEqual(store.wait(20), 0)
+        if POTA:
+            command = f"cat {self.asked[1]} | '{POTA}' {self.asked[2]}"
+            said = subprocess.check_output(command, shell=True, cwd=self.folder, text=True)
+            self.assertEqual(said, self.asked[3])
+
+
+class Converter(unittest.TestCase):
+    def test_json_lines(self):
+        events = (HERE / "../scenario/events.jsonl").read_text()
+        words = [sys.executable, HERE / "from_json.py"]
+        log = subprocess.check_output(words, input=events, text=True)
+        self.assertEqual(log, (HERE / "../scenario/events.log").read_text())
+        if POTA:
+            formula = "EF (web_1.waits = 1 & queue.length = 0)"
+            self.assertIn("\nverdict true\n", answer(log, formula))
 
 
 FORMULAS = ["true", "EF (client.told = 4 & store.kept = 0)", "EG intransit(client,store) <= 1",
