@@ -94,6 +94,18 @@ func TestScenario(t *testing.T) {
 	}
 }
 
+// TestStamp compares stamps with those of the logger in Python.
+func TestStamp(t *testing.T) {
+	with := opened(t, Open, t.TempDir(), "client", nil)
+	without := opened(t, OpenWithoutClocks, t.TempDir(), "client", nil)
+	for log, want := range map[*Log]string{with: `["client",1,[1,0]]`, without: `["client",1,[]]`} {
+		text, err := json.Marshal(log.Send("store-1", nil))
+		if err != nil || string(text) != want {
+			t.Errorf("a stamp is %s", text)
+		}
+	}
+}
+
 func TestTie(t *testing.T) {
 	folder := t.TempDir()
 	client := opened(t, Open, folder, "client", nil)
