@@ -1,5 +1,6 @@
 """The logger's tests: python3 test_potalog.py. Where POTA names the program, it is asked too."""
-import json, os, pathlib, re, signal, socket, subprocess, sys, tempfile, time, unittest
+import json, os, pathlib, re, signal, socket, subprocess, sys, tempfile, threading
+import time, unittest
 import potalog
 
 HERE = pathlib.Path(__file__).resolve().parent
@@ -92,6 +93,25 @@ class OneProcess(unittest.TestCase):
     def test_names(self):
         names = [potalog.name_of(it) for it in ("node-1", "7", "n.é")]
         self.assertEqual(names, ["node_1", "_7", "n__"])
+
+    def test_threads(self):
+        log = potalog.Log("a", ["a", "b"], {"x": 0}, self.folder)
+
+        def work(number):
+            for message in range(50):
+                with log.receive(["b", 1000 * number + message, [0, message]]):
+                    log.set(x=number)
+                log.event(x=number)
+
+        threads = [threading.Thread(target=work, args=(number,)) for number in range(4)]
+        for it in threads:
+            it.start()
+        for it in threads:
+            it.join()
+        log.close()
+        events = lines_of(self.folder, "a")[3:-1]
+        own = [int(re.match(r"ev a (\d+),\d+ (recv|int)\b.* x=\d$", it)[1]) for it in events]
+        self.assertEqual(own, list(range(1, 401)))
 
     def test_forked_child(self):
         log = potalog.Log("a", ["a"], {}, self.folder)
