@@ -97,6 +97,7 @@ def begin(node, *words):
     if child:
         return child
     random.seed()
+    signal.alarm(10)  # whatever becomes of the one that began it
     try:
         process = node(*words)
         process.run()

@@ -4,7 +4,7 @@ The client has the store keep the numbers from 1 to 400, one behind the other. O
 come to the store every third is lost, and every second comes twice; so the client asks until it has
 its answer.
 """
-import json, socket, sys, time
+import json, signal, socket, sys, time
 from potalog import Log
 
 
@@ -57,6 +57,7 @@ def main(me, folder, client, store, form="clocks"):
     network = socket.socket(socket.AF_INET, socket.SOCK_DGRAM)
     network.bind(("127.0.0.1", int(client if me == "client" else store)))
     network.settimeout(0.02)
+    signal.alarm(60)  # nobody has to stop it
     if me == "client":
         run_client(log, network, int(store))
     else:
