@@ -6,8 +6,8 @@
 # makes N runs of each system with its planted bug and N of its mended form, and prints of each how
 # many runs show the bad state in the order in which their events were logged, and how many in some
 # order, as pota answers. With --kill a client or participant is killed in each run, and begun again
-# in every other one. All sockets are on 127.0.0.1, and a run takes a fifth of a second. The logs are
-# kept in FOLDER, if one is given, which must not exist.
+# in half of them. All sockets are on 127.0.0.1, and a run ends after a fifth of a second. The logs
+# are kept in FOLDER, if one is given, which must not exist.
 #
 # The program is the one that POTA names, or else crates/pota/out/pota, where `rt run` and `rt ci`
 # leave it.
