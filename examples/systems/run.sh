@@ -38,10 +38,10 @@ else
     trap 'rm -rf "$room"' EXIT
 fi
 
-# The logs of a run, one behind the other. A process that was killed leaves a torn log, with no `end`
-# line and maybe half a line: pota refuses it, so it is ended behind its last whole line. No other
-# process counts an event behind that one, since a line is written before its message is sent.
-# (A program that cuts torn logs for itself would take their place here.)
+# The logs of a run, one behind the other. A process that was killed leaves a torn log, without its
+# `end` line and maybe with half a line: pota refuses it, so it is ended behind its last whole line.
+# No other process counts an event behind that one, since a line is written before its message is
+# sent. (A program that cuts torn logs by itself would take their place here.)
 joined() {
     [ ${#kill[@]} -eq 0 ] || python3 "$here/../loggers/python/potalog.py" "$1"/*.log
     cat "$1"/*.log
