@@ -6,8 +6,8 @@
 # makes N runs of each system with its planted bug and N of its mended form, and prints of each how
 # many runs show the bad state in the order in which their events were logged, and how many in some
 # order, as pota answers. With --kill a client or participant is killed in each run, and begun again
-# in every other one. All sockets are on 127.0.0.1, and a run takes a fifth of a second. The logs are
-# kept in FOLDER, if one is given, which must not exist.
+# in half of them. All sockets are on 127.0.0.1, and a run ends after a fifth of a second. The logs
+# are kept in FOLDER, if one is given, which must not exist.
 #
 # The program is the one that POTA names, or else crates/pota/out/pota, where `rt run` and `rt ci`
 # leave it.
@@ -38,10 +38,10 @@ else
     trap 'rm -rf "$room"' EXIT
 fi
 
-# The logs of a run, one behind the other. A process that was killed leaves a torn log, with no `end`
-# line and maybe half a line: pota refuses it, so it is ended behind its last whole line. No other
-# process counts an event behind that one, since a line is written before its message is sent.
-# (A program that cuts torn logs for itself would take their place here.)
+# The logs of a run, one behind the other. A process that was killed leaves a torn log, without its
+# `end` line and maybe with half a line: pota refuses it, so it is ended behind its last whole line.
+# No other process counts an event behind that one, since a line is written before its message is
+# sent. (A program that cuts torn logs by itself would take their place here.)
 joined() {
     [ ${#kill[@]} -eq 0 ] || python3 "$here/../loggers/python/potalog.py" "$1"/*.log
     cat "$1"/*.log
