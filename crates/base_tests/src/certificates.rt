@@ -4,7 +4,7 @@ ghost use Rattle.certificate_lines.specs.declared.line.Line.TheVariants as line;
 use certificate_input::{Told, read_certificate};
 use certificate_lines::Line;
 use certificate_text::Said;
-use pota_base::{List, MemSource, NoMemory, Steps};
+use pota_base::{List, MemSource, NoMemory, Source, Steps};
 use std::alloc::Global;
 use std::marker::Brand;
 use std::sync::ledger::{Blank, Ledger};
@@ -44,6 +44,24 @@ impl Takes for Rows {
             _ => Ok(false),
         }
     }
+}
+
+// What is told of the bytes that the source has behind the first ones.
+fn told_by<L: Ledger>(
+    blank: Blank,
+    alloc: Global,
+    front: &[u8],
+    source: &mut MemSource,
+) -> Result<Told, NoMemory>
+    requires name { blank.name ≡ L.name }
+    requires parts { blank.parts ≡ L.parts }
+    requires some { 0 < blank.parts }
+{
+    let mut formula = List::new(alloc);
+    formula.extend_from_slice(b"formula true")?;
+    let verifier = Verifier::new(alloc, formula, Rows { left: 2 });
+    let mut steps = Steps::<L>::new(blank);
+    read_certificate(alloc, verifier, front, source, &mut steps)
 }
 
 // What is told of the bytes, of which the first ones are there and at most `most` come at a time.
@@ -115,5 +133,16 @@ fn certificates_come_in_any_pieces(rt: HostRuntime) -> Result<(), Fail> {
             }
         }
     }
+    Ok(())
+}
+
+#[test]
+fn nothing_is_read_behind_a_refused_line(rt: HostRuntime) -> Result<(), Fail> {
+    let mut source = MemSource::new(rt.alloc(), b"pota-cert 1\nfalse\nrow", 1, &[])?;
+    let told = told_by::<Brand>(Blank::new(1), rt.alloc(), b"", &mut source)?;
+    assert!(rt; told == Told::Refused(2));
+    let mut into = [0; 1];
+    assert!(rt; matches!(source.read(&mut into), Ok(1)));
+    assert!(rt; &into == b"r");
     Ok(())
 }

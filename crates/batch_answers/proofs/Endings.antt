@@ -3,15 +3,15 @@ use Rattle.std.proofs.Common.{◌≡◌, ℕ, Bool, true, false, Option, Some, N
 use Rattle.std.specs.Io.KnownBytes.{IsAtEnd}
 use Rattle.std.proofs.KnownBytes.{Appends-trans}
 use Rattle.event_log.specs.declared.item.LogFault.{LogFault}
-use Rattle.log_judgement.specs.Judgement.{Prefix, Judgement}
-use Rattle.log_judgement.specs.Due.{closed_of, whole_of, fault_in, at_end, told}
-use Rattle.log_judgement.specs.Texts.{listed, reported}
-use Rattle.log_judgement.specs.Counters.{counters_in}
-use Rattle.log_judgement.specs.Readings.{log_reading}
-use Rattle.log_judgement.specs.WholeLogs.{all_of}
+use Rattle.log_rules.specs.Judgement.{Prefix, Judgement}
+use Rattle.log_rules.specs.Due.{closed_of, whole_of, fault_in, at_end, told}
+use Rattle.log_rules.specs.Reported.{listed, reported}
+use Rattle.log_rules.specs.Counters.{counters_in}
+use Rattle.log_rules.specs.Readings.{log_reading}
+use Rattle.log_rules.specs.WholeLogs.{all_of}
 use Rattle.rctl_class.specs.Nodes.{formula_of}
 use Rattle.vector_clock.specs.Filled.{filled_log}
-use Rattle.log_judgement.proofs.Logs.{log_due, due_log}
+use Rattle.log_rules.proofs.Logs.{log_due, due_log}
 use Rattle.log_check.specs.Aims.{Says, Aim, unknown_name}
 use Rattle.log_check.specs.Checking.{IsCheckOf, HasClosed}
 use Rattle.log_check.specs.declared.check.LogCheck.{LogCheck}

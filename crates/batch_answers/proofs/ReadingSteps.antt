@@ -16,14 +16,14 @@ use Rattle.event_log.specs.Reader.{HasRead}
 use Rattle.event_log.proofs.FaultLaws.{free_small}
 use Rattle.event_log.proofs.FittingItems.{items_fit}
 use Rattle.event_log.proofs.Lists.{onto-append, length-onto}
-use Rattle.log_judgement.specs.declared.refusal.Refusal.{Refusal}
-use Rattle.log_judgement.specs.declared.refusal.Refusal.TheVariants as refusal
-use Rattle.log_judgement.specs.Judgement.{Prefix, Judgement, waiting, growing, finished, refused, judged}
-use Rattle.log_judgement.specs.Readings.{text_fault}
-use Rattle.log_judgement.specs.Due.{closed_of, placed, fault_in, told}
-use Rattle.log_judgement.specs.Texts.{reported}
-use Rattle.log_judgement.proofs.Items.{judged-append}
-use Rattle.log_judgement.proofs.Readings.{log_is_read}
+use Rattle.fault_kinds.specs.declared.refusal.Refusal.{Refusal}
+use Rattle.fault_kinds.specs.declared.refusal.Refusal.TheVariants as refusal
+use Rattle.log_rules.specs.Judgement.{Prefix, Judgement, waiting, growing, finished, refused, judged}
+use Rattle.log_rules.specs.Readings.{text_fault}
+use Rattle.log_rules.specs.Due.{closed_of, placed, fault_in, told}
+use Rattle.log_rules.specs.Reported.{reported}
+use Rattle.log_rules.proofs.Items.{judged-append}
+use Rattle.log_rules.proofs.Readings.{log_is_read}
 use Rattle.log_check.specs.Aims.{Says, Aim, rules_of}
 use Rattle.log_check.specs.Checking.{IsCheckOf, IsFree, MayFollow}
 use Rattle.log_check.specs.declared.check.LogCheck.{LogCheck}

@@ -5,8 +5,8 @@ use Rattle.std.proofs.KnownBytes.{Appends-nil, Consumes-nil}
 use Rattle.pota_base.specs.Outside.{IsPrefix}
 use Rattle.run_model.specs.Run.{Name, Watches}
 use Rattle.rctl_class.specs.Nodes.{node_of, formula_of}
-use Rattle.run_request.specs.declared.formula.Stated.{Stated}
-use Rattle.run_request.specs.Questions.{IsStated}
+use Rattle.stated_formula.specs.declared.formula.Stated.{Stated}
+use Rattle.stated_formula.specs.Stating.{IsStated}
 use Rattle.run_report.specs.Reports.{Asked}
 use Rattle.log_check.specs.Aims.{asked_of, aim_of}
 use Rattle.log_answers.specs.declared.stop.StopCause.TheVariants as causes

@@ -5,12 +5,12 @@ use Rattle.std.specs.Io.KnownBytes.{Appends, Consumes, IsAtEnd}
 use Rattle.pota_base.specs.Outside.{Rose}
 use Rattle.event_log.specs.Faults.{end_fault}
 use Rattle.event_log.specs.LogText.{onto}
-use Rattle.log_judgement.specs.Judgement.{Judgement}
-use Rattle.log_judgement.specs.Readings.{log_reading}
-use Rattle.log_judgement.specs.Due.{Due, judgement_of}
+use Rattle.log_rules.specs.Judgement.{Judgement}
+use Rattle.log_rules.specs.Readings.{log_reading}
+use Rattle.log_rules.specs.Due.{Due, judgement_of}
 use Rattle.log_check.specs.Aims.{Says, Aim, rules_of}
 use Rattle.log_check.specs.declared.check.LogCheck.{LogCheck}
-use Rattle.log_judgement.specs.Texts.{reported}
+use Rattle.log_rules.specs.Reported.{reported}
 use Rattle.log_answers.specs.declared.stop.StopCause.{StopCause}
 use Rattle.log_answers.specs.declared.stop.StopCause.TheVariants as causes
 use Rattle.log_answers.specs.declared.stop.Stop.{Stop}

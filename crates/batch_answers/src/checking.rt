@@ -1,6 +1,6 @@
 //! Reading a log to its end, and reporting on it.
 ghost use Rattle.std.specs.Prelude.{◌≡◌};
-ghost use Rattle.log_judgement.specs.Judgement.{waiting};
+ghost use Rattle.log_rules.specs.Judgement.{waiting};
 ghost use Rattle.log_check.specs.Aims.{Aim, said_by};
 ghost use Rattle.log_check.specs.Checking.{IsCheckOf};
 ghost use Rattle.batch_answers.specs.Reading.{HasChecked};

@@ -1,14 +1,14 @@
 //! Reading a log to its end, and checking it as it comes.
 ghost use Rattle.std.specs.Prelude.{◌≡◌, ◌<◌, ◌++◌, [], ℕ, List, length};
-ghost use Rattle.log_judgement.specs.Judgement.{waiting};
+ghost use Rattle.log_rules.specs.Judgement.{waiting};
 ghost use Rattle.log_check.specs.Aims.{Aim, said_by};
 ghost use Rattle.log_check.specs.Checking.{IsCheckOf};
 ghost use Rattle.batch_answers.specs.Reading.{HasReadLog};
 ghost use Rattle.batch_answers.specs.inside.Reading.{Finishes, HasJudged, TakesPiece, Turns};
 
 use event_log::{Fed, Reader};
+use fault_kinds::Refusal;
 use log_answers::{Checking, Means, Stop, StopCause};
-use log_judgement::Refusal;
 use pota_base::{Gate, Sink, Source};
 use std::sync::ledger::Ledger;
 use std::thread::Threads;

@@ -15,8 +15,8 @@ use Rattle.event_log.specs.FittingItems.{FitFirst}
 use Rattle.event_log.specs.Laws.{IsLog}
 use Rattle.event_log.specs.LogText.{onto, log_text, batch_items, log_items}
 use Rattle.event_log.proofs.FittingItems.{items_fit}
-use Rattle.log_judgement.specs.declared.refusal.Refusal.{Refusal}
-use Rattle.log_judgement.specs.declared.refusal.Refusal.TheVariants as refusal
+use Rattle.fault_kinds.specs.declared.refusal.Refusal.{Refusal}
+use Rattle.fault_kinds.specs.declared.refusal.Refusal.TheVariants as refusal
 use Rattle.event_log.specs.States.{StatesView, AreWhole}
 use Rattle.event_log.specs.States.{opened as no_events_of}
 use Rattle.event_log.proofs.NameNumbers.{header_known}
@@ -26,12 +26,12 @@ use Rattle.counter_preds.specs.Counters.{IsVariable}
 use Rattle.counter_preds.specs.Falls.{fall_fault}
 use Rattle.vector_clock.specs.Filled.{filled_log}
 use Rattle.rctl_class.specs.Nodes.{formula_of}
-use Rattle.log_judgement.specs.Counters.{counters_in}
-use Rattle.log_judgement.specs.Judgement.{Prefix, Judgement, waiting, refused, opened, judged}
-use Rattle.log_judgement.specs.Due.{whole_of, batches_of, at_end}
-use Rattle.log_judgement.specs.WholeLogs.{first_fall, IsLogFor, all_of}
-use Rattle.log_judgement.proofs.Items.{refused-stays}
-use Rattle.log_judgement.proofs.Logs.{log_due, reads_back}
+use Rattle.log_rules.specs.Counters.{counters_in}
+use Rattle.log_rules.specs.Judgement.{Prefix, Judgement, waiting, refused, opened, judged}
+use Rattle.log_rules.specs.Due.{whole_of, batches_of, at_end}
+use Rattle.log_rules.specs.WholeLogs.{first_fall, IsLogFor, all_of}
+use Rattle.log_rules.proofs.Items.{refused-stays}
+use Rattle.log_rules.proofs.Logs.{log_due, reads_back}
 use Rattle.log_check.specs.Aims.{Says, Aim, rules_of, unknown_name}
 use Rattle.log_check.specs.Checking.{IsCheckOf, IsFree, HasClosed, MayFollow}
 use Rattle.log_check.specs.declared.check.LogCheck.{LogCheck}

@@ -17,7 +17,7 @@ use Rattle.counter_preds.specs.Counters.{IsVariable, value_in}
 use Rattle.counter_preds.specs.Falls.{is_lowered, behind_event, fall_of, fall_fault}
 use Rattle.counter_preds.proofs.Behind.{whole_behind}
 use Rattle.counter_preds.proofs.Staying.{none_without}
-use Rattle.log_judgement.proofs.Rising.{value_absent}
+use Rattle.log_rules.proofs.Rising.{value_absent}
 
 none_here : (b : Bool) (fault : LogFault) (rest : Option LogFault) → (if b then Some fault else rest) ≡ None → (b ≡ false) × (rest ≡ None)
 none_here true fault rest none = cc

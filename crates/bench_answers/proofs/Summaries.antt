@@ -6,12 +6,13 @@ use Rattle.pota_base.specs.Outside.{IsPrefix}
 use Rattle.pota_base.specs.declared.status.Status.TheVariants as status
 use Rattle.command_words.specs.declared.request.Task.TheVariants as task
 use Rattle.command_words.specs.declared.request.Sizes.{Sizes}
-use Rattle.run_request.specs.declared.formula.Stated.{Stated}
-use Rattle.run_request.specs.Questions.{IsStated, AsksFor}
+use Rattle.stated_formula.specs.declared.formula.Stated.{Stated}
+use Rattle.run_request.specs.Questions.{AsksFor}
+use Rattle.stated_formula.specs.Stating.{IsStated}
 use Rattle.run_report.specs.Reports.{Asked}
 use Rattle.run_report.specs.Benches.{IsSummaryOf}
-use Rattle.log_judgement.specs.declared.refusal.Refusal.TheVariants as refusal
-use Rattle.log_judgement.specs.WholeLogs.{all_of}
+use Rattle.fault_kinds.specs.declared.refusal.Refusal.TheVariants as refusal
+use Rattle.log_rules.specs.WholeLogs.{all_of}
 use Rattle.log_check.specs.Aims.{Says, Aim, aim_of, names_of, watches_of}
 use Rattle.watch.specs.declared.predicate.Handed.{Handed}
 use Rattle.fault_line.specs.Faults.{status_of}

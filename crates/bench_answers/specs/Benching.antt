@@ -1,7 +1,7 @@
 -- A bench: what its log and its summary lead to.
 use Rattle.std.specs.Prelude.{◌≤◌}
 use Rattle.command_words.specs.declared.request.Sizes.{Sizes}
-use Rattle.log_judgement.specs.declared.refusal.Refusal.TheVariants as refusal
+use Rattle.fault_kinds.specs.declared.refusal.Refusal.TheVariants as refusal
 use Rattle.log_answers.specs.declared.stop.StopCause.TheVariants as causes
 
 -- sizes of a log that can be made

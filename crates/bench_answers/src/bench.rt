@@ -1,8 +1,9 @@
 //! The answer to a bench.
 ghost use Rattle.std.specs.Prelude.{◌≡◌, ◌≤◌, ◌<◌, ℕ, false, List as ListOf, Option};
-ghost use Rattle.log_judgement.specs.Judgement.{waiting};
+ghost use Rattle.log_rules.specs.Judgement.{waiting};
 ghost use Rattle.command_words.specs.declared.request.Task.TheVariants.{Bench};
-ghost use Rattle.run_request.specs.Questions.{AsksFor, IsStated};
+ghost use Rattle.run_request.specs.Questions.{AsksFor};
+ghost use Rattle.stated_formula.specs.Stating.{IsStated};
 ghost use Rattle.log_check.specs.Aims.{Aim, AreWatches, said_by};
 ghost use Rattle.log_check.specs.Checking.{IsCheckOf};
 ghost use Rattle.bench_summary.specs.Views.{sizes_of as summed_sizes};
@@ -17,7 +18,7 @@ use command_words::Sizes;
 use log_answers::{Checking, Means, Stop, Verdict};
 use log_check::LogCheck;
 use pota_base::{Gate, Sink, Steps};
-use run_request::Stated;
+use stated_formula::Stated;
 use std::marker::Brand;
 use std::sync::ledger::{Blank, Ledger};
 use std::thread::Threads;

@@ -12,19 +12,21 @@ use Rattle.rctl_parts.specs.Pieces.{Piece, disjuncts_of}
 use Rattle.rctl_class.specs.Nodes.{formula_of}
 use Rattle.command_words.specs.declared.request.Product.TheVariants as product
 use Rattle.command_words.specs.declared.request.Task.TheVariants as task
-use Rattle.run_request.specs.declared.formula.Stated.{Stated}
-use Rattle.run_request.specs.Questions.{IsStated, AsksFor}
+use Rattle.stated_formula.specs.declared.formula.Stated.{Stated}
+use Rattle.run_request.specs.Questions.{AsksFor}
+use Rattle.stated_formula.specs.Stating.{IsStated}
 use Rattle.run_request.proofs.OneQuestion.{asks_one}
-use Rattle.run_report.specs.Reports.{counted}
-use Rattle.log_judgement.specs.declared.refusal.Refusal.{Refusal}
-use Rattle.log_judgement.specs.declared.refusal.Refusal.TheVariants as refusal
-use Rattle.log_judgement.specs.Judgement.{Prefix, Judgement, waiting, growing, finished, refused}
-use Rattle.log_judgement.specs.Readings.{log_reading}
-use Rattle.log_judgement.specs.Due.{whole_of, batches_of, fault_in, at_end}
-use Rattle.log_judgement.specs.Texts.{listed, reported, AreTexts}
-use Rattle.log_judgement.specs.Counters.{counters_in}
-use Rattle.log_judgement.proofs.Orders.{all_ordered}
-use Rattle.log_judgement.proofs.Readings.{log_is_read}
+use Rattle.log_rules.specs.SoFar.{counted}
+use Rattle.fault_kinds.specs.declared.refusal.Refusal.{Refusal}
+use Rattle.fault_kinds.specs.declared.refusal.Refusal.TheVariants as refusal
+use Rattle.log_rules.specs.Judgement.{Prefix, Judgement, waiting, growing, finished, refused}
+use Rattle.log_rules.specs.Readings.{log_reading}
+use Rattle.log_rules.specs.Due.{whole_of, batches_of, fault_in, at_end}
+use Rattle.log_judgement.specs.Texts.{AreTexts}
+use Rattle.log_rules.specs.Reported.{listed, reported}
+use Rattle.log_rules.specs.Counters.{counters_in}
+use Rattle.log_rules.proofs.Orders.{all_ordered}
+use Rattle.log_rules.proofs.Readings.{log_is_read}
 use Rattle.log_check.specs.Aims.{Says, Aim, unknown_name}
 use Rattle.log_check.specs.Checking.{IsCheckOf, HasClosed}
 use Rattle.log_check.specs.Checked.{IsCheckedLog, observed_alone}

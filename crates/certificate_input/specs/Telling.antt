@@ -2,6 +2,7 @@
 use Rattle.std.specs.Prelude.{◌≡◌, ◌⊎◌, ℕ, ◌≤◌, List, [], ◌++◌, Option}
 use Rattle.std.specs.Io.KnownBytes.{Consumes, IsAtEnd}
 use Rattle.pota_base.specs.Outside.{Rose}
+use Rattle.input_reading.specs.Changes.{Change}
 use Rattle.certificate_lines.specs.declared.line.Line.{Line}
 use Rattle.certificate_text.specs.declared.said.Stage.TheVariants as stage
 use Rattle.certificate_text.specs.Taking.{VerifierView}
@@ -40,3 +41,9 @@ abbrev pub Tells : {N : Type 0} → (N → Line → N → Type 0) → Option (Li
     → ℕ → ℕ → VerifierView N → List ℕ → Told → Type 0
 Tells follows left left' faults faults' v front t =
     TellsBehind follows left left' faults faults' v [] front t
+
+-- the same, of a source before and after
+abbrev pub HasTold : {N : Type 0} → (N → Line → N → Type 0) → Change → VerifierView N → List ℕ
+    → Told → Type 0
+HasTold follows s v front t =
+    Tells follows s.before s.after s.faults_before s.faults_after v front t

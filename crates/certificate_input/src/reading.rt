@@ -1,10 +1,11 @@
 //! A certificate that is read to the end of an input.
 
-ghost use Rattle.std.specs.Prelude.{◌<◌, [], length, IfOk, OnErr};
-ghost use Rattle.input_reading.specs.Intakes.{ReadsShort};
+ghost use Rattle.std.specs.Prelude.{◌≡◌, ◌≢◌, ◌<◌, [], length, IfOk, OnErr};
+ghost use Rattle.input_reading.specs.Changes.{of_source};
+ghost use Rattle.input_reading.specs.Intakes.{HasReadSome};
 ghost use Rattle.certificate_input.specs.inside.Pieces.{IsReady};
-ghost use Rattle.certificate_input.specs.Telling.{IsFresh, Tells, TellsBehind};
-ghost use Rattle.certificate_input.specs.inside.Telling.{Turns};
+ghost use Rattle.certificate_input.specs.Telling.{HasTold, IsFresh};
+ghost use Rattle.certificate_input.specs.inside.Telling.{HasToldOn, HasTurned};
 
 use crate::input::CertificateInput;
 use crate::told::Told;
@@ -25,10 +26,10 @@ fn take_turn<N: Takes, S: Source, L: Ledger>(
 ) -> Result<Option<Told>, NoMemory>
     requires room { 0 < length room.old }
     requires ready { IsReady input.old }
-    ensures turn { IfOk result (λ told. Turns N.follows (S.left source.old) (S.left source.new)
-        (S.faults source.old) (S.faults source.new) input.old input.new told) }
-    ensures short { OnErr result (ReadsShort (S.left source.old) (S.left source.new)
-        (S.faults source.old) (S.faults source.new)) }
+    ensures turn { IfOk result (HasTurned N.follows (of_source S.Source source.old source.new)
+        input.old input.new) }
+    ensures short { OnErr result (HasReadSome (of_source S.Source source.old source.new)) }
+    ensures calm { result ≢ Ok (Some Told.Failed) → S.faults source.new ≡ S.faults source.old }
 {
     match source.read(room) {
         Ok(0) => match input.finish() {
@@ -53,11 +54,10 @@ fn read_on<N: Takes, S: Source, L: Ledger>(
 ) -> Result<Told, NoMemory>
     requires room { 0 < length room.old }
     requires ready { IsReady input.old }
-    ensures tells { IfOk result (λ told. TellsBehind N.follows (S.left source.old)
-        (S.left source.new) (S.faults source.old) (S.faults source.new) input.old.text
-        input.old.line [] told) }
-    ensures short { OnErr result (ReadsShort (S.left source.old) (S.left source.new)
-        (S.faults source.old) (S.faults source.new)) }
+    ensures tells { IfOk result (HasToldOn N.follows (of_source S.Source source.old source.new)
+        input.old) }
+    ensures short { OnErr result (HasReadSome (of_source S.Source source.old source.new)) }
+    ensures calm { result ≢ Ok Told.Failed → S.faults source.new ≡ S.faults source.old }
 {
     'turns: loop {
         match take_turn(input, source, room, steps) {
@@ -69,7 +69,8 @@ fn read_on<N: Takes, S: Source, L: Ledger>(
 }
 
 /// Tells of the certificate whose first bytes are these, and which the source has the rest of, to
-/// its end. Nothing is read behind a refused line.
+/// its end. Nothing is read behind a failed read (`calm`), nor behind a refused line, which a test
+/// holds.
 ///
 /// # Errors
 ///
@@ -82,10 +83,10 @@ pub fn read_certificate<N: Takes, S: Source, L: Ledger>(
     steps: &mut Steps<L>,
 ) -> Result<Told, NoMemory>
     requires { IsFresh verifier }
-    ensures tells { IfOk result (λ told. Tells N.follows (S.left source.old) (S.left source.new)
-        (S.faults source.old) (S.faults source.new) verifier front.now told) }
-    ensures short { OnErr result (ReadsShort (S.left source.old) (S.left source.new)
-        (S.faults source.old) (S.faults source.new)) }
+    ensures tells { IfOk result (HasTold N.follows (of_source S.Source source.old source.new)
+        verifier front.now) }
+    ensures short { OnErr result (HasReadSome (of_source S.Source source.old source.new)) }
+    ensures calm { result ≢ Ok Told.Failed → S.faults source.new ≡ S.faults source.old }
 {
     let mut buffer = vec![in alloc; 0u8; PIECE]?;
     let mut input = CertificateInput::new(alloc, verifier);

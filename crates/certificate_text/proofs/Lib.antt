@@ -2,3 +2,4 @@ mod Picks
 pub mod Lines
 pub mod Accepting
 pub mod OneAnswer
+pub mod Refusing

@@ -14,11 +14,11 @@ use Rattle.certificate_text.proofs.Picks.{pick_other, picked_first, picked_other
 
 -- ---- lines and bytes
 
-free-more : (line : List ℕ) (b : ℕ) → HasNoFeed line → b == 10 ≡ false → HasNoFeed (line ++ b ∷ [])
+pub free-more : (line : List ℕ) (b : ℕ) → HasNoFeed line → b == 10 ≡ false → HasNoFeed (line ++ b ∷ [])
 free-more [] b h e = (e, tt)
 free-more (x ∷ xs) b h e = (h.0, free-more xs b h.1 e)
 
-eq-ten : (b : ℕ) → b == 10 ≡ true → b ≡ 10
+pub eq-ten : (b : ℕ) → b == 10 ≡ true → b ≡ 10
 eq-ten b e = grind (arith, nat_tests)
 
 module _ {N : Type 0} (follows : N → Line → N → Type 0) where

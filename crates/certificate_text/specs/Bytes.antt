@@ -4,6 +4,7 @@ use Rattle.std.specs.Prelude.{◌≡◌, ◌⊎◌, ℕ, ◌+◌, ◌<◌, ◌�
 use Rattle.std.specs.Prelude.{length}
 use Rattle.std.specs.List.{AllByRecursion}
 use Rattle.certificate_lines.specs.declared.line.Line.{Line}
+use Rattle.certificate_lines.specs.Spelling.{lines_text}
 use Rattle.certificate_text.specs.declared.said.Stage.{Stage}
 use Rattle.certificate_text.specs.declared.said.Stage.TheVariants as stage
 use Rattle.certificate_text.specs.Taking.{VerifierView, Justifies, IsUnjustified}
@@ -63,3 +64,56 @@ RefusedAt follows (b ∷ bytes) v line n = pick (b == 10)
 abbrev pub OneFollows : {N : Type 0} → (N → Line → N → Type 0) → Type 0
 OneFollows follows =
     (v : _) (said : Line) (a b : _) → follows v said a → follows v said b → a ≡ b
+
+-- ---- what is refused, by lines
+
+-- each line is justified, and they lead to this
+abbrev pub LeadTo : {N : Type 0} → (N → Line → N → Type 0) → VerifierView N → List (List ℕ)
+    → VerifierView N → Type 0
+LeadTo follows v [] after = after ≡ v
+LeadTo follows v (line ∷ lines) after =
+    (mid : VerifierView _) × Justifies follows v line mid × LeadTo follows mid lines after
+
+-- a whole line that nothing justifies stands at the front of these bytes
+pub record HasWrongLine {N : Type 0} (follows : N → Line → N → Type 0) (v : VerifierView N)
+    (bytes : List ℕ) : Type 0 where
+  pub line : List ℕ
+  pub more : List ℕ
+  pub parts : bytes ≡ line ++ 10 ∷ more
+  pub is_line : IsLine line
+  pub wrong : IsUnjustified follows v line
+
+-- the line at the front of these bytes has more than 8,192 bytes
+pub record HasLongLine (bytes : List ℕ) : Type 0 where
+  pub line : List ℕ
+  pub more : List ℕ
+  pub parts : bytes ≡ line ++ more
+  pub one : HasNoFeed line
+  pub long : length line ≡ 8193
+
+-- a byte stands behind the last line
+pub record GoesOn {N : Type 0} (v : VerifierView N) (bytes : List ℕ) : Type 0 where
+  pub accepted : IsAccepted v.stage
+  pub some : bytes ≡ [] → ⊥
+
+-- the bytes end within a line, and a line is due
+pub record IsCutOff {N : Type 0} (v : VerifierView N) (bytes : List ℕ) : Type 0 where
+  pub due : IsAccepted v.stage → ⊥
+  pub part : IsLine bytes
+
+-- why the line at the front of these bytes is refused
+abbrev pub IsWrong : {N : Type 0} → (N → Line → N → Type 0) → VerifierView N → List ℕ → Type 0
+IsWrong follows v bytes =
+    HasWrongLine follows v bytes ⊎ (HasLongLine bytes ⊎ (GoesOn v bytes ⊎ IsCutOff v bytes))
+
+-- each of these lines is justified, and the line behind them is wrong
+pub record IsRefusedBehind {N : Type 0} (follows : N → Line → N → Type 0) (v : VerifierView N)
+    (bytes : List ℕ) (n : ℕ) : Type 0 where
+  pub lines : List (List ℕ)
+  pub rest : List ℕ
+  pub after : VerifierView N
+  pub parts : bytes ≡ lines_text lines ++ rest
+  pub are : AreLines lines
+  pub lead : LeadTo follows v lines after
+  pub number : n ≡ v.lines + length lines + 1
+  pub wrong : IsWrong follows after rest

@@ -5,6 +5,7 @@ ghost use Rattle.certificate_lines.specs.declared.line.Line.{Line};
 ghost use Rattle.certificate_lines.specs.Spelling.{LineFits, line_text, lines_text};
 ghost use Rattle.certificate_text.specs.Taking.{VerifierView, AreAccepted};
 ghost use Rattle.certificate_text.specs.Bytes.{Judged, RefusedAt, IsLine, AreLines, OneFollows};
+ghost use Rattle.certificate_text.specs.Bytes.{IsRefusedBehind};
 
 use crate::said::Said;
 
@@ -16,6 +17,13 @@ pub fn accepted_bytes_are_lines<N: Said>()
         × AreLines lines × AreAccepted N.follows v lines told }
     ensures bytes { (v : VerifierView N) (lines : List (List ℕ)) (told : Bool) → AreLines lines
         → AreAccepted N.follows v lines told → Judged N.follows (lines_text lines) v [] told }
+{}
+
+/// Bytes are refused at a line exactly where they are lines that are justified, and then one that
+/// is wrong: nothing justifies it, it is too long, it stands behind the last, or it is cut off.
+pub fn refused_bytes_are_lines<N: Said>()
+    ensures { (v : VerifierView N) (bytes : List ℕ) (n : ℕ)
+        → RefusedAt N.follows bytes v [] n ↔ IsRefusedBehind N.follows v bytes n }
 {}
 
 /// Where a line leaves one thing alone, bytes are accepted with one truth or refused at one line,

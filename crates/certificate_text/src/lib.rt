@@ -12,6 +12,9 @@ mod bytes;
 mod runs;
 mod said;
 
-pub use bytes::{accepted_bytes_are_lines, bytes_have_one_answer, lines_of_nodes_are_lines};
+pub use bytes::{
+    accepted_bytes_are_lines, bytes_have_one_answer, lines_of_nodes_are_lines,
+    refused_bytes_are_lines,
+};
 pub use runs::accepted_lines_are_a_run;
 pub use said::{Said, Stage};

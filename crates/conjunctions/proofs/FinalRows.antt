@@ -13,7 +13,8 @@ use Rattle.part_pulls.specs.Observing.{lens_seen, scope_seen, AreFull}
 use Rattle.conjunctions.specs.Numbering.{all_atoms}
 use Rattle.part_pulls.specs.Counters.{AllRise, counters_of_parts}
 use Rattle.part_pulls.specs.Systems.{system_of}
-use Rattle.conjunctions.specs.Settling.{IsSettled, IsLater}
+use Rattle.conjunctions.specs.Settling.{IsSettled}
+use Rattle.part_pulls.specs.Later.{IsLater}
 use Rattle.conjunctions.proofs.Later.{order_grows, system_grows}
 use Rattle.conjunctions.proofs.Staying.{orders_stay, system_stays}
 

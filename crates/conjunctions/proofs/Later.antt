@@ -24,7 +24,8 @@ use Rattle.part_pulls.specs.declared.observed.Observed.{Observed}
 use Rattle.part_pulls.specs.Observing.{clocks_seen, lens_seen, scope_seen, AreFull}
 use Rattle.conjunctions.specs.Numbering.{within, within_operand, conjunctions_in, all_conjunctions}
 use Rattle.part_pulls.specs.Systems.{pulls_of_atom, pulls_of_part, pulls_of_parts, system_of}
-use Rattle.conjunctions.specs.Settling.{IsSettled, AreSettled, IsFloor, AreFloors, IsLater}
+use Rattle.conjunctions.specs.Settling.{IsSettled, AreSettled, IsFloor, AreFloors}
+use Rattle.part_pulls.specs.Later.{IsLater}
 use Rattle.part_pulls.proofs.Atoms.{lens_same, there, fits_process, is_variable}
 use Rattle.part_pulls.specs.Counters.{AllRise, CountersRise, counter, counters_of_atom, counters_of_part, counters_of_parts}
 use Rattle.part_pulls.proofs.Rising.{first_rises, others_rise, left_rises, right_rises}

@@ -15,7 +15,7 @@ use Rattle.channel_preds.proofs.Growing.{at_most_stays, at_least_stays}
 use Rattle.part_pulls.specs.declared.observed.Observed.{Observed}
 use Rattle.part_pulls.specs.Observing.{clocks_seen, lens_seen, scope_seen, AreFull}
 use Rattle.part_pulls.specs.Systems.{pulls_of_atom, pulls_of_part, pulls_of_parts, system_of}
-use Rattle.conjunctions.specs.Settling.{IsLater}
+use Rattle.part_pulls.specs.Later.{IsLater}
 use Rattle.part_pulls.proofs.Atoms.{lens_same, there, fits_process, is_variable}
 use Rattle.part_pulls.specs.Counters.{counter}
 use Rattle.counter_preds.specs.Truth as counters

@@ -1,7 +1,7 @@
 -- The rows of conjunctions: what each of them has to be, and what a call of the recursion leaves of
 -- the lists of rows.
 use Rattle.std.specs.Prelude.{◌≡◌, ℕ, ◌+◌, ◌<◌, ◌≤◌, Bool, true, List, [], ◌∷◌, ◌++◌, length}
-use Rattle.std.specs.Prelude.{drop, sum, take, slice_index, get_or, Some, None}
+use Rattle.std.specs.Prelude.{drop, sum, take, slice_index}
 use Rattle.run_model.specs.Cut.{Cut, IsWithin}
 use Rattle.run_model.specs.Sublattice.{IsLeast}
 use Rattle.pull_system.specs.System.{SystemView, IsSystem}
@@ -12,11 +12,7 @@ use Rattle.raise_machine.specs.Bounds.{AreBounds}
 use Rattle.slice_workers.specs.Reaching.{ReachesFirst}
 use Rattle.rctl_parts.specs.Pieces.{Piece}
 use Rattle.part_pulls.specs.declared.observed.Observed.{Observed}
-use Rattle.causal_order.specs.Growth.{HasGrown}
-use Rattle.trace_growth.specs.Laws.{StatesHaveGrown}
-use Rattle.channel_preds.specs.Truth.{HasMoreEvents}
 use Rattle.part_pulls.specs.Observing.{Reading, AreAnswers, Satisfying, clocks_seen, lens_seen}
-use Rattle.part_pulls.specs.Observing.{trace_seen}
 use Rattle.conjunctions.specs.Numbering.{all_atoms}
 use Rattle.part_pulls.specs.Systems.{system_of}
 use Rattle.conjunctions.specs.Rounds.{RoundView, HasOrderSystem}
@@ -92,13 +88,3 @@ pub record Settles (seen : Observed) (workers : ℕ) (old new : RoundView)
   pub rows : AreSettled seen cs added
   pub looks : workers ≡ 1 → steps_after ≤ steps_before + bounds (lens_seen seen) old.before cs added
   pub order : HasOrderSystem (clocks_seen seen) new
-
--- what was observed later: the same processes and watches, and more behind what was there
-pub record IsLater (before after : Observed) : Type 0 where
-  pub header : after.trace.states.header ≡ before.trace.states.header
-  pub events : HasMoreEvents before.trace.states after.trace.states
-  pub clocks : HasGrown (clocks_seen before) (clocks_seen after)
-  pub states : StatesHaveGrown (trace_seen before) (trace_seen after)
-  pub watches : after.watch_process ≡ before.watch_process
-  pub rows : (w p : ℕ) → get_or before.watch_process w None ≡ Some p
-      → (more : List Bool) × (get_or after.watch_rows w [] ≡ get_or before.watch_rows w [] ++ more)

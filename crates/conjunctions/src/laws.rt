@@ -15,7 +15,8 @@ ghost use Rattle.part_pulls.specs.Observing.{run_seen, names_seen};
 ghost use Rattle.part_pulls.specs.Counters.{AllRise, CountersRise, counters_of_parts};
 ghost use Rattle.conjunctions.specs.Numbering.{all_conjunctions, all_atoms};
 ghost use Rattle.part_pulls.specs.Systems.{system_of};
-ghost use Rattle.conjunctions.specs.Settling.{AreSettled, IsSettled, AreFloors, IsLater};
+ghost use Rattle.conjunctions.specs.Settling.{AreSettled, IsSettled, AreFloors};
+ghost use Rattle.part_pulls.specs.Later.{IsLater};
 ghost use Rattle.conjunctions.specs.Answering.{IsAnswer};
 
 /// What was observed has one answer, whatever rows it began from, by however many workers it was

@@ -17,7 +17,8 @@ use Rattle.vector_clock.proofs.BatchLaws.{all_stand}
 use Rattle.vector_clock.proofs.FilledLogs.{log_is_a_run}
 use Rattle.report.specs.declared.report.Report.{Report}
 use Rattle.report.specs.Spelling.{report_lines, report_text}
-use Rattle.run_report.specs.Reports.{Asked, trace_so_far, counted, IsReportOn, IsReportOf}
+use Rattle.run_report.specs.Reports.{Asked, IsReportOn, IsReportOf}
+use Rattle.log_rules.specs.SoFar.{trace_so_far, counted}
 use Rattle.run_report.proofs.Numbers.{same_but_for_number}
 use Rattle.clock_laws.proofs.Sent.{log_settled}
 use Rattle.equal_runs.specs.OneRun.{without_line, without_lines, events_of, TellOfOneRun, IsFaultless}

@@ -5,7 +5,7 @@
 // has no part in it.
 //
 // Not said here: that a log is the one that its bytes are read as, and that its last report is what
-// is written. `log_judgement` and `pota_top` say so.
+// is written. `log_rules`, `log_judgement` and `pota_top` say so.
 #![tactic(auto)]
 
 ghost use Rattle.equal_runs.specs.Laws.{TheirRunsAreEqual, TheirReportsAreEqual};

@@ -12,10 +12,11 @@ use Rattle.run_report.specs.Reports.{Asked}
 use Rattle.equal_runs.specs.OneRun.{TellOfOneRun, IsFaultless}
 use Rattle.equal_runs.specs.Laws.{IsLastReportOf, DifferInTheBatchAlone}
 use Rattle.equal_runs.proofs.Reports.{equal_texts}
-use Rattle.log_judgement.specs.Judgement.{Prefix}
-use Rattle.log_judgement.specs.Due.{Due}
-use Rattle.log_judgement.specs.Texts.{listed, AreReports, IsDueText}
-use Rattle.log_judgement.specs.WholeLogs.{all_of, IsDueOfLog}
+use Rattle.log_rules.specs.Judgement.{Prefix}
+use Rattle.log_rules.specs.Due.{Due}
+use Rattle.log_judgement.specs.Texts.{AreReports, IsDueText}
+use Rattle.log_rules.specs.Reported.{listed}
+use Rattle.log_rules.specs.WholeLogs.{all_of, IsDueOfLog}
 
 -- the report behind a text
 record IsLastText (q : Asked) (watches : Watches) (log : Log) (text : List ℕ) : Type 0 where

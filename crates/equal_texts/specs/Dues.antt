@@ -8,9 +8,9 @@ use Rattle.vector_clock.specs.Filled.{filled_log}
 use Rattle.run_report.specs.Reports.{Asked}
 use Rattle.equal_runs.specs.OneRun.{TellOfOneRun, IsFaultless}
 use Rattle.equal_runs.specs.Laws.{DifferInTheBatchAlone}
-use Rattle.log_judgement.specs.Due.{Due}
+use Rattle.log_rules.specs.Due.{Due}
 use Rattle.log_judgement.specs.Texts.{IsDueText}
-use Rattle.log_judgement.specs.WholeLogs.{IsDueOfLog}
+use Rattle.log_rules.specs.WholeLogs.{IsDueOfLog}
 
 -- the last reports that are due of such logs are the same but for the line of the batch
 abbrev pub TheirDueTextsDifferInTheBatchAlone : Type 0

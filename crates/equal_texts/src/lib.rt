@@ -1,5 +1,5 @@
 // What is due of two logs that tell of one run: the same text but for the line of the batch
-// (`equal_runs_have_equal_texts`). `log_judgement` says what is due of bytes that are read as such
+// (`equal_runs_have_equal_texts`). `log_rules` says what is due of bytes that are read as such
 // logs (`no_fault_is_due_of_a_log`).
 //
 // Not said here: the same of the reports after each batch. There the runs differ.

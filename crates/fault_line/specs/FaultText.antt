@@ -2,10 +2,10 @@
 use Rattle.std.specs.Prelude.{ℕ, List, codes}
 use Rattle.event_log.specs.declared.item.LogCode.{LogCode}
 use Rattle.event_log.specs.declared.item.LogCode.TheVariants as log
-use Rattle.log_merge.specs.declared.fault.MergeCode.{MergeCode}
-use Rattle.log_merge.specs.declared.fault.MergeCode.TheVariants as merging
-use Rattle.vclog_import.specs.declared.fault.ImportCode.{ImportCode}
-use Rattle.vclog_import.specs.declared.fault.ImportCode.TheVariants as importing
+use Rattle.fault_kinds.specs.declared.merge.MergeCode.{MergeCode}
+use Rattle.fault_kinds.specs.declared.merge.MergeCode.TheVariants as merging
+use Rattle.fault_kinds.specs.declared.import.ImportCode.{ImportCode}
+use Rattle.fault_kinds.specs.declared.import.ImportCode.TheVariants as importing
 use Rattle.rctl_grammar.specs.declared.fault.FormulaCode.{FormulaCode}
 use Rattle.rctl_grammar.specs.declared.fault.FormulaCode.TheVariants as formula
 use Rattle.rctl_grammar.specs.declared.fault.Outside.{Outside}

@@ -1,10 +1,8 @@
 -- Which status goes with a fault, and how it came about.
 use Rattle.pota_base.specs.declared.status.Status.{Status}
 use Rattle.pota_base.specs.declared.status.Status.TheVariants as status
-use Rattle.run_request.specs.declared.question.QuestionFault.{QuestionFault}
-use Rattle.run_request.specs.declared.question.QuestionFault.TheVariants as question
-use Rattle.log_judgement.specs.declared.refusal.Refusal.{Refusal}
-use Rattle.log_judgement.specs.declared.refusal.Refusal.TheVariants as refusal
+use Rattle.fault_kinds.specs.declared.refusal.Refusal.{Refusal}
+use Rattle.fault_kinds.specs.declared.refusal.Refusal.TheVariants as refusal
 use Rattle.fault_line.specs.declared.fault.Fault.{Fault}
 use Rattle.fault_line.specs.declared.fault.Fault.TheVariants as fault
 
@@ -18,11 +16,6 @@ status_of (fault.Merge f) = status.Log
 status_of fault.Read = status.ReadFault
 status_of fault.Write = status.WriteFault
 status_of fault.Memory = status.OutOfMemory
-
--- what is wrong with the words or their formula
-abbrev pub fault_of_question : QuestionFault → Fault
-fault_of_question question.Usage = fault.Usage
-fault_of_question (question.Formula f) = fault.Formula f
 
 -- why a log is refused
 abbrev pub fault_of_refusal : Refusal → Fault

@@ -5,8 +5,8 @@ use Rattle.std.specs.Io.KnownBytes.{Appends}
 use Rattle.pota_base.specs.Outside.{Rose, AppendsPrefix}
 use Rattle.event_log.specs.declared.item.LogFault.{LogFault}
 use Rattle.rctl_grammar.specs.declared.fault.FormulaFault.{FormulaFault}
-use Rattle.log_merge.specs.declared.fault.MergeFault.{MergeFault}
-use Rattle.vclog_import.specs.declared.fault.ImportFault.{ImportFault}
+use Rattle.fault_kinds.specs.declared.merge.MergeFault.{MergeFault}
+use Rattle.fault_kinds.specs.declared.import.ImportFault.{ImportFault}
 use Rattle.fault_line.specs.FaultText.{formula_code_text, log_code_text}
 use Rattle.fault_line.specs.FaultText.{import_code_text, merge_code_text}
 use Rattle.fault_line.specs.declared.fault.Fault.{Fault}

@@ -1,14 +1,11 @@
 //! Why a run gave no verdict.
 ghost use Rattle.std.specs.Prelude.{◌≡◌};
-ghost use Rattle.fault_line.specs.Faults.{status_of, fault_of_question, fault_of_refusal};
+ghost use Rattle.fault_line.specs.Faults.{status_of, fault_of_refusal};
 
 use event_log::LogFault;
-use log_judgement::Refusal;
-use log_merge::MergeFault;
+use fault_kinds::{ImportFault, MergeFault, Refusal};
 use pota_base::Status;
-use rctl_parse::FormulaFault;
-use run_request::QuestionFault;
-use vclog_import::ImportFault;
+use rctl_grammar::FormulaFault;
 
 /// Why a run gave no verdict.
 #[derive(Clone, Copy, Debug, PartialEq, Eq)]
@@ -32,16 +29,6 @@ pub enum Fault {
 }
 
 impl Fault {
-    /// What is wrong with the words or their formula.
-    pub fn of_question(fault: QuestionFault) -> Fault
-        ensures { result ≡ fault_of_question fault }
-    {
-        match fault {
-            QuestionFault::Usage => Fault::Usage,
-            QuestionFault::Formula(fault) => Fault::Formula(fault),
-        }
-    }
-
     /// Why a log is refused.
     pub fn of_refusal(refusal: Refusal) -> Fault
         ensures { result ≡ fault_of_refusal refusal }

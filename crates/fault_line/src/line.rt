@@ -6,11 +6,10 @@ ghost use Rattle.fault_line.specs.Lines.{merge_text, line_by, cause_of, Told};
 use crate::fault::Fault;
 use crate::texts::{formula_code_text, import_code_text, log_code_text, merge_code_text};
 use event_log::LogFault;
-use log_merge::MergeFault;
+use fault_kinds::{ImportFault, MergeFault};
 use pota_base::{Sink, write_all};
 use rctl_grammar::FormulaFault;
 use std::marker::Model;
-use vclog_import::ImportFault;
 
 const ROOM: usize = 256;
 

@@ -4,9 +4,8 @@ ghost use Rattle.fault_line.specs.FaultText.{formula_code_text, log_code_text, o
 ghost use Rattle.fault_line.specs.FaultText.{import_code_text, merge_code_text};
 
 use event_log::LogCode;
-use log_merge::MergeCode;
+use fault_kinds::{ImportCode, MergeCode};
 use rctl_grammar::{FormulaCode, Outside};
-use vclog_import::ImportCode;
 
 // An operator outside the class.
 fn outside_text(outside: Outside) -> &'static [u8]

@@ -3,15 +3,15 @@ use Rattle.std.proofs.Common.{◌≡◌, ℕ, ◌<◌, ◌≤◌, Bool, true, fa
 use Rattle.std.specs.Prelude.{is_some, if◌then◌else◌}
 use Rattle.std.specs.Option.{option_map}
 use Rattle.std.proofs.lemmas.Bool.{ltb-true, ltb-false, lt-ltb}
-use Rattle.vclog_import.specs.declared.fault.ImportFault.{ImportFault}
+use Rattle.fault_kinds.specs.declared.import.ImportFault.{ImportFault}
 use Rattle.vclog_import.specs.Faults.{fault_of, is_too_long}
 use Rattle.vclog_import.specs.Imported.{imported}
 use Rattle.vclog_import.proofs.Fits.{imported_logs_fit}
 use Rattle.vclog_import.proofs.LongTexts.{long_texts_are_faulty}
-use Rattle.log_judgement.specs.declared.refusal.Refusal.{Refusal}
-use Rattle.log_judgement.specs.declared.refusal.Refusal.TheVariants as refusal
-use Rattle.log_judgement.specs.Readings.{IsReading, IsWhole}
-use Rattle.log_judgement.proofs.Readings.{whole_is_read}
+use Rattle.fault_kinds.specs.declared.refusal.Refusal.{Refusal}
+use Rattle.fault_kinds.specs.declared.refusal.Refusal.TheVariants as refusal
+use Rattle.log_rules.specs.Readings.{IsReading, IsWhole}
+use Rattle.log_rules.proofs.Readings.{whole_is_read}
 use Rattle.form_readings.specs.Clocks.{import_refusal, clocks_fault, clocks_place, clocks_reading}
 
 abbrev as_refusal : Option ImportFault → Option Refusal

@@ -8,7 +8,7 @@ use Rattle.event_log.specs.declared.log.Header.{Header}
 use Rattle.event_log.specs.declared.log.Log.{Log}
 use Rattle.event_log.specs.FittingItems.{FitFrom, FitFirst}
 use Rattle.event_log.specs.LogText.{EventFits, event_items, log_items}
-use Rattle.log_merge.specs.declared.fault.MergeFault.{MergeFault}
+use Rattle.fault_kinds.specs.declared.merge.MergeFault.{MergeFault}
 use Rattle.log_merge.specs.declared.merged.Merged.{Merged}
 use Rattle.log_merge.specs.Merging.{merged, merged_header, merged_events, numbered, merged_log}
 use Rattle.log_merge.proofs.Fits.{merged_logs_fit}
@@ -17,10 +17,10 @@ use Rattle.log_sources.specs.Sources.{Sources, no_sources, after, last_fault}
 use Rattle.log_sources.specs.Reading.{CanMerge}
 use Rattle.log_sources.proofs.Stepping.{after_more, stays}
 use Rattle.log_sources.proofs.Texts.{faultless_are_few, faultless_are_texts}
-use Rattle.log_judgement.specs.declared.refusal.Refusal.{Refusal}
-use Rattle.log_judgement.specs.declared.refusal.Refusal.TheVariants as refusal
-use Rattle.log_judgement.specs.Readings.{IsReading, IsWhole}
-use Rattle.log_judgement.proofs.Readings.{whole_is_read}
+use Rattle.fault_kinds.specs.declared.refusal.Refusal.{Refusal}
+use Rattle.fault_kinds.specs.declared.refusal.Refusal.TheVariants as refusal
+use Rattle.log_rules.specs.Readings.{IsReading, IsWhole}
+use Rattle.log_rules.proofs.Readings.{whole_is_read}
 use Rattle.form_readings.specs.Sources.{merged_of, merged_log_of, merged_place, merged_fault, merged_reading}
 
 abbrev as_refusal : Option MergeFault → Option Refusal

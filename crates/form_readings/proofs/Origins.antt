@@ -19,10 +19,10 @@ use Rattle.counter_preds.specs.Falls.{fall_fault, fall_of, is_lowered, behind_ev
 use Rattle.log_merge.specs.declared.merged.Origin.{Origin}
 use Rattle.log_merge.specs.Merging.{Placed, numbered, merged_events}
 use Rattle.log_sources.specs.Sources.{no_sources, after, logs_of}
-use Rattle.log_judgement.specs.declared.refusal.Refusal.TheVariants as refusal
-use Rattle.log_judgement.specs.Judgement.{Prefix, events_of, states_of, with_clocks, clock_fault, fault_behind, Rules, with_rules, waiting, growing, finished, refused, closing, judged}
-use Rattle.log_judgement.proofs.Items.{prefix_at, refused-stays}
-use Rattle.log_judgement.proofs.Logs.{judged-batch, judged-none}
+use Rattle.fault_kinds.specs.declared.refusal.Refusal.TheVariants as refusal
+use Rattle.log_rules.specs.Judgement.{Prefix, events_of, states_of, with_clocks, clock_fault, fault_behind, Rules, with_rules, waiting, growing, finished, refused, closing, judged}
+use Rattle.log_rules.proofs.Items.{prefix_at, refused-stays}
+use Rattle.log_rules.proofs.Logs.{judged-batch, judged-none}
 use Rattle.form_readings.specs.Sources.{merged_of, merged_log_of}
 
 -- a line from the first one up to so many more

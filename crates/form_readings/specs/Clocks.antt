@@ -5,9 +5,9 @@ use Rattle.std.specs.Option.{option_map}
 use Rattle.event_log.specs.declared.item.LogFault.{LogFault}
 use Rattle.vclog_import.specs.Faults.{fault_of, is_too_long}
 use Rattle.vclog_import.specs.Imported.{imported}
-use Rattle.log_judgement.specs.declared.refusal.Refusal.{Refusal}
-use Rattle.log_judgement.specs.declared.refusal.Refusal.TheVariants as refusal
-use Rattle.log_judgement.specs.Readings.{Reading, whole_reading}
+use Rattle.fault_kinds.specs.declared.refusal.Refusal.{Refusal}
+use Rattle.fault_kinds.specs.declared.refusal.Refusal.TheVariants as refusal
+use Rattle.log_rules.specs.Readings.{Reading, whole_reading}
 
 -- the first fault of a text, as a refusal
 abbrev pub import_refusal : List ℕ → Option Refusal

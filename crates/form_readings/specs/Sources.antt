@@ -4,15 +4,15 @@ use Rattle.std.specs.Prelude.{ℕ, ◌-◌, Bool, true, false, List, get_or, Opt
 use Rattle.std.specs.Option.{option_map}
 use Rattle.event_log.specs.declared.item.LogFault.{LogFault}
 use Rattle.event_log.specs.declared.log.Log.{Log}
-use Rattle.log_merge.specs.declared.fault.MergeCode.TheVariants as code
-use Rattle.log_merge.specs.declared.fault.MergeFault.{MergeFault}
+use Rattle.fault_kinds.specs.declared.merge.MergeCode.TheVariants as code
+use Rattle.fault_kinds.specs.declared.merge.MergeFault.{MergeFault}
 use Rattle.log_merge.specs.declared.merged.Merged.{Merged}
 use Rattle.log_merge.specs.declared.merged.Origin.{Origin}
 use Rattle.log_merge.specs.Merging.{merged}
 use Rattle.log_sources.specs.Sources.{no_sources, after, last_fault, logs_of}
-use Rattle.log_judgement.specs.declared.refusal.Refusal.{Refusal}
-use Rattle.log_judgement.specs.declared.refusal.Refusal.TheVariants as refusal
-use Rattle.log_judgement.specs.Readings.{Reading, whole_reading}
+use Rattle.fault_kinds.specs.declared.refusal.Refusal.{Refusal}
+use Rattle.fault_kinds.specs.declared.refusal.Refusal.TheVariants as refusal
+use Rattle.log_rules.specs.Readings.{Reading, whole_reading}
 
 -- the logs of these bytes, merged
 abbrev pub merged_of : List ℕ → Merged

@@ -5,12 +5,12 @@ ghost use Rattle.event_log.specs.declared.item.LogFault.{LogFault};
 ghost use Rattle.event_log.specs.declared.log.Header.{Header};
 ghost use Rattle.event_log.specs.LogText.{log_items};
 ghost use Rattle.counter_preds.specs.declared.values.Variable.{Variable};
-ghost use Rattle.log_judgement.specs.declared.refusal.Refusal.TheVariants as refusal;
-ghost use Rattle.log_judgement.specs.Judgement.{Prefix, Rules, with_rules, waiting, refused};
-ghost use Rattle.log_judgement.specs.Judgement.{judged};
-ghost use Rattle.log_judgement.specs.Readings.{IsReading};
-ghost use Rattle.log_judgement.specs.Due.{due};
-ghost use Rattle.log_judgement.specs.Texts.{HasOneReport};
+ghost use Rattle.fault_kinds.specs.declared.refusal.Refusal.TheVariants as refusal;
+ghost use Rattle.log_rules.specs.Judgement.{Prefix, Rules, with_rules, waiting, refused};
+ghost use Rattle.log_rules.specs.Judgement.{judged};
+ghost use Rattle.log_rules.specs.Readings.{IsReading};
+ghost use Rattle.log_rules.specs.Due.{due};
+ghost use Rattle.log_rules.specs.Reported.{HasOneReport};
 ghost use Rattle.form_readings.specs.Clocks.{clocks_reading};
 ghost use Rattle.form_readings.specs.Sources.{merged_of, merged_log_of, merged_reading};
 

@@ -1,7 +1,8 @@
 //! Reading until no further byte matters.
 
-ghost use Rattle.std.specs.Prelude.{ℕ, ◌<◌, List, length, IfOk, OnErr};
-ghost use Rattle.input_reading.specs.Intakes.{Turns, ReadsAll, ReadsShort};
+ghost use Rattle.std.specs.Prelude.{◌≡◌, ◌≢◌, ℕ, ◌<◌, List, length, IfOk, OnErr};
+ghost use Rattle.input_reading.specs.Changes.{of_source};
+ghost use Rattle.input_reading.specs.Intakes.{HasTurned, HasReadAll, HasReadSome};
 
 use crate::intake::{Intake, Turn};
 use pota_base::{NoMemory, Source};
@@ -30,11 +31,10 @@ fn take_turn<S: Source, I: Intake>(
     requires room { 0 < length room.old }
     requires at { (bytes : List ℕ) × I.open_ intake.old bytes }
     ensures turn { IfOk result (λ end. (bytes : List ℕ) → I.open_ intake.old bytes
-        → Turns (S.left source.old) (S.left source.new) (S.faults source.old) (S.faults source.new)
-        (I.open_ intake.new) (I.done intake.new) (I.room intake.old) (I.room intake.new)
-        bytes end) }
-    ensures short { OnErr result (ReadsShort (S.left source.old) (S.left source.new)
-        (S.faults source.old) (S.faults source.new)) }
+        → HasTurned (of_source S.Source source.old source.new) (I.open_ intake.new)
+        (I.done intake.new) (I.room intake.old) (I.room intake.new) bytes end) }
+    ensures short { OnErr result (HasReadSome (of_source S.Source source.old source.new)) }
+    ensures calm { result ≢ Ok (Some End.Failed) → S.faults source.new ≡ S.faults source.old }
 {
     match source.read(room) {
         Ok(0) => Ok(Some(End::Ended)),
@@ -55,10 +55,10 @@ pub fn read_all<S: Source, I: Intake>(
 ) -> Result<End, NoMemory>
     requires { (bytes : List ℕ) × I.open_ intake.old bytes }
     ensures reads { IfOk result (λ end. (bytes : List ℕ) → I.open_ intake.old bytes
-        → ReadsAll (S.left source.old) (S.left source.new) (S.faults source.old)
-        (S.faults source.new) (I.open_ intake.new) (I.done intake.new) bytes end) }
-    ensures short { OnErr result (ReadsShort (S.left source.old) (S.left source.new)
-        (S.faults source.old) (S.faults source.new)) }
+        → HasReadAll (of_source S.Source source.old source.new) (I.open_ intake.new)
+        (I.done intake.new) bytes end) }
+    ensures short { OnErr result (HasReadSome (of_source S.Source source.old source.new)) }
+    ensures calm { result ≢ Ok End.Failed → S.faults source.new ≡ S.faults source.old }
 {
     let mut buffer = vec![in alloc; 0u8; PIECE]?;
     let room = buffer.as_mut_slice();

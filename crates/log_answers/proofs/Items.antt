@@ -3,10 +3,10 @@ use Rattle.std.proofs.Common.{◌≡◌, ℕ, ◌≤◌, Bool, true, false, Opti
 use Rattle.std.specs.Io.KnownBytes.{Appends}
 use Rattle.std.proofs.KnownBytes.{Appends-nil, Appends-trans}
 use Rattle.event_log.specs.declared.item.Item.{Item}
-use Rattle.log_judgement.specs.declared.refusal.Refusal.{Refusal}
-use Rattle.log_judgement.specs.Judgement.{Prefix, Rules, Judgement, judge, judged}
-use Rattle.log_judgement.specs.Due.{closed_of}
-use Rattle.log_judgement.proofs.Items.{judged-append, refused-stays, all_more}
+use Rattle.fault_kinds.specs.declared.refusal.Refusal.{Refusal}
+use Rattle.log_rules.specs.Judgement.{Prefix, Rules, Judgement, judge, judged}
+use Rattle.log_rules.specs.Due.{closed_of}
+use Rattle.log_rules.proofs.Items.{judged-append, refused-stays, all_more}
 use Rattle.log_check.specs.Aims.{Says, Aim, rules_of}
 use Rattle.log_check.specs.Checking.{IsCheckOf, GoesOn, HasClosed, MayFollow, IsRefusedAs}
 use Rattle.log_check.specs.declared.check.LogCheck.{LogCheck}

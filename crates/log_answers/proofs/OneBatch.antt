@@ -12,10 +12,10 @@ use Rattle.event_log.specs.declared.log.Header.{Header}
 use Rattle.event_log.specs.declared.log.Log.{Log}
 use Rattle.event_log.specs.FittingItems.{FitFirst}
 use Rattle.event_log.specs.LogText.{event_items, batch_items, log_items}
-use Rattle.log_judgement.specs.declared.refusal.Refusal.TheVariants as refusal
-use Rattle.log_judgement.specs.Judgement.{Prefix, followed_by, with_clocks, Rules, Judgement, waiting, growing, finished, refused, opened, closing, judged}
-use Rattle.log_judgement.specs.Due.{whole_of}
-use Rattle.log_judgement.proofs.Items.{prefix_at, refused-stays}
+use Rattle.fault_kinds.specs.declared.refusal.Refusal.TheVariants as refusal
+use Rattle.log_rules.specs.Judgement.{Prefix, followed_by, with_clocks, Rules, Judgement, waiting, growing, finished, refused, opened, closing, judged}
+use Rattle.log_rules.specs.Due.{whole_of}
+use Rattle.log_rules.proofs.Items.{prefix_at, refused-stays}
 use Rattle.log_check.specs.Aims.{Says, Aim, rules_of}
 use Rattle.log_check.specs.Checking.{IsCheckOf, IsFree, HasClosed, MayFollow}
 use Rattle.log_check.specs.declared.check.LogCheck.{LogCheck}

@@ -6,12 +6,13 @@ use Rattle.std.proofs.KnownBytes.{Appends-nil}
 use Rattle.pota_base.specs.Outside.{Rose, IsPrefix, HasCause, AppendsPrefix}
 use Rattle.report.specs.declared.report.Report.{Report}
 use Rattle.report.specs.Spelling.{report_text}
-use Rattle.run_report.specs.Reports.{Asked, IsReportOf, counted}
+use Rattle.run_report.specs.Reports.{Asked, IsReportOf}
+use Rattle.log_rules.specs.SoFar.{counted}
 use Rattle.run_report.specs.Benches.{IsSummaryOf, benched, summary_text}
 use Rattle.run_report.specs.Benches as bench
-use Rattle.log_judgement.specs.declared.refusal.Refusal.{Refusal}
-use Rattle.log_judgement.specs.Judgement.{Prefix, Judgement, waiting, growing, finished, refused}
-use Rattle.log_judgement.specs.Due.{batches_of}
+use Rattle.fault_kinds.specs.declared.refusal.Refusal.{Refusal}
+use Rattle.log_rules.specs.Judgement.{Prefix, Judgement, waiting, growing, finished, refused}
+use Rattle.log_rules.specs.Due.{batches_of}
 use Rattle.log_judgement.specs.Texts.{IsReportText}
 use Rattle.log_judgement.proofs.Texts.{texts_join}
 use Rattle.log_check.specs.Aims.{Aim, asked_of, IsReportFor}

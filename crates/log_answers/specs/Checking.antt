@@ -6,12 +6,12 @@ use Rattle.std.specs.Io.KnownBytes.{Appends}
 use Rattle.pota_base.specs.Outside.{Rose, IsPrefix}
 use Rattle.report.specs.declared.report.Report.{Report}
 use Rattle.report.specs.Spelling.{report_text}
-use Rattle.run_report.specs.Reports.{counted}
+use Rattle.log_rules.specs.SoFar.{counted}
 use Rattle.run_report.specs.Benches.{IsSummaryOf}
 use Rattle.run_report.specs.Benches as bench
-use Rattle.log_judgement.specs.declared.refusal.Refusal.{Refusal}
-use Rattle.log_judgement.specs.Judgement.{Prefix, Judgement, refused}
-use Rattle.log_judgement.specs.Due.{closed_of, batches_of}
+use Rattle.fault_kinds.specs.declared.refusal.Refusal.{Refusal}
+use Rattle.log_rules.specs.Judgement.{Prefix, Judgement, refused}
+use Rattle.log_rules.specs.Due.{closed_of, batches_of}
 use Rattle.log_judgement.specs.Texts.{AreReports}
 use Rattle.log_check.specs.Aims.{Says, Aim, asked_of, IsReportFor, IsTrueSoFar}
 use Rattle.log_check.specs.Checking.{IsCheckOf}

@@ -4,11 +4,11 @@ use Rattle.std.specs.Prelude.{◌≡◌, ℕ, ◌≤◌, ◌↔◌, Bool, true, 
 use Rattle.std.specs.Prelude.{Result, Ok, Err}
 use Rattle.std.specs.Io.KnownBytes.{Appends, Consumes, IsAtEnd}
 use Rattle.pota_base.specs.Outside.{Rose}
-use Rattle.log_judgement.specs.declared.refusal.Refusal.{Refusal}
-use Rattle.log_judgement.specs.Judgement.{Prefix}
-use Rattle.log_judgement.specs.Readings.{Reading}
-use Rattle.log_judgement.specs.Due.{Due, due}
-use Rattle.log_judgement.specs.Texts.{reported}
+use Rattle.fault_kinds.specs.declared.refusal.Refusal.{Refusal}
+use Rattle.log_rules.specs.Judgement.{Prefix}
+use Rattle.log_rules.specs.Readings.{Reading}
+use Rattle.log_rules.specs.Due.{Due, due}
+use Rattle.log_rules.specs.Reported.{reported}
 use Rattle.log_check.specs.Aims.{Aim, rules_of, IsTrueSoFar}
 use Rattle.log_answers.specs.declared.stop.StopCause.{StopCause}
 use Rattle.log_answers.specs.declared.stop.StopCause.TheVariants as causes

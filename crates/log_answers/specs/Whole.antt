@@ -5,9 +5,9 @@ use Rattle.std.specs.Io.KnownBytes.{Appends}
 use Rattle.pota_base.specs.Outside.{Rose}
 use Rattle.event_log.specs.declared.log.Log.{Log}
 use Rattle.event_log.specs.LogText.{log_items}
-use Rattle.log_judgement.specs.declared.refusal.Refusal.{Refusal}
-use Rattle.log_judgement.specs.Judgement.{Prefix, Judgement, waiting, refused, judged}
-use Rattle.log_judgement.specs.Due.{whole_of, batches_of}
+use Rattle.fault_kinds.specs.declared.refusal.Refusal.{Refusal}
+use Rattle.log_rules.specs.Judgement.{Prefix, Judgement, waiting, refused, judged}
+use Rattle.log_rules.specs.Due.{whole_of, batches_of}
 use Rattle.log_check.specs.Aims.{Says, Aim, rules_of, IsTrueSoFar}
 use Rattle.log_check.specs.declared.check.LogCheck.{LogCheck}
 use Rattle.log_answers.specs.declared.stop.StopCause.{StopCause}

@@ -1,7 +1,7 @@
 //! A log that is checked item by item, with the reports that its batches have.
 ghost use Rattle.std.specs.Prelude.{◌≡◌, ◌∷◌, ◌++◌, ◌≤◌, [], ℕ, List as ListOf};
 ghost use Rattle.std.specs.Prelude.{IfOk, OnOk};
-ghost use Rattle.log_judgement.specs.Judgement.{Prefix, Judgement, judge, judged};
+ghost use Rattle.log_rules.specs.Judgement.{Prefix, Judgement, judge, judged};
 ghost use Rattle.report.specs.Spelling.{IsWellFormed};
 ghost use Rattle.log_check.specs.Aims.{Aim, IsReportFor, rules_of, said_by};
 ghost use Rattle.log_check.specs.Checking.{HasClosed, IsCheckOf, MayFollow};

@@ -4,7 +4,7 @@
 //! takes the next item (`take_all`), the report on the log as far as it was closed (`report`), and
 //! the summary of a bench (`sum_up`). A log that stands whole, in one batch, is taken at once
 //! (`take_whole`), and its report written (`check_whole`). A stop says how many batches were closed before it, and its
-//! cause: a refusal is the one that `log_judgement` has due of the items, behind the reports that
+//! cause: a refusal is the one that `log_rules` has due of the items, behind the reports that
 //! are due before it; where a report could not be written a front of it was; where there was no
 //! memory what was written is a front of what is due.
 //!

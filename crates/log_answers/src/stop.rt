@@ -2,7 +2,7 @@
 ghost use Rattle.std.specs.Prelude.{◌≡◌};
 ghost use Rattle.log_answers.specs.declared.stop.StopCause.TheVariants.{Memory};
 
-use log_judgement::Refusal;
+use fault_kinds::Refusal;
 
 /// Why a log has no verdict.
 #[derive(Clone, Copy, Debug, PartialEq, Eq)]

@@ -2,7 +2,7 @@
 ghost use Rattle.std.specs.Prelude.{◌≡◌, ◌++◌, false, length, IfOk, OnOk};
 ghost use Rattle.event_log.specs.FittingItems.{FitFirst};
 ghost use Rattle.event_log.specs.LogText.{log_items, event_items};
-ghost use Rattle.log_judgement.specs.Judgement.{waiting};
+ghost use Rattle.log_rules.specs.Judgement.{waiting};
 ghost use Rattle.log_check.specs.Aims.{Aim, said_by};
 ghost use Rattle.log_check.specs.Checking.{IsCheckOf};
 ghost use Rattle.log_answers.specs.Whole.{HasWhole, TakesWhole};

@@ -33,8 +33,8 @@ use Rattle.rctl_class.specs.Counters.{Counter, counters_of, all_counters, parts_
 use Rattle.rctl_names.specs.Seen.{names_of, variables_in}
 use Rattle.rctl_names.specs.Resolving.{scope_of}
 use Rattle.part_pulls.specs.Counters as parts
-use Rattle.log_judgement.specs.Counters.{variable_in, counters_in}
-use Rattle.log_judgement.proofs.Rising.{Rises, kept_for}
+use Rattle.log_rules.specs.Counters.{variable_in, counters_in}
+use Rattle.log_rules.proofs.Rising.{Rises, kept_for}
 use Rattle.log_check.specs.Keeping.{HaveCounters}
 
 -- ---- lists with the same counters

@@ -10,10 +10,10 @@ use Rattle.event_log.specs.declared.log.Event.{Event}
 use Rattle.event_log.specs.declared.log.Header.{Header}
 use Rattle.event_log.specs.LogText.{event_count}
 use Rattle.event_log.specs.FittingItems.{FitFrom}
-use Rattle.log_judgement.specs.declared.refusal.Refusal.TheVariants as refusal
+use Rattle.fault_kinds.specs.declared.refusal.Refusal.TheVariants as refusal
 use Rattle.event_log.specs.States.{with_batch}
 use Rattle.vector_clock.proofs.FilledBatches.{length-fill_from}
-use Rattle.log_judgement.specs.Judgement.{Prefix, followed_by, events_of, with_clocks, Rules, Judgement, waiting, growing, finished, refused, judge, judged}
+use Rattle.log_rules.specs.Judgement.{Prefix, followed_by, events_of, with_clocks, Rules, Judgement, waiting, growing, finished, refused, judge, judged}
 use Rattle.log_check.specs.Checking.{MayFollow}
 
 pub event_count-push : (bs : List (List Event)) (b : List Event) → event_count (bs ++ b ∷ []) ≡ event_count bs + length b

@@ -15,11 +15,11 @@ use Rattle.rctl_parts.specs.Spelled.{disjunction_of, part_formulas}
 use Rattle.rctl_class.specs.Classed.{EachAlike}
 use Rattle.rctl_class.specs.Nodes.{node_of, formula_of}
 use Rattle.rctl_names.specs.Seen as names
-use Rattle.run_request.specs.declared.formula.Stated.{Stated}
+use Rattle.stated_formula.specs.declared.formula.Stated.{Stated}
 use Rattle.part_pulls.specs.declared.observed.Observed.{Observed}
 use Rattle.part_pulls.specs.Observing.{AreAnswers, clocks_seen, run_seen, names_seen}
 use Rattle.answer_report.proofs.Slices.{same_truth}
-use Rattle.log_judgement.specs.Judgement.{Prefix, Judgement}
+use Rattle.log_rules.specs.Judgement.{Prefix, Judgement}
 use Rattle.session.specs.declared.session.Session.{Session}
 use Rattle.log_check.specs.declared.check.LogCheck.{LogCheck}
 use Rattle.log_check.specs.Aims.{Says, Aim, IsTrueSoFar}

@@ -29,17 +29,17 @@ use Rattle.rctl_round_trip.proofs.RoundTrips.{printed_again}
 use Rattle.rctl_print.specs.Canonical.{canonical}
 use Rattle.rctl_parse.specs.Parsing.{IsReadAs}
 use Rattle.report_lines.specs.Formula.{IsCanonical}
-use Rattle.run_request.specs.declared.formula.Stated.{Stated}
-use Rattle.run_request.specs.Questions.{IsStated}
-use Rattle.run_report.specs.Reports.{counted}
+use Rattle.stated_formula.specs.declared.formula.Stated.{Stated}
+use Rattle.stated_formula.specs.Stating.{IsStated}
+use Rattle.log_rules.specs.SoFar.{counted}
 use Rattle.part_pulls.specs.Observing.{AreAnswers}
-use Rattle.log_judgement.specs.declared.refusal.Refusal.{Refusal}
-use Rattle.log_judgement.specs.declared.refusal.Refusal.TheVariants as refusal
+use Rattle.fault_kinds.specs.declared.refusal.Refusal.{Refusal}
+use Rattle.fault_kinds.specs.declared.refusal.Refusal.TheVariants as refusal
 use Rattle.rctl_grammar.specs.declared.fault.FormulaFault.{FormulaFault}
-use Rattle.log_judgement.specs.Judgement.{Prefix, followed_by, fault_behind, events_of, with_clocks, Judgement, waiting, growing, finished, refused, opened, judge}
-use Rattle.log_judgement.specs.Counters.{counters_in}
-use Rattle.log_judgement.specs.Due.{after_each, closed_of, batches_of}
-use Rattle.log_judgement.proofs.Items.{after_each-push}
+use Rattle.log_rules.specs.Judgement.{Prefix, followed_by, fault_behind, events_of, with_clocks, Judgement, waiting, growing, finished, refused, opened, judge}
+use Rattle.log_rules.specs.Counters.{counters_in}
+use Rattle.log_rules.specs.Due.{after_each, closed_of, batches_of}
+use Rattle.log_rules.proofs.Items.{after_each-push}
 use Rattle.watch.specs.declared.predicate.Handed.{Handed}
 use Rattle.session.specs.declared.session.Session.{Session}
 use Rattle.session.specs.Growing.{GrowingView, TakesBatch, first_fault, opened_growing}

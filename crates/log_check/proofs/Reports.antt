@@ -21,14 +21,14 @@ use Rattle.conjunctions.specs.Answering.{IsAnswer}
 use Rattle.run_report.specs.Reports.{Asked, IsReportOn}
 use Rattle.answer_report.specs.declared.wanted.Wanted.{Wanted}
 use Rattle.answer_report.specs.Asking.{IsAskedOf}
-use Rattle.log_judgement.specs.Judgement.{Prefix, followed_by, Judgement, waiting, growing, finished, refused}
+use Rattle.log_rules.specs.Judgement.{Prefix, followed_by, Judgement, waiting, growing, finished, refused}
 use Rattle.session.specs.declared.session.Session.{Session}
 use Rattle.session.specs.Growing.{HasAnswer}
 use Rattle.session.specs.Fed.{AreFedFrom}
 use Rattle.watch.specs.declared.predicate.Handed.{Handed}
 use Rattle.log_check.specs.declared.check.LogCheck.{LogCheck}
 use Rattle.log_check.specs.Aims.{Says, Aim, asked_of, IsReportFor}
-use Rattle.log_judgement.proofs.Rising.{whole_log}
+use Rattle.log_rules.proofs.Rising.{whole_log}
 use Rattle.log_check.proofs.Counters.{rising_kept}
 use Rattle.log_check.specs.Keeping.{trace_after, reading_of, IsWatched, HaveCounters, HasTaken}
 use Rattle.log_check.specs.Keeping.{AreHanded, IsOpen, HasSince, Keeps}

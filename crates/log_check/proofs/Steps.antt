@@ -24,16 +24,16 @@ use Rattle.vector_clock.specs.Events.{EventStands, no_events}
 use Rattle.vector_clock.proofs.BatchLaws.{events_stand}
 use Rattle.trace_growth.specs.Growing.{TraceView, FitsTrace, opened_trace, filled_for, trace_fault}
 use Rattle.trace_growth.specs.Growing.{with_trace_batch}
-use Rattle.run_report.specs.Reports.{counted}
-use Rattle.log_judgement.specs.declared.refusal.Refusal.TheVariants as refusal
+use Rattle.log_rules.specs.SoFar.{counted}
+use Rattle.fault_kinds.specs.declared.refusal.Refusal.TheVariants as refusal
 use Rattle.counter_preds.specs.Falls.{fall_fault}
 use Rattle.rctl_parts.specs.Pieces as piece
 use Rattle.rctl_class.specs.Nodes.{formula_of}
 use Rattle.part_pulls.specs.Counters as parts
 use Rattle.session.specs.Growing.{GrowingView, first_fault}
-use Rattle.log_judgement.specs.Counters.{counters_in}
-use Rattle.log_judgement.specs.Judgement.{Prefix, followed_by, states_of, clock_fault, fault_behind, with_clocks, waiting, growing, refused, opened}
-use Rattle.log_judgement.specs.Due.{closed_of, batches_of}
+use Rattle.log_rules.specs.Counters.{counters_in}
+use Rattle.log_rules.specs.Judgement.{Prefix, followed_by, states_of, clock_fault, fault_behind, with_clocks, waiting, growing, refused, opened}
+use Rattle.log_rules.specs.Due.{closed_of, batches_of}
 use Rattle.rctl_class.specs.Nodes.{Node}
 use Rattle.rctl_class.specs.NamedParts.{NamedPiece, disjuncts_uses}
 use Rattle.rctl_class.specs.Classed.{IsClassed}

@@ -13,12 +13,13 @@ use Rattle.rctl_class.specs.Uses.{first_unknown, uses_of}
 use Rattle.rctl_names.specs.Numbers.{known_in}
 use Rattle.rctl_names.specs.Seen as names
 use Rattle.report.specs.declared.report.Report.{Report}
-use Rattle.run_report.specs.Reports.{Asked, IsReportOf, trace_so_far}
-use Rattle.run_request.specs.declared.formula.Stated.{Stated}
+use Rattle.run_report.specs.Reports.{Asked, IsReportOf}
+use Rattle.log_rules.specs.SoFar.{trace_so_far}
+use Rattle.stated_formula.specs.declared.formula.Stated.{Stated}
 use Rattle.watch.specs.declared.predicate.Handed.{Handed}
 pub use Rattle.watch.specs.Saying.{Says, said_by}
-use Rattle.log_judgement.specs.Judgement.{Prefix, Rules, with_rules}
-use Rattle.log_judgement.specs.Counters.{counters_in}
+use Rattle.log_rules.specs.Judgement.{Prefix, Rules, with_rules}
+use Rattle.log_rules.specs.Counters.{counters_in}
 
 -- the names of watches
 abbrev pub names_of : {X : Type 0} {P : X → Type 0} → List (Handed X P) → List Name

@@ -8,7 +8,7 @@ use Rattle.rctl_parts.specs.Spelled.{disjunction_of}
 use Rattle.rctl_names.specs.Resolving.{numbered_disjuncts}
 use Rattle.part_pulls.specs.declared.observed.Observed.{Observed}
 use Rattle.part_pulls.specs.Observing.{AreAnswers, clocks_seen, run_seen, names_seen}
-use Rattle.log_judgement.specs.Judgement.{Prefix}
+use Rattle.log_rules.specs.Judgement.{Prefix}
 use Rattle.log_check.specs.declared.checked.CheckedLog.{CheckedLog}
 use Rattle.log_check.specs.Aims.{Aim, IsTrueSoFar}
 use Rattle.log_check.specs.Keeping.{trace_after, reading_of}

@@ -6,11 +6,11 @@ use Rattle.event_log.specs.declared.item.Item.{Item}
 use Rattle.event_log.specs.declared.item.Item.TheVariants as item
 use Rattle.event_log.specs.FittingItems.{FitFrom, FitFirst}
 use Rattle.event_log.specs.LogText.{event_count}
-use Rattle.run_request.specs.Questions.{IsStated}
-use Rattle.log_judgement.specs.declared.refusal.Refusal.{Refusal}
-use Rattle.log_judgement.specs.Judgement.{Prefix, followed_by, Judgement, waiting, growing}
-use Rattle.log_judgement.specs.Judgement.{finished, refused}
-use Rattle.log_judgement.specs.Due.{closed_of, batches_of}
+use Rattle.stated_formula.specs.Stating.{IsStated}
+use Rattle.fault_kinds.specs.declared.refusal.Refusal.{Refusal}
+use Rattle.log_rules.specs.Judgement.{Prefix, followed_by, Judgement, waiting, growing}
+use Rattle.log_rules.specs.Judgement.{finished, refused}
+use Rattle.log_rules.specs.Due.{closed_of, batches_of}
 use Rattle.log_check.specs.declared.check.LogCheck.{LogCheck}
 use Rattle.log_check.specs.Aims.{Says, Aim, aim_of}
 use Rattle.log_check.specs.Keeping.{Keeps}

@@ -20,10 +20,10 @@ use Rattle.rctl_names.specs.Seen as names
 use Rattle.part_pulls.specs.declared.observed.Observed.{Observed}
 use Rattle.part_pulls.specs.Counters as parts
 use Rattle.part_pulls.specs.Observing.{Reading, AreAnswers, AreFull}
-use Rattle.run_report.specs.Reports.{counted}
-use Rattle.log_judgement.specs.Counters.{variable_in}
-use Rattle.log_judgement.specs.Judgement.{Prefix, followed_by, Judgement, waiting, growing}
-use Rattle.log_judgement.specs.Judgement.{finished, refused}
+use Rattle.log_rules.specs.SoFar.{counted}
+use Rattle.log_rules.specs.Counters.{variable_in}
+use Rattle.log_rules.specs.Judgement.{Prefix, followed_by, Judgement, waiting, growing}
+use Rattle.log_rules.specs.Judgement.{finished, refused}
 use Rattle.session.specs.declared.session.Session.{Session}
 use Rattle.session.specs.Growing.{GrowingView}
 use Rattle.session.specs.Fed.{AreFedFrom, AnswersAs}

@@ -1,6 +1,6 @@
 //! A log that is checked against a formula as its items come.
 //!
-//! `LogCheck::take` judges one item more, by the rules of `log_judgement`: it goes on (`ok`), or
+//! `LogCheck::take` judges one item more, by the rules of `log_rules`: it goes on (`ok`), or
 //! answers exactly the refusal that is due there (`fault`). The formula is not answered then.
 //! Behind a closed batch `report` makes the answer on the log so far and gives its report, by the
 //! model of runs, whatever the workers and the gate are (`says`). The report has a text (`fits`),

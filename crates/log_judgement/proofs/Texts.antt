@@ -10,14 +10,15 @@ use Rattle.report.specs.Spelling.{report_text}
 use Rattle.run_report.specs.Reports.{Asked}
 use Rattle.run_report.proofs.OneReport.{one_report}
 use Rattle.run_report.proofs.ReportThere.{report_there}
-use Rattle.log_judgement.specs.Judgement.{Prefix, Rules, with_rules}
-use Rattle.log_judgement.specs.Counters.{counters_in}
-use Rattle.log_judgement.specs.Readings.{Reading, IsReading}
-use Rattle.log_judgement.specs.Due.{due}
-use Rattle.log_judgement.specs.Texts.{reported, AreTexts, IsReportText, AreReports, IsDueText}
-use Rattle.log_judgement.proofs.Dues.{due_grows}
-use Rattle.log_judgement.proofs.Orders.{IsOrdered, all_ordered}
-use Rattle.log_judgement.proofs.Rising.{IsKept, all_kept}
+use Rattle.log_rules.specs.Judgement.{Prefix, Rules, with_rules}
+use Rattle.log_rules.specs.Counters.{counters_in}
+use Rattle.log_rules.specs.Readings.{Reading, IsReading}
+use Rattle.log_rules.specs.Due.{due}
+use Rattle.log_judgement.specs.Texts.{AreTexts, IsReportText, AreReports, IsDueText}
+use Rattle.log_rules.specs.Reported.{reported}
+use Rattle.log_rules.proofs.Dues.{due_grows}
+use Rattle.log_rules.proofs.Orders.{IsOrdered, all_ordered}
+use Rattle.log_rules.proofs.Rising.{IsKept, all_kept}
 
 module _ (Is : Prefix → List ℕ → Type 0) where
   -- the text of logs in front, and that of the others behind it
@@ -62,13 +63,13 @@ some_of_each Is Good some (log ∷ logs) good =
 
 -- there is one report on such a log, and one at most
 abbrev pub IsDecided : Asked → Watches → Prefix → Type 0
-IsDecided q watches log = IsOrdered log × IsKept q watches log
+IsDecided q watches log = IsOrdered log × IsKept q.formula watches log
 
-pub all_decided : (q : Asked) (watches : Watches) (logs : List Prefix) → AllByRecursion IsOrdered logs → AllByRecursion (IsKept q watches) logs → AllByRecursion (IsDecided q watches) logs
+pub all_decided : (q : Asked) (watches : Watches) (logs : List Prefix) → AllByRecursion IsOrdered logs → AllByRecursion (IsKept q.formula watches) logs → AllByRecursion (IsDecided q watches) logs
 all_decided q watches [] ordered kept = tt
 all_decided q watches (log ∷ logs) ordered kept = ((ordered.0, kept.0), all_decided q watches logs ordered.1 kept.1)
 
-pub one_text : (q : Asked) (watches : Watches) → IsOfClass q.formula → (logs : List Prefix) → AllByRecursion IsOrdered logs → AllByRecursion (IsKept q watches) logs
+pub one_text : (q : Asked) (watches : Watches) → IsOfClass q.formula → (logs : List Prefix) → AllByRecursion IsOrdered logs → AllByRecursion (IsKept q.formula watches) logs
     → (t u : List ℕ) → AreReports q watches logs t → AreReports q watches logs u → t ≡ u
 one_text q watches class logs ordered kept t u h k =
     one_of_each (IsReportText q watches) (IsDecided q watches) one logs (all_decided q watches logs ordered kept) t u h k
@@ -76,7 +77,7 @@ one_text q watches class logs ordered kept t u h k =
     one : (log : Prefix) → IsDecided q watches log → (x y : List ℕ) → IsReportText q watches log x → IsReportText q watches log y → x ≡ y
     one log good x y a b = a.2 ∙ ap report_text (one_report q log.header log.batches watches class good.0 good.1 a.0 b.0 a.1 b.1) ∙ sym b.2
 
-pub some_text : (q : Asked) (watches : Watches) → IsOfClass q.formula → (logs : List Prefix) → AllByRecursion IsOrdered logs → AllByRecursion (IsKept q watches) logs
+pub some_text : (q : Asked) (watches : Watches) → IsOfClass q.formula → (logs : List Prefix) → AllByRecursion IsOrdered logs → AllByRecursion (IsKept q.formula watches) logs
     → (t : List ℕ) × AreReports q watches logs t
 some_text q watches class logs ordered kept =
     some_of_each (IsReportText q watches) (IsDecided q watches) some logs (all_decided q watches logs ordered kept)
@@ -92,16 +93,16 @@ module _ (q : Asked) (watches : Watches) (class : IsOfClass q.formula) (most : �
 
   pub one_due : (bytes t u : List ℕ) → IsDueText q watches each (due reading rules ended bytes) t → IsDueText q watches each (due reading rules ended bytes) u → t ≡ u
   one_due bytes t u h k =
-      one_text q watches class (reported each (due reading rules ended bytes)) (all_ordered names (counters_in q.formula) most reading is each ended bytes) (all_kept q watches most reading is names each ended bytes) t u h k
+      one_text q watches class (reported each (due reading rules ended bytes)) (all_ordered names (counters_in q.formula) most reading is each ended bytes) (all_kept q.formula watches most reading is names each ended bytes) t u h k
 
   pub due_in_front : (bytes more t u : List ℕ) → IsDueText q watches each (due reading rules false bytes) t → IsDueText q watches each (due reading rules ended (bytes ++ more)) u → IsPrefix t u
   due_in_front bytes more t u h k =
       let before = reported each (due reading rules false bytes) in
       let grown = due_grows most reading is rules each ended bytes more in
       let parts = texts_split (IsReportText q watches) before grown.0 u (subst (λ (logs : List Prefix). AreReports q watches logs u) grown.1 k) in
-      let same = one_text q watches class before (all_ordered names (counters_in q.formula) most reading is each false bytes) (all_kept q watches most reading is names each false bytes) t parts.0 h parts.2 in
+      let same = one_text q watches class before (all_ordered names (counters_in q.formula) most reading is each false bytes) (all_kept q.formula watches most reading is names each false bytes) t parts.0 h parts.2 in
       (parts.1, parts.4 ∙ ap (λ (x : List ℕ). x ++ parts.1) (sym same))
 
   pub due_there : (bytes : List ℕ) → (t : List ℕ) × IsDueText q watches each (due reading rules ended bytes) t
   due_there bytes =
-      some_text q watches class (reported each (due reading rules ended bytes)) (all_ordered names (counters_in q.formula) most reading is each ended bytes) (all_kept q watches most reading is names each ended bytes)
+      some_text q watches class (reported each (due reading rules ended bytes)) (all_ordered names (counters_in q.formula) most reading is each ended bytes) (all_kept q.formula watches most reading is names each ended bytes)

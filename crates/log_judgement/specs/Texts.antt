@@ -1,26 +1,12 @@
 -- The text that is due: the reports on the log after some of its batches, one after the other.
-use Rattle.std.specs.Prelude.{◌≡◌, ℕ, Bool, true, false, List, [], ◌∷◌, ◌++◌, length}
-use Rattle.std.specs.Prelude.{Option, None, Some}
+use Rattle.std.specs.Prelude.{◌≡◌, ℕ, Bool, List, [], ◌∷◌, ◌++◌}
 use Rattle.run_model.specs.Run.{Watches}
 use Rattle.report.specs.declared.report.Report.{Report}
 use Rattle.report.specs.Spelling.{report_text}
 use Rattle.run_report.specs.Reports.{Asked, IsReportOf}
-use Rattle.log_judgement.specs.Judgement.{Prefix}
-use Rattle.log_judgement.specs.Due.{Due}
-
-abbrev pub listed : Option Prefix → List Prefix
-listed None = []
-listed (Some log) = log ∷ []
-
--- what gets a report: the whole log alone, or the log after each batch too
-abbrev pub reported : (each : Bool) → Due → List Prefix
-reported false d = listed d.whole
-reported true d = d.closed ++ listed d.whole
-
--- no log but the whole one gets a report, and where it does one batch is due, else none
-pub record HasOneReport (d : Due) : Type 0 where
-  pub closed : d.closed ≡ []
-  pub batches : d.batches ≡ length (listed d.whole)
+use Rattle.log_rules.specs.Judgement.{Prefix}
+use Rattle.log_rules.specs.Due.{Due}
+use Rattle.log_rules.specs.Reported.{reported}
 
 -- the text is that of these logs, one behind the other, where this says which text each may have
 abbrev pub AreTexts : (Prefix → List ℕ → Type 0) → List Prefix → List ℕ → Type 0

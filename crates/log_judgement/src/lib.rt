@@ -1,20 +1,8 @@
-// What is due of the bytes of a log, as one definition: `due` of `specs/Due.antt` gives the log
-// after each batch that was closed, the whole log where it was read to its end, the number of
-// batches and the first fault. Clocks that the text leaves out are filled in where their batch is
-// closed, before it is judged, so the logs that are due have them all. `IsDueText` of
-// `specs/Texts.antt` says which text of reports goes with it. How bytes are read, which names a
-// header lacks and which of its variables are counters are arguments: `specs/Readings.antt` has the
-// reading of one log's text, item by item, and that of a log that stands once all bytes are there.
-// The laws say what more bytes change, that logs without a fault are those of which none is due,
-// that there is one due text at most, and that a fault of the bytes comes before names and batches
-// where the log stands only at the end.
+// The text of reports that is due of the bytes of a log: `IsDueText` of `specs/Texts.antt` says which
+// text goes with what is due (`due` of `log_rules`). The laws say that there is one due text, and
+// that more bytes give more of it.
 //
 // Not said here: how the text is made and written.
 #![tactic(auto)]
 
-pub mod due_laws;
-pub mod log_laws;
-mod refusal;
 pub mod text_laws;
-
-pub use refusal::Refusal;

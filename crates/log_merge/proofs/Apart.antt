@@ -20,7 +20,7 @@ use Rattle.event_log.specs.declared.log.Header.{Header}
 use Rattle.event_log.specs.declared.log.Log.{Log}
 use Rattle.event_log.specs.Numbers.{variables_at}
 use Rattle.log_merge.specs.declared.fault.Found.{Found}
-use Rattle.log_merge.specs.declared.fault.MergeCode.TheVariants as code
+use Rattle.fault_kinds.specs.declared.merge.MergeCode.TheVariants as code
 use Rattle.log_merge.specs.declared.seen.Seen.{Seen}
 use Rattle.log_merge.specs.declared.seen.Seen.TheVariants.{Nothing, One, Two}
 use Rattle.log_merge.specs.Sources.{IsSource, OwnLine, events_of, own_lines, has_lines_of, another}

@@ -18,13 +18,13 @@ use Rattle.event_log.specs.Before.{lines_from}
 use Rattle.event_log.specs.LogText.{EventFits}
 use Rattle.event_log.proofs.Lists.{all_append}
 use Rattle.log_merge.specs.declared.fault.Found.{Found}
-use Rattle.log_merge.specs.declared.fault.MergeCode.TheVariants as code
+use Rattle.fault_kinds.specs.declared.merge.MergeCode.TheVariants as code
 use Rattle.log_merge.specs.declared.seen.Seen.{Seen}
 use Rattle.log_merge.specs.declared.seen.Seen.TheVariants.{Nothing, One, Two}
 use Rattle.log_merge.specs.Sources.{IsSource, OwnLine, own_vars_lines, own_event_lines, all_events}
 use Rattle.log_merge.specs.Sources.{events_of, own_lines, another, seen_of, line_at, events_in}
 use Rattle.log_merge.specs.Faults.{differs, not_alone, one_too_many, source_fault, placed, fault_from, merge_fault, found}
-use Rattle.log_merge.specs.declared.fault.MergeFault.{MergeFault}
+use Rattle.fault_kinds.specs.declared.merge.MergeFault.{MergeFault}
 use Rattle.log_merge.specs.declared.judging.Joined.{Joined}
 use Rattle.log_merge.specs.Owners.{IsOwner, AreOwners, IsJudged, HasJoined}
 use Rattle.log_merge.specs.inside.Owners.{IsOfAProcess, with_owner}

@@ -13,7 +13,7 @@ use Rattle.event_log.specs.declared.log.Event.{Event}
 use Rattle.event_log.specs.declared.log.Log.{Log}
 use Rattle.event_log.specs.Numbers.{variables_at}
 use Rattle.event_log.specs.Before.{lines_from}
-use Rattle.log_merge.specs.declared.fault.MergeCode.TheVariants as code
+use Rattle.fault_kinds.specs.declared.merge.MergeCode.TheVariants as code
 use Rattle.log_merge.specs.declared.seen.Seen.{Seen}
 use Rattle.log_merge.specs.declared.seen.Seen.TheVariants.{Nothing, One, Two}
 use Rattle.log_merge.specs.Sources.{IsSource, OwnLine, own_vars_lines, own_event_lines, events_of}

@@ -7,10 +7,10 @@ use Rattle.std.specs.Option.{option_map, option_or}
 use Rattle.std.specs.Str.{bytes_eq}
 use Rattle.event_log.specs.declared.log.Header.{Header}
 use Rattle.event_log.specs.declared.log.Log.{Log}
-use Rattle.log_merge.specs.declared.fault.MergeCode.{MergeCode}
-use Rattle.log_merge.specs.declared.fault.MergeCode.TheVariants as code
+use Rattle.fault_kinds.specs.declared.merge.MergeCode.{MergeCode}
+use Rattle.fault_kinds.specs.declared.merge.MergeCode.TheVariants as code
 use Rattle.log_merge.specs.declared.fault.Found.{Found}
-use Rattle.log_merge.specs.declared.fault.MergeFault.{MergeFault}
+use Rattle.fault_kinds.specs.declared.merge.MergeFault.{MergeFault}
 use Rattle.log_merge.specs.declared.seen.Seen.{Seen}
 use Rattle.log_merge.specs.declared.seen.Seen.TheVariants.{Nothing, One, Two}
 use Rattle.log_merge.specs.Sources.{events_of, own_lines, has_lines_of, seen_of, line_at, events_in}

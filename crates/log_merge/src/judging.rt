@@ -12,9 +12,10 @@ ghost use Rattle.log_merge.specs.Faults.{event_too_many, source_fault, placed, m
 ghost use Rattle.log_merge.specs.Owners.{AreOwners, IsJudged};
 ghost use Rattle.log_merge.specs.inside.Owners.{IsOfAProcess, with_owner};
 
-use crate::fault::{Found, MergeCode, MergeFault};
+use crate::fault::Found;
 use crate::seen::{Seen, line_at, seen_in};
 use event_log::{Event, Header, Log};
+use fault_kinds::{MergeCode, MergeFault};
 use pota_base::List;
 
 /// The most sources.

@@ -19,7 +19,8 @@ mod laws;
 mod merged;
 mod seen;
 
-pub use fault::{Found, MergeCode, MergeFault};
+pub use fault::Found;
+pub use fault_kinds::{MergeCode, MergeFault};
 pub use judging::Joined;
 pub use laws::{
     any_order_will_do, batches_do_not_matter, logs_are_sources, merged_logs_fit, no_fault_is_apart,

@@ -8,10 +8,10 @@ ghost use Rattle.log_merge.specs.Merging.{merged};
 ghost use Rattle.vector_clock.specs.Admitted.{IfFault};
 ghost use Rattle.log_merge.specs.Owners.{IsJudged};
 
-use crate::fault::MergeFault;
 use crate::gathering::{Gathered, variables};
 use crate::judging::judge;
 use event_log::{Header, Log, copy_of};
+use fault_kinds::MergeFault;
 use pota_base::{List, NoMemory, Refused};
 use std::alloc::Global;
 

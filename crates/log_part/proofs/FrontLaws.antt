@@ -12,13 +12,13 @@ use Rattle.event_log.specs.Faults.{first_fault, items, end_fault}
 use Rattle.event_log.proofs.LogEnds.{behind_more, whole_behind}
 use Rattle.rctl_class.specs.Nodes.{formula_of}
 use Rattle.vector_clock.specs.Filled.{filled_log}
-use Rattle.log_judgement.specs.declared.refusal.Refusal.{Refusal}
-use Rattle.log_judgement.specs.declared.refusal.Refusal.TheVariants as refusal
-use Rattle.log_judgement.specs.Judgement.{Prefix, followed_by, Judgement, waiting, growing, finished, refused, judged}
-use Rattle.log_judgement.specs.Counters.{counters_in}
-use Rattle.log_judgement.specs.Due.{Due, whole_of, placed, fault_in, at_end, told}
-use Rattle.log_judgement.specs.WholeLogs.{all_of}
-use Rattle.log_judgement.proofs.Logs.{log_due, due_log}
+use Rattle.fault_kinds.specs.declared.refusal.Refusal.{Refusal}
+use Rattle.fault_kinds.specs.declared.refusal.Refusal.TheVariants as refusal
+use Rattle.log_rules.specs.Judgement.{Prefix, followed_by, Judgement, waiting, growing, finished, refused, judged}
+use Rattle.log_rules.specs.Counters.{counters_in}
+use Rattle.log_rules.specs.Due.{Due, whole_of, placed, fault_in, at_end, told}
+use Rattle.log_rules.specs.WholeLogs.{all_of}
+use Rattle.log_rules.proofs.Logs.{log_due, due_log}
 use Rattle.log_check.specs.Aims.{Aim, rules_of, unknown_name}
 use Rattle.log_check.specs.Checking.{IsFree, HasClosed}
 use Rattle.log_part.specs.Fronts.{log_front, due_of_front}

@@ -1,13 +1,13 @@
 -- Items of a log, judged one after another.
 use Rattle.std.proofs.Common.{◌≡◌, ℕ, Bool, Result, Ok, Err, Option, Some, None, List, [], ◌∷◌, ◌++◌, refl, sym, ap, subst, ◌∙◌, append_assoc, append-nil}
 use Rattle.event_log.specs.declared.item.Item.{Item}
-use Rattle.log_judgement.specs.declared.refusal.Refusal.{Refusal}
+use Rattle.fault_kinds.specs.declared.refusal.Refusal.{Refusal}
 use Rattle.std.specs.Prelude.{IfOk}
 use Rattle.vector_clock.specs.Admitted.{IfFault}
 use Rattle.pota_base.specs.declared.fault.Refused.{Refused}
 use Rattle.pota_base.specs.declared.fault.Refused.TheVariants as refused
-use Rattle.log_judgement.specs.Judgement.{Rules, Judgement, judge, judged}
-use Rattle.log_judgement.proofs.Items.{judged-append, refused-stays}
+use Rattle.log_rules.specs.Judgement.{Rules, Judgement, judge, judged}
+use Rattle.log_rules.proofs.Items.{judged-append, refused-stays}
 use Rattle.log_check.specs.declared.check.LogCheck.{LogCheck}
 use Rattle.log_check.specs.Aims.{Says, Aim, rules_of}
 use Rattle.log_check.specs.Checking.{IsCheckOf, GoesOn, IsRefusedAs, MayFollow}

@@ -15,10 +15,10 @@ use Rattle.event_log.proofs.FaultLaws.{free_small}
 use Rattle.event_log.proofs.FittingItems.{items_fit}
 use Rattle.event_log.proofs.Lists.{length-onto}
 use Rattle.event_log.proofs.LogEnds.{upto_more, behind_more, behind_open, parted}
-use Rattle.log_judgement.specs.declared.refusal.Refusal.{Refusal}
-use Rattle.log_judgement.specs.declared.refusal.Refusal.TheVariants as refusal
-use Rattle.log_judgement.specs.Judgement.{waiting, judged}
-use Rattle.log_judgement.proofs.Items.{judged-append}
+use Rattle.fault_kinds.specs.declared.refusal.Refusal.{Refusal}
+use Rattle.fault_kinds.specs.declared.refusal.Refusal.TheVariants as refusal
+use Rattle.log_rules.specs.Judgement.{waiting, judged}
+use Rattle.log_rules.proofs.Items.{judged-append}
 use Rattle.log_check.specs.declared.check.LogCheck.{LogCheck}
 use Rattle.log_check.specs.Aims.{Says, Aim, rules_of}
 use Rattle.log_check.specs.Checking.{IsCheckOf, MayFollow}

@@ -1,13 +1,13 @@
 //! Items of a log, judged one after another.
 ghost use Rattle.std.specs.Prelude.{IfOk};
-ghost use Rattle.log_judgement.specs.Judgement.{Judgement, judged};
+ghost use Rattle.log_rules.specs.Judgement.{Judgement, judged};
 ghost use Rattle.log_check.specs.Aims.{Aim, rules_of, said_by};
 ghost use Rattle.log_check.specs.Checking.{IsCheckOf, MayFollow};
 ghost use Rattle.log_part.specs.inside.Reading.{IsRefusalIn, JudgesTo};
 
 use event_log::Item;
+use fault_kinds::Refusal;
 use log_check::LogCheck;
-use log_judgement::Refusal;
 use pota_base::{List, NoMemory, Refused};
 use std::alloc::Global;
 use watch::{Handed, Watch};

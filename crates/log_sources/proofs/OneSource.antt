@@ -8,7 +8,7 @@ use Rattle.event_log.specs.LogEnd.{is_whole, log_upto, behind_log}
 use Rattle.event_log.specs.Faults.{first_fault}
 use Rattle.event_log.proofs.FaultLaws.{stuck}
 use Rattle.event_log.proofs.LogEnds.{upto_byte, parted, whole_upto, whole_behind}
-use Rattle.log_merge.specs.declared.fault.MergeFault.{MergeFault}
+use Rattle.fault_kinds.specs.declared.merge.MergeFault.{MergeFault}
 use Rattle.log_sources.specs.Sources.{Sources, of_source, fault_behind, judged, after}
 use Rattle.log_sources.proofs.Stepping.{IsOpen, after_next, stays, behind_own, behind_open, byte_taken, same_sources}
 

@@ -18,8 +18,8 @@ use Rattle.event_log.specs.Faults.{first_fault, items, end_fault}
 use Rattle.event_log.specs.Reader.{HasRead, ReadsLog}
 use Rattle.event_log.proofs.Lists.{all_push}
 use Rattle.event_log.proofs.LogEnds.{upto_byte, parted}
-use Rattle.log_merge.specs.declared.fault.MergeCode.TheVariants as code
-use Rattle.log_merge.specs.declared.fault.MergeFault.{MergeFault}
+use Rattle.fault_kinds.specs.declared.merge.MergeCode.TheVariants as code
+use Rattle.fault_kinds.specs.declared.merge.MergeFault.{MergeFault}
 use Rattle.log_merge.specs.Sources.{IsSource}
 use Rattle.log_merge.specs.Faults.{source_fault, placed}
 use Rattle.log_merge.specs.Owners.{HasJoined}

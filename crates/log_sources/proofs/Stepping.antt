@@ -7,7 +7,7 @@ use Rattle.event_log.specs.Moments.{lines}
 use Rattle.event_log.specs.LogEnd.{is_whole}
 use Rattle.event_log.specs.Faults.{first_fault}
 use Rattle.event_log.specs.declared.item.LogFault.{LogFault}
-use Rattle.log_merge.specs.declared.fault.MergeFault.{MergeFault}
+use Rattle.fault_kinds.specs.declared.merge.MergeFault.{MergeFault}
 use Rattle.log_sources.specs.Sources.{Sources, of_source, turned, input_fault, join_fault, fault_behind, judged, taken, step, after}
 
 -- ---- the next source

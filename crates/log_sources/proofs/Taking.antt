@@ -5,7 +5,7 @@ use Rattle.std.proofs.lemmas.Option.{none-some}
 use Rattle.pota_base.specs.Outside.{Rose}
 use Rattle.input_reading.specs.declared.reading.End.TheVariants as end
 use Rattle.input_reading.specs.Intakes.{ReadsAll}
-use Rattle.log_merge.specs.declared.fault.MergeFault.{MergeFault}
+use Rattle.fault_kinds.specs.declared.merge.MergeFault.{MergeFault}
 use Rattle.log_sources.specs.declared.reader.SourceReader.{SourceReader}
 use Rattle.log_sources.specs.declared.gathering.Gathered.{Gathered}
 use Rattle.log_sources.specs.declared.gathering.Gathered.TheVariants.{Logs, Fault, Failed}

@@ -13,7 +13,7 @@ use Rattle.event_log.specs.LogEnd.{is_whole}
 use Rattle.event_log.specs.Faults.{first_fault, end_fault}
 use Rattle.event_log.specs.declared.log.Log.{Log}
 use Rattle.event_log.specs.Laws.{IsTextOf}
-use Rattle.log_merge.specs.declared.fault.MergeFault.{MergeFault}
+use Rattle.fault_kinds.specs.declared.merge.MergeFault.{MergeFault}
 use Rattle.log_merge.specs.Sources.{IsSource, in_one_batch}
 use Rattle.log_merge.proofs.Fits.{logs_are_sources}
 use Rattle.log_merge.proofs.OneBatch.{batches_do_not_matter}

@@ -2,7 +2,7 @@
 use Rattle.std.specs.Prelude.{◌≡◌, ℕ, ◌≤◌, List, [], ◌∷◌, ◌++◌, length, map, flat_map, None, Some}
 use Rattle.event_log.specs.declared.log.Log.{Log}
 use Rattle.event_log.specs.Laws.{IsTextOf}
-use Rattle.log_merge.specs.declared.fault.MergeFault.{MergeFault}
+use Rattle.fault_kinds.specs.declared.merge.MergeFault.{MergeFault}
 use Rattle.log_merge.specs.Sources.{in_one_batch}
 use Rattle.log_sources.specs.Sources.{Sources, no_sources, after, last_fault, logs_of}
 use Rattle.log_sources.specs.Reading.{CanMerge}

@@ -10,9 +10,9 @@ use Rattle.event_log.specs.Feeding.{Past}
 use Rattle.event_log.specs.Moments.{lines}
 use Rattle.event_log.specs.LogEnd.{is_whole}
 use Rattle.event_log.specs.Faults.{first_fault, items, end_fault}
-use Rattle.log_merge.specs.declared.fault.MergeCode.{MergeCode}
-use Rattle.log_merge.specs.declared.fault.MergeCode.TheVariants as code
-use Rattle.log_merge.specs.declared.fault.MergeFault.{MergeFault}
+use Rattle.fault_kinds.specs.declared.merge.MergeCode.{MergeCode}
+use Rattle.fault_kinds.specs.declared.merge.MergeCode.TheVariants as code
+use Rattle.fault_kinds.specs.declared.merge.MergeFault.{MergeFault}
 use Rattle.log_merge.specs.Faults.{source_fault, placed}
 use Rattle.log_sources.specs.Drafts.{log_in}
 

@@ -10,8 +10,8 @@ use Rattle.event_log.specs.LogText.{event_count}
 use Rattle.event_log.specs.FittingItems.{FitFrom}
 use Rattle.event_log.specs.States.{with_batch}
 use Rattle.vector_clock.proofs.FilledBatches.{length-fill_from}
-use Rattle.log_judgement.specs.declared.refusal.Refusal.TheVariants as refusal
-use Rattle.log_judgement.specs.Judgement.{Prefix, followed_by, events_of, with_clocks, Judgement, waiting, growing, finished, refused, judge}
+use Rattle.fault_kinds.specs.declared.refusal.Refusal.TheVariants as refusal
+use Rattle.log_rules.specs.Judgement.{Prefix, followed_by, events_of, with_clocks, Judgement, waiting, growing, finished, refused, judge}
 use Rattle.log_trace.specs.Judging.{without_formula}
 use Rattle.log_trace.specs.inside.Judging.{MayFollow}
 

@@ -7,9 +7,9 @@ use Rattle.event_log.specs.FittingItems.{FitFirst}
 use Rattle.pota_base.specs.declared.fault.Refused.{Refused}
 use Rattle.pota_base.specs.declared.fault.Refused.TheVariants as refused
 use Rattle.vector_clock.specs.Admitted.{IfFault}
-use Rattle.log_judgement.specs.declared.refusal.Refusal.TheVariants as refusal
-use Rattle.log_judgement.specs.Judgement.{Judgement, waiting, judge, judged}
-use Rattle.log_judgement.proofs.Items.{refused-stays}
+use Rattle.fault_kinds.specs.declared.refusal.Refusal.TheVariants as refusal
+use Rattle.log_rules.specs.Judgement.{Judgement, waiting, judge, judged}
+use Rattle.log_rules.proofs.Items.{refused-stays}
 use Rattle.log_trace.specs.declared.trace.LogTrace.{LogTrace}
 use Rattle.log_trace.specs.Judging.{without_formula, IsRefused, Keeps}
 use Rattle.log_trace.specs.inside.Judging.{MayFollow}

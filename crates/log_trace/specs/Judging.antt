@@ -7,9 +7,9 @@ use Rattle.event_log.specs.declared.item.LogFault.{LogFault}
 use Rattle.event_log.specs.declared.log.Event.{Event}
 use Rattle.event_log.specs.LogText.{HeaderFits, EventFits, event_count}
 use Rattle.trace_growth.specs.Growing.{TraceView}
-use Rattle.log_judgement.specs.declared.refusal.Refusal.TheVariants as refusal
-use Rattle.log_judgement.specs.Judgement.{Prefix, followed_by, states_of, Rules, with_rules}
-use Rattle.log_judgement.specs.Judgement.{Judgement, waiting, growing, finished, refused}
+use Rattle.fault_kinds.specs.declared.refusal.Refusal.TheVariants as refusal
+use Rattle.log_rules.specs.Judgement.{Prefix, followed_by, states_of, Rules, with_rules}
+use Rattle.log_rules.specs.Judgement.{Judgement, waiting, growing, finished, refused}
 use Rattle.log_trace.specs.declared.trace.LogTrace.{LogTrace}
 
 -- no name is looked up in a log, and none of its variables is a counter

@@ -1,7 +1,7 @@
 //! The trace of a log without a formula, as the items of the log come.
 //!
 //! `LogTrace::take_all` takes the first items of a log up to their first fault. Without one they
-//! are judged so far by the rules of `log_judgement`, where no name is looked up and no variable is
+//! are judged so far by the rules of `log_rules`, where no name is looked up and no variable is
 //! a counter, and the trace has the states of the log after its closed batches (`ok`); else it
 //! answers exactly the fault that is due there (`fault`).
 //!

@@ -3,7 +3,7 @@ ghost use Rattle.std.specs.Prelude.{◌∷◌, [], OnOk};
 ghost use Rattle.vector_clock.specs.Admitted.{IfFault};
 ghost use Rattle.event_log.specs.FittingItems.{FitFirst};
 ghost use Rattle.event_log.specs.LogText.{HeaderFits};
-ghost use Rattle.log_judgement.specs.Judgement.{Judgement, judge, judged, opened, waiting};
+ghost use Rattle.log_rules.specs.Judgement.{Judgement, judge, judged, opened, waiting};
 ghost use Rattle.log_trace.specs.Judging.{Keeps, IsRefused, without_formula};
 ghost use Rattle.log_trace.specs.inside.Judging.{MayFollow, end_item};
 

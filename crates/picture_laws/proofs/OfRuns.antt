@@ -7,12 +7,12 @@ use Rattle.event_log.specs.declared.log.Binding.{Binding}
 use Rattle.event_log.specs.declared.log.Header.{Header}
 use Rattle.event_log.specs.LogText.{BindingFits, BindingsFit, HeaderFits}
 use Rattle.event_log.specs.States.{StatesView}
-use Rattle.log_judgement.specs.Judgement.{Prefix}
-use Rattle.log_judgement.specs.Readings.{log_reading}
-use Rattle.log_judgement.specs.Due.{due}
-use Rattle.log_judgement.specs.Texts.{listed, reported}
-use Rattle.log_judgement.proofs.Readings.{log_is_read}
-use Rattle.log_judgement.proofs.Sound.{Follows, all_sound}
+use Rattle.log_rules.specs.Judgement.{Prefix}
+use Rattle.log_rules.specs.Readings.{log_reading}
+use Rattle.log_rules.specs.Due.{due}
+use Rattle.log_rules.specs.Reported.{listed, reported}
+use Rattle.log_rules.proofs.Readings.{log_is_read}
+use Rattle.log_rules.proofs.Sound.{Follows, all_sound}
 use Rattle.log_trace.specs.Judging.{without_formula}
 use Rattle.view_top.specs.Viewing.{log_in, HasLog}
 use Rattle.picture_laws.specs.Xml.{IsDocument}

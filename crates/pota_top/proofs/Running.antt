@@ -16,25 +16,28 @@ use Rattle.command_words.specs.declared.request.Product.{Product}
 use Rattle.command_words.specs.declared.request.Inquiry.{Inquiry}
 use Rattle.command_words.specs.declared.request.Product.TheVariants as product
 use Rattle.command_words.specs.declared.request.Shown.{Shown}
-use Rattle.run_request.specs.declared.formula.Stated.{Stated}
+use Rattle.stated_formula.specs.declared.formula.Stated.{Stated}
 use Rattle.run_request.specs.declared.question.QuestionFault.{QuestionFault}
 use Rattle.run_request.specs.declared.question.QuestionFault.TheVariants as question
-use Rattle.run_request.specs.Questions.{IsQuestionFault, IsStated, AsksFor}
+use Rattle.run_request.specs.Questions.{IsQuestionFault, AsksFor}
+use Rattle.stated_formula.specs.Stating.{IsStated}
 use Rattle.run_report.specs.Reports.{Asked, IsReportOf}
 use Rattle.report.specs.Spelling.{report_text}
-use Rattle.log_judgement.specs.declared.refusal.Refusal.{Refusal}
-use Rattle.log_judgement.specs.declared.refusal.Refusal.TheVariants as refusal
-use Rattle.log_judgement.specs.Judgement.{Prefix}
-use Rattle.log_judgement.specs.Readings.{Reading}
-use Rattle.log_judgement.specs.Counters.{counters_in}
-use Rattle.log_judgement.specs.Texts.{reported, IsReportText, AreReports}
-use Rattle.log_judgement.proofs.Dues.{due_grows}
-use Rattle.log_judgement.proofs.Orders.{IsOrdered, all_ordered}
-use Rattle.log_judgement.proofs.Rising.{IsKept, all_kept}
+use Rattle.fault_kinds.specs.declared.refusal.Refusal.{Refusal}
+use Rattle.fault_kinds.specs.declared.refusal.Refusal.TheVariants as refusal
+use Rattle.log_rules.specs.Judgement.{Prefix}
+use Rattle.log_rules.specs.Readings.{Reading}
+use Rattle.log_rules.specs.Counters.{counters_in}
+use Rattle.log_judgement.specs.Texts.{IsReportText, AreReports}
+use Rattle.log_rules.specs.Reported.{reported}
+use Rattle.log_rules.proofs.Dues.{due_grows}
+use Rattle.log_rules.proofs.Orders.{IsOrdered, all_ordered}
+use Rattle.log_rules.proofs.Rising.{IsKept, all_kept}
 use Rattle.log_judgement.proofs.Texts.{texts_split, one_text}
 use Rattle.log_check.specs.Aims.{Says, Aim, asked_of, aim_of, names_of, watches_of, rules_of, unknown_name}
 use Rattle.watch.specs.declared.predicate.Handed.{Handed}
-use Rattle.fault_line.specs.Faults.{status_of, fault_of_question, fault_of_refusal}
+use Rattle.fault_line.specs.Faults.{status_of, fault_of_refusal}
+use Rattle.run_promise.specs.Questions.{fault_of_question}
 use Rattle.log_answers.specs.declared.stop.StopCause.{StopCause}
 use Rattle.log_answers.specs.declared.stop.StopCause.TheVariants as causes
 use Rattle.log_answers.specs.declared.stop.Stop.{Stop}
@@ -56,7 +59,7 @@ front_half Good (x ∷ xs) ys h = (h.0, front_half Good xs ys h.1)
 
 -- each report on logs whose clocks are an order, and in which no counter falls, tells of the run
 all_tell : (t : Tree) (shown : Shown) (watches : Watches) → IsOfClass (asked_by t shown).formula → (logs : List Prefix) → AllByRecursion IsOrdered logs
-    → AllByRecursion (IsKept (asked_by t shown) watches) logs → AllTell watches t (product.Reports shown) logs
+    → AllByRecursion (IsKept (asked_by t shown).formula watches) logs → AllTell watches t (product.Reports shown) logs
 all_tell t shown watches class [] ordered kept = tt
 all_tell t shown watches class (log ∷ logs) ordered kept =
     let q = asked_by t shown in
@@ -108,8 +111,8 @@ module _ {X : Type 0} {P : X → Type 0} (says : Says X P) (s : Stated) (read_as
   due_ordered : (ended : Bool) (bytes : List ℕ) → AllByRecursion IsOrdered (reported each (due_by reading aim ended bytes))
   due_ordered ended bytes = all_ordered (unknown_name aim.node (names_of handed)) (counters_in (formula_of aim.node)) 67108864 reading (form_is_read read_as) each ended bytes
 
-  due_kept : (ended : Bool) (bytes : List ℕ) → AllByRecursion (IsKept q (watches_of says handed)) (reported each (due_by reading aim ended bytes))
-  due_kept ended bytes = all_kept q (watches_of says handed) 67108864 reading (form_is_read read_as) (unknown_name aim.node (names_of handed)) each ended bytes
+  due_kept : (ended : Bool) (bytes : List ℕ) → AllByRecursion (IsKept q.formula (watches_of says handed)) (reported each (due_by reading aim ended bytes))
+  due_kept ended bytes = all_kept q.formula (watches_of says handed) 67108864 reading (form_is_read read_as) (unknown_name aim.node (names_of handed)) each ended bytes
 
   due_tell : (ended : Bool) (bytes : List ℕ) → AllTell (watches_of says handed) s.formula.tree (product.Reports shown) (reported each (due_by reading aim ended bytes))
   due_tell ended bytes =
@@ -167,7 +170,7 @@ module _ {X : Type 0} {P : X → Type 0} (says : Says X P) (s : Stated) (read_as
       grown.1 ∙ ap (λ (ps : List Prefix). ps ++ grown.0) h.are ∙ append_assoc h.front h.rest grown.0 in
       let parts = texts_split (IsReportText q watches) h.front (h.rest ++ grown.0) whole (subst (λ (ps : List Prefix). AreReports q watches ps whole) logs due_is.2) in
       let ordered = front_half IsOrdered h.front (h.rest ++ grown.0) (subst (AllByRecursion IsOrdered) logs (due_ordered ended all)) in
-      let kept = front_half (IsKept q watches) h.front (h.rest ++ grown.0) (subst (AllByRecursion (IsKept q watches)) logs (due_kept ended all)) in
+      let kept = front_half (IsKept q.formula watches) h.front (h.rest ++ grown.0) (subst (AllByRecursion (IsKept q.formula watches)) logs (due_kept ended all)) in
       let one = one_text q watches class_asked h.front ordered kept parts.0 text parts.2 (texts_asked h.front text h.texts) in
       ((parts.1, parts.4 ∙ ap (λ (t : List ℕ). t ++ parts.1) one), omega (arith, h.count))
 

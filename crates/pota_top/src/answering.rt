@@ -1,9 +1,10 @@
 //! The answers to an inquiry.
 ghost use Rattle.std.specs.Prelude.{◌≡◌, ◌≤◌, ◌<◌, ℕ, Bool, List as ListOf};
-ghost use Rattle.log_judgement.specs.Judgement.{waiting};
+ghost use Rattle.log_rules.specs.Judgement.{waiting};
 ghost use Rattle.command_words.specs.declared.request.Task.TheVariants.{Read};
 ghost use Rattle.command_words.specs.declared.request.Product.TheVariants.{Reports};
-ghost use Rattle.run_request.specs.Questions.{AsksFor, IsStated};
+ghost use Rattle.run_request.specs.Questions.{AsksFor};
+ghost use Rattle.stated_formula.specs.Stating.{IsStated};
 ghost use Rattle.log_check.specs.Aims.{Aim, AreWatches, said_by};
 ghost use Rattle.log_check.specs.Checking.{IsCheckOf};
 ghost use Rattle.log_answers.specs.Inputs.{HasCheckedBy};
@@ -20,7 +21,7 @@ use command_words::{Form, Inquiry, Product, Shown};
 use log_answers::{Checking, Means, Stop, Verdict};
 use log_check::LogCheck;
 use pota_base::{Gate, Sink, Source, Steps};
-use run_request::Stated;
+use stated_formula::Stated;
 use std::marker::Brand;
 use std::sync::ledger::{Blank, Ledger};
 use std::thread::Threads;

@@ -8,6 +8,7 @@ ghost use Rattle.fault_line.specs.Lines.{Told};
 ghost use Rattle.run_promise.specs.Asking.{handing_of};
 ghost use Rattle.run_promise.specs.Run.{IsBenchAnswered, IsCalm, IsDecided, IsRefusedAsAsked};
 ghost use Rattle.run_promise.specs.Run.{IsRefusedAsDue, Ran};
+ghost use Rattle.run_promise.specs.Questions.{fault_of_question};
 ghost use Rattle.batch_answers.specs.Outcome.{outcome_of};
 ghost use Rattle.pota_top.specs.Telling.{line_of};
 
@@ -19,7 +20,7 @@ use fault_line::{Fault, tell};
 use log_answers::{Means, Stop, Verdict};
 use pota_base::{Gate, Refused, Sink, Source};
 use run_promise::Outcome;
-use run_request::{Question, read_question};
+use run_request::{Question, QuestionFault, read_question};
 use std::alloc::Global;
 use std::thread::Threads;
 use watch::{Handed, Watch};
@@ -50,6 +51,16 @@ fn answer_question<R: Threads + Sync, G: Gate, S: Source, O: Sink>(
     }
 }
 
+// What is wrong with the words or their formula.
+fn fault_of_question(fault: QuestionFault) -> Fault
+    ensures { result ≡ fault_of_question fault }
+{
+    match fault {
+        QuestionFault::Usage => Fault::Usage,
+        QuestionFault::Formula(fault) => Fault::Formula(fault),
+    }
+}
+
 // Answers the words on the input that the source has, and says how that ended.
 fn answer_words<R: Threads + Sync, G: Gate, S: Source, O: Sink>(
     means: &Means<'_, R, G>,
@@ -65,7 +76,7 @@ fn answer_words<R: Threads + Sync, G: Gate, S: Source, O: Sink>(
 {
     match read_question(means.alloc, words) {
         Ok(question) => outcome_of(answer_question(means, question, watches, log, out)),
-        Err(Refused::Fault(fault)) => faulty(0, Fault::of_question(fault)),
+        Err(Refused::Fault(fault)) => faulty(0, fault_of_question(fault)),
         Err(Refused::NoMemory) => outcome_of(Err(Stop::without_memory())),
     }
 }

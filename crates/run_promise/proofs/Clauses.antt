@@ -21,18 +21,19 @@ use Rattle.run_request.specs.declared.question.QuestionFault.{QuestionFault}
 use Rattle.run_request.specs.declared.question.QuestionFault.TheVariants as question
 use Rattle.run_request.specs.Questions.{IsQuestionFault, AsksFor}
 use Rattle.run_request.proofs.OneQuestion.{asks_one, asks_free, faults_one}
-use Rattle.log_judgement.specs.declared.refusal.Refusal.{Refusal}
-use Rattle.log_judgement.specs.declared.refusal.Refusal.TheVariants as refusal
-use Rattle.log_judgement.specs.Judgement.{Prefix}
-use Rattle.log_judgement.specs.Due.{Due}
-use Rattle.log_judgement.specs.Readings.{IsReading}
-use Rattle.log_judgement.proofs.Dues.{due_stays}
-use Rattle.log_judgement.proofs.Readings.{log_is_read}
+use Rattle.fault_kinds.specs.declared.refusal.Refusal.{Refusal}
+use Rattle.fault_kinds.specs.declared.refusal.Refusal.TheVariants as refusal
+use Rattle.log_rules.specs.Judgement.{Prefix}
+use Rattle.log_rules.specs.Due.{Due}
+use Rattle.log_rules.specs.Readings.{IsReading}
+use Rattle.log_rules.proofs.Dues.{due_stays}
+use Rattle.log_rules.proofs.Readings.{log_is_read}
 use Rattle.form_readings.proofs.Imports.{clocks_are_read}
 use Rattle.form_readings.proofs.Merging.{sources_are_read}
 use Rattle.log_check.specs.Aims.{unknown_name}
 use Rattle.fault_line.specs.declared.fault.Fault.TheVariants as fault
-use Rattle.fault_line.specs.Faults.{status_of, fault_of_question, fault_of_refusal}
+use Rattle.fault_line.specs.Faults.{status_of, fault_of_refusal}
+use Rattle.run_promise.specs.Questions.{fault_of_question}
 use Rattle.run_promise.specs.declared.outcome.Outcome.{Outcome}
 use Rattle.run_promise.specs.Asking.{Handing, reading_of, watches_for, certifying, due_of, IsDueText}
 use Rattle.run_promise.specs.Certificates.{IsTrueAtStart}

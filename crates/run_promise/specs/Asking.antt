@@ -15,11 +15,12 @@ use Rattle.command_words.specs.declared.request.Inquiry.{Inquiry}
 use Rattle.command_words.specs.declared.request.Shown.{Shown}
 use Rattle.run_report.specs.Reports.{Asked}
 use Rattle.watch.specs.declared.predicate.Handed.{Handed}
-use Rattle.log_judgement.specs.Judgement.{Prefix, Rules, with_rules}
-use Rattle.log_judgement.specs.Counters.{counters_in}
-use Rattle.log_judgement.specs.Readings.{Reading, log_reading}
-use Rattle.log_judgement.specs.Due.{Due, due}
-use Rattle.log_judgement.specs.Texts.{AreTexts, IsReportText, reported}
+use Rattle.log_rules.specs.Judgement.{Prefix, Rules, with_rules}
+use Rattle.log_rules.specs.Counters.{counters_in}
+use Rattle.log_rules.specs.Readings.{Reading, log_reading}
+use Rattle.log_rules.specs.Due.{Due, due}
+use Rattle.log_judgement.specs.Texts.{AreTexts, IsReportText}
+use Rattle.log_rules.specs.Reported.{reported}
 use Rattle.form_readings.specs.Clocks.{clocks_reading}
 use Rattle.form_readings.specs.Sources.{merged_reading}
 use Rattle.log_check.specs.Aims.{Says, names_of, watches_of, unknown_name}

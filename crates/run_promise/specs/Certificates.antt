@@ -9,8 +9,8 @@ use Rattle.rctl_print.specs.Canonical.{canonical}
 use Rattle.rctl_class.specs.Nodes.{node_of, formula_of}
 use Rattle.rctl_names.specs.Resolving.{numbered_disjuncts}
 use Rattle.rctl_parts.specs.Pieces.{Piece}
-use Rattle.run_report.specs.Reports.{trace_so_far}
-use Rattle.log_judgement.specs.Judgement.{Prefix}
+use Rattle.log_rules.specs.SoFar.{trace_so_far}
+use Rattle.log_rules.specs.Judgement.{Prefix}
 use Rattle.log_check.specs.Checked.{observed_alone}
 use Rattle.certificate_lines.specs.Spelling.{formula_line}
 use Rattle.certify.specs.Certifying.{IsCertificateOf, IsFrontOfCertificate}

@@ -25,20 +25,23 @@ use Rattle.run_request.specs.declared.question.QuestionFault.TheVariants as ques
 use Rattle.run_request.specs.Questions.{IsQuestionFault, AsksFor}
 use Rattle.report.specs.declared.report.Report.{Report}
 use Rattle.report.specs.declared.report.SliceText.{SliceText}
-use Rattle.run_report.specs.Reports.{Asked, trace_so_far, text_seen, IsReportOf, counted}
+use Rattle.run_report.specs.Reports.{Asked, text_seen, IsReportOf}
+use Rattle.log_rules.specs.SoFar.{trace_so_far, counted}
 use Rattle.run_report.specs.Witnesses.{IsShownFor}
 use Rattle.run_report.specs.Benches.{IsSummaryOf}
 use Rattle.run_report.specs.Benches as bench
-use Rattle.log_judgement.specs.declared.refusal.Refusal.{Refusal}
-use Rattle.log_judgement.specs.declared.refusal.Refusal.TheVariants as refusal
-use Rattle.log_judgement.specs.Judgement.{Prefix}
-use Rattle.log_judgement.specs.Texts.{AreTexts, reported}
+use Rattle.fault_kinds.specs.declared.refusal.Refusal.{Refusal}
+use Rattle.fault_kinds.specs.declared.refusal.Refusal.TheVariants as refusal
+use Rattle.log_rules.specs.Judgement.{Prefix}
+use Rattle.log_judgement.specs.Texts.{AreTexts}
+use Rattle.log_rules.specs.Reported.{reported}
 use Rattle.rctl_class.specs.Nodes.{node_of}
 use Rattle.log_check.specs.Aims.{unknown_name}
 use Rattle.trace_gen.specs.Generated.{generated}
 use Rattle.fault_line.specs.declared.fault.Fault.{Fault}
 use Rattle.fault_line.specs.declared.fault.Fault.TheVariants as fault
-use Rattle.fault_line.specs.Faults.{status_of, fault_of_question, fault_of_refusal}
+use Rattle.fault_line.specs.Faults.{status_of, fault_of_refusal}
+use Rattle.run_promise.specs.Questions.{fault_of_question}
 use Rattle.run_promise.specs.declared.outcome.Outcome.{Outcome}
 use Rattle.run_promise.specs.Certificates.{IsTrueAtStart, IsCertificateFront}
 use Rattle.run_promise.specs.Asking.{Handing, asked, asked_by, each_of, watches_for, Writes}

@@ -3,7 +3,7 @@ ghost use Rattle.std.specs.Prelude.{◌≡◌, ℕ, List, Option};
 ghost use Rattle.pota_base.specs.Outside.{Rose};
 ghost use Rattle.pota_base.specs.declared.status.Status.TheVariants.{ReadFault, WriteFault};
 ghost use Rattle.command_words.specs.declared.request.Form.{Form};
-ghost use Rattle.log_judgement.specs.Readings.{IsReading};
+ghost use Rattle.log_rules.specs.Readings.{IsReading};
 ghost use Rattle.run_promise.specs.declared.outcome.Outcome.{Outcome as OutcomeIs};
 ghost use Rattle.run_promise.specs.Asking.{Handing, reading_of};
 ghost use Rattle.run_promise.specs.Run.{IsBenchAnswered, IsCalm, IsDecided, IsRefusedAsAsked};

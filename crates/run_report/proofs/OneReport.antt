@@ -28,7 +28,8 @@ use Rattle.report.specs.declared.report.Report.{Report}
 use Rattle.report.specs.declared.report.SliceText.{SliceText}
 use Rattle.run_report.specs.Witnesses.{IsTextFor, ArePartTexts, AreTextsOfTrue, IsTextOfFalse, AreTextsOfFalse, AreWitnesses}
 use Rattle.run_report.specs.Benches.{Sizes, summary_text, benched, IsSummaryOf}
-use Rattle.run_report.specs.Reports.{Asked, trace_so_far, text_seen, IsSliceShown, IsReportOn, IsReportOf}
+use Rattle.run_report.specs.Reports.{Asked, text_seen, IsSliceShown, IsReportOn, IsReportOf}
+use Rattle.log_rules.specs.SoFar.{trace_so_far}
 
 -- ---- what the model sees of edges, texts and witnesses loses nothing
 

@@ -1,5 +1,5 @@
 -- What the report of a run says after some of its batches.
-use Rattle.std.specs.Prelude.{◌≡◌, ℕ, ◌↔◌, min, Bool, true, false, List, [], length, map, Option}
+use Rattle.std.specs.Prelude.{◌≡◌, ℕ, ◌↔◌, Bool, true, false, List, [], map, Option}
 use Rattle.std.specs.Prelude.{Some, None}
 use Rattle.run_model.specs.Cut.{lengths, initial}
 use Rattle.run_model.specs.Run.{Run, Trace, Watches, run_of, clocks_of}
@@ -10,11 +10,10 @@ use Rattle.run_model.specs.Slice.{IsTextOf}
 use Rattle.run_model.specs.Slice as model
 use Rattle.event_log.specs.declared.log.Event.{Event}
 use Rattle.event_log.specs.declared.log.Header.{Header}
-use Rattle.event_log.specs.States.{trace_of, with_batches}
-use Rattle.vector_clock.specs.Events.{no_events}
 use Rattle.slice_graph.specs.Edges.{edge_of}
 use Rattle.report.specs.declared.report.Report.{Report}
 use Rattle.report.specs.declared.report.SliceText.{SliceText}
+use Rattle.log_rules.specs.SoFar.{trace_so_far, counted}
 use Rattle.run_report.specs.Witnesses.{AreWitnesses}
 
 -- what a report is asked for: a formula with its canonical text, and whether slice and witnesses
@@ -24,15 +23,6 @@ pub record Asked : Type 0 where
   pub text : List ℕ
   pub slice : Bool
   pub witness : Bool
-
--- the run of a header and the batches so far
-abbrev pub trace_so_far : Header → List (List Event) → Trace
-trace_so_far h batches =
-    trace_of (record { header = h; events = with_batches (no_events (length h.procs)) batches })
-
--- how many batches there are, as far as 32 bits count
-abbrev pub counted : List (List Event) → ℕ
-counted batches = min (length batches) 4294967295
 
 -- the text of a slice as the model of runs sees it
 abbrev pub text_seen : SliceText → model.SliceText

@@ -19,7 +19,8 @@ use Rattle.command_words.specs.Request.{Wanted, request_of}
 use Rattle.run_request.specs.declared.question.Question.{Question}
 use Rattle.run_request.specs.declared.question.QuestionFault.{QuestionFault}
 use Rattle.run_request.specs.declared.question.QuestionFault.TheVariants as fault
-use Rattle.run_request.specs.Questions.{IsShortText, IsFormulaFault, IsQuestion, IsQuestionFault, AsksFor}
+use Rattle.run_request.specs.Questions.{IsQuestion, IsQuestionFault, AsksFor}
+use Rattle.stated_formula.specs.Stating.{IsShortText, IsFormulaFault}
 
 some_one : {A : Type 0} (o : Option A) (x y : A) → o ≡ Some x → o ≡ Some y → x ≡ y
 some_one o x y h k = let e : Some x ≡ Some y = sym h ∙ k in cc

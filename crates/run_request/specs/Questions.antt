@@ -1,38 +1,16 @@
 -- What is asked of a run: the words, and the formula that they give.
-use Rattle.std.specs.Prelude.{◌≡◌, ℕ, ◌≤◌, ◌⊎◌, true, false, List, length, Option, None, Some}
+use Rattle.std.specs.Prelude.{◌≡◌, ℕ, true, false, List, None, Some}
 use Rattle.pota_base.specs.declared.fault.Refused.{Refused}
 use Rattle.pota_base.specs.declared.fault.Refused.TheVariants as refused
-use Rattle.rctl_grammar.specs.declared.fault.FormulaFault.{FormulaFault}
 use Rattle.rctl_grammar.specs.declared.tree.Tree.{Tree}
-use Rattle.rctl_grammar.specs.Shape.{shape_of}
-use Rattle.rctl_print.specs.Canonical.{canonical}
-use Rattle.rctl_parse.specs.Parsing.{fault_of_text, IsReadAs}
-use Rattle.rctl_class.specs.Classed.{IsClassed}
 use Rattle.rctl_class.specs.Faults.{first_fault}
-use Rattle.rctl_class.specs.NamedParts.{disjuncts_of}
 use Rattle.rctl_class.specs.Nodes.{node_of}
 use Rattle.command_words.specs.declared.request.Task.{Task}
 use Rattle.command_words.specs.Request.{Wanted, request_of}
-use Rattle.run_request.specs.declared.formula.Stated.{Stated}
+use Rattle.stated_formula.specs.Stating.{IsShortText, IsStated, IsFormulaFault}
 use Rattle.run_request.specs.declared.question.Question.{Question}
 use Rattle.run_request.specs.declared.question.QuestionFault.{QuestionFault}
 use Rattle.run_request.specs.declared.question.QuestionFault.TheVariants as fault
-
--- a text of at most 4,096 bytes that is read as this tree
-pub record IsShortText (text : List ℕ) (t : Tree) : Type 0 where
-  pub short : length text ≤ 4096
-  pub read : IsReadAs text t
-
--- the formula of the text: its tree, its disjuncts and its canonical text
-pub record IsStated (text : List ℕ) (s : Stated) : Type 0 where
-  pub is_read : IsShortText text s.formula.tree
-  pub classed : IsClassed (node_of s.formula.tree) (disjuncts_of s.classed.disjuncts)
-  pub printed : s.text ≡ canonical (shape_of s.formula.tree)
-
--- the first fault of a formula: of its text, or else of its class
-abbrev pub IsFormulaFault : List ℕ → FormulaFault → Type 0
-IsFormulaFault text f = (fault_of_text text ≡ Some f)
-    ⊎ ((t : Tree) × IsShortText text t × (first_fault false true (node_of t) ≡ Some f))
 
 -- the words ask this
 pub record IsQuestion (words : List (List ℕ)) (q : Question) : Type 0 where

@@ -5,10 +5,10 @@ ghost use Rattle.command_words.specs.Request.{request_of};
 ghost use Rattle.command_words.specs.Seen.{request_seen};
 ghost use Rattle.run_request.specs.Questions.{IsQuestion, IsQuestionFault, AreFaults};
 
-use crate::formula::{Stated, read_formula};
 use command_words::{Request, Task, read_request};
 use pota_base::Refused;
 use rctl_parse::FormulaFault;
+use stated_formula::{Stated, read_formula};
 use std::alloc::Global;
 
 /// What the words ask for.

@@ -13,7 +13,7 @@ use Rattle.local_preds.specs.Rows.{len_at}
 use Rattle.watch_feeding.specs.Fed.{HaveRows}
 use Rattle.part_pulls.specs.declared.observed.Observed.{Observed}
 use Rattle.part_pulls.specs.Observing.{Reading, AreAnswers, AreFull, states_seen}
-use Rattle.conjunctions.specs.Settling.{IsLater}
+use Rattle.part_pulls.specs.Later.{IsLater}
 use Rattle.session.specs.Fed.{watch_row, Feeds, AreFedFrom, AnswersAs}
 
 -- a process has one state more than events

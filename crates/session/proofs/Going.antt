@@ -25,7 +25,8 @@ use Rattle.conjunctions.specs.declared.answer.Answer.{Answer}
 use Rattle.part_pulls.specs.Observing.{AreFull, scope_seen}
 use Rattle.conjunctions.specs.Numbering.{all_conjunctions}
 use Rattle.part_pulls.specs.Counters.{CountersRise, counters_of}
-use Rattle.conjunctions.specs.Settling.{IsSettled, AreSettled, AreFloors, IsLater}
+use Rattle.conjunctions.specs.Settling.{IsSettled, AreSettled, AreFloors}
+use Rattle.part_pulls.specs.Later.{IsLater}
 use Rattle.conjunctions.specs.Answering.{IsAnswer}
 use Rattle.session.specs.Growing.{GrowingView, counter_fault, opened_observed, TakesBatch}
 use Rattle.session.specs.Growing.{HasAnswer}

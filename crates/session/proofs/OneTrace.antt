@@ -15,7 +15,7 @@ use Rattle.part_pulls.specs.declared.observed.Observed.{Observed}
 use Rattle.conjunctions.specs.declared.answer.Answer.{Answer}
 use Rattle.conjunctions.specs.declared.answer.PartAnswer.{PartAnswer}
 use Rattle.part_pulls.specs.Observing.{clocks_seen, states_seen}
-use Rattle.conjunctions.specs.Settling.{IsLater}
+use Rattle.part_pulls.specs.Later.{IsLater}
 use Rattle.conjunctions.specs.Answering.{IsSliceOf, Place, IsOperand, IsPartAnswer, ArePartAnswers}
 use Rattle.conjunctions.specs.Answering.{IsAnswer, all_places}
 use Rattle.session.specs.Fed.{watch_row, IsOneTrace}

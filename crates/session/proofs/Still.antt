@@ -3,7 +3,7 @@ use Rattle.std.proofs.Common.{◌≡◌, ℤ, Bool, false, List, ap, sym, subst,
 use Rattle.event_log.specs.declared.log.Event.{Event}
 use Rattle.part_pulls.specs.declared.observed.Observed.{Observed}
 use Rattle.part_pulls.specs.Observing.{AreAnswers, AreFull}
-use Rattle.conjunctions.specs.Settling.{IsLater}
+use Rattle.part_pulls.specs.Later.{IsLater}
 use Rattle.session.specs.Growing.{GrowingView}
 use Rattle.session.specs.Fed.{Feeds, AreFedFrom}
 use Rattle.session.specs.Taken.{TakesWhole}

@@ -13,7 +13,7 @@ use Rattle.trace_growth.specs.Growing.{TraceView, FitsTrace, IsTrace, filled_for
 use Rattle.trace_growth.specs.Laws.{StatesHaveGrown}
 use Rattle.trace_growth.proofs.Taken.{clocks_grow, states_grow}
 use Rattle.part_pulls.specs.declared.observed.Observed.{Observed}
-use Rattle.conjunctions.specs.Settling.{IsLater}
+use Rattle.part_pulls.specs.Later.{IsLater}
 use Rattle.session.specs.Fed.{watch_row}
 
 -- the clocks of the run have grown, as those of the events

@@ -15,7 +15,7 @@ use Rattle.part_pulls.specs.declared.observed.Observed.{Observed}
 use Rattle.conjunctions.specs.declared.answer.Answer.{Answer}
 use Rattle.part_pulls.specs.Observing.{AreFull}
 use Rattle.part_pulls.specs.Counters.{counters_of}
-use Rattle.conjunctions.specs.Settling.{IsLater}
+use Rattle.part_pulls.specs.Later.{IsLater}
 
 -- what was observed so far, the formula by its disjuncts, the rows of its conjunctions in the order
 -- of their numbers, the answer, and whether memory was wanted

@@ -7,7 +7,7 @@ ghost use Rattle.rctl_parts.specs.Pieces.{Piece, disjuncts_of};
 ghost use Rattle.part_pulls.specs.Counters.{counters_of};
 ghost use Rattle.part_pulls.specs.declared.observed.Observed.{Observed};
 ghost use Rattle.conjunctions.specs.declared.answer.Answer.{Answer};
-ghost use Rattle.conjunctions.specs.Settling.{IsLater};
+ghost use Rattle.part_pulls.specs.Later.{IsLater};
 ghost use Rattle.conjunctions.specs.Answering.{IsAnswer};
 ghost use Rattle.watch.specs.Saying.{said_by};
 ghost use Rattle.session.specs.Growing.{GrowingView, all_events, first_fault};

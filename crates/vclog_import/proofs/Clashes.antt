@@ -5,7 +5,7 @@ use Rattle.std.specs.List.{list_any}
 use Rattle.std.specs.Str.{bytes_eq}
 use Rattle.std.proofs.lemmas.Bool.{cases_Bool, or_cases, or_parts, or_from, or_right, and_left, and_right}
 use Rattle.std.proofs.lemmas.Slice.Eq.{bytes_eq-Decides}
-use Rattle.vclog_import.specs.declared.fault.ImportCode.TheVariants as code
+use Rattle.fault_kinds.specs.declared.import.ImportCode.TheVariants as code
 use Rattle.vclog_import.specs.Lines.{Record}
 use Rattle.vclog_import.specs.Hosts.{Host, name_of, with_host, hosts_from, hosts_of, do_clash}
 use Rattle.vclog_import.specs.Faults.{clash_fault}

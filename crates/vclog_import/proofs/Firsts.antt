@@ -3,9 +3,9 @@ use Rattle.std.proofs.Common.{◌≡◌, false, Option, Some, None, List, [], �
 use Rattle.std.proofs.lemmas.Bool.{cases_Bool}
 use Rattle.std.proofs.lemmas.List.{append-nil}
 use Rattle.log_lines.specs.Reading.{choose}
-use Rattle.vclog_import.specs.declared.fault.ImportCode.{ImportCode}
-use Rattle.vclog_import.specs.declared.fault.ImportCode.TheVariants as code
-use Rattle.vclog_import.specs.declared.fault.ImportFault.{ImportFault}
+use Rattle.fault_kinds.specs.declared.import.ImportCode.{ImportCode}
+use Rattle.fault_kinds.specs.declared.import.ImportCode.TheVariants as code
+use Rattle.fault_kinds.specs.declared.import.ImportFault.{ImportFault}
 use Rattle.vclog_import.specs.Lines.{Record}
 use Rattle.vclog_import.specs.Faults.{Judge, at_line, first_of, is_bad, clock_fault, number_fault, line_fault}
 use Rattle.vclog_import.specs.inside.Scans.{plain_fault, until, bad_clock, first_bad_clock}

@@ -23,9 +23,9 @@ use Rattle.event_log.specs.LogText.{named, AssignFits, BindingsFit, HeaderFits, 
 use Rattle.event_log.specs.Numbers.{variables_at}
 use Rattle.serde_json.specs.Data.{Data, Members}
 use Rattle.serde_json.specs.Find.{get_member, as_number, as_u64}
-use Rattle.vclog_import.specs.declared.fault.ImportCode.{ImportCode}
-use Rattle.vclog_import.specs.declared.fault.ImportCode.TheVariants as code
-use Rattle.vclog_import.specs.declared.fault.ImportFault.{ImportFault}
+use Rattle.fault_kinds.specs.declared.import.ImportCode.{ImportCode}
+use Rattle.fault_kinds.specs.declared.import.ImportCode.TheVariants as code
+use Rattle.fault_kinds.specs.declared.import.ImportFault.{ImportFault}
 use Rattle.vclog_import.specs.Lines.{Record, is_due_behind}
 use Rattle.vclog_import.specs.Hosts.{Host, name_byte, name_of, hosts_of, records_of, do_clash}
 use Rattle.vclog_import.specs.inside.Hosts.{IsNamed}

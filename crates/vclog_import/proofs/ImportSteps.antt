@@ -8,8 +8,8 @@ use Rattle.log_lines.specs.Reading.{choose}
 use Rattle.event_log.specs.declared.log.Event.{Event}
 use Rattle.event_log.specs.declared.log.Header.{Header}
 use Rattle.event_log.specs.declared.log.Log.{Log}
-use Rattle.vclog_import.specs.declared.fault.ImportCode.TheVariants as code
-use Rattle.vclog_import.specs.declared.fault.ImportFault.{ImportFault}
+use Rattle.fault_kinds.specs.declared.import.ImportCode.TheVariants as code
+use Rattle.fault_kinds.specs.declared.import.ImportFault.{ImportFault}
 use Rattle.vclog_import.specs.declared.scanning.Scan.{Scan}
 use Rattle.vclog_import.specs.Lines.{Record}
 use Rattle.vclog_import.specs.Hosts.{hosts_of}

@@ -8,8 +8,8 @@ use Rattle.std.proofs.lemmas.List.{drop_more, take_more, take_all, drop_all, get
 use Rattle.event_log.specs.declared.log.Binding.{Binding}
 use Rattle.event_log.specs.declared.log.Header.{Header}
 use Rattle.serde_json.specs.Data.{Members}
-use Rattle.vclog_import.specs.declared.fault.ImportCode.{ImportCode}
-use Rattle.vclog_import.specs.declared.fault.ImportCode.TheVariants as code
+use Rattle.fault_kinds.specs.declared.import.ImportCode.{ImportCode}
+use Rattle.fault_kinds.specs.declared.import.ImportCode.TheVariants as code
 use Rattle.vclog_import.specs.declared.host_lines.HostLine.{HostLine}
 use Rattle.vclog_import.specs.Lines.{Record}
 use Rattle.vclog_import.specs.Hosts.{Host, name_of}

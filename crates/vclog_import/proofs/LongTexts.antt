@@ -4,8 +4,8 @@ use Rattle.std.specs.Prelude.{is_some, not, ◌||◌, ◌==◌}
 use Rattle.std.proofs.lemmas.Bool.Decides.{nat_tests}
 use Rattle.std.proofs.lemmas.List.{take-append-le}
 use Rattle.log_lines.specs.Reading.{choose}
-use Rattle.vclog_import.specs.declared.fault.ImportFault.{ImportFault}
-use Rattle.vclog_import.specs.declared.fault.ImportCode.TheVariants as code
+use Rattle.fault_kinds.specs.declared.import.ImportFault.{ImportFault}
+use Rattle.fault_kinds.specs.declared.import.ImportCode.TheVariants as code
 use Rattle.vclog_import.specs.Lines.{lines_in, feeds, records_in, is_due_behind}
 use Rattle.vclog_import.specs.Faults.{is_too_long, is_truncated, judged, last_line, ended_at, end_fault, first_of, line_fault, host_fault, fault_of}
 use Rattle.vclog_import.specs.Laws.{LongTextsAreFaulty}

@@ -19,8 +19,8 @@ use Rattle.event_log.specs.declared.log.Event.{Event}
 use Rattle.event_log.specs.declared.log.Kind.TheVariants as kind
 use Rattle.event_log.proofs.NameLaws.{place_some, place_again}
 use Rattle.vclog_import.specs.declared.events.Events.{Events}
-use Rattle.vclog_import.specs.declared.fault.ImportCode.TheVariants as code
-use Rattle.vclog_import.specs.declared.fault.ImportFault.{ImportFault}
+use Rattle.fault_kinds.specs.declared.import.ImportCode.TheVariants as code
+use Rattle.fault_kinds.specs.declared.import.ImportFault.{ImportFault}
 use Rattle.vclog_import.specs.declared.host_lines.HostLine.{HostLine}
 use Rattle.vclog_import.specs.Lines.{Record}
 use Rattle.vclog_import.specs.Hosts.{Host, hosts_of, records_of}

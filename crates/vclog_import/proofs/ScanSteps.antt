@@ -6,9 +6,9 @@ use Rattle.std.proofs.lemmas.Bool.Decides.{nat_tests}
 use Rattle.std.proofs.lemmas.List.{append-nil, length-map}
 use Rattle.std.specs.Borrow.{Bor}
 use Rattle.log_lines.specs.Reading.{choose}
-use Rattle.vclog_import.specs.declared.fault.ImportCode.{ImportCode}
-use Rattle.vclog_import.specs.declared.fault.ImportCode.TheVariants as code
-use Rattle.vclog_import.specs.declared.fault.ImportFault.{ImportFault}
+use Rattle.fault_kinds.specs.declared.import.ImportCode.{ImportCode}
+use Rattle.fault_kinds.specs.declared.import.ImportCode.TheVariants as code
+use Rattle.fault_kinds.specs.declared.import.ImportFault.{ImportFault}
 use Rattle.vclog_import.specs.declared.host_lines.HostLine.{HostLine}
 use Rattle.vclog_import.specs.declared.host_lines.HostLines.{HostLines}
 use Rattle.vclog_import.specs.declared.scanning.Scan.{Scan}

@@ -6,9 +6,9 @@ use Rattle.std.specs.List.{list_any}
 use Rattle.pota_base.specs.declared.fault.Refused.{Refused}
 use Rattle.pota_base.specs.declared.fault.Refused.TheVariants.{Fault, NoMemory}
 use Rattle.log_lines.specs.Reading.{choose}
-use Rattle.vclog_import.specs.declared.fault.ImportCode.{ImportCode}
-use Rattle.vclog_import.specs.declared.fault.ImportCode.TheVariants as code
-use Rattle.vclog_import.specs.declared.fault.ImportFault.{ImportFault}
+use Rattle.fault_kinds.specs.declared.import.ImportCode.{ImportCode}
+use Rattle.fault_kinds.specs.declared.import.ImportCode.TheVariants as code
+use Rattle.fault_kinds.specs.declared.import.ImportFault.{ImportFault}
 use Rattle.vclog_import.specs.Lines.{Line, Record, lines_in, feeds, records_in, is_due_behind}
 use Rattle.vclog_import.specs.Hosts.{Host, name_of, hosts_of, do_clash}
 use Rattle.vclog_import.specs.Clock.{clock_in, clock_of, all_known}

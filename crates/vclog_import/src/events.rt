@@ -5,7 +5,7 @@ ghost use Rattle.std.specs.Prelude.{length, map, is_some, IfOk, OnOk};
 ghost use Rattle.std.specs.List.{AllByRecursion};
 ghost use Rattle.log_lines.specs.Reading.{choose};
 ghost use Rattle.log_lines.specs.Names.{place_of, are_distinct};
-ghost use Rattle.vclog_import.specs.declared.fault.ImportCode.TheVariants.{UnknownHost};
+ghost use Rattle.fault_kinds.specs.declared.import.ImportCode.TheVariants.{UnknownHost};
 ghost use Rattle.vclog_import.specs.Lines.{Record};
 ghost use Rattle.vclog_import.specs.Hosts.{hosts_of};
 ghost use Rattle.vclog_import.specs.Clock.{clock_of, count_of};
@@ -16,11 +16,11 @@ ghost use Rattle.vclog_import.specs.inside.Scans.{hosts_in, bad_clock, first_bad
 ghost use Rattle.vclog_import.specs.inside.Scans.{fault_with};
 
 use crate::clock::clock_in;
-use crate::fault::{ImportCode, ImportFault};
 use crate::host_lines::HostLine;
 use crate::rows::counts_of;
 use crate::scanning::is_bad;
 use event_log::{Assign, Event, Kind};
+use fault_kinds::{ImportCode, ImportFault};
 use log_lines::place_of;
 use pota_base::{List, NoMemory, Refused};
 use std::alloc::Global;

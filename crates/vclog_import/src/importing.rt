@@ -10,10 +10,10 @@ ghost use Rattle.vclog_import.specs.Imported.{counting, header_of, imported};
 ghost use Rattle.vclog_import.specs.inside.Scans.{hosts_in};
 
 use crate::events::{events_of, first_bad_clock};
-use crate::fault::ImportFault;
 use crate::names::name_of;
 use crate::scanning::Scan;
 use event_log::{Binding, Header, Log, Name};
+use fault_kinds::ImportFault;
 use pota_base::{List, NoMemory, Refused};
 use std::alloc::Global;
 

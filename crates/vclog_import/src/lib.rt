@@ -12,7 +12,6 @@
 
 mod clock;
 mod events;
-mod fault;
 mod host_lines;
 mod hosts;
 mod importing;
@@ -21,6 +20,6 @@ mod names;
 mod rows;
 mod scanning;
 
-pub use fault::{ImportCode, ImportFault};
+pub use fault_kinds::{ImportCode, ImportFault};
 pub use importing::import;
 pub use laws::{counters_are_the_order, imported_logs_fit, long_texts_are_faulty};

@@ -2,15 +2,15 @@
 
 ghost use Rattle.std.specs.Prelude.{◌≡◌, ◌++◌, ◌∷◌, [], ◌||◌, not, None, Some, IfOk, OnOk};
 ghost use Rattle.std.specs.Prelude.{if◌then◌else◌};
-ghost use Rattle.vclog_import.specs.declared.fault.ImportCode.TheVariants.{HostClash};
+ghost use Rattle.fault_kinds.specs.declared.import.ImportCode.TheVariants.{HostClash};
 ghost use Rattle.vclog_import.specs.Faults.{is_bad, ended_at};
 ghost use Rattle.vclog_import.specs.inside.Reading.{record_of};
 ghost use Rattle.vclog_import.specs.inside.Scans.{plain_fault, hosts_in};
 
-use crate::fault::{ImportCode, ImportFault};
 use crate::host_lines::{HostLine, HostLines};
 use crate::hosts::put_host;
 use crate::names::{clashes, name_len};
+use fault_kinds::{ImportCode, ImportFault};
 use pota_base::NoMemory;
 use pota_names::LONGEST_NAME;
 use std::alloc::Global;

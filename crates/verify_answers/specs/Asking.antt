@@ -4,8 +4,8 @@ use Rattle.rctl_grammar.specs.declared.fault.FormulaFault.{FormulaFault}
 use Rattle.rctl_grammar.specs.declared.tree.Tree.{Tree}
 use Rattle.rctl_class.specs.Faults.{first_fault}
 use Rattle.rctl_class.specs.Nodes.{node_of}
-use Rattle.run_request.specs.declared.formula.Stated.{Stated}
-use Rattle.run_request.specs.Questions.{IsShortText, IsStated, IsFormulaFault}
+use Rattle.stated_formula.specs.declared.formula.Stated.{Stated}
+use Rattle.stated_formula.specs.Stating.{IsShortText, IsStated, IsFormulaFault}
 use Rattle.fault_line.specs.declared.fault.Fault.{Fault}
 use Rattle.fault_line.specs.declared.fault.Fault.TheVariants as fault
 

@@ -4,7 +4,7 @@ ghost use Rattle.verify_answers.specs.Asking.{IsFormulaOf, IsMisasked};
 
 use fault_line::Fault;
 use pota_base::Refused;
-use run_request::{Stated, read_formula};
+use stated_formula::{Stated, read_formula};
 use std::alloc::Global;
 
 /// Reads the formula that the words are: one word, also where that begins with `-`.

@@ -19,7 +19,7 @@ use log_check::CheckedLog;
 use part_pulls::Observed;
 use pota_base::{Bytes, List, NoMemory, Source, Steps};
 use rctl_parts::Part;
-use run_request::Stated;
+use stated_formula::Stated;
 use std::alloc::Global;
 use std::sync::ledger::{Blank, Ledger};
 use verifier::Verifier;

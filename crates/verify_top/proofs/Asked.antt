@@ -12,7 +12,7 @@ use Rattle.rctl_laws.proofs.Within.{within_is_read}
 use Rattle.rctl_parse.specs.Parsing.{fault_of_text, long_fault, IsReadAs}
 use Rattle.rctl_class.specs.Faults.{first_fault}
 use Rattle.rctl_class.specs.Nodes.{node_of}
-use Rattle.run_request.specs.Questions.{IsShortText, IsFormulaFault}
+use Rattle.stated_formula.specs.Stating.{IsShortText, IsFormulaFault}
 use Rattle.verify_answers.specs.Asking.{AsksAbout, HasFormulaFault}
 
 pub some_one : {A : Type 0} (o : Option A) (x y : A) → o ≡ Some x → o ≡ Some y → x ≡ y

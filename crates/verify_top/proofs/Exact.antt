@@ -4,13 +4,13 @@ use Rattle.std.specs.Io.KnownBytes.{Consumes, IsAtEnd}
 use Rattle.event_log.specs.LogEnd.{is_whole, log_upto}
 use Rattle.rctl_grammar.specs.declared.fault.FormulaFault.{FormulaFault}
 use Rattle.rctl_grammar.specs.declared.tree.Tree.{Tree}
-use Rattle.log_judgement.specs.declared.refusal.Refusal.{Refusal}
-use Rattle.log_judgement.specs.declared.refusal.Refusal.TheVariants as refusal
-use Rattle.log_judgement.specs.Judgement.{Prefix}
-use Rattle.log_judgement.specs.Due.{Due, due}
-use Rattle.log_judgement.specs.Readings.{log_reading}
-use Rattle.log_judgement.proofs.Dues.{due_stays}
-use Rattle.log_judgement.proofs.Readings.{log_is_read}
+use Rattle.fault_kinds.specs.declared.refusal.Refusal.{Refusal}
+use Rattle.fault_kinds.specs.declared.refusal.Refusal.TheVariants as refusal
+use Rattle.log_rules.specs.Judgement.{Prefix}
+use Rattle.log_rules.specs.Due.{Due, due}
+use Rattle.log_rules.specs.Readings.{log_reading}
+use Rattle.log_rules.proofs.Dues.{due_stays}
+use Rattle.log_rules.proofs.Readings.{log_is_read}
 use Rattle.log_check.specs.Aims.{rules_of}
 use Rattle.log_part.specs.Fronts.{log_front, due_of_front}
 use Rattle.log_part.proofs.FrontLaws.{front-more, front_stays, behind_stays, whole_over}

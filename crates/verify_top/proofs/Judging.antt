@@ -11,7 +11,7 @@ use Rattle.rctl_grammar.specs.Shape.{shape_of}
 use Rattle.rctl_grammar.specs.declared.tree.Tree.{Tree}
 use Rattle.rctl_print.specs.Canonical.{canonical}
 use Rattle.rctl_class.specs.Nodes.{node_of}
-use Rattle.run_request.specs.declared.formula.Stated.{Stated}
+use Rattle.stated_formula.specs.declared.formula.Stated.{Stated}
 use Rattle.trace_growth.specs.Growing.{IsTrace}
 use Rattle.rctl_parts.specs.MadeFor.{AllFit, AreMadeFor}
 use Rattle.rctl_parts.specs.Spelled.{disjunction_of}
@@ -19,11 +19,11 @@ use Rattle.rctl_parts.specs.Pieces.{Piece, disjuncts_of}
 use Rattle.part_pulls.specs.declared.observed.Observed.{Observed}
 use Rattle.part_pulls.specs.Counters.{CountersRise}
 use Rattle.part_pulls.specs.Observing.{Reading, AreAnswers, clocks_seen, run_seen, names_seen, scope_seen}
-use Rattle.log_judgement.specs.declared.refusal.Refusal.{Refusal}
-use Rattle.log_judgement.specs.declared.refusal.Refusal.TheVariants as refusal
-use Rattle.log_judgement.specs.Judgement.{Prefix, Judgement, waiting}
-use Rattle.log_judgement.specs.Due.{Due, due}
-use Rattle.log_judgement.specs.Readings.{log_reading}
+use Rattle.fault_kinds.specs.declared.refusal.Refusal.{Refusal}
+use Rattle.fault_kinds.specs.declared.refusal.Refusal.TheVariants as refusal
+use Rattle.log_rules.specs.Judgement.{Prefix, Judgement, waiting}
+use Rattle.log_rules.specs.Due.{Due, due}
+use Rattle.log_rules.specs.Readings.{log_reading}
 use Rattle.log_check.specs.declared.check.LogCheck.{LogCheck}
 use Rattle.log_check.specs.declared.checked.CheckedLog.{CheckedLog}
 use Rattle.watch.specs.declared.predicate.Handed.{Handed}

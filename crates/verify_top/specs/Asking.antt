@@ -8,7 +8,7 @@ use Rattle.rctl_print.specs.Canonical.{canonical}
 use Rattle.rctl_class.specs.Nodes.{node_of}
 use Rattle.part_pulls.specs.Observing.{clocks_seen}
 use Rattle.rctl_names.specs.Resolving.{numbered_disjuncts}
-use Rattle.log_judgement.specs.Judgement.{Prefix}
+use Rattle.log_rules.specs.Judgement.{Prefix}
 use Rattle.log_check.specs.Aims.{Aim}
 use Rattle.log_check.specs.Checked.{observed_alone}
 use Rattle.certificate_text.specs.Taking.{VerifierView, fresh}

@@ -7,8 +7,8 @@ use Rattle.pota_base.specs.Status.{code_of}
 use Rattle.pota_base.specs.declared.status.Status.TheVariants as status
 use Rattle.rctl_grammar.specs.declared.fault.FormulaFault.{FormulaFault}
 use Rattle.rctl_grammar.specs.declared.tree.Tree.{Tree}
-use Rattle.log_judgement.specs.declared.refusal.Refusal.{Refusal}
-use Rattle.log_judgement.specs.Judgement.{Prefix}
+use Rattle.fault_kinds.specs.declared.refusal.Refusal.{Refusal}
+use Rattle.log_rules.specs.Judgement.{Prefix}
 use Rattle.log_part.specs.Fronts.{due_of_front}
 use Rattle.certificate_text.specs.Bytes.{Judged, RefusedAt}
 use Rattle.certificate.specs.Following.{Follows}

@@ -5,9 +5,9 @@ use Rattle.std.specs.Io.KnownBytes.{Appends, Consumes, IsAtEnd}
 use Rattle.pota_base.specs.Outside.{Rose}
 use Rattle.event_log.specs.LogEnd.{behind_log}
 use Rattle.rctl_grammar.specs.declared.tree.Tree.{Tree}
-use Rattle.log_judgement.specs.declared.refusal.Refusal.{Refusal}
-use Rattle.log_judgement.specs.declared.refusal.Refusal.TheVariants as refusal
-use Rattle.log_judgement.specs.Judgement.{Prefix}
+use Rattle.fault_kinds.specs.declared.refusal.Refusal.{Refusal}
+use Rattle.fault_kinds.specs.declared.refusal.Refusal.TheVariants as refusal
+use Rattle.log_rules.specs.Judgement.{Prefix}
 use Rattle.log_check.specs.Aims.{IsTrueSoFar}
 use Rattle.log_part.specs.Fronts.{due_of_front}
 use Rattle.log_part.specs.Reading.{IsCutShort}

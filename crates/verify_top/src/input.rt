@@ -2,7 +2,7 @@
 ghost use Rattle.std.specs.Prelude.{ℕ, List as ListOf, IfOk, OnErr, Option};
 ghost use Rattle.rctl_grammar.specs.declared.tree.Tree.{Tree};
 ghost use Rattle.input_reading.specs.Intakes.{ReadsShort};
-ghost use Rattle.log_judgement.specs.Judgement.{waiting};
+ghost use Rattle.log_rules.specs.Judgement.{waiting};
 ghost use Rattle.log_check.specs.Aims.{Aim, said_by};
 ghost use Rattle.log_check.specs.Checking.{IsCheckOf};
 ghost use Rattle.log_part.specs.Reading.{HasReadFront};
@@ -16,7 +16,7 @@ use input_reading::End;
 use log_check::LogCheck;
 use log_part::{Front, LogPart, read_on};
 use pota_base::{NoMemory, Source};
-use run_request::Stated;
+use stated_formula::Stated;
 use std::alloc::Global;
 use std::marker::Brand;
 use std::sync::ledger::Blank;

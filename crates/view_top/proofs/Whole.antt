@@ -18,13 +18,13 @@ use Rattle.event_log.specs.Reader.{HasRead, ReadsLog}
 use Rattle.event_log.proofs.FittingItems.{items_fit}
 use Rattle.event_log.proofs.LogEnds.{parted}
 use Rattle.vector_clock.specs.Filled.{filled_log}
-use Rattle.log_judgement.specs.declared.refusal.Refusal.{Refusal}
-use Rattle.log_judgement.specs.declared.refusal.Refusal.TheVariants as refusal
-use Rattle.log_judgement.specs.Judgement.{Prefix, followed_by, Judgement, waiting, growing, finished, refused, judged}
-use Rattle.log_judgement.specs.Due.{whole_of, fault_in, at_end}
-use Rattle.log_judgement.specs.Readings.{text_fault}
-use Rattle.log_judgement.specs.WholeLogs.{all_of}
-use Rattle.log_judgement.proofs.Logs.{log_due as due_of_log, due_log}
+use Rattle.fault_kinds.specs.declared.refusal.Refusal.{Refusal}
+use Rattle.fault_kinds.specs.declared.refusal.Refusal.TheVariants as refusal
+use Rattle.log_rules.specs.Judgement.{Prefix, followed_by, Judgement, waiting, growing, finished, refused, judged}
+use Rattle.log_rules.specs.Due.{whole_of, fault_in, at_end}
+use Rattle.log_rules.specs.Readings.{text_fault}
+use Rattle.log_rules.specs.WholeLogs.{all_of}
+use Rattle.log_rules.proofs.Logs.{log_due as due_of_log, due_log}
 use Rattle.log_trace.specs.declared.trace.LogTrace.{LogTrace}
 use Rattle.log_trace.specs.Judging.{without_formula, IsRefused, HasTrace, Keeps}
 use Rattle.view_top.specs.Viewing.{report_in, log_in, log_due, HasLog, IsViewIn}

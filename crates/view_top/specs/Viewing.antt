@@ -6,10 +6,10 @@ use Rattle.std.specs.Io.KnownBytes.{Appends, Consumes, IsAtEnd}
 use Rattle.pota_base.specs.Outside.{Rose, IsPrefix}
 use Rattle.event_log.specs.LogEnd.{behind_log}
 use Rattle.event_log.specs.States.{StatesView}
-use Rattle.log_judgement.specs.declared.refusal.Refusal.TheVariants as refusal
-use Rattle.log_judgement.specs.Judgement.{Prefix, states_of}
-use Rattle.log_judgement.specs.Readings.{log_reading}
-use Rattle.log_judgement.specs.Due.{Due, due}
+use Rattle.fault_kinds.specs.declared.refusal.Refusal.TheVariants as refusal
+use Rattle.log_rules.specs.Judgement.{Prefix, states_of}
+use Rattle.log_rules.specs.Readings.{log_reading}
+use Rattle.log_rules.specs.Due.{Due, due}
 use Rattle.report.specs.declared.report.Report.{Report}
 use Rattle.report.specs.Fault.{IsTextOf, IsFaultIn}
 use Rattle.view_parts.specs.Parts.{IsReportOf}

@@ -5,7 +5,7 @@
 //! behind its `end` line, the text of a report of it, and what was written is the view of them that
 //! was asked for: the text of `view_text`, or the picture of `view_picture`. With a fault nothing
 //! was written, and it is the fault of the words, the first that is due of the log by
-//! `log_judgement`, the fault of the report's text, or that the report has other processes or other
+//! `log_rules`, the fault of the report's text, or that the report has other processes or other
 //! lengths than the log; after a write fault a front of the view was written. A read or write fault
 //! comes only where that object's count of faults rose. The line on `diag` is the fault's (`told`).
 //!

@@ -2,7 +2,7 @@
 ghost use Rattle.std.specs.Prelude.{◌≡◌, [], false, IfOk, IfErr, MatchResult};
 ghost use Rattle.input_reading.specs.declared.reading.End.TheVariants.{Ended};
 ghost use Rattle.event_log.specs.Reader.{HasRead};
-ghost use Rattle.log_judgement.specs.Judgement.{waiting};
+ghost use Rattle.log_rules.specs.Judgement.{waiting};
 ghost use Rattle.report.specs.Spelling.{IsWellFormed};
 ghost use Rattle.view_parts.specs.Parts.{IsReportOf};
 ghost use Rattle.log_trace.specs.Judging.{Keeps};

@@ -8,13 +8,13 @@ use Rattle.pota_base.specs.Outside.{Rose}
 use Rattle.input_reading.specs.Intakes.{ReadsShort}
 use Rattle.event_log.specs.declared.item.LogFault.{LogFault}
 use Rattle.event_log.specs.declared.log.Log.{Log}
-use Rattle.log_judgement.specs.declared.refusal.Refusal.{Refusal}
-use Rattle.log_judgement.specs.declared.refusal.Refusal.TheVariants as refusal
-use Rattle.log_judgement.specs.Judgement.{Prefix, Judgement, waiting, growing, finished, refused, judged}
-use Rattle.log_judgement.specs.Readings.{items_at_end}
-use Rattle.log_judgement.specs.Due.{Due, whole_of, placed, fault_in, fault_alone, told}
-use Rattle.log_judgement.proofs.WholeReadings.{before_the_end, with_a_fault, one_report}
-use Rattle.log_judgement.specs.Texts.{listed, reported}
+use Rattle.fault_kinds.specs.declared.refusal.Refusal.{Refusal}
+use Rattle.fault_kinds.specs.declared.refusal.Refusal.TheVariants as refusal
+use Rattle.log_rules.specs.Judgement.{Prefix, Judgement, waiting, growing, finished, refused, judged}
+use Rattle.log_rules.specs.Readings.{items_at_end}
+use Rattle.log_rules.specs.Due.{Due, whole_of, placed, fault_in, fault_alone, told}
+use Rattle.log_rules.proofs.WholeReadings.{before_the_end, with_a_fault, one_report}
+use Rattle.log_rules.specs.Reported.{listed, reported}
 use Rattle.log_check.specs.Aims.{Aim, rules_of}
 use Rattle.log_answers.specs.declared.stop.StopCause.{StopCause}
 use Rattle.log_answers.specs.declared.stop.StopCause.TheVariants as causes

@@ -14,18 +14,18 @@ use Rattle.input_reading.specs.declared.reading.End.TheVariants as end
 use Rattle.input_reading.specs.Intakes.{Ends, ReadsAll, ReadsShort}
 use Rattle.event_log.specs.FittingItems.{FitFirst}
 use Rattle.event_log.specs.LogText.{log_items}
-use Rattle.vclog_import.specs.declared.fault.ImportFault.{ImportFault}
+use Rattle.fault_kinds.specs.declared.import.ImportFault.{ImportFault}
 use Rattle.vclog_import.specs.Faults.{fault_of, is_too_long}
 use Rattle.vclog_import.specs.Imported.{imported}
 use Rattle.vclog_import.proofs.LongTexts.{long_texts_are_faulty}
-use Rattle.log_judgement.specs.declared.refusal.Refusal.{Refusal}
-use Rattle.log_judgement.specs.declared.refusal.Refusal.TheVariants as refusal
-use Rattle.log_judgement.specs.Readings.{items_at_end}
+use Rattle.fault_kinds.specs.declared.refusal.Refusal.{Refusal}
+use Rattle.fault_kinds.specs.declared.refusal.Refusal.TheVariants as refusal
+use Rattle.log_rules.specs.Readings.{items_at_end}
 use Rattle.form_readings.specs.Clocks.{import_refusal, clocks_fault}
 use Rattle.form_readings.specs.Sources.{merged_of, merged_log_of, merged_fault}
 use Rattle.form_readings.proofs.Imports.{clocks_are_read}
 use Rattle.form_readings.proofs.Merging.{sources_are_read}
-use Rattle.log_merge.specs.declared.fault.MergeFault.{MergeFault}
+use Rattle.fault_kinds.specs.declared.merge.MergeFault.{MergeFault}
 use Rattle.event_log.specs.declared.log.Log.{Log}
 use Rattle.log_merge.specs.Merging.{merged}
 use Rattle.log_sources.specs.declared.gathering.Gathered.{Gathered}

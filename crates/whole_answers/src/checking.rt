@@ -1,6 +1,6 @@
 //! The check of an input once it was read.
 ghost use Rattle.std.specs.Prelude.{◌≡◌, Bool, false};
-ghost use Rattle.log_judgement.specs.Judgement.{waiting};
+ghost use Rattle.log_rules.specs.Judgement.{waiting};
 ghost use Rattle.log_check.specs.Aims.{Aim, said_by};
 ghost use Rattle.log_check.specs.Checking.{IsCheckOf};
 ghost use Rattle.log_answers.specs.Inputs.{HasCheckedBy};

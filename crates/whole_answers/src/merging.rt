@@ -10,7 +10,7 @@ ghost use Rattle.whole_answers.specs.inside.Standing.{HasStood, sources};
 use crate::places::Places;
 use crate::standing::Standing;
 use event_log::Log;
-use log_judgement::Refusal;
+use fault_kinds::Refusal;
 use log_merge::{Merged, merge};
 use log_sources::{Gathered, gather};
 use pota_base::{NoMemory, Refused, Source};

@@ -1,12 +1,12 @@
 //! How a fault at a line of a log that stands whole is told.
 ghost use Rattle.std.specs.Prelude.{◌≡◌};
 ghost use Rattle.form_readings.specs.Sources.{origin_at};
-ghost use Rattle.log_judgement.specs.Due.{placed};
+ghost use Rattle.log_rules.specs.Due.{placed};
 ghost use Rattle.whole_answers.specs.inside.Places.{place_by, placed_result};
 
 use event_log::LogFault;
+use fault_kinds::Refusal;
 use log_answers::{Stop, StopCause, Verdict};
-use log_judgement::Refusal;
 use log_merge::{MergeCode, MergeFault, Origin};
 use pota_base::List;
 

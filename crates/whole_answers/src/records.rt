@@ -5,8 +5,8 @@ ghost use Rattle.whole_answers.specs.inside.Standing.{HasStood, StandsAt, clocks
 
 use crate::places::Places;
 use crate::standing::Standing;
+use fault_kinds::Refusal;
 use input_reading::{End, Kept, read_all};
-use log_judgement::Refusal;
 use pota_base::{NoMemory, Refused, Source};
 use std::alloc::Global;
 use vclog_import::import;

@@ -1,7 +1,7 @@
 //! What an input is once it was read.
 use crate::places::Places;
 use event_log::Log;
-use log_judgement::Refusal;
+use fault_kinds::Refusal;
 
 /// What an input is once it was read.
 #[derive(Debug, Drop)]

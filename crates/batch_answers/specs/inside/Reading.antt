@@ -6,8 +6,8 @@ use Rattle.event_log.specs.declared.reader.Reader.{Reader}
 use Rattle.event_log.specs.Faults.{fault_of}
 use Rattle.event_log.specs.LogText.{onto}
 use Rattle.event_log.specs.Reader.{HasRead}
-use Rattle.log_judgement.specs.declared.refusal.Refusal.{Refusal}
-use Rattle.log_judgement.specs.Readings.{log_reading}
+use Rattle.fault_kinds.specs.declared.refusal.Refusal.{Refusal}
+use Rattle.log_rules.specs.Readings.{log_reading}
 use Rattle.log_check.specs.Aims.{Says, Aim}
 use Rattle.log_check.specs.declared.check.LogCheck.{LogCheck}
 use Rattle.log_answers.specs.declared.stop.StopCause.TheVariants as causes

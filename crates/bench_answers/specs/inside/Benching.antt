@@ -5,8 +5,8 @@ use Rattle.pota_base.specs.Outside.{Rose, IsPrefix}
 use Rattle.rctl_grammar.specs.declared.fault.FormulaFault.{FormulaFault}
 use Rattle.command_words.specs.declared.request.Sizes.{Sizes}
 use Rattle.run_report.specs.Benches.{IsSummaryOf}
-use Rattle.log_judgement.specs.declared.refusal.Refusal.TheVariants as refusal
-use Rattle.log_judgement.specs.WholeLogs.{all_of}
+use Rattle.fault_kinds.specs.declared.refusal.Refusal.TheVariants as refusal
+use Rattle.log_rules.specs.WholeLogs.{all_of}
 use Rattle.log_check.specs.Aims.{Aim, asked_of, unknown_name, IsTrueSoFar}
 use Rattle.log_answers.specs.declared.stop.StopCause.{StopCause}
 use Rattle.log_answers.specs.declared.stop.StopCause.TheVariants as causes

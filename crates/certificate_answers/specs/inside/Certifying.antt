@@ -15,10 +15,10 @@ use Rattle.rctl_parts.specs.Spelled.{disjunction_of}
 use Rattle.part_pulls.specs.declared.observed.Observed.{Observed}
 use Rattle.part_pulls.specs.Observing.{Reading, AreAnswers, clocks_seen, run_seen}
 use Rattle.part_pulls.specs.Observing.{names_seen}
-use Rattle.run_report.specs.Reports.{counted}
-use Rattle.run_request.specs.declared.formula.Stated.{Stated}
-use Rattle.log_judgement.specs.Judgement.{Prefix}
-use Rattle.log_judgement.specs.Readings.{log_reading}
+use Rattle.log_rules.specs.SoFar.{counted}
+use Rattle.stated_formula.specs.declared.formula.Stated.{Stated}
+use Rattle.log_rules.specs.Judgement.{Prefix}
+use Rattle.log_rules.specs.Readings.{log_reading}
 use Rattle.log_check.specs.Aims.{Aim, aim_of}
 use Rattle.log_check.specs.Checked.{observed_alone}
 use Rattle.log_check.specs.declared.checked.CheckedLog.{CheckedLog}

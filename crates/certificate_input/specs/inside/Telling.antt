@@ -1,12 +1,13 @@
 -- What is told where the bytes end, and what one read turns to.
 use Rattle.std.specs.Prelude.{ℕ, ◌<◌, ◌≤◌, List, [], length, Option, None, Some}
 use Rattle.std.specs.Io.KnownBytes.{Consumes}
+use Rattle.input_reading.specs.Changes.{Change}
 use Rattle.certificate_lines.specs.declared.line.Line.{Line}
 use Rattle.certificate_text.specs.Bytes.{Judged, RefusedAt}
 use Rattle.certificate_input.specs.declared.told.Told.{Told}
 use Rattle.certificate_input.specs.declared.told.Told.TheVariants as told
 use Rattle.certificate_input.specs.inside.Pieces.{InputView, IsTaken}
-use Rattle.certificate_input.specs.Telling.{IsTold}
+use Rattle.certificate_input.specs.Telling.{IsTold, TellsBehind}
 
 -- what is told where no byte comes behind those that came
 abbrev pub IsEnd : {N : Type 0} → (N → Line → N → Type 0) → InputView N → Told → Type 0
@@ -29,3 +30,14 @@ pub record Turns {N : Type 0} (follows : N → Line → N → Type 0) (left left
   pub consumed : Consumes left left' read
   pub later : faults ≤ faults'
   pub to : TurnsTo follows left' faults faults' v read after t
+
+-- the same, of a source before and after
+abbrev pub HasTurned : {N : Type 0} → (N → Line → N → Type 0) → Change → InputView N → InputView N
+    → Option Told → Type 0
+HasTurned follows s v after t =
+    Turns follows s.before s.after s.faults_before s.faults_after v after t
+
+-- this is told of the bytes that come behind those that came
+abbrev pub HasToldOn : {N : Type 0} → (N → Line → N → Type 0) → Change → InputView N → Told → Type 0
+HasToldOn follows s v t =
+    TellsBehind follows s.before s.after s.faults_before s.faults_after v.text v.line [] t

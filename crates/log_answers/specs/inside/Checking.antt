@@ -4,7 +4,7 @@ use Rattle.std.specs.Prelude.{Result, Ok, Err}
 use Rattle.std.specs.Io.KnownBytes.{Appends}
 use Rattle.pota_base.specs.Outside.{Rose, IsPrefix}
 use Rattle.run_report.specs.Benches as bench
-use Rattle.log_judgement.specs.Judgement.{Judgement}
+use Rattle.log_rules.specs.Judgement.{Judgement}
 use Rattle.log_check.specs.Aims.{Says, Aim}
 use Rattle.log_check.specs.Checking.{GoesOn, IsRefusedAs}
 use Rattle.log_check.specs.declared.check.LogCheck.{LogCheck}

@@ -3,7 +3,7 @@ use Rattle.std.specs.Prelude.{◌≡◌, Some}
 use Rattle.rctl_parts.specs.Pieces as piece
 use Rattle.rctl_names.specs.Seen as names
 use Rattle.part_pulls.specs.Counters as parts
-use Rattle.log_judgement.specs.Judgement.{growing}
+use Rattle.log_rules.specs.Judgement.{growing}
 use Rattle.session.specs.declared.session.Session.{Session}
 use Rattle.session.specs.Growing.{HasAnswer}
 use Rattle.log_check.specs.declared.check.LogCheck.{LogCheck}

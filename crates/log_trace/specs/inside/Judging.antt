@@ -4,8 +4,8 @@ use Rattle.event_log.specs.declared.item.Item.{Item}
 use Rattle.event_log.specs.declared.item.Item.TheVariants as item
 use Rattle.event_log.specs.FittingItems.{FitFrom, FitFirst}
 use Rattle.event_log.specs.LogText.{event_count}
-use Rattle.log_judgement.specs.declared.refusal.Refusal.TheVariants as refusal
-use Rattle.log_judgement.specs.Judgement.{Judgement, waiting, growing, finished, refused}
+use Rattle.fault_kinds.specs.declared.refusal.Refusal.TheVariants as refusal
+use Rattle.log_rules.specs.Judgement.{Judgement, waiting, growing, finished, refused}
 
 -- items of a log that may come behind a judgement
 abbrev pub MayFollow : Judgement → List Item → Type 0

@@ -12,7 +12,8 @@ use Rattle.conjunctions.specs.declared.answer.Answer.{Answer}
 use Rattle.part_pulls.specs.Observing.{AreFull, scope_seen}
 use Rattle.part_pulls.specs.Counters.{CountersRise}
 use Rattle.conjunctions.specs.Numbering.{all_conjunctions}
-use Rattle.conjunctions.specs.Settling.{AreSettled, AreFloors, IsLater}
+use Rattle.conjunctions.specs.Settling.{AreSettled, AreFloors}
+use Rattle.part_pulls.specs.Later.{IsLater}
 use Rattle.conjunctions.specs.Answering.{IsAnswer}
 
 -- each conjunction may begin from its rows, on what was observed and on all that is observed later,

@@ -6,9 +6,9 @@ use Rattle.std.specs.Borrow.{Bor}
 use Rattle.std.specs.List.{list_any}
 use Rattle.std.specs.Str.{bytes_eq}
 use Rattle.log_lines.specs.Reading.{choose}
-use Rattle.vclog_import.specs.declared.fault.ImportCode.{ImportCode}
-use Rattle.vclog_import.specs.declared.fault.ImportCode.TheVariants as code
-use Rattle.vclog_import.specs.declared.fault.ImportFault.{ImportFault}
+use Rattle.fault_kinds.specs.declared.import.ImportCode.{ImportCode}
+use Rattle.fault_kinds.specs.declared.import.ImportCode.TheVariants as code
+use Rattle.fault_kinds.specs.declared.import.ImportFault.{ImportFault}
 use Rattle.vclog_import.specs.declared.scanning.Scan.{Scan}
 use Rattle.vclog_import.specs.Lines.{Record}
 use Rattle.vclog_import.specs.Hosts.{Host, name_of, hosts_of}

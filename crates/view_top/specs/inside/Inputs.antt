@@ -9,8 +9,8 @@ use Rattle.event_log.specs.Reader.{HasRead}
 use Rattle.event_log.specs.States.{StatesView}
 use Rattle.input_reading.specs.declared.reading.End.{End}
 use Rattle.input_reading.specs.declared.reading.End.TheVariants as end
-use Rattle.log_judgement.specs.declared.refusal.Refusal.TheVariants as refusal
-use Rattle.log_judgement.specs.Judgement.{judged, waiting}
+use Rattle.fault_kinds.specs.declared.refusal.Refusal.TheVariants as refusal
+use Rattle.log_rules.specs.Judgement.{judged, waiting}
 use Rattle.report.specs.declared.report.Report.{Report}
 use Rattle.report.specs.Fault.{IsTextOf, IsFaultIn}
 use Rattle.view_parts.specs.Parts.{IsReportOf}

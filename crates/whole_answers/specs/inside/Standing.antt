@@ -5,8 +5,8 @@ use Rattle.pota_base.specs.Outside.{Rose}
 use Rattle.event_log.specs.declared.item.LogFault.{LogFault}
 use Rattle.event_log.specs.declared.log.Log.{Log}
 use Rattle.vclog_import.specs.Imported.{imported}
-use Rattle.log_judgement.specs.declared.refusal.Refusal.{Refusal}
-use Rattle.log_judgement.specs.Readings.{Reading, whole_reading}
+use Rattle.fault_kinds.specs.declared.refusal.Refusal.{Refusal}
+use Rattle.log_rules.specs.Readings.{Reading, whole_reading}
 use Rattle.form_readings.specs.Clocks.{clocks_fault, clocks_place}
 use Rattle.form_readings.specs.Sources.{merged_fault, merged_log_of, merged_place}
 use Rattle.whole_answers.specs.declared.places.Places.{Places}

@@ -1,5 +1,5 @@
 use Rattle.std.proofs.Common.{refl}
-use Rattle.log_judgement.proofs.WholeReadings.{one_report}
+use Rattle.log_rules.proofs.WholeReadings.{one_report}
 use Rattle.vclog_import.specs.Imported.{imported}
 use Rattle.form_readings.specs.Clocks.{clocks_fault, clocks_place}
 use Rattle.form_readings.specs.Sources.{merged_fault, merged_log_of, merged_place}

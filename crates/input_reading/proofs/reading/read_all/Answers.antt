@@ -1,9 +1,11 @@
-use Rattle.std.proofs.Common.{◌++◌, arith}
+use Rattle.std.proofs.Common.{◌≡◌, ◌++◌, refl, ◌∙◌, ap, Ok, arith}
 use Rattle.input_reading.proofs.ReadingLaws.{nothing_yet, goes_on, nearer, read_to, short_behind}
+use Rattle.input_reading.specs.declared.reading.End.TheVariants as end
 use Rattle.input_reading.proofs.reading.read_all.Goals as goal
 
 pub turns-init : goal.turns-init
 turns-init g c = record {
+  calm = refl;
   room = omega (arith, c.as_mut_slice-room.ensures.len, c.in_ok-buffer.ensures.len);
   so_far = λ bytes open_. nothing_yet (g.S.Source.left c.args.source.now) (g.S.Source.faults c.args.source.now) (g.I.Intake.open_ c.args.intake.now) bytes open_;
 }
@@ -22,6 +24,7 @@ turns-smaller g c =
 
 pub turns-preserved : goal.turns-preserved
 turns-preserved g c = record {
+  calm = c.in-Ok-None.ensures.calm (λ e. cc) ∙ c.turns.invariant.calm;
   room = omega (arith, c.turns.invariant.room, c.take_turn.auto.room);
   so_far = λ bytes open_.
       let so = c.turns.invariant.so_far bytes open_ in
@@ -43,3 +46,11 @@ returns-in-Err-clause-short g c =
     short_behind (g.S.Source.left c.args.source.now) (g.S.Source.left c.turns.source) (g.S.Source.left c.take_turn.new.source) (g.S.Source.faults c.args.source.now) (g.S.Source.faults c.turns.source) (g.S.Source.faults c.take_turn.new.source)
     (g.I.Intake.open_ c.turns.intake) (g.I.Intake.open_ c.take_turn.new.intake) (g.I.Intake.done c.take_turn.new.intake) (g.I.Intake.room c.turns.intake) (g.I.Intake.room c.take_turn.new.intake)
     c.requires.0 so c.in-Err.ensures.short
+
+pub returns-in-Ok-Some-clause-calm : goal.returns-in-Ok-Some-clause-calm
+returns-in-Ok-Some-clause-calm g c other =
+    let is = c.in-Ok-Some.field-0-is in
+    c.in-Ok-Some.ensures.calm (λ e. other (let same : c.in-Ok-Some.end ≡ end.Failed = cc in ap (λ x. Ok x) same)) ∙ c.turns.invariant.calm
+
+pub returns-in-Err-clause-calm : goal.returns-in-Err-clause-calm
+returns-in-Err-clause-calm g c other = c.in-Err.ensures.calm (λ e. cc) ∙ c.turns.invariant.calm

@@ -1,10 +1,11 @@
-use Rattle.std.proofs.Common.{ℕ, List, ◌<◌, length}
+use Rattle.std.proofs.Common.{◌≡◌, ℕ, List, ◌<◌, length}
 use Rattle.input_reading.proofs.ReadingLaws.{SoFar}
 use Rattle.input_reading.proofs.reading.read_all.Given as goal
 
 abbrev pub invariant-turns : goal.invariant-turns
 invariant-turns g l = record {
   room : 0 < length l.room;
+  calm : g.S.Source.faults l.source ≡ g.S.Source.faults l.fn.source;
   so_far : (bytes : List ℕ) → g.I.Intake.open_ l.fn.intake bytes
       → SoFar (g.S.Source.left l.fn.source) (g.S.Source.left l.source) (g.S.Source.faults l.fn.source) (g.S.Source.faults l.source) (g.I.Intake.open_ l.intake) bytes;
 }

@@ -1,6 +1,6 @@
 use Rattle.std.specs.Vec.Iter.{into_iter_items}
 use Rattle.std.proofs.Common.{◌≡◌, Bool, ◌∷◌, [], rules, sym, ◌∙◌}
-use Rattle.log_judgement.specs.Judgement.{Judgement, judge, judged}
+use Rattle.log_rules.specs.Judgement.{Judgement, judge, judged}
 use Rattle.log_check.specs.Aims.{Aim, rules_of}
 use Rattle.log_check.specs.Checking.{IsCheckOf, IsRefusedAs, MayFollow}
 use Rattle.log_part.specs.inside.Reading.{JudgesTo}

@@ -4,7 +4,7 @@ use Rattle.run_request.specs.declared.question.QuestionFault.{QuestionFault}
 use Rattle.run_request.specs.Questions.{IsQuestionFault, AreFaults}
 use Rattle.run_promise.proofs.Clauses.{told_as}
 use Rattle.fault_line.specs.declared.fault.Fault.{Fault}
-use Rattle.fault_line.specs.Faults.{fault_of_question}
+use Rattle.run_promise.specs.Questions.{fault_of_question}
 use Rattle.batch_answers.specs.Outcome.{faulty_outcome}
 use Rattle.batch_answers.proofs.Undone.{ran_short}
 use Rattle.pota_top.proofs.Running.{ran_misasked}
@@ -18,7 +18,7 @@ returns-in-Err-Fault g c =
     let is : IsQuestionFault (map string_bytes c.args.words.now) c.in-Err-Fault.fault =
     subst (λ (x : Refused QuestionFault). AreFaults x (IsQuestionFault (map string_bytes c.args.words.now)))
     c.in-Err-Fault.field-0-is c.in-Err-Fault.ensures in
-    let fault_is = subst (λ (x : QuestionFault). c.of_question.result ≡ fault_of_question x) c.in-Err-Fault.fault-is c.of_question.ensures in
+    let fault_is = subst (λ (x : QuestionFault). c.fault_of_question.result ≡ fault_of_question x) c.in-Err-Fault.fault-is c.fault_of_question.ensures in
     ran_misasked _ _ _ _ _ (map string_bytes c.args.words.now) c.in-Err-Fault.fault c.faulty.result is
     (c.faulty.ensures ∙ ap (λ (f : Fault). faulty_outcome 0 f) fault_is)
 

@@ -1,7 +1,7 @@
 use Rattle.std.proofs.Common.{ap, ◌∙◌, List, ℕ}
 use Rattle.std.specs.Borrow.{Bor}
 use Rattle.log_lines.specs.Names.{are_distinct}
-use Rattle.vclog_import.specs.declared.fault.ImportFault.{ImportFault}
+use Rattle.fault_kinds.specs.declared.import.ImportFault.{ImportFault}
 use Rattle.vclog_import.specs.Faults.{earlier}
 use Rattle.vclog_import.specs.inside.Reading.{records}
 use Rattle.vclog_import.specs.inside.Scans.{hosts_in}

@@ -1,5 +1,5 @@
 use Rattle.std.proofs.Common.{[]}
-use Rattle.log_judgement.specs.Judgement.{waiting}
+use Rattle.log_rules.specs.Judgement.{waiting}
 use Rattle.log_answers.proofs.OneBatch.{taken_short, first_stands, items_follow, whole_taken}
 use Rattle.log_answers.proofs.checking.Checking.take_whole.Goals as goal
 

@@ -1,6 +1,6 @@
 use Rattle.std.proofs.Common.{◌∷◌, [], false, sym, subst}
 use Rattle.event_log.specs.declared.item.Item.{Item}
-use Rattle.log_judgement.specs.Judgement.{judge}
+use Rattle.log_rules.specs.Judgement.{judge}
 use Rattle.log_check.specs.Aims.{rules_of}
 use Rattle.log_check.specs.Checking.{MayFollow, IsCheckOf, GoesOn}
 use Rattle.log_check.proofs.Moves.{adds, header_first, header_opens}

@@ -1,7 +1,7 @@
 use Rattle.std.proofs.Common.{◌≡◌, Some, None, sym, ◌∙◌, ap}
 use Rattle.event_log.proofs.ReadLaws.{some_value}
 use Rattle.event_log.proofs.FeedSteps.{none_value}
-use Rattle.log_merge.specs.declared.fault.MergeFault.{MergeFault}
+use Rattle.fault_kinds.specs.declared.merge.MergeFault.{MergeFault}
 use Rattle.log_sources.proofs.ReadingOn.{last_is_fault, last_is_whole, last_is_open}
 use Rattle.log_sources.proofs.reader.SourceReader.finish.Goals as goal
 

@@ -1,5 +1,0 @@
-use Rattle.log_judgement.proofs.Readings.{whole_is_read}
-use Rattle.log_judgement.proofs.due_laws.a_whole_log_is_read.Goals as goal
-
-pub returns : goal.returns
-returns c = whole_is_read

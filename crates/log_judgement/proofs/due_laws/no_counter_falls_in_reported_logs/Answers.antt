@@ -1,5 +1,0 @@
-use Rattle.log_judgement.proofs.Rising.{all_kept}
-use Rattle.log_judgement.proofs.due_laws.no_counter_falls_in_reported_logs.Goals as goal
-
-pub returns : goal.returns
-returns c = all_kept

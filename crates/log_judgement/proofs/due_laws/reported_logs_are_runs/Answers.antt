@@ -1,5 +1,0 @@
-use Rattle.log_judgement.proofs.Orders.{all_ordered}
-use Rattle.log_judgement.proofs.due_laws.reported_logs_are_runs.Goals as goal
-
-pub returns : goal.returns
-returns c = all_ordered

@@ -1,5 +1,0 @@
-use Rattle.log_judgement.proofs.Dues.{due_grows}
-use Rattle.log_judgement.proofs.due_laws.reports_stay_due.Goals as goal
-
-pub returns : goal.returns
-returns c = due_grows

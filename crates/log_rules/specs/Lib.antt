@@ -1,0 +1,7 @@
+pub mod Judgement
+pub mod Counters
+pub mod Readings
+pub mod SoFar
+pub mod Due
+pub mod Reported
+pub mod WholeLogs

@@ -1,0 +1,3 @@
+module potalog
+
+go 1.19
