@@ -202,8 +202,8 @@ formula_last around ts more rest nodes total at members t so read none = record 
 pub counted_over : (a around : Around) (nodes : ℕ) → a ≡ record around { nodes = nodes } → 64 ≤ a.nodes → 64 ≤ nodes
 counted_over a around nodes is many = let same : a.nodes ≡ nodes = ap (λ (x : Around). x.nodes) is in omega arith
 
-pub one_more : (a b around : Around) (nodes : ℕ) → a ≡ record around { nodes = nodes } → (a.nodes < 64) × (b ≡ record a { nodes = a.nodes + 1 }) → OneMore nodes b.nodes
-one_more a b around nodes is (room, next) = let same : a.nodes ≡ nodes = ap (λ (x : Around). x.nodes) is in let more : b.nodes ≡ a.nodes + 1 = ap (λ (x : Around). x.nodes) next in (omega arith, omega arith)
+pub one_more : (a around : Around) (nodes behind : ℕ) → a ≡ record around { nodes = nodes } → OneMore a.nodes behind → OneMore nodes behind
+one_more a around nodes behind is (room, next) = let same : a.nodes ≡ nodes = ap (λ (x : Around). x.nodes) is in (omega arith, omega arith)
 
 pub conjunction_init : (around : Around) (ts rest more : List Token) (nodes behind at : ℕ) (t : Tree) (fresh members : List Tree) → UnaryRead ts rest around nodes t → found amp_in rest ≡ Some (at, more)
     → OneMore nodes behind → fresh ≡ [] → members ≡ fresh ++ t ∷ [] → ConjunctionSoFar ts more around behind members at

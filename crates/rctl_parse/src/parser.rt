@@ -1,6 +1,7 @@
 //! Formulas, by recursive descent. No call goes deeper than the levels of a formula, since each
 //! level that opens is counted.
 
+ghost use Rattle.rctl_grammar.specs.FirstFault.{too_many_at};
 ghost use Rattle.rctl_grammar.specs.Grammar.{path_word, spelled, tok};
 ghost use Rattle.rctl_grammar.specs.Machine.{no_sign};
 ghost use Rattle.rctl_grammar.specs.declared.token.Kind.TheVariants.{OpenRound};
@@ -14,7 +15,8 @@ ghost use Rattle.rctl_parse.specs.inside.Parts.{ConjunctionRead, FormulaFails, F
 ghost use Rattle.rctl_parse.specs.inside.Prefixes.{IsPrefix, prefix_tree};
 ghost use Rattle.rctl_parse.specs.Reading.{Faults};
 ghost use Rattle.run_model.specs.Run.{Name as Bytes};
-ghost use Rattle.std.specs.Prelude.{◌≡◌, ◌∷◌, ◌<◌, length, Bool, IfOk, MatchResult};
+ghost use Rattle.std.specs.Prelude.{◌≡◌, ◌∷◌, ◌++◌, [], ◌+◌, ◌<◌, ◌≤◌, length, Bool, IfOk};
+ghost use Rattle.std.specs.Prelude.{MatchResult};
 
 use crate::around::{Around, Stop, refused_here};
 use crate::leaf::{comparison, emptiness, place, place_of, transit, watch};
@@ -248,8 +250,41 @@ fn enclosed<'a>(
         (λ stop. Faults stop (λ f. EnclosedFault symbol tokens.now inside f)) }
 {
     let Part { tree, nodes, rest } = formula(alloc, tokens, inside)?;
-    let (_, rest) = wanted(rest, inside.end, symbol)?;
-    Ok(Part { tree, nodes, rest })
+    match wanted(rest, inside.end, symbol) {
+        Ok((_, rest)) => Ok(Part { tree, nodes, rest }),
+        Err(stop) => {
+            drop(tree);
+            Err(stop)
+        }
+    }
+}
+
+// The members with one more behind them.
+fn with_member(mut members: List<Tree>, tree: Tree) -> Result<List<Tree>, NoMemory>
+    ensures { IfOk result (λ all. all ≡ members ++ tree ∷ []) }
+{
+    match members.push(tree) {
+        Ok(()) => Ok(members),
+        Err(full) => {
+            drop(members);
+            Err(full)
+        }
+    }
+}
+
+// The first member alone, and the nodes up to that of the members, whose place is `at`.
+fn begun(alloc: Global, first: Tree, behind: Around, at: u32) -> Result<(List<Tree>, u32), Stop>
+    ensures { MatchResult result
+        (λ x. (x.0 ≡ first ∷ []) × ((behind.nodes < 64) × (x.1 ≡ behind.nodes + 1)))
+        (λ stop. Faults stop (λ f. (64 ≤ behind.nodes) × (f ≡ too_many_at at))) }
+{
+    match behind.counted(at) {
+        Ok(Around { nodes, .. }) => Ok((with_member(List::new(alloc), first)?, nodes)),
+        Err(stop) => {
+            drop(first);
+            Err(stop)
+        }
+    }
 }
 
 #[cycle(parser)]
@@ -261,16 +296,22 @@ fn conjunction<'a>(alloc: Global, tokens: &'a [Token], around: Around) -> Result
     let Some((at, mut more)) = after(first.rest, Symbol::Amp) else {
         return Ok(first);
     };
-    let mut members = List::new(alloc);
-    members.push(first.tree)?;
-    let Around { mut nodes, .. } = around.at_nodes(first.nodes).counted(at)?;
+    let behind = around.at_nodes(first.nodes);
+    let (mut members, mut nodes) = begun(alloc, first.tree, behind, at)?;
     'members: loop {
+        let part = match unary(alloc, more, around.at_nodes(nodes)) {
+            Ok(part) => part,
+            Err(stop) => {
+                drop(members);
+                return Err(stop);
+            }
+        };
         let Part {
             tree,
             nodes: total,
             rest,
-        } = unary(alloc, more, around.at_nodes(nodes))?;
-        members.push(tree)?;
+        } = part;
+        members = with_member(members, tree)?;
         nodes = total;
         match after(rest, Symbol::Amp) {
             Some((_, behind)) => more = behind,
@@ -292,16 +333,22 @@ pub fn formula<'a>(alloc: Global, tokens: &'a [Token], around: Around) -> Result
     let Some((at, mut more)) = after(first.rest, Symbol::Bar) else {
         return Ok(first);
     };
-    let mut members = List::new(alloc);
-    members.push(first.tree)?;
-    let Around { mut nodes, .. } = around.at_nodes(first.nodes).counted(at)?;
+    let behind = around.at_nodes(first.nodes);
+    let (mut members, mut nodes) = begun(alloc, first.tree, behind, at)?;
     'members: loop {
+        let part = match conjunction(alloc, more, around.at_nodes(nodes)) {
+            Ok(part) => part,
+            Err(stop) => {
+                drop(members);
+                return Err(stop);
+            }
+        };
         let Part {
             tree,
             nodes: total,
             rest,
-        } = conjunction(alloc, more, around.at_nodes(nodes))?;
-        members.push(tree)?;
+        } = part;
+        members = with_member(members, tree)?;
         nodes = total;
         match after(rest, Symbol::Bar) {
             Some((_, behind)) => more = behind,

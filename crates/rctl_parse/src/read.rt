@@ -33,7 +33,10 @@ fn formula_of(alloc: Global, tokens: &[Token], end: End) -> Result<Formula, Stop
     let Part { tree, rest, .. } = formula(alloc, tokens, around)?;
     match (rest, end) {
         ([], End::Ends(_)) => Ok(Formula { tree }),
-        _ => Err(refused_here(rest, end)),
+        _ => {
+            drop(tree);
+            Err(refused_here(rest, end))
+        }
     }
 }
 

@@ -1,9 +1,9 @@
 use Rattle.std.proofs.Common.{◌≡◌, refl, inl}
 use Rattle.rctl_grammar.specs.declared.token.Kind.TheVariants as kind
 use Rattle.rctl_grammar.specs.Grammar.{tok, spelled, word_of}
-use Rattle.rctl_grammar.specs.FirstFault.{too_deep_at, too_many_at}
+use Rattle.rctl_grammar.specs.FirstFault.{too_deep_at}
 use Rattle.rctl_parse.specs.inside.Parts.{UnaryFault}
-use Rattle.rctl_parse.proofs.LeafSteps.{passes_on, stops_with}
+use Rattle.rctl_parse.proofs.LeafSteps.{for_fault, passes_on, stops_with}
 use Rattle.rctl_parse.proofs.PartSteps.{group_bound}
 use Rattle.rctl_parse.proofs.MemberSteps.{counted_over, one_more, conjunction_one, conjunction_fault, conjunction_bound, conjunction_init, conjunction_stops, conjunction_turn, conjunction_ends, formula_one, formula_fault, formula_bound, formula_init, formula_stops, formula_turn, formula_ends}
 use Rattle.rctl_parse.proofs.CycleSteps.{enclosed_read, unclosed_read, at_tokens, at_word, word_of_operator, nothing_opens, prefixed_whole, prefixed_bound, prefixed_fault, group_answer, left_side, left_stops, both_sides, right_stops, until_whole}
@@ -78,12 +78,11 @@ until-returns t c = λ name other. until_whole _ _ _ _ _ _ _ _ _ _ _ c.in_ok-lef
 pub enclosed-returns-in_err-tree : goal.enclosed-returns-in_err-tree
 enclosed-returns-in_err-tree t c = passes_on _ _ _ c.in_err-tree.field-0.0 _ _ c.from_residual.ensures.1 (λ y same. same) c.in_err-tree.ensures (λ f bad. inl bad)
 
-pub enclosed-returns-in_err-rest : goal.enclosed-returns-in_err-rest
-enclosed-returns-in_err-rest t c = passes_on _ _ _ c.in_err-rest.field-0.0 _ _ c.from_residual-in_err-rest.ensures.1 (λ y same. same) c.in_err-rest.ensures
-    (λ f miss. unclosed_read _ _ _ _ _ _ f c.in_ok-tree.ensures miss)
+pub enclosed-returns-in-Ok : goal.enclosed-returns-in-Ok
+enclosed-returns-in-Ok t c = enclosed_read _ _ _ _ _ _ _ _ c.in_ok-tree.ensures c.in-Ok.ensures
 
-pub enclosed-returns : goal.enclosed-returns
-enclosed-returns t c = enclosed_read _ _ _ _ _ _ _ _ c.in_ok-tree.ensures c.in_ok-rest.ensures
+pub enclosed-returns-in-Err : goal.enclosed-returns-in-Err
+enclosed-returns-in-Err t c = for_fault c.in-Err.stop (λ f miss. unclosed_read _ _ _ _ _ _ f c.in_ok-tree.ensures miss) c.in-Err.ensures
 
 pub conjunction-returns-in_err-first : goal.conjunction-returns-in_err-first
 conjunction-returns-in_err-first t c = passes_on _ _ _ c.in_err-first.field-0.0 _ _ c.from_residual.ensures.1 (λ y same. same) c.in_err-first.ensures (λ f bad. conjunction_fault _ _ f bad)
@@ -91,23 +90,21 @@ conjunction-returns-in_err-first t c = passes_on _ _ _ c.in_err-first.field-0.0 
 pub conjunction-returns-in_default : goal.conjunction-returns-in_default
 conjunction-returns-in_default t c = conjunction_one _ _ _ _ _ c.in_ok-first.ensures c.in_default.ensures
 
-pub conjunction-returns-in_err-nodes : goal.conjunction-returns-in_err-nodes
-conjunction-returns-in_err-nodes t c = passes_on (λ f. f ≡ too_many_at c.in-Some.at) _ _ c.in_err-nodes.field-0.0 _ _ c.from_residual-in_err-nodes.ensures.1 (λ y same. same)
-    (stops_with (λ f. f ≡ too_many_at c.in-Some.at) c.in_err-nodes.field-0.0 _ c.in_err-nodes.ensures.1 refl)
-    (λ f same. conjunction_bound _ _ _ _ _ _ _ f c.in_ok-first.ensures c.in-Some.ensures (counted_over c.at_nodes.result c.args.around _ c.at_nodes.ensures c.in_err-nodes.ensures.0) same)
+pub conjunction-returns-in_err-members : goal.conjunction-returns-in_err-members
+conjunction-returns-in_err-members t c = passes_on _ _ _ c.in_err-members.field-0.0 _ _ c.from_residual-in_err-members.ensures.1 (λ y same. same) c.in_err-members.ensures
+    (λ f bound. conjunction_bound _ _ _ _ _ _ _ f c.in_ok-first.ensures c.in-Some.ensures (counted_over c.at_nodes-behind.result c.args.around _ c.at_nodes-behind.ensures bound.0) bound.1)
 
 pub conjunction-members-init : goal.conjunction-members-init
-conjunction-members-init t c = conjunction_init _ _ _ _ _ _ _ _ _ _ c.in_ok-first.ensures c.in-Some.ensures (one_more c.at_nodes.result c.in_ok-nodes.field-0 c.args.around _ c.at_nodes.ensures c.in_ok-nodes.ensures) c.new-members.ensures c.in_ok-push.ensures.ok
+conjunction-members-init t c = conjunction_init _ _ _ _ _ _ _ _ _ _ c.in_ok-first.ensures c.in-Some.ensures (one_more c.at_nodes-behind.result c.args.around _ _ c.at_nodes-behind.ensures c.in_ok-members.ensures.1) refl c.in_ok-members.ensures.0
 
-pub conjunction-returns-in_err-tree : goal.conjunction-returns-in_err-tree
-conjunction-returns-in_err-tree t c = passes_on _ _ _ c.in_err-tree.field-0.0 _ _ c.from_residual-in_err-tree.ensures.1 (λ y same. same) c.in_err-tree.ensures
-    (λ f bad. conjunction_stops _ _ _ _ _ _ _ f c.members.invariant c.at_nodes-in-members.ensures bad)
+pub conjunction-returns-in-Err : goal.conjunction-returns-in-Err
+conjunction-returns-in-Err t c = for_fault c.in-Err.stop (λ f bad. conjunction_stops _ _ _ _ _ _ _ f c.members.invariant c.at_nodes.ensures bad) c.in-Err.ensures
 
 pub conjunction-members-preserved : goal.conjunction-members-preserved
-conjunction-members-preserved t c = conjunction_turn _ _ _ _ _ _ _ _ _ _ _ _ _ c.members.invariant c.at_nodes-in-members.ensures c.in_ok-tree.ensures c.in_ok-push-2.ensures.ok c.in-Some-after.ensures
+conjunction-members-preserved t c = conjunction_turn _ _ _ _ _ _ _ _ _ _ _ _ _ c.members.invariant c.at_nodes.ensures c.in-Ok.ensures c.in_ok-members-2.ensures c.in-Some-after.ensures
 
 pub conjunction-returns-in-None : goal.conjunction-returns-in-None
-conjunction-returns-in-None t c = conjunction_ends _ _ _ _ _ _ _ _ _ _ _ c.members.invariant c.at_nodes-in-members.ensures c.in_ok-tree.ensures c.in_ok-push-2.ensures.ok c.in-None.ensures
+conjunction-returns-in-None t c = conjunction_ends _ _ _ _ _ _ _ _ _ _ _ c.members.invariant c.at_nodes.ensures c.in-Ok.ensures c.in_ok-members-2.ensures c.in-None.ensures
 
 pub formula-returns-in_err-first : goal.formula-returns-in_err-first
 formula-returns-in_err-first t c = passes_on _ _ _ c.in_err-first.field-0.0 _ _ c.from_residual.ensures.1 (λ y same. same) c.in_err-first.ensures (λ f bad. formula_fault _ _ f bad)
@@ -115,20 +112,18 @@ formula-returns-in_err-first t c = passes_on _ _ _ c.in_err-first.field-0.0 _ _ 
 pub formula-returns-in_default : goal.formula-returns-in_default
 formula-returns-in_default t c = formula_one _ _ _ _ _ c.in_ok-first.ensures c.in_default.ensures
 
-pub formula-returns-in_err-nodes : goal.formula-returns-in_err-nodes
-formula-returns-in_err-nodes t c = passes_on (λ f. f ≡ too_many_at c.in-Some.at) _ _ c.in_err-nodes.field-0.0 _ _ c.from_residual-in_err-nodes.ensures.1 (λ y same. same)
-    (stops_with (λ f. f ≡ too_many_at c.in-Some.at) c.in_err-nodes.field-0.0 _ c.in_err-nodes.ensures.1 refl)
-    (λ f same. formula_bound _ _ _ _ _ _ _ f c.in_ok-first.ensures c.in-Some.ensures (counted_over c.at_nodes.result c.args.around _ c.at_nodes.ensures c.in_err-nodes.ensures.0) same)
+pub formula-returns-in_err-members : goal.formula-returns-in_err-members
+formula-returns-in_err-members t c = passes_on _ _ _ c.in_err-members.field-0.0 _ _ c.from_residual-in_err-members.ensures.1 (λ y same. same) c.in_err-members.ensures
+    (λ f bound. formula_bound _ _ _ _ _ _ _ f c.in_ok-first.ensures c.in-Some.ensures (counted_over c.at_nodes-behind.result c.args.around _ c.at_nodes-behind.ensures bound.0) bound.1)
 
 pub formula-members-init : goal.formula-members-init
-formula-members-init t c = formula_init _ _ _ _ _ _ _ _ _ _ c.in_ok-first.ensures c.in-Some.ensures (one_more c.at_nodes.result c.in_ok-nodes.field-0 c.args.around _ c.at_nodes.ensures c.in_ok-nodes.ensures) c.new-members.ensures c.in_ok-push.ensures.ok
+formula-members-init t c = formula_init _ _ _ _ _ _ _ _ _ _ c.in_ok-first.ensures c.in-Some.ensures (one_more c.at_nodes-behind.result c.args.around _ _ c.at_nodes-behind.ensures c.in_ok-members.ensures.1) refl c.in_ok-members.ensures.0
 
-pub formula-returns-in_err-tree : goal.formula-returns-in_err-tree
-formula-returns-in_err-tree t c = passes_on _ _ _ c.in_err-tree.field-0.0 _ _ c.from_residual-in_err-tree.ensures.1 (λ y same. same) c.in_err-tree.ensures
-    (λ f bad. formula_stops _ _ _ _ _ _ _ f c.members.invariant c.at_nodes-in-members.ensures bad)
+pub formula-returns-in-Err : goal.formula-returns-in-Err
+formula-returns-in-Err t c = for_fault c.in-Err.stop (λ f bad. formula_stops _ _ _ _ _ _ _ f c.members.invariant c.at_nodes.ensures bad) c.in-Err.ensures
 
 pub formula-members-preserved : goal.formula-members-preserved
-formula-members-preserved t c = formula_turn _ _ _ _ _ _ _ _ _ _ _ _ _ c.members.invariant c.at_nodes-in-members.ensures c.in_ok-tree.ensures c.in_ok-push-2.ensures.ok c.in-Some-after.ensures
+formula-members-preserved t c = formula_turn _ _ _ _ _ _ _ _ _ _ _ _ _ c.members.invariant c.at_nodes.ensures c.in-Ok.ensures c.in_ok-members-2.ensures c.in-Some-after.ensures
 
 pub formula-returns-in-None : goal.formula-returns-in-None
-formula-returns-in-None t c = formula_ends _ _ _ _ _ _ _ _ _ _ _ c.members.invariant c.at_nodes-in-members.ensures c.in_ok-tree.ensures c.in_ok-push-2.ensures.ok c.in-None.ensures
+formula-returns-in-None t c = formula_ends _ _ _ _ _ _ _ _ _ _ _ c.members.invariant c.at_nodes.ensures c.in-Ok.ensures c.in_ok-members-2.ensures c.in-None.ensures
