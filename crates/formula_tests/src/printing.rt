@@ -72,7 +72,10 @@ fn possibly_one(alloc: Global, members: List<Tree>) -> Result<Formula, NoMemory>
 }
 
 fn printed(alloc: Global) -> Result<Bytes, NoMemory> {
-    print(alloc, &possibly_one(alloc, members(alloc)?)?)
+    let formula = possibly_one(alloc, members(alloc)?)?;
+    let text = print(alloc, &formula);
+    drop(formula);
+    text
 }
 
 #[test]

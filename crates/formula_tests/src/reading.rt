@@ -15,7 +15,11 @@ fn printed(
     read: Result<Formula, Refused<FormulaFault>>,
 ) -> Result<Option<Bytes>, NoMemory> {
     match read {
-        Ok(formula) => shown(alloc, &formula),
+        Ok(formula) => {
+            let text = shown(alloc, &formula);
+            drop(formula);
+            text
+        }
         Err(Refused::Fault(_)) => Ok(None),
         Err(Refused::NoMemory) => Err(NoMemory),
     }

@@ -23,7 +23,9 @@ fn reads_back(alloc: Global, formula: &Formula) -> Result<bool, NoMemory>
     requires { WasRead formula.now.tree }
 {
     let again = read_back(alloc, formula)?;
-    prints_so(alloc, &again)
+    let same = prints_so(alloc, &again);
+    drop(again);
+    same
 }
 
 fn reads_back_short(alloc: Global, formula: &Formula) -> Result<bool, NoMemory>
@@ -31,20 +33,28 @@ fn reads_back_short(alloc: Global, formula: &Formula) -> Result<bool, NoMemory>
 {
     match read_back_short(alloc, formula)? {
         None => Ok(false),
-        Some(again) => prints_so(alloc, &again),
+        Some(again) => {
+            let same = prints_so(alloc, &again);
+            drop(again);
+            same
+        }
     }
 }
 
 #[test]
 fn a_printed_formula_is_read_back(rt: HostRuntime) -> Result<(), Fail> {
     let formula = read(rt.alloc())?;
-    assert!(rt; reads_back(rt.alloc(), &formula)?);
+    let same = reads_back(rt.alloc(), &formula);
+    drop(formula);
+    assert!(rt; same?);
     Ok(())
 }
 
 #[test]
 fn a_short_formula_is_read_back(rt: HostRuntime) -> Result<(), Fail> {
     let formula = read(rt.alloc())?;
-    assert!(rt; reads_back_short(rt.alloc(), &formula)?);
+    let same = reads_back_short(rt.alloc(), &formula);
+    drop(formula);
+    assert!(rt; same?);
     Ok(())
 }
