@@ -76,13 +76,28 @@ fn told_of<L: Ledger>(
     requires parts { blank.parts ≡ L.parts }
     requires some { 0 < blank.parts }
 {
-    let mut formula = List::new(alloc);
-    formula.extend_from_slice(b"formula true")?;
-    let verifier = Verifier::new(alloc, formula, Rows { left: 2 });
     let (front, rest) = bytes.split_at(first.min(bytes.len()));
     let mut source = MemSource::new(alloc, rest, most.max(1), &[])?;
-    let mut steps = Steps::<L>::new(blank);
-    read_certificate(alloc, verifier, front, &mut source, &mut steps)
+    told_by::<L>(blank, alloc, front, &mut source)
+}
+
+// What is told of the bytes, which come one by one, and the byte that comes next.
+fn told_and_next<L: Ledger>(
+    blank: Blank,
+    alloc: Global,
+    bytes: &[u8],
+) -> Result<(Told, Option<u8>), NoMemory>
+    requires name { blank.name ≡ L.name }
+    requires parts { blank.parts ≡ L.parts }
+    requires some { 0 < blank.parts }
+{
+    let mut source = MemSource::new(alloc, bytes, 1, &[])?;
+    let told = told_by::<L>(blank, alloc, b"", &mut source)?;
+    let mut next = [0; 1];
+    match source.read(&mut next) {
+        Ok(1) => Ok((told, Some(next[0]))),
+        _ => Ok((told, None)),
+    }
 }
 
 /// Bytes, and what is told of them.
@@ -138,11 +153,9 @@ fn certificates_come_in_any_pieces(rt: HostRuntime) -> Result<(), Fail> {
 
 #[test]
 fn nothing_is_read_behind_a_refused_line(rt: HostRuntime) -> Result<(), Fail> {
-    let mut source = MemSource::new(rt.alloc(), b"pota-cert 1\nfalse\nrow", 1, &[])?;
-    let told = told_by::<Brand>(Blank::new(1), rt.alloc(), b"", &mut source)?;
+    let bytes = b"pota-cert 1\nfalse\nrow";
+    let (told, next) = told_and_next::<Brand>(Blank::new(1), rt.alloc(), bytes)?;
     assert!(rt; told == Told::Refused(2));
-    let mut into = [0; 1];
-    assert!(rt; matches!(source.read(&mut into), Ok(1)));
-    assert!(rt; &into == b"r");
+    assert!(rt; next == Some(b'r'));
     Ok(())
 }
