@@ -73,7 +73,7 @@ pub fn read_lengths(alloc: Global, procs: usize, line: &[u8]) -> Result<Option<C
 fn text_of(alloc: Global, formula: &Formula, text: &[u8]) -> Result<Option<Bytes>, NoMemory>
     ensures { IfOk result (λ found. found
         ≡ (if bytes_eq (canonical (shape_of formula.now.tree)) text.now then Some text.now
-            else None)) }
+        else None)) }
 {
     let printed = print(alloc, formula)?;
     if printed.as_slice() == text {
