@@ -1,5 +1,5 @@
 -- The numbers of names in a header are those in the run of its log.
-use Rattle.std.proofs.Common.{◌≡◌, ℕ, ◌+◌, ◌<◌, ◌≤◌, false, List, [], ◌∷◌, length, map, get_or, refl, sym, ap, ◌∙◌, arith, inl, inr}
+use Rattle.std.proofs.Common.{◌≡◌, ℕ, ◌+◌, false, List, [], ◌∷◌, length, map, refl, sym, ap, ◌∙◌, arith, inl, inr}
 use Rattle.std.specs.Prelude.{Option, None, Some, unwrap_or}
 use Rattle.std.specs.Str.{bytes_eq}
 use Rattle.std.proofs.lemmas.Bool.{cases_Bool, cases_lt}
@@ -7,17 +7,15 @@ use Rattle.std.proofs.lemmas.Slice.Eq.{bytes_eq-Decides}
 use Rattle.log_lines.specs.Names.{place_from, place_of}
 use Rattle.std.proofs.lemmas.List.{length-map, get_or_past}
 use Rattle.run_model.specs.Run as run
-use Rattle.kept_runs.specs.Kept as kept
 use Rattle.kept_runs.specs.Kept.{process_number, variable_number}
 use Rattle.event_log.specs.declared.log.Binding.{Binding}
 use Rattle.event_log.specs.declared.log.Log.{Log}
-use Rattle.event_log.specs.Numbers.{binding_names, variables_at}
+use Rattle.event_log.specs.Numbers.{binding_names}
 use Rattle.event_log.specs.States.{states_of, trace_of_log}
 use Rattle.event_log.proofs.NameNumbers.{place_is, names_are, variables_are}
 use Rattle.kept_log.specs.declared.names.Pair.{Pair}
 use Rattle.kept_log.specs.declared.names.Names.{Names}
 use Rattle.kept_log.specs.declared.names.Second.TheVariants as second
-use Rattle.kept_log.specs.declared.numbers.Ends.{Ends}
 use Rattle.kept_log.specs.Named.{pair_of, names_of}
 use Rattle.kept_log.specs.inside.Numbered.{process_in, variable_in, ends_in, numbers_in}
 use Rattle.kept_log.proofs.ByNumbers.{variable_ends, channel_ends, numbers_of}

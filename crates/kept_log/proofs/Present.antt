@@ -1,9 +1,9 @@
 -- The clocks of a log without a fault count only events that are there.
-use Rattle.std.proofs.Common.{◌≡◌, ℕ, ◌≤◌, List, [], ◌∷◌, length, map, sym, ap, ◌∙◌, subst, arith}
+use Rattle.std.proofs.Common.{◌≡◌, ℕ, List, [], ◌∷◌, length, sym, ap, ◌∙◌, subst, arith}
 use Rattle.std.specs.Prelude.{None}
 use Rattle.std.specs.List.{AllByRecursion}
 use Rattle.std.proofs.lemmas.List.{length-map}
-use Rattle.run_model.specs.Cut.{Clocks, count, lengths}
+use Rattle.run_model.specs.Cut.{count, lengths}
 use Rattle.run_model.specs.Run as run
 use Rattle.causal_order.proofs.Growing.{count-lengths}
 use Rattle.event_log.specs.declared.item.LogCode.{LogCode}

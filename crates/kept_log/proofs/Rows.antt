@@ -20,7 +20,7 @@ use Rattle.clock_laws.proofs.Own.{of_process, of_here, of_other, own_added}
 use Rattle.kept_log.specs.declared.numbers.Numbers.{Numbers}
 use Rattle.kept_log.specs.declared.counts.Row.{Row}
 use Rattle.kept_log.specs.inside.Numbered as by
-use Rattle.kept_log.specs.inside.Counted.{first_row, row_counted, row_with, row_with_all, counts_of, all_counts, count_at}
+use Rattle.kept_log.specs.inside.Counted.{first_row, row_counted, row_with, row_with_all, counts_of, all_counts}
 use Rattle.kept_log.proofs.Folded.{log_events}
 use Rattle.kept_log.proofs.Messages.{process_events}
 use Rattle.kept_log.proofs.ByNumbers.{numbers_of, kept_same}

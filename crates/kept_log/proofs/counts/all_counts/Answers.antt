@@ -1,4 +1,3 @@
-use Rattle.std.proofs.Common.{◌≡◌}
 use Rattle.clock_laws.specs.Joined.{as_one}
 use Rattle.kept_log.proofs.Rows.{counts_none, counts_more}
 use Rattle.kept_log.proofs.counts.all_counts.Goals as goal

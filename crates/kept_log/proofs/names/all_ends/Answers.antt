@@ -1,4 +1,3 @@
-use Rattle.std.proofs.Common.{◌≡◌}
 use Rattle.kept_log.specs.inside.Numbered.{ends_in}
 use Rattle.kept_log.proofs.Steps.{map_more}
 use Rattle.kept_log.proofs.names.all_ends.Goals as goal

@@ -1,4 +1,3 @@
-use Rattle.std.proofs.Common.{◌≡◌}
 use Rattle.kept_log.proofs.InHeader.{place_or_len}
 use Rattle.kept_log.proofs.names.process_number.Goals as goal
 

@@ -1,4 +1,4 @@
-use Rattle.std.proofs.Common.{◌≡◌, take, sym, ap, arith}
+use Rattle.std.proofs.Common.{take, sym, ap, arith}
 use Rattle.kept_log.specs.declared.counts.Row.{Row}
 use Rattle.kept_log.proofs.Rows.{row_more, kept_within, row_none}
 use Rattle.kept_log.proofs.Steps.{length_taken}
