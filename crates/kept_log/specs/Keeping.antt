@@ -6,8 +6,8 @@ use Rattle.event_log.specs.LogText.{event_count}
 use Rattle.vector_clock.specs.Events.{AllFit}
 use Rattle.vector_clock.specs.Faults.{log_fault}
 
--- a log with a list of variables for each process, each clock written, and no fault of its clocks and
--- messages
+-- a log with a list of variables for each process, each clock written, and no fault of its clocks
+-- and messages
 pub record CanBeKept (log : Log) : Type 0 where
   pub vars : length log.header.vars ≡ length log.header.procs
   pub clocks : AllFit (length log.header.procs) log.batches

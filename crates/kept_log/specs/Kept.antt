@@ -14,8 +14,8 @@ use Rattle.clock_laws.specs.Joined.{as_one}
 abbrev pub is_kept_here : Trace → Names → Event → Bool
 is_kept_here trace names e = is_kept trace names e.process (event_of e)
 
--- an event as it is kept: its line and its assignments stay, its clock counts kept events, and it is
--- internal where its channel is not named
+-- an event as it is kept: its line and its assignments stay, its clock counts kept events, and it
+-- is internal where its channel is not named
 abbrev pub kept_here : Trace → Names → Event → Event
 kept_here trace names e =
     record e {
