@@ -1,0 +1,12 @@
+pub mod Folded
+pub mod Sound
+pub mod Messages
+pub mod Faults
+pub mod Fits
+pub mod ByNumbers
+pub mod Counted
+pub mod Rows
+pub mod Present
+pub mod InHeader
+pub mod Steps
+pub mod Whole

@@ -1,0 +1,79 @@
+-- What is named, by numbers of processes and variables.
+use Rattle.std.specs.Prelude.{ℕ, Bool, false, ◌&&◌, ◌||◌, ◌==◌, List, map}
+use Rattle.std.specs.List.{list_any}
+use Rattle.run_model.specs.Run.{Name, number_of}
+use Rattle.event_log.specs.declared.log.Assign.{Assign}
+use Rattle.event_log.specs.declared.log.Kind.{Kind}
+use Rattle.event_log.specs.declared.log.Kind.TheVariants as kind
+use Rattle.event_log.specs.declared.log.Event.{Event}
+use Rattle.event_log.specs.declared.log.Header.{Header}
+use Rattle.event_log.specs.Numbers.{binding_names, variables_at}
+use Rattle.kept_log.specs.declared.names.Pair.{Pair}
+use Rattle.kept_log.specs.declared.names.Names.{Names}
+use Rattle.kept_log.specs.declared.names.Second.{Second}
+use Rattle.kept_log.specs.declared.names.Second.TheVariants as second
+use Rattle.kept_log.specs.declared.numbers.Ends.{Ends}
+use Rattle.kept_log.specs.declared.numbers.Numbers.{Numbers}
+
+-- ---- names to numbers
+
+abbrev pub process_in : Header → Name → ℕ
+process_in header name = number_of name header.procs
+
+abbrev pub variable_in : Header → ℕ → Name → ℕ
+variable_in header process name = number_of name (binding_names (variables_at header.vars process))
+
+-- the number of the second name, behind that of the first
+abbrev pub second_in : Header → Second → ℕ → Name → ℕ
+second_in header second.Variable first name = variable_in header first name
+second_in header second.Receiver first name = process_in header name
+
+abbrev pub ends_in : Header → Second → Pair → Ends
+ends_in header kind x = record {
+  first = process_in header x.first;
+  second = second_in header kind (process_in header x.first) x.second;
+}
+
+abbrev pub numbers_in : Header → Names → Numbers
+numbers_in header names = record {
+  variables = map (ends_in header second.Variable) names.variables;
+  channels = map (ends_in header second.Receiver) names.channels;
+  processes = map (process_in header) names.processes;
+}
+
+-- ---- which events are kept
+
+abbrev pub is_send_to : ℕ → Kind → Bool
+is_send_to q kind.Internal = false
+is_send_to q (kind.Send to id) = to == q
+is_send_to q (kind.Receive sender id) = false
+
+abbrev pub is_receipt_from : ℕ → Kind → Bool
+is_receipt_from p kind.Internal = false
+is_receipt_from p (kind.Send to id) = false
+is_receipt_from p (kind.Receive sender id) = sender == p
+
+abbrev pub is_among : List Assign → ℕ → Bool
+is_among assigns variable = list_any (λ (a : Assign). a.variable == variable) assigns
+
+abbrev pub assigns_to : Event → Ends → Bool
+assigns_to e x = (x.first == e.process) && is_among e.assigns x.second
+
+abbrev pub is_on : Event → Ends → Bool
+is_on e x =
+    ((x.first == e.process) && is_send_to x.second e.kind)
+    || ((x.second == e.process) && is_receipt_from x.first e.kind)
+
+-- the event sends or receives on a named channel
+abbrev pub is_open : Numbers → Event → Bool
+is_open numbers e = list_any (is_on e) numbers.channels
+
+abbrev pub is_assigned : Numbers → Event → Bool
+is_assigned numbers e = list_any (assigns_to e) numbers.variables
+
+abbrev pub is_whole : Numbers → ℕ → Bool
+is_whole numbers process = list_any (λ p. p == process) numbers.processes
+
+-- the event is kept
+abbrev pub is_kept : Numbers → Event → Bool
+is_kept numbers e = (is_assigned numbers e || is_open numbers e) || is_whole numbers e.process

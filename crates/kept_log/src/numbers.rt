@@ -1,0 +1,102 @@
+//! What is named, by numbers of processes and variables.
+
+ghost use Rattle.std.specs.Prelude.{◌≡◌};
+ghost use Rattle.kept_log.specs.inside.Numbered.{assigns_to, is_on, is_open, is_kept, is_send_to};
+ghost use Rattle.kept_log.specs.inside.Numbered.{is_among, is_assigned, is_whole};
+ghost use Rattle.kept_log.specs.inside.Numbered.{is_receipt_from};
+
+use event_log::{Assign, Event, Kind};
+use pota_base::List;
+
+/// A variable by its process and its number there, or a channel by its sender and its receiver.
+#[derive(Clone, Copy, Debug)]
+pub struct Ends {
+    pub first: usize,
+    pub second: usize,
+}
+
+/// The variables and channels that are named, and the processes that are named as wholes.
+#[derive(Debug, Drop)]
+pub struct Numbers {
+    pub variables: List<Ends>,
+    pub channels: List<Ends>,
+    pub processes: List<usize>,
+}
+
+fn is_send_to(receiver: usize, kind: Kind) -> bool
+    ensures { result ≡ is_send_to receiver kind }
+{
+    match kind {
+        Kind::Internal => false,
+        Kind::Send { to, .. } => to as usize == receiver,
+        Kind::Receive { .. } => false,
+    }
+}
+
+fn is_receipt_from(from: usize, kind: Kind) -> bool
+    ensures { result ≡ is_receipt_from from kind }
+{
+    match kind {
+        Kind::Internal => false,
+        Kind::Send { .. } => false,
+        Kind::Receive { sender, .. } => sender as usize == from,
+    }
+}
+
+fn is_among(assigns: &[Assign], variable: usize) -> bool
+    ensures { result ≡ is_among assigns.now variable }
+{
+    assigns
+        .iter()
+        .any(|assign| assign.variable as usize == variable)
+}
+
+fn assigns_to(event: &Event, variable: Ends) -> bool
+    ensures { result ≡ assigns_to event.now variable }
+{
+    variable.first == event.process as usize && is_among(event.assigns.as_slice(), variable.second)
+}
+
+fn is_on(event: &Event, channel: Ends) -> bool
+    ensures { result ≡ is_on event.now channel }
+{
+    (channel.first == event.process as usize && is_send_to(channel.second, event.kind))
+        || (channel.second == event.process as usize && is_receipt_from(channel.first, event.kind))
+}
+
+impl Numbers {
+    /// Whether the event sends or receives on a named channel.
+    pub fn is_open(&self, event: &Event) -> bool
+        ensures { result ≡ is_open self.now event.now }
+    {
+        self.channels
+            .as_slice()
+            .iter()
+            .any(|channel| is_on(event, *channel))
+    }
+
+    fn is_assigned(&self, event: &Event) -> bool
+        ensures { result ≡ is_assigned self.now event.now }
+    {
+        self.variables
+            .as_slice()
+            .iter()
+            .any(|variable| assigns_to(event, *variable))
+    }
+
+    fn is_whole(&self, process: usize) -> bool
+        ensures { result ≡ is_whole self.now process }
+    {
+        self.processes
+            .as_slice()
+            .iter()
+            .any(|whole| *whole == process)
+    }
+
+    /// Whether the event is kept.
+    pub fn is_kept(&self, event: &Event) -> bool
+        ensures { result ≡ is_kept self.now event.now }
+    {
+        self.is_assigned(event) || self.is_open(event) || self.is_whole(event.process as usize)
+    }
+}
