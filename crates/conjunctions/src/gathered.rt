@@ -16,7 +16,7 @@ use crate::kinds::{are_atoms, give_order};
 use causal_order::Order;
 use pota_base::{List, NoMemory, Shape};
 use pull_fans::Fan;
-use pull_system::{Floor, Pull};
+use pull_system::{Floor, Pull, Rows};
 use rctl_parts::Part;
 use slice_graph::{Slice, order_rows};
 use std::alloc::Global;
@@ -32,7 +32,7 @@ pub struct Asked {
 }
 
 /// What the parts so far ask of cuts. Contracts see the pulls, those of the order first where the
-/// conjunction begins with them, the floor, and whether one slice asks alone.
+/// conjunction begins with them, the floor, and the rows of a slice that asks alone.
 #[derive(Drop)]
 pub struct Gathered {
     /// The order of the trace, for contracts alone.
@@ -44,8 +44,10 @@ pub struct Gathered {
     /// Rows from which the conjunction may begin: the clocks, or the rows of the first slice of an
     /// operator.
     floor: Option<Floor>,
-    /// Whether one slice asks alone, so that these rows, its own, are the least already.
-    alone: bool,
+    /// Whether the conjunction has one part, so that the slice of an operator asks alone.
+    is_lone: bool,
+    /// The rows of a slice that asks alone: they are its pulls' own.
+    own: Option<Rows>,
 }
 
 impl Model for Gathered {
@@ -60,7 +62,7 @@ impl Model for Gathered {
       order = gathered.order.value;
       pulls = first_pulls gathered.order.value gathered.has_order ++ pulls_of_fans gathered.fans;
       floor = gathered.floor;
-      alone = gathered.alone;
+      own = gathered.own;
     } };
 }
 
@@ -85,7 +87,8 @@ impl Gathered {
             has_order,
             fans: List::new(alloc),
             floor,
-            alone: false,
+            is_lone: parts.len() == 1,
+            own: None,
         })
     }
 
@@ -100,10 +103,10 @@ impl Gathered {
         ensures pulls { OnOk result (self.new.pulls ≡ self.old.pulls ++ added.now) }
         ensures order { self.new.order ≡ self.old.order }
         ensures floor { self.new.floor ≡ self.old.floor }
-        ensures alone { self.new.alone ≡ false }
+        ensures own { self.new.own ≡ None }
     {
         let _procs = shape.procs();
-        self.alone = false;
+        self.own = None;
         for pull in added {
             self.fans.push(Fan::of_pull(alloc, pull)?)?;
         }
@@ -111,7 +114,7 @@ impl Gathered {
     }
 
     /// Puts the pulls of an operator's slice behind the others, and keeps the rows of the first such
-    /// slice. Where nothing was asked before, the slice asks alone.
+    /// slice: as its own where it asks alone, and else as a floor.
     pub fn add_slice(&mut self, alloc: Global, slice: &Slice) -> Result<(), NoMemory>
         ensures order { self.new.order ≡ self.old.order }
         ensures pulls { OnOk result (self.new.pulls ≡ self.old.pulls ++ pulls_of_slice slice.now) }
@@ -120,9 +123,12 @@ impl Gathered {
         ensures rows { HasAllRows slice.now }
     {
         let _shape = slice.shape();
-        let alone = self.asks_nothing();
+        let is_alone = self.is_lone && self.asks_nothing();
         self.add_fans(slice.fans(alloc)?)?;
-        self.alone = alone;
+        if is_alone {
+            self.own = Some(slice.narrow_rows(alloc)?);
+            return Ok(());
+        }
         if self.floor.is_none() {
             self.floor = Some(slice.rows(alloc)?);
         }
@@ -134,9 +140,9 @@ impl Gathered {
         ensures pulls { OnOk result (self.new.pulls ≡ self.old.pulls ++ pulls_of_fans added) }
         ensures order { self.new.order ≡ self.old.order }
         ensures floor { self.new.floor ≡ self.old.floor }
-        ensures alone { self.new.alone ≡ false }
+        ensures own { self.new.own ≡ None }
     {
-        self.alone = false;
+        self.own = None;
         for fan in added.into_vec() {
             self.fans.push(fan)?;
         }
@@ -151,26 +157,21 @@ impl Gathered {
         self.has_order && self.floor.is_none() && self.fans.is_empty()
     }
 
-    /// Whether one slice asks alone.
-    pub fn is_alone(&self) -> bool
-        ensures { result ≡ self.now.alone }
-    {
-        self.alone
-    }
-
-    /// What is asked, and the floor.
-    pub fn into_asked(self) -> (Asked, Option<Floor>)
+    /// What is asked, the floor, and the rows of a slice that asks alone.
+    pub fn into_asked(self) -> (Asked, Option<Floor>, Option<Rows>)
         ensures pulls { self.pulls ≡ asked_pulls self.order result.0 }
         ensures floor { result.1 ≡ self.floor }
+        ensures own { result.2 ≡ self.own }
     {
         let Gathered {
             order,
             has_order,
             fans,
             floor,
-            alone: _,
+            is_lone: _,
+            own,
         } = self;
         drop(order);
-        (Asked { has_order, fans }, floor)
+        (Asked { has_order, fans }, floor, own)
     }
 }

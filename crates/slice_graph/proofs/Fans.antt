@@ -11,8 +11,8 @@ use Rattle.pull_system.specs.declared.pull.Pull.{Pull}
 use Rattle.pull_fans.specs.Fans.{FanView, pull_of_fan, pulls_of_fan, pulls_of_fans, AreTables}
 use Rattle.run_model.specs.Cut.{Clocks, count, lengths}
 use Rattle.run_model.specs.Consistent.{IsOrder}
-use Rattle.slice_graph.specs.Views.{SliceView, HasAllRows, slice_of, last_row}
-use Rattle.slice_graph.specs.Words.{past_ends, row_words}
+use Rattle.slice_graph.specs.Views.{SliceView, HasAllRows, no_row, slice_of, last_row}
+use Rattle.slice_graph.specs.Words.{filled, past_ends, row_words}
 use Rattle.slice_graph.specs.PullLists.{past_count}
 use Rattle.slice_graph.specs.inside.PullLists.{other}
 use Rattle.slice_graph.proofs.Words.{filled_most, past_ends_most}
@@ -108,6 +108,10 @@ order_row_small o order few i x there row is k = elim (cases_lt k (length row)) 
 pub slice_row_small : (v : SliceView) → HasAllRows v → (i x : ℕ) (row : List ℕ) → row ≡ row_words v i x → (k : ℕ) → get_or row k 0 < 2 ^ 16
 slice_row_small v rows i x row is k =
     omega (arith, ap (λ (r : List ℕ). get_or r k 0) is, filled_most v.lens (last_row (slice_of v) i x) (last_is_row v rows i x) k, count_few v.lens rows.cuts.shape.events k)
+
+pub kept_row_small : (v : SliceView) → HasAllRows v → (kept : ℕ) (row : List ℕ) → row ≡ filled v.lens (get_or v.rows kept no_row) → (k : ℕ) → get_or row k 0 < 2 ^ 16
+kept_row_small v rows kept row is k =
+    omega (arith, ap (λ (r : List ℕ). get_or r k 0) is, filled_most v.lens (get_or v.rows kept no_row) (rows.cuts.each kept) k, count_few v.lens rows.cuts.shape.events k)
 
 pub past_row_small : (lens : List ℕ) → sum lens ≤ 50000 → (row : List ℕ) → row ≡ past_ends lens → (k : ℕ) → get_or row k 0 < 2 ^ 16
 past_row_small lens few row is k = omega (arith, ap (λ (r : List ℕ). get_or r k 0) is, past_ends_most lens k, count_few lens few k)

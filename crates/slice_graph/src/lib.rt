@@ -18,6 +18,7 @@ mod edges;
 mod from_rows;
 mod growing;
 mod laws;
+mod narrow_rows;
 mod order_pulls_of;
 mod slice;
 mod slice_pulls;

@@ -5,35 +5,44 @@ use Rattle.run_model.specs.Cut.{Clocks, lengths}
 use Rattle.pull_system.specs.declared.pull.Pull.{Pull}
 use Rattle.pull_system.specs.System.{SystemView}
 use Rattle.pull_system.specs.Vector.{IsAtMost}
-use Rattle.pull_system.specs.Rows.{RowsView, AreLeastRows, IsLeast, row_at, starts}
+use Rattle.pull_system.specs.Rows.{RowsView, IsLeast, row_at, starts}
 use Rattle.pull_system.specs.Growth.{grown_words}
 use Rattle.slice_graph.specs.PullLists.{pulls_of_order}
 use Rattle.slice_graph.specs.Starting.{AreWithinClosed}
+use Rattle.raise_machine.specs.Bounds.{AreBounds}
+use Rattle.bound_table.specs.Firm.{AreOwnRows}
+use Rattle.bound_table.specs.Views.{TableView, SeatView}
+use Rattle.slice_workers.specs.Calls.{TakesBehind}
+use Rattle.conjunctions.specs.Counting.{steps_for}
 
 -- what the parts so far ask of cuts, behind the order's pulls where these come first, the clocks of
--- that order, where there are some, rows to begin from, and whether one operator's slice alone asks
+-- that order, where there are some, rows to begin from, and the rows of a slice that asks alone
 pub record GatheredView : Type 0 where
   pub order : Clocks
   pub pulls : List Pull
   pub floor : Option RowsView
-  pub alone : Bool
+  pub own : Option RowsView
 
 -- rows of these lengths, from which a table of the pulls may begin
 pub record MayBeginFrom (lens : List ℕ) (pulls : List Pull) (rows : RowsView) : Type 0 where
   pub shape : rows.lens ≡ lens
   pub within : AreWithinClosed lens pulls rows.words
 
--- where rows are kept, a table of the pulls may begin from them, and where one temporal part asks
--- alone they are the least rows of its pulls
+-- rows from which a table of the pulls may begin, and which are the pulls' own
+pub record AreRowsOf (lens : List ℕ) (pulls : List Pull) (rows : RowsView) : Type 0 where
+  pub begins : MayBeginFrom lens pulls rows
+  pub own : AreOwnRows (record { lens = lens; pulls = pulls }) rows.words
+
+-- where rows are kept, a table of the pulls may begin from them, and the rows of a slice that asks
+-- alone are those of its pulls
 pub record FloorFits (lens : List ℕ) (gathered : GatheredView) : Type 0 where
   pub begins : IfSome gathered.floor (MayBeginFrom lens gathered.pulls)
-  pub least : gathered.alone ≡ true → IfSome gathered.floor
-      (λ rows. AreLeastRows (record { lens = lens; pulls = gathered.pulls }) rows.words)
+  pub own : IfSome gathered.own (AreRowsOf lens gathered.pulls)
 
 -- the rows to begin from are as before, and no slice asks alone
 pub record KeepsFloor (old new : GatheredView) : Type 0 where
   pub floor_is : new.floor ≡ old.floor
-  pub others : new.alone ≡ false
+  pub others : new.own ≡ None
 
 -- the first pulls are those of the order
 pub record BeginsWithOrder (o : Clocks) (pulls : List Pull) : Type 0 where
@@ -74,27 +83,17 @@ abbrev pub FinalsOfAtoms : Option RowsView → List ℕ → Type 0
 FinalsOfAtoms None finals = AreNone finals
 FinalsOfAtoms (Some rows) finals = HaveCuts rows finals
 
--- where one slice asks alone, all rows that were gathered may be final, and else none
-abbrev pub GatheredFinals : List ℕ → Bool → List ℕ → Type 0
-GatheredFinals lens false finals = AreNone finals
-GatheredFinals lens true finals = AreWithin lens finals
-
--- which rows of another conjunction are final where it begins
-abbrev pub FinalsOfOthers : List ℕ → Option RowsView → Bool → List ℕ → Type 0
-FinalsOfOthers lens None alone finals = AreNone finals
-FinalsOfOthers lens (Some rows) alone finals = GatheredFinals lens alone finals
-
 -- where a conjunction of atoms begins, and which first rows are final there
 pub record AtomsBegin (lens : List ℕ) (pulls : List Pull) (before : Option RowsView)
     (words finals : List ℕ) : Type 0 where
   pub rows : BeginsAtoms lens pulls before words
   pub firsts : FinalsOfAtoms before finals
 
--- where another conjunction begins, and which first rows are final there
-pub record OthersBegin (lens : List ℕ) (gathered : Option RowsView) (alone : Bool)
-    (words finals : List ℕ) : Type 0 where
+-- where another conjunction begins: none of its first rows are final there
+pub record OthersBegin (lens : List ℕ) (gathered : Option RowsView) (words finals : List ℕ)
+    : Type 0 where
   pub rows : BeginsOthers lens gathered words
-  pub firsts : FinalsOfOthers lens gathered alone finals
+  pub firsts : AreNone finals
 
 -- Whether the bottom's row is final where a conjunction begins, with the look-ups that this took:
 -- only a conjunction of atoms that has no rows of before looks for it.
@@ -106,3 +105,14 @@ pub record FindsBottom (system : SystemView) (keeps : Bool) (before : Option Row
   pub least : bottom ≡ true → IsLeast system 0 (row_at system.lens words 0)
   pub looks : bottom ≡ true → steps_now
       ≤ steps + length system.pulls * (1 + sum (row_at system.lens words 0))
+
+-- A table of the system and its first seat, from which a conjunction begins. What settling takes
+-- behind its firm rows, with what finding these took, is within what the conjunction may take.
+pub record BeginsTable (system : SystemView) (keeps : Bool) (before : Option RowsView)
+    (table : TableView) (seat : SeatView) (steps steps_now : ℕ) : Type 0 where
+  pub system_is : table.system ≡ system
+  pub seat_is : seat.table ≡ table
+  pub looks : (rows : RowsView) (new : SeatView) (last : ℕ) → rows.words ≡ new.floor
+      → IsAtMost seat.floor new.floor → AreBounds system new.floor
+      → TakesBehind system table.firm seat new steps_now last
+      → last ≤ steps + steps_for (length system.pulls) keeps system.lens before rows

@@ -30,7 +30,7 @@ returns-clause-floor c =
     let told = c.in_ok-add_fans.ensures in
     IfOk-weaker c.has_first.result _ _
     (λ truth first.
-    floor_more (lengths o) c.args.gathered.now c.add_fans.new.self (pulls_of_fans c.in_ok-ex_fans.field-0) told.pulls told.floor (λ is. let e : false ≡ true = sym told.alone ∙ is in absurd (cc)) c.requires.floor)
+    floor_more (lengths o) c.args.gathered.now c.add_fans.new.self (pulls_of_fans c.in_ok-ex_fans.field-0) told.pulls told.floor told.own c.requires.floor)
     (c.has_first.ensures o c.requires.fits)
 
 pub returns-clause-truth : goal.returns-clause-truth

@@ -4,9 +4,10 @@ use Rattle.pull_system.specs.Vector.{IsAtMost}
 use Rattle.pull_system.specs.System.{SystemView}
 use Rattle.bound_table.proofs.Allowed.{bounds_along}
 use Rattle.slice_workers.specs.inside.Reaching.{CanSettle}
-use Rattle.slice_workers.specs.Reaching.{AreFinal}
+use Rattle.bound_table.specs.Firm.{AreFinal}
 use Rattle.slice_workers.specs.inside.Keeping.{AreKept, TakesBottom}
-use Rattle.slice_workers.proofs.Reached.{final_more, reached_more, settled_row}
+use Rattle.slice_workers.proofs.Reached.{reached_more, settled_row}
+use Rattle.bound_table.proofs.Own.{final_more}
 use Rattle.slice_workers.proofs.Appended.{counts_none, counts_next, counts_risen, counts_takes, kept_none, kept_push, sum_next}
 use Rattle.slice_workers.proofs.alone.settle_in_order.Goals as goal
 

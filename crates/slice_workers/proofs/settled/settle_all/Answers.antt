@@ -1,28 +1,34 @@
-use Rattle.std.proofs.Common.{rules, arith, ap, sym, refl, ◌≡◌, ◌≤◌, ◌∙◌, length, subst}
-use Rattle.std.proofs.Math.Nat.{mul-le-mul_left}
-use Rattle.slice_workers.proofs.Passes.{sum-left}
+use Rattle.std.proofs.Common.{arith, sym, ap, subst, ℕ, List}
 use Rattle.pull_system.specs.System.{SystemView}
-use Rattle.slice_workers.specs.Reaching.{FinalsView, HasReachedFinals}
-use Rattle.slice_workers.specs.Calls.{TakesBehind}
-use Rattle.slice_workers.proofs.Reached.{zeros, none_final, length-zeros, get_or-zeros}
+use Rattle.pull_system.specs.Rows.{AreLeastRows}
+use Rattle.slice_workers.proofs.Reached.{all_least, all_more}
+use Rattle.slice_workers.proofs.Passes.{takes_all}
 use Rattle.slice_workers.proofs.settled.settle_all.Goals as goal
 
-pub settle_behind-requires-clause-finals : goal.settle_behind-requires-clause-finals
-settle_behind-requires-clause-finals g c κs within =
-    let system : SystemView = c.args.table.now.system in
-    let lens : c.shape.result.now ≡ system.lens = c.shape.ensures.shape ∙ ap (λ s. s.lens) c.system.ensures in
-    let few : length c.shape.result.now ≤ 32 = search rules in
-    let P : FinalsView → Type 0 = HasReachedFinals system c.args.seat.now.floor in
-    subst P (sym c.new-none.ensures) (record {
-      firsts = none_final system _ (zeros (length c.shape.result.now) 32) (length-zeros (length c.shape.result.now) 32 few ∙ ap length lens) (get_or-zeros (length c.shape.result.now) 32);
-      bottom = λ final. absurd (cc);
-    })
+pub returns-in_err-settle_rows-clause-takes : goal.returns-in_err-settle_rows-clause-takes
+returns-in_err-settle_rows-clause-takes g c = λ one. absurd (omega (arith, one, c.if-workers-eq1.false))
+
+pub returns-in_err-settle_rows-clause-behind : goal.returns-in_err-settle_rows-clause-behind
+returns-in_err-settle_rows-clause-behind g c = λ one. absurd (omega (arith, one, c.if-workers-eq1.false))
+
+pub returns-in_err-rows-clause-takes : goal.returns-in_err-rows-clause-takes
+returns-in_err-rows-clause-takes g c = λ one. absurd (omega (arith, one, c.if-workers-eq1.false))
+
+pub returns-in_err-rows-clause-behind : goal.returns-in_err-rows-clause-behind
+returns-in_err-rows-clause-behind g c = λ one. absurd (omega (arith, one, c.if-workers-eq1.false))
 
 pub returns-clause-takes : goal.returns-clause-takes
-returns-clause-takes g c = λ one.
+returns-clause-takes g c = λ one. absurd (omega (arith, one, c.if-workers-eq1.false))
+
+pub returns-clause-behind : goal.returns-clause-behind
+returns-clause-behind g c = λ one. absurd (omega (arith, one, c.if-workers-eq1.false))
+
+pub returns-clause-settled : goal.returns-clause-settled
+returns-clause-settled g c =
     let system : SystemView = c.args.table.now.system in
-    let P : FinalsView → Type 0 = λ finals. TakesBehind system finals c.args.seat.now c.settle_behind.new.seat c.args.steps.now c.settle_behind.new.steps in
-    let takes = (subst P c.new-none.ensures (c.settle_behind.ensures.takes one)).all refl in record {
-      looks = takes.looks;
-      rises_paid = omega (arith, takes.rises_paid, mul-le-mul_left (length system.pulls) (sum-left system.lens (zeros (length c.shape.result.now) 32)));
+    let least = all_least system _ c.floors.ensures.bounds (all_more system _ _ c.floors.ensures.rises c.in_ok-settle_rows.ensures.reaches) in
+    let P : List ℕ → Type 0 = AreLeastRows system in record {
+      lens = ap (λ r. r.lens) c.in_ok-rows.ensures.rows;
+      least = subst P (sym (ap (λ r. r.words) c.in_ok-rows.ensures.rows)) least;
+      floor = ap (λ r. r.words) c.in_ok-rows.ensures.rows;
     }

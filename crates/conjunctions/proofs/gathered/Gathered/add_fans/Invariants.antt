@@ -1,4 +1,4 @@
-use Rattle.std.proofs.Common.{◌≡◌, ◌++◌, false}
+use Rattle.std.proofs.Common.{◌≡◌, ◌++◌, None}
 use Rattle.pull_fans.specs.Fans.{pulls_of_fans}
 use Rattle.conjunctions.proofs.gathered.Gathered.add_fans.Given as goal
 
@@ -8,5 +8,5 @@ invariant-loop-fan l = record {
   order : l.self-inside.order ≡ l.initial.self-inside.order;
   first : l.self-inside.has_order ≡ l.initial.self-inside.has_order;
   floor : l.self-inside.floor ≡ l.initial.self-inside.floor;
-  alone : l.self-inside.alone ≡ false;
+  own : l.self-inside.own ≡ None;
 }
