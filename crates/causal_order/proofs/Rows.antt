@@ -1,5 +1,5 @@
 -- Rows of one width that stand one behind the other.
-use Rattle.std.proofs.Common.{◌≡◌, ℕ, zero, suc, ◌+◌, ◌-◌, ◌*◌, ◌<◌, ◌≤◌, List, [], ◌∷◌, ◌++◌, length, take, drop, get_or, refl, sym, ap, ◌∙◌, arith}
+use Rattle.std.proofs.Common.{◌≡◌, ℕ, zero, suc, ◌+◌, ◌-◌, ◌*◌, ◌<◌, ◌≤◌, List, [], ◌∷◌, ◌++◌, length, take, drop, get_or, refl, sym, ap, ◌∙◌, subst, arith}
 use Rattle.std.proofs.Math.Nat.{mul-le-mul_right}
 use Rattle.std.proofs.lemmas.List.{take_all, take-take, length-drop, length-take, take-append-le, drop-append-le, drop-drop, drop-take}
 use Rattle.run_model.specs.Cut.{Cut}
@@ -30,7 +30,22 @@ rows_push width (suc n) counts row h k =
     ap (λ (r : List ℕ). r ∷ rows_of width (suc n) (drop width (counts ++ row))) (take-append-le width counts row fits)
     ∙ ap (λ (rs : List Cut). take width counts ∷ rs) (ap (rows_of width (suc n)) (drop-append-le width counts row fits) ∙ rows_push width n (drop width counts) row rest k)
 
-rows_take : (width len n : ℕ) (counts : List ℕ) → len ≤ n → rows_of width len (take (len * width) counts) ≡ take len (rows_of width n counts)
+-- the rows of two pieces, one behind the other
+pub rows_append : (width n m : ℕ) (counts more : List ℕ) → length counts ≡ n * width → rows_of width (n + m) (counts ++ more) ≡ rows_of width n counts ++ rows_of width m more
+unfolding rows_of
+rows_append width zero m [] more h =
+    let none : zero + m ≡ m = omega arith in
+    ap (λ (k : ℕ). rows_of width k more) none
+rows_append width zero m (x ∷ counts) more h = absurd (omega arith)
+rows_append width (suc n) m counts more h =
+    let fits : width ≤ length counts = omega arith in
+    let rest : length (drop width counts) ≡ n * width = omega (arith, length-drop width counts) in
+    let one : suc n + m ≡ suc (n + m) = omega arith in
+    ap (λ (k : ℕ). rows_of width k (counts ++ more)) one
+    ∙ ap (λ (r : List ℕ). r ∷ rows_of width (n + m) (drop width (counts ++ more))) (take-append-le width counts more fits)
+    ∙ ap (λ (rs : List Cut). take width counts ∷ rs) (ap (rows_of width (n + m)) (drop-append-le width counts more fits) ∙ rows_append width n m (drop width counts) more rest)
+
+pub rows_take : (width len n : ℕ) (counts : List ℕ) → len ≤ n → rows_of width len (take (len * width) counts) ≡ take len (rows_of width n counts)
 unfolding rows_of
 rows_take width zero n counts h = refl
 rows_take width (suc len) zero counts h = absurd (omega arith)
@@ -98,3 +113,10 @@ cut_to width len n counts b is le =
 
 pub rows_are : (width len : ℕ) (counts : List ℕ) (b : BlockView) → view_of width len counts ≡ b → length b.rows ≡ len
 rows_are width len counts b is = sym (ap (λ (x : BlockView). length x.rows) is) ∙ length-rows_of width len counts
+
+pub all_counts : (width len : ℕ) (counts : List ℕ) (b : BlockView) → view_of width len counts ≡ b → length counts ≡ len * width
+    → (rows_of b.width (length b.rows) counts ≡ b.rows) × (length counts ≡ length b.rows * b.width)
+all_counts width len counts b is size = subst (λ (x : BlockView). (rows_of x.width (length x.rows) counts ≡ x.rows) × (length counts ≡ length x.rows * x.width)) is (
+  ap (λ (n : ℕ). rows_of width n counts) (length-rows_of width len counts),
+  size ∙ ap (λ (n : ℕ). n * width) (sym (length-rows_of width len counts)),
+)

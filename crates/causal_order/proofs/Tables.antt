@@ -1,10 +1,10 @@
 -- Blocks of clocks, one for each process.
-use Rattle.std.proofs.Common.{◌≡◌, ℕ, zero, suc, ◌-◌, ◌<◌, ◌≤◌, List, [], ◌∷◌, ◌++◌, length, map, take, get_or, set, sum, replicate, refl, sym, ap, ◌∙◌, subst, arith, inl, inr}
+use Rattle.std.proofs.Common.{◌≡◌, ℕ, zero, suc, ◌-◌, ◌*◌, ◌<◌, ◌≤◌, List, [], ◌∷◌, ◌++◌, length, map, take, get_or, set, sum, replicate, refl, sym, ap, ◌∙◌, subst, arith, inl, inr}
 use Rattle.std.proofs.lemmas.Bool.{cases_eq}
 use Rattle.std.proofs.lemmas.List.{length-set, length-map, map-set, get_or-set_same, get_or-set_other, get_or-replicate, length-replicate, take_all}
 use Rattle.run_model.specs.Cut.{Cut, Clocks, lengths}
 use Rattle.run_model.specs.Consistent.{clock}
-use Rattle.causal_order.specs.Blocks.{BlockView, AreWide, clocks_in, no_rows}
+use Rattle.causal_order.specs.Blocks.{BlockView, AreWide, AreClocksOf, clocks_in, no_rows, rows_of}
 use Rattle.causal_order.specs.Growth.{with_row}
 use Rattle.causal_order.proofs.Growing.{count-lengths, item_le_sum}
 
@@ -33,6 +33,13 @@ pub block_width : (bs : List BlockView) (o : Clocks) (p : ℕ) (b : BlockView) �
 block_width bs o p b is wide lt at =
     let count = count_is bs o is in
     ap (λ (x : BlockView). x.width) (block_is bs p b (omega (arith, count)) at) ∙ wide p (omega (arith, count)) ∙ count
+
+pub clocks_are : (o : Clocks) (p : ℕ) (b : BlockView) (counts : List ℕ) → rows_of b.width (length b.rows) counts ≡ b.rows → length counts ≡ length b.rows * b.width
+    → b.rows ≡ get_or o p [] → b.width ≡ length o → AreClocksOf o p counts
+clocks_are o p b counts rows size is wide = record {
+  size = size ∙ ap (λ (rs : List Cut). length rs * b.width) is ∙ ap (λ (w : ℕ). length (get_or o p []) * w) wide;
+  rows = ap (λ (w : ℕ). rows_of w (length (get_or o p [])) counts) (sym wide) ∙ ap (λ (rs : List Cut). rows_of b.width (length rs) counts) (sym is) ∙ rows ∙ is;
+}
 
 pub clock_is : (o : Clocks) (p position : ℕ) (rows : List Cut) (row : Cut) → 0 < position → row ≡ get_or rows (position - 1) [] → rows ≡ get_or o p [] → row ≡ clock o p position
 unfolding clock

@@ -1,5 +1,5 @@
 -- What the code keeps of the clocks: one block for each process, in which row stands behind row.
-use Rattle.std.specs.Prelude.{◌≡◌, ℕ, zero, suc, ◌<◌, List, [], ◌∷◌, length, map, take, drop}
+use Rattle.std.specs.Prelude.{◌≡◌, ℕ, zero, suc, ◌*◌, ◌<◌, List, [], ◌∷◌, length, map, take, drop}
 use Rattle.std.specs.Prelude.{get_or}
 use Rattle.pota_base.specs.Shape.{IsShape}
 use Rattle.run_model.specs.Cut.{Cut, Clocks, lengths}
@@ -24,6 +24,12 @@ clocks_in blocks = map (λ (b : BlockView). b.rows) blocks
 -- each block is as wide as there are processes
 abbrev pub AreWide : List BlockView → Type 0
 AreWide blocks = (p : ℕ) → p < length blocks → (get_or blocks p no_rows).width ≡ length blocks
+
+-- the counts are the clocks of a process, one clock behind the other
+pub record AreClocksOf (clocks : Clocks) (process : ℕ) (counts : List ℕ) : Type 0 where
+  pub size : length counts ≡ length (get_or clocks process []) * length clocks
+  pub rows : rows_of (length clocks) (length (get_or clocks process [])) counts
+      ≡ get_or clocks process []
 
 -- the fields of an order fit each other, and its clocks are those of an order
 pub record AreOrdered (shape : List ℕ) (clocks : Clocks) : Type 0 where

@@ -1,7 +1,7 @@
 //! The vector clocks of one process.
-ghost use Rattle.std.specs.Prelude.{◌≡◌, ◌-◌, ◌<◌, ◌≤◌, [], ◌∷◌, ◌++◌, length, take, get_or, OnOk};
-ghost use Rattle.std.specs.Prelude.{OnErr};
-ghost use Rattle.causal_order.specs.Blocks.{BlockView};
+ghost use Rattle.std.specs.Prelude.{◌≡◌, ◌-◌, ◌*◌, ◌<◌, ◌≤◌, [], ◌∷◌, ◌++◌, length, take, get_or};
+ghost use Rattle.std.specs.Prelude.{OnOk, OnErr};
+ghost use Rattle.causal_order.specs.Blocks.{BlockView, rows_of};
 
 use pota_base::NoMemory;
 use std::alloc::Global;
@@ -58,6 +58,14 @@ impl Block {
     {
         let start = (position - 1) * self.width;
         &self.counts[start..start + self.width]
+    }
+
+    /// The counts of all clocks, one clock behind the other.
+    pub fn counts(&self) -> &[u32]
+        ensures rows { rows_of self.now.width (length self.now.rows) result.now ≡ self.now.rows }
+        ensures size { length result.now ≡ length self.now.rows * self.now.width }
+    {
+        self.counts.as_slice()
     }
 
     /// Takes room for so many more clocks at once.

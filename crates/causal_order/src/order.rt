@@ -6,6 +6,7 @@ ghost use Rattle.run_model.specs.Cut.{Clocks, count, lengths, with_next};
 ghost use Rattle.run_model.specs.Consistent.{IsOrder, IsConsistent, HappenedBefore, clock};
 ghost use Rattle.run_model.specs.Sublattice.{IsLeast, Having};
 ghost use Rattle.pota_base.specs.Shape.{IsShape, HasEvent};
+ghost use Rattle.causal_order.specs.Blocks.{AreClocksOf};
 ghost use Rattle.causal_order.specs.Growth.{HasClock, HasGrown, MayExtend, with_clocks};
 
 use crate::table::ClockTable;
@@ -153,6 +154,14 @@ impl Order {
         ensures width { length result.now ≡ length self.now }
     {
         self.table.clock(event.process, event.position)
+    }
+
+    /// The vector clocks of the events of a process, one behind the other.
+    pub fn clocks_of(&self, process: u32) -> &[u32]
+        requires { process < length self.now }
+        ensures { AreClocksOf self.now process result.now }
+    {
+        self.table.clocks_of(process)
     }
 
     /// Whether the first event happened before the second. It takes no memory.

@@ -5,6 +5,7 @@ ghost use Rattle.std.specs.List.{AllByRecursion};
 ghost use Rattle.run_model.specs.Cut.{lengths};
 ghost use Rattle.run_model.specs.Consistent.{clock};
 ghost use Rattle.event_log.specs.declared.log.Event.{Event};
+ghost use Rattle.causal_order.specs.Blocks.{AreClocksOf};
 ghost use Rattle.causal_order.specs.Growth.{HasClock, HasGrown, with_clocks, with_row};
 
 use crate::block::Block;
@@ -60,6 +61,14 @@ impl ClockTable {
         ensures width { length result.now ≡ length self.now }
     {
         self.blocks[process as usize].row(position as usize)
+    }
+
+    /// The clocks of a process, one behind the other.
+    pub fn clocks_of(&self, process: u32) -> &[u32]
+        requires { process < length self.now }
+        ensures { AreClocksOf self.now process result.now }
+    {
+        self.blocks[process as usize].counts()
     }
 
     /// How many clocks each process has.

@@ -7,12 +7,12 @@ use Rattle.std.proofs.lemmas.List.FromFn.{get_or-map-range_with_len, length-map-
 use Rattle.std.proofs.lemmas.Nat.{mul-add-lt}
 use Rattle.std.proofs.Math.ListN.{get_or-append}
 use Rattle.std.proofs.Math.Nat.{mul-le-mul_left}
-use Rattle.pull_fans.specs.Fans.{FanView, column}
+use Rattle.pull_fans.specs.Fans.{AreOthers, FanView, column}
 use Rattle.pull_fans.specs.declared.layout.Layout.{Layout}
 use Rattle.pull_fans.specs.declared.layout.Layout.TheVariants.{ByTarget, ByProcess}
 use Rattle.pull_fans.specs.inside.Asks.{AreInTurn}
 use Rattle.pull_fans.specs.inside.Fans.{AreEntries, AreFanRows, HasProcessRows, IsAround, IsTarget}
-use Rattle.pull_fans.specs.inside.Layouts.{AreOthers, AreZeroAt, IsLaidOut, place_in, row_in, tables_in}
+use Rattle.pull_fans.specs.inside.Layouts.{AreZeroAt, IsLaidOut, place_in, row_in, tables_in}
 use Rattle.pull_fans.proofs.Fans.{table_at}
 
 lt_or_le : (i n : ℕ) → (i < n) ⊎ (n ≤ i)

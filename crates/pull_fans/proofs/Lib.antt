@@ -2,6 +2,7 @@ pub mod Numbers
 pub mod Fans
 pub mod FirstFans
 pub mod Layouts
+pub mod Blocks
 pub mod LongerFans
 pub mod LoneFans
 pub mod Raising

@@ -1,6 +1,6 @@
 -- The pulls from one process side by side, and the tables that stand in such rows.
-use Rattle.std.specs.Prelude.{◌≡◌, ℕ, ◌+◌, ◌*◌, ◌<◌, List, [], ◌∷◌, ◌++◌, length, get_or, map}
-use Rattle.std.specs.Prelude.{flat_map}
+use Rattle.std.specs.Prelude.{◌≡◌, ℕ, ◌+◌, ◌*◌, ◌<◌, ◌≤◌, List, [], ◌∷◌, ◌++◌, length, get_or, map}
+use Rattle.std.specs.Prelude.{flat_map, slice_index}
 use Rattle.std.specs.List.{range_with_len}
 use Rattle.pull_system.specs.declared.pull.Pull.{Pull}
 
@@ -33,6 +33,21 @@ pub record HasRow (row : List ℕ) (before now : List (List ℕ)) : Type 0 where
   pub size : length now ≡ length before
   pub each : (j : ℕ) → j < length before
       → get_or now j [] ≡ get_or before j [] ++ get_or row j 0 ∷ []
+
+-- the targets are two or more, all processes in turn but the source
+pub record AreOthers (src : ℕ) (targets : List ℕ) : Type 0 where
+  pub some : 2 ≤ length targets
+  pub source : src ≤ length targets
+  pub before : (index : ℕ) → index < src → slice_index targets index ≡ index
+  pub behind : (index : ℕ) → src ≤ index → index < length targets
+      → slice_index targets index ≡ index + 1
+
+-- each table has of so many rows, of one number per process, those of its target more
+pub record HasRows (targets : List ℕ) (procs count : ℕ) (rows : List ℕ)
+    (before now : List (List ℕ)) : Type 0 where
+  pub size : length now ≡ length before
+  pub each : (j : ℕ) → j < length before → get_or now j []
+      ≡ get_or before j [] ++ column procs count rows (slice_index targets j)
 
 -- one table for each process, with its first entries
 pub record AreTables (entry : ℕ → ℕ → ℕ) (procs count : ℕ) (tables : List (List ℕ)) : Type 0 where

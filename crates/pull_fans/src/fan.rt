@@ -2,7 +2,7 @@
 ghost use Rattle.std.specs.Prelude.{◌≡◌, ◌⊎◌, ℕ, ◌+◌, ◌*◌, ◌^◌, ◌<◌, ◌≤◌, [], ◌∷◌, ◌++◌, length};
 ghost use Rattle.std.specs.Prelude.{replicate, slice_index, slice_range, get_or, IfOk, OnOk, OnErr};
 ghost use Rattle.std.specs.Prelude.{IsTrue, IsFalse};
-ghost use Rattle.pull_fans.specs.Fans.{HasRow, pulls_of_fan, pulls_of_fans};
+ghost use Rattle.pull_fans.specs.Fans.{AreOthers, HasRow, HasRows, pulls_of_fan, pulls_of_fans};
 ghost use Rattle.pull_fans.specs.inside.Fans.{entry_of, HasProcessRows, AreFanRows, IsToAll};
 ghost use Rattle.pull_fans.specs.inside.Fans.{IsToOthers};
 ghost use Rattle.pull_fans.specs.inside.Growing.{kept_tables};
@@ -10,7 +10,7 @@ ghost use Rattle.pull_fans.specs.inside.Asks.{AreInTurn, AreRaisedIn, AreRaised}
 ghost use Rattle.pull_system.specs.Vector.{IsMaximum};
 
 use crate::layout::{Layout, layout_of};
-use crate::narrow::push_narrow;
+use crate::narrow::{push_cleared, push_narrow};
 use pota_base::{List, NoMemory};
 use pull_system::Pull;
 use std::alloc::Global;
@@ -85,6 +85,24 @@ impl Fan {
         }
         self.layout.push_row(&mut self.entries, self.src, row)?;
         self.values += 1;
+        Ok(())
+    }
+
+    /// Puts behind each table what so many rows of one number per process have for its target. The
+    /// pulls go to all other processes.
+    pub fn push_rows(&mut self, procs: usize, count: usize, rows: &[u32]) -> Result<(), NoMemory>
+        requires others { AreOthers self.old.src self.old.targets }
+        requires width { length self.old.targets + 1 ≡ procs }
+        requires size { length rows.now ≡ count * procs }
+        requires entries { (i : ℕ) → slice_index rows.now i < 2 ^ 16 }
+        ensures source { self.new.src ≡ self.old.src }
+        ensures targets { self.new.targets ≡ self.old.targets }
+        ensures rows { OnOk result
+            (HasRows self.old.targets procs count rows.now self.old.tables self.new.tables) }
+        ensures err { OnErr result (self.new ≡ self.old) }
+    {
+        push_cleared(&mut self.entries, rows, procs, count, self.src as usize)?;
+        self.values += count;
         Ok(())
     }
 

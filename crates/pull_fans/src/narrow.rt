@@ -1,6 +1,7 @@
 //! Rows of numbers that fit 16 bits, appended to entries.
-ghost use Rattle.std.specs.Prelude.{◌≡◌, ℕ, ◌+◌, ◌^◌, ◌<◌, ◌≤◌, ◌∷◌, ◌++◌, length, take, drop};
-ghost use Rattle.std.specs.Prelude.{slice_index, OnOk, OnErr};
+ghost use Rattle.std.specs.Prelude.{◌≡◌, ℕ, ◌+◌, ◌*◌, ◌^◌, ◌<◌, ◌≤◌, ◌∷◌, ◌++◌, length, take};
+ghost use Rattle.std.specs.Prelude.{drop, slice_index, List as ListOf, OnOk, OnErr};
+ghost use Rattle.pull_fans.specs.inside.Fans.{IsCleared};
 
 use pota_base::NoMemory;
 
@@ -53,4 +54,29 @@ fn narrow_around(row: &[u32], place: usize, places: &mut [u16])
     narrow(&row[..place], &mut places[..place]);
     places[place] = 0;
     narrow(&row[place..], &mut places[place + 1..]);
+}
+
+/// Appends so many rows of numbers that fit 16 bits, with 0 in one column. Without memory for all of
+/// them none is appended.
+pub(crate) fn push_cleared(
+    entries: &mut Vec<u16>,
+    rows: &[u32],
+    width: usize,
+    count: usize,
+    column: usize,
+) -> Result<(), NoMemory>
+    requires column { column < width }
+    requires size { length rows.now ≡ count * width }
+    requires entries { (i : ℕ) → slice_index rows.now i < 2 ^ 16 }
+    ensures ok { OnOk result ((cleared : ListOf ℕ)
+        × (entries.new.items ≡ entries.old.items ++ cleared)
+        × IsCleared width count column rows.now cleared) }
+    ensures err { OnErr result (entries.new.items ≡ entries.old.items) }
+{
+    let begin = entries.len();
+    push_narrow(entries, rows)?;
+    for row in 0..count {
+        entries[begin + row * width + column] = 0;
+    }
+    Ok(())
 }

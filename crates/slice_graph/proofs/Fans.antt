@@ -91,7 +91,7 @@ flat_others i f (suc n) lt =
 
 -- ---- entries of 16 bits
 
-count_few : (lens : List ℕ) → sum lens ≤ 50000 → (j : ℕ) → get_or lens j 0 ≤ 50000
+pub count_few : (lens : List ℕ) → sum lens ≤ 50000 → (j : ℕ) → get_or lens j 0 ≤ 50000
 count_few lens few j = elim (cases_lt j (length lens)) [
   | inl there ↦ omega (arith, few, get_or-le-sum_by (λ (n : ℕ). n) lens j 0 there)
   | inr past ↦ omega (arith, get_or_past lens j 0 past)

@@ -3,6 +3,8 @@ pub mod Events
 pub mod Building
 pub mod Lasts
 pub mod Tops
+pub mod Blocks
+pub mod OrderBlocks
 pub mod Kept
 pub mod Pairs
 pub mod RowByRow

@@ -9,11 +9,13 @@ use Rattle.run_model.specs.Cut.{Cut, Clocks, count, IsWithin, max_cut, lengths}
 use Rattle.run_model.specs.Consistent.{IsOrder, IsEvent}
 use Rattle.run_model.specs.Sublattice.{IsGreatest, Having}
 use Rattle.run_model.specs.Slice.{HasWithin, IsLeastOf, Cuts}
-use Rattle.run_model.proofs.Counts.{within_refl, within_trans, max_left, max_right, max_absorbs, length-lengths}
+use Rattle.std.proofs.lemmas.Grind.{same_number_lists}
+use Rattle.run_model.proofs.Counts.{within_refl, within_trans, max_left, max_right, max_within, max_absorbs, length-lengths, length-max}
 use Rattle.run_model.proofs.SliceLemmas.{cuts_closed, greatest_from_rows}
-use Rattle.slice_graph.specs.Views.{SliceView, slice_of, joined_onto, joined_rows, no_row}
+use Rattle.slice_graph.specs.Views.{SliceView, AreCuts, IsTopOf, slice_of, joined_onto, joined_rows, no_row}
 use Rattle.slice_graph.specs.Fitting.{FitsOrder}
 use Rattle.slice_graph.proofs.Events.{event_of_row}
+use Rattle.slice_graph.proofs.Words.{row_cut}
 
 -- ---- one row after the other
 
@@ -134,3 +136,26 @@ top_there o order v fits t is some = cases (slice_of v).bottom refl
 pub some_top : (k : Option Cut) (t x : Cut) → (k ≡ None → ⊥) → t ≡ x → Some t ≡ option_map (λ _. x) k
 some_top None t x some is = absurd (some refl)
 some_top (Some low) t x some is = ap Some is
+
+-- ---- a maximum that is known
+
+pub top_is : (v : SliceView) (top : Cut) → AreCuts v → IsTopOf v top → top ≡ joined_rows v
+top_is v top cuts is = same_number_lists top (joined_rows v) (is.size ∙ sym wide) (λ i there. omega (arith, least i, most i))
+  where
+    none : Cut
+    none = replicate (length v.lens) 0
+
+    wide : length (joined_onto none v.rows) ≡ length v.lens
+    wide = member_joined (λ c. length c ≡ length v.lens) (λ c d h k. omega (arith, length-max c d, h, k)) none v.rows (length-replicate {A = ℕ} (length v.lens) 0)
+        (λ r c at. (row_cut v cuts r c (sym at)).size)
+
+    most : IsWithin (joined_onto none v.rows) top
+    most = member_joined (λ c. IsWithin c top) (λ c d h k. max_within c d top h k) none v.rows (λ i. omega (arith, zeros (length v.lens) i)) is.above
+
+    least : (i : ℕ) → count top i ≤ count (joined_onto none v.rows) i
+    least i = elim (cases_lt 0 (count top i)) [
+      | inl some ↦
+          let at = is.met i some in
+          omega (arith, at.has, row_joined none v.rows at.row at.cut at.there i)
+      | inr zero ↦ omega (arith, zero)
+    ]

@@ -1,5 +1,5 @@
 -- A slice as code keeps it: the lengths of the processes, and for each row a cut or none.
-use Rattle.std.specs.Prelude.{◌≡◌, ℕ, zero, suc, ◌+◌, ◌<◌, List, [], ◌∷◌, length, get_or, replicate}
+use Rattle.std.specs.Prelude.{◌≡◌, ℕ, zero, suc, ◌+◌, ◌<◌, ◌≤◌, List, [], ◌∷◌, length, get_or, replicate}
 use Rattle.std.specs.Prelude.{sum, take, Option, Some, None}
 use Rattle.pota_base.specs.Shape.{IsShape}
 use Rattle.run_model.specs.Cut.{Cut, count, IsWithin, max_cut}
@@ -60,3 +60,16 @@ joined_onto t (Some c ∷ rows) = joined_onto (max_cut c t) rows
 -- the maximum of the rows that have a cut
 abbrev pub joined_rows : SliceView → Cut
 joined_rows v = joined_onto (replicate (length v.lens) 0) v.rows
+
+-- some row has a cut with so many events of process i
+pub record IsMet (v : SliceView) (i events : ℕ) : Type 0 where
+  pub row : ℕ
+  pub cut : Cut
+  pub there : get_or v.rows row no_row ≡ Some cut
+  pub has : events ≤ count cut i
+
+-- the cut is the maximum of the rows: each lies within it, and each of its counts is met
+pub record IsTopOf (v : SliceView) (top : Cut) : Type 0 where
+  pub size : length top ≡ length v.lens
+  pub above : (row : ℕ) (c : Cut) → get_or v.rows row no_row ≡ Some c → IsWithin c top
+  pub met : (i : ℕ) → 0 < count top i → IsMet v i (count top i)

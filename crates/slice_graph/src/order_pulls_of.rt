@@ -1,6 +1,6 @@
 //! The pulls of the order of a run.
 ghost use Rattle.std.specs.Prelude.{◌≡◌, ℕ, ◌+◌, ◌-◌, ◌*◌, ◌^◌, ◌<◌, ◌≤◌, ◌↔◌, length, map};
-ghost use Rattle.std.specs.Prelude.{flat_map, slice_index, All, IfOk};
+ghost use Rattle.std.specs.Prelude.{flat_map, slice_index, All, IfOk, OnOk};
 ghost use Rattle.std.specs.List.{range_with_len};
 ghost use Rattle.run_model.specs.Cut.{Cut, count, IsWithin, lengths};
 ghost use Rattle.run_model.specs.Consistent.{IsConsistent};
@@ -8,7 +8,7 @@ ghost use Rattle.pull_system.specs.System.{IsPull};
 ghost use Rattle.pull_system.specs.Pulls.{ClosedUnder};
 ghost use Rattle.pull_fans.specs.Fans.{pulls_of_fan, pulls_of_fans};
 ghost use Rattle.slice_graph.specs.PullLists.{past_count, order_pull, pulls_of_order};
-ghost use Rattle.slice_graph.specs.inside.PullLists.{other};
+ghost use Rattle.slice_graph.specs.inside.PullLists.{IsOrderFan, other};
 
 use causal_order::Order;
 use pota_base::{EventId, List, NoMemory};
@@ -55,19 +55,51 @@ fn order_fan(alloc: Global, order: &Order, source: u32) -> Result<Fan, NoMemory>
         ≡ flat_map (order_pull order.now source) (range_with_len 0 (length order.now))) }
 {
     let shape = order.shape();
+    let len = shape.len_of(source);
+    let targets = other_processes(alloc, shape.procs(), source)?;
+    let mut fan = Fan::new(alloc, source, targets, len as usize + 2)?;
+    push_asked(&mut fan, order, source, 0)?;
+    push_clocks(&mut fan, order, source)?;
+    push_asked(&mut fan, order, source, len + 1)?;
+    Ok(fan)
+}
+
+/// Puts behind each table what the clocks of the source's events have of its target.
+fn push_clocks(fan: &mut Fan, order: &Order, source: u32) -> Result<(), NoMemory>
+    requires source { source < length order.now }
+    requires fan { IsOrderFan order.now source 1 fan.old }
+    ensures { OnOk result
+        (IsOrderFan order.now source (count (lengths order.now) source + 1) fan.new) }
+{
+    let shape = order.shape();
+    let procs = shape.procs();
+    let len = shape.len_of(source);
+    if procs > 2 {
+        return fan.push_rows(procs as usize, len as usize, order.clocks_of(source));
+    }
+    for value in 1..len + 1 {
+        push_asked(fan, order, source, value)?;
+    }
+    Ok(())
+}
+
+/// Puts behind each table what the order asks of its target where the source has so many events,
+/// and where it has all of them, past the last one.
+fn push_asked(fan: &mut Fan, order: &Order, source: u32, value: u32) -> Result<(), NoMemory>
+    requires source { source < length order.now }
+    requires value { value ≤ count (lengths order.now) source + 1 }
+    requires fan { IsOrderFan order.now source value fan.old }
+    ensures { OnOk result (IsOrderFan order.now source (value + 1) fan.new) }
+{
+    let shape = order.shape();
     let procs = shape.procs();
     let len = shape.len_of(source);
     let zeros = [0; 32];
     let none = &zeros[..procs as usize];
     let mut room = [0; 32];
     let room = &mut room[..procs as usize - 1];
-    let targets = other_processes(alloc, procs, source)?;
-    let mut fan = Fan::new(alloc, source, targets, len as usize + 2)?;
-    for position in 0..len + 2 {
-        leave_out(past(order, source, position.min(len), none), source, room);
-        fan.push_row(room)?;
-    }
-    Ok(fan)
+    leave_out(past(order, source, value.min(len), none), source, room);
+    fan.push_row(room)
 }
 
 /// All processes but one.

@@ -39,7 +39,7 @@ impl Model for Slice {
 }
 
 impl Slice {
-    ghost use Rattle.slice_graph.specs.Views.{HasAllRows, IsCut, IsRow, HasLasts};
+    ghost use Rattle.slice_graph.specs.Views.{HasAllRows, IsCut, IsRow, IsTopOf, HasLasts};
     ghost use Rattle.slice_graph.specs.Words.{row_words};
     ghost use Rattle.slice_graph.specs.Fitting.{FitsOrder};
 
@@ -52,15 +52,24 @@ impl Slice {
         Ok(Slice { table, top })
     }
 
+    /// The slice of these rows, of which the maximum is known.
+    pub fn with_top(alloc: Global, table: CutTable, top: &[u32]) -> Result<Slice, NoMemory>
+        requires rows { length table.rows ≡ sum table.lens + 1 }
+        requires top { IsTopOf table top.now }
+        ensures { IfOk result (λ slice. slice ≡ table) }
+    {
+        let mut cut = Cut::new(alloc, table.shape().procs())?;
+        set_words(top, &mut cut);
+        Ok(Slice { table, top: cut })
+    }
+
     /// The slice of no cut.
     pub fn empty(alloc: Global, shape: &Shape) -> Result<Slice, NoMemory>
         ensures { IfOk result (λ slice. slice
             ≡ record { lens = shape.now; rows = replicate (sum shape.now + 1) no_row }) }
     {
         let mut table = CutTable::new(alloc, shape)?;
-        for _row in 0..shape.events() + 1 {
-            table.push_none()?;
-        }
+        table.push_nones(shape.events() + 1)?;
         Slice::of(alloc, table)
     }
 

@@ -1,8 +1,9 @@
 //! The rows of a slice in one block of words.
 ghost use Rattle.std.specs.Prelude.{◌≡◌, ◌+◌, ◌<◌, [], ◌∷◌, ◌++◌, Some, None, length, get_or, IfOk};
-ghost use Rattle.std.specs.Prelude.{OnOk, OnErr};
+ghost use Rattle.std.specs.Prelude.{ℕ, ◌*◌, map, replicate, OnOk, OnErr};
 ghost use Rattle.std.specs.Option.{option_copied};
 ghost use Rattle.pota_base.specs.Shape.{IsShape};
+ghost use Rattle.causal_order.specs.Blocks.{rows_of};
 ghost use Rattle.slice_graph.specs.Words.{past_ends, filled};
 ghost use Rattle.slice_graph.specs.Views.{no_row};
 
@@ -130,6 +131,21 @@ impl CutTable {
         Ok(())
     }
 
+    /// Puts so many rows with cuts, which stand one behind the other, behind the others. Without
+    /// memory for them the table is as before.
+    pub fn push_cuts(&mut self, count: usize, cuts: &[u32]) -> Result<(), NoMemory>
+        requires size { length cuts.now ≡ count * length self.old.lens }
+        requires cuts { (row : ℕ) → row < count
+            → IsCut self.old.lens (get_or (rows_of (length self.old.lens) count cuts.now) row []) }
+        ensures ok { OnOk result (self.new ≡ record self.old { rows = self.old.rows
+            ++ map Some (rows_of (length self.old.lens) count cuts.now) }) }
+        ensures err { OnErr result (self.new ≡ self.old) }
+    {
+        self.words.extend_from_slice(cuts)?;
+        self.len += count;
+        Ok(())
+    }
+
     /// Puts a row without a cut behind the others. Without memory for it the table is as before.
     pub fn push_none(&mut self) -> Result<(), NoMemory>
         ensures ok { OnOk result (self.new
@@ -138,6 +154,17 @@ impl CutTable {
     {
         self.words.extend_from_slice(self.absent.as_slice())?;
         self.len += 1;
+        Ok(())
+    }
+
+    /// Puts so many rows without a cut behind the others.
+    pub fn push_nones(&mut self, count: u32) -> Result<(), NoMemory>
+        ensures { OnOk result (self.new
+            ≡ record self.old { rows = self.old.rows ++ replicate count no_row }) }
+    {
+        for _row in 0..count {
+            self.push_none()?;
+        }
         Ok(())
     }
 }

@@ -1,5 +1,6 @@
 pub mod Results
 pub mod Rows
+pub mod Within
 pub mod Asked
 pub mod Shared
 pub mod Sets

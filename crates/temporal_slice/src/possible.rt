@@ -1,18 +1,17 @@
 //! EF: the consistent cuts within the greatest cut.
-ghost use Rattle.std.specs.Prelude.{◌≡◌, ◌↔◌, [], ◌∷◌, ◌++◌, length, IfOk, OnOk};
-ghost use Rattle.pota_base.specs.Shape.{HasEvent};
-ghost use Rattle.run_model.specs.Cut.{Cut as CutOfRun, lengths};
+ghost use Rattle.std.specs.Prelude.{◌≡◌, ◌<◌, ◌≤◌, ◌↔◌, ◌++◌, length, IfOk, OnOk};
+ghost use Rattle.run_model.specs.Cut.{Cut as CutOfRun, count, lengths};
 ghost use Rattle.run_model.specs.Consistent.{IsConsistent};
 ghost use Rattle.run_model.specs.Sublattice.{IsSublattice};
 ghost use Rattle.run_model.specs.Slice.{Cuts, StandsFor};
 ghost use Rattle.run_model.specs.Operators.{SomeTime, whole, lowered};
 ghost use Rattle.slice_graph.specs.Views.{slice_of};
 ghost use Rattle.slice_graph.specs.Fitting.{FitsOrder, Agrees};
+ghost use Rattle.temporal_slice.specs.inside.Operands.{pasts_of};
 
-use crate::cuts::event_at;
 use causal_order::Order;
 use cut_lattice::Cut;
-use pota_base::{EventId, NoMemory};
+use pota_base::NoMemory;
 use slice_graph::{CutTable, Slice};
 use std::alloc::Global;
 
@@ -36,41 +35,39 @@ pub fn ef(alloc: Global, order: &Order, child: &Slice) -> Result<Slice, NoMemory
     }
 }
 
-/// The slice of the consistent cuts within a cut.
+/// The slice of the consistent cuts within a consistent cut.
 fn cuts_within(alloc: Global, order: &Order, top: &[u32]) -> Result<Slice, NoMemory>
-    requires { length top.now ≡ length order.now }
+    requires { IsConsistent order.now top.now }
     ensures { IfOk result (Agrees order.now (lowered (whole order.now) top.now)) }
 {
     let shape = order.shape();
     let mut table = CutTable::new(alloc, shape)?;
     let initial = Cut::new(alloc, shape.procs())?;
     table.push_cut(initial.as_slice())?;
-    for row in 1..shape.events() + 1 {
-        push_past(&mut table, order, event_at(shape, row), top)?;
+    for process in 0..shape.procs() {
+        push_pasts(&mut table, order, process, top[process as usize])?;
     }
-    Slice::of(alloc, table)
+    Slice::with_top(alloc, table, top)
 }
 
-/// Puts the past of the event behind the other rows where the cut has the event, and else a row
-/// without a cut.
-fn push_past(
+/// Puts the pasts of the first so many events of a process behind the other rows, and a row without
+/// a cut for each of its other events.
+fn push_pasts(
     table: &mut CutTable,
     order: &Order,
-    event: EventId,
-    top: &[u32],
+    process: u32,
+    count: u32,
 ) -> Result<(), NoMemory>
     requires lens { table.old.lens ≡ lengths order.now }
-    requires event { HasEvent (lengths order.now) event }
-    requires top { length top.now ≡ length order.now }
+    requires process { process < length order.now }
+    requires count { count ≤ count (lengths order.now) process }
     ensures { OnOk result (table.new ≡ record table.old {
-      rows = table.old.rows
-          ++ (lowered (whole order.now) top.now).row event.process event.position ∷ [];
+      rows = table.old.rows ++ pasts_of order.now process count;
     }) }
 {
-    let _shape = order.shape();
-    if event.position <= top[event.process as usize] {
-        table.push_cut(order.clock(event))
-    } else {
-        table.push_none()
-    }
+    let shape = order.shape();
+    let clocks = order.clocks_of(process);
+    let words = count as usize * shape.procs() as usize;
+    table.push_cuts(count as usize, &clocks[..words])?;
+    table.push_nones(shape.len_of(process) - count)
 }

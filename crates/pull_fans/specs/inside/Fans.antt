@@ -1,8 +1,7 @@
 -- Of the calls inside, which no caller rests on.
 use Rattle.std.specs.Prelude.{◌≡◌, ◌⊎◌, ℕ, ◌+◌, ◌*◌, ◌<◌, ◌≤◌, List, [], length, get_or}
 use Rattle.std.specs.Prelude.{slice_index}
-use Rattle.pull_fans.specs.Fans.{FanView}
-use Rattle.pull_fans.specs.inside.Layouts.{AreOthers}
+use Rattle.pull_fans.specs.Fans.{AreOthers, FanView}
 
 -- so many rows of this width, and none where a row has no entry
 pub record AreEntries (width values : ℕ) (entries : List ℕ) : Type 0 where
@@ -51,3 +50,10 @@ pub record AreFanRows (fan : FanView) (procs count : ℕ) (rows : List ℕ) : Ty
       → slice_index rows (x * procs + slice_index fan.targets index) ≡ entry_of fan index x
   pub none : (x process : ℕ) → x < count → process < procs
       → (slice_index rows (x * procs + process) ≡ 0) ⊎ IsTarget fan process
+
+-- of so many rows one column is 0, and the others are as they were
+pub record IsCleared (width count column : ℕ) (before now : List ℕ) : Type 0 where
+  pub size : length now ≡ length before
+  pub none : (x : ℕ) → x < count → slice_index now (x * width + column) ≡ 0
+  pub others : (x i : ℕ) → i < width → (i ≡ column → ⊥)
+      → slice_index now (x * width + i) ≡ slice_index before (x * width + i)

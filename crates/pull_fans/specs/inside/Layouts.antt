@@ -2,17 +2,9 @@
 use Rattle.std.specs.Prelude.{◌≡◌, ℕ, ◌+◌, ◌*◌, ◌<◌, ◌≤◌, List, ◌∷◌, ◌++◌, length}
 use Rattle.std.specs.Prelude.{take, drop, map, slice_index}
 use Rattle.std.specs.List.{range_with_len}
-use Rattle.pull_fans.specs.Fans.{column}
+use Rattle.pull_fans.specs.Fans.{AreOthers, column}
 use Rattle.pull_fans.specs.declared.layout.Layout.{Layout}
 use Rattle.pull_fans.specs.declared.layout.Layout.TheVariants.{ByTarget, ByProcess}
-
--- the targets are two or more, all processes in turn but the source
-pub record AreOthers (src : ℕ) (targets : List ℕ) : Type 0 where
-  pub some : 2 ≤ length targets
-  pub source : src ≤ length targets
-  pub before : (index : ℕ) → index < src → slice_index targets index ≡ index
-  pub behind : (index : ℕ) → src ≤ index → index < length targets
-      → slice_index targets index ≡ index + 1
 
 -- how many entries a row has
 abbrev pub width_in : Layout → ℕ → ℕ

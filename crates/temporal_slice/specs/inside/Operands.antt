@@ -1,9 +1,10 @@
 -- What the operators read of their operand.
-use Rattle.std.specs.Prelude.{◌≡◌, ℕ, ◌<◌, ◌≤◌, Option, Some, None, length}
-use Rattle.run_model.specs.Cut.{Clocks, count}
+use Rattle.std.specs.Prelude.{◌≡◌, ℕ, ◌-◌, ◌<◌, ◌≤◌, List, [], ◌++◌, Option, Some, None, length, map}
+use Rattle.std.specs.Prelude.{get_or, replicate, take}
+use Rattle.run_model.specs.Cut.{Cut, Clocks, count}
 use Rattle.run_model.specs.Slice.{Slice}
 use Rattle.run_model.specs.Operators.{whole}
-use Rattle.slice_graph.specs.Views.{SliceView, slice_of}
+use Rattle.slice_graph.specs.Views.{SliceView, slice_of, no_row}
 use Rattle.slice_graph.specs.Words.{row_words}
 use Rattle.slice_graph.specs.Fitting.{FitsOrder}
 
@@ -16,6 +17,10 @@ operand o (Some v) = slice_of v
 abbrev pub FitsOperand : Clocks → Option SliceView → Type 0
 FitsOperand o None = Unit {0}
 FitsOperand o (Some v) = FitsOrder o v
+
+-- the pasts of the first so many events of process i, and no cut for each of its other events
+abbrev pub pasts_of : Clocks → ℕ → ℕ → List (Option Cut)
+pasts_of o i n = map Some (take n (get_or o i [])) ++ replicate (length (get_or o i []) - n) no_row
 
 -- event b of process j is not event a of process i, and its row has that event
 pub record IsInRow (v : SliceView) (i a j b : ℕ) : Type 0 where
