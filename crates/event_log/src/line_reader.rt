@@ -10,7 +10,7 @@ use crate::log::{Binding, Header};
 use crate::numbers::event_named;
 use crate::refusals::refused;
 use log_lines::{
-    Frames, begins_vars, is_batch, is_end, place_of, read_event, read_procs, read_vars,
+    Frames, begins_vars, is_batch, is_end, place_among, read_event, read_procs, read_vars,
 };
 use pota_base::{List, NoMemory, Refused};
 use pota_names::Name;
@@ -183,7 +183,7 @@ impl LineReader {
         ensures counts { self.new.lines ≤ self.old.lines + 1 }
     {
         let draft = refused(read_vars(alloc, line), LogCode::BadLine)?;
-        let Some(process) = place_of(self.procs.as_slice(), draft.process) else {
+        let Some(process) = place_among(self.procs.as_slice(), draft.process) else {
             return Err(Refused::Fault(LogCode::UnknownProcess));
         };
         if process < self.variables.len() {

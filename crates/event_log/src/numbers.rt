@@ -11,7 +11,7 @@ ghost use Rattle.event_log.specs.declared.item.LogCode.TheVariants.{UnknownProce
 
 use crate::item::LogCode;
 use crate::log::{Assign, Binding, Event, Kind};
-use log_lines::{ActionDraft, EventDraft, Setting, place_of};
+use log_lines::{ActionDraft, EventDraft, Setting, place_among, place_of};
 use pota_base::{List, Refused};
 use pota_names::Name;
 use std::alloc::Global;
@@ -35,7 +35,7 @@ pub fn process_of(procs: &[Name], name: &[u8]) -> Result<u32, Refused<LogCode>>
     requires { length procs.now < 2 ^ 32 }
     ensures { Agrees result (known UnknownProcessFault (place_of procs.now name.now)) }
 {
-    process_at(place_of(procs, name))
+    process_at(place_among(procs, name))
 }
 
 fn kind_in(procs: &[Name], action: ActionDraft<'_>) -> Result<Kind, Refused<LogCode>>

@@ -16,4 +16,4 @@ pub use frames::Frames;
 pub use lines::{begins_vars, is_batch, is_end, read_event, read_procs, read_vars};
 pub use pota_base::signed_at;
 pub use values::{clock_at, names_from};
-pub use words::{Named, are_distinct, name_at, place_of, spaced_name_at, text_at};
+pub use words::{Named, are_distinct, name_at, place_among, place_of, spaced_name_at, text_at};

@@ -14,7 +14,7 @@ ghost use Rattle.log_lines.specs.inside.Drafts.{message_seen, action_seen};
 use crate::draft::{ActionDraft, EventDraft, LineError, VarsDraft};
 use crate::frames::Frames;
 use crate::values::{event_clock_at, names_from, values_at};
-use crate::words::{are_distinct, place_of, spaced_name_at, text_at};
+use crate::words::{are_distinct, place_among, spaced_name_at, text_at};
 use pota_base::number_at;
 use pota_names::Name;
 use std::alloc::Global;
@@ -75,7 +75,7 @@ fn event_in<'a>(
     let rest = text_at(b"ev", line).ok_or(LineError::Malformed)?;
     let (actor, rest) = spaced_name_at(rest).ok_or(LineError::Malformed)?;
     let rest = text_at(b" ", rest).ok_or(LineError::Malformed)?;
-    let process = place_of(procs, actor);
+    let process = place_among(procs, actor);
     let (clock, rest) = clock_of(alloc, frames, process, rest)?;
     let rest = text_at(b" ", rest).ok_or(LineError::Malformed)?;
     let (action, rest) = action_at(rest).ok_or(LineError::Malformed)?;

@@ -6,7 +6,7 @@ ghost use Rattle.log_lines.specs.Names.{Name as NameOf, is_name_byte, place_of, 
 ghost use Rattle.log_lines.specs.Reading.{text_at, front, name_at, spaced_name_at};
 ghost use Rattle.log_lines.specs.Drafts.{rest_seen, name_seen};
 
-use pota_names::{Name, is_byte_of_name, is_start_of_name};
+use pota_names::{Name, is_byte_of_name, is_start_of_name, key_of};
 
 /// What has a name by which it is looked up.
 pub trait Named {
@@ -55,6 +55,20 @@ pub fn place_of<T: Named>(items: &[T], name: &[u8]) -> Option<usize>
 {
     for (i, item) in items.iter().enumerate() {
         if is_same_name(item.name(), name) {
+            return Some(i);
+        }
+    }
+    None
+}
+
+/// The place of the first of the names that is this one, found by its key.
+pub fn place_among(names: &[Name], name: &[u8]) -> Option<usize>
+    ensures place { result ≡ place_of names.now name.now }
+    ensures within { IfSome result (λ place. place < length names.now) }
+{
+    let key = key_of(name);
+    for (i, known) in names.iter().enumerate() {
+        if known.is(key, name) {
             return Some(i);
         }
     }

@@ -6,8 +6,10 @@
 #![tactic(auto)]
 
 ghost use Rattle.pota_names.specs.Names.{is_name, is_name_byte, is_name_start};
+ghost use Rattle.pota_names.specs.Keys.{key_of};
 ghost use Rattle.std.specs.Prelude.{◌≡◌, false, IfOk, IsTrue, MatchOption};
 ghost use Rattle.std.specs.List.{list_all};
+ghost use Rattle.std.specs.Str.{bytes_eq};
 
 use pota_base::{List, NoMemory};
 use std::alloc::Global;
@@ -15,6 +17,9 @@ use std::marker::Model;
 
 /// The most bytes of a name.
 pub const LONGEST_NAME: usize = 64;
+
+/// How many bytes of a name its key has.
+const KEY_BYTES: usize = 8;
 
 /// Whether a name may begin with the byte: a letter or `_`.
 pub fn is_start_of_name(byte: u8) -> bool
@@ -49,11 +54,24 @@ fn are_name(bytes: &[u8]) -> bool
     }
 }
 
+/// The first eight bytes as one number, by which most names are told apart.
+pub fn key_of(bytes: &[u8]) -> u64
+    ensures { result ≡ key_of bytes.now }
+{
+    let mut key = 0_u64;
+    for i in 0..bytes.len().min(KEY_BYTES) {
+        key = key * 256 + u64::from(bytes[i]);
+    }
+    key
+}
+
 /// A name, seen as its bytes. Each value is a name: a letter or `_`, then letters, digits or `_`, 1
 /// to 64 bytes in all.
 #[derive(Debug, Drop)]
 pub struct Name {
     bytes: List<u8>,
+    key: u64,
+    ghost keyed: { key ≡ key_of bytes },
 }
 
 impl Model for Name {
@@ -79,8 +97,9 @@ impl Name {
         if !are_name(bytes) {
             return Ok(None);
         }
+        let key = key_of(bytes);
         let bytes = List::from_vec(bytes.to_vec(alloc)?);
-        Ok(Some(Name { bytes }))
+        Ok(Some(Name { bytes, key }))
     }
 
     /// The bytes of the name.
@@ -96,6 +115,17 @@ impl Name {
         ensures { IfOk result (λ name. name ≡ self.now) }
     {
         let bytes = List::from_vec(self.bytes.as_slice().to_vec(alloc)?);
-        Ok(Name { bytes })
+        Ok(Name {
+            bytes,
+            key: self.key,
+        })
+    }
+
+    /// Whether the bytes, whose key this is, are the name.
+    pub fn is(&self, key: u64, bytes: &[u8]) -> bool
+        requires { key ≡ key_of bytes.now }
+        ensures { result ≡ bytes_eq self.now bytes.now }
+    {
+        self.key == key && self.bytes.as_slice() == bytes
     }
 }
