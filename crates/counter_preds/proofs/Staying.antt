@@ -1,5 +1,5 @@
 -- A counter stays one behind events that don't leave it lower, and is one where there are no events.
-use Rattle.std.proofs.Common.{◌≡◌, ℕ, ◌+◌, ◌≤◌, Bool, true, false, ℤ, ◌≤ℤ◌, List, [], ◌∷◌, length, replicate, Option, inl, inr, refl, ap, sym, subst, ◌∙◌, arith}
+use Rattle.std.proofs.Common.{◌≡◌, ℕ, ◌+◌, ◌≤◌, Bool, true, false, ℤ, ◌≤ℤ◌, List, [], ◌∷◌, ◌++◌, length, replicate, Option, inl, inr, refl, ap, sym, subst, ◌∙◌, arith}
 use Rattle.std.specs.Prelude.{All, None, Some, if◌then◌else◌}
 use Rattle.std.specs.List.{list_any}
 use Rattle.std.proofs.lemmas.Int.{ints}
@@ -88,6 +88,20 @@ pub none_without : (states : StatesView) (batch : List Event) → fall_fault sta
 unfolding fall_fault
 none_without states [] = refl
 none_without states (e ∷ rest) = none_without (behind_event states e) rest
+
+-- behind a batch without a fall
+none_between : (b : Bool) (fault : LogFault) (rest : Option LogFault) → b ≡ false → rest ≡ None → (if b then Some fault else rest) ≡ None
+none_between true fault rest none same = cc
+none_between false fault rest none same = same
+
+pub none_joined : (states : StatesView) (counters : List Variable) (batch more : List Event) → fall_fault states counters batch ≡ None
+    → fall_fault (behind_batch states batch) counters more ≡ None → fall_fault states counters (batch ++ more) ≡ None
+unfolding with_batch fall_fault
+none_joined states counters [] more none later = later
+none_joined states counters (e ∷ rest) more none later =
+    let parts = none_here (list_any (is_lowered states e) counters) (fall_of e) (fall_fault (behind_event states e) counters rest) none in
+    none_between (list_any (is_lowered states e) counters) (fall_of e) (fall_fault (behind_event states e) counters (rest ++ more)) parts.0
+    (none_joined (behind_event states e) counters rest more parts.1 later)
 
 -- ---- a header
 

@@ -1,5 +1,5 @@
 //! Laws on counters. The functions do nothing.
-ghost use Rattle.std.specs.Prelude.{◌≡◌, ◌↔◌, ℕ, ◌≤◌, ℤ, ◌≤ℤ◌, List, [], All, None};
+ghost use Rattle.std.specs.Prelude.{◌≡◌, ◌↔◌, ℕ, ◌≤◌, ℤ, ◌≤ℤ◌, List, [], ◌++◌, All, None};
 ghost use Rattle.run_model.specs.Cut.{Cut};
 ghost use Rattle.run_model.specs.Run.{Watches, clocks_of};
 ghost use Rattle.run_model.specs.Class.{NeverFalls};
@@ -86,4 +86,12 @@ pub fn clocks_make_no_fall()
 /// Without counters no batch has a fall.
 pub fn without_counters_nothing_falls()
     ensures { (states : StatesView) (batch : List Event) → fall_fault states [] batch ≡ None }
+{}
+
+/// Batches in none of which a counter falls, each behind those before it, have no fall as one.
+pub fn batches_without_a_fall_may_be_joined()
+    ensures { (states : StatesView) (counters : List Variable) (batch more : List Event)
+        → fall_fault states counters batch ≡ None
+        → fall_fault (behind_batch states batch) counters more ≡ None
+        → fall_fault states counters (batch ++ more) ≡ None }
 {}

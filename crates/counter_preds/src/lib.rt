@@ -24,7 +24,8 @@ mod values;
 pub use bounds::{diff_at_least, diff_at_most};
 pub use falls::first_fall;
 pub use laws::{
-    a_header_has_counters, clocks_make_no_fall, counters_never_fall, counters_stay,
-    difference_pulls_grow, differences_hold_where_they_are_true, without_counters_nothing_falls,
+    a_header_has_counters, batches_without_a_fall_may_be_joined, clocks_make_no_fall,
+    counters_never_fall, counters_stay, difference_pulls_grow,
+    differences_hold_where_they_are_true, without_counters_nothing_falls,
 };
 pub use values::Variable;

@@ -1,8 +1,9 @@
 //! A growing trace.
 ghost use Rattle.std.specs.Prelude.{◌≡◌, ℕ, ◌-◌, ◌<◌, ◌≤◌, ◌↔◌, Some, None, true, false, pos, []};
 ghost use Rattle.std.specs.Prelude.{length, map, get_or, slice_index_or, IsTrue, IfOk, OnOk, IfErr};
-ghost use Rattle.std.specs.Prelude.{MatchResult};
+ghost use Rattle.std.specs.Prelude.{MatchResult, Err};
 ghost use Rattle.run_model.specs.Run.{state_after, process_at};
+ghost use Rattle.pota_base.specs.declared.fault.Refused.TheVariants as refused;
 ghost use Rattle.pota_base.specs.Shape.{HasEvent};
 ghost use Rattle.event_log.specs.States.{IsHeader, trace_of};
 ghost use Rattle.vector_clock.specs.Events.{clocks_of};
@@ -59,7 +60,8 @@ impl Trace {
 
     /// Takes a whole batch, or none of it, with the clocks that it leaves out filled in. A fault is
     /// the first of its clocks and messages, at the line of its event, and the trace is then as
-    /// before. After want of memory the trace is spent.
+    /// before. After want of memory the trace is spent: it answers want of memory from then on, and
+    /// stays as it is.
     pub fn extend(&mut self, batch: List<Event>) -> Result<(), Refused<LogFault>>
         requires { self.old.spent ≡ false → FitsTrace self.old batch }
         ensures ok { OnOk result ((self.old.spent ≡ false)
@@ -67,8 +69,9 @@ impl Trace {
             × (self.new ≡ with_trace_batch self.old batch)) }
         ensures fault { IfFault result (λ fault. (self.old.spent ≡ false)
             × (trace_fault self.old batch ≡ Some fault) × (self.new ≡ self.old)) }
-        // so a spent trace answers want of memory, and stays spent
         ensures memory { IfWantsMemory result (self.new.spent ≡ true) }
+        ensures spent { self.old.spent ≡ true → result ≡ Err refused.NoMemory }
+        ensures still { self.old.spent ≡ true → self.new ≡ self.old }
     {
         if self.spent {
             return Err(Refused::NoMemory);

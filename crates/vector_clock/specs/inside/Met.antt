@@ -1,5 +1,6 @@
 -- Of the calls inside, which no caller rests on.
-use Rattle.std.specs.Prelude.{◌≡◌, ℕ, Bool, false, ◌==◌, Option, None, Some, if◌then◌else◌}
+use Rattle.std.specs.Prelude.{◌≡◌, ℕ, ◌<◌, ⊥, Bool, false, ◌==◌, Option, None, Some}
+use Rattle.std.specs.Prelude.{get_or, if◌then◌else◌}
 use Rattle.std.specs.Option.{option_or}
 use Rattle.vector_clock.specs.declared.message.Message.{Message}
 use Rattle.vector_clock.specs.Messages.{is_same}
@@ -34,3 +35,16 @@ pub record IsForgotten (old new : Places) (message : Message) (met : Met) : Type
       then without (met_at old message).sent met.sent else (met_at old m).sent)
   pub received : (m : Message) → (met_at new m).received ≡ (if is_same message m
       then without (met_at old message).received met.received else (met_at old m).received)
+
+-- no message stands at the place of the message's number in the list
+pub record IsVacant (places : Places) (message : Message) : Type 0 where
+  pub low : message.id < 50000
+  pub free : get_or places.low.items message.id None ≡ None
+
+-- the message stands in the list now with these places, and nothing else has changed
+pub record KeepsLow (old new : Places) (m : Message) (met : Met) : Type 0 where
+  pub map : new.met ≡ old.met
+  pub there : get_or new.low.items m.id None
+      ≡ Some (record { sender = m.sender; receiver = m.receiver; met = met })
+  pub others : (j : ℕ) → (j ≡ m.id → ⊥)
+      → get_or new.low.items j None ≡ get_or old.low.items j None
