@@ -6,6 +6,7 @@ use pota_base::{
 };
 use std::alloc::Global;
 use std::marker::Brand;
+use std::process::Abort;
 use std::sync::ledger::{Blank, Ledger};
 use std::test::Fail;
 
@@ -58,12 +59,12 @@ fn lists_keep_their_items(rt: HostRuntime) -> Result<(), Fail> {
     Ok(())
 }
 
-#[test]
-fn rows_follow_the_processes(rt: HostRuntime) -> Result<(), Fail> {
-    let shape = Shape::new(rt.alloc(), &[3, 0, 2])?;
-    assert_eq!(rt; shape.procs(), 3);
-    assert_eq!(rt; shape.events(), 5);
-    assert_eq!(rt; shape.len_of(2), 2);
+// That the rows of a shape of 3, 0 and 2 events are numbered through its processes.
+fn has_rows(rt: &impl Abort, shape: &Shape) {
+    assert!(rt; shape.procs() == 3);
+    assert!(rt; shape.events() == 5);
+    assert!(rt; shape.len_of(2) == 2);
+    assert!(rt; shape.len_of(0) == 3);
     let last_of_first = EventId {
         process: 0,
         position: 3,
@@ -72,11 +73,16 @@ fn rows_follow_the_processes(rt: HostRuntime) -> Result<(), Fail> {
         process: 2,
         position: 1,
     };
-    assert_eq!(rt; shape.row_of(last_of_first), 3);
-    assert_eq!(rt; shape.row_of(first_of_last), 4);
-    assert_eq!(rt; shape.event_of(0), None);
-    assert_eq!(rt; shape.event_of(3), Some(last_of_first));
-    assert_eq!(rt; shape.event_of(4), Some(first_of_last));
+    assert!(rt; shape.row_of(last_of_first) == 3);
+    assert!(rt; shape.row_of(first_of_last) == 4);
+    assert!(rt; shape.event_of(0) == None);
+    assert!(rt; shape.event_of(3) == Some(last_of_first));
+    assert!(rt; shape.event_of(4) == Some(first_of_last));
+}
+
+#[test]
+fn rows_follow_the_processes(rt: HostRuntime) -> Result<(), Fail> {
+    has_rows(&rt, &Shape::new(rt.alloc(), &[3, 0, 2])?);
     Ok(())
 }
 
@@ -130,17 +136,35 @@ fn a_source_gives_pieces_and_fails_where_told(rt: HostRuntime) -> Result<(), Fai
     Ok(())
 }
 
+/// The room of a sink that takes three bytes a call, the calls that fail, what is told of a text of
+/// eight bytes, and what the sink holds of it.
+type Write = (usize, &'static [u64], Result<(), Failed>, &'static [u8]);
+
+const WRITES: [Write; 3] = [
+    (10, &[], Ok(()), b"abcdefgh"),
+    (4, &[], Err(Failed), b"abcd"),
+    (10, &[2], Err(Failed), b"abc"),
+];
+
+// What is told of the text, and whether the sink holds these bytes of it.
+fn written(
+    alloc: Global,
+    room: usize,
+    failing: &[u64],
+    held: &[u8],
+) -> Result<(Result<(), Failed>, bool), NoMemory> {
+    let mut sink = MemSink::new(alloc, room, 3, failing)?;
+    let told = write_all(&mut sink, b"abcdefgh");
+    Ok((told, sink.held() == held))
+}
+
 #[test]
 fn a_whole_text_is_written_until_the_sink_refuses(rt: HostRuntime) -> Result<(), Fail> {
-    let mut wide = MemSink::new(rt.alloc(), 10, 3, &[])?;
-    assert_eq!(rt; write_all(&mut wide, b"abcdefgh"), Ok(()));
-    assert_eq!(rt; wide.held(), b"abcdefgh".as_slice());
-    let mut narrow = MemSink::new(rt.alloc(), 4, 3, &[])?;
-    assert_eq!(rt; write_all(&mut narrow, b"abcdefgh"), Err(Failed));
-    assert_eq!(rt; narrow.held(), b"abcd".as_slice());
-    let mut failing = MemSink::new(rt.alloc(), 10, 3, &[2])?;
-    assert_eq!(rt; write_all(&mut failing, b"abcdefgh"), Err(Failed));
-    assert_eq!(rt; failing.held(), b"abc".as_slice());
+    for (room, failing, told, held) in WRITES {
+        let (found, is_held) = written(rt.alloc(), room, failing, held)?;
+        assert!(rt; found == told);
+        assert!(rt; is_held);
+    }
     Ok(())
 }
 

@@ -2,6 +2,7 @@ ghost use Rattle.std.specs.Prelude.{◌<◌};
 
 use input_reading::{End, Intake, Kept, Turn, read_all};
 use pota_base::{MemSource, NoMemory, Source};
+use std::alloc::Global;
 use std::test::Fail;
 
 // It is done at so many bytes more.
@@ -27,53 +28,41 @@ impl Intake for Few {
     }
 }
 
-#[test]
-fn an_input_is_read_to_its_end(rt: HostRuntime) -> Result<(), Fail> {
-    let mut source = MemSource::new(rt.alloc(), b"abcdefg", 2, &[])?;
-    let mut kept = Kept::new(rt.alloc());
-    let end = read_all(rt.alloc(), &mut source, &mut kept)?;
-    assert!(rt; end == End::Ended);
-    assert!(rt; kept.bytes.as_slice() == b"abcdefg".as_slice());
-    Ok(())
+/// A text of which two bytes are read at a time, the calls that fail, how its reading ends, and
+/// what is kept.
+type Case = (&'static [u8], &'static [u64], End, &'static [u8]);
+
+const CASES: [Case; 5] = [
+    (b"abcdefg", &[], End::Ended, b"abcdefg"),
+    (b"", &[], End::Ended, b""),
+    // a failed read ends the reading, and is not tried again
+    (b"abcdefg", &[1, 4], End::Failed, b""),
+    // the bytes before it are kept
+    (b"abcdefg", &[3, 9], End::Failed, b"abcd"),
+    // one at the end of the bytes is one too
+    (b"abcd", &[3], End::Failed, b"abcd"),
+];
+
+// How the reading of the text ends, and whether these bytes are kept.
+fn read(
+    alloc: Global,
+    text: &[u8],
+    failing: &[u64],
+    wanted: &[u8],
+) -> Result<(End, bool), NoMemory> {
+    let mut source = MemSource::new(alloc, text, 2, failing)?;
+    let mut kept = Kept::new(alloc);
+    let end = read_all(alloc, &mut source, &mut kept)?;
+    Ok((end, kept.bytes.as_slice() == wanted))
 }
 
 #[test]
-fn an_empty_input_has_ended(rt: HostRuntime) -> Result<(), Fail> {
-    let mut source = MemSource::new(rt.alloc(), b"", 2, &[])?;
-    let mut kept = Kept::new(rt.alloc());
-    let end = read_all(rt.alloc(), &mut source, &mut kept)?;
-    assert!(rt; end == End::Ended);
-    assert!(rt; kept.bytes.is_empty());
-    Ok(())
-}
-
-#[test]
-fn a_failed_read_ends_the_reading(rt: HostRuntime) -> Result<(), Fail> {
-    let mut source = MemSource::new(rt.alloc(), b"abcdefg", 2, &[1, 4])?;
-    let mut kept = Kept::new(rt.alloc());
-    let end = read_all(rt.alloc(), &mut source, &mut kept)?;
-    assert!(rt; end == End::Failed);
-    assert!(rt; kept.bytes.is_empty());
-    Ok(())
-}
-
-#[test]
-fn bytes_before_a_failed_read_are_kept(rt: HostRuntime) -> Result<(), Fail> {
-    let mut source = MemSource::new(rt.alloc(), b"abcdefg", 2, &[3, 9])?;
-    let mut kept = Kept::new(rt.alloc());
-    let end = read_all(rt.alloc(), &mut source, &mut kept)?;
-    assert!(rt; end == End::Failed);
-    assert!(rt; kept.bytes.as_slice() == b"abcd".as_slice());
-    Ok(())
-}
-
-#[test]
-fn a_failed_read_at_the_end_is_one(rt: HostRuntime) -> Result<(), Fail> {
-    let mut source = MemSource::new(rt.alloc(), b"abcd", 2, &[3])?;
-    let mut kept = Kept::new(rt.alloc());
-    let end = read_all(rt.alloc(), &mut source, &mut kept)?;
-    assert!(rt; end == End::Failed);
-    assert!(rt; kept.bytes.as_slice() == b"abcd".as_slice());
+fn an_input_is_read_to_its_end_or_to_a_failure(rt: HostRuntime) -> Result<(), Fail> {
+    for (text, failing, end, wanted) in CASES {
+        let (found, is_kept) = read(rt.alloc(), text, failing, wanted)?;
+        assert!(rt; found == end);
+        assert!(rt; is_kept);
+    }
     Ok(())
 }
 

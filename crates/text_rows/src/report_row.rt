@@ -1,16 +1,25 @@
-//! One row: the text of a report, and single bytes that are changed in it.
+//! A row of reports: the text of one, and single bytes that are changed in it. Each line is a
+//! keyword, and behind one space what it speaks of.
+//!
+//! ```text
+//! line TEXT            one line more of the text of a report
+//! fault PLACE BYTE N   this byte at this place makes it no report's, and N is the fault's line
+//! report PLACE BYTE    this byte at this place makes it the text of another report
+//! ```
+//!
+//! Places are counted from 0, lines from 1. The line of a fault is the first at which no report
+//! goes on. The text of a row must be read, and what was read must be written as it stood. Cut
+//! short behind any number of bytes it is no report's, and the fault is at the line of the cut.
 
-use crate::reading::{Change, Reading, first_bad_cut, is_as_wanted, reading_of};
+use crate::report_reading::{Change, Reading, first_bad_cut, is_as_wanted, reading_of};
 use std::alloc::{AllocError, Global};
 
-/// The text of a report, and single bytes that are changed in it.
+// The text of a report, and single bytes that are changed in it.
 #[derive(Drop)]
-pub struct Row {
-    /// How many lines stand before it.
-    pub line: usize,
+struct Row {
     text: String,
     changes: Vec<Change>,
-    /// The line that could not be read, if there is one.
+    // The line that could not be read, if there is one.
     unread: Option<String>,
 }
 
@@ -36,19 +45,13 @@ fn fault_of(line: &str) -> Option<Change> {
 }
 
 impl Row {
-    /// A row of which no line was read.
-    pub fn new(alloc: Global, line: usize) -> Row {
+    // A row of which no line was read.
+    fn new(alloc: Global) -> Row {
         Row {
-            line,
             text: String::new(alloc),
             changes: Vec::new(alloc),
             unread: None,
         }
-    }
-
-    /// Whether no line of the row said anything.
-    pub fn is_empty(&self) -> bool {
-        self.text.is_empty() && self.changes.is_empty() && self.unread.is_none()
     }
 
     // Takes a change; false where the line says none.
@@ -77,9 +80,9 @@ impl Row {
         }
     }
 
-    /// Adds to the row what the line says, or keeps the line as one that could not be read.
-    pub fn add_line(&mut self, alloc: Global, line: &str) -> Result<(), AllocError> {
-        if !line.starts_with('#') && !self.take_line(line)? {
+    // Adds to the row what the line says, or keeps the line as one that could not be read.
+    fn add_line(&mut self, alloc: Global, line: &str) -> Result<(), AllocError> {
+        if !self.take_line(line)? {
             self.unread = Some(String::from_str(alloc, line)?);
         }
         Ok(())
@@ -95,8 +98,8 @@ impl Row {
         Ok(None)
     }
 
-    /// What came otherwise than the row says, `None` where nothing did.
-    pub fn judge(&self, alloc: Global) -> Result<Option<String>, AllocError> {
+    // What came otherwise than the row says, `None` where nothing did.
+    fn judge(&self, alloc: Global) -> Result<Option<String>, AllocError> {
         if let Some(line) = &self.unread {
             return Ok(Some(format!(in alloc; "no such line: {}", line.as_str())?));
         }
@@ -112,4 +115,13 @@ impl Row {
         }
         Ok(None)
     }
+}
+
+/// What came otherwise than the row with these lines says, `None` where nothing did.
+pub fn judge(alloc: Global, lines: &[String]) -> Result<Option<String>, AllocError> {
+    let mut row = Row::new(alloc);
+    for line in lines {
+        row.add_line(alloc, line.as_str())?;
+    }
+    row.judge(alloc)
 }

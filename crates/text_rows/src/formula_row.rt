@@ -1,5 +1,20 @@
-//! One row: a text, and what reading it must give.
+//! A row of formulas: a text, and what reading and printing it must give. Each line is a keyword,
+//! and behind one space what it speaks of.
+//!
+//! ```text
+//! text TEXT                 the text of the row, or how it goes on
+//! times N TEXT              it goes on with TEXT, N times
+//! printed TEXT              it is read, and printed as TEXT, or the printed text goes on with TEXT
+//! printed-times N TEXT      the printed text goes on with TEXT, N times
+//! printed-as-it-stands      it is read, and printed as itself
+//! fault CODE PLACE          it has this first fault, at this byte counted from 0
+//! long printed TEXT         what the reading of long texts gives, where that is something else
+//! long fault CODE PLACE
+//! ```
+//!
+//! What is printed is also read again, and printed again as itself.
 
+use crate::formula_verdict::judge_row;
 use rctl_parse::{FormulaCode, FormulaFault};
 use row_text::{put_piece, put_times};
 use std::alloc::{AllocError, Global};
@@ -17,8 +32,6 @@ pub enum Wanted {
 /// A text, and what reading it must give.
 #[derive(Drop)]
 pub struct Row {
-    /// How many lines stand before it.
-    pub line: usize,
     pub text: Vec<u8>,
     pub wanted: Option<Wanted>,
     /// What the reading of long texts must give, where that is something else.
@@ -92,10 +105,9 @@ fn more_wanted(
 }
 
 impl Row {
-    /// A row of which no line was read.
-    pub fn new(alloc: Global, line: usize) -> Row {
+    // A row of which no line was read.
+    fn new(alloc: Global) -> Row {
         Row {
-            line,
             text: Vec::new(alloc),
             wanted: None,
             long: None,
@@ -103,16 +115,8 @@ impl Row {
         }
     }
 
-    /// Whether the row has a line that says what is wanted, or one that could not be read.
-    pub fn is_whole(&self) -> bool {
-        self.wanted.is_some() || self.unread.is_some()
-    }
-
-    /// Adds to the row what the line says, or keeps the line as one that could not be read.
-    pub fn add_line(&mut self, alloc: Global, line: &str) -> Result<(), AllocError> {
-        if line.starts_with('#') {
-            return Ok(());
-        }
+    // Adds to the row what the line says, or keeps the line as one that could not be read.
+    fn add_line(&mut self, alloc: Global, line: &str) -> Result<(), AllocError> {
         let (keyword, rest) = parted(line);
         let known = match keyword {
             "text" => {
@@ -137,4 +141,13 @@ impl Row {
         }
         Ok(())
     }
+}
+
+/// What came otherwise than the row with these lines says, `None` where nothing did.
+pub fn judge(alloc: Global, lines: &[String]) -> Result<Option<String>, AllocError> {
+    let mut row = Row::new(alloc);
+    for line in lines {
+        row.add_line(alloc, line.as_str())?;
+    }
+    judge_row(alloc, &row)
 }

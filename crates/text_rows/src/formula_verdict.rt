@@ -2,7 +2,7 @@
 
 ghost use Rattle.std.specs.Prelude.{◌≤◌, length};
 
-use crate::row::{Row, Wanted};
+use crate::formula_row::{Row, Wanted};
 use pota_base::{NoMemory, Refused};
 use rctl_parse::{Formula, FormulaCode, FormulaFault, parse, parse_long, print};
 use std::alloc::{AllocError, Global};
@@ -109,7 +109,7 @@ fn judge_again(alloc: Global, printed: &[u8]) -> Result<Option<String>, AllocErr
 }
 
 /// What came out otherwise than the row says, `None` where nothing did.
-pub fn judge(alloc: Global, row: &Row) -> Result<Option<String>, AllocError> {
+pub fn judge_row(alloc: Global, row: &Row) -> Result<Option<String>, AllocError> {
     let Some(wanted) = &row.wanted else {
         return Ok(Some(format!(in alloc; "says nothing")?));
     };

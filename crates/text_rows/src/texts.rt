@@ -1,4 +1,4 @@
-//! The texts of rows.
+//! The texts of rows of imports.
 
 use row_text::{put_piece, put_times};
 use std::alloc::{AllocError, Global};
