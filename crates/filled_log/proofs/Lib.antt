@@ -1,0 +1,4 @@
+pub mod Begins
+pub mod Steps
+pub mod Items
+pub mod Whole

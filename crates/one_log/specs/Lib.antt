@@ -1,0 +1,4 @@
+pub mod Asking
+pub mod Faults
+pub mod Logging
+pub mod inside
