@@ -26,6 +26,7 @@ pub fn copy_names(alloc: Global, names: &[Name]) -> Result<List<Name>, NoMemory>
 {
     let mut copies = List::new(alloc);
     for name in names {
+        // By its clause the bytes are those of a name.
         let _bytes = name.as_bytes();
         copies.push(name.copy(alloc)?)?;
     }

@@ -22,6 +22,7 @@ fn bounds_of(alloc: Global, order: &Order, slice: &Slice) -> Result<Option<(Cut,
     ensures { IfOk result (λ bounds. bounds
         ≡ option_map (λ low. (low, joined_rows slice.now)) (slice_of slice.now).bottom) }
 {
+    // By its clause the clocks are those of an order.
     let _shape = order.shape();
     let (Some(low), Some(high)) = (slice.bottom(), slice.top()) else {
         return Ok(None);

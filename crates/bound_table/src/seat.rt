@@ -65,6 +65,7 @@ impl Seat {
     pub fn bounds(&self)
         ensures { AreBounds self.now.table.system self.now.floor }
     {
+        // The look opens the seat, whose bounds the clause tells.
         let _ = &self.token;
     }
 }

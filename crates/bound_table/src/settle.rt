@@ -109,6 +109,7 @@ impl BoundTable {
             steps.new + pulls * sum into.old ≤ steps.old + pulls * sum into.new }
     {
         seat.bounds();
+        // By its clause the lengths are those of a shape.
         let _shape = self.system().shape();
         self.lend_row(seat, before, row, into, looked);
         self.close_row(seat, row, looked, into, steps);

@@ -109,6 +109,7 @@ impl BoundTable {
         ensures claims { result.claims ≡ [] }
         ensures marks { result.marks ≡ seat.old.marks ++ seat.old.claims }
     {
+        // The look opens the table: the clauses rest on what its fields have in common.
         let _ = &self.system;
         Seat {
             token: self.table.shared.split_seat::<Twins>(&mut seat.token),
@@ -127,6 +128,7 @@ impl BoundTable {
         ensures floor { IsMaximum seat.old.floor other.floor seat.new.floor }
         ensures bounds { AreBounds self.now.system seat.new.floor }
     {
+        // The look opens the table: the clauses rest on what its fields have in common.
         let _ = &self.system;
         let Seat { token, claimer } = other;
         self.table.shared.join_seat::<Meets>(&mut seat.token, token);
@@ -145,6 +147,7 @@ impl BoundTable {
         ensures taken { result ≡ false → (seat.new.claims ≡ seat.old.claims)
             × (seat.new.marks ≡ seat.old.marks ++ process ∷ []) }
     {
+        // The look opens the table: the clauses rest on what its fields have in common.
         let _ = &self.system;
         self.claims.claim(&mut seat.claimer, process)
     }
@@ -318,6 +321,7 @@ impl BoundTable {
         ensures rises { IsAtMost seat.old.floor seat.new.floor }
         ensures bounds { AreBounds self.now.system seat.new.floor }
     {
+        // By its clause the lengths are those of a shape.
         let _shape = self.system.shape();
         seat.bounds();
         for i in 0..into.len() {
@@ -355,6 +359,7 @@ impl BoundTable {
         ensures rises { slice_index seat.old.floor word ≤ result }
         ensures bounds { AreBounds self.now.system seat.new.floor }
     {
+        // The look opens the table: the clauses rest on what its fields have in common.
         let _ = &self.system;
         self.table.shared.load::<Looks>(&mut seat.token, word)
     }

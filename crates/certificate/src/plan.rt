@@ -86,6 +86,7 @@ pub fn plan_of(alloc: Global, seen: &Observed, disjuncts: &[List<Part>]) -> Resu
     ensures plan { IfOk result (λ plan. plan ≡ plan_of seen.now (disjuncts_of disjuncts.now)) }
     ensures fits { IfOk result (IsPlan (lens_seen seen.now)) }
 {
+    // By its clause what was observed is a trace.
     let _order = seen.trace.order();
     let mut nodes = List::new(alloc);
     let mut asked = List::new(alloc);

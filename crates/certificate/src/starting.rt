@@ -29,6 +29,7 @@ pub fn nodes_for(alloc: Global, seen: Observed, disjuncts: &[List<Part>]) -> Res
         ≡ fresh_nodes (clocks_seen seen) (plan_of seen (disjuncts_of disjuncts.now))) }
 {
     let plan = plan_of(alloc, &seen, disjuncts)?;
+    // By its clause what was observed is a trace.
     let _order = seen.trace.order();
     Ok(Nodes::new(alloc, seen.trace, plan))
 }

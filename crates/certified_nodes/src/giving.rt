@@ -30,9 +30,11 @@ pub(crate) fn slice_given(
     requires operator { FitsProcesses (length (lengths order.now)) operator }
     ensures { IfOk result (IsGiven order.now operator rows.now.system) }
 {
+    // By its clause the rows are those of a system.
     let _system = rows.system();
     let closed = Slice::from_rows(alloc, order, rows.rows())?;
     let slice = sliced_by(alloc, order, operator, closed)?;
+    // By its clause the slice has all its rows.
     let _shape = slice.shape();
     Ok(slice)
 }

@@ -65,6 +65,7 @@ impl Nodes {
         ensures nodes { AreNodes result }
     {
         let run = OrderedRun::new(trace);
+        // By its clause the clocks are those of an order.
         let _shape = run.order().shape();
         Nodes {
             run,

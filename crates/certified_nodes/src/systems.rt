@@ -74,6 +74,7 @@ fn push_pulls(
     requires { All (IsPull shape.now) pulls.now }
     ensures { OnOk result (pulls_of_fans fans.new ≡ pulls_of_fans fans.old ++ pulls.now) }
 {
+    // By its clause the lengths are those of a shape.
     let _procs = shape.procs();
     for pull in pulls.as_slice() {
         fans.push(Fan::of_pull(alloc, pull)?)?;

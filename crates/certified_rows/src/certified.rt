@@ -127,6 +127,7 @@ impl CertifiedRows {
         ensures lens { result.now.lens ≡ self.now.system.lens }
         ensures words { result.now.words ≡ self.now.words }
     {
+        // The look opens the rows: the clauses speak of their system.
         let _ = &self.system;
         &self.rows
     }

@@ -29,6 +29,7 @@ fn join_disjunct(alloc: Global, before: Option<Slice>, one: Slice) -> Result<Sli
     requires { IfSome before (λ slice. slice.lens ≡ one.lens) }
     ensures { IfOk result (λ joined. joined ≡ joined_views (so_far one.lens before) one) }
 {
+    // By its clause the slice has all its rows.
     let _shape = one.shape();
     match before {
         Some(before) => join_slices(alloc, &before, &one),

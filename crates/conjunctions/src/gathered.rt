@@ -102,6 +102,7 @@ impl Gathered {
         ensures floor { self.new.floor ≡ self.old.floor }
         ensures alone { self.new.alone ≡ false }
     {
+        // By its clause the lengths are those of a shape.
         let _procs = shape.procs();
         self.alone = false;
         for pull in added {
@@ -119,6 +120,7 @@ impl Gathered {
             → OnOk result (FloorFits (lengths o) self.new) }
         ensures rows { HasAllRows slice.now }
     {
+        // By its clause the slice has all its rows.
         let _shape = slice.shape();
         let alone = self.asks_nothing();
         self.add_fans(slice.fans(alloc)?)?;

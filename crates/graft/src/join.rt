@@ -26,6 +26,7 @@ pub fn join_slices(alloc: Global, left: &Slice, right: &Slice) -> Result<Slice, 
     ensures fits { (o : Clocks) → IsOrder o → FitsOrder o left.now → FitsOrder o right.now
         → IfOk result (FitsOrder o) }
 {
+    // By its clause the right slice has all its rows.
     let _shape = right.shape();
     let shape = left.shape();
     let mut table = CutTable::new(alloc, shape)?;
@@ -52,6 +53,7 @@ fn push_minimum(
           ++ min_row (option_copied left.entry) (option_copied right.entry) ∷ [];
     }) }
 {
+    // By its clause the rows of the table are cuts.
     let _shape = table.shape();
     match (left, right) {
         (Some(left), Some(right)) => {

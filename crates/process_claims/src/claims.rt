@@ -66,6 +66,7 @@ impl Claims {
         ensures claims { result.claims ≡ [] }
         ensures marks { result.marks ≡ claimer.old.marks ++ claimer.old.claims }
     {
+        // The look opens the claims: the clauses rest on what their table has.
         let _ = &self.table;
         Claimer {
             token: self.table.shared.split_seat::<Parts>(&mut claimer.token),
@@ -80,6 +81,7 @@ impl Claims {
         ensures claims { claimer.new.claims ≡ claimer.old.claims ++ other.claims }
         ensures marks { claimer.new.marks ≡ claimer.old.marks ++ other.marks }
     {
+        // The look opens the claims: the clauses rest on what their table has.
         let _ = &self.table;
         let Claimer { token } = other;
         self.table

@@ -314,6 +314,7 @@ fn fans_of(alloc: Global, shape: &Shape, pulls: &List<Pull>) -> Result<List<Fan>
     requires { All (IsPull shape.now) pulls.now }
     ensures { IfOk result (λ fans. pulls_of_fans fans ≡ pulls.now) }
 {
+    // By its clause the lengths are those of a shape.
     let _procs = shape.procs();
     let mut fans = List::with_capacity(alloc, pulls.len())?;
     for pull in pulls.as_slice() {

@@ -64,6 +64,7 @@ impl Rows {
         ensures { IfOk result (λ rows.
             rows ≡ record { lens = shape.now; words = grown_words shape.now old.now }) }
     {
+        // The look opens the old rows: their words are those of their shape.
         let _ = &old.words;
         let shape = shape.copy(alloc)?;
         let words = grow_words(alloc, &shape, old)?;

@@ -147,6 +147,7 @@ impl Machine {
         ensures words { self.new.words ≡ words_after self.old.system self.old.words step }
         ensures system { self.new.system ≡ self.old.system }
     {
+        // By its clause the lengths are those of a shape.
         let _shape = self.system.shape();
         match step {
             Step::Look { .. } => {}

@@ -53,6 +53,7 @@ fn read_lines(alloc: Global, text: &[u8]) -> Result<Report, Refused<ReportFault>
     ensures { MatchResult result (IsTextOf text.now)
         (λ e. Faults e (λ f. IsFaultIn text.now f.line)) }
 {
+    // By its clause the text has a length that a word holds.
     let _len = text.len();
     let mut draft = Draft::Start;
     let mut rest = text;

@@ -25,6 +25,7 @@ pub fn a_fresh_start_answers_the_same(watches: &Vec<Handed>)
         → (ds : List (List Piece)) (a b : Answer) → IsAnswer one ds a → IsAnswer other ds b
         → record a { batch = b.batch } ≡ b }
 {
+    // The clauses speak of the watches, the body doesn't.
     let _watches = watches;
     one_answer();
 }

@@ -41,6 +41,7 @@ impl Slice {
             → IfOk result (λ edges. IsPrintedAs order.now (Cuts order.now (slice_of self.now)) low
             (joined_rows self.now) (map edge_of edges)) }
     {
+        // By its clause the clocks are those of an order.
         let _shape = order.shape();
         match self.top() {
             Some(top) => edges_within(alloc, self, order, top),
@@ -84,6 +85,7 @@ fn push_edges_into(
         (range_with_len 0 (length (cut_of ((slice_of slice.now).row process a)))))
         (range_with_len 1 (count top.now process))) }
 {
+    // By its clause the slice has all its rows.
     let _shape = slice.shape();
     for position in 1..top[process as usize] + 1 {
         let event = EventId { process, position };

@@ -41,6 +41,7 @@ impl Slice {
             → AreLeastRows system rows.now.words → (c : CutOfRun) → IsConsistent order.now c
             → Cuts order.now (slice_of slice) c ↔ IsClosed system c) }
     {
+        // By its clause the clocks are those of an order.
         let _shape = order.shape();
         let shape = rows.shape();
         let mut table = CutTable::new(alloc, shape)?;

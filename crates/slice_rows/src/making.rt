@@ -67,6 +67,7 @@ fn settle_row<L: Ledger>(
         → row_at system.now.lens rows.new.words other
         ≡ row_at system.now.lens rows.old.words other }
 {
+    // By its clause the words are those of rows.
     let _shape = rows.shape();
     let mut vector = wide_row(alloc, rows.row(row))?;
     least(system, &mut vector, steps);
@@ -157,6 +158,7 @@ fn with_part(
     requires slice { FitsOrder order.now slice }
     ensures { IfOk result (FitsOrder order.now) }
 {
+    // By its clause the clocks are those of an order.
     let _shape = order.shape();
     match before {
         Some(joined) => join_slices(alloc, &joined, &slice),

@@ -101,6 +101,7 @@ fn join_past(order: &Order, process: u32, position: u32, into: &mut Cut)
     ensures none { position ≡ 0 → into.new ≡ into.old }
     ensures past { 0 < position → into.new ≡ max_cut (clock order.now process position) into.old }
 {
+    // By its clause the clocks are those of an order.
     let _shape = order.shape();
     if position > 0 {
         join_into(order.clock(EventId { process, position }), into);

@@ -67,6 +67,7 @@ fn push_past(
           ++ (lowered (whole order.now) top.now).row event.process event.position ∷ [];
     }) }
 {
+    // By its clause the clocks are those of an order.
     let _shape = order.shape();
     if event.position <= top[event.process as usize] {
         table.push_cut(order.clock(event))

@@ -48,6 +48,7 @@ fn row_with<'a>(order: &'a Order, child: Option<&'a Slice>, event: EventId) -> O
         ≡ (operand order.now (option_copied child.entry)).row event.process event.position }
     ensures within { IsRow (lengths order.now) (option_copied result) }
 {
+    // By its clause the clocks are those of an order.
     let _shape = order.shape();
     match child {
         Some(slice) => slice.least_with(event),
@@ -72,6 +73,7 @@ fn push_joined(
           ++ option_map (max_cut bottom.now) (option_copied row.entry) ∷ [];
     }) }
 {
+    // By its clause the rows of the table are cuts.
     let _shape = table.shape();
     match row {
         Some(words) => {

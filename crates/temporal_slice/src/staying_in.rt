@@ -47,6 +47,7 @@ fn least_with_pairs(alloc: Global, order: &Order, child: &Slice) -> Result<Cut, 
     ensures { IfOk result (IsLeast (λ c. Cuts order.now (slice_of child.now) c
         × HasPairs order.now (slice_of child.now) c)) }
 {
+    // By its clause the clocks are those of an order.
     let _shape = order.shape();
     let shape = child.shape();
     let mut least = Cut::new(alloc, shape.procs())?;
@@ -67,6 +68,7 @@ fn join_shared(child: &Slice, event: EventId, into: &mut Cut)
         ≡ max_cut (row_words child.now event.process event.position) into.old))
         ⊎ ((Shares child.now event.process event.position → ⊥) × (into.new ≡ into.old)) }
 {
+    // By its clause the slice has all its rows.
     let _shape = child.shape();
     let row = child.words(event.process, event.position);
     if shares_row(child, event, row) {

@@ -1,4 +1,4 @@
--- Of the calls inside, which no caller rests on.
+-- Inside: how far a log has been read and judged, piece by piece, and what has been written of it.
 use Rattle.std.specs.Prelude.{◌≡◌, ℕ, ◌<◌, ◌≤◌, Bool, List, [], ◌++◌, length, Option, None}
 use Rattle.std.specs.Prelude.{Result, Ok, Err}
 use Rattle.std.specs.Io.KnownBytes.{Appends, Consumes, IsAtEnd}

@@ -1,4 +1,4 @@
--- Of the calls inside, which no caller rests on.
+-- Inside: what the summary of a bench is, and how far it has been made and written.
 use Rattle.std.specs.Prelude.{◌≡◌, ℕ, ◌≤◌, ◌↔◌, true, List, [], Option, Some, None, Result, Ok, Err}
 use Rattle.std.specs.Io.KnownBytes.{Appends}
 use Rattle.pota_base.specs.Outside.{Rose, IsPrefix}

@@ -1,4 +1,4 @@
--- Of the calls inside, which no caller rests on.
+-- Inside: the larger of two vectors, which a table keeps of what it has reached.
 use Rattle.std.specs.Prelude.{ℕ, List, [], ◌∷◌, max}
 
 -- the larger of both, number by number

@@ -1,4 +1,4 @@
--- Of the calls inside, which no caller rests on.
+-- Inside: when one row may lend its vector to another.
 use Rattle.std.specs.Prelude.{◌≡◌, ℕ, ◌≤◌, List, true, length, sum}
 use Rattle.raise_machine.specs.Bounds.{has_start}
 use Rattle.bound_table.specs.Lending.{HasReached}

@@ -1,4 +1,4 @@
--- Of the calls inside, which no caller rests on.
+-- Inside: the line that is to come next in a certificate's rows.
 use Rattle.std.specs.Prelude.{◌-◌, Bool, List, Option, None, Some}
 use Rattle.certificate_lines.specs.declared.line.Line.{Line}
 use Rattle.certificate_lines.specs.declared.line.Line.TheVariants.{Node, Row, Raise, Verdict}

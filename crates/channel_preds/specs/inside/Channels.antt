@@ -1,4 +1,4 @@
--- Of the calls inside, which no caller rests on.
+-- Inside: what the counts of a channel are.
 use Rattle.std.specs.Prelude.{ℕ, ◌-◌, ◌≤◌, ◌<◌}
 use Rattle.std.specs.Prelude.{List, length, slice_index}
 use Rattle.channel_preds.specs.declared.counted.Counted.TheVariants as counted

@@ -1,4 +1,4 @@
--- Of the calls inside, which no caller rests on.
+-- Inside: the answers of parts, one behind the other.
 use Rattle.std.specs.Prelude.{◌≡◌, List, ◌++◌}
 use Rattle.part_pulls.specs.declared.observed.Observed.{Observed}
 use Rattle.conjunctions.specs.declared.answer.PartAnswer.{PartAnswer}

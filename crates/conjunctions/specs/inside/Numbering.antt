@@ -1,4 +1,4 @@
--- Of the calls inside, which no caller rests on.
+-- Inside: which parts give the order by their pulls.
 use Rattle.std.specs.Prelude.{Bool, false, ◌||◌, List, [], ◌∷◌}
 use Rattle.rctl_parts.specs.Pieces.{Piece, atom, temporal}
 use Rattle.part_pulls.specs.Operating.{operator_gives_order}

@@ -1,4 +1,4 @@
--- Of the calls inside, which no caller rests on.
+-- Inside: what a conjunction needs before it is settled, and what has changed when it is.
 use Rattle.std.specs.Prelude.{◌≡◌, ℕ, ◌+◌, ◌≤◌, ◌↔◌, Bool, true, List, [], ◌∷◌, ◌++◌, length}
 use Rattle.std.specs.Prelude.{drop, Option, Some}
 use Rattle.run_model.specs.Cut.{Cut, Clocks, lengths}

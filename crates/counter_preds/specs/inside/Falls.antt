@@ -1,4 +1,4 @@
--- Of the calls inside, which no caller rests on.
+-- Inside: where an event of a batch leaves a counter lower than it was.
 use Rattle.std.specs.Prelude.{ℕ, ℤ, ◌+◌, ◌==◌, Bool, int_lt, List, take, fold}
 use Rattle.std.specs.Prelude.{if◌then◌else◌}
 use Rattle.event_log.specs.declared.item.LogCode.TheVariants as code

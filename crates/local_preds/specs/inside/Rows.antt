@@ -1,4 +1,4 @@
--- Of the calls inside, which no caller rests on.
+-- Inside: values, sides and truths at one state of a process.
 use Rattle.std.specs.Prelude.{◌≡◌, ℕ, ◌+◌, ◌<◌, ◌≤◌, ℤ, Bool, true}
 use Rattle.std.specs.Prelude.{[], length, get_or}
 use Rattle.rctl_parts.specs.declared.expr.LocalSide.{LocalSide}

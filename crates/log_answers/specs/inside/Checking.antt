@@ -1,4 +1,4 @@
--- Of the calls inside, which no caller rests on.
+-- Inside: one text written, and one item judged.
 use Rattle.std.specs.Prelude.{◌≡◌, ℕ, ◌≤◌, Bool, List, Option}
 use Rattle.std.specs.Prelude.{Result, Ok, Err}
 use Rattle.std.specs.Io.KnownBytes.{Appends}

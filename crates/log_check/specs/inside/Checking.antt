@@ -1,4 +1,4 @@
--- Of the calls inside, which no caller rests on.
+-- Inside: the item of a line that closes a batch.
 use Rattle.std.specs.Prelude.{Bool, true, false}
 use Rattle.event_log.specs.declared.item.Item.{Item}
 use Rattle.event_log.specs.declared.item.Item.TheVariants as item

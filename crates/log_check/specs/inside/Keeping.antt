@@ -1,4 +1,4 @@
--- Of the calls inside, which no caller rests on.
+-- Inside: what a check holds once the header has come.
 use Rattle.std.specs.Prelude.{◌≡◌, Some}
 use Rattle.rctl_parts.specs.Pieces as piece
 use Rattle.rctl_names.specs.Seen as names

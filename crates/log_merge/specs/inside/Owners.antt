@@ -1,4 +1,4 @@
--- Of the calls inside, which no caller rests on.
+-- Inside: which source has the lines of which process, and the events gathered so far.
 use Rattle.std.specs.Prelude.{◌≡◌, ℕ, ◌+◌, ◌<◌, List, ◌++◌, length, Option}
 use Rattle.std.specs.Prelude.{Some, set}
 use Rattle.log_merge.specs.declared.gathering.Gathered.{Gathered}

@@ -1,4 +1,4 @@
--- Of the calls inside, which no caller rests on.
+-- Inside: what has been seen of a source, line by line.
 use Rattle.std.specs.Prelude.{◌==◌, List, [], ◌∷◌}
 use Rattle.std.specs.Prelude.{if◌then◌else◌}
 use Rattle.log_merge.specs.declared.seen.Seen.{Seen}

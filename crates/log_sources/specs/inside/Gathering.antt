@@ -1,4 +1,4 @@
--- Of the calls inside, which no caller rests on.
+-- Inside: what bytes are gathered to where the input ends with them.
 use Rattle.std.specs.Prelude.{◌≡◌, ℕ, true, List, Some}
 use Rattle.log_sources.specs.declared.gathering.Gathered.{Gathered}
 use Rattle.log_sources.specs.declared.gathering.Gathered.TheVariants.{Logs, Fault, Failed}

@@ -1,4 +1,4 @@
--- Of the calls inside, which no caller rests on.
+-- Inside: how far the sources have been read, piece by piece.
 use Rattle.std.specs.Prelude.{◌≡◌, ℕ, List}
 use Rattle.log_sources.specs.declared.reader.SourceReader.{SourceReader}
 use Rattle.log_sources.specs.Sources.{Sources, after}

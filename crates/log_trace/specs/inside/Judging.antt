@@ -1,4 +1,4 @@
--- Of the calls inside, which no caller rests on.
+-- Inside: which items may follow a judgement.
 use Rattle.std.specs.Prelude.{ℕ, ◌+◌, Bool, true, false, List, length}
 use Rattle.event_log.specs.declared.item.Item.{Item}
 use Rattle.event_log.specs.declared.item.Item.TheVariants as item

@@ -1,4 +1,4 @@
--- Of the calls inside, which no caller rests on.
+-- Inside: what the pulls from a process ask of all others, row by row as it is gathered.
 use Rattle.std.specs.Prelude.{◌≡◌, ◌≢◌, ◌⊎◌, ℕ, ◌+◌, ◌*◌, ◌<◌, ◌≤◌, List, [], length}
 use Rattle.std.specs.Prelude.{slice_index, slice_index_or}
 use Rattle.pull_system.specs.System.{SystemView, source_of, target_of, ask}

@@ -1,4 +1,4 @@
--- Of the calls inside, which no caller rests on.
+-- Inside: the shape of a fan: its entries, its targets, its rows.
 use Rattle.std.specs.Prelude.{◌≡◌, ◌⊎◌, ℕ, ◌+◌, ◌*◌, ◌<◌, ◌≤◌, List, [], length, get_or}
 use Rattle.std.specs.Prelude.{slice_index}
 use Rattle.pull_fans.specs.Fans.{FanView}

@@ -1,4 +1,4 @@
--- Of the calls inside, which no caller rests on.
+-- Inside: the pulls of a system by the process that they come from.
 use Rattle.std.specs.Prelude.{◌≡◌, ℕ, ◌<◌, List, [], length}
 use Rattle.std.specs.Prelude.{slice_index_or}
 use Rattle.pull_system.specs.System.{SystemView}

@@ -1,4 +1,4 @@
--- Of the calls inside, which no caller rests on.
+-- Inside: which process the leaves of an expression are over.
 use Rattle.std.specs.Prelude.{◌-◌, Bool, true, false, not, ◌&&◌}
 use Rattle.std.specs.Prelude.{Option, None, Some, bytes_eq}
 use Rattle.run_model.specs.Run.{Name}

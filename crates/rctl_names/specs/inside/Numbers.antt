@@ -1,4 +1,4 @@
--- Of the calls inside, which no caller rests on.
+-- Inside: what is wrong with each name of a formula, and which process a watch is on.
 use Rattle.std.specs.Prelude.{ℕ, Bool, false, not, ◌==◌, List, [], ◌∷◌, ◌++◌, get_or, set, Option}
 use Rattle.std.specs.Prelude.{None, Some, if◌then◌else◌}
 use Rattle.run_model.specs.Run.{Name}

@@ -1,4 +1,4 @@
--- Of the calls inside, which no caller rests on.
+-- Inside: a formula's parts with numbers in place of names, part by part.
 use Rattle.std.specs.Prelude.{◌≡◌, List, map, Option, None}
 use Rattle.rctl_grammar.specs.declared.tree.Operator.TheVariants as operator
 use Rattle.rctl_parts.specs.declared.expr.LocalSide.TheVariants as number_side

@@ -1,4 +1,4 @@
--- Of the calls inside, which no caller rests on.
+-- Inside: the names that a scope and its watches hold.
 use Rattle.std.specs.Prelude.{List, [], map}
 use Rattle.run_model.specs.Run.{Name}
 use Rattle.rctl_parts.specs.Spelled.{Names}

@@ -1,4 +1,4 @@
--- Of the calls inside, which no caller rests on.
+-- Inside: a report as far as its lines have been read.
 use Rattle.std.specs.Prelude.{◌≡◌, ℕ, List, [], ◌∷◌, ◌++◌, Option}
 use Rattle.std.specs.Prelude.{Some}
 use Rattle.pota_base.specs.Number.{◌>>=◌}

@@ -1,4 +1,4 @@
--- Of the calls inside, which no caller rests on.
+-- Inside: what a session keeps from batch to batch, and what a batch adds.
 use Rattle.std.specs.Prelude.{◌≡◌, ◌≤◌, false, List}
 use Rattle.std.specs.Prelude.{Option, None, Some}
 use Rattle.trace_growth.specs.Growing.{IsTrace}

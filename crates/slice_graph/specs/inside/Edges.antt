@@ -1,4 +1,4 @@
--- Of the calls inside, which no caller rests on.
+-- Inside: the edges into one event from one process.
 use Rattle.std.specs.Prelude.{ℕ, List, [], ◌∷◌, ◌&&◌, nat_lt, if◌then◌else◌}
 use Rattle.run_model.specs.Cut.{Cut, count}
 use Rattle.run_model.specs.Slice.{Edge as EdgeOfRun}

@@ -1,4 +1,4 @@
--- Of the calls inside, which no caller rests on.
+-- Inside: the rows that the order asks for behind those that are there.
 use Rattle.std.specs.Prelude.{◌≡◌, ℕ, ◌+◌, ◌-◌, ◌*◌, ◌<◌, List, [], length, get_or}
 use Rattle.run_model.specs.Cut.{Clocks, count, lengths}
 use Rattle.slice_graph.specs.PullLists.{order_entry}

@@ -1,4 +1,4 @@
--- Of the calls inside, which no caller rests on.
+-- Inside: all processes but one, by their index.
 use Rattle.std.specs.Prelude.{ℕ, ◌+◌, nat_lt}
 use Rattle.std.specs.Prelude.{if◌then◌else◌}
 

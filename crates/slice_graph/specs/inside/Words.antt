@@ -1,4 +1,4 @@
--- Of the calls inside, which no caller rests on.
+-- Inside: how a slice's rows stand in words.
 use Rattle.std.specs.Prelude.{◌≡◌, ℕ, ◌*◌, ◌<◌, List, [], length, get_or}
 use Rattle.pota_base.specs.Shape.{IsShape}
 use Rattle.causal_order.specs.Blocks.{rows_of}

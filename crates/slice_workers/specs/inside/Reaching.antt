@@ -1,4 +1,4 @@
--- Of the calls inside, which no caller rests on.
+-- Inside: which rows a floor has reached, and which may be handed out or lent.
 use Rattle.std.specs.Prelude.{◌≡◌, ℕ, zero, suc, ◌+◌, ◌<◌, ◌≤◌, List, Bool}
 use Rattle.std.specs.Prelude.{true, false, length, sum, take, slice_index, slice_index_or}
 use Rattle.pull_system.specs.System.{SystemView}

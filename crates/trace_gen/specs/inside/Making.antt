@@ -1,4 +1,4 @@
--- Of the calls inside, which no caller rests on.
+-- Inside: when a process of a generated run may make its next event.
 use Rattle.std.specs.Prelude.{◌≡◌, ℕ, ◌-◌, ◌<◌, ◌≤◌}
 use Rattle.std.specs.Prelude.{length}
 use Rattle.std.specs.List.{AllByRecursion}

@@ -1,4 +1,4 @@
--- Of the calls inside, which no caller rests on.
+-- Inside: how the states and the clocks of a growing trace fit each other.
 use Rattle.std.specs.Prelude.{◌≡◌, ◌-◌, Bool, false, length}
 use Rattle.event_log.specs.States.{StatesView, IsHeader}
 use Rattle.run_model.specs.Run as run

@@ -1,4 +1,4 @@
--- Of the calls inside, which no caller rests on.
+-- Inside: which hosts have a name that a log may have.
 use Rattle.std.specs.Prelude.{◌≡◌, true}
 use Rattle.pota_names.specs.Names.{is_name}
 use Rattle.vclog_import.specs.Hosts.{Host, name_of}

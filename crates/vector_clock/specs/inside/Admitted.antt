@@ -1,4 +1,4 @@
--- Of the calls inside, which no caller rests on.
+-- Inside: where an event stands among all.
 use Rattle.std.specs.Prelude.{◌≡◌, ℕ, List, ◌∷◌, ◌++◌}
 use Rattle.event_log.specs.declared.log.Event.{Event}
 use Rattle.vector_clock.specs.Events.{Events, own_events, place}

@@ -1,4 +1,4 @@
--- Of the calls inside, which no caller rests on.
+-- Inside: how many events each process has after some more.
 use Rattle.std.specs.Prelude.{ℕ, ◌+◌}
 use Rattle.std.specs.Prelude.{List, [], ◌∷◌}
 use Rattle.std.specs.Prelude.{get_or, set}

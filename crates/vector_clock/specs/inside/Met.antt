@@ -1,4 +1,4 @@
--- Of the calls inside, which no caller rests on.
+-- Inside: the places of a message's send and receipt, as they are noted and forgotten.
 use Rattle.std.specs.Prelude.{◌≡◌, ℕ, Bool, false, ◌==◌, Option, None, Some, if◌then◌else◌}
 use Rattle.std.specs.Option.{option_or}
 use Rattle.vector_clock.specs.declared.message.Message.{Message}

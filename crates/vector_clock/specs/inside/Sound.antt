@@ -1,4 +1,4 @@
--- Of the calls inside, which no caller rests on.
+-- Inside: which clocks have been judged, and what sound ones add to those before them.
 use Rattle.std.specs.Prelude.{◌≡◌, ℕ, ◌-◌, ◌<◌, max, List}
 use Rattle.std.specs.Prelude.{[], ◌∷◌, ◌++◌, length}
 use Rattle.run_model.specs.Cut.{Clocks, count, lengths}

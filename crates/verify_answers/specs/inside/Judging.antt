@@ -1,4 +1,4 @@
--- Of the calls inside, which no caller rests on.
+-- Inside: the answer to what a certificate is told to be.
 use Rattle.certificate_input.specs.declared.told.Told.{Told}
 use Rattle.certificate_input.specs.declared.told.Told.TheVariants as tells
 use Rattle.fault_line.specs.declared.fault.Fault.TheVariants as fault

@@ -1,4 +1,4 @@
--- Of the calls inside, which no caller rests on.
+-- Inside: how many processes the goal of a path has.
 use Rattle.std.specs.Prelude.{◌≤◌, ◌-◌}
 use Rattle.std.specs.Prelude.{length}
 use Rattle.event_log.specs.declared.log.Kind.TheVariants as kind

@@ -1,4 +1,4 @@
--- Of the calls inside, which no caller rests on.
+-- Inside: the line that is written of a fault of the report.
 use Rattle.std.specs.Prelude.{ℕ, List, Some}
 use Rattle.fault_line.specs.Lines as pota
 use Rattle.fault_line.specs.declared.fault.Fault.TheVariants as shared
