@@ -7,10 +7,7 @@ use Rattle.event_log.specs.LogEnd.{is_whole, log_upto, behind_log}
 use Rattle.event_log.specs.Faults.{first_fault, items}
 use Rattle.event_log.specs.Reader.{HasRead}
 use Rattle.fault_kinds.specs.declared.refusal.Refusal.{Refusal}
-use Rattle.pota_base.specs.declared.fault.Refused.{Refused}
-use Rattle.pota_base.specs.declared.fault.Refused.TheVariants as refused
 use Rattle.log_rules.specs.Judgement.{Prefix, Judgement, waiting, judged}
-use Rattle.log_rules.specs.Judgement as judgement
 use Rattle.log_check.specs.declared.check.LogCheck.{LogCheck}
 use Rattle.log_check.specs.Aims.{Says, Aim, rules_of}
 use Rattle.log_check.specs.Checking.{IsCheckOf, HasClosed}

@@ -23,7 +23,7 @@
 //! *Not said*: that memory suffices, how long a call takes, or that a thread that is joined ends.
 #![tactic(auto)]
 
-mod answering;
+mod inquiring;
 mod top;
 
 pub use fault_line::Fault;

@@ -1,10 +1,1 @@
-mod Feeding
-mod Taking
-mod Named
-mod Rising
-mod Still
-mod Listing
-mod Going
-mod Completing
-mod Earlier
-mod OneTrace
+mod Standing

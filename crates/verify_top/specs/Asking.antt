@@ -1,6 +1,6 @@
 -- What a log and a certificate are read for, where a verifier is asked one formula. It names no
 -- watches.
-use Rattle.std.specs.Prelude.{false, []}
+use Rattle.std.specs.Prelude.{[]}
 use Rattle.run_model.specs.Run.{Watches}
 use Rattle.rctl_grammar.specs.Shape.{shape_of}
 use Rattle.rctl_grammar.specs.declared.tree.Tree.{Tree}
@@ -11,10 +11,10 @@ use Rattle.rctl_names.specs.Resolving.{numbered_disjuncts}
 use Rattle.log_rules.specs.Judgement.{Prefix}
 use Rattle.log_check.specs.Aims.{Aim}
 use Rattle.log_check.specs.Checked.{observed_alone}
+use Rattle.certificate_lines.specs.Spelling.{formula_line}
 use Rattle.certificate_text.specs.Taking.{VerifierView, fresh}
 use Rattle.certified_nodes.specs.Nodes.{NodesView, fresh_nodes}
 use Rattle.certificate.specs.Numbering.{plan_of}
-use Rattle.verify_answers.specs.Judging.{formula_line}
 
 -- ---- the log
 
@@ -26,8 +26,6 @@ abbrev pub aim_for : Tree → Aim
 aim_for t = record {
   node = node_of t;
   text = canonical (shape_of t);
-  slice = false;
-  witness = false;
   names = [];
   watches = no_watches;
 }

@@ -1,10 +1,9 @@
 -- What is due of an input whose log stands only once all bytes are there.
-use Rattle.std.proofs.Common.{◌≡◌, ℕ, ◌≤◌, Bool, true, false, Option, Some, None, Result, Ok, Err, List, [], ◌∷◌, length, refl, sym, ap, subst, ◌∙◌, arith}
+use Rattle.std.proofs.Common.{◌≡◌, ℕ, ◌≤◌, Bool, true, false, Option, Some, None, Result, Ok, Err, List, [], ◌∷◌, length, refl, sym, ap, subst, ◌∙◌}
 use Rattle.std.specs.Prelude.{IfOk, OnErr}
 use Rattle.std.specs.Io.KnownBytes.{Consumes, IsAtEnd}
 use Rattle.std.proofs.lemmas.Option.{none-some}
 use Rattle.pota_base.specs.declared.fault.NoMemory.{NoMemory}
-use Rattle.pota_base.specs.Outside.{Rose}
 use Rattle.input_reading.specs.Intakes.{ReadsShort}
 use Rattle.event_log.specs.declared.item.LogFault.{LogFault}
 use Rattle.event_log.specs.declared.log.Log.{Log}
@@ -15,20 +14,22 @@ use Rattle.log_rules.specs.Readings.{items_at_end}
 use Rattle.log_rules.specs.Due.{Due, whole_of, placed, fault_in, fault_alone, told}
 use Rattle.log_rules.proofs.WholeReadings.{before_the_end, with_a_fault, one_report}
 use Rattle.log_rules.specs.Reported.{listed, reported}
-use Rattle.log_check.specs.Aims.{Aim, rules_of}
+use Rattle.reported_log.specs.Aims.{Aim, rules_of}
 use Rattle.log_answers.specs.declared.stop.StopCause.{StopCause}
 use Rattle.log_answers.specs.declared.stop.StopCause.TheVariants as causes
 use Rattle.log_answers.specs.declared.stop.Stop.{Stop}
 use Rattle.log_answers.specs.declared.stop.Verdict.{Verdict}
 use Rattle.log_answers.specs.Checking.{AreReportsFor, HasPartOf, HasFrontOf}
-use Rattle.log_answers.specs.Whole.{judgement_on, IsWholeVerdict, IsWholeRefused, IsWholePart, WholeStops, WholeTo, HasWhole}
+use Rattle.log_answers.specs.Whole.{judgement_on, IsWholeVerdict, IsWholeRefused, WholeStops, WholeTo}
+use Rattle.log_answers.specs.Calm.{IsCalmUnlessRead}
+use Rattle.log_answers.proofs.Calm.{calm_so}
 use Rattle.log_answers.specs.Inputs.{due_by, TellsDueBy, StopsBy, IsVerdictBy, ChecksBy, HasCheckedBy}
 use Rattle.whole_answers.specs.declared.places.Places.{Places}
 use Rattle.whole_answers.specs.declared.standing.Standing.{Standing}
 use Rattle.whole_answers.specs.declared.standing.Standing.TheVariants.{Whole, Faulty, Failed}
 use Rattle.whole_answers.specs.inside.Places.{place_by, placed_cause, placed_result}
 use Rattle.whole_answers.specs.inside.Standing.{Input, reading_by, IsWhole, HasStood}
-use Rattle.whole_answers.specs.inside.Checking.{CanBeChecked, HasPlaced, HasStopped, ChecksStanding}
+use Rattle.whole_answers.specs.inside.Checking.{CanBeChecked, HasStopped, ChecksStanding}
 
 -- ---- no log stands
 
@@ -174,3 +175,11 @@ module _ (form : Input) (aim : Aim) (each : Bool) (left left' held held' : Optio
       (quiet form aim each false stood.read [] None (open_due form aim stood.read ∙ ap fault_alone stood.to.0) refl, stood.to.1)
   checked (Err x) result stood short can c =
       stopped causes.Memory result short.read short.consumed short.later c (front form aim each short.read [] 0 refl refl)
+
+-- unless a read failed, the count of faults of the source is as it was
+pub calm_so_far : (aim : Aim) (held held' : Option (List ℕ)) (lf lf' of of' : ℕ) (standing : Result Standing NoMemory) (result : Result Verdict Stop) → ((standing ≡ Ok Failed → ⊥) → lf' ≡ lf)
+    → ChecksStanding held held' of of' aim standing result → IsCalmUnlessRead lf lf' result
+calm_so_far aim held held' lf lf' of of' (Ok (Whole log places)) result calm c = calm_so lf lf' result (calm (λ e. cc))
+calm_so_far aim held held' lf lf' of of' (Ok (Faulty r)) result calm c = calm_so lf lf' result (calm (λ e. cc))
+calm_so_far aim held held' lf lf' of of' (Ok Failed) result calm c = subst (IsCalmUnlessRead lf lf') (sym c.told) (λ other. absurd (other refl))
+calm_so_far aim held held' lf lf' of of' (Err x) result calm c = calm_so lf lf' result (calm (λ e. cc))

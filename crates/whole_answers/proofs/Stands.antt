@@ -1,13 +1,11 @@
 -- What an input is once its bytes were read.
-use Rattle.std.proofs.Common.{◌≡◌, ℕ, ◌<◌, ◌≤◌, Bool, true, false, Option, Some, None, Result, Ok, Err, List, [], ◌++◌, length, take, drop, refl, sym, ap, subst, ◌∙◌, arith}
+use Rattle.std.proofs.Common.{◌≡◌, ℕ, ◌<◌, ◌≤◌, Bool, true, false, Option, Some, None, Result, Ok, Err, List, [], length, take, drop, sym, ap, subst, ◌∙◌, arith}
 use Rattle.std.specs.Prelude.{IfOk, OnErr, is_some, if◌then◌else◌}
 use Rattle.std.specs.Option.{option_map}
 use Rattle.std.specs.Io.KnownBytes.{IsAtEnd}
 use Rattle.std.proofs.lemmas.Bool.{lt-ltb, le-ltb}
 use Rattle.std.proofs.lemmas.List.{take-append-drop, length-take-le}
-use Rattle.std.proofs.lemmas.Option.{none-some}
 use Rattle.pota_base.specs.declared.fault.NoMemory.{NoMemory}
-use Rattle.pota_base.specs.Outside.{Rose}
 use Rattle.input_reading.specs.declared.kept.Kept.{Kept}
 use Rattle.input_reading.specs.declared.reading.End.{End}
 use Rattle.input_reading.specs.declared.reading.End.TheVariants as end
@@ -22,7 +20,7 @@ use Rattle.fault_kinds.specs.declared.refusal.Refusal.{Refusal}
 use Rattle.fault_kinds.specs.declared.refusal.Refusal.TheVariants as refusal
 use Rattle.log_rules.specs.Readings.{items_at_end}
 use Rattle.form_readings.specs.Clocks.{import_refusal, clocks_fault}
-use Rattle.form_readings.specs.Sources.{merged_of, merged_log_of, merged_fault}
+use Rattle.form_readings.specs.Sources.{merged_log_of, merged_fault}
 use Rattle.form_readings.proofs.Imports.{clocks_are_read}
 use Rattle.form_readings.proofs.Merging.{sources_are_read}
 use Rattle.fault_kinds.specs.declared.merge.MergeFault.{MergeFault}
@@ -31,9 +29,9 @@ use Rattle.log_merge.specs.Merging.{merged}
 use Rattle.log_sources.specs.declared.gathering.Gathered.{Gathered}
 use Rattle.log_sources.specs.declared.gathering.Gathered.TheVariants as gathered
 use Rattle.log_sources.specs.Reading.{CanMerge}
-use Rattle.log_sources.specs.Sources.{no_sources, after, last_fault, logs_of}
+use Rattle.log_sources.specs.Sources.{no_sources, after, logs_of}
 use Rattle.log_sources.specs.Gathering.{sources_fault, GathersTo, Gathers}
-use Rattle.whole_answers.specs.declared.places.Places.TheVariants.{Lines, Origins}
+use Rattle.whole_answers.specs.declared.places.Places.TheVariants.{Origins}
 use Rattle.whole_answers.specs.declared.standing.Standing.{Standing}
 use Rattle.whole_answers.specs.declared.standing.Standing.TheVariants.{Whole, Faulty, Failed}
 use Rattle.whole_answers.specs.inside.Places.{place_by}

@@ -1,5 +1,4 @@
 -- Inside: which answers have no line.
-use Rattle.fault_line.specs.declared.fault.Fault.TheVariants as fault
 use Rattle.verify_answers.specs.declared.answer.Answer.{Answer}
 use Rattle.verify_answers.specs.declared.answer.Answer.TheVariants.{Accepted, Refused, Faulty}
 

@@ -1,7 +1,5 @@
 -- Inside: the line that is written of a fault of the report.
 use Rattle.std.specs.Prelude.{ℕ, List, Some}
-use Rattle.fault_line.specs.Lines as pota
-use Rattle.fault_line.specs.declared.fault.Fault.TheVariants as shared
 use Rattle.view_top.specs.declared.fault.Fault.TheVariants as fault
 use Rattle.view_top.specs.Faults.{line_of}
 

@@ -1,4 +1,4 @@
-use Rattle.std.proofs.Common.{Ok, refl, sym, ap, subst, ◌∙◌}
+use Rattle.std.proofs.Common.{Ok, sym, ap, subst, ◌∙◌}
 use Rattle.std.proofs.Common.{Result}
 use Rattle.pota_base.specs.declared.fault.NoMemory.{NoMemory}
 use Rattle.whole_answers.specs.declared.standing.Standing.{Standing}

@@ -1,0 +1,193 @@
+//! The answers to an inquiry.
+ghost use Rattle.std.specs.Prelude.{◌≡◌, ◌≤◌, ◌<◌, ℕ, Bool, List as ListOf};
+ghost use Rattle.log_rules.specs.Judgement.{waiting};
+ghost use Rattle.command_words.specs.declared.request.Task.TheVariants.{Read};
+ghost use Rattle.command_words.specs.declared.request.Product.TheVariants.{Reports};
+ghost use Rattle.run_request.specs.Questions.{AsksFor};
+ghost use Rattle.stated_formula.specs.Stating.{IsStated};
+ghost use Rattle.reported_log.specs.Aims.{Aim, AreWatches, said_by};
+ghost use Rattle.reported_log.specs.Checking.{IsCheckOf};
+ghost use Rattle.log_answers.specs.Calm.{IsCalmUnlessRead};
+ghost use Rattle.log_answers.specs.Inputs.{HasCheckedBy};
+ghost use Rattle.form_readings.specs.Clocks.{clocks_reading};
+ghost use Rattle.form_readings.specs.Sources.{merged_reading};
+ghost use Rattle.run_promise.specs.Asking.{handing_of};
+ghost use Rattle.run_promise.specs.Run.{Ran};
+ghost use Rattle.batch_answers.specs.Outcome.{outcome_of};
+ghost use Rattle.batch_answers.specs.Reading.{HasChecked};
+
+use batch_answers::check_all;
+use certificate_answers::answer_certificate;
+use command_words::{Form, Inquiry, Product, Shown};
+use log_answers::{Checking, Means, Stop, Verdict};
+use pota_base::{Gate, Sink, Source, Steps};
+use reported_log::ReportedLog;
+use stated_formula::Stated;
+use std::marker::Brand;
+use std::sync::ledger::{Blank, Ledger};
+use std::thread::Threads;
+use watch::{Handed, Watch};
+use whole_answers::{check_clocks, check_sources};
+
+// Checks the log whose text the source has.
+fn check_text<R: Threads + Sync, G: Gate, L: Ledger, S: Source, O: Sink>(
+    blank: Blank,
+    means: &Means<'_, R, G>,
+    check: ReportedLog,
+    each_batch: bool,
+    workers: u32,
+    log: &mut S,
+    out: &mut O,
+) -> Result<Verdict, Stop>
+    requires name { blank.name ≡ L.name }
+    requires parts { blank.parts ≡ L.parts }
+    requires one { 0 < blank.parts }
+    requires some { 1 ≤ workers }
+    requires few { workers ≤ 16 }
+    requires check { (aim : Aim) × IsCheckOf (said_by answers) aim check waiting }
+    ensures checks { (aim : Aim) → IsCheckOf (said_by answers) aim check waiting
+        → HasChecked (S.left log.old) (S.left log.new) (O.held out.old) (O.held out.new)
+        (S.faults log.old) (S.faults log.new) (O.faults out.old) (O.faults out.new) aim each_batch
+        result }
+    ensures calm { IsCalmUnlessRead (S.faults log.old) (S.faults log.new) result }
+{
+    let mut checking = Checking {
+        check,
+        each_batch,
+        workers,
+        steps: Steps::<L>::new(blank),
+    };
+    let verdict = check_all(means, &mut checking, log, out);
+    drop(checking);
+    verdict
+}
+
+// Checks the log that the records of the source are.
+fn check_records<R: Threads + Sync, G: Gate, L: Ledger, S: Source, O: Sink>(
+    blank: Blank,
+    means: &Means<'_, R, G>,
+    check: ReportedLog,
+    workers: u32,
+    source: &mut S,
+    out: &mut O,
+) -> Result<Verdict, Stop>
+    requires name { blank.name ≡ L.name }
+    requires parts { blank.parts ≡ L.parts }
+    requires one { 0 < blank.parts }
+    requires some { 1 ≤ workers }
+    requires few { workers ≤ 16 }
+    requires check { (aim : Aim) × IsCheckOf (said_by answers) aim check waiting }
+    ensures checks { (aim : Aim) → IsCheckOf (said_by answers) aim check waiting → (each : Bool)
+        → HasCheckedBy clocks_reading (S.left source.old) (S.left source.new) (O.held out.old)
+        (O.held out.new) (S.faults source.old) (S.faults source.new) (O.faults out.old)
+        (O.faults out.new) aim each result }
+    ensures calm { IsCalmUnlessRead (S.faults source.old) (S.faults source.new) result }
+{
+    let mut checking = Checking {
+        check,
+        each_batch: false,
+        workers,
+        steps: Steps::<L>::new(blank),
+    };
+    let verdict = check_clocks(means, &mut checking, source, out);
+    drop(checking);
+    verdict
+}
+
+// Checks the several logs that the source has as one.
+fn check_logs<R: Threads + Sync, G: Gate, L: Ledger, S: Source, O: Sink>(
+    blank: Blank,
+    means: &Means<'_, R, G>,
+    check: ReportedLog,
+    workers: u32,
+    source: &mut S,
+    out: &mut O,
+) -> Result<Verdict, Stop>
+    requires name { blank.name ≡ L.name }
+    requires parts { blank.parts ≡ L.parts }
+    requires one { 0 < blank.parts }
+    requires some { 1 ≤ workers }
+    requires few { workers ≤ 16 }
+    requires check { (aim : Aim) × IsCheckOf (said_by answers) aim check waiting }
+    ensures checks { (aim : Aim) → IsCheckOf (said_by answers) aim check waiting → (each : Bool)
+        → HasCheckedBy merged_reading (S.left source.old) (S.left source.new) (O.held out.old)
+        (O.held out.new) (S.faults source.old) (S.faults source.new) (O.faults out.old)
+        (O.faults out.new) aim each result }
+    ensures calm { IsCalmUnlessRead (S.faults source.old) (S.faults source.new) result }
+{
+    let mut checking = Checking {
+        check,
+        each_batch: false,
+        workers,
+        steps: Steps::<L>::new(blank),
+    };
+    let verdict = check_sources(means, &mut checking, source, out);
+    drop(checking);
+    verdict
+}
+
+// Reports on the input that the source has.
+fn answer_reports<R: Threads + Sync, G: Gate, S: Source, O: Sink>(
+    means: &Means<'_, R, G>,
+    stated: Stated,
+    form: Form,
+    shown: Shown,
+    workers: u32,
+    watches: Vec<Handed>,
+    log: &mut S,
+    out: &mut O,
+) -> Result<Verdict, Stop>
+    requires some { 1 ≤ workers }
+    requires few { workers ≤ 16 }
+    requires watches { AreWatches watches.items }
+    requires stated { (text : ListOf ℕ) × IsStated text stated }
+    ensures ran { (words : ListOf (ListOf ℕ)) (text : ListOf ℕ) → IsStated text stated
+        → AsksFor words (Read (record { form = form; product = Reports shown })) stated.formula.tree
+        → Ran (S.left log.old) (S.left log.new) (O.held out.old) (O.held out.new) (S.faults log.old)
+        (S.faults log.new) (O.faults out.old) (O.faults out.new)
+        (handing_of (said_by answers) watches.items) words (outcome_of result) }
+    ensures calm { IsCalmUnlessRead (S.faults log.old) (S.faults log.new) result }
+{
+    let Ok(check) = ReportedLog::new(means.alloc, stated, shown.slice, shown.witness, watches)
+    else {
+        return Err(Stop::without_memory());
+    };
+    let blank = Blank::new(1);
+    let each = shown.each_batch;
+    match form {
+        Form::Text => check_text::<R, G, Brand, S, O>(blank, means, check, each, workers, log, out),
+        Form::Clocks => check_records::<R, G, Brand, S, O>(blank, means, check, workers, log, out),
+        Form::Merged => check_logs::<R, G, Brand, S, O>(blank, means, check, workers, log, out),
+    }
+}
+
+/// Answers what is asked of the input that the source has. The watches that are handed in are asked
+/// for reports alone.
+pub fn answer_inquiry<R: Threads + Sync, G: Gate, S: Source, O: Sink>(
+    means: &Means<'_, R, G>,
+    stated: Stated,
+    inquiry: Inquiry,
+    workers: u32,
+    watches: Vec<Handed>,
+    log: &mut S,
+    out: &mut O,
+) -> Result<Verdict, Stop>
+    requires some { 1 ≤ workers }
+    requires few { workers ≤ 16 }
+    requires watches { AreWatches watches.items }
+    requires stated { (text : ListOf ℕ) × IsStated text stated }
+    ensures ran { (words : ListOf (ListOf ℕ)) (text : ListOf ℕ) → IsStated text stated
+        → AsksFor words (Read inquiry) stated.formula.tree
+        → Ran (S.left log.old) (S.left log.new) (O.held out.old) (O.held out.new) (S.faults log.old)
+        (S.faults log.new) (O.faults out.old) (O.faults out.new)
+        (handing_of (said_by answers) watches.items) words (outcome_of result) }
+    ensures calm { IsCalmUnlessRead (S.faults log.old) (S.faults log.new) result }
+{
+    let form = inquiry.form;
+    match inquiry.product {
+        Product::Reports(shown) => {
+            answer_reports(means, stated, form, shown, workers, watches, log, out)
+        }
+        Product::Certificate => answer_certificate(means, stated, log, out),
+    }
+}

@@ -1,0 +1,17 @@
+-- Where a session stands.
+use Rattle.std.specs.Prelude.{◌≡◌, Bool, false, List, Option, IsSome}
+use Rattle.pull_system.specs.Rows.{RowsView}
+use Rattle.conjunctions.specs.declared.answer.Answer.{Answer}
+use Rattle.observation.specs.Growing.{GrowingView, HasTaken}
+
+-- what was answered: the answer, the rows of its conjunctions, and what both are of
+pub record AnsweredView : Type 0 where
+  pub of : GrowingView
+  pub settled : List RowsView
+  pub answer : Option Answer
+
+-- a batch was taken, memory sufficed so far, and the answer on the trace so far was made
+pub record HasAnswer (spent : Bool) (growing : GrowingView) (answer : Option Answer) : Type 0 where
+  pub unspent : spent ≡ false
+  pub taken : HasTaken growing
+  pub answered : IsSome answer
