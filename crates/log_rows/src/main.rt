@@ -1,0 +1,37 @@
+//! Runs the one call of `pota_log` on the rows of its input, and prints how many of them came out
+//! as they must, and each row that did not.
+//!
+//! A line `row NAME` begins a row and a line `end` ends it. Between them are lines `word TEXT`, a
+//! word of the command line; `in TEXT`, a line of the input; `out TEXT`, a line of the log that must
+//! be written; `diag TEXT`, the line that tells why there is none; and `status N`. In a TEXT, `\`
+//! and two hexadecimal digits stand for one byte. Each row is run over pieces of 1, 7 and 65,536
+//! bytes, and what was written is read and written once more, which must give the same bytes.
+#![tactic(auto)]
+
+mod row;
+mod run;
+
+use row::Row;
+use run::judge;
+use std::io;
+
+fn main(rt: HostRuntime) -> io::Result<()> {
+    let alloc = rt.alloc();
+    let mut row = Row::new(alloc);
+    let (mut all, mut good) = (0u64, 0u64);
+    for line in rt.lines(alloc) {
+        let line = line?;
+        if line.as_str() != "end" {
+            row.add_line(alloc, line.as_str())?;
+            continue;
+        }
+        all = all.saturating_add(1);
+        match judge(alloc, &row)? {
+            Some(said) => println!(rt; "{}: {said}", row.name)?,
+            None => good = good.saturating_add(1),
+        }
+        row = Row::new(alloc);
+    }
+    println!(rt; "logs: {good} of {all}")?;
+    Ok(())
+}

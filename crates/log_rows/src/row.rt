@@ -1,0 +1,60 @@
+//! A row: an input, and what must come out of it.
+
+use row_text::put_piece;
+use std::alloc::{AllocError, Global};
+
+/// A row as far as its lines came.
+#[derive(Drop)]
+pub struct Row {
+    pub name: String,
+    pub words: Vec<String>,
+    /// The input.
+    pub input: Vec<u8>,
+    /// What must be written.
+    pub out: Vec<u8>,
+    /// What must be told.
+    pub diag: Vec<u8>,
+    pub status: u8,
+    /// A line that is none of a row.
+    pub unread: Option<String>,
+}
+
+// Appends the line that the text stands for.
+fn put_line(to: &mut Vec<u8>, text: &str) -> Result<(), AllocError> {
+    put_piece(to, text)?;
+    to.push(b'\n')
+}
+
+impl Row {
+    /// A row of which nothing was said.
+    pub fn new(alloc: Global) -> Row {
+        Row {
+            name: String::new(alloc),
+            words: Vec::new(alloc),
+            input: Vec::new(alloc),
+            out: Vec::new(alloc),
+            diag: Vec::new(alloc),
+            status: 0,
+            unread: None,
+        }
+    }
+
+    /// Takes the next line of the row.
+    ///
+    /// # Errors
+    ///
+    /// Where there is no memory.
+    pub fn add_line(&mut self, alloc: Global, line: &str) -> Result<(), AllocError> {
+        let (key, text) = line.split_once(' ').unwrap_or((line, ""));
+        match key {
+            "row" => self.name = String::from_str(alloc, text)?,
+            "word" => self.words.push(String::from_str(alloc, text)?)?,
+            "in" => put_line(&mut self.input, text)?,
+            "out" => put_line(&mut self.out, text)?,
+            "diag" => put_line(&mut self.diag, text)?,
+            "status" => self.status = text.parse::<u8>().unwrap_or(u8::MAX),
+            _ => self.unread = Some(String::from_str(alloc, line)?),
+        }
+        Ok(())
+    }
+}

@@ -1,0 +1,37 @@
+-- Why no log is written: the status of each fault, and the line that tells of it.
+use Rattle.std.specs.Prelude.{ℕ, List, [], ◌∷◌, ◌++◌, codes, Option, None, Some}
+use Rattle.fault_line.specs.Faults.{fault_of_refusal}
+use Rattle.fault_line.specs.Lines as pota
+use Rattle.fault_line.specs.declared.fault.Fault.TheVariants as shared
+use Rattle.one_log.specs.declared.fault.Fault.{Fault}
+use Rattle.one_log.specs.declared.fault.Fault.TheVariants as fault
+
+-- the exit status of a fault
+abbrev pub status_of : Fault → ℕ
+status_of fault.Usage = 2
+status_of (fault.Refused r) = 4
+status_of fault.Read = 5
+status_of fault.Write = 6
+status_of fault.Memory = 7
+status_of fault.TooLong = 8
+
+abbrev pub exit_status : Option Fault → ℕ
+exit_status None = 0
+exit_status (Some f) = status_of f
+
+-- what is wrong; what may be wrong with `pota` too is said as there
+abbrev pub cause_of : Fault → List ℕ
+cause_of fault.Usage = codes "usage: pota_log [--merged] [--vclog] [--one-batch]"
+cause_of (fault.Refused r) = pota.cause_of (fault_of_refusal r)
+cause_of fault.Read = pota.cause_of shared.Read
+cause_of fault.Write = pota.cause_of shared.Write
+cause_of fault.Memory = pota.cause_of shared.Memory
+cause_of fault.TooLong = codes "log too long"
+
+abbrev pub program : List ℕ
+program = codes "pota_log"
+
+-- one line of the program, and none where the log is written
+abbrev pub line_of : Option Fault → List ℕ
+line_of None = []
+line_of (Some f) = program ++ (codes ": " ++ (cause_of f ++ 10 ∷ []))

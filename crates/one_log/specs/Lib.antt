@@ -1,0 +1,5 @@
+pub mod Asking
+pub mod Calm
+pub mod Faults
+pub mod Logging
+pub mod inside

@@ -1,0 +1,27 @@
+//! One log from every form, as one call: logs of one form in, the one log that they are out.
+//!
+//! `write_one_log`, for every source, sinks and words: what was read and written, and what the
+//! outcome says of them (`logged`). Without a fault none is due of the input by `log_rules` where
+//! no formula is asked, and what was written is the text of its log in version 1, with every clock
+//! and, where that is asked, in one batch. With a fault nothing was written, and it is the fault of
+//! the words, the first that is due of the input, or that the text would be too long to be read;
+//! after a write fault a front of the text was written. A read or write fault comes only where that
+//! object's count of faults rose, and where the log was written no read failed (`calm`). The line
+//! on `diag` is the fault's (`told`).
+//!
+//! The input is judged as one without a formula: no name is looked up in it, and none of its
+//! variables is a counter.
+//!
+//! Not said: that memory suffices, and how long a call takes.
+#![tactic(auto)]
+
+mod asking;
+mod fault;
+mod places;
+mod reading;
+mod telling;
+mod top;
+
+pub use asking::{Asked, Form};
+pub use fault::Fault;
+pub use top::{Logged, write_one_log};

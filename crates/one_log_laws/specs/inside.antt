@@ -1,0 +1,2 @@
+-- What only the proofs say to each other.
+pub mod Lines
