@@ -12,9 +12,9 @@ use Rattle.log_rules.specs.WholeLogs.{all_of}
 use Rattle.rctl_class.specs.Nodes.{formula_of}
 use Rattle.vector_clock.specs.Filled.{filled_log}
 use Rattle.log_rules.proofs.Logs.{log_due, due_log}
-use Rattle.log_check.specs.Aims.{Says, Aim, unknown_name}
-use Rattle.log_check.specs.Checking.{IsCheckOf, HasClosed}
-use Rattle.log_check.specs.declared.check.LogCheck.{LogCheck}
+use Rattle.reported_log.specs.Aims.{Says, Aim, unknown_name}
+use Rattle.reported_log.specs.Checking.{IsCheckOf, HasClosed}
+use Rattle.reported_log.specs.declared.reported.ReportedLog.{ReportedLog}
 use Rattle.log_answers.specs.declared.stop.StopCause.{StopCause}
 use Rattle.log_answers.specs.declared.stop.StopCause.TheVariants as causes
 use Rattle.log_answers.specs.declared.stop.Stop.{Stop}
@@ -34,12 +34,12 @@ reported_whole : (each : Bool) (j : Judgement) (log : Prefix) → whole_of j ≡
 reported_whole false j log h = ap listed h
 reported_whole true j log h = ap (λ (o : Option Prefix). closed_of j ++ listed o) h
 
-module _ {X : Type 0} {P : X → Type 0} (says : Says X P) (aim : Aim) (each : Bool) (check : LogCheck X P) (bytes text : List ℕ) (w : IsWhole says aim each check bytes text) where
+module _ {X : Type 0} {P : X → Type 0} (says : Says X P) (aim : Aim) (each : Bool) (check : ReportedLog X P) (bytes text : List ℕ) (w : IsWhole says aim each check bytes text) where
   abbrev j : Judgement
   j = judgement_in aim bytes
 
   pub none_due : (due_in aim true bytes).fault ≡ None
-  none_due = ap (λ (o : Option LogFault). fault_in as_is j (of_text o)) w.free ∙ free_told as_is j None w.stands.check_is.free
+  none_due = ap (λ (o : Option LogFault). fault_in as_is j (of_text o)) w.free ∙ free_told as_is j None w.stands.check_is.log.free
 
   pub whole_log : (log : Prefix) × (whole_of j ≡ Some log)
   whole_log =
@@ -60,13 +60,13 @@ module _ {X : Type 0} {P : X → Type 0} (says : Says X P) (aim : Aim) (each : B
 
   module _ (held held' : Option (List ℕ)) (of of' : ℕ) where
     abbrev Reported : Result Verdict Stop → Type 0
-    Reported result = Reports held held' of of' aim check.batches (closed_in each j) whole_log.0 text result
+    Reported result = Reports held held' of of' aim check.log.intake.batches (closed_in each j) whole_log.0 text result
 
     verdict_on : (v : Verdict) → (r : Reported (Ok v)) → IsVerdictBy log_reading aim each bytes (text ++ r.written) v
     verdict_on v r = record {
       told = record {
         fault = none_due;
-        count = r.to.2 ∙ w.stands.check_is.batches;
+        count = r.to.2 ∙ w.stands.check_is.log.intake.batches;
         texts = texts_as aim _ _ (text ++ r.written) all_reported r.to.0;
       };
       log = whole_log.0;
@@ -90,10 +90,10 @@ module _ {X : Type 0} {P : X → Type 0} (says : Says X P) (aim : Aim) (each : B
 
 -- ---- the log was read, and its last report was to be written
 
-module _ {X : Type 0} {P : X → Type 0} (says : Says X P) (aim : Aim) (each : Bool) (check : LogCheck X P) (left left' held now held' : Option (List ℕ)) (lf lf' of of_now of' : ℕ) where
+module _ {X : Type 0} {P : X → Type 0} (says : Says X P) (aim : Aim) (each : Bool) (check : ReportedLog X P) (left left' held now held' : Option (List ℕ)) (lf lf' of of_now of' : ℕ) where
   pub checks : {T : Type 0} (x : T) (result : Result Verdict Stop) → (h : HasReadLog left left' held now lf lf' of of_now says aim each check (Ok x))
       → ((j : Judgement) (log : Prefix) → IsCheckOf says aim check j → HasClosed j log → (before : List Prefix) (text : List ℕ) → AreReportsFor aim before text
-      → Reports now held' of_now of' aim check.batches before log text result)
+      → Reports now held' of_now of' aim check.log.intake.batches before log text result)
       → HasChecked left left' held held' lf lf' of of' aim each result
   checks x result h reports =
       let w = h.to.1 in
@@ -140,7 +140,7 @@ module _ {X : Type 0} {P : X → Type 0} (says : Says X P) (aim : Aim) (each : B
   }
 
 -- some log is whole, which the report asks for
-pub some_closed : {X : Type 0} {P : X → Type 0} (says : Says X P) (aim : Aim) (each : Bool) (check : LogCheck X P) {T : Type 0} (x : T) (left left' held now : Option (List ℕ)) (lf lf' of of_now : ℕ)
+pub some_closed : {X : Type 0} {P : X → Type 0} (says : Says X P) (aim : Aim) (each : Bool) (check : ReportedLog X P) {T : Type 0} (x : T) (left left' held now : Option (List ℕ)) (lf lf' of of_now : ℕ)
     → HasReadLog left left' held now lf lf' of of_now says aim each check (Ok x) → (j : Judgement) × (log : Prefix) × IsCheckOf says aim check j × HasClosed j log
 some_closed says aim each check x left left' held now lf lf' of of_now h =
     let w = h.to.1 in

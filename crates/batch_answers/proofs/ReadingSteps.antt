@@ -24,9 +24,9 @@ use Rattle.log_rules.specs.Due.{closed_of, placed, fault_in, told}
 use Rattle.log_rules.specs.Reported.{reported}
 use Rattle.log_rules.proofs.Items.{judged-append}
 use Rattle.log_rules.proofs.Readings.{log_is_read}
-use Rattle.log_check.specs.Aims.{Says, Aim, rules_of}
-use Rattle.log_check.specs.Checking.{IsCheckOf, IsFree, MayFollow}
-use Rattle.log_check.specs.declared.check.LogCheck.{LogCheck}
+use Rattle.reported_log.specs.Aims.{Says, Aim, rules_of}
+use Rattle.reported_log.specs.Checking.{IsCheckOf, IsFree, MayFollow}
+use Rattle.reported_log.specs.declared.reported.ReportedLog.{ReportedLog}
 use Rattle.log_check.proofs.Following.{follows_all}
 use Rattle.log_answers.specs.declared.stop.StopCause.{StopCause}
 use Rattle.log_answers.specs.declared.stop.StopCause.TheVariants as causes
@@ -130,31 +130,31 @@ module _ {X : Type 0} {P : X → Type 0} (says : Says X P) (aim : Aim) (each : B
       go causes.Read h = absurd h
 
   -- a fault of the text behind all items
-  pub text_stops : (ended : Bool) (bytes text : List ℕ) (f : LogFault) (check : LogCheck X P) → text_fault ended bytes ≡ Some f
+  pub text_stops : (ended : Bool) (bytes text : List ℕ) (f : LogFault) (check : ReportedLog X P) → text_fault ended bytes ≡ Some f
       → Stands says aim each check (judgement_in aim bytes) text
-      → TellsDue aim each ended bytes text (Some (refusal.Log f)) check.batches
+      → TellsDue aim each ended bytes text (Some (refusal.Log f)) check.log.intake.batches
   text_stops ended bytes text f check some stands =
       let j = judgement_in aim bytes in
       record {
-        fault = ap (λ (o : Option LogFault). fault_in as_is j (of_text o)) some ∙ free_told as_is j (Some (refusal.Log f)) stands.check_is.free;
-        count = stands.check_is.batches;
+        fault = ap (λ (o : Option LogFault). fault_in as_is j (of_text o)) some ∙ free_told as_is j (Some (refusal.Log f)) stands.check_is.log.free;
+        count = stands.check_is.log.intake.batches;
         texts = texts_as aim _ _ text (ap (λ (o : Option LogFault). reported each (told ended as_is j (of_text o))) some ∙ reported_faulty as_is each ended j (refusal.Log f)) stands.texts;
       }
 
   -- no fault so far
-  pub nothing_told : (bytes text : List ℕ) (check : LogCheck X P) → fault_of bytes ≡ None
-      → Stands says aim each check (judgement_in aim bytes) text → TellsDue aim each false bytes text None check.batches
+  pub nothing_told : (bytes text : List ℕ) (check : ReportedLog X P) → fault_of bytes ≡ None
+      → Stands says aim each check (judgement_in aim bytes) text → TellsDue aim each false bytes text None check.log.intake.batches
   nothing_told bytes text check none stands =
       let j = judgement_in aim bytes in
       record {
-        fault = ap (λ (o : Option LogFault). fault_in as_is j (of_text o)) none ∙ free_told as_is j None stands.check_is.free;
-        count = stands.check_is.batches;
+        fault = ap (λ (o : Option LogFault). fault_in as_is j (of_text o)) none ∙ free_told as_is j None stands.check_is.log.free;
+        count = stands.check_is.log.intake.batches;
         texts = texts_as aim _ _ text (reported_open as_is each j (of_text (fault_of bytes))) stands.texts;
       }
 
   -- ---- one piece
 
-  module _ (r new : Reader) (check : LogCheck X P) (bytes piece text : List ℕ) (fed : Fed)
+  module _ (r new : Reader) (check : ReportedLog X P) (bytes piece text : List ℕ) (fed : Fed)
       (known : HasJudged says aim each r check bytes text)
       (read : (past : List ℕ) → HasRead r past → FedIs fed past (onto piece past) × HasRead new (onto piece past)) where
     past_is : onto (bytes ++ piece) [] ≡ onto piece (onto bytes [])
@@ -173,7 +173,7 @@ module _ {X : Type 0} {P : X → Type 0} (says : Says X P) (aim : Aim) (each : B
     fault_now : fault_of (bytes ++ piece) ≡ fed.fault
     fault_now = ap first_fault past_is ∙ sym (read (onto bytes []) known.read).0.fault_is
 
-    module _ (held held' : Option (List ℕ)) (of of' : ℕ) (now : LogCheck X P) where
+    module _ (held held' : Option (List ℕ)) (of of' : ℕ) (now : ReportedLog X P) where
       abbrev Took : {T : Type 0} → Result T Stop → Type 0
       Took {T} result = TakesItems {T = T} held held' of of' says aim each now (judged (rules_of aim) (judgement_in aim bytes) fed.items) text result
 
@@ -193,7 +193,7 @@ module _ {X : Type 0} {P : X → Type 0} (says : Says X P) (aim : Aim) (each : B
 
       -- a fault behind the items
       pub piece_faults : {T : Type 0} (x : T) (f : LogFault) (stop : Stop) → Took (Ok x) → fed.fault ≡ Some f
-          → stop ≡ record { batches = now.batches; cause = causes.Refused (refusal.Log f) }
+          → stop ≡ record { batches = now.log.intake.batches; cause = causes.Refused (refusal.Log f) }
           → TakesPiece held held' of of' says aim each new now (bytes ++ piece) text (Err stop)
       piece_faults x f stop took some is = record {
         written = took.written;
@@ -218,7 +218,7 @@ module _ {X : Type 0} {P : X → Type 0} (says : Says X P) (aim : Aim) (each : B
       }
 
   -- there was no memory for the items of the piece
-  pub piece_short : (held : Option (List ℕ)) (of : ℕ) (r new : Reader) (check now : LogCheck X P) (bytes piece text : List ℕ) (stop : Stop)
+  pub piece_short : (held : Option (List ℕ)) (of : ℕ) (r new : Reader) (check now : ReportedLog X P) (bytes piece text : List ℕ) (stop : Stop)
       → HasJudged says aim each r check bytes text → stop ≡ record { batches = 0; cause = causes.Memory }
       → TakesPiece held held of of says aim each new now (bytes ++ piece) text (Err stop)
   piece_short held of r new check now bytes piece text stop known is = record {
@@ -241,13 +241,13 @@ module _ {X : Type 0} {P : X → Type 0} (says : Says X P) (aim : Aim) (each : B
 
   -- ---- the end
 
-  pub ends : (r : Reader) (check : LogCheck X P) (bytes text : List ℕ) (of : ℕ) (o : Option LogFault) → HasJudged says aim each r check bytes text
+  pub ends : (r : Reader) (check : ReportedLog X P) (bytes text : List ℕ) (of : ℕ) (o : Option LogFault) → HasJudged says aim each r check bytes text
       → ((past : List ℕ) → HasRead r past → o ≡ end_fault past) → o ≡ None → Finishes of says aim each check bytes text (Ok turn.End)
   ends r check bytes text of o known finishes none =
       record { free = sym (finishes (onto bytes []) known.read) ∙ none; stands = known.stands }
 
-  pub end_faults : (r : Reader) (check : LogCheck X P) (bytes text : List ℕ) (of : ℕ) (o : Option LogFault) (f : LogFault) (stop : Stop) → HasJudged says aim each r check bytes text
-      → ((past : List ℕ) → HasRead r past → o ≡ end_fault past) → o ≡ Some f → stop ≡ record { batches = check.batches; cause = causes.Refused (refusal.Log f) }
+  pub end_faults : (r : Reader) (check : ReportedLog X P) (bytes text : List ℕ) (of : ℕ) (o : Option LogFault) (f : LogFault) (stop : Stop) → HasJudged says aim each r check bytes text
+      → ((past : List ℕ) → HasRead r past → o ≡ end_fault past) → o ≡ Some f → stop ≡ record { batches = check.log.intake.batches; cause = causes.Refused (refusal.Log f) }
       → Finishes of says aim each check bytes text (Err stop)
   end_faults r check bytes text of o f stop known finishes some is left lf lf' ended =
       subst (λ (s : Stop). StopsAt s.cause s.batches left lf lf' of of aim each bytes text) (sym is)
@@ -255,7 +255,7 @@ module _ {X : Type 0} {P : X → Type 0} (says : Says X P) (aim : Aim) (each : B
 
   -- ---- one turn
 
-  module _ (left left' held held' : Option (List ℕ)) (lf lf' of of' : ℕ) (bytes text : List ℕ) (r : Reader) (check : LogCheck X P) where
+  module _ (left left' held held' : Option (List ℕ)) (lf lf' of of' : ℕ) (bytes text : List ℕ) (r : Reader) (check : ReportedLog X P) where
     more_to : (read t : List ℕ) → 0 < length read → (result : Result Turn Stop) → PieceTo left' lf lf' of of' says aim each r check (bytes ++ read) t result
         → TurnsTo left' lf lf' of of' says aim each r check bytes read t result
     more_to read t some (Ok turn.More) f = (some, f)
@@ -276,7 +276,7 @@ module _ {X : Type 0} {P : X → Type 0} (says : Says X P) (aim : Aim) (each : B
       to = more_to (take count room) (text ++ f.written) (omega (arith, some, length-take-le count room within)) result (f.to left' lf lf');
     }
 
-  module _ (left left' held : Option (List ℕ)) (lf lf' of : ℕ) (bytes text : List ℕ) (r : Reader) (check : LogCheck X P) where
+  module _ (left left' held : Option (List ℕ)) (lf lf' of : ℕ) (bytes text : List ℕ) (r : Reader) (check : ReportedLog X P) where
     end_to : (read : List ℕ) → read ≡ [] → (result : Result Turn Stop) → IsAtEnd left' → Finishes of says aim each check bytes text result
         → TurnsTo left' lf lf' of of says aim each r check bytes read (text ++ []) result
     end_to read none result ended f =
@@ -313,11 +313,11 @@ module _ {X : Type 0} {P : X → Type 0} (says : Says X P) (aim : Aim) (each : B
 
     -- the read failed
     pub turn_fails : (stop : Stop) → HasJudged says aim each r check bytes text → Keeps left left' → lf ≤ lf' → Rose lf lf'
-        → stop ≡ record { batches = check.batches; cause = causes.Read } → Turns left left' held held lf lf' of of says aim each r check bytes text (Err stop)
+        → stop ≡ record { batches = check.log.intake.batches; cause = causes.Read } → Turns left left' held held lf lf' of of says aim each r check bytes text (Err stop)
     turn_fails stop known keeps later rose is =
-        let now : TellsDue aim each false (bytes ++ []) (text ++ []) None check.batches =
-        subst (λ (xs : List ℕ). TellsDue aim each false xs (text ++ []) None check.batches) (sym (append-nil bytes))
-        (subst (λ (t : List ℕ). TellsDue aim each false bytes t None check.batches) (sym (append-nil text)) (nothing_told bytes text check known.free known.stands)) in
+        let now : TellsDue aim each false (bytes ++ []) (text ++ []) None check.log.intake.batches =
+        subst (λ (xs : List ℕ). TellsDue aim each false xs (text ++ []) None check.log.intake.batches) (sym (append-nil bytes))
+        (subst (λ (t : List ℕ). TellsDue aim each false bytes t None check.log.intake.batches) (sym (append-nil text)) (nothing_told bytes text check known.free known.stands)) in
         record {
           read = [];
           written = [];
@@ -331,7 +331,7 @@ module _ {X : Type 0} {P : X → Type 0} (says : Says X P) (aim : Aim) (each : B
   -- ---- all turns
 
   -- what stands between two turns
-  pub record Going (left left' held held' : Option (List ℕ)) (lf lf' of of' : ℕ) (r : Reader) (check : LogCheck X P) : Type 0 where
+  pub record Going (left left' held held' : Option (List ℕ)) (lf lf' of of' : ℕ) (r : Reader) (check : ReportedLog X P) : Type 0 where
     pub bytes : List ℕ
     pub text : List ℕ
     pub consumed : Consumes left left' bytes
@@ -340,7 +340,7 @@ module _ {X : Type 0} {P : X → Type 0} (says : Says X P) (aim : Aim) (each : B
     pub out_later : of ≤ of'
     pub judged_so : HasJudged says aim each r check bytes text
 
-  total_is : (r : Reader) (check : LogCheck X P) (bytes text : List ℕ) → HasJudged says aim each r check bytes text → r.feeder.total ≡ length bytes
+  total_is : (r : Reader) (check : ReportedLog X P) (bytes text : List ℕ) → HasJudged says aim each r check bytes text → r.feeder.total ≡ length bytes
   total_is r check bytes text known =
       let fed = known.read.feeds (known.read.fault_is ∙ known.free) in
       fed.counts.total_is ∙ length-onto bytes [] ∙ omega arith
@@ -349,7 +349,7 @@ module _ {X : Type 0} {P : X → Type 0} (says : Says X P) (aim : Aim) (each : B
   nothing_closed false = refl
   nothing_closed true = refl
 
-  pub starts : (left held : Option (List ℕ)) (lf of : ℕ) (r : Reader) (check : LogCheck X P) → HasRead r [] → IsCheckOf says aim check waiting
+  pub starts : (left held : Option (List ℕ)) (lf of : ℕ) (r : Reader) (check : ReportedLog X P) → HasRead r [] → IsCheckOf says aim check waiting
       → Going left left held held lf lf of of r check
   unfolding first_fault items judged
   starts left held lf of r check read is = record {
@@ -362,8 +362,8 @@ module _ {X : Type 0} {P : X → Type 0} (says : Says X P) (aim : Aim) (each : B
     judged_so = record { read = read; free = refl; stands = record { check_is = is; texts = nothing_closed each } };
   }
 
-  module _ (left now held held_now : Option (List ℕ)) (lf lf_now of of_now : ℕ) (r : Reader) (check : LogCheck X P) (h : Going left now held held_now lf lf_now of of_now r check)
-      (left' held' : Option (List ℕ)) (lf' of' : ℕ) (r' : Reader) (check' : LogCheck X P) where
+  module _ (left now held held_now : Option (List ℕ)) (lf lf_now of of_now : ℕ) (r : Reader) (check : ReportedLog X P) (h : Going left now held held_now lf lf_now of of_now r check)
+      (left' held' : Option (List ℕ)) (lf' of' : ℕ) (r' : Reader) (check' : ReportedLog X P) where
     abbrev Turned : Result Turn Stop → Type 0
     Turned result = Turns now left' held_now held' lf_now lf' of_now of' says aim each r' check' h.bytes h.text result
 
@@ -419,7 +419,7 @@ module _ {X : Type 0} {P : X → Type 0} (says : Says X P) (aim : Aim) (each : B
     }
 
   -- no memory for the room
-  pub no_room : {T : Type 0} (left held : Option (List ℕ)) (lf of : ℕ) (check : LogCheck X P) (stop : Stop) → IsCheckOf says aim check waiting
+  pub no_room : {T : Type 0} (left held : Option (List ℕ)) (lf of : ℕ) (check : ReportedLog X P) (stop : Stop) → IsCheckOf says aim check waiting
       → stop ≡ record { batches = 0; cause = causes.Memory } → HasReadLog {T = T} left left held held lf lf of of says aim each check (Err stop)
   unfolding items judged
   no_room left held lf of check stop is memory = record {
@@ -440,18 +440,18 @@ module _ {X : Type 0} {P : X → Type 0} (says : Says X P) (aim : Aim) (each : B
 
 -- what stands between two turns, for whatever the check is of
 pub record GoingSoFar {X : Type 0} {P : X → Type 0} (says : Says X P) (left left' held held' : Option (List ℕ)) (lf lf' of of' : ℕ)
-    (each each_now : Bool) (first : LogCheck X P) (r : Reader) (check : LogCheck X P) (room : List ℕ) : Type 0 where
+    (each each_now : Bool) (first : ReportedLog X P) (r : Reader) (check : ReportedLog X P) (room : List ℕ) : Type 0 where
   pub each_is : each_now ≡ each
   pub some : 0 < length room
   pub going : (aim : Aim) → IsCheckOf says aim first waiting → Going says aim each left left' held held' lf lf' of of' r check
 
-module _ {X : Type 0} {P : X → Type 0} (says : Says X P) (left held : Option (List ℕ)) (lf of : ℕ) (each : Bool) (first : LogCheck X P) where
+module _ {X : Type 0} {P : X → Type 0} (says : Says X P) (left held : Option (List ℕ)) (lf of : ℕ) (each : Bool) (first : ReportedLog X P) where
   pub begins : (r : Reader) (room : List ℕ) → HasRead r [] → 0 < length room
       → GoingSoFar says left left held held lf lf of of each each first r first room
   begins r room read some =
       record { each_is = refl; some = some; going = λ aim is. starts says aim each left held lf of r first read is }
 
-  module _ (now held_now : Option (List ℕ)) (lf_now of_now : ℕ) (each_now : Bool) (r : Reader) (check : LogCheck X P) (room : List ℕ)
+  module _ (now held_now : Option (List ℕ)) (lf_now of_now : ℕ) (each_now : Bool) (r : Reader) (check : ReportedLog X P) (room : List ℕ)
       (h : GoingSoFar says left now held held_now lf lf_now of of_now each each_now first r check room) where
     pub may_turn : (aim : Aim) × IsCheckOf says aim first waiting
         → (aim : Aim) × (bytes : List ℕ) × (text : List ℕ) × HasJudged says aim each_now r check bytes text
@@ -459,7 +459,7 @@ module _ {X : Type 0} {P : X → Type 0} (says : Says X P) (left held : Option (
         let g = h.going known.0 known.1 in
         (known.0, g.bytes, g.text, subst (λ (e : Bool). HasJudged says known.0 e r check g.bytes g.text) (sym h.each_is) g.judged_so)
 
-    module _ (left' held' : Option (List ℕ)) (lf' of' : ℕ) (each' : Bool) (r' : Reader) (check' : LogCheck X P) (same : each' ≡ each_now) where
+    module _ (left' held' : Option (List ℕ)) (lf' of' : ℕ) (each' : Bool) (r' : Reader) (check' : ReportedLog X P) (same : each' ≡ each_now) where
       abbrev TurnsIt : Result Turn Stop → Type 0
       TurnsIt result = (aim : Aim) (bytes text : List ℕ) → HasJudged says aim each_now r check bytes text
           → Turns now left' held_now held' lf_now lf' of_now of' says aim each_now r' check' bytes text result

@@ -8,8 +8,8 @@ use Rattle.event_log.specs.LogText.{onto}
 use Rattle.log_rules.specs.Judgement.{Judgement}
 use Rattle.log_rules.specs.Readings.{log_reading}
 use Rattle.log_rules.specs.Due.{Due, judgement_of}
-use Rattle.log_check.specs.Aims.{Says, Aim, rules_of}
-use Rattle.log_check.specs.declared.check.LogCheck.{LogCheck}
+use Rattle.reported_log.specs.Aims.{Says, Aim, rules_of}
+use Rattle.reported_log.specs.declared.reported.ReportedLog.{ReportedLog}
 use Rattle.log_rules.specs.Reported.{reported}
 use Rattle.log_answers.specs.declared.stop.StopCause.{StopCause}
 use Rattle.log_answers.specs.declared.stop.StopCause.TheVariants as causes
@@ -29,7 +29,7 @@ judgement_in aim bytes = judgement_of log_reading (rules_of aim) false bytes
 -- the input has ended behind these bytes without a fault; the report on the whole log is not yet
 -- written
 pub record IsWhole {X : Type 0} {P : X → Type 0} (says : Says X P) (aim : Aim) (each : Bool)
-    (check : LogCheck X P)
+    (check : ReportedLog X P)
     (bytes text : List ℕ) : Type 0 where
   pub free : end_fault (onto bytes []) ≡ None
   pub stands : Stands says aim each check (judgement_in aim bytes) text
@@ -52,7 +52,7 @@ StopsAt causes.Memory n left lf lf' of of' aim each bytes text =
 -- ---- the whole log
 
 abbrev pub ReadsTo : {T X : Type 0} {P : X → Type 0} → Option (List ℕ) → ℕ → ℕ → ℕ → ℕ → Says X P
-    → Aim → Bool → LogCheck X P
+    → Aim → Bool → ReportedLog X P
     → List ℕ → List ℕ → Result T Stop → Type 0
 ReadsTo left lf lf' of of' says aim each check read text (Ok x) =
     IsAtEnd left × IsWhole says aim each check read text
@@ -62,7 +62,7 @@ ReadsTo left lf lf' of of' says aim each check read text (Err stop) =
 -- the log was read, but for the report on the whole of it
 pub record HasReadLog {T X : Type 0} {P : X → Type 0} (left left' held held' : Option (List ℕ))
     (lf lf' of of' : ℕ)
-    (says : Says X P) (aim : Aim) (each : Bool) (check : LogCheck X P)
+    (says : Says X P) (aim : Aim) (each : Bool) (check : ReportedLog X P)
     (result : Result T Stop) : Type 0
   where
     pub read : List ℕ

@@ -32,9 +32,9 @@ use Rattle.log_rules.specs.Due.{whole_of, batches_of, at_end}
 use Rattle.log_rules.specs.WholeLogs.{first_fall, IsLogFor, all_of}
 use Rattle.log_rules.proofs.Items.{refused-stays}
 use Rattle.log_rules.proofs.Logs.{log_due, reads_back}
-use Rattle.log_check.specs.Aims.{Says, Aim, rules_of, unknown_name}
-use Rattle.log_check.specs.Checking.{IsCheckOf, IsFree, HasClosed, MayFollow}
-use Rattle.log_check.specs.declared.check.LogCheck.{LogCheck}
+use Rattle.reported_log.specs.Aims.{Says, Aim, rules_of, unknown_name}
+use Rattle.reported_log.specs.Checking.{IsCheckOf, IsFree, HasClosed, MayFollow}
+use Rattle.reported_log.specs.declared.reported.ReportedLog.{ReportedLog}
 use Rattle.trace_gen.specs.Generated.{generated_events}
 use Rattle.trace_gen.proofs.Clear.{length-names}
 use Rattle.trace_gen.proofs.Fits.{log_fits, all_written, filled_clean}
@@ -136,31 +136,31 @@ module _ {X : Type 0} {P : X → Type 0} (says : Says X P) (aim : Aim) (sizes : 
       ∙ refused-stays (rules_of aim) None (refusal.Formula f) (batch_items (made_by sizes).batches)
 
   -- a check that is not refused has the names
-  has_names : (check : LogCheck X P) → IsCheckOf says aim check (judged (rules_of aim) waiting (log_items (made_by sizes))) → names (made_by sizes).header ≡ None
+  has_names : (check : ReportedLog X P) → IsCheckOf says aim check (judged (rules_of aim) waiting (log_items (made_by sizes))) → names (made_by sizes).header ≡ None
   has_names check is = go (names (made_by sizes).header) refl
     where
       go : (o : Option FormulaFault) → names (made_by sizes).header ≡ o → o ≡ None
       go None e = refl
-      go (Some f) e = absurd (subst IsFree (made_refused f e) is.free)
+      go (Some f) e = absurd (subst IsFree (made_refused f e) is.log.free)
 
-  pub made_closed : MadeRises aim sizes → (check : LogCheck X P) → IsCheckOf says aim check (judged (rules_of aim) waiting (log_items (made_by sizes)))
+  pub made_closed : MadeRises aim sizes → (check : ReportedLog X P) → IsCheckOf says aim check (judged (rules_of aim) waiting (log_items (made_by sizes)))
       → HasClosed (judged (rules_of aim) waiting (log_items (made_by sizes))) (all_of (made_by sizes))
   made_closed rises check is =
       whole_closed (judged (rules_of aim) waiting (log_items (made_by sizes))) (all_of (made_by sizes)) (made_whole rises (has_names check is)).whole
 
   -- the items of the log that was made
-  pub as_made : {T : Type 0} (made : Log) → made ≡ made_by sizes → (held now : Option (List ℕ)) (of of_now : ℕ) (check : LogCheck X P) (result : Result T Stop)
+  pub as_made : {T : Type 0} (made : Log) → made ≡ made_by sizes → (held now : Option (List ℕ)) (of of_now : ℕ) (check : ReportedLog X P) (result : Result T Stop)
       → TakesWhole held now of of_now says aim check made result → TakesWhole held now of of_now says aim check (made_by sizes) result
   as_made {T} made same held now of of_now check result t = subst (λ (l : Log). TakesWhole {T = T} held now of of_now says aim check l result) same t
 
   -- ---- the summary
 
-  module _ (rises : MadeRises aim sizes) (held now held' : Option (List ℕ)) (of of_now of' : ℕ) (check : LogCheck X P) {T : Type 0} (x : T)
+  module _ (rises : MadeRises aim sizes) (held now held' : Option (List ℕ)) (of of_now of' : ℕ) (check : ReportedLog X P) {T : Type 0} (x : T)
       (t : TakesWhole held now of of_now says aim check (made_by sizes) (Ok x)) where
-    count_is : check.batches ≡ 1
-    count_is = t.to.check_is.batches ∙ (made_whole rises (has_names check t.to.check_is)).count
+    count_is : check.log.intake.batches ≡ 1
+    count_is = t.to.check_is.log.intake.batches ∙ (made_whole rises (has_names check t.to.check_is)).count
 
-    sum_stops : (f : StopCause) (n : ℕ) (text : List ℕ) → SummaryStops f n of_now of' aim check.batches (all_of (made_by sizes)) (sizes_of sizes) text
+    sum_stops : (f : StopCause) (n : ℕ) (text : List ℕ) → SummaryStops f n of_now of' aim check.log.intake.batches (all_of (made_by sizes)) (sizes_of sizes) text
         → BenchStops f n of of' aim sizes text
     sum_stops causes.Write n text h = (
       record {
@@ -176,7 +176,7 @@ module _ {X : Type 0} {P : X → Type 0} (says : Says X P) (aim : Aim) (sizes : 
     sum_stops (causes.Refused r) n text h = absurd h
     sum_stops causes.Read n text h = absurd h
 
-    sum_to : (result : Result Verdict Stop) (text : List ℕ) → SumsUpTo of_now of' aim check.batches (all_of (made_by sizes)) (sizes_of sizes) text result
+    sum_to : (result : Result Verdict Stop) (text : List ℕ) → SumsUpTo of_now of' aim check.log.intake.batches (all_of (made_by sizes)) (sizes_of sizes) text result
         → BenchesTo of of' aim sizes text result
     sum_to (Ok v) text h = record {
       named = has_names check t.to.check_is;
@@ -186,7 +186,7 @@ module _ {X : Type 0} {P : X → Type 0} (says : Says X P) (aim : Aim) (sizes : 
     }
     sum_to (Err stop) text h = sum_stops stop.cause stop.batches text h
 
-    pub summed : (result : Result Verdict Stop) → SumsUp now held' of_now of' aim check.batches (all_of (made_by sizes)) (sizes_of sizes) result
+    pub summed : (result : Result Verdict Stop) → SumsUp now held' of_now of' aim check.log.intake.batches (all_of (made_by sizes)) (sizes_of sizes) result
         → HasMade held held' of of' aim sizes result
     summed result s = record {
       written = t.written ++ s.written;
@@ -230,7 +230,7 @@ module _ {X : Type 0} {P : X → Type 0} (says : Says X P) (aim : Aim) (sizes : 
   stop_of rises causes.Memory n of of' text h = (no_text aim text n h, h.count)
   stop_of rises causes.Read n of of' text h = absurd h
 
-  pub made_stops : MadeRises aim sizes → {T : Type 0} (held held' : Option (List ℕ)) (of of' : ℕ) (check : LogCheck X P) (stop : Stop)
+  pub made_stops : MadeRises aim sizes → {T : Type 0} (held held' : Option (List ℕ)) (of of' : ℕ) (check : ReportedLog X P) (stop : Stop)
       → TakesWhole {T = T} held held' of of' says aim check (made_by sizes) (Err stop)
       → HasMade held held' of of' aim sizes (Err stop)
   made_stops rises held held' of of' check stop t = record {

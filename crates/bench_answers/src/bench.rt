@@ -4,8 +4,8 @@ ghost use Rattle.log_rules.specs.Judgement.{waiting};
 ghost use Rattle.command_words.specs.declared.request.Task.TheVariants.{Bench};
 ghost use Rattle.run_request.specs.Questions.{AsksFor};
 ghost use Rattle.stated_formula.specs.Stating.{IsStated};
-ghost use Rattle.log_check.specs.Aims.{Aim, AreWatches, said_by};
-ghost use Rattle.log_check.specs.Checking.{IsCheckOf};
+ghost use Rattle.reported_log.specs.Aims.{Aim, AreWatches, said_by};
+ghost use Rattle.reported_log.specs.Checking.{IsCheckOf};
 ghost use Rattle.bench_summary.specs.Views.{sizes_of as summed_sizes};
 ghost use Rattle.log_answers.specs.Checking.{IsBenchAim};
 ghost use Rattle.run_promise.specs.Asking.{handing_of};
@@ -16,8 +16,8 @@ ghost use Rattle.bench_answers.specs.inside.Benching.{HasMade};
 
 use command_words::Sizes;
 use log_answers::{Checking, Means, Stop, Verdict};
-use log_check::LogCheck;
 use pota_base::{Gate, Sink, Steps};
+use reported_log::ReportedLog;
 use stated_formula::Stated;
 use std::marker::Brand;
 use std::sync::ledger::{Blank, Ledger};
@@ -64,7 +64,7 @@ fn bench_all<R: Threads + Sync, G: Gate, L: Ledger, O: Sink>(
 fn bench_log<R: Threads + Sync, G: Gate, L: Ledger, O: Sink>(
     blank: Blank,
     means: &Means<'_, R, G>,
-    check: LogCheck,
+    check: ReportedLog,
     sizes: Sizes,
     workers: u32,
     out: &mut O,
@@ -110,7 +110,7 @@ pub fn answer_bench<R: Threads + Sync, G: Gate, O: Sink>(
         → Ran left left (O.held out.old) (O.held out.new) lf lf (O.faults out.old)
         (O.faults out.new) (handing_of (said_by answers) watches.items) words (outcome_of result) }
 {
-    let Ok(check) = LogCheck::new(means.alloc, stated, true, false, watches) else {
+    let Ok(check) = ReportedLog::new(means.alloc, stated, true, false, watches) else {
         return Err(Stop::without_memory());
     };
     bench_log::<R, G, Brand, O>(Blank::new(1), means, check, sizes, workers, out)

@@ -27,10 +27,10 @@ use Rattle.log_rules.specs.Reported.{listed, reported}
 use Rattle.log_rules.specs.Counters.{counters_in}
 use Rattle.log_rules.proofs.Orders.{all_ordered}
 use Rattle.log_rules.proofs.Readings.{log_is_read}
-use Rattle.log_check.specs.Aims.{Says, Aim, unknown_name}
-use Rattle.log_check.specs.Checking.{IsCheckOf, HasClosed}
+use Rattle.reported_log.specs.Aims.{Says, Aim, unknown_name, taken_for}
+use Rattle.reported_log.specs.Checking.{IsCheckOf, HasClosed}
 use Rattle.log_check.specs.Checked.{IsCheckedLog, observed_alone}
-use Rattle.log_check.specs.declared.check.LogCheck.{LogCheck}
+use Rattle.reported_log.specs.declared.reported.ReportedLog.{ReportedLog}
 use Rattle.log_check.specs.declared.checked.CheckedLog.{CheckedLog}
 use Rattle.log_answers.specs.declared.stop.StopCause.{StopCause}
 use Rattle.log_answers.specs.declared.stop.StopCause.TheVariants as causes
@@ -57,7 +57,7 @@ use Rattle.batch_answers.proofs.Endings.{whole_log, closed_log, whole_due, none_
 
 -- ---- the log as it was observed
 
-pub seen_log : (s : Stated) (formula : List ℕ) (log : Prefix) (checked : CheckedLog) → IsStated formula s → IsCheckedLog (aim_for s) log checked
+pub seen_log : (s : Stated) (formula : List ℕ) (log : Prefix) (checked : CheckedLog) → IsStated formula s → IsCheckedLog (taken_for (aim_for s)) log checked
     → IsLogSeen s.formula.tree log checked
 seen_log s formula log checked is h = record {
   text = h.text ∙ is.printed;
@@ -160,7 +160,7 @@ whole_count (refused so why) log is = absurd (none-some log is)
 
 -- ---- the log was read, and its certificate was to be written
 
-module _ {X : Type 0} {P : X → Type 0} (says : Says X P) (s : Stated) (check : LogCheck X P) (left left' held now held' : Option (List ℕ)) (lf lf' of of_now of' : ℕ) where
+module _ {X : Type 0} {P : X → Type 0} (says : Says X P) (s : Stated) (check : ReportedLog X P) (left left' held now held' : Option (List ℕ)) (lf lf' of of_now of' : ℕ) where
   abbrev aim : Aim
   aim = aim_for s
 
@@ -179,18 +179,18 @@ module _ {X : Type 0} {P : X → Type 0} (says : Says X P) (s : Stated) (check :
       front = front;
     }
 
-    stops : (f : StopCause) (n : ℕ) (text : List ℕ) → CertifyStops f n of_now of' t check.batches log_there text → CertifyStopsBy f n left' lf lf' of of' aim t h.read text
+    stops : (f : StopCause) (n : ℕ) (text : List ℕ) → CertifyStops f n of_now of' t check.log.intake.batches log_there text → CertifyStopsBy f n left' lf lf' of of' aim t h.read text
     unfolding has_front
     stops (causes.Refused r) n text k = absurd k
     stops causes.Read n text k = absurd k
     stops causes.Write n text k = (
       has_front text k.0,
-      k.1 ∙ h.to.1.stands.check_is.batches ∙ whole_count (judgement_in aim h.read) log_there (whole_log says aim false check h.read h.written h.to.1).1,
+      k.1 ∙ h.to.1.stands.check_is.log.intake.batches ∙ whole_count (judgement_in aim h.read) log_there (whole_log says aim false check h.read h.written h.to.1).1,
       let e = k.2 in omega (arith, e, h.out_later),
     )
     stops causes.Memory n text k = (inr (has_front text k.0), k.1)
 
-    made : (result : Result Verdict Stop) (text : List ℕ) → CertifiesTo of_now of' t check.batches log_there text result → CertifiesBy left' lf lf' of of' aim t h.read text result
+    made : (result : Result Verdict Stop) (text : List ℕ) → CertifiesTo of_now of' t check.log.intake.batches log_there text result → CertifiesBy left' lf lf' of of' aim t h.read text result
     made (Ok v) text k = (
       h.to.0,
       record {
@@ -199,12 +199,12 @@ module _ {X : Type 0} {P : X → Type 0} (says : Says X P) (s : Stated) (check :
         whole = whole_due says aim false check h.read h.written h.to.1;
         certificate = k.0;
         truth = k.1;
-        count = k.2 ∙ h.to.1.stands.check_is.batches;
+        count = k.2 ∙ h.to.1.stands.check_is.log.intake.batches;
       },
     )
     made (Err stop) text k = stops stop.cause stop.batches text k
 
-    certified : (result : Result Verdict Stop) → Certifies now held' of_now of' t check.batches log_there result → HasCertified left left' held held' lf lf' of of' aim t result
+    certified : (result : Result Verdict Stop) → Certifies now held' of_now of' t check.log.intake.batches log_there result → HasCertified left left' held held' lf lf' of of' aim t result
     certified result r = record {
       read = h.read;
       written = h.written ++ r.written;
@@ -223,7 +223,7 @@ module _ {X : Type 0} {P : X → Type 0} (says : Says X P) (s : Stated) (check :
   whole_there {T} x each none h = there x (subst (λ (e : Bool). HasReadLog {T = T} left left' held now lf lf' of of_now says aim e check (Ok x)) none h)
 
   pub certified_log : {T : Type 0} (x : T) (each : Bool) → each ≡ false → HasReadLog {T = T} left left' held now lf lf' of of_now says aim each check (Ok x) → (result : Result Verdict Stop)
-      → ((j : Judgement) (log : Prefix) → IsCheckOf says aim check j → HasClosed j log → Certifies now held' of_now of' t check.batches log result)
+      → ((j : Judgement) (log : Prefix) → IsCheckOf says aim check j → HasClosed j log → Certifies now held' of_now of' t check.log.intake.batches log result)
       → HasCertified left left' held held' lf lf' of of' aim t result
   unfolding there
   certified_log {T} x each none h result makes =

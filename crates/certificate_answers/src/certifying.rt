@@ -11,8 +11,8 @@ ghost use Rattle.run_request.specs.Questions.{AsksFor};
 ghost use Rattle.stated_formula.specs.Stating.{IsStated};
 ghost use Rattle.stated_formula.specs.declared.formula.Stated.{Stated as StatedIs};
 ghost use Rattle.log_rules.specs.Judgement.{Judgement, Prefix, waiting};
-ghost use Rattle.log_check.specs.Checking.{HasClosed, IsCheckOf};
-ghost use Rattle.log_check.specs.Aims.{Aim, said_by};
+ghost use Rattle.reported_log.specs.Checking.{HasClosed, IsCheckOf};
+ghost use Rattle.reported_log.specs.Aims.{Aim, said_by};
 ghost use Rattle.certificate_lines.specs.Spelling.{formula_line};
 ghost use Rattle.run_promise.specs.Asking.{Handing, certifying};
 ghost use Rattle.run_promise.specs.Run.{Ran};
@@ -24,8 +24,9 @@ ghost use Rattle.batch_answers.specs.Outcome.{outcome_of};
 use batch_answers::read_log;
 use certify::{certificates_tell_the_truth, certify};
 use log_answers::{Checking, Means, Stop, StopCause, Verdict};
-use log_check::{CheckedLog, LogCheck};
+use log_check::CheckedLog;
 use pota_base::{Bytes, Failed, Gate, List, NoMemory, Sink, Source, Steps};
+use reported_log::ReportedLog;
 use stated_formula::Stated;
 use std::alloc::Global;
 use std::marker::Brand;
@@ -118,10 +119,10 @@ fn certify_read<L: Ledger, O: Sink>(
     ensures { (s : StatedIs) (text : ListOf ℕ) → IsStated text s → (j : Judgement) (log : Prefix)
         → IsCheckOf (said_by answers) (aim_for s) checking.check j → HasClosed j log
         → Certifies (O.held out.old) (O.held out.new) (O.faults out.old) (O.faults out.new)
-        s.formula.tree checking.check.batches log result }
+        s.formula.tree checking.check.log.intake.batches log result }
 {
     let Checking { check, .. } = checking;
-    let batches = check.batches;
+    let batches = check.log.intake.batches;
     write_certificate(alloc, check.into_observed(), batches, out)
 }
 
@@ -152,19 +153,19 @@ fn certify_log<R: Threads + Sync, G: Gate, L: Ledger, S: Source, O: Sink>(
 }
 
 // A check of the formula on a log that no item came of yet, where nothing is a watch.
-fn unwatched_check(alloc: Global, stated: Stated) -> Result<LogCheck, NoMemory>
+fn unwatched_check(alloc: Global, stated: Stated) -> Result<ReportedLog, NoMemory>
     requires { (text : ListOf ℕ) × IsStated text stated }
     ensures { IfOk result (λ check. IsCheckOf (said_by answers) (aim_for stated) check waiting) }
 {
     let watches: Vec<Handed> = Vec::new(alloc);
-    LogCheck::new(alloc, stated, false, false, watches)
+    ReportedLog::new(alloc, stated, false, false, watches)
 }
 
 // Certifies the log whose text the source has, on one thread.
 fn certify_text<R: Threads + Sync, G: Gate, L: Ledger, S: Source, O: Sink>(
     blank: Blank,
     means: &Means<'_, R, G>,
-    check: LogCheck,
+    check: ReportedLog,
     log: &mut S,
     out: &mut O,
 ) -> Result<Verdict, Stop>

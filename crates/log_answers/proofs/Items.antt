@@ -7,9 +7,9 @@ use Rattle.fault_kinds.specs.declared.refusal.Refusal.{Refusal}
 use Rattle.log_rules.specs.Judgement.{Prefix, Rules, Judgement, judge, judged}
 use Rattle.log_rules.specs.Due.{closed_of}
 use Rattle.log_rules.proofs.Items.{judged-append, refused-stays, all_more}
-use Rattle.log_check.specs.Aims.{Says, Aim, rules_of}
-use Rattle.log_check.specs.Checking.{IsCheckOf, GoesOn, HasClosed, MayFollow, IsRefusedAs}
-use Rattle.log_check.specs.declared.check.LogCheck.{LogCheck}
+use Rattle.reported_log.specs.Aims.{Says, Aim, rules_of}
+use Rattle.reported_log.specs.Checking.{IsCheckOf, GoesOn, HasClosed, MayFollow, IsRefusedAs}
+use Rattle.reported_log.specs.declared.reported.ReportedLog.{ReportedLog}
 use Rattle.log_check.proofs.Following.{follows_first, follows_all}
 use Rattle.log_answers.specs.declared.stop.StopCause.{StopCause}
 use Rattle.log_answers.specs.declared.stop.StopCause.TheVariants as causes
@@ -118,7 +118,7 @@ module _ (aim : Aim) where
 module _ {X : Type 0} {P : X → Type 0} (says : Says X P) (aim : Aim) where
   -- ---- one item
 
-  module _ (each : Bool) (before : Judgement) (i : Item) (check now : LogCheck X P) (text : List ℕ)
+  module _ (each : Bool) (before : Judgement) (i : Item) (check now : ReportedLog X P) (text : List ℕ)
       (held : Option (List ℕ)) (of : ℕ) (stands : Stands says aim each check before text) where
     abbrev after : Judgement
     after = judge (rules_of aim) before i
@@ -179,14 +179,14 @@ module _ {X : Type 0} {P : X → Type 0} (says : Says X P) (aim : Aim) where
         go causes.Write n r = absurd r
 
   -- the report of a batch that was closed
-  module _ (before : Judgement) (i : Item) (check now : LogCheck X P) (text : List ℕ)
+  module _ (before : Judgement) (i : Item) (check now : ReportedLog X P) (text : List ℕ)
       (held held' : Option (List ℕ)) (of of' : ℕ) (stands : Stands says aim true check before text)
       (on : GoesOn says aim now before (judge (rules_of aim) before i) true) where
     abbrev next : Judgement
     next = judge (rules_of aim) before i
 
-    pub report_written : {T : Type 0} (x : T) (v : Verdict) (last : LogCheck X P) → IsCheckOf says aim last next
-        → Reports held held' of of' aim now.batches (closed_of before) on.closes.0 text (Ok v)
+    pub report_written : {T : Type 0} (x : T) (v : Verdict) (last : ReportedLog X P) → IsCheckOf says aim last next
+        → Reports held held' of of' aim now.log.intake.batches (closed_of before) on.closes.0 text (Ok v)
         → TakesItems held held' of of' says aim true last next text (Ok x)
     report_written x v last still r = record {
       written = r.written;
@@ -199,8 +199,8 @@ module _ {X : Type 0} {P : X → Type 0} (says : Says X P) (aim : Aim) where
       };
     }
 
-    pub report_stops : {T : Type 0} (stop : Stop) (last : LogCheck X P)
-        → Reports held held' of of' aim now.batches (closed_of before) on.closes.0 text (Err stop)
+    pub report_stops : {T : Type 0} (stop : Stop) (last : ReportedLog X P)
+        → Reports held held' of of' aim now.log.intake.batches (closed_of before) on.closes.0 text (Err stop)
         → TakesItems {T = T} held held' of of' says aim true last next text (Err stop)
     report_stops stop last r = record {
       written = r.written;
@@ -224,7 +224,7 @@ module _ {X : Type 0} {P : X → Type 0} (says : Says X P) (aim : Aim) where
 
   -- a batch was closed, and each has a report
   module _ (each closed : Bool) (has_each : each ≡ true) (has_closed : closed ≡ true) (before : Judgement) (i : Item)
-      (check now : LogCheck X P) (text : List ℕ) (held held' : Option (List ℕ)) (of of' : ℕ)
+      (check now : ReportedLog X P) (text : List ℕ) (held held' : Option (List ℕ)) (of of' : ℕ)
       (stands : Stands says aim each check before text) (on : GoesOn says aim now before (judge (rules_of aim) before i) closed) where
     on_so : GoesOn says aim now before (judge (rules_of aim) before i) true
     on_so = subst (GoesOn says aim now before (judge (rules_of aim) before i)) has_closed on
@@ -234,15 +234,15 @@ module _ {X : Type 0} {P : X → Type 0} (says : Says X P) (aim : Aim) where
 
     abbrev Writes : Result Verdict Stop → Type 0
     Writes result = (log : Prefix) → HasClosed (judge (rules_of aim) before i) log → AreReportsFor aim (closed_of before) text
-        → Reports held held' of of' aim now.batches (closed_of before) log text result
+        → Reports held held' of of' aim now.log.intake.batches (closed_of before) log text result
 
-    pub closed_written : {T : Type 0} (x : T) (v : Verdict) (last : LogCheck X P) → IsCheckOf says aim last (judge (rules_of aim) before i) → Writes (Ok v)
+    pub closed_written : {T : Type 0} (x : T) (v : Verdict) (last : ReportedLog X P) → IsCheckOf says aim last (judge (rules_of aim) before i) → Writes (Ok v)
         → TakesItems held held' of of' says aim each last (judge (rules_of aim) before i) text (Ok x)
     closed_written x v last still writes =
         subst (λ (e : Bool). TakesItems held held' of of' says aim e last (judge (rules_of aim) before i) text (Ok x)) (sym has_each)
         (report_written before i check now text held held' of of' stands_so on_so x v last still (writes on_so.closes.0 on_so.closes.1 stands_so.texts))
 
-    pub closed_stops : {T : Type 0} (stop : Stop) (last : LogCheck X P) → Writes (Err stop)
+    pub closed_stops : {T : Type 0} (stop : Stop) (last : ReportedLog X P) → Writes (Err stop)
         → TakesItems {T = T} held held' of of' says aim each last (judge (rules_of aim) before i) text (Err stop)
     closed_stops {T} stop last writes =
         subst (λ (e : Bool). TakesItems {T = T} held held' of of' says aim e last (judge (rules_of aim) before i) text (Err stop)) (sym has_each)
@@ -254,7 +254,7 @@ module _ {X : Type 0} {P : X → Type 0} (says : Says X P) (aim : Aim) where
   -- ---- all items
 
   -- some of the items were taken, behind this text
-  pub record Taken (held held' : Option (List ℕ)) (of of' : ℕ) (each : Bool) (check : LogCheck X P)
+  pub record Taken (held held' : Option (List ℕ)) (of of' : ℕ) (each : Bool) (check : ReportedLog X P)
       (j : Judgement) (text : List ℕ) (items rest : List Item) : Type 0 where
     pub done : List Item
     pub split : items ≡ done ++ rest
@@ -263,7 +263,7 @@ module _ {X : Type 0} {P : X → Type 0} (says : Says X P) (aim : Aim) where
     pub later : of ≤ of'
     pub stands : Stands says aim each check (judged (rules_of aim) j done) (text ++ written)
 
-  pub taken_none : (held : Option (List ℕ)) (of : ℕ) (each : Bool) (check : LogCheck X P)
+  pub taken_none : (held : Option (List ℕ)) (of : ℕ) (each : Bool) (check : ReportedLog X P)
       (j : Judgement) (text : List ℕ) (items : List Item) → Stands says aim each check j text
       → Taken held held of of each check j text items items
   taken_none held of each check j text items stands = record {
@@ -278,7 +278,7 @@ module _ {X : Type 0} {P : X → Type 0} (says : Says X P) (aim : Aim) where
   }
 
   module _ (held now held' : Option (List ℕ)) (of of_now of' : ℕ) (each : Bool)
-      (check next : LogCheck X P) (j : Judgement) (text : List ℕ) (items : List Item) (i : Item)
+      (check next : ReportedLog X P) (j : Judgement) (text : List ℕ) (items : List Item) (i : Item)
       (rest : List Item) (t : Taken held now of of_now each check j text items (i ∷ rest)) where
     abbrev here : Judgement
     here = judged (rules_of aim) j t.done
@@ -332,7 +332,7 @@ module _ {X : Type 0} {P : X → Type 0} (says : Says X P) (aim : Aim) where
         earlier k u causes.Read n h = absurd h
 
   pub taken_all : {T : Type 0} (x : T) (held held' : Option (List ℕ)) (of of' : ℕ) (each : Bool)
-      (check : LogCheck X P) (j : Judgement) (text : List ℕ) (items rest : List Item) → rest ≡ []
+      (check : ReportedLog X P) (j : Judgement) (text : List ℕ) (items rest : List Item) → rest ≡ []
       → Taken held held' of of' each check j text items rest
       → TakesItems held held' of of' says aim each check (judged (rules_of aim) j items) text (Ok x)
   taken_all x held held' of of' each check j text items rest none t =
@@ -347,16 +347,16 @@ module _ {X : Type 0} {P : X → Type 0} (says : Says X P) (aim : Aim) where
 
 -- what stands between two items, for whatever the check is of
 pub record TakenSoFar {X : Type 0} {P : X → Type 0} (says : Says X P) (held now : Option (List ℕ)) (of of_now : ℕ)
-    (each each_now : Bool) (first check : LogCheck X P) (items rest : List Item) : Type 0 where
+    (each each_now : Bool) (first check : ReportedLog X P) (items rest : List Item) : Type 0 where
   pub each_is : each_now ≡ each
   pub taken : (aim : Aim) (j : Judgement) (text : List ℕ) → Stands says aim each first j text → MayFollow j items
       → Taken says aim held now of of_now each check j text items rest
 
-module _ {X : Type 0} {P : X → Type 0} (says : Says X P) (held : Option (List ℕ)) (of : ℕ) (each : Bool) (first : LogCheck X P) (items : List Item) where
+module _ {X : Type 0} {P : X → Type 0} (says : Says X P) (held : Option (List ℕ)) (of : ℕ) (each : Bool) (first : ReportedLog X P) (items : List Item) where
   pub begins : (rest : List Item) → rest ≡ items → TakenSoFar says held held of of each each first first items rest
   begins rest same = subst (TakenSoFar says held held of of each each first first items) (sym same) (record { each_is = refl; taken = λ aim j text stands follows. taken_none says aim held of each first j text items stands })
 
-  module _ (now : Option (List ℕ)) (of_now : ℕ) (each_now : Bool) (check : LogCheck X P) (i : Item) (rest here : List Item) (next_is : here ≡ i ∷ rest)
+  module _ (now : Option (List ℕ)) (of_now : ℕ) (each_now : Bool) (check : ReportedLog X P) (i : Item) (rest here : List Item) (next_is : here ≡ i ∷ rest)
       (taken : TakenSoFar says held now of of_now each each_now first check items here) where
     t : TakenSoFar says held now of of_now each each_now first check items (i ∷ rest)
     t = subst (TakenSoFar says held now of of_now each each_now first check items) next_is taken
@@ -374,7 +374,7 @@ module _ {X : Type 0} {P : X → Type 0} (says : Says X P) (held : Option (List 
           next_follows says aim held now now of of_now of_now each check check known.1 known.2 items i rest so_far known.4,
         )
 
-    module _ (held' : Option (List ℕ)) (of' : ℕ) (each' : Bool) (next : LogCheck X P) (same : each' ≡ each_now) where
+    module _ (held' : Option (List ℕ)) (of' : ℕ) (each' : Bool) (next : ReportedLog X P) (same : each' ≡ each_now) where
       abbrev Takes : {T : Type 0} → Result T Stop → Type 0
       Takes {T} result = (aim : Aim) (j : Judgement) (text : List ℕ) → Stands says aim each_now check j text → MayFollow j (i ∷ [])
           → TakesItems {T = T} now held' of_now of' says aim each_now next (judge (rules_of aim) j i) text result
@@ -403,7 +403,7 @@ module _ {X : Type 0} {P : X → Type 0} (says : Says X P) (held : Option (List 
           let so_far = t.taken aim j text stands follows in
           taken_stops says aim held now held' of of_now of' each check next j text items i rest so_far stop (takes (Err stop) taking aim j text stands follows so_far)
 
-  pub all_done : {T : Type 0} (x : T) (now : Option (List ℕ)) (of_now : ℕ) (each_now : Bool) (check : LogCheck X P) (rest : List Item) → rest ≡ []
+  pub all_done : {T : Type 0} (x : T) (now : Option (List ℕ)) (of_now : ℕ) (each_now : Bool) (check : ReportedLog X P) (rest : List Item) → rest ≡ []
       → TakenSoFar says held now of of_now each each_now first check items rest → (aim : Aim) (j : Judgement) (text : List ℕ) → Stands says aim each first j text → MayFollow j items
       → TakesItems held now of of_now says aim each check (judged (rules_of aim) j items) text (Ok x)
   all_done x now of_now each_now check rest none t aim j text stands follows =

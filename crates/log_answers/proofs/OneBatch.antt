@@ -16,9 +16,9 @@ use Rattle.fault_kinds.specs.declared.refusal.Refusal.TheVariants as refusal
 use Rattle.log_rules.specs.Judgement.{Prefix, followed_by, with_clocks, Rules, Judgement, waiting, growing, finished, refused, opened, closing, judged}
 use Rattle.log_rules.specs.Due.{whole_of}
 use Rattle.log_rules.proofs.Items.{prefix_at, refused-stays}
-use Rattle.log_check.specs.Aims.{Says, Aim, rules_of}
-use Rattle.log_check.specs.Checking.{IsCheckOf, IsFree, HasClosed, MayFollow}
-use Rattle.log_check.specs.declared.check.LogCheck.{LogCheck}
+use Rattle.reported_log.specs.Aims.{Says, Aim, rules_of}
+use Rattle.reported_log.specs.Checking.{IsCheckOf, IsFree, HasClosed, MayFollow}
+use Rattle.reported_log.specs.declared.reported.ReportedLog.{ReportedLog}
 use Rattle.log_answers.specs.declared.stop.StopCause.{StopCause}
 use Rattle.log_answers.specs.declared.stop.StopCause.TheVariants as causes
 use Rattle.log_answers.specs.declared.stop.Stop.{Stop}
@@ -135,7 +135,7 @@ no_text aim text n h = go h.front h.are h.texts
     go (p ∷ front) e texts = absurd cc
 
 module _ {X : Type 0} {P : X → Type 0} (says : Says X P) (aim : Aim) (log : Log) where
-  pub taken_short : {T : Type 0} (held : Option (List ℕ)) (of : ℕ) (check : LogCheck X P) (stop : Stop) → stop ≡ record { batches = 0; cause = causes.Memory }
+  pub taken_short : {T : Type 0} (held : Option (List ℕ)) (of : ℕ) (check : ReportedLog X P) (stop : Stop) → stop ≡ record { batches = 0; cause = causes.Memory }
       → TakesWhole {T = T} held held of of says aim check log (Err stop)
   taken_short {T} held of check stop is = subst (λ (s : Stop). TakesWhole {T = T} held held of of says aim check log (Err s)) (sym is) (record {
     written = [];
@@ -144,13 +144,13 @@ module _ {X : Type 0} {P : X → Type 0} (says : Says X P) (aim : Aim) (log : Lo
     to = whole_front aim [] [] 0 refl refl;
   })
 
-  pub first_stands : (each : Bool) → each ≡ false → (check : LogCheck X P) → IsCheckOf says aim check waiting → Stands says aim each check waiting []
+  pub first_stands : (each : Bool) → each ≡ false → (check : ReportedLog X P) → IsCheckOf says aim check waiting → Stands says aim each check waiting []
   first_stands each last check is = subst (λ (e : Bool). Stands says aim e check waiting []) (sym last) (record { check_is = is; texts = refl })
 
   pub items_follow : (items : List Item) → items ≡ log_items log → FitFirst (log_items log) → MayFollow waiting items
   items_follow items same fits = subst FitFirst (sym same) fits
 
-  pub whole_taken : (items : List Item) → items ≡ log_items log → FitFirst (log_items log) → (held now : Option (List ℕ)) (of of_now : ℕ) (each : Bool) → each ≡ false → (first check : LogCheck X P)
+  pub whole_taken : (items : List Item) → items ≡ log_items log → FitFirst (log_items log) → (held now : Option (List ℕ)) (of of_now : ℕ) (each : Bool) → each ≡ false → (first check : ReportedLog X P)
       → {T : Type 0} (result : Result T Stop) → IsCheckOf says aim first waiting
       → ((j : Judgement) (text : List ℕ) → Stands says aim each first j text → MayFollow j items → TakesItems held now of of_now says aim each check (judged (rules_of aim) j items) text result)
       → TakesWhole held now of of_now says aim check log result
@@ -161,7 +161,7 @@ module _ {X : Type 0} {P : X → Type 0} (says : Says X P) (aim : Aim) (log : Lo
 
   -- ---- its report was to be written
 
-  pub whole_stops : {T : Type 0} (held held' : Option (List ℕ)) (of of' : ℕ) (check : LogCheck X P) (stop : Stop)
+  pub whole_stops : {T : Type 0} (held held' : Option (List ℕ)) (of of' : ℕ) (check : ReportedLog X P) (stop : Stop)
       → TakesWhole {T = T} held held' of of' says aim check log (Err stop) → HasWhole held held' of of' aim log (Err stop)
   whole_stops held held' of of' check stop t = record {
     written = t.written;
@@ -176,10 +176,10 @@ module _ {X : Type 0} {P : X → Type 0} (says : Says X P) (aim : Aim) (log : Lo
       go causes.Memory n h = (no_text aim t.written n h, h.count)
       go causes.Read n h = absurd h
 
-  module _ (one : length log.batches ≡ 1) (held now : Option (List ℕ)) (of of_now : ℕ) (check : LogCheck X P) {T : Type 0} (x : T)
+  module _ (one : length log.batches ≡ 1) (held now : Option (List ℕ)) (of of_now : ℕ) (check : ReportedLog X P) {T : Type 0} (x : T)
       (t : TakesWhole held now of of_now says aim check log (Ok x)) where
     whole : (p : Prefix) × (whole_of (judgement_on aim log) ≡ Some p)
-    whole = whole_done (rules_of aim) log one t.to.check_is.free
+    whole = whole_done (rules_of aim) log one t.to.check_is.log.free
 
     closed : HasClosed (judgement_on aim log) whole.0
     closed = whole_closed (judgement_on aim log) whole.0 whole.1
@@ -194,13 +194,13 @@ module _ {X : Type 0} {P : X → Type 0} (says : Says X P) (aim : Aim) (log : Lo
       report_stops (causes.Refused r) n text h = absurd h
       report_stops causes.Read n text h = absurd h
 
-      reported : (result : Result Verdict Stop) → (r : Reports now held' of_now of' aim check.batches [] whole.0 [] result) → WholeTo of of' aim log r.written result
-      reported (Ok v) r = record { whole = whole.0; is = whole.1; texts = r.to.0; truth = r.to.1; count = r.to.2 ∙ t.to.check_is.batches }
+      reported : (result : Result Verdict Stop) → (r : Reports now held' of_now of' aim check.log.intake.batches [] whole.0 [] result) → WholeTo of of' aim log r.written result
+      reported (Ok v) r = record { whole = whole.0; is = whole.1; texts = r.to.0; truth = r.to.1; count = r.to.2 ∙ t.to.check_is.log.intake.batches }
       reported (Err stop) r = report_stops stop.cause stop.batches r.written r.to
 
       pub whole_reported : (result : Result Verdict Stop)
           → ((j : Judgement) (p : Prefix) → IsCheckOf says aim check j → HasClosed j p → (before : List Prefix) (text : List ℕ) → AreReportsFor aim before text
-          → Reports now held' of_now of' aim check.batches before p text result)
+          → Reports now held' of_now of' aim check.log.intake.batches before p text result)
           → HasWhole held held' of of' aim log result
       whole_reported result reports =
           let r = reports (judgement_on aim log) whole.0 t.to.check_is closed [] [] refl in

@@ -15,8 +15,8 @@ use Rattle.log_rules.specs.Judgement.{Prefix, Judgement, waiting, growing, finis
 use Rattle.log_rules.specs.Due.{batches_of}
 use Rattle.log_judgement.specs.Texts.{IsReportText}
 use Rattle.log_judgement.proofs.Texts.{texts_join}
-use Rattle.log_check.specs.Aims.{Aim, asked_of, IsReportFor}
-use Rattle.log_check.specs.Checking.{HasClosed, IsRefusedAs}
+use Rattle.reported_log.specs.Aims.{Aim, asked_of, IsReportFor}
+use Rattle.reported_log.specs.Checking.{HasClosed, IsRefusedAs}
 use Rattle.log_answers.specs.declared.stop.StopCause.{StopCause}
 use Rattle.log_answers.specs.declared.stop.StopCause.TheVariants as causes
 use Rattle.log_answers.specs.declared.stop.Stop.{Stop}

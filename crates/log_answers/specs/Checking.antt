@@ -13,9 +13,9 @@ use Rattle.fault_kinds.specs.declared.refusal.Refusal.{Refusal}
 use Rattle.log_rules.specs.Judgement.{Prefix, Judgement, refused}
 use Rattle.log_rules.specs.Due.{closed_of, batches_of}
 use Rattle.log_judgement.specs.Texts.{AreReports}
-use Rattle.log_check.specs.Aims.{Says, Aim, asked_of, IsReportFor, IsTrueSoFar}
-use Rattle.log_check.specs.Checking.{IsCheckOf}
-use Rattle.log_check.specs.declared.check.LogCheck.{LogCheck}
+use Rattle.reported_log.specs.Aims.{Says, Aim, asked_of, IsReportFor, IsTrueSoFar}
+use Rattle.reported_log.specs.Checking.{IsCheckOf}
+use Rattle.reported_log.specs.declared.reported.ReportedLog.{ReportedLog}
 use Rattle.log_answers.specs.declared.stop.StopCause.{StopCause}
 use Rattle.log_answers.specs.declared.stop.StopCause.TheVariants as causes
 use Rattle.log_answers.specs.declared.stop.Stop.{Stop}
@@ -85,7 +85,7 @@ pub record Reports (held held' : Option (List ℕ)) (of of' : ℕ) (aim : Aim)
 
 -- the check is at this judgement, and the text of the reports so far was written
 pub record Stands {X : Type 0} {P : X → Type 0} (says : Says X P) (aim : Aim) (each : Bool)
-    (check : LogCheck X P) (j : Judgement) (text : List ℕ) : Type 0 where
+    (check : ReportedLog X P) (j : Judgement) (text : List ℕ) : Type 0 where
   pub check_is : IsCheckOf says aim check j
   pub texts : AreReportsFor aim (closed_in each j) text
 
@@ -106,7 +106,7 @@ StopsIn causes.Memory n of of' aim each j text =
     HasFrontOf aim (closed_in each j) text n
 StopsIn causes.Read n of of' aim each j text = ⊥
 
-abbrev pub ItemsTo : {T X : Type 0} {P : X → Type 0} → ℕ → ℕ → Says X P → Aim → Bool → LogCheck X P
+abbrev pub ItemsTo : {T X : Type 0} {P : X → Type 0} → ℕ → ℕ → Says X P → Aim → Bool → ReportedLog X P
     → Judgement → List ℕ
     → Result T Stop → Type 0
 ItemsTo of of' says aim each check j text (Ok x) = Stands says aim each check j text
@@ -116,7 +116,7 @@ ItemsTo of of' says aim each check j text (Err stop) =
 -- items led to this judgement, behind this text
 pub record TakesItems {T X : Type 0} {P : X → Type 0} (held held' : Option (List ℕ)) (of of' : ℕ)
     (says : Says X P)
-    (aim : Aim) (each : Bool) (check : LogCheck X P) (j : Judgement) (text : List ℕ)
+    (aim : Aim) (each : Bool) (check : ReportedLog X P) (j : Judgement) (text : List ℕ)
     (result : Result T Stop) : Type 0 where
   pub written : List ℕ
   pub wrote : Appends held held' written

@@ -9,7 +9,7 @@ use Rattle.log_rules.specs.Judgement.{Prefix}
 use Rattle.log_rules.specs.Readings.{Reading}
 use Rattle.log_rules.specs.Due.{Due, due}
 use Rattle.log_rules.specs.Reported.{reported}
-use Rattle.log_check.specs.Aims.{Aim, rules_of, IsTrueSoFar}
+use Rattle.reported_log.specs.Aims.{Aim, rules_of, IsTrueSoFar}
 use Rattle.log_answers.specs.declared.stop.StopCause.{StopCause}
 use Rattle.log_answers.specs.declared.stop.StopCause.TheVariants as causes
 use Rattle.log_answers.specs.declared.stop.Stop.{Stop}

@@ -8,8 +8,8 @@ use Rattle.event_log.specs.LogText.{log_items}
 use Rattle.fault_kinds.specs.declared.refusal.Refusal.{Refusal}
 use Rattle.log_rules.specs.Judgement.{Prefix, Judgement, waiting, refused, judged}
 use Rattle.log_rules.specs.Due.{whole_of, batches_of}
-use Rattle.log_check.specs.Aims.{Says, Aim, rules_of, IsTrueSoFar}
-use Rattle.log_check.specs.declared.check.LogCheck.{LogCheck}
+use Rattle.reported_log.specs.Aims.{Says, Aim, rules_of, IsTrueSoFar}
+use Rattle.reported_log.specs.declared.reported.ReportedLog.{ReportedLog}
 use Rattle.log_answers.specs.declared.stop.StopCause.{StopCause}
 use Rattle.log_answers.specs.declared.stop.StopCause.TheVariants as causes
 use Rattle.log_answers.specs.declared.stop.Stop.{Stop}
@@ -22,7 +22,7 @@ judgement_on aim log = judged (rules_of aim) waiting (log_items log)
 
 -- its items were taken, and nothing was written
 abbrev pub TakesWhole : {T X : Type 0} {P : X → Type 0} → (held held' : Option (List ℕ))
-    → (of of' : ℕ) → Says X P → Aim → LogCheck X P → Log → Result T Stop → Type 0
+    → (of of' : ℕ) → Says X P → Aim → ReportedLog X P → Log → Result T Stop → Type 0
 TakesWhole held held' of of' says aim check log result =
     TakesItems held held' of of' says aim false check (judgement_on aim log) [] result
 

@@ -3,8 +3,8 @@ ghost use Rattle.std.specs.Prelude.{◌≡◌, ◌∷◌, ◌++◌, ◌≤◌, [
 ghost use Rattle.std.specs.Prelude.{IfOk, OnOk};
 ghost use Rattle.log_rules.specs.Judgement.{Prefix, Judgement, judge, judged};
 ghost use Rattle.report.specs.Spelling.{IsWellFormed};
-ghost use Rattle.log_check.specs.Aims.{Aim, IsReportFor, rules_of, said_by};
-ghost use Rattle.log_check.specs.Checking.{HasClosed, IsCheckOf, MayFollow};
+ghost use Rattle.reported_log.specs.Aims.{Aim, IsReportFor, rules_of, said_by};
+ghost use Rattle.reported_log.specs.Checking.{HasClosed, IsCheckOf, MayFollow};
 ghost use Rattle.log_answers.specs.Checking.{AreReportsFor, IsBenchAim, Reports};
 ghost use Rattle.log_answers.specs.inside.Checking.{Judges, Puts};
 ghost use Rattle.log_answers.specs.Checking.{Stands, SumsUp, TakesItems};
@@ -13,9 +13,9 @@ ghost use Rattle.bench_summary.specs.Views.{sizes_of};
 use crate::stop::{Stop, StopCause, Verdict};
 use bench_summary::{Sizes, write_summary};
 use event_log::Item;
-use log_check::LogCheck;
 use pota_base::{Gate, List, NoMemory, Refused, Sink, Steps, write_all};
 use report::{Report, write_report};
+use reported_log::ReportedLog;
 use std::alloc::Global;
 use std::sync::ledger::Ledger;
 use std::thread::Threads;
@@ -32,7 +32,7 @@ pub struct Means<'a, R, G> {
 /// A log that is checked, and whether each of its batches has a report.
 #[derive(Drop)]
 pub struct Checking<L: Ledger> {
-    pub check: LogCheck,
+    pub check: ReportedLog,
     pub each_batch: bool,
     pub workers: u32,
     pub steps: Steps<L>,
@@ -57,10 +57,10 @@ pub fn put<O: Sink>(out: &mut O, text: &[u8], batches: u32) -> Result<(), Stop>
 impl<L: Ledger> Checking<L> {
     /// A stop behind the batches so far.
     pub fn stop(&self, cause: StopCause) -> Stop
-        ensures { result ≡ record { batches = self.now.check.batches; cause = cause } }
+        ensures { result ≡ record { batches = self.now.check.log.intake.batches; cause = cause } }
     {
         Stop {
-            batches: self.check.batches,
+            batches: self.check.log.intake.batches,
             cause,
         }
     }
@@ -97,13 +97,13 @@ impl<L: Ledger> Checking<L> {
             → IsCheckOf (said_by answers) aim self.old.check j → HasClosed j log
             → (before : ListOf Prefix) (text : ListOf ℕ) → AreReportsFor aim before text
             → Reports (O.held out.old) (O.held out.new) (O.faults out.old) (O.faults out.new) aim
-            self.old.check.batches before log text result }
+            self.old.check.log.intake.batches before log text result }
         ensures goes_on { OnOk result ((aim : Aim) (j : Judgement)
             → IsCheckOf (said_by answers) aim self.old.check j
             → IsCheckOf (said_by answers) aim self.new.check j) }
         ensures each { self.new.each_batch ≡ self.old.each_batch }
     {
-        let batches = self.check.batches;
+        let batches = self.check.log.intake.batches;
         let Ok(report) = self.ask(means) else {
             return Err(Stop::without_memory());
         };
@@ -206,9 +206,9 @@ impl<L: Ledger> Checking<L> {
         ensures { (aim : Aim) (j : Judgement) (log : Prefix)
             → IsCheckOf (said_by answers) aim self.old.check j → HasClosed j log → IsBenchAim aim
             → SumsUp (O.held out.old) (O.held out.new) (O.faults out.old) (O.faults out.new) aim
-            self.old.check.batches log (sizes_of sizes) result }
+            self.old.check.log.intake.batches log (sizes_of sizes) result }
     {
-        let batches = self.check.batches;
+        let batches = self.check.log.intake.batches;
         let Ok(report) = self.ask(means) else {
             return Err(Stop::without_memory());
         };

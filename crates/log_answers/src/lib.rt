@@ -1,6 +1,6 @@
 //! The reports on a log that is checked item by item, written as its batches are closed.
 //!
-//! `Checking` takes items by `log_check` and writes the report of each batch that has one before it
+//! `Checking` takes items by `reported_log` and writes the report of each batch that has one before it
 //! takes the next item (`take_all`), the report on the log as far as it was closed (`report`), and
 //! the summary of a bench (`sum_up`). A log that stands whole, in one batch, is taken at once
 //! (`take_whole`), and its report written (`check_whole`). A stop says how many batches were closed before it, and its

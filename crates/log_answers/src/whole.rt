@@ -3,8 +3,8 @@ ghost use Rattle.std.specs.Prelude.{◌≡◌, ◌++◌, false, length, IfOk, On
 ghost use Rattle.event_log.specs.FittingItems.{FitFirst};
 ghost use Rattle.event_log.specs.LogText.{log_items, event_items};
 ghost use Rattle.log_rules.specs.Judgement.{waiting};
-ghost use Rattle.log_check.specs.Aims.{Aim, said_by};
-ghost use Rattle.log_check.specs.Checking.{IsCheckOf};
+ghost use Rattle.reported_log.specs.Aims.{Aim, said_by};
+ghost use Rattle.reported_log.specs.Checking.{IsCheckOf};
 ghost use Rattle.log_answers.specs.Whole.{HasWhole, TakesWhole};
 
 use crate::checking::{Checking, Means};

@@ -6,10 +6,9 @@ use Rattle.std.proofs.lemmas.Bool.{cases_Bool, false≢true, or_parts, or_from}
 use Rattle.std.proofs.lemmas.List.{map-append, length-map}
 use Rattle.std.proofs.lemmas.List.Elements.{All-nil, All-cons, All-head, All-tail, All-weaker, All-contains, All-contains_itself}
 use Rattle.std.proofs.Math.ListN.{get_or-map}
-use Rattle.run_model.specs.Run.{Name, Watches, run_of, number_of}
+use Rattle.run_model.specs.Run.{Name, number_of}
 use Rattle.run_model.specs.Formula as model
 use Rattle.run_model.specs.Formula.{Formula}
-use Rattle.run_model.specs.Class.{IsKeptFor}
 use Rattle.log_lines.specs.Names.{are_distinct}
 use Rattle.event_log.specs.declared.item.LogFault.{LogFault}
 use Rattle.event_log.specs.declared.log.Binding.{Binding}
@@ -19,7 +18,6 @@ use Rattle.event_log.specs.Numbers.{binding_names}
 use Rattle.event_log.specs.States.{StatesView, IsHeader, AreNamedApart, AreWhole, trace_of}
 use Rattle.event_log.proofs.NameNumbers.{number_again}
 use Rattle.counter_preds.specs.declared.values.Variable.{Variable}
-use Rattle.counter_preds.specs.Counters.{IsCounter}
 use Rattle.counter_preds.specs.Falls.{is_lowered, fall_of, fall_fault, behind_event}
 use Rattle.rctl_grammar.specs.declared.tree.Operator.{Operator}
 use Rattle.rctl_grammar.specs.declared.tree.Operator.TheVariants as operator
@@ -34,8 +32,7 @@ use Rattle.rctl_names.specs.Seen.{names_of, variables_in}
 use Rattle.rctl_names.specs.Resolving.{scope_of}
 use Rattle.part_pulls.specs.Counters as parts
 use Rattle.log_rules.specs.Counters.{variable_in, counters_in}
-use Rattle.log_rules.proofs.Rising.{Rises, kept_for}
-use Rattle.log_check.specs.Keeping.{HaveCounters}
+use Rattle.log_check.specs.Checking.{HaveCounters}
 
 -- ---- lists with the same counters
 
@@ -51,7 +48,7 @@ all_any f (x ∷ xs) each =
     or_from (f x) (list_any f xs) (All-head (λ (c : Counter). f c ≡ false) x xs each) (all_any f xs (All-tail (λ (c : Counter). f c ≡ false) x xs each))
 
 -- what holds of each of some holds of each of fewer
-among : (P : Counter → Type 0) (xs ys : List Counter) → ((c : Counter) → Contains xs c → Contains ys c) → All P ys → All P xs
+pub among : (P : Counter → Type 0) (xs ys : List Counter) → ((c : Counter) → Contains xs c → Contains ys c) → All P ys → All P xs
 among P xs ys fewer each = All-weaker (Contains xs) P (λ c m. All-contains P ys c each (fewer c m)) xs (All-contains_itself xs)
 
 same_any : (f : Counter → Bool) (xs ys : List Counter) → HaveSameMembers xs ys → list_any f xs ≡ list_any f ys
@@ -199,21 +196,3 @@ module _ (h : Header) (f : Formula) (ds : List (List Piece)) (have : HaveCounter
   falls_are states batch =
       ap (λ (xs : List Variable). fall_fault states xs batch) have.numbered
       ∙ same_falls (variable_in h) have.named (counters_of f) have.same states batch
-
-  each_mapped : (P : Variable → Type 0) (cs : List Counter) → All P (map (variable_in h) cs) → All (λ (c : Counter). P (variable_in h c)) cs
-  each_mapped P [] each = All-nil (λ (c : Counter). P (variable_in h c))
-  each_mapped P (c ∷ cs) each =
-      All-cons (λ (x : Counter). P (variable_in h x)) c cs (All-head P (variable_in h c) (map (variable_in h) cs) each) (each_mapped P cs (All-tail P (variable_in h c) (map (variable_in h) cs) each))
-
-  by_turns : (P Q : Variable → Type 0) → ((x : Variable) → P x → Q x) → (cs : List Counter) → All (λ (c : Counter). P (variable_in h c)) cs → AllByRecursion Q (map (variable_in h) cs)
-  by_turns P Q leads [] each = tt
-  by_turns P Q leads (c ∷ cs) each =
-      (leads (variable_in h c) (All-head (λ (x : Counter). P (variable_in h x)) c cs each), by_turns P Q leads cs (All-tail (λ (x : Counter). P (variable_in h x)) c cs each))
-
-  -- and where none of them falls the run keeps what the formula asks for
-  pub rising_kept : (states : StatesView) (watches : Watches) → AreWhole states → states.header ≡ h → All (IsCounter states) (parts.counters_of ds) → IsKeptFor (run_of (trace_of states) watches) f
-  rising_kept states watches whole header rise =
-      let named = each_mapped (IsCounter states) have.named (subst (All (IsCounter states)) have.numbered rise) in
-      let asked = among (λ (c : Counter). IsCounter states (variable_in h c)) (counters_of f) have.named (λ c m. (have.same.same c).1 m) named in
-      kept_for states watches whole f
-      (subst (λ (x : Header). AllByRecursion (Rises states) (counters_in f x)) (sym header) (by_turns (IsCounter states) (Rises states) (λ x rises is. rises) (counters_of f) asked))

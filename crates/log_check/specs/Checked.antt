@@ -2,16 +2,28 @@
 use Rattle.std.specs.Prelude.{◌≡◌, ◌↔◌, []}
 use Rattle.run_model.specs.Cut.{initial}
 use Rattle.run_model.specs.Meaning.{Sat}
-use Rattle.rctl_class.specs.Nodes.{node_of}
+use Rattle.run_model.specs.Run.{Run, run_of, clocks_of}
+use Rattle.rctl_class.specs.Nodes.{node_of, formula_of}
 use Rattle.rctl_parts.specs.Pieces.{disjuncts_of}
 use Rattle.rctl_parts.specs.Spelled.{disjunction_of}
 use Rattle.rctl_names.specs.Resolving.{numbered_disjuncts}
 use Rattle.part_pulls.specs.declared.observed.Observed.{Observed}
 use Rattle.part_pulls.specs.Observing.{AreAnswers, clocks_seen, run_seen, names_seen}
 use Rattle.log_rules.specs.Judgement.{Prefix}
+use Rattle.log_rules.specs.SoFar.{trace_so_far}
 use Rattle.log_check.specs.declared.checked.CheckedLog.{CheckedLog}
-use Rattle.log_check.specs.Aims.{Aim, IsTrueSoFar}
-use Rattle.log_check.specs.Keeping.{trace_after, reading_of}
+use Rattle.log_intake.specs.Taking.{trace_after}
+use Rattle.log_check.specs.Aims.{Aim, reading_of}
+
+-- the run of a log so far, with what the watches say
+abbrev pub run_so_far : Aim → Prefix → Run
+run_so_far aim log = run_of (trace_so_far log.header log.batches) aim.watches
+
+-- the formula is true at the initial cut of the run so far
+abbrev pub IsTrueSoFar : Aim → Prefix → Type 0
+IsTrueSoFar aim log =
+    Sat (run_so_far aim log) (formula_of aim.node)
+    (initial (clocks_of (trace_so_far log.header log.batches)))
 
 -- the disjuncts are true at the initial cut of what was observed
 abbrev pub IsTrueOn : Aim → CheckedLog → Type 0

@@ -1,15 +1,13 @@
-//! A log that is checked item by item.
-ghost use Rattle.std.specs.Prelude.{◌≡◌, ◌≤◌, ◌∷◌, [], ℕ, List as ListOf, IfOk, OnOk};
+//! A log that is taken for a formula item by item.
+ghost use Rattle.std.specs.Prelude.{◌≡◌, ◌∷◌, [], ℕ, List as ListOf, Some, IfOk, OnOk};
 ghost use Rattle.vector_clock.specs.Admitted.{IfFault};
 ghost use Rattle.event_log.specs.LogText.{HeaderFits};
-ghost use Rattle.report.specs.Spelling.{IsWellFormed};
 ghost use Rattle.stated_formula.specs.Stating.{IsStated};
-ghost use Rattle.log_rules.specs.Judgement.{Prefix, Judgement, judge, opened, waiting};
-ghost use Rattle.log_check.specs.Aims.{Aim, AreWatches, IsReportFor, aim_of, names_of, rules_of};
+ghost use Rattle.log_rules.specs.Judgement.{Judgement, Prefix, judge, opened, waiting};
+ghost use Rattle.log_intake.specs.Taking.{MayFollow, HasClosed, GrowsFrom, end_item};
+ghost use Rattle.log_check.specs.Aims.{Aim, AreWatches, aim_of, names_of, rules_of};
 ghost use Rattle.log_check.specs.Aims.{said_by, watches_of};
-ghost use Rattle.log_check.specs.Checking.{GoesOn, HasClosed, IsCheckOf, IsRefusedAs, MayFollow};
-ghost use Rattle.log_check.specs.inside.Checking.{end_item};
-ghost use Rattle.log_check.specs.inside.Keeping.{HasAnswered};
+ghost use Rattle.log_check.specs.Checking.{GoesOn, IsCheckOf, IsRefusedAs, IsObservedFor};
 ghost use Rattle.log_check.specs.Checked.{IsCheckedLog};
 ghost use Rattle.trace_growth.specs.Growing.{IsTrace};
 ghost use Rattle.rctl_parts.specs.Pieces.{disjuncts_of};
@@ -18,40 +16,29 @@ ghost use Rattle.part_pulls.specs.Counters.{CountersRise};
 ghost use Rattle.part_pulls.specs.Observing.{IsReady, scope_seen};
 
 use crate::checked::CheckedLog;
-use answer_report::{Wanted, report_on};
-use event_log::{Event, Header, Item};
+use event_log::{Header, Item};
 use fault_kinds::Refusal;
-use pota_base::{Gate, List, NoMemory, Refused, Steps};
+use log_intake::LogIntake;
+use observation::Observation;
+use pota_base::{List, NoMemory, Refused};
 use pota_names::Name;
 use rctl_names::resolve;
-use report::Report;
-use session::Session;
 use stated_formula::Stated;
 use std::alloc::Global;
 use std::mem;
-use std::sync::ledger::Ledger;
-use std::thread::Threads;
 use watch::{Handed, Watch};
 
-/// A log that is checked against a formula as its items come.
+/// A log that is taken for a formula as its items come.
 #[derive(Drop)]
 pub struct LogCheck {
-    /// The formula, and what its reports show.
+    /// The formula.
     pub stated: Stated,
-    pub slice: bool,
-    pub witness: bool,
-    /// How many batches were closed without a fault.
-    pub batches: u32,
     /// The names of the watches.
     names: List<Name>,
     /// The watches until the header comes, and none behind it.
     watches: Vec<Handed>,
-    /// The formula on the batches so far, behind the header.
-    session: Option<Session>,
-    /// The events since the last batch was closed.
-    since: List<Event>,
-    /// Whether the `end` line came.
-    ended: bool,
+    /// The log so far.
+    pub intake: LogIntake,
 }
 
 // The names of watches.
@@ -67,29 +54,18 @@ fn copy_names(alloc: Global, watches: &[Handed]) -> Result<List<Name>, NoMemory>
 
 impl LogCheck {
     /// A check of a log of which no item came yet.
-    pub fn new(
-        alloc: Global,
-        stated: Stated,
-        slice: bool,
-        witness: bool,
-        watches: Vec<Handed>,
-    ) -> Result<LogCheck, NoMemory>
+    pub fn new(alloc: Global, stated: Stated, watches: Vec<Handed>) -> Result<LogCheck, NoMemory>
         requires stated { (text : ListOf ℕ) × IsStated text stated }
         requires watches { AreWatches watches.items }
         ensures { IfOk result (λ check. IsCheckOf (said_by answers)
-            (aim_of stated slice witness (names_of watches.items)
-            (watches_of (said_by answers) watches.items)) check waiting) }
+            (aim_of stated (names_of watches.items) (watches_of (said_by answers) watches.items))
+            check waiting) }
     {
         Ok(LogCheck {
             stated,
-            slice,
-            witness,
-            batches: 0,
             names: copy_names(alloc, watches.as_slice())?,
             watches,
-            session: None,
-            since: List::new(alloc),
-            ended: false,
+            intake: LogIntake::new(alloc),
         })
     }
 
@@ -101,7 +77,7 @@ impl LogCheck {
             → IsCheckOf (said_by answers) aim self.new (opened (rules_of aim) header)) }
         ensures fault { IfFault result (λ why. (aim : Aim)
             → IsCheckOf (said_by answers) aim self.old waiting
-            → IsRefusedAs waiting (opened (rules_of aim) header) self.new.batches why) }
+            → IsRefusedAs waiting (opened (rules_of aim) header) self.new.intake.batches why) }
     {
         let resolved = match resolve(alloc, &self.stated.classed, &header, &self.names) {
             Ok(resolved) => resolved,
@@ -115,9 +91,9 @@ impl LogCheck {
             }
         };
         let watches = mem::replace(&mut self.watches, Vec::new(alloc));
-        match Session::new(alloc, header, resolved, watches) {
-            Ok(session) => {
-                self.session = Some(session);
+        match Observation::new(alloc, header, resolved, watches) {
+            Ok(observation) => {
+                self.intake.open(observation);
                 Ok(())
             }
             Err(_) => Err(Refused::NoMemory),
@@ -132,43 +108,37 @@ impl LogCheck {
             → IsCheckOf (said_by answers) aim self.old j → MayFollow j (end_item last ∷ [])
             → GoesOn (said_by answers) aim self.new j (judge (rules_of aim) j (end_item last))
             closed) }
+        ensures later { OnOk result (GrowsFrom self.old.intake.observation
+            self.new.intake.observation) }
         ensures fault { IfFault result (λ why. (aim : Aim) (j : Judgement)
             → IsCheckOf (said_by answers) aim self.old j → MayFollow j (end_item last ∷ [])
-            → IsRefusedAs j (judge (rules_of aim) j (end_item last)) self.new.batches why) }
+            → IsRefusedAs j (judge (rules_of aim) j (end_item last)) self.new.intake.batches
+            why) }
     {
-        if self.ended {
-            return Ok(false);
+        match self.intake.close(alloc, last) {
+            Ok(closed) => Ok(closed),
+            Err(Refused::Fault(fault)) => Err(Refused::Fault(Refusal::Log(fault))),
+            Err(Refused::NoMemory) => Err(Refused::NoMemory),
         }
-        let batch = mem::replace(&mut self.since, List::new(alloc));
-        let Some(session) = &mut self.session else {
-            unreachable!()
-        };
-        match session.observe(batch) {
-            Ok(()) => {}
-            Err(Refused::Fault(fault)) => return Err(Refused::Fault(Refusal::Log(fault))),
-            Err(Refused::NoMemory) => return Err(Refused::NoMemory),
-        }
-        self.batches = self.batches.saturating_add(1);
-        self.ended = last;
-        Ok(!last)
     }
 
     /// Takes one item more, behind those before, and tells whether a `batch` line closed a batch.
-    /// `Fault` is the refusal that is due there; nothing may be taken behind it. The formula is not
-    /// answered before a report is asked for.
+    /// `Fault` is the refusal that is due there; nothing may be taken behind it.
     pub fn take(&mut self, alloc: Global, item: Item) -> Result<bool, Refused<Refusal>>
         requires check { (aim : Aim) × (j : Judgement)
             × IsCheckOf (said_by answers) aim self.old j × MayFollow j (item ∷ []) }
         ensures ok { IfOk result (λ closed. (aim : Aim) (j : Judgement)
             → IsCheckOf (said_by answers) aim self.old j → MayFollow j (item ∷ [])
             → GoesOn (said_by answers) aim self.new j (judge (rules_of aim) j item) closed) }
+        ensures later { OnOk result (GrowsFrom self.old.intake.observation
+            self.new.intake.observation) }
         ensures fault { IfFault result (λ why. (aim : Aim) (j : Judgement)
             → IsCheckOf (said_by answers) aim self.old j → MayFollow j (item ∷ [])
-            → IsRefusedAs j (judge (rules_of aim) j item) self.new.batches why) }
+            → IsRefusedAs j (judge (rules_of aim) j item) self.new.intake.batches why) }
     {
         match item {
             Item::Event(event) => {
-                self.since.push(event)?;
+                self.intake.add(event)?;
                 Ok(false)
             }
             Item::Header(header) => match self.open(alloc, header) {
@@ -180,86 +150,16 @@ impl LogCheck {
         }
     }
 
-    // The answer on the batches so far is made.
-    fn settle<R: Threads + Sync, G: Gate, L: Ledger>(
-        &mut self,
-        rt: &R,
-        workers: u32,
-        gate: &G,
-        steps: &mut Steps<L>,
-    ) -> Result<(), NoMemory>
-        requires check { (aim : Aim) × (j : Judgement) × (log : Prefix)
-            × IsCheckOf (said_by answers) aim self.old j × HasClosed j log }
-        requires some { 1 ≤ workers }
-        requires few { workers ≤ 16 }
-        ensures answered { OnOk result (HasAnswered self.new) }
-        ensures goes_on { OnOk result ((aim : Aim) (j : Judgement)
-            → IsCheckOf (said_by answers) aim self.old j
-            → IsCheckOf (said_by answers) aim self.new j) }
-        ensures batches { self.new.batches ≡ self.old.batches }
-    {
-        let Some(session) = &mut self.session else {
-            unreachable!()
-        };
-        session.settle(rt, workers, gate, steps)?;
-        Ok(())
-    }
-
-    // The report of the answer that was made.
-    fn told(&self, alloc: Global) -> Result<Report, NoMemory>
-        requires check { (aim : Aim) × (j : Judgement) × (log : Prefix)
+    /// What was observed of the log as far as the last closed batch.
+    pub fn observation(&self) -> &Observation
+        requires { (aim : Aim) × (j : Judgement) × (log : Prefix)
             × IsCheckOf (said_by answers) aim self.now j × HasClosed j log }
-        requires answered { HasAnswered self.now }
-        ensures says { IfOk result (λ report. (aim : Aim) (j : Judgement) (log : Prefix)
+        ensures kept { self.now.intake.observation ≡ Some result.now }
+        ensures is { (aim : Aim) (j : Judgement) (log : Prefix)
             → IsCheckOf (said_by answers) aim self.now j → HasClosed j log
-            → IsReportFor aim log report) }
-        ensures fits { IfOk result IsWellFormed }
+            → IsObservedFor (said_by answers) aim log result.now }
     {
-        let Some(session) = &self.session else {
-            unreachable!()
-        };
-        let wanted = Wanted {
-            slice: self.slice,
-            witness: self.witness,
-        };
-        match report_on(
-            alloc,
-            session.seen(),
-            session.answer(),
-            wanted,
-            &self.stated.text,
-        ) {
-            Ok(report) => Ok(report),
-            Err(_) => Err(NoMemory),
-        }
-    }
-
-    /// The report on the log as far as the last closed batch. Its answer is made by 1 to 16
-    /// workers, and it may wait for the threads that it joins.
-    pub fn report<R: Threads + Sync, G: Gate, L: Ledger>(
-        &mut self,
-        rt: &R,
-        alloc: Global,
-        workers: u32,
-        gate: &G,
-        steps: &mut Steps<L>,
-    ) -> Result<Report, NoMemory>
-        requires check { (aim : Aim) × (j : Judgement) × (log : Prefix)
-            × IsCheckOf (said_by answers) aim self.old j × HasClosed j log }
-        requires some { 1 ≤ workers }
-        requires few { workers ≤ 16 }
-        ensures says { IfOk result (λ report. (aim : Aim) (j : Judgement) (log : Prefix)
-            → IsCheckOf (said_by answers) aim self.old j → HasClosed j log
-            → IsReportFor aim log report) }
-        ensures fits { IfOk result IsWellFormed }
-        ensures goes_on { OnOk result ((aim : Aim) (j : Judgement)
-            → IsCheckOf (said_by answers) aim self.old j
-            → IsCheckOf (said_by answers) aim self.new j) }
-        ensures batches { self.new.batches ≡ self.old.batches }
-    {
-        self.settle(rt, workers, gate, steps)?;
-        let report = self.told(alloc)?;
-        Ok(report)
+        self.intake.observation()
     }
 
     /// What was observed of the log as far as the last closed batch, with the formula, which is
@@ -280,17 +180,13 @@ impl LogCheck {
             stated,
             names,
             watches,
-            session,
-            since,
-            ..
+            intake,
         } = self;
         drop(names);
         drop(watches);
-        drop(since);
-        let Some(session) = session else {
-            unreachable!()
-        };
-        let (seen, disjuncts) = session.into_seen();
+        let observation = intake.into_observation();
+        let _seen = observation.seen();
+        let (seen, disjuncts) = observation.into_seen();
         CheckedLog {
             stated,
             seen,

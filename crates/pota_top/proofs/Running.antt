@@ -34,7 +34,7 @@ use Rattle.log_rules.proofs.Dues.{due_grows}
 use Rattle.log_rules.proofs.Orders.{IsOrdered, all_ordered}
 use Rattle.log_rules.proofs.Rising.{IsKept, all_kept}
 use Rattle.log_judgement.proofs.Texts.{texts_split, one_text}
-use Rattle.log_check.specs.Aims.{Says, Aim, asked_of, aim_of, names_of, watches_of, rules_of, unknown_name}
+use Rattle.reported_log.specs.Aims.{Says, Aim, asked_of, aim_of, names_of, watches_of, rules_of, unknown_name}
 use Rattle.watch.specs.declared.predicate.Handed.{Handed}
 use Rattle.fault_line.specs.Faults.{status_of, fault_of_refusal}
 use Rattle.run_promise.specs.Questions.{fault_of_question}

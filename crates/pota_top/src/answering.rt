@@ -5,8 +5,8 @@ ghost use Rattle.command_words.specs.declared.request.Task.TheVariants.{Read};
 ghost use Rattle.command_words.specs.declared.request.Product.TheVariants.{Reports};
 ghost use Rattle.run_request.specs.Questions.{AsksFor};
 ghost use Rattle.stated_formula.specs.Stating.{IsStated};
-ghost use Rattle.log_check.specs.Aims.{Aim, AreWatches, said_by};
-ghost use Rattle.log_check.specs.Checking.{IsCheckOf};
+ghost use Rattle.reported_log.specs.Aims.{Aim, AreWatches, said_by};
+ghost use Rattle.reported_log.specs.Checking.{IsCheckOf};
 ghost use Rattle.log_answers.specs.Inputs.{HasCheckedBy};
 ghost use Rattle.form_readings.specs.Clocks.{clocks_reading};
 ghost use Rattle.form_readings.specs.Sources.{merged_reading};
@@ -19,8 +19,8 @@ use batch_answers::check_all;
 use certificate_answers::answer_certificate;
 use command_words::{Form, Inquiry, Product, Shown};
 use log_answers::{Checking, Means, Stop, Verdict};
-use log_check::LogCheck;
 use pota_base::{Gate, Sink, Source, Steps};
+use reported_log::ReportedLog;
 use stated_formula::Stated;
 use std::marker::Brand;
 use std::sync::ledger::{Blank, Ledger};
@@ -32,7 +32,7 @@ use whole_answers::{check_clocks, check_sources};
 fn check_text<R: Threads + Sync, G: Gate, L: Ledger, S: Source, O: Sink>(
     blank: Blank,
     means: &Means<'_, R, G>,
-    check: LogCheck,
+    check: ReportedLog,
     each_batch: bool,
     workers: u32,
     log: &mut S,
@@ -64,7 +64,7 @@ fn check_text<R: Threads + Sync, G: Gate, L: Ledger, S: Source, O: Sink>(
 fn check_records<R: Threads + Sync, G: Gate, L: Ledger, S: Source, O: Sink>(
     blank: Blank,
     means: &Means<'_, R, G>,
-    check: LogCheck,
+    check: ReportedLog,
     workers: u32,
     source: &mut S,
     out: &mut O,
@@ -95,7 +95,7 @@ fn check_records<R: Threads + Sync, G: Gate, L: Ledger, S: Source, O: Sink>(
 fn check_logs<R: Threads + Sync, G: Gate, L: Ledger, S: Source, O: Sink>(
     blank: Blank,
     means: &Means<'_, R, G>,
-    check: LogCheck,
+    check: ReportedLog,
     workers: u32,
     source: &mut S,
     out: &mut O,
@@ -143,7 +143,8 @@ fn answer_reports<R: Threads + Sync, G: Gate, S: Source, O: Sink>(
         (S.faults log.new) (O.faults out.old) (O.faults out.new)
         (handing_of (said_by answers) watches.items) words (outcome_of result) }
 {
-    let Ok(check) = LogCheck::new(means.alloc, stated, shown.slice, shown.witness, watches) else {
+    let Ok(check) = ReportedLog::new(means.alloc, stated, shown.slice, shown.witness, watches)
+    else {
         return Err(Stop::without_memory());
     };
     let blank = Blank::new(1);

@@ -3,7 +3,7 @@ ghost use Rattle.std.specs.Prelude.{◌≡◌, ℕ, List, map, string_bytes};
 ghost use Rattle.pota_base.specs.Outside.{Rose};
 ghost use Rattle.pota_base.specs.declared.status.Status.TheVariants.{ReadFault, WriteFault};
 ghost use Rattle.run_request.specs.Questions.{IsQuestion};
-ghost use Rattle.log_check.specs.Aims.{AreWatches, said_by};
+ghost use Rattle.reported_log.specs.Aims.{AreWatches, said_by};
 ghost use Rattle.fault_line.specs.Lines.{Told};
 ghost use Rattle.run_promise.specs.Asking.{handing_of};
 ghost use Rattle.run_promise.specs.Run.{IsBenchAnswered, IsCalm, IsDecided, IsRefusedAsAsked};

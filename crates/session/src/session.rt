@@ -1,11 +1,10 @@
 //! A session: a formula over a growing trace, and the watches that it names.
-ghost use Rattle.std.specs.Prelude.{◌≡◌, ◌↔◌, ◌<◌, ◌≤◌, ◌-◌, ℤ, List as ListOf, [], None};
-ghost use Rattle.std.specs.Prelude.{true, false, length, slice_index_or, Err, ◌+◌, IsTrue, IfOk};
-ghost use Rattle.std.specs.Prelude.{OnOk, OnErr, IsOk, ◌⊎◌};
+ghost use Rattle.std.specs.Prelude.{◌≡◌, ◌↔◌, ◌≤◌, ◌-◌, ◌+◌, ◌⊎◌, true, false, length, None, []};
+ghost use Rattle.std.specs.Prelude.{slice_index_or, Err, IsTrue, IfOk, OnOk};
 ghost use Rattle.event_log.specs.States.{IsHeader};
 ghost use Rattle.pota_base.specs.declared.fault.Refused.TheVariants as refused;
 ghost use Rattle.vector_clock.specs.Admitted.{IfFault, IfWantsMemory};
-ghost use Rattle.trace_growth.specs.Growing.{FitsTrace, IsTrace};
+ghost use Rattle.trace_growth.specs.Growing.{FitsTrace};
 ghost use Rattle.rctl_parts.specs.Pieces.{disjuncts_of};
 ghost use Rattle.rctl_parts.specs.MadeFor.{AreMadeFor};
 ghost use Rattle.part_pulls.specs.Observing.{Reading, AreAnswers, lens_seen, scope_seen};
@@ -15,18 +14,18 @@ ghost use Rattle.conjunctions.specs.Counting.{bounds};
 ghost use Rattle.conjunctions.specs.Settling.{IsSettled};
 ghost use Rattle.conjunctions.specs.Answering.{IsAnswer};
 ghost use Rattle.watch.specs.Saying.{said_by};
-ghost use Rattle.session.specs.Growing.{opened_observed, opened_growing, HasAnswer};
-ghost use Rattle.session.specs.Fed.{Feeds, AreFedFrom, AnswersAs};
-ghost use Rattle.session.specs.Taken.{AreWorkers, TakesWhole, RefusesBatch, IsUntouched};
-ghost use Rattle.session.specs.Taken.{StandsStill};
+ghost use Rattle.observation.specs.Growing.{opened_observed, opened_growing};
+ghost use Rattle.observation.specs.Fed.{Feeds, AreFedFrom, AnswersAs};
+ghost use Rattle.observation.specs.Taken.{TakesWhole, RefusesBatch};
+ghost use Rattle.answering.specs.Going.{AreWorkers};
+ghost use Rattle.session.specs.Standing.{HasAnswer, IsStanding};
 
-use crate::batch::{answer_seen, feed_batch};
-use crate::growing::Growing;
-use conjunctions::{Answer, settled_rows_are_kept};
+use answering::{Answering, what_goes_on_goes_on_later};
+use conjunctions::Answer;
 use event_log::{Event, Header, LogFault};
-use part_pulls::Observed;
+use observation::Observation;
 use pota_base::{Gate, List, NoMemory, Refused, Steps};
-use rctl_parts::{Part, Resolved};
+use rctl_parts::Resolved;
 use slice_workers::Settled;
 use std::alloc::Global;
 use std::sync::ledger::Ledger;
@@ -37,9 +36,12 @@ use watch::{Handed, Watch};
 /// A formula over a trace that grows by batches, and the watches that were handed in.
 #[derive(Drop)]
 pub struct Session {
-    growing: Growing,
-    watches: Vec<Handed>,
-    ghost paired: { length watches.items ≡ length growing.seen.watch_process },
+    observation: Observation,
+    answering: Answering,
+    answer: Option<Answer>,
+    spent: bool,
+    alloc: Global,
+    ghost standing: { spent ≡ false → IsStanding observation.growing answering.kept answer },
 }
 
 impl Session {
@@ -54,119 +56,27 @@ impl Session {
         requires made { AreMadeFor (scope_seen (opened_observed header resolved.watch_process))
             (disjuncts_of resolved.disjuncts) }
         requires paired { length resolved.watch_process ≡ length watches.items }
-        ensures opened { IfOk result (λ session. session.growing
+        ensures opened { IfOk result (λ session. session.observation.growing
             ≡ opened_growing header resolved.watch_process resolved.disjuncts) }
-        ensures watches { IfOk result (λ session. session.watches.items ≡ watches.items) }
+        ensures fresh { IfOk result (λ session. (session.spent ≡ false)
+            × (session.answer ≡ None) × (session.answering.kept.settled ≡ [])) }
+        ensures watches { IfOk result (λ session. session.observation.watches.items
+            ≡ watches.items) }
         ensures since_start { IfOk result (λ session. AreFedFrom (said_by answers)
-            watches.items session.watches.items session.growing.seen) }
+            watches.items session.observation.watches.items session.observation.growing.seen) }
     {
+        let observation = Observation::new(alloc, header, resolved, watches)?;
         Ok(Session {
-            growing: Growing::new(alloc, header, resolved)?,
-            watches,
+            observation,
+            answering: Answering::new(alloc),
+            answer: None,
+            spent: false,
+            alloc,
         })
     }
 
-    /// Takes a whole batch, or none of it, and makes no answer.
-    ///
-    /// A fault is at the line of its event: that of the first event which leaves a counter of the
-    /// formula lower than it was, and else the first of the batch's clocks and messages. The
-    /// session is then as before, and no watch was fed. After want of memory the session is spent:
-    /// it answers that from then on, and feeds nothing.
-    pub fn observe(&mut self, batch: List<Event>) -> Result<(), Refused<LogFault>>
-        requires batch { self.old.growing.spent ≡ false
-            → FitsTrace self.old.growing.seen.trace batch }
-        ensures ok { OnOk result (TakesWhole (said_by answers) self.old.growing self.new.growing
-            self.old.watches.items self.new.watches.items batch) }
-        ensures unanswered { OnOk result (self.new.growing.answer ≡ None) }
-        ensures rows { OnOk result (self.new.growing.settled ≡ self.old.growing.settled) }
-        ensures fault { IfFault result (RefusesBatch self.old.growing self.new.growing
-            self.old.watches self.new.watches batch) }
-        ensures memory { IfWantsMemory result ((self.new.growing.spent ≡ true)
-            × (self.new.watches ≡ self.old.watches)) }
-        ensures spent { self.old.growing.spent ≡ true
-            → (result ≡ Err refused.NoMemory) × IsUntouched self.old.growing self.new.growing
-            self.old.watches self.new.watches }
-    {
-        if self.growing.spent {
-            return Err(Refused::NoMemory);
-        }
-        let fallen = self.growing.first_fall(batch.as_slice());
-        if let Some(fall) = fallen {
-            return Err(Refused::Fault(fall));
-        }
-        match self.growing.seen.trace.extend(batch) {
-            Ok(()) => {}
-            Err(Refused::Fault(fault)) => return Err(Refused::Fault(fault)),
-            Err(Refused::NoMemory) => {
-                self.growing.spent = true;
-                return Err(Refused::NoMemory);
-            }
-        }
-        match feed_batch(
-            self.growing.alloc,
-            &mut self.growing.seen,
-            &mut self.watches,
-        ) {
-            Ok(()) => {
-                self.growing.answer = None;
-                Ok(())
-            }
-            Err(NoMemory) => {
-                self.growing.spent = true;
-                Err(Refused::NoMemory)
-            }
-        }
-    }
-
-    /// Makes the answer on the trace so far by 1 to 16 workers, where it isn't there already. It
-    /// may wait for the threads that it joins. After want of memory the session is spent.
-    pub fn settle<R: Threads + Sync, G: Gate, L: Ledger>(
-        &mut self,
-        rt: &R,
-        workers: u32,
-        gate: &G,
-        steps: &mut Steps<L>,
-    ) -> Result<(), NoMemory>
-        requires unspent { self.old.growing.spent ≡ false }
-        requires taken { 1 ≤ self.old.growing.seen.trace.batches }
-        requires workers { AreWorkers workers }
-        ensures answer { OnOk result (HasAnswer self.new.growing) }
-        ensures still { StandsStill self.old.growing self.new.growing
-            self.old.watches self.new.watches }
-        ensures looks { OnOk result (workers ≡ 1 → steps.new ≤ steps.old
-            + bounds (lens_seen self.old.growing.seen) self.old.growing.settled
-            (all_conjunctions (disjuncts_of self.old.growing.disjuncts)) self.new.growing.settled) }
-        ensures again { HasAnswer self.old.growing → IsOk result
-            × (self.new.growing ≡ self.old.growing) × (steps.new ≡ steps.old) }
-        ensures memory { OnErr result (self.new.growing.spent ≡ true) }
-    {
-        if self.is_answered() {
-            return Ok(());
-        }
-        settled_rows_are_kept();
-        match answer_seen(
-            rt,
-            self.growing.alloc,
-            &self.growing.seen,
-            &self.growing.disjuncts,
-            &mut self.growing.kept,
-            workers,
-            gate,
-            steps,
-        ) {
-            Ok(answer) => {
-                self.growing.answer = Some(answer);
-                Ok(())
-            }
-            Err(NoMemory) => {
-                self.growing.spent = true;
-                Err(NoMemory)
-            }
-        }
-    }
-
-    /// Takes a whole batch, or none of it, and makes its answer by 1 to 16 workers: `observe`, and
-    /// then `settle`. It may wait for the threads that it joins.
+    /// Takes a whole batch, or none of it, and makes its answer by 1 to 16 workers: it observes the
+    /// batch, and then answers. It may wait for the threads that it joins.
     ///
     /// A fault is at the line of its event: that of the first event which leaves a counter of the
     /// formula lower than it was, and else the first of the batch's clocks and messages. The
@@ -180,93 +90,98 @@ impl Session {
         gate: &G,
         steps: &mut Steps<L>,
     ) -> Result<(), Refused<LogFault>>
-        requires batch { self.old.growing.spent ≡ false
-            → FitsTrace self.old.growing.seen.trace batch }
+        requires batch { self.old.spent ≡ false
+            → FitsTrace self.old.observation.growing.seen.trace batch }
         requires workers { AreWorkers workers }
-        ensures ok { OnOk result (TakesWhole (said_by answers) self.old.growing self.new.growing
-            self.old.watches.items self.new.watches.items batch) }
-        ensures answer { OnOk result (HasAnswer self.new.growing) }
+        ensures ok { OnOk result (TakesWhole (said_by answers)
+            self.old.observation.growing self.new.observation.growing
+            self.old.observation.watches.items self.new.observation.watches.items batch) }
+        ensures answer { OnOk result
+            (HasAnswer self.new.spent self.new.observation.growing self.new.answer) }
         ensures looks { OnOk result (workers ≡ 1 → steps.new ≤ steps.old
-            + bounds (lens_seen self.new.growing.seen) self.old.growing.settled
-            (all_conjunctions (disjuncts_of self.old.growing.disjuncts)) self.new.growing.settled) }
-        ensures fault { IfFault result (λ fault. RefusesBatch self.old.growing self.new.growing
-            self.old.watches self.new.watches batch fault × (steps.new ≡ steps.old)) }
-        ensures memory { IfWantsMemory result ((self.new.growing.spent ≡ true)
-            × ((self.new.watches ≡ self.old.watches) ⊎ Feeds (said_by answers)
-            self.old.watches.items self.new.watches.items
-            self.old.growing.seen self.new.growing.seen)) }
-        ensures spent { self.old.growing.spent ≡ true → (result ≡ Err refused.NoMemory)
-            × IsUntouched self.old.growing self.new.growing self.old.watches self.new.watches
-            × (steps.new ≡ steps.old) }
+            + bounds (lens_seen self.new.observation.growing.seen) self.old.answering.kept.settled
+            (all_conjunctions (disjuncts_of self.old.observation.growing.disjuncts))
+            self.new.answering.kept.settled) }
+        ensures fault { IfFault result (λ fault. RefusesBatch
+            self.old.observation.growing self.new.observation.growing
+            self.old.observation.watches self.new.observation.watches batch fault
+            × (self.new.answering ≡ self.old.answering) × (self.new.answer ≡ self.old.answer)
+            × (self.new.spent ≡ false) × (steps.new ≡ steps.old)) }
+        ensures memory { IfWantsMemory result ((self.new.spent ≡ true)
+            × ((self.new.observation.watches ≡ self.old.observation.watches)
+            ⊎ Feeds (said_by answers)
+            self.old.observation.watches.items self.new.observation.watches.items
+            self.old.observation.growing.seen self.new.observation.growing.seen)) }
+        ensures spent { self.old.spent ≡ true → (result ≡ Err refused.NoMemory)
+            × (self.new ≡ self.old) × (steps.new ≡ steps.old) }
     {
-        self.observe(batch)?;
-        self.settle(rt, workers, gate, steps)?;
-        Ok(())
+        if self.spent {
+            return Err(Refused::NoMemory);
+        }
+        match self.observation.observe(batch) {
+            Ok(()) => {}
+            Err(Refused::Fault(fault)) => return Err(Refused::Fault(fault)),
+            Err(Refused::NoMemory) => {
+                self.spent = true;
+                return Err(Refused::NoMemory);
+            }
+        }
+        what_goes_on_goes_on_later();
+        match self
+            .answering
+            .answer(rt, self.alloc, &self.observation, workers, gate, steps)
+        {
+            Ok(answer) => {
+                self.answer = Some(answer);
+                Ok(())
+            }
+            Err(NoMemory) => {
+                self.spent = true;
+                Err(Refused::NoMemory)
+            }
+        }
     }
 
     /// Whether memory was wanted.
     pub fn is_spent(&self) -> bool
-        ensures { IsTrue result ↔ (self.now.growing.spent ≡ true) }
+        ensures { IsTrue result ↔ (self.now.spent ≡ true) }
     {
-        self.growing.spent
+        self.spent
     }
 
-    /// Whether the answer on the trace so far was made. So it is behind each `extend` and `settle`
-    /// that gave `Ok`, and behind an `observe` that gave it no more.
+    /// Whether the answer on the trace so far was made. So it is behind each `extend` that gave
+    /// `Ok`.
     pub fn is_answered(&self) -> bool
-        ensures { IsTrue result ↔ HasAnswer self.now.growing }
+        ensures { IsTrue result
+            ↔ HasAnswer self.now.spent self.now.observation.growing self.now.answer }
     {
-        !self.growing.spent && self.growing.answer.is_some()
+        !self.spent && self.answer.is_some()
     }
 
     /// The trace so far.
     pub fn trace(&self) -> &Trace
-        ensures trace { result.now ≡ self.now.growing.seen.trace }
-        ensures unspent { self.now.growing.spent ≡ false
-            → self.now.growing.seen.trace.spent ≡ false }
+        ensures trace { result.now ≡ self.now.observation.growing.seen.trace }
+        ensures unspent { self.now.spent ≡ false
+            → self.now.observation.growing.seen.trace.spent ≡ false }
     {
-        &self.growing.seen.trace
-    }
-
-    /// What was observed so far: the trace, and what the watches answered to its states. No counter
-    /// of the formula ever falls in it.
-    pub fn seen(&self) -> &Observed
-        ensures seen { result.now ≡ self.now.growing.seen }
-        ensures rise { self.now.growing.spent ≡ false
-            → CountersRise self.now.growing.seen (disjuncts_of self.now.growing.disjuncts) }
-    {
-        &self.growing.seen
-    }
-
-    /// What was observed so far, and the disjuncts of the formula, which is made for it. The
-    /// watches are dropped.
-    pub fn into_seen(self) -> (Observed, List<List<Part>>)
-        ensures seen { result.0 ≡ self.growing.seen }
-        ensures disjuncts { result.1 ≡ self.growing.disjuncts }
-        ensures trace { self.growing.spent ≡ false → IsTrace self.growing.seen.trace.states }
-        ensures made { self.growing.spent ≡ false → AreMadeFor (scope_seen self.growing.seen)
-            (disjuncts_of self.growing.disjuncts) }
-        ensures rise { self.growing.spent ≡ false
-            → CountersRise self.growing.seen (disjuncts_of self.growing.disjuncts) }
-        ensures rows { self.growing.spent ≡ false → length self.growing.seen.watch_rows
-            ≡ length self.growing.seen.watch_process }
-    {
-        self.growing.into_seen()
+        self.observation.trace()
     }
 
     /// The answer on the trace so far, and on what the watches answered to all its states.
     pub fn answer(&self) -> &Answer
-        requires { HasAnswer self.now.growing }
-        ensures answer { IsAnswer self.now.growing.seen
-            (disjuncts_of self.now.growing.disjuncts) result.now }
-        ensures rise { CountersRise self.now.growing.seen
-            (disjuncts_of self.now.growing.disjuncts) }
+        requires { HasAnswer self.now.spent self.now.observation.growing self.now.answer }
+        ensures answer { IsAnswer self.now.observation.growing.seen
+            (disjuncts_of self.now.observation.growing.disjuncts) result.now }
+        ensures rise { CountersRise self.now.observation.growing.seen
+            (disjuncts_of self.now.observation.growing.disjuncts) }
         ensures answers { (handed : _) (reading : Reading)
-            → AreFedFrom (said_by answers) handed self.now.watches.items self.now.growing.seen
+            → AreFedFrom (said_by answers) handed self.now.observation.watches.items
+            self.now.observation.growing.seen
             → AnswersAs (said_by answers) handed reading
-            → AreAnswers self.now.growing.seen reading }
+            → AreAnswers self.now.observation.growing.seen reading }
     {
-        match &self.growing.answer {
+        let _seen = self.observation.seen();
+        match &self.answer {
             Some(answer) => answer,
             None => unreachable!(),
         }
@@ -274,11 +189,11 @@ impl Session {
 
     /// How many conjunctions `settled` numbers.
     pub fn conjunctions(&self) -> usize
-        requires { HasAnswer self.now.growing }
+        requires { HasAnswer self.now.spent self.now.observation.growing self.now.answer }
         ensures { result ≡ length (all_conjunctions
-            (disjuncts_of self.now.growing.disjuncts)) }
+            (disjuncts_of self.now.observation.growing.disjuncts)) }
     {
-        self.growing.kept.settled.len()
+        self.answering.conjunctions()
     }
 
     /// The rows of a conjunction on the trace so far: those that the answer's bound of look-ups
@@ -286,15 +201,16 @@ impl Session {
     /// disjuncts in order, before each the operands of its temporal parts in the order of the
     /// parts, each behind the operands within it.
     pub fn settled(&self, conjunction: u32) -> &Settled
-        requires answered { HasAnswer self.now.growing }
+        requires answered { HasAnswer self.now.spent self.now.observation.growing self.now.answer }
         requires some { 1 ≤ conjunction }
-        requires there { conjunction
-            ≤ length (all_conjunctions (disjuncts_of self.now.growing.disjuncts)) }
-        ensures settled { IsSettled self.now.growing.seen (slice_index_or (all_conjunctions
-            (disjuncts_of self.now.growing.disjuncts)) (conjunction - 1) []) result.now }
-        ensures kept { result.now
-            ≡ slice_index_or self.now.growing.settled (conjunction - 1) result.now }
+        requires there { conjunction ≤ length
+            (all_conjunctions (disjuncts_of self.now.observation.growing.disjuncts)) }
+        ensures settled { IsSettled self.now.observation.growing.seen (slice_index_or
+            (all_conjunctions (disjuncts_of self.now.observation.growing.disjuncts))
+            (conjunction - 1) []) result.now }
+        ensures kept { result.now ≡ slice_index_or self.now.answering.kept.settled
+            (conjunction - 1) result.now }
     {
-        self.growing.kept.settled.get(conjunction as usize - 1)
+        self.answering.settled(conjunction)
     }
 }

@@ -7,7 +7,7 @@ ghost use Rattle.rctl_parts.specs.MadeFor.{AreMadeFor};
 ghost use Rattle.rctl_class.specs.NamedParts.{AreDisjuncts, disjuncts_of};
 ghost use Rattle.rctl_class.specs.Nodes.{IsWithinLimits, node_of};
 ghost use Rattle.part_pulls.specs.Observing.{scope_seen};
-ghost use Rattle.session.specs.Growing.{opened_observed};
+ghost use Rattle.observation.specs.Growing.{opened_observed};
 
 use event_log::Header;
 use log_fitting::{has_few_variables, is_header};

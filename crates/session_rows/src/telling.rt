@@ -1,5 +1,5 @@
 //! What is told of a session.
-ghost use Rattle.session.specs.Growing.{HasAnswer};
+ghost use Rattle.session.specs.Standing.{HasAnswer};
 
 use crate::case::WatchCase;
 use conjunctions::{Answer, PartAnswer};
@@ -110,7 +110,7 @@ fn tell_answer(text: &mut String, answer: &Answer) -> Result<(), AllocError> {
 }
 
 fn tell_conjunctions(text: &mut String, session: &Session) -> Result<(), AllocError>
-    requires { HasAnswer session.now.growing }
+    requires { HasAnswer session.now.spent session.now.observation.growing session.now.answer }
 {
     let count = u32::try_from(session.conjunctions()).unwrap_or(0);
     for conjunction in 1..=count {
@@ -157,7 +157,7 @@ pub fn tell_fault(text: &mut String, fault: LogFault) -> Result<(), AllocError> 
 
 // The same where the trace so far is answered.
 fn tell_answered(text: &mut String, session: &Session, watched: Watched) -> Result<(), AllocError>
-    requires { HasAnswer session.now.growing }
+    requires { HasAnswer session.now.spent session.now.observation.growing session.now.answer }
 {
     tell_answer(text, session.answer())?;
     tell_conjunctions(text, session)?;

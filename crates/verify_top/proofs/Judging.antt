@@ -27,10 +27,9 @@ use Rattle.log_rules.specs.Readings.{log_reading}
 use Rattle.log_check.specs.declared.check.LogCheck.{LogCheck}
 use Rattle.log_check.specs.declared.checked.CheckedLog.{CheckedLog}
 use Rattle.watch.specs.declared.predicate.Handed.{Handed}
-use Rattle.log_check.specs.Aims.{Says, Aim, AreWatches, aim_of, names_of, watches_of, rules_of, IsTrueSoFar}
-use Rattle.log_check.specs.Checked.{IsCheckedLog, observed_alone}
+use Rattle.log_check.specs.Aims.{Says, Aim, AreWatches, aim_of, names_of, watches_of, rules_of, reading_of}
+use Rattle.log_check.specs.Checked.{IsCheckedLog, IsTrueSoFar, observed_alone}
 use Rattle.log_check.specs.Checking.{IsCheckOf, HasClosed}
-use Rattle.log_check.specs.Keeping.{reading_of}
 use Rattle.log_part.specs.Fronts.{due_of_front}
 use Rattle.log_part.specs.Reading.{HasReadFront, IsWholeLog}
 use Rattle.log_part.specs.declared.front.Front.{Front}
@@ -70,9 +69,9 @@ pub asks_about : (words : List (List ℕ)) (stated : Stated) → IsFormulaOf wor
 asks_about words stated (text, one, is) = record { text = text; one = one; is_read = is.is_read; free = is.classed.free }
 
 -- the aim of the formula
-pub aim_is : (words : List (List ℕ)) (stated : Stated) → IsFormulaOf words stated → aim_of stated false false [] (λ name states. []) ≡ aim_for stated.formula.tree
+pub aim_is : (words : List (List ℕ)) (stated : Stated) → IsFormulaOf words stated → aim_of stated [] (λ name states. []) ≡ aim_for stated.formula.tree
 aim_is words stated (text, one, is) =
-    ap (λ (t : List ℕ). let a : Aim = record { node = node_of stated.formula.tree; text = t; slice = false; witness = false; names = []; watches = λ name states. [] } in a) is.printed
+    ap (λ (t : List ℕ). let a : Aim = record { node = node_of stated.formula.tree; text = t; names = []; watches = λ name states. [] } in a) is.printed
 
 -- ---- no watches
 
@@ -82,13 +81,13 @@ watches_none {X} {P} handed none =
     subst AreWatches (sym none) empty
 
 pub checks : {X : Type 0} {P : X → Type 0} (says : Says X P) (words : List (List ℕ)) (stated : Stated) (handed : List (Handed X P)) (check : LogCheck X P) → IsFormulaOf words stated → handed ≡ []
-    → IsCheckOf says (aim_of stated false false (names_of handed) (watches_of says handed)) check waiting → IsCheckOf says (aim_for stated.formula.tree) check waiting
+    → IsCheckOf says (aim_of stated (names_of handed) (watches_of says handed)) check waiting → IsCheckOf says (aim_for stated.formula.tree) check waiting
 checks {X} {P} says words stated handed check is none h =
     subst (λ (a : Aim). IsCheckOf says a check waiting) (aim_is words stated is)
-    (subst (λ (hs : List (Handed X P)). IsCheckOf says (aim_of stated false false (names_of hs) (watches_of says hs)) check waiting) none h)
+    (subst (λ (hs : List (Handed X P)). IsCheckOf says (aim_of stated (names_of hs) (watches_of says hs)) check waiting) none h)
 
 pub unwatched : {X : Type 0} {P : X → Type 0} {E : Type 0} (says : Says X P) (words : List (List ℕ)) (stated : Stated) (handed : List (Handed X P)) (r : Result (LogCheck X P) E) → IsFormulaOf words stated → handed ≡ []
-    → IfOk r (λ check. IsCheckOf says (aim_of stated false false (names_of handed) (watches_of says handed)) check waiting)
+    → IfOk r (λ check. IsCheckOf says (aim_of stated (names_of handed) (watches_of says handed)) check waiting)
     → IfOk r (λ check. IsCheckOf says (aim_for stated.formula.tree) check waiting)
 unwatched says words stated handed (Ok check) is none h = checks says words stated handed check is none h
 unwatched says words stated handed (Err e) is none h = tt

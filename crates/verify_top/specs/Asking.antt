@@ -1,6 +1,6 @@
 -- What a log and a certificate are read for, where a verifier is asked one formula. It names no
 -- watches.
-use Rattle.std.specs.Prelude.{false, []}
+use Rattle.std.specs.Prelude.{[]}
 use Rattle.run_model.specs.Run.{Watches}
 use Rattle.rctl_grammar.specs.Shape.{shape_of}
 use Rattle.rctl_grammar.specs.declared.tree.Tree.{Tree}
@@ -26,8 +26,6 @@ abbrev pub aim_for : Tree → Aim
 aim_for t = record {
   node = node_of t;
   text = canonical (shape_of t);
-  slice = false;
-  witness = false;
   names = [];
   watches = no_watches;
 }

@@ -8,7 +8,7 @@ use Rattle.rctl_grammar.specs.declared.tree.Tree.{Tree}
 use Rattle.fault_kinds.specs.declared.refusal.Refusal.{Refusal}
 use Rattle.fault_kinds.specs.declared.refusal.Refusal.TheVariants as refusal
 use Rattle.log_rules.specs.Judgement.{Prefix}
-use Rattle.log_check.specs.Aims.{IsTrueSoFar}
+use Rattle.log_check.specs.Checked.{IsTrueSoFar}
 use Rattle.log_part.specs.Fronts.{due_of_front}
 use Rattle.log_part.specs.Reading.{IsCutShort}
 use Rattle.certificate_text.specs.Bytes.{Judged, RefusedAt}

@@ -30,7 +30,7 @@ fn unwatched_check(alloc: Global, stated: Stated) -> Result<LogCheck, NoMemory>
         check waiting) }
 {
     let watches: Vec<Handed> = Vec::new(alloc);
-    LogCheck::new(alloc, stated, false, false, watches)
+    LogCheck::new(alloc, stated, watches)
 }
 
 // Reads the log at the front of the input.

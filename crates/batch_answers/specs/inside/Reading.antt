@@ -8,8 +8,8 @@ use Rattle.event_log.specs.LogText.{onto}
 use Rattle.event_log.specs.Reader.{HasRead}
 use Rattle.fault_kinds.specs.declared.refusal.Refusal.{Refusal}
 use Rattle.log_rules.specs.Readings.{log_reading}
-use Rattle.log_check.specs.Aims.{Says, Aim}
-use Rattle.log_check.specs.declared.check.LogCheck.{LogCheck}
+use Rattle.reported_log.specs.Aims.{Says, Aim}
+use Rattle.reported_log.specs.declared.reported.ReportedLog.{ReportedLog}
 use Rattle.log_answers.specs.declared.stop.StopCause.TheVariants as causes
 use Rattle.log_answers.specs.declared.stop.Stop.{Stop}
 use Rattle.batch_answers.specs.declared.reading.Turn.{Turn}
@@ -20,7 +20,7 @@ use Rattle.batch_answers.specs.Reading.{IsWhole, StopsAt, judgement_in}
 
 -- these bytes were read and judged without a fault, and this text was written
 pub record HasJudged {X : Type 0} {P : X → Type 0} (says : Says X P) (aim : Aim) (each : Bool)
-    (r : Reader) (check : LogCheck X P)
+    (r : Reader) (check : ReportedLog X P)
     (bytes text : List ℕ) : Type 0 where
   pub read : HasRead r (onto bytes [])
   pub free : fault_of bytes ≡ None
@@ -34,7 +34,7 @@ TellsDue aim each ended bytes text why batches =
     TellsDueBy log_reading aim each ended bytes text why batches
 
 abbrev pub PieceTo : {X : Type 0} {P : X → Type 0} → Option (List ℕ) → ℕ → ℕ → ℕ → ℕ → Says X P
-    → Aim → Bool → Reader → LogCheck X P
+    → Aim → Bool → Reader → ReportedLog X P
     → List ℕ → List ℕ → Result Turn Stop → Type 0
 PieceTo left lf lf' of of' says aim each r check bytes text (Ok turn.More) =
     HasJudged says aim each r check bytes text
@@ -45,7 +45,7 @@ PieceTo left lf lf' of of' says aim each r check bytes text (Err stop) =
 -- these are all bytes with the piece, behind this text
 pub record TakesPiece {X : Type 0} {P : X → Type 0} (held held' : Option (List ℕ)) (of of' : ℕ)
     (says : Says X P) (aim : Aim)
-    (each : Bool) (r : Reader) (check : LogCheck X P) (bytes text : List ℕ)
+    (each : Bool) (r : Reader) (check : ReportedLog X P) (bytes text : List ℕ)
     (result : Result Turn Stop)
     : Type 0 where
   pub written : List ℕ
@@ -54,7 +54,7 @@ pub record TakesPiece {X : Type 0} {P : X → Type 0} (held held' : Option (List
   pub to : (left : Option (List ℕ)) (lf lf' : ℕ)
       → PieceTo left lf lf' of of' says aim each r check bytes (text ++ written) result
 
-abbrev pub Finishes : {X : Type 0} {P : X → Type 0} → ℕ → Says X P → Aim → Bool → LogCheck X P
+abbrev pub Finishes : {X : Type 0} {P : X → Type 0} → ℕ → Says X P → Aim → Bool → ReportedLog X P
     → List ℕ → List ℕ → Result Turn Stop
     → Type 0
 Finishes of says aim each check bytes text (Ok turn.More) = ⊥
@@ -64,7 +64,7 @@ Finishes of says aim each check bytes text (Err stop) =
     → StopsAt stop.cause stop.batches left lf lf' of of aim each bytes text
 
 abbrev pub TurnsTo : {X : Type 0} {P : X → Type 0} → Option (List ℕ) → ℕ → ℕ → ℕ → ℕ → Says X P
-    → Aim → Bool → Reader → LogCheck X P
+    → Aim → Bool → Reader → ReportedLog X P
     → List ℕ → List ℕ → List ℕ → Result Turn Stop → Type 0
 TurnsTo left lf lf' of of' says aim each r check bytes read text (Ok turn.More) =
     (0 < length read) × HasJudged says aim each r check (bytes ++ read) text
@@ -75,7 +75,7 @@ TurnsTo left lf lf' of of' says aim each r check bytes read text (Err stop) =
 
 pub record Turns {X : Type 0} {P : X → Type 0} (left left' held held' : Option (List ℕ))
     (lf lf' of of' : ℕ) (says : Says X P)
-    (aim : Aim) (each : Bool) (r : Reader) (check : LogCheck X P) (bytes text : List ℕ)
+    (aim : Aim) (each : Bool) (r : Reader) (check : ReportedLog X P) (bytes text : List ℕ)
     (result : Result Turn Stop) : Type 0 where
   pub read : List ℕ
   pub written : List ℕ

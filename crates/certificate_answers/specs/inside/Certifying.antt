@@ -19,7 +19,7 @@ use Rattle.log_rules.specs.SoFar.{counted}
 use Rattle.stated_formula.specs.declared.formula.Stated.{Stated}
 use Rattle.log_rules.specs.Judgement.{Prefix}
 use Rattle.log_rules.specs.Readings.{log_reading}
-use Rattle.log_check.specs.Aims.{Aim, aim_of}
+use Rattle.reported_log.specs.Aims.{Aim, aim_of}
 use Rattle.log_check.specs.Checked.{observed_alone}
 use Rattle.log_check.specs.declared.checked.CheckedLog.{CheckedLog}
 use Rattle.certify.specs.Certifying.{HasFront, IsCertifying}

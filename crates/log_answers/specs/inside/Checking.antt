@@ -5,9 +5,9 @@ use Rattle.std.specs.Io.KnownBytes.{Appends}
 use Rattle.pota_base.specs.Outside.{Rose, IsPrefix}
 use Rattle.run_report.specs.Benches as bench
 use Rattle.log_rules.specs.Judgement.{Judgement}
-use Rattle.log_check.specs.Aims.{Says, Aim}
-use Rattle.log_check.specs.Checking.{GoesOn, IsRefusedAs}
-use Rattle.log_check.specs.declared.check.LogCheck.{LogCheck}
+use Rattle.reported_log.specs.Aims.{Says, Aim}
+use Rattle.reported_log.specs.Checking.{GoesOn, IsRefusedAs}
+use Rattle.reported_log.specs.declared.reported.ReportedLog.{ReportedLog}
 use Rattle.log_answers.specs.declared.stop.StopCause.{StopCause}
 use Rattle.log_answers.specs.declared.stop.StopCause.TheVariants as causes
 use Rattle.log_answers.specs.declared.stop.Stop.{Stop}
@@ -33,7 +33,7 @@ JudgeStops causes.Memory n before after = n ≡ 0
 JudgeStops causes.Read n before after = ⊥
 JudgeStops causes.Write n before after = ⊥
 
-abbrev pub Judges : {X : Type 0} {P : X → Type 0} → Says X P → Aim → LogCheck X P → Judgement
+abbrev pub Judges : {X : Type 0} {P : X → Type 0} → Says X P → Aim → ReportedLog X P → Judgement
     → Judgement → Result Bool Stop → Type 0
 Judges says aim check before after (Ok closed) = GoesOn says aim check before after closed
 Judges says aim check before after (Err stop) =

@@ -49,6 +49,6 @@ returns g c aim is benches =
     (g.O.Sink.held c.sum_up.new.out) (g.O.Sink.faults c.args.out.now) (g.O.Sink.faults c.take_whole.new.out)
     (g.O.Sink.faults c.sum_up.new.out) c.take_whole.new.self.check _ t c.sum_up.result
     (subst (λ (z : bench.Sizes). SumsUp (g.O.Sink.held c.take_whole.new.out) (g.O.Sink.held c.sum_up.new.out) (g.O.Sink.faults c.take_whole.new.out) (g.O.Sink.faults c.sum_up.new.out) aim
-    c.take_whole.new.self.check.batches (all_of (made_by c.args.sizes)) z c.sum_up.result) c.summary_sizes.ensures
+    c.take_whole.new.self.check.log.intake.batches (all_of (made_by c.args.sizes)) z c.sum_up.result) c.summary_sizes.ensures
     (c.sum_up.ensures aim _ (all_of (made_by c.args.sizes)) t.to.check_is
     (made_closed (λ h. (goal.Watch-dyn g (h.watch.vtable, h.watch.value)).answers h.watch.value) aim c.args.sizes c.requires.sizes (made_rises aim c.args.sizes c.requires.sizes) c.take_whole.new.self.check t.to.check_is) benches))

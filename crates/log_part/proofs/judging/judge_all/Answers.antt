@@ -29,10 +29,10 @@ returns-in-Err g c =
     (λ why. (aim : Aim) (j : Judgement) → IsCheckOf (λ h. (goal.Watch-dyn g (h.watch.vtable, h.watch.value)).answers h.watch.value) aim c.args.check.now j → MayFollow j c.args.items
     → JudgesTo (λ h. (goal.Watch-dyn g (h.watch.vtable, h.watch.value)).answers h.watch.value) aim c.take.new.self (judged (rules_of aim) j c.args.items) why)
     (λ why. (aim : Aim) (j : Judgement) → IsCheckOf (λ h. (goal.Watch-dyn g (h.watch.vtable, h.watch.value)).answers h.watch.value) aim c.loop-item.check j → MayFollow j (c.in-Some.item ∷ [])
-    → IsRefusedAs j (judge (rules_of aim) j c.in-Some.item) c.take.new.self.batches why)
+    → IsRefusedAs j (judge (rules_of aim) j c.in-Some.item) c.take.new.self.intake.batches why)
     c.refusal_in.ensures c.in-Err.ensures.fault
     (λ why told. stops (λ h. (goal.Watch-dyn g (h.watch.vtable, h.watch.value)).answers h.watch.value) c.args.check.now c.args.items c.loop-item.check c.in-Some.item (into_iter_items c.next.new.self)
-    (into_iter_items c.loop-item.rest) c.in-Some.ensures.items c.loop-item.invariant c.take.new.self c.take.new.self.batches why told)
+    (into_iter_items c.loop-item.rest) c.in-Some.ensures.items c.loop-item.invariant c.take.new.self c.take.new.self.intake.batches why told)
 
 pub returns : goal.returns
 returns g c aim j is follows =

@@ -1,7 +1,7 @@
 use Rattle.std.proofs.Common.{◌≡◌, true, sym, ◌∙◌}
 use Rattle.log_rules.specs.Due.{closed_of}
 use Rattle.log_rules.specs.Judgement.{judge}
-use Rattle.log_check.specs.Aims.{rules_of}
+use Rattle.reported_log.specs.Aims.{rules_of}
 use Rattle.log_answers.proofs.Items.{judge_stops, quiet, some_report, closed_written, closed_stops}
 use Rattle.log_answers.proofs.checking.Checking.take.Goals as goal
 

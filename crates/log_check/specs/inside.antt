@@ -1,3 +1,0 @@
--- What only the calls inside say to each other.
-pub mod Checking
-pub mod Keeping

@@ -1,0 +1,148 @@
+//! A log that is checked item by item, and its reports.
+ghost use Rattle.std.specs.Prelude.{◌≡◌, ◌≤◌, ◌∷◌, [], ℕ, List as ListOf, IfOk, OnOk};
+ghost use Rattle.vector_clock.specs.Admitted.{IfFault};
+ghost use Rattle.stated_formula.specs.Stating.{IsStated};
+ghost use Rattle.report.specs.Spelling.{IsWellFormed};
+ghost use Rattle.log_rules.specs.Judgement.{Prefix, Judgement, judge, waiting};
+ghost use Rattle.trace_growth.specs.Growing.{IsTrace};
+ghost use Rattle.rctl_parts.specs.Pieces.{disjuncts_of};
+ghost use Rattle.rctl_parts.specs.MadeFor.{AreMadeFor};
+ghost use Rattle.part_pulls.specs.Observing.{IsReady, scope_seen};
+ghost use Rattle.part_pulls.specs.Counters.{CountersRise};
+ghost use Rattle.log_check.specs.Checked.{IsCheckedLog};
+ghost use Rattle.reported_log.specs.Aims.{Aim, AreWatches, IsReportFor, aim_of, names_of, rules_of};
+ghost use Rattle.reported_log.specs.Aims.{said_by, taken_for, watches_of};
+ghost use Rattle.reported_log.specs.Checking.{GoesOn, HasClosed, IsCheckOf, IsRefusedAs, MayFollow};
+
+use answer_report::{Wanted, report_on};
+use answering::{Answering, what_goes_on_goes_on_later};
+use event_log::Item;
+use fault_kinds::Refusal;
+use log_check::{CheckedLog, LogCheck};
+use pota_base::{Gate, NoMemory, Refused, Steps};
+use report::Report;
+use stated_formula::Stated;
+use std::alloc::Global;
+use std::sync::ledger::Ledger;
+use std::thread::Threads;
+use watch::{Handed, Watch};
+
+/// A log that is checked against a formula as its items come, and what its reports show.
+#[derive(Drop)]
+pub struct ReportedLog {
+    /// The log so far, with the formula.
+    pub log: LogCheck,
+    pub slice: bool,
+    pub witness: bool,
+    /// What the reports so far leave to the next one.
+    answering: Answering,
+}
+
+impl ReportedLog {
+    /// A log of which no item was judged yet. It may name the watches.
+    pub fn new(
+        alloc: Global,
+        stated: Stated,
+        slice: bool,
+        witness: bool,
+        watches: Vec<Handed>,
+    ) -> Result<ReportedLog, NoMemory>
+        requires stated { (text : ListOf ℕ) × IsStated text stated }
+        requires watches { AreWatches watches.items }
+        ensures { IfOk result (λ check. IsCheckOf (said_by answers)
+            (aim_of stated slice witness (names_of watches.items)
+            (watches_of (said_by answers) watches.items)) check waiting) }
+    {
+        match LogCheck::new(alloc, stated, watches) {
+            Ok(log) => Ok(ReportedLog {
+                log,
+                slice,
+                witness,
+                answering: Answering::new(alloc),
+            }),
+            Err(_) => Err(NoMemory),
+        }
+    }
+
+    /// Takes one item more, behind those before, and tells whether a `batch` line closed a batch.
+    /// `Fault` is the refusal that is due there; nothing may be taken behind it. The formula is not
+    /// answered before a report is asked for.
+    pub fn take(&mut self, alloc: Global, item: Item) -> Result<bool, Refused<Refusal>>
+        requires check { (aim : Aim) × (j : Judgement)
+            × IsCheckOf (said_by answers) aim self.old j × MayFollow j (item ∷ []) }
+        ensures ok { IfOk result (λ closed. (aim : Aim) (j : Judgement)
+            → IsCheckOf (said_by answers) aim self.old j → MayFollow j (item ∷ [])
+            → GoesOn (said_by answers) aim self.new j (judge (rules_of aim) j item) closed) }
+        ensures fault { IfFault result (λ why. (aim : Aim) (j : Judgement)
+            → IsCheckOf (said_by answers) aim self.old j → MayFollow j (item ∷ [])
+            → IsRefusedAs j (judge (rules_of aim) j item) self.new.log.intake.batches why) }
+    {
+        what_goes_on_goes_on_later();
+        match self.log.take(alloc, item) {
+            Ok(closed) => Ok(closed),
+            Err(Refused::Fault(why)) => Err(Refused::Fault(why)),
+            Err(Refused::NoMemory) => Err(Refused::NoMemory),
+        }
+    }
+
+    /// The report on the log as far as the last closed batch. Its answer is made by 1 to 16
+    /// workers, and it may wait for the threads that it joins.
+    pub fn report<R: Threads + Sync, G: Gate, L: Ledger>(
+        &mut self,
+        rt: &R,
+        alloc: Global,
+        workers: u32,
+        gate: &G,
+        steps: &mut Steps<L>,
+    ) -> Result<Report, NoMemory>
+        requires check { (aim : Aim) × (j : Judgement) × (log : Prefix)
+            × IsCheckOf (said_by answers) aim self.old j × HasClosed j log }
+        requires some { 1 ≤ workers }
+        requires few { workers ≤ 16 }
+        ensures says { IfOk result (λ report. (aim : Aim) (j : Judgement) (log : Prefix)
+            → IsCheckOf (said_by answers) aim self.old j → HasClosed j log
+            → IsReportFor aim log report) }
+        ensures fits { IfOk result IsWellFormed }
+        ensures goes_on { OnOk result ((aim : Aim) (j : Judgement)
+            → IsCheckOf (said_by answers) aim self.old j
+            → IsCheckOf (said_by answers) aim self.new j) }
+        ensures log { self.new.log ≡ self.old.log }
+    {
+        let log = &self.log;
+        let observation = log.observation();
+        let Ok(answer) = self
+            .answering
+            .answer(rt, alloc, observation, workers, gate, steps)
+        else {
+            return Err(NoMemory);
+        };
+        let wanted = Wanted {
+            slice: self.slice,
+            witness: self.witness,
+        };
+        let seen = observation.seen();
+        match report_on(alloc, seen, &answer, wanted, &log.stated.text) {
+            Ok(report) => Ok(report),
+            Err(_) => Err(NoMemory),
+        }
+    }
+
+    /// What was observed of the log as far as the last closed batch, with the formula, which is
+    /// made for it and true of it exactly where it is true of the log.
+    pub fn into_observed(self) -> CheckedLog
+        requires check { (aim : Aim) × (j : Judgement) × (log : Prefix)
+            × IsCheckOf (said_by answers) aim self j × HasClosed j log }
+        ensures log { (aim : Aim) (j : Judgement) (log : Prefix)
+            → IsCheckOf (said_by answers) aim self j → HasClosed j log
+            → IsCheckedLog (taken_for aim) log result }
+        ensures stated { result.stated ≡ self.log.stated }
+        ensures ready { IsReady result.seen }
+        ensures trace { IsTrace result.seen.trace.states }
+        ensures made { AreMadeFor (scope_seen result.seen) (disjuncts_of result.disjuncts) }
+        ensures rise { CountersRise result.seen (disjuncts_of result.disjuncts) }
+    {
+        let ReportedLog { log, answering, .. } = self;
+        drop(answering);
+        log.into_observed()
+    }
+}
