@@ -3,6 +3,7 @@ ghost use Rattle.std.specs.Prelude.{◌≡◌};
 ghost use Rattle.log_rules.specs.Judgement.{waiting};
 ghost use Rattle.reported_log.specs.Aims.{Aim, said_by};
 ghost use Rattle.reported_log.specs.Checking.{IsCheckOf};
+ghost use Rattle.log_answers.specs.Calm.{IsCalmUnlessRead};
 ghost use Rattle.batch_answers.specs.Reading.{HasChecked};
 
 use crate::reading::read_log;
@@ -20,10 +21,11 @@ pub fn check_all<R: Threads + Sync, G: Gate, L: Ledger, S: Source, O: Sink>(
     out: &mut O,
 ) -> Result<Verdict, Stop>
     requires { (aim : Aim) × IsCheckOf (said_by answers) aim checking.old.check waiting }
-    ensures { (aim : Aim) → IsCheckOf (said_by answers) aim checking.old.check waiting
+    ensures checks { (aim : Aim) → IsCheckOf (said_by answers) aim checking.old.check waiting
         → HasChecked (S.left log.old) (S.left log.new) (O.held out.old) (O.held out.new)
         (S.faults log.old) (S.faults log.new) (O.faults out.old) (O.faults out.new) aim
         checking.old.each_batch result }
+    ensures calm { IsCalmUnlessRead (S.faults log.old) (S.faults log.new) result }
 {
     if let Err(stop) = read_log(means, checking, log, out) {
         return Err(stop);

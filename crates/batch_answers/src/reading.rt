@@ -3,6 +3,7 @@ ghost use Rattle.std.specs.Prelude.{◌≡◌, ◌<◌, ◌++◌, [], ℕ, List,
 ghost use Rattle.log_rules.specs.Judgement.{waiting};
 ghost use Rattle.reported_log.specs.Aims.{Aim, said_by};
 ghost use Rattle.reported_log.specs.Checking.{IsCheckOf};
+ghost use Rattle.log_answers.specs.Calm.{IsCalmUnlessRead};
 ghost use Rattle.batch_answers.specs.Reading.{HasReadLog};
 ghost use Rattle.batch_answers.specs.inside.Reading.{Finishes, HasJudged, TakesPiece, Turns};
 
@@ -94,6 +95,7 @@ fn take_turn<R: Threads + Sync, G: Gate, L: Ledger, S: Source, O: Sink>(
         (said_by answers) aim checking.old.each_batch reader.new checking.new.check bytes text
         result }
     ensures each { checking.new.each_batch ≡ checking.old.each_batch }
+    ensures calm { IsCalmUnlessRead (S.faults log.old) (S.faults log.new) result }
 {
     match log.read(room) {
         Ok(0) => finish(reader, checking),
@@ -115,6 +117,7 @@ pub fn read_log<R: Threads + Sync, G: Gate, L: Ledger, S: Source, O: Sink>(
         (S.faults log.old) (S.faults log.new) (O.faults out.old) (O.faults out.new)
         (said_by answers) aim checking.old.each_batch checking.new.check result }
     ensures each { checking.new.each_batch ≡ checking.old.each_batch }
+    ensures calm { IsCalmUnlessRead (S.faults log.old) (S.faults log.new) result }
 {
     let Ok(mut buffer) = vec![in means.alloc; 0u8; PIECE] else {
         return Err(Stop::without_memory());

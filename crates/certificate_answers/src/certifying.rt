@@ -13,6 +13,7 @@ ghost use Rattle.stated_formula.specs.declared.formula.Stated.{Stated as StatedI
 ghost use Rattle.log_rules.specs.Judgement.{Judgement, Prefix, waiting};
 ghost use Rattle.reported_log.specs.Checking.{HasClosed, IsCheckOf};
 ghost use Rattle.reported_log.specs.Aims.{Aim, said_by};
+ghost use Rattle.log_answers.specs.Calm.{IsCalmUnlessRead};
 ghost use Rattle.certificate_lines.specs.Spelling.{formula_line};
 ghost use Rattle.run_promise.specs.Asking.{Handing, certifying};
 ghost use Rattle.run_promise.specs.Run.{Ran};
@@ -136,11 +137,12 @@ fn certify_log<R: Threads + Sync, G: Gate, L: Ledger, S: Source, O: Sink>(
     requires last { checking.each_batch ≡ false }
     requires check { (s : StatedIs) × (text : ListOf ℕ) × IsStated text s
         × IsCheckOf (said_by answers) (aim_for s) checking.check waiting }
-    ensures { (s : StatedIs) (text : ListOf ℕ) → IsStated text s
+    ensures certifies { (s : StatedIs) (text : ListOf ℕ) → IsStated text s
         → IsCheckOf (said_by answers) (aim_for s) checking.check waiting
         → HasCertified (S.left log.old) (S.left log.new) (O.held out.old) (O.held out.new)
         (S.faults log.old) (S.faults log.new) (O.faults out.old) (O.faults out.new) (aim_for s)
         s.formula.tree result }
+    ensures calm { IsCalmUnlessRead (S.faults log.old) (S.faults log.new) result }
 {
     let mut checking = checking;
     match read_log(means, &mut checking, log, out) {
@@ -174,11 +176,12 @@ fn certify_text<R: Threads + Sync, G: Gate, L: Ledger, S: Source, O: Sink>(
     requires one { 0 < blank.parts }
     requires check { (s : StatedIs) × (text : ListOf ℕ) × IsStated text s
         × IsCheckOf (said_by answers) (aim_for s) check waiting }
-    ensures { (s : StatedIs) (text : ListOf ℕ) → IsStated text s
+    ensures certifies { (s : StatedIs) (text : ListOf ℕ) → IsStated text s
         → IsCheckOf (said_by answers) (aim_for s) check waiting
         → HasCertified (S.left log.old) (S.left log.new) (O.held out.old) (O.held out.new)
         (S.faults log.old) (S.faults log.new) (O.faults out.old) (O.faults out.new) (aim_for s)
         s.formula.tree result }
+    ensures calm { IsCalmUnlessRead (S.faults log.old) (S.faults log.new) result }
 {
     let checking = Checking {
         check,
@@ -197,10 +200,11 @@ pub fn answer_certificate<R: Threads + Sync, G: Gate, S: Source, O: Sink>(
     out: &mut O,
 ) -> Result<Verdict, Stop>
     requires { (text : ListOf ℕ) × IsStated text stated }
-    ensures { (words : ListOf (ListOf ℕ)) (text : ListOf ℕ) → IsStated text stated
+    ensures ran { (words : ListOf (ListOf ℕ)) (text : ListOf ℕ) → IsStated text stated
         → AsksFor words (Read certifying) stated.formula.tree → (on : Handing)
         → Ran (S.left log.old) (S.left log.new) (O.held out.old) (O.held out.new) (S.faults log.old)
         (S.faults log.new) (O.faults out.old) (O.faults out.new) on words (outcome_of result) }
+    ensures calm { IsCalmUnlessRead (S.faults log.old) (S.faults log.new) result }
 {
     let Ok(check) = unwatched_check(means.alloc, stated) else {
         return Err(Stop::without_memory());

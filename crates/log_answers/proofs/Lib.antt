@@ -1,3 +1,4 @@
 pub mod Items
 pub mod Reporting
 pub mod OneBatch
+pub mod Calm

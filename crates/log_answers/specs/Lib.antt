@@ -1,4 +1,5 @@
 pub mod Checking
+pub mod Calm
 pub mod Whole
 pub mod Inputs
 pub mod inside

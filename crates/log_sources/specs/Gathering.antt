@@ -2,6 +2,7 @@
 use Rattle.std.specs.Prelude.{◌≡◌, ℕ, ◌≤◌, Bool, true, false, List, Option, Some, None}
 use Rattle.std.specs.Io.KnownBytes.{Consumes, IsAtEnd}
 use Rattle.pota_base.specs.Outside.{Rose}
+use Rattle.input_reading.specs.Changes.{Change}
 use Rattle.event_log.specs.declared.log.Log.{Log}
 use Rattle.fault_kinds.specs.declared.merge.MergeFault.{MergeFault}
 use Rattle.log_sources.specs.declared.gathering.Gathered.{Gathered}
@@ -40,3 +41,7 @@ pub record Gathers (left left' : Option (List ℕ)) (faults faults' : ℕ) (g : 
     pub consumed : Consumes left left' read
     pub later : faults ≤ faults'
     pub to : GathersTo left' faults faults' read g
+
+-- the same, of a source before and after
+abbrev pub HasGathered : Change → Gathered → Type 0
+HasGathered s g = Gathers s.before s.after s.faults_before s.faults_after g

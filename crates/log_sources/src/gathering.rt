@@ -1,10 +1,11 @@
 //! The sources of an input, read to its end or to their first fault.
 
-ghost use Rattle.std.specs.Prelude.{◌≡◌, ◌-◌, ℕ, List as ListOf, IfOk, OnErr, None};
-ghost use Rattle.input_reading.specs.Intakes.{ReadsShort};
+ghost use Rattle.std.specs.Prelude.{◌≡◌, ◌≢◌, ◌-◌, ℕ, List as ListOf, IfOk, OnErr, None};
+ghost use Rattle.input_reading.specs.Changes.{of_source};
+ghost use Rattle.input_reading.specs.Intakes.{HasReadSome};
 ghost use Rattle.log_sources.specs.Sources.{after, no_sources};
 ghost use Rattle.log_sources.specs.Reading.{HasReadSources};
-ghost use Rattle.log_sources.specs.Gathering.{Gathers, IsFaulty};
+ghost use Rattle.log_sources.specs.Gathering.{HasGathered, IsFaulty};
 ghost use Rattle.log_sources.specs.inside.Gathering.{IsGathered};
 
 use crate::reader::SourceReader;
@@ -56,10 +57,9 @@ fn finished(mut reader: SourceReader) -> Gathered
 /// Reads the sources of an input, one behind another, to its end, their first fault, or a failed
 /// read.
 pub fn gather<S: Source>(alloc: Global, source: &mut S) -> Result<Gathered, NoMemory>
-    ensures reads { IfOk result (λ g. Gathers (S.left source.old) (S.left source.new)
-        (S.faults source.old) (S.faults source.new) g) }
-    ensures short { OnErr result (ReadsShort (S.left source.old) (S.left source.new)
-        (S.faults source.old) (S.faults source.new)) }
+    ensures reads { IfOk result (HasGathered (of_source S.Source source.old source.new)) }
+    ensures short { OnErr result (HasReadSome (of_source S.Source source.old source.new)) }
+    ensures calm { result ≢ Ok Gathered.Failed → S.faults source.new ≡ S.faults source.old }
 {
     let mut reader = SourceReader::new(alloc);
     match read_all(alloc, source, &mut reader)? {

@@ -45,6 +45,7 @@ use Rattle.log_answers.specs.declared.stop.Verdict.{Verdict}
 use Rattle.run_promise.specs.declared.outcome.Outcome.{Outcome}
 use Rattle.batch_answers.specs.Outcome.{fault_of, faulty_outcome, outcome_of}
 use Rattle.run_promise.specs.Asking.{Handing, handing_of, asked_by, reading_of, due_of}
+use Rattle.log_answers.specs.Calm.{IsCalmUnlessRead}
 use Rattle.log_answers.specs.Checking.{AreReportsFor, HasPartOf, HasFrontOf}
 use Rattle.log_answers.specs.Inputs.{due_by, TellsDueBy, StopsBy, IsVerdictBy, ChecksBy, HasCheckedBy}
 use Rattle.run_report.proofs.Telling.{told_denotes, told_kinds}
@@ -250,3 +251,16 @@ pub ran_misasked : (left held : Option (List ℕ)) (lf of : ℕ) (on : Handing) 
 ran_misasked left held lf of on words f o is ended =
     subst (Ran left left held held lf lf of of on words) (sym ended)
     (ran_nothing left held lf of on words (faulty_outcome 0 (fault_of_question f)) (misasked_answer words left lf of on f is))
+
+-- ---- the count of faults of the source
+
+calm_cause : (C : Type 0) (cause : StopCause) → ((cause ≡ causes.Read → ⊥) → C) → (status_of (fault_of cause) ≡ status.ReadFault → ⊥) → C
+calm_cause C (causes.Refused r) calm other = calm (λ e. cc)
+calm_cause C causes.Read calm other = absurd (other refl)
+calm_cause C causes.Write calm other = calm (λ e. cc)
+calm_cause C causes.Memory calm other = calm (λ e. cc)
+
+-- unless the status is that of a read fault, the count is as it was
+pub calm_outcome : (lf lf' : ℕ) (result : Result Verdict Stop) → IsCalmUnlessRead lf lf' result → ((outcome_of result).status ≡ status.ReadFault → ⊥) → lf' ≡ lf
+calm_outcome lf lf' (Ok v) calm other = calm
+calm_outcome lf lf' (Err stop) calm other = calm_cause (lf' ≡ lf) stop.cause calm other

@@ -7,6 +7,7 @@ ghost use Rattle.run_request.specs.Questions.{AsksFor};
 ghost use Rattle.stated_formula.specs.Stating.{IsStated};
 ghost use Rattle.reported_log.specs.Aims.{Aim, AreWatches, said_by};
 ghost use Rattle.reported_log.specs.Checking.{IsCheckOf};
+ghost use Rattle.log_answers.specs.Calm.{IsCalmUnlessRead};
 ghost use Rattle.log_answers.specs.Inputs.{HasCheckedBy};
 ghost use Rattle.form_readings.specs.Clocks.{clocks_reading};
 ghost use Rattle.form_readings.specs.Sources.{merged_reading};
@@ -44,10 +45,11 @@ fn check_text<R: Threads + Sync, G: Gate, L: Ledger, S: Source, O: Sink>(
     requires some { 1 ≤ workers }
     requires few { workers ≤ 16 }
     requires check { (aim : Aim) × IsCheckOf (said_by answers) aim check waiting }
-    ensures { (aim : Aim) → IsCheckOf (said_by answers) aim check waiting
+    ensures checks { (aim : Aim) → IsCheckOf (said_by answers) aim check waiting
         → HasChecked (S.left log.old) (S.left log.new) (O.held out.old) (O.held out.new)
         (S.faults log.old) (S.faults log.new) (O.faults out.old) (O.faults out.new) aim each_batch
         result }
+    ensures calm { IsCalmUnlessRead (S.faults log.old) (S.faults log.new) result }
 {
     let mut checking = Checking {
         check,
@@ -75,10 +77,11 @@ fn check_records<R: Threads + Sync, G: Gate, L: Ledger, S: Source, O: Sink>(
     requires some { 1 ≤ workers }
     requires few { workers ≤ 16 }
     requires check { (aim : Aim) × IsCheckOf (said_by answers) aim check waiting }
-    ensures { (aim : Aim) → IsCheckOf (said_by answers) aim check waiting → (each : Bool)
+    ensures checks { (aim : Aim) → IsCheckOf (said_by answers) aim check waiting → (each : Bool)
         → HasCheckedBy clocks_reading (S.left source.old) (S.left source.new) (O.held out.old)
         (O.held out.new) (S.faults source.old) (S.faults source.new) (O.faults out.old)
         (O.faults out.new) aim each result }
+    ensures calm { IsCalmUnlessRead (S.faults source.old) (S.faults source.new) result }
 {
     let mut checking = Checking {
         check,
@@ -106,10 +109,11 @@ fn check_logs<R: Threads + Sync, G: Gate, L: Ledger, S: Source, O: Sink>(
     requires some { 1 ≤ workers }
     requires few { workers ≤ 16 }
     requires check { (aim : Aim) × IsCheckOf (said_by answers) aim check waiting }
-    ensures { (aim : Aim) → IsCheckOf (said_by answers) aim check waiting → (each : Bool)
+    ensures checks { (aim : Aim) → IsCheckOf (said_by answers) aim check waiting → (each : Bool)
         → HasCheckedBy merged_reading (S.left source.old) (S.left source.new) (O.held out.old)
         (O.held out.new) (S.faults source.old) (S.faults source.new) (O.faults out.old)
         (O.faults out.new) aim each result }
+    ensures calm { IsCalmUnlessRead (S.faults source.old) (S.faults source.new) result }
 {
     let mut checking = Checking {
         check,
@@ -137,11 +141,12 @@ fn answer_reports<R: Threads + Sync, G: Gate, S: Source, O: Sink>(
     requires few { workers ≤ 16 }
     requires watches { AreWatches watches.items }
     requires stated { (text : ListOf ℕ) × IsStated text stated }
-    ensures { (words : ListOf (ListOf ℕ)) (text : ListOf ℕ) → IsStated text stated
+    ensures ran { (words : ListOf (ListOf ℕ)) (text : ListOf ℕ) → IsStated text stated
         → AsksFor words (Read (record { form = form; product = Reports shown })) stated.formula.tree
         → Ran (S.left log.old) (S.left log.new) (O.held out.old) (O.held out.new) (S.faults log.old)
         (S.faults log.new) (O.faults out.old) (O.faults out.new)
         (handing_of (said_by answers) watches.items) words (outcome_of result) }
+    ensures calm { IsCalmUnlessRead (S.faults log.old) (S.faults log.new) result }
 {
     let Ok(check) = ReportedLog::new(means.alloc, stated, shown.slice, shown.witness, watches)
     else {
@@ -171,11 +176,12 @@ pub fn answer_inquiry<R: Threads + Sync, G: Gate, S: Source, O: Sink>(
     requires few { workers ≤ 16 }
     requires watches { AreWatches watches.items }
     requires stated { (text : ListOf ℕ) × IsStated text stated }
-    ensures { (words : ListOf (ListOf ℕ)) (text : ListOf ℕ) → IsStated text stated
+    ensures ran { (words : ListOf (ListOf ℕ)) (text : ListOf ℕ) → IsStated text stated
         → AsksFor words (Read inquiry) stated.formula.tree
         → Ran (S.left log.old) (S.left log.new) (O.held out.old) (O.held out.new) (S.faults log.old)
         (S.faults log.new) (O.faults out.old) (O.faults out.new)
         (handing_of (said_by answers) watches.items) words (outcome_of result) }
+    ensures calm { IsCalmUnlessRead (S.faults log.old) (S.faults log.new) result }
 {
     let form = inquiry.form;
     match inquiry.product {

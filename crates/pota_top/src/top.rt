@@ -1,9 +1,10 @@
 //! The one call that the program runs.
-ghost use Rattle.std.specs.Prelude.{◌≡◌, ℕ, List, map, string_bytes};
+ghost use Rattle.std.specs.Prelude.{◌≡◌, ◌≢◌, ℕ, List, map, string_bytes};
 ghost use Rattle.pota_base.specs.Outside.{Rose};
 ghost use Rattle.pota_base.specs.declared.status.Status.TheVariants.{ReadFault, WriteFault};
 ghost use Rattle.run_request.specs.Questions.{IsQuestion};
 ghost use Rattle.reported_log.specs.Aims.{AreWatches, said_by};
+ghost use Rattle.log_answers.specs.Calm.{IsCalmUnlessRead};
 ghost use Rattle.fault_line.specs.Lines.{Told};
 ghost use Rattle.run_promise.specs.Asking.{handing_of};
 ghost use Rattle.run_promise.specs.Run.{IsBenchAnswered, IsCalm, IsDecided, IsRefusedAsAsked};
@@ -35,10 +36,11 @@ fn answer_question<R: Threads + Sync, G: Gate, S: Source, O: Sink>(
 ) -> Result<Verdict, Stop>
     requires watches { AreWatches watches.items }
     requires asks { (words : List (List ℕ)) × IsQuestion words question }
-    ensures { (words : List (List ℕ)) → IsQuestion words question
+    ensures ran { (words : List (List ℕ)) → IsQuestion words question
         → Ran (S.left log.old) (S.left log.new) (O.held out.old) (O.held out.new) (S.faults log.old)
         (S.faults log.new) (O.faults out.old) (O.faults out.new)
         (handing_of (said_by answers) watches.items) words (outcome_of result) }
+    ensures calm { IsCalmUnlessRead (S.faults log.old) (S.faults log.new) result }
 {
     let Question {
         task,
@@ -70,9 +72,10 @@ fn answer_words<R: Threads + Sync, G: Gate, S: Source, O: Sink>(
     out: &mut O,
 ) -> Outcome
     requires watches { AreWatches watches.items }
-    ensures { Ran (S.left log.old) (S.left log.new) (O.held out.old) (O.held out.new)
+    ensures ran { Ran (S.left log.old) (S.left log.new) (O.held out.old) (O.held out.new)
         (S.faults log.old) (S.faults log.new) (O.faults out.old) (O.faults out.new)
         (handing_of (said_by answers) watches.items) (map string_bytes words.now) result }
+    ensures calm { result.status ≢ ReadFault → S.faults log.new ≡ S.faults log.old }
 {
     match read_question(means.alloc, words) {
         Ok(question) => outcome_of(answer_question(means, question, watches, log, out)),
@@ -104,6 +107,7 @@ pub fn pota<R: Threads + Sync, S: Source, O: Sink, D: Sink, G: Gate>(
     ensures told { Told (D.held diag.old) (D.held diag.new) (D.faults diag.old) (D.faults diag.new)
         (line_of result.fault) }
     ensures read { result.status ≡ ReadFault → Rose (S.faults log.old) (S.faults log.new) }
+    ensures calm { result.status ≢ ReadFault → S.faults log.new ≡ S.faults log.old }
     ensures write { result.status ≡ WriteFault → Rose (O.faults out.old) (O.faults out.new) }
     // Where no count rose and there was memory.
     ensures decided { IsCalm (S.faults log.old) (S.faults log.new) (O.faults out.old)

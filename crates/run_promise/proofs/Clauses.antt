@@ -161,25 +161,30 @@ module _ (left left' held held' : Option (List ℕ)) (lf lf' of of' : ℕ) (on :
   no_bench : (u : Tree) (sizes : Sizes) → AsksFor words (task.Bench sizes) u → ⊥
   no_bench u sizes h = not_both words i sizes t u asks h
 
-  abbrev Decided : Prefix → Type 0
-  Decided log = WritesAsDue on t i bytes held held' o × TellsTruth (watches_for i.product on.watches) t log o
+  abbrev Decided : Type 0
+  Decided = (log : Prefix) × (all_due.whole ≡ Some log) × WritesAsDue on t i bytes held held' o × TellsTruth (watches_for i.product on.watches) t log o
 
-  decided_as : (st : Status) → o.status ≡ st → Answer st left' lf lf' of of' on words ran.read ran.written o → all_due.fault ≡ None → (log : Prefix) → all_due.whole ≡ Some log → Decided log
-  decided_as status.True is (inl h) free log whole = (verdict_as_due true h, tells_truth true is h log whole)
-  decided_as status.True is (inr h) free log whole = absurd (no_bench h.summary.tree h.summary.sizes h.summary.asks)
-  decided_as status.False is (inl h) free log whole = (verdict_as_due false h, tells_truth false is h log whole)
-  decided_as status.False is (inr h) free log whole = absurd (no_bench h.summary.tree h.summary.sizes h.summary.asks)
-  decided_as status.Usage is h free log whole = absurd (not_asked question.Usage h.fault_is)
-  decided_as status.Formula is (f, inl h) free log whole = absurd (not_asked (question.Formula f) h.fault_is)
-  decided_as status.Formula is (f, inr (inl h)) free log whole = absurd (no_fault (refusal.Formula f) h free)
-  decided_as status.Formula is (f, inr (inr h)) free log whole = absurd (no_bench h.tree h.sizes h.asks)
-  decided_as status.Log is h free log whole = absurd (no_fault h.0 h.2 free)
-  decided_as status.ReadFault is h free log whole = absurd (calm.0 h.1)
-  decided_as status.WriteFault is h free log whole = absurd (calm.1 h.2)
-  decided_as status.OutOfMemory is h free log whole = absurd (calm.2 is)
+  decided_with : (b : Bool) → o.status ≡ (if b then status.True else status.False) → HasVerdict left' on words ran.read ran.written o b → Decided
+  decided_with b is h =
+      let whole : all_due.whole ≡ Some h.log = ap (λ (d : Due). d.whole) (sym (verdict_due b h)) ∙ h.whole in
+      (h.log, whole, verdict_as_due b h, tells_truth b is h h.log whole)
 
-  pub decided : all_due.fault ≡ None → (log : Prefix) → all_due.whole ≡ Some log → Decided log
-  decided free log whole = decided_as o.status refl ran.answer free log whole
+  decided_as : (st : Status) → o.status ≡ st → Answer st left' lf lf' of of' on words ran.read ran.written o → all_due.fault ≡ None → Decided
+  decided_as status.True is (inl h) free = decided_with true is h
+  decided_as status.True is (inr h) free = absurd (no_bench h.summary.tree h.summary.sizes h.summary.asks)
+  decided_as status.False is (inl h) free = decided_with false is h
+  decided_as status.False is (inr h) free = absurd (no_bench h.summary.tree h.summary.sizes h.summary.asks)
+  decided_as status.Usage is h free = absurd (not_asked question.Usage h.fault_is)
+  decided_as status.Formula is (f, inl h) free = absurd (not_asked (question.Formula f) h.fault_is)
+  decided_as status.Formula is (f, inr (inl h)) free = absurd (no_fault (refusal.Formula f) h free)
+  decided_as status.Formula is (f, inr (inr h)) free = absurd (no_bench h.tree h.sizes h.asks)
+  decided_as status.Log is h free = absurd (no_fault h.0 h.2 free)
+  decided_as status.ReadFault is h free = absurd (calm.0 h.1)
+  decided_as status.WriteFault is h free = absurd (calm.1 h.2)
+  decided_as status.OutOfMemory is h free = absurd (calm.2 is)
+
+  pub decided : all_due.fault ≡ None → Decided
+  decided free = decided_as o.status refl ran.answer free
 
   abbrev RefusedAs : Refusal → Type 0
   RefusedAs r = WritesAsDue on t i bytes held held' o × TellsFault (fault_of_refusal r) o
@@ -334,8 +339,7 @@ module _ (left left' held held' : Option (List ℕ)) (lf lf' of of' : ℕ) (on :
   clause_write is = (answer_at status.WriteFault is).2
 
   pub clause_decided : IsCalm lf lf' of of' o → IsDecided left on words held held' o
-  clause_decided calm bytes t i tells asks free log whole =
-      decided left left' held held' lf lf' of of' on words o ran calm bytes t i tells asks free log whole
+  clause_decided calm bytes t i tells asks free = decided left left' held held' lf lf' of of' on words o ran calm bytes t i tells asks free
 
   pub clause_refused : IsCalm lf lf' of of' o → IsRefusedAsDue left on words held held' o
   clause_refused calm bytes t i r tells asks some =

@@ -294,14 +294,14 @@ pub record TellsFault (f : Fault) (o : Outcome) : Type 0 where
   pub status : o.status ≡ status_of f
   pub fault : o.fault ≡ Some f
 
--- a log of which no fault is due is decided
+-- a log of which no fault is due is whole, and it is decided
 abbrev pub IsDecided : Option (List ℕ) → Handing → List (List ℕ) → Option (List ℕ)
     → Option (List ℕ) → Outcome → Type 0
 IsDecided left on words held held' o =
     (bytes : List ℕ) (t : Tree) (i : Inquiry) → left ≡ Some bytes
     → AsksFor words (task.Read i) t → (due_of on.names t i true bytes).fault ≡ None
-    → (log : Prefix) → (due_of on.names t i true bytes).whole ≡ Some log
-    → WritesAsDue on t i bytes held held' o
+    → (log : Prefix) × ((due_of on.names t i true bytes).whole ≡ Some log)
+    × WritesAsDue on t i bytes held held' o
     × TellsTruth (watches_for i.product on.watches) t log o
 
 -- a fault that is due of the bytes is the answer

@@ -1,10 +1,11 @@
 -- What a certificate on a log that was checked is.
-use Rattle.std.specs.Prelude.{◌⊎◌, ℕ, ◌≤◌, ◌++◌, List, [], codes, Option}
+use Rattle.std.specs.Prelude.{◌⊎◌, ℕ, ◌≤◌, ◌++◌, List, [], Option}
 use Rattle.std.specs.Io.KnownBytes.{Consumes, IsAtEnd}
 use Rattle.pota_base.specs.Outside.{Rose}
 use Rattle.rctl_parts.specs.Pieces.{disjuncts_of}
 use Rattle.part_pulls.specs.Observing.{clocks_seen}
 use Rattle.log_check.specs.declared.checked.CheckedLog.{CheckedLog}
+use Rattle.certificate_lines.specs.Spelling.{formula_line}
 use Rattle.certificate_text.specs.Taking.{VerifierView, fresh}
 use Rattle.certificate_text.specs.Bytes.{Judged, RefusedAt}
 use Rattle.certificate_input.specs.declared.told.Told.TheVariants as tells
@@ -15,10 +16,6 @@ use Rattle.certificate.specs.Following.{Follows}
 use Rattle.fault_line.specs.declared.fault.Fault.TheVariants as fault
 use Rattle.verify_answers.specs.declared.answer.Answer.{Answer}
 use Rattle.verify_answers.specs.declared.answer.Answer.TheVariants.{Accepted, Refused, Faulty}
-
--- the line of a formula, by its text
-abbrev pub formula_line : List ℕ → List ℕ
-formula_line text = codes "formula " ++ text
 
 -- the formula's certificate on a log that was checked, before its first line
 abbrev pub start_at : CheckedLog → VerifierView NodesView

@@ -1,5 +1,5 @@
 //! A certificate behind a log.
-ghost use Rattle.std.specs.Prelude.{◌≡◌, ◌≤◌, ◌<◌, IfOk};
+ghost use Rattle.std.specs.Prelude.{◌≡◌, ◌≢◌, ◌≤◌, ◌<◌, IfOk};
 ghost use Rattle.rctl_parts.specs.Pieces.{disjuncts_of};
 ghost use Rattle.rctl_parts.specs.MadeFor.{AreMadeFor};
 ghost use Rattle.part_pulls.specs.Counters.{CountersRise};
@@ -7,7 +7,8 @@ ghost use Rattle.part_pulls.specs.Observing.{IsReady, clocks_seen, scope_seen};
 ghost use Rattle.certified_nodes.specs.Nodes.{AreNodes, fresh_nodes};
 ghost use Rattle.certificate.specs.Numbering.{plan_of};
 ghost use Rattle.certificate_input.specs.Telling.{IsFresh};
-ghost use Rattle.verify_answers.specs.Judging.{HasJudged, IsDecided, formula_line};
+ghost use Rattle.certificate_lines.specs.Spelling.{formula_line};
+ghost use Rattle.verify_answers.specs.Judging.{HasJudged, IsDecided};
 ghost use Rattle.verify_answers.specs.inside.Judging.{answer_of};
 ghost use Rattle.verify_answers.specs.Judging.{start_at};
 
@@ -92,8 +93,9 @@ fn judge_all<L: Ledger, S: Source>(
     steps: &mut Steps<L>,
 ) -> Answer
     requires { IsFresh verifier }
-    ensures { HasJudged (S.left source.old) (S.left source.new) (S.faults source.old)
+    ensures judged { HasJudged (S.left source.old) (S.left source.new) (S.faults source.old)
         (S.faults source.new) verifier front.now result }
+    ensures calm { result ≢ Answer.Faulty Fault.Read → S.faults source.new ≡ S.faults source.old }
 {
     match read_certificate(alloc, verifier, front, source, steps) {
         Ok(told) => answer_of(told),
@@ -118,6 +120,7 @@ pub fn judge_certificate<L: Ledger, S: Source>(
     ensures judged { HasJudged (S.left source.old) (S.left source.new) (S.faults source.old)
         (S.faults source.new) (start_at checked) front.now result }
     ensures nodes { IsDecided result → AreNodes (start_at checked).nodes }
+    ensures calm { result ≢ Answer.Faulty Fault.Read → S.faults source.new ≡ S.faults source.old }
 {
     let Ok(verifier) = begin(alloc, checked) else {
         return Answer::Faulty(Fault::Memory);

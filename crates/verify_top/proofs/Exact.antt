@@ -100,16 +100,7 @@ module _ (left left' held held' : Option (List ℕ)) (lf lf' of of' : ℕ) (word
 
     -- ---- the certificate is judged
 
-    module _ (log : Prefix) (free : (due_of_front (aim_for t) true bytes).fault ≡ None) (whole : (due_of_front (aim_for t) true bytes).whole ≡ Some log) where
-      abbrev start : VerifierView NodesView
-      start = start_of t log
-
-      -- the certificate is that of this formula on this log
-      started : (of_log : HasLog words read) → start_of of_log.tree of_log.log ≡ start_of t log
-      started of_log =
-          let same : of_log.log ≡ log = some_one _ of_log.log log (ap (λ (d : Due). d.whole) (sym (due_same of_log)) ∙ of_log.whole) whole in
-          ap (λ (u : Tree). start_of u of_log.log) (about_one words of_log.tree t of_log.asks asks) ∙ ap (start_of t) same
-
+    module _ (free : (due_of_front (aim_for t) true bytes).fault ≡ None) where
       not_faulty : (f : Fault) → IsFaulty left' lf lf' words read f → Tells held held' (Faulty f) v → ⊥
       not_faulty fault.Usage s tells = s.0 asks.text asks.one
       not_faulty (fault.Formula f) (inl s) tells = about_free words t f asks s.0
@@ -121,28 +112,49 @@ module _ (left left' held held' : Option (List ℕ)) (lf lf' of of' : ℕ) (word
       not_faulty fault.Write s tells = s
       not_faulty fault.Memory s tells = not_short tells
 
-      decided_by : (answer : Answer) → Says left' lf lf' words read answer → Tells held held' answer v → IsJudgedSo t log bytes held held' v
-      decided_by (Accepted truth) s tells =
-          let all = read_all left left' bytes read is h.answers.consumed s.ended in
-          let judged : Judged Follows (certificate_of bytes) start [] truth =
-          subst (λ (x : VerifierView NodesView). Judged Follows (certificate_of bytes) x [] truth) (started s.of)
-          (subst (λ (xs : List ℕ). Judged Follows (certificate_of xs) (start_of s.of.tree s.of.log) [] truth) all s.judged) in
-          record {
-            accepted = λ other j. subst (λ (b : Bool). Tells held held' (Accepted b) v) (one_truth Follows one_follows (certificate_of bytes) start [] truth other judged j) tells;
-            refused = λ n r. absurd (apart Follows one_follows (certificate_of bytes) start [] truth n judged r);
-          }
-      decided_by (Refused n) s tells =
-          let refused : RefusedAt Follows (certificate_of bytes) start [] n =
-          subst (λ (x : VerifierView NodesView). RefusedAt Follows (certificate_of bytes) x [] n) (started s.of) (at s.seen) in
-          record {
-            accepted = λ truth j. absurd (apart Follows one_follows (certificate_of bytes) start [] truth n j refused);
-            refused = λ m r. subst (λ (k : ℕ). Tells held held' (Refused k) v) (one_refusal Follows one_follows (certificate_of bytes) start [] n m refused r) tells;
-          }
-        where
-          at : IsAtEnd left' ⊎ RefusedWithin Follows (certificate_of read) (start_of s.of.tree s.of.log) [] n → RefusedAt Follows (certificate_of bytes) (start_of s.of.tree s.of.log) [] n
-          at (inl ended) = subst (λ (xs : List ℕ). RefusedAt Follows (certificate_of xs) (start_of s.of.tree s.of.log) [] n) (read_all left left' bytes read is h.answers.consumed ended) s.refused
-          at (inr within) = subst (λ (xs : List ℕ). RefusedAt Follows xs (start_of s.of.tree s.of.log) [] n) (sym (certificate_is s.of)) (within_at Follows (certificate_of read) rest.0 (start_of s.of.tree s.of.log) [] n within)
-      decided_by (Faulty f) s tells = absurd (not_faulty f s tells)
+      module _ (log : Prefix) (whole : (due_of_front (aim_for t) true bytes).whole ≡ Some log) where
+        abbrev start : VerifierView NodesView
+        start = start_of t log
+
+        -- the certificate is that of this formula on this log
+        started : (of_log : HasLog words read) → start_of of_log.tree of_log.log ≡ start_of t log
+        started of_log =
+            let same : of_log.log ≡ log = some_one _ of_log.log log (ap (λ (d : Due). d.whole) (sym (due_same of_log)) ∙ of_log.whole) whole in
+            ap (λ (u : Tree). start_of u of_log.log) (about_one words of_log.tree t of_log.asks asks) ∙ ap (start_of t) same
+
+        decided_by : (answer : Answer) → Says left' lf lf' words read answer → Tells held held' answer v → IsJudgedSo t log bytes held held' v
+        decided_by (Accepted truth) s tells =
+            let all = read_all left left' bytes read is h.answers.consumed s.ended in
+            let judged : Judged Follows (certificate_of bytes) start [] truth =
+            subst (λ (x : VerifierView NodesView). Judged Follows (certificate_of bytes) x [] truth) (started s.of)
+            (subst (λ (xs : List ℕ). Judged Follows (certificate_of xs) (start_of s.of.tree s.of.log) [] truth) all s.judged) in
+            record {
+              accepted = λ other j. subst (λ (b : Bool). Tells held held' (Accepted b) v) (one_truth Follows one_follows (certificate_of bytes) start [] truth other judged j) tells;
+              refused = λ n r. absurd (apart Follows one_follows (certificate_of bytes) start [] truth n judged r);
+            }
+        decided_by (Refused n) s tells =
+            let refused : RefusedAt Follows (certificate_of bytes) start [] n =
+            subst (λ (x : VerifierView NodesView). RefusedAt Follows (certificate_of bytes) x [] n) (started s.of) (at s.seen) in
+            record {
+              accepted = λ truth j. absurd (apart Follows one_follows (certificate_of bytes) start [] truth n j refused);
+              refused = λ m r. subst (λ (k : ℕ). Tells held held' (Refused k) v) (one_refusal Follows one_follows (certificate_of bytes) start [] n m refused r) tells;
+            }
+          where
+            at : IsAtEnd left' ⊎ RefusedWithin Follows (certificate_of read) (start_of s.of.tree s.of.log) [] n → RefusedAt Follows (certificate_of bytes) (start_of s.of.tree s.of.log) [] n
+            at (inl ended) = subst (λ (xs : List ℕ). RefusedAt Follows (certificate_of xs) (start_of s.of.tree s.of.log) [] n) (read_all left left' bytes read is h.answers.consumed ended) s.refused
+            at (inr within) = subst (λ (xs : List ℕ). RefusedAt Follows xs (start_of s.of.tree s.of.log) [] n) (sym (certificate_is s.of)) (within_at Follows (certificate_of read) rest.0 (start_of s.of.tree s.of.log) [] n within)
+        decided_by (Faulty f) s tells = absurd (not_faulty f s tells)
+
+      whole_log : (of_log : HasLog words read) → (due_of_front (aim_for t) true bytes).whole ≡ Some of_log.log
+      whole_log of_log = ap (λ (d : Due). d.whole) (sym (due_same of_log)) ∙ of_log.whole
+
+      abbrev Decided : Type 0
+      Decided = (log : Prefix) × ((due_of_front (aim_for t) true bytes).whole ≡ Some log) × IsJudgedSo t log bytes held held' v
+
+      found : (answer : Answer) → Says left' lf lf' words read answer → Tells held held' answer v → Decided
+      found (Accepted truth) s tells = (s.of.log, whole_log s.of, decided_by s.of.log (whole_log s.of) (Accepted truth) s tells)
+      found (Refused n) s tells = (s.of.log, whole_log s.of, decided_by s.of.log (whole_log s.of) (Refused n) s tells)
+      found (Faulty f) s tells = absurd (not_faulty f s tells)
 
     -- ---- the log is refused
 
@@ -197,7 +209,7 @@ module _ (left left' held held' : Option (List ℕ)) (lf lf' of of' : ℕ) (word
   tells = told_so h.answer h.told
 
   pub decided : IsDecidedSo left words held held' v
-  decided bytes t log is asks free whole = decided_by bytes t is asks log free whole h.answer h.answers.says tells
+  decided bytes t is asks free = found bytes t is asks free h.answer h.answers.says tells
 
   pub refused_as_due : IsRefusedAsDue left words held held' v
   refused_as_due bytes t why is asks due_is = refused_by bytes t is asks why due_is h.answer h.answers.says tells

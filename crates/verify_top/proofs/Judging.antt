@@ -49,7 +49,8 @@ use Rattle.fault_line.specs.Faults.{fault_of_refusal}
 use Rattle.verify_answers.specs.declared.answer.Answer.{Answer}
 use Rattle.verify_answers.specs.declared.answer.Answer.TheVariants.{Accepted, Refused, Faulty}
 use Rattle.verify_answers.specs.Asking.{AsksAbout, IsFormulaOf}
-use Rattle.verify_answers.specs.Judging.{formula_line, IsJudged, HasJudged, IsDecided, start_at}
+use Rattle.certificate_lines.specs.Spelling.{formula_line}
+use Rattle.verify_answers.specs.Judging.{IsJudged, HasJudged, IsDecided, start_at}
 use Rattle.verify_top.specs.Asking.{aim_for, start_of}
 use Rattle.verify_top.specs.Verifying.{HasLog, IsLogRefused, Answers}
 use Rattle.verify_top.specs.Verifying.{Says as AnswerSays}

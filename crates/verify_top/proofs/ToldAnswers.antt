@@ -100,3 +100,10 @@ module _ (left left' held held' : Option (List ℕ)) (lf lf' of of' : ℕ) (word
 
   pub write_cause : v.status ≡ 6 → Rose of of'
   write_cause e = write_by e h.answer h.answers.says h.told
+
+-- a read fault is told by its status
+pub told_read : (held held' : Option (List ℕ)) (of of' : ℕ) (answer : Answer) (v : Verified) → answer ≡ Faulty fault.Read → IsTold held held' of of' answer v → v.status ≡ 5
+told_read held held' of of' answer v is told = told_as (subst (λ (a : Answer). IsTold held held' of of' a v) is told)
+  where
+    told_as : IsTold held held' of of' (Faulty fault.Read) v → v.status ≡ 5
+    told_as t = ap (λ (x : Verified). x.status) t.0

@@ -11,10 +11,10 @@ use Rattle.rctl_names.specs.Resolving.{numbered_disjuncts}
 use Rattle.log_rules.specs.Judgement.{Prefix}
 use Rattle.log_check.specs.Aims.{Aim}
 use Rattle.log_check.specs.Checked.{observed_alone}
+use Rattle.certificate_lines.specs.Spelling.{formula_line}
 use Rattle.certificate_text.specs.Taking.{VerifierView, fresh}
 use Rattle.certified_nodes.specs.Nodes.{NodesView, fresh_nodes}
 use Rattle.certificate.specs.Numbering.{plan_of}
-use Rattle.verify_answers.specs.Judging.{formula_line}
 
 -- ---- the log
 

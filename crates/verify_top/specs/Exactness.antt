@@ -42,14 +42,14 @@ pub record IsJudgedSo (t : Tree) (log : Prefix) (bytes : List ℕ) (held held' :
   pub refused : (n : ℕ) → RefusedAt Follows (certificate_of bytes) (start_of t log) [] n
       → Tells held held' (Refused n) v
 
--- behind a log without a fault the certificate is judged
+-- a log without a fault is whole, and the certificate behind it is judged
 abbrev pub IsDecidedSo : Option (List ℕ) → List (List ℕ) → Option (List ℕ) → Option (List ℕ)
     → Verified → Type 0
 IsDecidedSo left words held held' v =
-    (bytes : List ℕ) (t : Tree) (log : Prefix) → left ≡ Some bytes → AsksAbout words t
+    (bytes : List ℕ) (t : Tree) → left ≡ Some bytes → AsksAbout words t
     → (due_of_front (aim_for t) true bytes).fault ≡ None
-    → (due_of_front (aim_for t) true bytes).whole ≡ Some log
-    → IsJudgedSo t log bytes held held' v
+    → (log : Prefix) × ((due_of_front (aim_for t) true bytes).whole ≡ Some log)
+    × IsJudgedSo t log bytes held held' v
 
 -- a fault that is due of the log is the answer
 abbrev pub IsRefusedAsDue : Option (List ℕ) → List (List ℕ) → Option (List ℕ) → Option (List ℕ)

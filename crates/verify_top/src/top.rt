@@ -1,5 +1,5 @@
 //! The one call that the program runs.
-ghost use Rattle.std.specs.Prelude.{◌≡◌, map, string_bytes};
+ghost use Rattle.std.specs.Prelude.{◌≡◌, ◌≢◌, map, string_bytes};
 ghost use Rattle.pota_base.specs.Outside.{Rose};
 ghost use Rattle.pota_base.specs.Status.{code_of};
 ghost use Rattle.pota_base.specs.declared.status.Status.TheVariants.{ReadFault, WriteFault};
@@ -10,14 +10,16 @@ ghost use Rattle.verify_answers.specs.Telling.{fault_line_of};
 ghost use Rattle.verify_top.specs.Verifying.{Answers, HasToldTruth, HasVerified};
 
 use crate::input::judge_input;
+use fault_line::Fault;
 use pota_base::{Sink, Source};
 use std::alloc::Global;
 use verify_answers::{Answer, Verified, read_words, tell_answer, tell_fault};
 
 // Answers the words on the input that the source has.
 fn answer_words<S: Source>(alloc: Global, words: &[String], input: &mut S) -> Answer
-    ensures { Answers (S.left input.old) (S.left input.new) (S.faults input.old)
+    ensures answers { Answers (S.left input.old) (S.left input.new) (S.faults input.old)
         (S.faults input.new) (map string_bytes words.now) result }
+    ensures calm { result ≢ Answer.Faulty Fault.Read → S.faults input.new ≡ S.faults input.old }
 {
     match read_words(alloc, words) {
         Ok(stated) => judge_input(alloc, stated, input),
@@ -47,6 +49,8 @@ pub fn verify<S: Source, O: Sink, D: Sink>(
         (fault_line_of result.fault) }
     ensures read { result.status ≡ code_of ReadFault
         → Rose (S.faults input.old) (S.faults input.new) }
+    ensures calm { result.status ≢ code_of ReadFault
+        → S.faults input.new ≡ S.faults input.old }
     ensures write { result.status ≡ code_of WriteFault
         → Rose (O.faults out.old) (O.faults out.new) }
     // Where no count rose and there was memory.

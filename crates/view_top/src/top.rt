@@ -1,6 +1,7 @@
 //! The one call that the program runs.
 ghost use Rattle.std.specs.Prelude.{◌≡◌, map, string_bytes};
 ghost use Rattle.fault_line.specs.Lines.{Told};
+ghost use Rattle.view_top.specs.Calm.{IsCalm};
 ghost use Rattle.view_top.specs.Faults.{line_of, exit_status};
 ghost use Rattle.view_top.specs.inside.Inputs.{PutsView};
 ghost use Rattle.view_top.specs.Viewing.{HasViewed};
@@ -61,9 +62,10 @@ fn answer<S: Source, O: Sink>(
     input: &mut S,
     out: &mut O,
 ) -> Option<Fault>
-    ensures { HasViewed (S.left input.old) (S.left input.new) (O.held out.old) (O.held out.new)
-        (S.faults input.old) (S.faults input.new) (O.faults out.old) (O.faults out.new)
-        (map string_bytes words.now) result }
+    ensures viewed { HasViewed (S.left input.old) (S.left input.new) (O.held out.old)
+        (O.held out.new) (S.faults input.old) (S.faults input.new) (O.faults out.old)
+        (O.faults out.new) (map string_bytes words.now) result }
+    ensures calm { IsCalm (S.faults input.old) (S.faults input.new) result }
 {
     let Some(asked) = view_asked(words) else {
         return Some(Fault::Usage);
@@ -90,6 +92,7 @@ pub fn view<S: Source, O: Sink, D: Sink>(
     ensures viewed { HasViewed (S.left input.old) (S.left input.new) (O.held out.old)
         (O.held out.new) (S.faults input.old) (S.faults input.new) (O.faults out.old)
         (O.faults out.new) (map string_bytes words.now) result.fault }
+    ensures calm { IsCalm (S.faults input.old) (S.faults input.new) result.fault }
     ensures told { Told (D.held diag.old) (D.held diag.new) (D.faults diag.old) (D.faults diag.new)
         (line_of result.fault) }
 {

@@ -22,6 +22,8 @@ use Rattle.log_answers.specs.declared.stop.Stop.{Stop}
 use Rattle.log_answers.specs.declared.stop.Verdict.{Verdict}
 use Rattle.log_answers.specs.Checking.{AreReportsFor, HasPartOf, HasFrontOf}
 use Rattle.log_answers.specs.Whole.{judgement_on, IsWholeVerdict, IsWholeRefused, IsWholePart, WholeStops, WholeTo, HasWhole}
+use Rattle.log_answers.specs.Calm.{IsCalmUnlessRead}
+use Rattle.log_answers.proofs.Calm.{calm_so}
 use Rattle.log_answers.specs.Inputs.{due_by, TellsDueBy, StopsBy, IsVerdictBy, ChecksBy, HasCheckedBy}
 use Rattle.whole_answers.specs.declared.places.Places.{Places}
 use Rattle.whole_answers.specs.declared.standing.Standing.{Standing}
@@ -174,3 +176,11 @@ module _ (form : Input) (aim : Aim) (each : Bool) (left left' held held' : Optio
       (quiet form aim each false stood.read [] None (open_due form aim stood.read ∙ ap fault_alone stood.to.0) refl, stood.to.1)
   checked (Err x) result stood short can c =
       stopped causes.Memory result short.read short.consumed short.later c (front form aim each short.read [] 0 refl refl)
+
+-- unless a read failed, the count of faults of the source is as it was
+pub calm_so_far : (aim : Aim) (held held' : Option (List ℕ)) (lf lf' of of' : ℕ) (standing : Result Standing NoMemory) (result : Result Verdict Stop) → ((standing ≡ Ok Failed → ⊥) → lf' ≡ lf)
+    → ChecksStanding held held' of of' aim standing result → IsCalmUnlessRead lf lf' result
+calm_so_far aim held held' lf lf' of of' (Ok (Whole log places)) result calm c = calm_so lf lf' result (calm (λ e. cc))
+calm_so_far aim held held' lf lf' of of' (Ok (Faulty r)) result calm c = calm_so lf lf' result (calm (λ e. cc))
+calm_so_far aim held held' lf lf' of of' (Ok Failed) result calm c = subst (IsCalmUnlessRead lf lf') (sym c.told) (λ other. absurd (other refl))
+calm_so_far aim held held' lf lf' of of' (Err x) result calm c = calm_so lf lf' result (calm (λ e. cc))

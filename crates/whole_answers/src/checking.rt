@@ -3,6 +3,7 @@ ghost use Rattle.std.specs.Prelude.{◌≡◌, Bool, false};
 ghost use Rattle.log_rules.specs.Judgement.{waiting};
 ghost use Rattle.reported_log.specs.Aims.{Aim, said_by};
 ghost use Rattle.reported_log.specs.Checking.{IsCheckOf};
+ghost use Rattle.log_answers.specs.Calm.{IsCalmUnlessRead};
 ghost use Rattle.log_answers.specs.Inputs.{HasCheckedBy};
 ghost use Rattle.form_readings.specs.Clocks.{clocks_reading};
 ghost use Rattle.form_readings.specs.Sources.{merged_reading};
@@ -55,11 +56,12 @@ pub fn check_clocks<R: Threads + Sync, G: Gate, L: Ledger, S: Source, O: Sink>(
 ) -> Result<Verdict, Stop>
     requires last { checking.old.each_batch ≡ false }
     requires check { (aim : Aim) × IsCheckOf (said_by answers) aim checking.old.check waiting }
-    ensures { (aim : Aim) → IsCheckOf (said_by answers) aim checking.old.check waiting
+    ensures checks { (aim : Aim) → IsCheckOf (said_by answers) aim checking.old.check waiting
         → (each : Bool)
         → HasCheckedBy clocks_reading (S.left source.old) (S.left source.new) (O.held out.old)
         (O.held out.new) (S.faults source.old) (S.faults source.new) (O.faults out.old)
         (O.faults out.new) aim each result }
+    ensures calm { IsCalmUnlessRead (S.faults source.old) (S.faults source.new) result }
 {
     let standing = read_records(means.alloc, source);
     check_standing(means, checking, standing, out)
@@ -74,11 +76,12 @@ pub fn check_sources<R: Threads + Sync, G: Gate, L: Ledger, S: Source, O: Sink>(
 ) -> Result<Verdict, Stop>
     requires last { checking.old.each_batch ≡ false }
     requires check { (aim : Aim) × IsCheckOf (said_by answers) aim checking.old.check waiting }
-    ensures { (aim : Aim) → IsCheckOf (said_by answers) aim checking.old.check waiting
+    ensures checks { (aim : Aim) → IsCheckOf (said_by answers) aim checking.old.check waiting
         → (each : Bool)
         → HasCheckedBy merged_reading (S.left source.old) (S.left source.new) (O.held out.old)
         (O.held out.new) (S.faults source.old) (S.faults source.new) (O.faults out.old)
         (O.faults out.new) aim each result }
+    ensures calm { IsCalmUnlessRead (S.faults source.old) (S.faults source.new) result }
 {
     let standing = read_sources(means.alloc, source);
     check_standing(means, checking, standing, out)

@@ -1,11 +1,12 @@
 //! Several logs one behind another, read as one.
-ghost use Rattle.std.specs.Prelude.{◌≡◌, IfOk, OnErr};
-ghost use Rattle.input_reading.specs.Intakes.{ReadsShort};
+ghost use Rattle.std.specs.Prelude.{◌≡◌, ◌≢◌, IfOk, OnErr};
+ghost use Rattle.input_reading.specs.Changes.{of_source};
+ghost use Rattle.input_reading.specs.Intakes.{HasReadSome};
 ghost use Rattle.log_merge.specs.Merging.{merged};
 ghost use Rattle.log_sources.specs.Reading.{CanMerge};
 ghost use Rattle.whole_answers.specs.declared.places.Places.TheVariants.{Origins};
 ghost use Rattle.whole_answers.specs.declared.standing.Standing.TheVariants.{Whole};
-ghost use Rattle.whole_answers.specs.inside.Standing.{HasStood, sources};
+ghost use Rattle.whole_answers.specs.inside.Standing.{HasStoodBy, sources};
 
 use crate::places::Places;
 use crate::standing::Standing;
@@ -35,10 +36,9 @@ fn merge_all(alloc: Global, logs: &[Log]) -> Result<Standing, NoMemory>
 /// Reads several logs to the end of the input, to their first fault, or to a failed read, and
 /// merges them.
 pub fn read_sources<S: Source>(alloc: Global, source: &mut S) -> Result<Standing, NoMemory>
-    ensures reads { IfOk result (λ standing. HasStood sources (S.left source.old)
-        (S.left source.new) (S.faults source.old) (S.faults source.new) standing) }
-    ensures short { OnErr result (ReadsShort (S.left source.old) (S.left source.new)
-        (S.faults source.old) (S.faults source.new)) }
+    ensures reads { IfOk result (HasStoodBy sources (of_source S.Source source.old source.new)) }
+    ensures short { OnErr result (HasReadSome (of_source S.Source source.old source.new)) }
+    ensures calm { result ≢ Ok Standing.Failed → S.faults source.new ≡ S.faults source.old }
 {
     match gather(alloc, source)? {
         Gathered::Logs(logs) => merge_all(alloc, logs.as_slice()),

@@ -1,7 +1,8 @@
 //! Records of two lines, read as a log.
-ghost use Rattle.std.specs.Prelude.{ℕ, List, IfOk, OnErr};
-ghost use Rattle.input_reading.specs.Intakes.{ReadsShort};
-ghost use Rattle.whole_answers.specs.inside.Standing.{HasStood, StandsAt, clocks};
+ghost use Rattle.std.specs.Prelude.{◌≡◌, ◌≢◌, ℕ, List, IfOk, OnErr};
+ghost use Rattle.input_reading.specs.Changes.{of_source};
+ghost use Rattle.input_reading.specs.Intakes.{HasReadSome};
+ghost use Rattle.whole_answers.specs.inside.Standing.{HasStoodBy, StandsAt, clocks};
 
 use crate::places::Places;
 use crate::standing::Standing;
@@ -24,10 +25,9 @@ fn import_all(alloc: Global, text: &[u8]) -> Result<Standing, NoMemory>
 
 /// Reads records of two lines to their end, to the byte that is too much, or to a failed read.
 pub fn read_records<S: Source>(alloc: Global, source: &mut S) -> Result<Standing, NoMemory>
-    ensures reads { IfOk result (λ standing. HasStood clocks (S.left source.old)
-        (S.left source.new) (S.faults source.old) (S.faults source.new) standing) }
-    ensures short { OnErr result (ReadsShort (S.left source.old) (S.left source.new)
-        (S.faults source.old) (S.faults source.new)) }
+    ensures reads { IfOk result (HasStoodBy clocks (of_source S.Source source.old source.new)) }
+    ensures short { OnErr result (HasReadSome (of_source S.Source source.old source.new)) }
+    ensures calm { result ≢ Ok Standing.Failed → S.faults source.new ≡ S.faults source.old }
 {
     let mut kept = Kept::new(alloc);
     match read_all(alloc, source, &mut kept)? {

@@ -2,6 +2,7 @@
 use Rattle.std.specs.Prelude.{◌≡◌, ℕ, ◌≤◌, Bool, true, false, List, Option, Some, None}
 use Rattle.std.specs.Io.KnownBytes.{Consumes, IsAtEnd}
 use Rattle.pota_base.specs.Outside.{Rose}
+use Rattle.input_reading.specs.Changes.{Change}
 use Rattle.event_log.specs.declared.item.LogFault.{LogFault}
 use Rattle.event_log.specs.declared.log.Log.{Log}
 use Rattle.vclog_import.specs.Imported.{imported}
@@ -58,3 +59,7 @@ pub record HasStood (form : Input) (left left' : Option (List ℕ)) (lf lf' : �
   pub consumed : Consumes left left' read
   pub later : lf ≤ lf'
   pub to : StandsTo form left' lf lf' read standing
+
+-- the same, of a source before and after
+abbrev pub HasStoodBy : Input → Change → Standing → Type 0
+HasStoodBy form s standing = HasStood form s.before s.after s.faults_before s.faults_after standing

@@ -1,4 +1,6 @@
-use Rattle.std.proofs.Common.{arith}
+use Rattle.std.proofs.Common.{ap, arith}
+use Rattle.log_answers.specs.declared.stop.Stop.{Stop}
+use Rattle.log_answers.proofs.Calm.{calm_so}
 use Rattle.batch_answers.proofs.ReadingSteps.{turn_more, turn_ends, turn_fails}
 use Rattle.batch_answers.proofs.reading.take_turn.Goals as goal
 
@@ -26,3 +28,12 @@ returns-in-Err-clause-turn g c aim bytes text known =
     (g.O.Sink.held c.args.out.now) (g.S.Source.faults c.args.log.now) (g.S.Source.faults c.read.new.self)
     (g.O.Sink.faults c.args.out.now) bytes text c.args.reader.now c.args.checking.now.check c.stop.result known
     c.in-Err.ensures.bytes c.in-Err.ensures.cause.later c.in-Err.ensures.cause.failed c.stop.ensures
+
+pub returns-in-Ok-clause-calm : goal.returns-in-Ok-clause-calm
+returns-in-Ok-clause-calm g c = calm_so (g.S.Source.faults c.args.log.now) (g.S.Source.faults c.read.new.self) c.take_piece.result c.in-Ok.ensures.calm
+
+pub returns-in-Ok-eq0-clause-calm : goal.returns-in-Ok-eq0-clause-calm
+returns-in-Ok-eq0-clause-calm g c = calm_so (g.S.Source.faults c.args.log.now) (g.S.Source.faults c.read.new.self) c.finish.result c.in-Ok-eq0.ensures.calm
+
+pub returns-in-Err-clause-calm : goal.returns-in-Err-clause-calm
+returns-in-Err-clause-calm g c other = absurd (other (ap (λ (s : Stop). s.cause) c.stop.ensures))

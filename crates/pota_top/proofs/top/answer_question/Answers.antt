@@ -1,18 +1,19 @@
-use Rattle.std.proofs.Common.{subst}
+use Rattle.log_answers.proofs.Calm.{calm_so}
+use Rattle.std.proofs.Common.{refl, subst}
 use Rattle.command_words.specs.declared.request.Task.{Task}
 use Rattle.run_request.specs.Questions.{AsksFor}
 use Rattle.run_request.proofs.OneQuestion.{question_asks}
 use Rattle.pota_top.proofs.Words.{question_workers, question_sizes}
 use Rattle.pota_top.proofs.top.answer_question.Goals as goal
 
-pub returns-in-Read : goal.returns-in-Read
-returns-in-Read g c words is =
-    c.answer_inquiry.ensures words is.wanted.formula is.stated
+pub returns-in-Read-clause-ran : goal.returns-in-Read-clause-ran
+returns-in-Read-clause-ran g c words is =
+    c.answer_inquiry.ensures.ran words is.wanted.formula is.stated
     (subst (λ (t : Task). AsksFor words t c.args.question.stated.formula.tree) c.in-Read.is
     (question_asks words c.args.question is))
 
-pub returns-in-Bench : goal.returns-in-Bench
-returns-in-Bench g c words is =
+pub returns-in-Bench-clause-ran : goal.returns-in-Bench-clause-ran
+returns-in-Bench-clause-ran g c words is =
     c.answer_bench.ensures words is.wanted.formula is.stated
     (subst (λ (t : Task). AsksFor words t c.args.question.stated.formula.tree) c.in-Bench.is
     (question_asks words c.args.question is))
@@ -32,3 +33,9 @@ answer_bench-requires-clause-few g c κs within = (question_workers c.requires.a
 
 pub answer_bench-requires-clause-sizes : goal.answer_bench-requires-clause-sizes
 answer_bench-requires-clause-sizes g c κs within = question_sizes c.requires.asks.0 c.args.question c.requires.asks.1 c.in-Bench.sizes c.in-Bench.is
+
+pub returns-in-Read-clause-calm : goal.returns-in-Read-clause-calm
+returns-in-Read-clause-calm g c = c.answer_inquiry.ensures.calm
+
+pub returns-in-Bench-clause-calm : goal.returns-in-Bench-clause-calm
+returns-in-Bench-clause-calm g c = calm_so (g.S.Source.faults c.args.log.now) (g.S.Source.faults c.args.log.now) _ refl

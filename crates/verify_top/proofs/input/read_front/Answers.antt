@@ -1,3 +1,4 @@
+use Rattle.std.proofs.Common.{refl}
 use Rattle.verify_top.proofs.Fronts.{front_done, still_open, front_ended, front_failed}
 use Rattle.verify_top.proofs.input.read_front.Goals as goal
 
@@ -25,3 +26,15 @@ pub returns-in-Ok-Failed-clause-front : goal.returns-in-Ok-Failed-clause-front
 returns-in-Ok-Failed-clause-front g c aim is =
     front_failed (λ h. (goal.Watch-dyn g (h.watch.vtable, h.watch.value)).answers h.watch.value) aim (g.S.Source.left c.args.input.now) (g.S.Source.left c.read_on.new.source) (g.S.Source.faults c.args.input.now) (g.S.Source.faults c.read_on.new.source)
     c.read_on.new.part c.in-Ok-Failed.field-0 c.in-Ok-Failed.field-0-is (c.in-Ok-Failed.ensures.reads aim (c.new-part.ensures aim is))
+
+pub returns-in-Ok-Done-clause-calm : goal.returns-in-Ok-Done-clause-calm
+returns-in-Ok-Done-clause-calm g c other = let is = c.in-Ok-Done.field-0-is in c.in-Ok-Done.ensures.calm (λ e. cc)
+
+pub returns-in-Ok-Ended-clause-calm : goal.returns-in-Ok-Ended-clause-calm
+returns-in-Ok-Ended-clause-calm g c other = let is = c.in-Ok-Ended.field-0-is in c.in-Ok-Ended.ensures.calm (λ e. cc)
+
+pub returns-in-Ok-Failed-clause-calm : goal.returns-in-Ok-Failed-clause-calm
+returns-in-Ok-Failed-clause-calm g c other = absurd (other refl)
+
+pub returns-in-Err-clause-calm : goal.returns-in-Err-clause-calm
+returns-in-Err-clause-calm g c other = c.in-Err.ensures.calm (λ e. cc)

@@ -1,3 +1,4 @@
+use Rattle.std.proofs.Common.{refl}
 use Rattle.input_reading.specs.Intakes.{ReadsShort}
 use Rattle.whole_answers.proofs.Stands.{err_so, gathered_short, may_merge, sources_whole, sources_faulty, sources_failed}
 use Rattle.whole_answers.proofs.merging.read_sources.Goals as goal
@@ -23,3 +24,12 @@ returns-in-Fault-clause-reads g c =
 pub returns-in-Failed-clause-reads : goal.returns-in-Failed-clause-reads
 returns-in-Failed-clause-reads g c =
     sources_failed (g.S.Source.left c.args.source.now) (g.S.Source.left c.gather.new.source) (g.S.Source.faults c.args.source.now) (g.S.Source.faults c.gather.new.source) c.in_ok-logs.field-0 c.in_ok-logs.ensures.reads c.in-Failed.is
+
+pub returns-in-Logs-clause-calm : goal.returns-in-Logs-clause-calm
+returns-in-Logs-clause-calm g c other = let is = c.in-Logs.is in c.in_ok-logs.ensures.calm (λ e. cc)
+
+pub returns-in-Fault-clause-calm : goal.returns-in-Fault-clause-calm
+returns-in-Fault-clause-calm g c other = let is = c.in-Fault.is in c.in_ok-logs.ensures.calm (λ e. cc)
+
+pub returns-in-Failed-clause-calm : goal.returns-in-Failed-clause-calm
+returns-in-Failed-clause-calm g c other = absurd (other refl)

@@ -1,4 +1,4 @@
-use Rattle.std.proofs.Common.{[], arith}
+use Rattle.std.proofs.Common.{[], refl, arith}
 use Rattle.input_reading.specs.Intakes.{ReadsShort}
 use Rattle.whole_answers.proofs.Stands.{err_so, read_short, records_ended, records_done, records_failed}
 use Rattle.whole_answers.proofs.records.read_records.Goals as goal
@@ -27,3 +27,12 @@ returns-in-Done-clause-short g c =
 pub returns-clause-reads : goal.returns-clause-reads
 returns-clause-reads g c =
     records_failed (g.S.Source.left c.args.source.now) (g.S.Source.left c.read_all.new.source) (g.S.Source.faults c.args.source.now) (g.S.Source.faults c.read_all.new.source) c.read_all.new.intake c.in_ok-read_all.field-0 (c.in_ok-read_all.ensures.reads [] (c.new-kept.ensures, omega arith)) c.in-Failed.is
+
+pub returns-in-Ended-clause-calm : goal.returns-in-Ended-clause-calm
+returns-in-Ended-clause-calm g c other = let is = c.in-Ended.is in c.in_ok-read_all.ensures.calm (λ e. cc)
+
+pub returns-in-Done-clause-calm : goal.returns-in-Done-clause-calm
+returns-in-Done-clause-calm g c other = let is = c.in-Done.is in c.in_ok-read_all.ensures.calm (λ e. cc)
+
+pub returns-clause-calm : goal.returns-clause-calm
+returns-clause-calm g c other = absurd (other refl)
