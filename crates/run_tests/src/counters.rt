@@ -1,6 +1,8 @@
-ghost use Rattle.std.specs.Prelude.{◌≡◌, ◌∷◌, [], length, IfOk, IfSome};
+ghost use Rattle.std.specs.Prelude.{
+    ◌≡◌, ◌∷◌, [], ◌^◌, pos, neg_ℤ, ◌≤ℤ◌, length, All, IfOk, IfSome
+};
 ghost use Rattle.event_log.specs.States.{AreNamedApart};
-ghost use Rattle.counter_preds.specs.Counters.{IsVariable, IsCounter};
+ghost use Rattle.counter_preds.specs.Counters.{AreCounters, IsVariable, IsCounter};
 
 use counter_preds::{Variable, a_header_has_counters, diff_at_least, diff_at_most, first_fall};
 use event_log::{
@@ -9,6 +11,7 @@ use event_log::{
 use pota_base::{List, NoMemory};
 use pull_system::Pull;
 use std::alloc::Global;
+use std::process::Abort;
 use std::test::Fail;
 
 const X: Variable = Variable {
@@ -76,23 +79,61 @@ fn is_only(pulls: &List<Pull>, src: u32, dst: u32, table: &[u32]) -> bool {
     }
 }
 
+// Whether a difference of at most `k` asks one pull with this table.
+fn asks_at_most(alloc: Global, states: &States, k: i128, table: &[u32]) -> Result<bool, NoMemory>
+    requires counters { AreCounters states.now X Y }
+    requires low { neg_ℤ (pos (2 ^ 64)) ≤ℤ k }
+    requires high { k ≤ℤ pos (2 ^ 64) }
+{
+    let pulls = diff_at_most(alloc, states, X, Y, k)?;
+    Ok(is_only(&pulls, 0, 1, table))
+}
+
+// Whether a difference of at least `k` asks one pull with this table.
+fn asks_at_least(alloc: Global, states: &States, k: i128, table: &[u32]) -> Result<bool, NoMemory>
+    requires counters { AreCounters states.now X Y }
+    requires low { neg_ℤ (pos (2 ^ 64)) ≤ℤ k }
+    requires high { k ≤ℤ pos (2 ^ 64) }
+{
+    let pulls = diff_at_least(alloc, states, X, Y, k)?;
+    Ok(is_only(&pulls, 1, 0, table))
+}
+
+// That a difference of 3 is at most 3 and not at most 2.
+fn judge_at_most(rt: &impl Abort, alloc: Global, states: &States) -> Result<(), NoMemory>
+    requires there { IsVariable states.now X × IsVariable states.now Y }
+    requires rise { IsCounter states.now X × IsCounter states.now Y }
+{
+    let first = asks_at_most(alloc, states, 2, &[1, 1])?;
+    let second = asks_at_most(alloc, states, 3, &[0, 0])?;
+    assert!(rt; first);
+    assert!(rt; second);
+    Ok(())
+}
+
+// That a difference of 3 is at least 3 and not at least 4.
+fn judge_at_least(rt: &impl Abort, alloc: Global, states: &States) -> Result<(), NoMemory>
+    requires there { IsVariable states.now X × IsVariable states.now Y }
+    requires rise { IsCounter states.now X × IsCounter states.now Y }
+{
+    let first = asks_at_least(alloc, states, 3, &[0, 0])?;
+    let second = asks_at_least(alloc, states, 4, &[1, 1])?;
+    assert!(rt; first);
+    assert!(rt; second);
+    Ok(())
+}
+
 #[test]
 fn at_most_at_the_opening(rt: HostRuntime) -> Result<(), Fail> {
     let states = two_counters(rt.alloc())?.ok_or("names")?;
-    let low = diff_at_most(rt.alloc(), &states, X, Y, 2)?;
-    assert!(rt; is_only(&low, 0, 1, &[1, 1]));
-    let enough = diff_at_most(rt.alloc(), &states, X, Y, 3)?;
-    assert!(rt; is_only(&enough, 0, 1, &[0, 0]));
+    judge_at_most(&rt, rt.alloc(), &states)?;
     Ok(())
 }
 
 #[test]
 fn at_least_at_the_opening(rt: HostRuntime) -> Result<(), Fail> {
     let states = two_counters(rt.alloc())?.ok_or("names")?;
-    let enough = diff_at_least(rt.alloc(), &states, X, Y, 3)?;
-    assert!(rt; is_only(&enough, 1, 0, &[0, 0]));
-    let high = diff_at_least(rt.alloc(), &states, X, Y, 4)?;
-    assert!(rt; is_only(&high, 1, 0, &[1, 1]));
+    judge_at_least(&rt, rt.alloc(), &states)?;
     Ok(())
 }
 
@@ -126,21 +167,28 @@ fn falls(line: u32) -> Option<LogFault> {
     })
 }
 
-#[test]
-fn a_counter_falls(rt: HostRuntime) -> Result<(), Fail> {
-    let states = two_counters(rt.alloc())?.ok_or("names")?;
-    let batch = falling_batch(rt.alloc())?;
-    assert_eq!(rt; first_fall(&states, &batch, &[Y, X]), falls(8));
-    assert_eq!(rt; first_fall(&states, &batch, &[Y]), falls(9));
-    assert_eq!(rt; first_fall(&states, &batch, &[]), None);
+// That of these events the first one that falls is found, and none of the first three falls.
+fn judge_falls(rt: &impl Abort, states: &States, batch: &[Event])
+    requires there { IsVariable states.now X × IsVariable states.now Y }
+{
+    assert!(rt; first_fall(states, batch, &[Y, X]) == falls(8));
+    assert!(rt; first_fall(states, batch, &[Y]) == falls(9));
+    assert!(rt; first_fall(states, batch, &[]) == None);
+    assert!(rt; batch.len() >= 3);
+    assert!(rt; first_fall(states, &batch[..3], &[X, Y]) == None);
+}
+
+fn judge_batch(rt: &impl Abort, alloc: Global, states: &States) -> Result<(), NoMemory>
+    requires there { IsVariable states.now X × IsVariable states.now Y }
+{
+    let batch = falling_batch(alloc)?;
+    judge_falls(rt, states, &batch);
     Ok(())
 }
 
 #[test]
-fn no_counter_falls(rt: HostRuntime) -> Result<(), Fail> {
+fn a_counter_falls(rt: HostRuntime) -> Result<(), Fail> {
     let states = two_counters(rt.alloc())?.ok_or("names")?;
-    let mut batch = falling_batch(rt.alloc())?;
-    batch.truncate(3);
-    assert_eq!(rt; first_fall(&states, &batch, &[X, Y]), None);
+    judge_batch(&rt, rt.alloc(), &states)?;
     Ok(())
 }

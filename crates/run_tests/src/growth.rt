@@ -9,6 +9,7 @@ use crate::events::{a_message, add};
 use event_log::{Event, Header, Kind, LogCode, LogFault, Name, var_lines_of};
 use pota_base::{EventId, List, NoMemory, Refused};
 use std::alloc::Global;
+use std::process::Abort;
 use std::test::Fail;
 use trace_growth::Trace;
 
@@ -64,52 +65,89 @@ fn trace_for(alloc: Global, batch: &List<Event>) -> Result<Option<Trace>, NoMemo
     }
 }
 
-#[test]
-fn a_batch_is_taken(rt: HostRuntime) -> Result<(), Fail> {
-    let batch = a_message(rt.alloc(), 1)?;
-    let mut trace = trace_for(rt.alloc(), &batch)?.ok_or("names")?;
-    assert!(rt; trace.extend(batch).is_ok());
+/// A trace of two processes, and what came of a batch that it was given.
+type Extended = (Trace, Result<(), Refused<LogFault>>);
+
+fn extended(alloc: Global, batch: List<Event>) -> Result<Option<Extended>, NoMemory>
+    requires fits { AllByRecursion (EventFits 2) batch }
+    requires known { (h : Header) → length h.procs ≡ 2 → AllByRecursion (IsKnown h) batch }
+    requires len { length batch ≤ 50000 }
+{
+    match trace_for(alloc, &batch)? {
+        Some(mut trace) => {
+            let told = trace.extend(batch);
+            Ok(Some((trace, told)))
+        }
+        None => Ok(None),
+    }
+}
+
+// The fault that a batch has.
+fn fault_of(told: Result<(), Refused<LogFault>>) -> Option<LogFault> {
+    match told {
+        Err(Refused::Fault(fault)) => Some(fault),
+        _ => None,
+    }
+}
+
+// That the trace has taken the message.
+fn has_the_message(rt: &impl Abort, trace: &Trace) {
     assert!(rt; !trace.is_spent());
-    assert_eq!(rt; trace.batches(), 1);
+    assert!(rt; trace.batches() == 1);
     assert_eq!(rt; trace.states().shape().lens(), [1, 1].as_slice());
     let received = EventId {
         process: 1,
         position: 1,
     };
-    assert_eq!(rt; trace.event(received).line, 4);
+    assert!(rt; trace.event(received).line == 4);
+}
+
+#[test]
+fn a_batch_is_taken(rt: HostRuntime) -> Result<(), Fail> {
+    let message = a_message(rt.alloc(), 1)?;
+    let (trace, told) = extended(rt.alloc(), message)?.ok_or("names")?;
+    assert!(rt; told.is_ok());
+    has_the_message(&rt, &trace);
     Ok(())
+}
+
+// That the trace has taken nothing, and may take more.
+fn has_nothing(rt: &impl Abort, trace: &Trace) {
+    assert!(rt; !trace.is_spent());
+    assert!(rt; trace.batches() == 0);
+    assert!(rt; trace.order().shape().events() == 0);
 }
 
 #[test]
 fn a_batch_with_a_fault_is_not_taken(rt: HostRuntime) -> Result<(), Fail> {
-    let batch = a_message(rt.alloc(), 0)?;
-    let mut trace = trace_for(rt.alloc(), &batch)?.ok_or("names")?;
-    let fault = match trace.extend(batch) {
-        Err(Refused::Fault(fault)) => Some(fault),
-        _ => None,
-    };
+    let early = a_message(rt.alloc(), 0)?;
+    let (trace, told) = extended(rt.alloc(), early)?.ok_or("names")?;
     let wanted = LogFault {
         code: LogCode::ReceiveEarly,
         line: 4,
     };
-    assert_eq!(rt; fault, Some(wanted));
-    assert!(rt; !trace.is_spent());
-    assert_eq!(rt; trace.batches(), 0);
-    assert_eq!(rt; trace.order().shape().events(), 0);
+    assert!(rt; fault_of(told) == Some(wanted));
+    has_nothing(&rt, &trace);
     Ok(())
 }
 
-// Room for all events of a large batch is taken at once, and its memory given back piece by piece.
-#[test]
-fn a_large_batch_is_taken(rt: HostRuntime) -> Result<(), Fail> {
-    let batch = many_events(rt.alloc(), 10_000)?;
-    let mut trace = trace_for(rt.alloc(), &batch)?.ok_or("names")?;
-    assert!(rt; trace.extend(batch).is_ok());
+// That the trace has taken 10,000 events of P, and one in their midst.
+fn has_many(rt: &impl Abort, trace: &Trace) {
+    assert!(rt; !trace.is_spent());
     assert_eq!(rt; trace.states().shape().lens(), [10_000, 0].as_slice());
     let middle = EventId {
         process: 0,
         position: 4_097,
     };
-    assert_eq!(rt; trace.event(middle).line, 4_099);
+    assert!(rt; trace.event(middle).line == 4_099);
+}
+
+// Room for all events of a large batch is taken at once, and its memory given back piece by piece.
+#[test]
+fn a_large_batch_is_taken(rt: HostRuntime) -> Result<(), Fail> {
+    let many = many_events(rt.alloc(), 10_000)?;
+    let (trace, told) = extended(rt.alloc(), many)?.ok_or("names")?;
+    assert!(rt; told.is_ok());
+    has_many(&rt, &trace);
     Ok(())
 }

@@ -5,30 +5,80 @@ use event_log::{
     Assign, Binding, Event, Header, Kind, Log, LogCode, LogFault, Name, Reader, count_events,
     write_log,
 };
-use pota_base::{List, NoMemory};
+use pota_base::{Bytes, List, NoMemory};
 use std::alloc::Global;
-use std::test::*;
+use std::process::Abort;
+use std::test::Fail;
 
 const LOG: &[u8] =
     b"pota-log 1\nprocs P Q\nvars P x=0\nvars Q y=0\nev P 1,0 int x=1\nev Q 0,1 int y=1\nend\n";
 
+// How many items a byte gives, and its fault.
+fn feed(reader: &mut Reader, byte: u8) -> Result<(usize, Option<LogFault>), NoMemory> {
+    let fed = reader.feed(&[byte])?;
+    Ok((fed.items.len(), fed.fault))
+}
+
+// How many items the bytes give, of which none has a fault.
+fn feed_each(rt: &impl Abort, reader: &mut Reader, text: &[u8]) -> Result<usize, NoMemory> {
+    let mut items = 0;
+    for byte in text {
+        let (more, fault) = feed(reader, *byte)?;
+        assert!(rt; fault == None);
+        assert!(rt; more < 9 && items < 9);
+        items += more;
+    }
+    Ok(items)
+}
+
+// How many items a log has that comes byte by byte, and the fault of its end.
+fn read(
+    rt: &impl Abort,
+    alloc: Global,
+    text: &[u8],
+) -> Result<(usize, Option<LogFault>), NoMemory> {
+    let mut reader = Reader::new(alloc);
+    let items = feed_each(rt, &mut reader, text)?;
+    Ok((items, reader.finish()))
+}
+
 #[test]
 fn in_pieces(rt: HostRuntime) -> Result<(), Fail> {
-    let mut reader = Reader::new(rt.alloc());
-    let mut items = 0;
-    for byte in LOG {
-        let fed = reader.feed(&[*byte]).ok().ok_or("memory")?;
-        assert_eq!(rt; fed.fault, None);
-        assert!(rt; fed.items.len() < 9 && items < 9);
-        items += fed.items.len();
-    }
-    assert_eq!(rt; items, 4);
-    assert_eq!(rt; reader.finish(), None);
+    let (items, fault) = read(&rt, rt.alloc(), LOG)?;
+    assert!(rt; items == 4);
+    assert!(rt; fault == None);
     Ok(())
 }
 
-fn fault_of(rt: &HostRuntime, text: &[u8]) -> Option<LogFault> {
-    let mut reader = Reader::new(rt.alloc());
+/// A text, and the code and the line of its first fault.
+type Faulty = (&'static [u8], LogCode, u32);
+
+const FAULTY: [Faulty; 5] = [
+    (
+        b"pota-log 1\nprocs P\nev R 1 int\nend\n",
+        LogCode::UnknownProcess,
+        3,
+    ),
+    (
+        b"pota-log 1\nprocs P Q\nvars Q y=0\nvars P x=0\nend\n",
+        LogCode::BadLine,
+        4,
+    ),
+    (
+        b"pota-log 1\nprocs P\nend\nend\n",
+        LogCode::Trailing,
+        4,
+    ),
+    (
+        b"pota-log 1\nprocs P Q\nev P 1,0 send P 1\nend\n",
+        LogCode::SelfMessage,
+        3,
+    ),
+    (b"pota-log 1\nprocs P\nend", LogCode::Truncated, 3),
+];
+
+fn fault_of(alloc: Global, text: &[u8]) -> Option<LogFault> {
+    let mut reader = Reader::new(alloc);
     match reader.feed(text) {
         Ok(_) => reader.finish(),
         Err(_) => None,
@@ -37,43 +87,9 @@ fn fault_of(rt: &HostRuntime, text: &[u8]) -> Option<LogFault> {
 
 #[test]
 fn faults(rt: HostRuntime) {
-    let unknown = LogFault {
-        code: LogCode::UnknownProcess,
-        line: 3,
-    };
-    assert_eq!(rt;
-        fault_of(&rt, b"pota-log 1\nprocs P\nev R 1 int\nend\n"),
-        Some(unknown)
-    );
-    let order = LogFault {
-        code: LogCode::BadLine,
-        line: 4,
-    };
-    assert_eq!(rt;
-        fault_of(&rt, b"pota-log 1\nprocs P Q\nvars Q y=0\nvars P x=0\nend\n"),
-        Some(order)
-    );
-    let trailing = LogFault {
-        code: LogCode::Trailing,
-        line: 4,
-    };
-    assert_eq!(rt;
-        fault_of(&rt, b"pota-log 1\nprocs P\nend\nend\n"),
-        Some(trailing)
-    );
-    let itself = LogFault {
-        code: LogCode::SelfMessage,
-        line: 3,
-    };
-    assert_eq!(rt;
-        fault_of(&rt, b"pota-log 1\nprocs P Q\nev P 1,0 send P 1\nend\n"),
-        Some(itself)
-    );
-    let cut = LogFault {
-        code: LogCode::Truncated,
-        line: 3,
-    };
-    assert_eq!(rt; fault_of(&rt, b"pota-log 1\nprocs P\nend"), Some(cut));
+    for (text, code, line) in FAULTY {
+        assert!(rt; fault_of(rt.alloc(), text) == Some(LogFault { code, line }));
+    }
 }
 
 // `procs P`, `vars P x=0`, `ev P 1 int x=1`, `end`
@@ -121,30 +137,38 @@ fn one<T: Drop>(alloc: Global, item: T) -> Result<List<T>, NoMemory>
     Ok(list)
 }
 
+fn written_small(alloc: Global) -> Result<Option<Bytes>, NoMemory> {
+    match small_log(alloc)? {
+        Some(log) => Ok(Some(write_log(alloc, &log)?)),
+        None => Ok(None),
+    }
+}
+
 #[test]
 fn written(rt: HostRuntime) -> Result<(), Fail> {
-    let log = small_log(rt.alloc()).ok().flatten().ok_or("a log")?;
-    let text = write_log(rt.alloc(), &log).ok().ok_or("memory")?;
-    assert_eq!(rt;
-        text.as_slice(),
-        b"pota-log 1\nprocs P\nvars P x=0\nev P 1 int x=1\nend\n".as_slice()
-    );
+    let text = written_small(rt.alloc())?.ok_or("names")?;
+    let wanted = b"pota-log 1\nprocs P\nvars P x=0\nev P 1 int x=1\nend\n";
+    assert!(rt; text.as_slice() == wanted.as_slice());
     Ok(())
+}
+
+// The counts of one event of process 1.
+fn counted(alloc: Global) -> Result<[u32; 32], NoMemory> {
+    let event = Event {
+        process: 1,
+        line: 1,
+        clock: List::new(alloc),
+        kind: Kind::Internal,
+        assigns: List::new(alloc),
+    };
+    let events = one(alloc, event)?;
+    Ok(count_events(events.as_slice()))
 }
 
 #[test]
 fn events_are_counted(rt: HostRuntime) -> Result<(), Fail> {
-    let event = Event {
-        process: 1,
-        line: 1,
-        clock: List::new(rt.alloc()),
-        kind: Kind::Internal,
-        assigns: List::new(rt.alloc()),
-    };
-    let mut events = Vec::new(rt.alloc());
-    events.push(event)?;
-    let counts = count_events(&events);
-    assert_eq!(rt; counts[0], 0);
-    assert_eq!(rt; counts[1], 1);
+    let counts = counted(rt.alloc())?;
+    assert!(rt; counts[0] == 0);
+    assert!(rt; counts[1] == 1);
     Ok(())
 }

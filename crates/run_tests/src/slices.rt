@@ -12,16 +12,26 @@ use std::process::Abort;
 use std::sync::ledger::{Blank, Ledger};
 use std::test::Fail;
 
-#[test]
-fn rows_with_and_without_cuts(rt: HostRuntime) -> Result<(), Fail> {
-    let shape = Shape::new(rt.alloc(), &[2, 1])?;
-    let mut table = CutTable::new(rt.alloc(), &shape)?;
+// A row without a cut, and one with all events of two processes.
+fn two_rows(alloc: Global) -> Result<CutTable, NoMemory> {
+    let shape = Shape::new(alloc, &[2, 1])?;
+    let mut table = CutTable::new(alloc, &shape)?;
     table.push_none()?;
     table.push_cut(&[2, 1])?;
-    assert_eq!(rt; table.len(), 2);
-    assert_eq!(rt; table.cut(0), None);
-    assert_eq!(rt; table.words(0), [3, 2].as_slice());
-    assert_eq!(rt; table.words(1), [2, 1].as_slice());
+    Ok(table)
+}
+
+// That the row without a cut has words past the ends.
+fn has_two_rows(rt: &impl Abort, table: &CutTable) {
+    assert!(rt; table.len() == 2);
+    assert!(rt; table.cut(0).is_none());
+    assert!(rt; table.words(0) == [3, 2].as_slice());
+    assert!(rt; table.words(1) == [2, 1].as_slice());
+}
+
+#[test]
+fn rows_with_and_without_cuts(rt: HostRuntime) -> Result<(), Fail> {
+    has_two_rows(&rt, &two_rows(rt.alloc())?);
     Ok(())
 }
 
@@ -37,11 +47,17 @@ fn three_cuts(alloc: Global) -> Result<Slice, NoMemory> {
     Slice::of(alloc, table)
 }
 
+// Whether the rows from which the table of the slice begins have these words.
+fn begins_from(alloc: Global, slice: &Slice, words: &[u64]) -> Result<bool, NoMemory> {
+    let rows = slice.rows(alloc)?;
+    Ok(rows.as_words() == words)
+}
+
 #[test]
 fn a_table_begins_from_the_rows_of_a_slice(rt: HostRuntime) -> Result<(), Fail> {
     let slice = three_cuts(rt.alloc())?;
-    let rows = slice.rows(rt.alloc())?;
-    assert_eq!(rt; rows.as_words(), [0, 0, 1, 0, 3, 2, 1, 1].as_slice());
+    let is_so = begins_from(rt.alloc(), &slice, &[0, 0, 1, 0, 3, 2, 1, 1])?;
+    assert!(rt; is_so);
     Ok(())
 }
 
@@ -69,11 +85,17 @@ fn three_events(alloc: Global) -> Result<Order, NoMemory>
     Ok(order)
 }
 
+// Whether the rows from which the table of the order begins have these words.
+fn order_begins_from(alloc: Global, order: &Order, words: &[u64]) -> Result<bool, NoMemory> {
+    let rows = order_rows(alloc, order)?;
+    Ok(rows.as_words() == words)
+}
+
 #[test]
 fn a_table_begins_from_the_clocks(rt: HostRuntime) -> Result<(), Fail> {
     let order = three_events(rt.alloc())?;
-    let rows = order_rows(rt.alloc(), &order)?;
-    assert_eq!(rt; rows.as_words(), [0, 0, 1, 0, 2, 0, 1, 1].as_slice());
+    let is_so = order_begins_from(rt.alloc(), &order, &[0, 0, 1, 0, 2, 0, 1, 1])?;
+    assert!(rt; is_so);
     Ok(())
 }
 
@@ -86,14 +108,19 @@ fn rows_above(alloc: Global, order: &Order) -> Result<Option<Floor>, NoMemory> {
     Ok(Some(order_rows_above(alloc, order, &[0, 1])?))
 }
 
+// Whether those rows have these words.
+fn begins_above(alloc: Global, order: &Order, words: &[u64]) -> Result<bool, NoMemory> {
+    match rows_above(alloc, order)? {
+        Some(rows) => Ok(rows.as_words() == words),
+        None => Ok(false),
+    }
+}
+
 #[test]
 fn a_table_begins_from_the_clocks_and_the_least_cut(rt: HostRuntime) -> Result<(), Fail> {
     let order = three_events(rt.alloc())?;
-    let Some(rows) = rows_above(rt.alloc(), &order)? else {
-        assert!(rt; false);
-        return Ok(());
-    };
-    assert_eq!(rt; rows.as_words(), [0, 1, 1, 1, 2, 1, 1, 1].as_slice());
+    let is_so = begins_above(rt.alloc(), &order, &[0, 1, 1, 1, 2, 1, 1, 1])?;
+    assert!(rt; is_so);
     Ok(())
 }
 
@@ -104,26 +131,54 @@ fn table_at(pulls: &[Pull], index: usize) -> &[u32] {
     }
 }
 
+// That the pulls at these places have these tables.
+fn have_tables(rt: &impl Abort, pulls: &[Pull], tables: &[(usize, &[u32])]) {
+    for &(index, table) in tables {
+        assert!(rt; table_at(pulls, index) == table);
+    }
+}
+
+// The pulls of the slice of three cuts.
+fn slice_pulls(alloc: Global) -> Result<List<Pull>, NoMemory> {
+    let slice = three_cuts(alloc)?;
+    slice.pulls(alloc)
+}
+
 #[test]
 fn each_process_of_a_slice_pulls_each(rt: HostRuntime) -> Result<(), Fail> {
-    let pulls = three_cuts(rt.alloc())?.pulls(rt.alloc())?;
-    assert_eq!(rt; pulls.len(), 4);
-    assert_eq!(rt; table_at(pulls.as_slice(), 0), [0, 1, 3, 3].as_slice());
-    assert_eq!(rt; table_at(pulls.as_slice(), 1), [0, 0, 2, 2].as_slice());
-    assert_eq!(rt; table_at(pulls.as_slice(), 2), [0, 1, 3].as_slice());
-    assert_eq!(rt; table_at(pulls.as_slice(), 3), [0, 1, 2].as_slice());
+    let pulls = slice_pulls(rt.alloc())?;
+    assert!(rt; pulls.len() == 4);
+    have_tables(
+        &rt,
+        pulls.as_slice(),
+        &[
+            (0, &[0, 1, 3, 3]),
+            (1, &[0, 0, 2, 2]),
+            (2, &[0, 1, 3]),
+            (3, &[0, 1, 2]),
+        ],
+    );
     Ok(())
+}
+
+// The pulls of the order of three events, in so many fans.
+fn order_pulls(alloc: Global) -> Result<(usize, List<Pull>), NoMemory> {
+    let order = three_events(alloc)?;
+    let fans = order_fans(alloc, &order)?;
+    let pulls = pulls_of(alloc, fans.as_slice())?;
+    Ok((fans.len(), pulls))
 }
 
 #[test]
 fn each_process_of_an_order_pulls_the_others(rt: HostRuntime) -> Result<(), Fail> {
-    let order = three_events(rt.alloc())?;
-    let fans = order_fans(rt.alloc(), &order)?;
-    assert_eq!(rt; fans.len(), 2);
-    let pulls = pulls_of(rt.alloc(), fans.as_slice())?;
-    assert_eq!(rt; pulls.len(), 2);
-    assert_eq!(rt; table_at(pulls.as_slice(), 0), [0, 0, 0, 0].as_slice());
-    assert_eq!(rt; table_at(pulls.as_slice(), 1), [0, 1, 1].as_slice());
+    let (fans, pulls) = order_pulls(rt.alloc())?;
+    assert!(rt; fans == 2);
+    assert!(rt; pulls.len() == 2);
+    have_tables(
+        &rt,
+        pulls.as_slice(),
+        &[(0, &[0, 0, 0, 0]), (1, &[0, 1, 1])],
+    );
     Ok(())
 }
 
@@ -141,19 +196,31 @@ fn closed_at<L: Ledger>(rt: &impl Abort, blank: Blank, system: &System, vector: 
     system.is_closed(vector, &mut Steps::<L>::new(blank))
 }
 
+// That these vectors are closed or not.
+fn close(rt: &impl Abort, system: &System, expected: &[([u64; 2], bool)]) {
+    for (vector, closed) in expected {
+        assert!(rt; closed_at::<Brand>(rt, Blank::new(1), system, vector) == *closed);
+    }
+}
+
+// The system of the order of three events.
+fn system_of_three(alloc: Global) -> Result<System, NoMemory> {
+    let order = three_events(alloc)?;
+    system_of(alloc, &order)
+}
+
 #[test]
 fn the_cuts_of_an_order_are_closed_under_its_fans(rt: HostRuntime) -> Result<(), Fail> {
-    let system = system_of(rt.alloc(), &three_events(rt.alloc())?)?;
-    for (vector, closed) in [
-        ([0, 0], true),
-        ([2, 0], true),
-        ([0, 1], false),
-        ([1, 1], true),
-    ] {
-        assert_eq!(rt;
-            closed_at::<Brand>(&rt, Blank::new(1), &system, &vector),
-            closed
-        );
-    }
+    let system = system_of_three(rt.alloc())?;
+    close(
+        &rt,
+        &system,
+        &[
+            ([0, 0], true),
+            ([2, 0], true),
+            ([0, 1], false),
+            ([1, 1], true),
+        ],
+    );
     Ok(())
 }

@@ -57,7 +57,9 @@ fn classed(alloc: Global, text: &str) -> Result<Option<Classed>, NoMemory>
     let Some(formula) = parsed(alloc, text)? else {
         return Ok(None);
     };
-    disjuncts(alloc, &formula)
+    let classed = disjuncts(alloc, &formula);
+    drop(formula);
+    classed
 }
 
 fn names_of(alloc: Global, watches: &[Handed]) -> Result<List<Name>, NoMemory> {
@@ -112,9 +114,12 @@ fn resolved(
         return Ok(None);
     };
     if names.len() != watches.len() {
+        drop(classed);
         return Ok(None);
     }
-    resolved_by(alloc, &classed, header, &names)
+    let resolved = resolved_by(alloc, &classed, header, &names);
+    drop(classed);
+    resolved
 }
 
 /// The session without batches, none where the formula or a name of it is not one.

@@ -4,8 +4,9 @@ use crate::pieces::{fault_of, fault_of_many};
 use crate::texts::{OF_NONE, OF_P, OF_Q, put};
 use event_log::LogCode;
 use log_merge::{MergeCode, MergeFault};
-use pota_base::List;
-use std::test::*;
+use pota_base::{List, NoMemory};
+use std::alloc::Global;
+use std::test::Fail;
 
 /// No text of a row is longer.
 const LONGEST: usize = 80;
@@ -85,71 +86,65 @@ const ROWS: [Row; 9] = [
     },
 ];
 
-#[test]
-fn in_pieces_of_each_length(rt: HostRuntime) -> Result<(), Fail> {
-    for row in ROWS {
-        let fault = MergeFault {
-            code: row.code,
-            source: row.source,
-            line: row.line,
-        };
-        for len in 1..=LONGEST {
-            let told = fault_of(rt.alloc(), row.text, len).ok().ok_or("memory")?;
-            assert_eq!(rt; told, Some(fault));
-        }
-    }
-    Ok(())
-}
-
 fn fault(code: MergeCode, source: u32, line: u32) -> Option<MergeFault> {
     Some(MergeFault { code, source, line })
 }
 
 #[test]
-fn too_many_sources(rt: HostRuntime) -> Result<(), Fail> {
-    let told = fault_of_many(rt.alloc(), OF_P, OF_NONE, 31)
-        .ok()
-        .ok_or("memory")?;
-    assert_eq!(rt; told, None);
-    let told = fault_of_many(rt.alloc(), OF_P, OF_NONE, 32)
-        .ok()
-        .ok_or("memory")?;
-    assert_eq!(rt; told, fault(MergeCode::TooManySources, 33, 1));
+fn in_pieces_of_each_length(rt: HostRuntime) -> Result<(), Fail> {
+    for row in ROWS {
+        for len in 1..=LONGEST {
+            let told = fault_of(rt.alloc(), row.text, len)?;
+            assert!(rt; told == fault(row.code, row.source, row.line));
+        }
+    }
     Ok(())
 }
 
 #[test]
-fn too_many_events(rt: HostRuntime) -> Result<(), Fail> {
-    let mut text = List::new(rt.alloc());
-    put(&mut text, b"pota-log 1\nprocs P Q\n", 1)
-        .ok()
-        .ok_or("memory")?;
-    put(&mut text, b"ev P 1,0 int\n", 50_000)
-        .ok()
-        .ok_or("memory")?;
-    put(&mut text, b"end\n", 1).ok().ok_or("memory")?;
-    let told = fault_of(rt.alloc(), text.as_slice(), 65_536)
-        .ok()
-        .ok_or("memory")?;
-    assert_eq!(rt; told, None);
-    put(&mut text, OF_Q, 1).ok().ok_or("memory")?;
-    let told = fault_of(rt.alloc(), text.as_slice(), 65_536)
-        .ok()
-        .ok_or("memory")?;
-    assert_eq!(rt; told, fault(MergeCode::TooManyEvents, 2, 4));
+fn too_many_sources(rt: HostRuntime) -> Result<(), Fail> {
+    for (more, wanted) in [(31, None), (32, fault(MergeCode::TooManySources, 33, 1))] {
+        let told = fault_of_many(rt.alloc(), OF_P, OF_NONE, more)?;
+        assert!(rt; told == wanted);
+    }
     Ok(())
+}
+
+// The first fault of 50,000 events of P with this text behind them.
+fn fault_behind_many(alloc: Global, behind: &[u8]) -> Result<Option<MergeFault>, NoMemory> {
+    let mut text = List::new(alloc);
+    put(&mut text, b"pota-log 1\nprocs P Q\n", 1)?;
+    put(&mut text, b"ev P 1,0 int\n", 50_000)?;
+    put(&mut text, b"end\n", 1)?;
+    put(&mut text, behind, 1)?;
+    fault_of(alloc, text.as_slice(), 65_536)
+}
+
+#[test]
+fn too_many_events(rt: HostRuntime) -> Result<(), Fail> {
+    for (behind, wanted) in [
+        (b"".as_slice(), None),
+        (OF_Q, fault(MergeCode::TooManyEvents, 2, 4)),
+    ] {
+        let told = fault_behind_many(rt.alloc(), behind)?;
+        assert!(rt; told == wanted);
+    }
+    Ok(())
+}
+
+// The first fault of so many times 10,000 `batch` lines behind a header.
+fn fault_of_batches(alloc: Global, times: usize) -> Result<Option<MergeFault>, NoMemory> {
+    let mut lines = List::new(alloc);
+    put(&mut lines, b"batch\n", 10_000)?;
+    let first = b"pota-log 1\nprocs P\n";
+    fault_of_many(alloc, first, lines.as_slice(), times)
 }
 
 // The first 19 bytes are two lines, and each line behind them has 6.
 #[test]
 fn too_long(rt: HostRuntime) -> Result<(), Fail> {
-    let mut lines = List::new(rt.alloc());
-    put(&mut lines, b"batch\n", 10_000).ok().ok_or("memory")?;
-    let first = b"pota-log 1\nprocs P\n";
-    let told = fault_of_many(rt.alloc(), first, lines.as_slice(), 1_119)
-        .ok()
-        .ok_or("memory")?;
+    let told = fault_of_batches(rt.alloc(), 1_119)?;
     let line = 3 + (67_108_864 - 19) / 6;
-    assert_eq!(rt; told, fault(MergeCode::TooLong, 1, line));
+    assert!(rt; told == fault(MergeCode::TooLong, 1, line));
     Ok(())
 }

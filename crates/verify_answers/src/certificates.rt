@@ -39,7 +39,9 @@ fn formula_line(alloc: Global, text: &[u8]) -> Result<Bytes, NoMemory>
 fn line_of(alloc: Global, stated: Stated) -> Result<Bytes, NoMemory>
     ensures { IfOk result (λ line. line ≡ formula_line stated.text) }
 {
-    formula_line(alloc, stated.text.as_slice())
+    let line = formula_line(alloc, stated.text.as_slice());
+    drop(stated);
+    line
 }
 
 // The nodes of the formula with these disjuncts on what was observed, of which none was begun.
