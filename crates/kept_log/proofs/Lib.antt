@@ -10,3 +10,5 @@ pub mod Present
 pub mod InHeader
 pub mod Steps
 pub mod Whole
+pub mod Spelled
+pub mod Answering

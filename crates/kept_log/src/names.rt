@@ -91,16 +91,14 @@ fn process_numbers(alloc: Global, header: &Header, names: &[Name]) -> Result<Lis
     Ok(numbers)
 }
 
-impl Names {
-    /// The same by the numbers of a header. A name that the header does not have gets the number
-    /// behind the last one, which no event has.
-    pub fn numbers_in(&self, alloc: Global, header: &Header) -> Result<Numbers, NoMemory>
-        ensures { IfOk result (λ numbers. numbers ≡ numbers_in header.now self.now) }
-    {
-        Ok(Numbers {
-            variables: all_ends(alloc, header, Second::Variable, self.variables.as_slice())?,
-            channels: all_ends(alloc, header, Second::Receiver, self.channels.as_slice())?,
-            processes: process_numbers(alloc, header, self.processes.as_slice())?,
-        })
-    }
+/// The names by the numbers of a header. A name that the header does not have gets the number behind
+/// the last one, which no event has.
+pub fn numbers_in(alloc: Global, header: &Header, names: &Names) -> Result<Numbers, NoMemory>
+    ensures { IfOk result (λ numbers. numbers ≡ numbers_in header.now names.now) }
+{
+    Ok(Numbers {
+        variables: all_ends(alloc, header, Second::Variable, names.variables.as_slice())?,
+        channels: all_ends(alloc, header, Second::Receiver, names.channels.as_slice())?,
+        processes: process_numbers(alloc, header, names.processes.as_slice())?,
+    })
 }
