@@ -1,6 +1,5 @@
-ghost use Rattle.std.specs.Prelude.{
-    ◌≡◌, ◌∷◌, [], ◌^◌, pos, neg_ℤ, ◌≤ℤ◌, length, All, IfOk, IfSome
-};
+ghost use Rattle.std.specs.Prelude.{◌≡◌, ◌∷◌, [], ◌^◌, pos, neg_ℤ, ◌≤ℤ◌, length, All};
+ghost use Rattle.std.specs.Prelude.{IfOk, IfSome};
 ghost use Rattle.event_log.specs.States.{AreNamedApart};
 ghost use Rattle.counter_preds.specs.Counters.{AreCounters, IsVariable, IsCounter};
 

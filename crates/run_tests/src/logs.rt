@@ -64,11 +64,7 @@ const FAULTY: [Faulty; 5] = [
         LogCode::BadLine,
         4,
     ),
-    (
-        b"pota-log 1\nprocs P\nend\nend\n",
-        LogCode::Trailing,
-        4,
-    ),
+    (b"pota-log 1\nprocs P\nend\nend\n", LogCode::Trailing, 4),
     (
         b"pota-log 1\nprocs P Q\nev P 1,0 send P 1\nend\n",
         LogCode::SelfMessage,
