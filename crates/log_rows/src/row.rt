@@ -22,7 +22,8 @@ pub struct Row {
 // Appends the line that the text stands for.
 fn put_line(to: &mut Vec<u8>, text: &str) -> Result<(), AllocError> {
     put_piece(to, text)?;
-    to.push(b'\n')
+    to.push(b'\n')?;
+    Ok(())
 }
 
 impl Row {

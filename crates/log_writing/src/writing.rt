@@ -11,8 +11,9 @@ ghost use Rattle.event_log.specs.LogText.{event_lines, batch_lines, closing_line
 ghost use Rattle.event_log.specs.LogText.{text_of, log_text, AssignFits, KindWithin};
 ghost use Rattle.log_writing.specs.Spelling.{CanBeSpelled, BatchesCanBeSpelled, HasText};
 
-use event_log::{Assign, Binding, Event, Header, Kind, Log, Name};
-use event_log::{put_clock, put_names, put_spaced};
+use event_log::{
+    Assign, Binding, Event, Header, Kind, Log, Name, put_clock, put_names, put_spaced,
+};
 use pota_base::{Bytes, List, NoMemory, put_i64, put_u64};
 use std::alloc::Global;
 

@@ -2,6 +2,7 @@
 use Rattle.std.proofs.Common.{◌≡◌, ℕ, zero, suc, ◌+◌, ◌<◌, ◌≤◌, Bool, true, false, Option, Some, None, List, [], ◌∷◌, ◌++◌, length, map, sum, get_or, refl, sym, ap, subst, ◌∙◌, arith}
 use Rattle.std.specs.Prelude.{if◌then◌else◌}
 use Rattle.std.specs.List.{AllByRecursion}
+use Rattle.std.proofs.lemmas.List.Sums.{sum_by-cons}
 use Rattle.log_lines.specs.Names.{are_distinct}
 use Rattle.log_lines.specs.Spelling.{names_of}
 use Rattle.log_lines.specs.Reading.{choose}
@@ -49,7 +50,7 @@ pub record IsFine (log : Prefix) : Type 0 where
 
 -- ---- all that is known of each
 
-all_so : {X : Type 0} (P Q : X → Type 0) → ((x : X) → P x → Q x) → (xs : List X) → AllByRecursion P xs → AllByRecursion Q xs
+pub all_so : {X : Type 0} (P Q : X → Type 0) → ((x : X) → P x → Q x) → (xs : List X) → AllByRecursion P xs → AllByRecursion Q xs
 all_so P Q f [] each = tt
 all_so P Q f (x ∷ xs) each = (f x each.0, all_so P Q f xs each.1)
 
@@ -73,8 +74,8 @@ within_all (x ∷ c) most within = (within 0, within_all c most (λ j. within (s
 
 count_sum : (c : Cut) (j : ℕ) → count c j ≤ sum c
 count_sum [] j = omega arith
-count_sum (x ∷ c) zero = omega arith
-count_sum (x ∷ c) (suc j) = omega (arith, count_sum c j)
+count_sum (x ∷ c) zero = let all : sum (x ∷ c) ≡ x + sum c = sum_by-cons (λ (n : ℕ). n) x c in omega (arith, all)
+count_sum (x ∷ c) (suc j) = let all : sum (x ∷ c) ≡ x + sum c = sum_by-cons (λ (n : ℕ). n) x c in omega (arith, all, count_sum c j)
 
 no_sum : (n : ℕ) → sum (map (length {A = Event}) (no_events n)) ≡ 0
 no_sum zero = refl

@@ -5,4 +5,8 @@ use Rattle.run_tests.proofs.orders.without_events.Goals as goal
 
 pub extend-requires : goal.extend-requires
 unfolding with_clocks
-extend-requires c = record { each = tt; few = omega (arith, c.shape-valid.ensures.shape.events); order = c.shape-valid.ensures.order }
+extend-requires g c = record { each = tt; few = omega (arith, c.shape-valid.ensures.shape.events); order = c.shape-valid.ensures.order }
+
+pub returns : goal.returns
+returns g c =
+    omega (arith, ap length c.in_ok-extend.ensures.ok, length-with_clocks c.in_ok-order.order [], ap length c.in_ok-order.ensures)

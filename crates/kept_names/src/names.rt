@@ -1,0 +1,43 @@
+//! What a log is folded to, by names.
+ghost use Rattle.std.specs.Prelude.{◌≡◌, []};
+ghost use Rattle.kept_names.specs.Words.{no_names, are_none};
+
+use pota_base::List;
+use pota_names::Name;
+use std::alloc::Global;
+
+/// A variable by the name of its process and its own, or a channel by the names of its sender and
+/// its receiver.
+#[derive(Debug, Drop)]
+pub struct Pair {
+    pub first: Name,
+    pub second: Name,
+}
+
+/// The variables and channels that are named, and the processes that are named as wholes.
+#[derive(Debug, Drop)]
+pub struct Names {
+    pub variables: List<Pair>,
+    pub channels: List<Pair>,
+    pub processes: List<Name>,
+}
+
+impl Names {
+    /// No names. It takes no memory.
+    pub fn new(alloc: Global) -> Names
+        ensures { result ≡ no_names }
+    {
+        Names {
+            variables: List::new(alloc),
+            channels: List::new(alloc),
+            processes: List::new(alloc),
+        }
+    }
+
+    /// Whether nothing is named.
+    pub fn is_empty(&self) -> bool
+        ensures { result ≡ are_none self.now }
+    {
+        self.variables.is_empty() && self.channels.is_empty() && self.processes.is_empty()
+    }
+}

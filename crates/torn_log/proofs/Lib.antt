@@ -1,0 +1,4 @@
+pub mod Passing
+pub mod Standing
+pub mod Lowering
+pub mod Keeping

@@ -1,0 +1,6 @@
+pub mod Items
+pub mod Counts
+pub mod Needs
+pub mod Torn
+pub mod Sends
+pub mod Rounds
