@@ -1,11 +1,7 @@
 #!/usr/bin/env bash
-# Prints what the pages show of a program as cases of the language that the crate `row_cases` has. They stand in data/pages.cases
-# of crates/outside_runs, crates/view_rows and crates/verify_rows, whose programs run them; .ci/run compares each with what this
-# prints, so that no page goes stale.
-#
-#     docs/cases.sh > crates/outside_runs/data/pages.cases
-#     docs/cases.sh pota_view > crates/view_rows/data/pages.cases
-#     docs/cases.sh pota_verify > crates/verify_rows/data/pages.cases
+# Prints what the pages show of a program, `pota` or the one that is named, as cases of the language that the crate `row_cases`
+# has. They stand in the rows of crates/call_rows and crates/reader_rows, whose programs run them: .ci/page_rows puts them there,
+# and compares.
 #
 # Taken from a page are:
 #

@@ -12,7 +12,7 @@ here=$(cd "$(dirname "$0")" && pwd)
 scratch_crates $(crates_below session_rows trace_gen)
 sed -i '/^session_rows:/s/$/ trace_gen anyhow/' "$scratch/crates.txt"
 cd "$scratch/crates/session_rows"
-rm -r data stdout src/case.rt src/log.rt src/reading.rt src/running.rt src/telling.rt src/verdict.rt
+rm -r stdin stdout src/case.rt src/log.rt src/reading.rt src/running.rt src/telling.rt src/verdict.rt
 cp "$here/main.txt" src/main.rt
 # In the proof the counter's ledger is the one that the blank names.
 rm -r proofs/verdict

@@ -10,9 +10,11 @@
 # are kept in FOLDER, if one is given, which must not exist.
 #
 # The program is the one that POTA names, or else crates/pota/out/pota, where `rt run` and `rt ci`
-# leave it.
+# leave it. With --kill the torn logs of a run go through the program that POTA_LOG names, or else
+# crates/pota_log/out/pota_log.
 here=$(cd "$(dirname "$0")" && pwd)
 pota=${POTA:-$here/../../crates/pota/out/pota}
+pota_log=${POTA_LOG:-$here/../../crates/pota_log/out/pota_log}
 export PYTHONDONTWRITEBYTECODE=1
 
 usage() {
@@ -26,10 +28,14 @@ shift
 kill=()
 [ "${1:-}" = --kill ] && { kill=(--kill); shift; }
 [ $# -le 1 ] || usage
-if ! [ -x "$pota" ]; then
-    echo "run.sh: there is no program $pota: let POTA name it, or build it (README)" >&2
-    exit 2
-fi
+needed=("$pota")
+[ ${#kill[@]} -eq 0 ] || needed+=("$pota_log")
+for program in "${needed[@]}"; do
+    if ! [ -x "$program" ]; then
+        echo "run.sh: there is no program $program: let POTA or POTA_LOG name it, or build it (README)" >&2
+        exit 2
+    fi
+done
 if [ $# -eq 1 ]; then
     room=$1
     mkdir "$room" || exit 2
@@ -38,13 +44,15 @@ else
     trap 'rm -rf "$room"' EXIT
 fi
 
-# The logs of a run, one behind the other. A process that was killed leaves a torn log, without its
-# `end` line and maybe with half a line: pota refuses it, so it is ended behind its last whole line.
-# No other process counts an event behind that one, since a line is written before its message is
-# sent. (A program that cuts torn logs by itself would take their place here.)
-joined() {
-    [ ${#kill[@]} -eq 0 ] || python3 "$here/../loggers/python/potalog.py" "$1"/*.log
-    cat "$1"/*.log
+# Asks the question of the logs of a run. A process that was killed leaves a torn log, without its
+# `end` line and maybe with half a line: `pota_log --torn` takes what is whole of it, and how many
+# events it leaves out of each process is kept beside the logs.
+ask() {
+    if [ ${#kill[@]} -eq 0 ]; then
+        cat "$1"/*.log | "$pota" check --merged "$2"
+    else
+        cat "$1"/*.log | "$pota_log" --merged --torn 2> "$1/left_out" | "$pota" check "$2"
+    fi
 }
 
 # Prints the row of the table for one system in one form.
@@ -55,7 +63,7 @@ row() {
     for run in "$room/$system-$form"/*; do
         logged=$(cat "$run/order_shows")
         [ "$logged" = bad ] && shown=$((shown + 1))
-        joined "$run" | "$pota" check --merged "$question" > "$run/report"
+        ask "$run" "$question" > "$run/report"
         answer=$?
         case $answer in
             0) found=$((found + 1)) ;;

@@ -8,7 +8,7 @@ use Rattle.run_model.specs.Run.{Run}
 use Rattle.run_model.specs.Meaning.{IsRun, Sat}
 use Rattle.run_model.specs.Class.{disjuncts, SatDisjuncts}
 use Rattle.run_model.proofs.Orders.{initial_consistent}
-use Rattle.run_model.proofs.DisjunctLemmas.{disjuncts_mean}
+use Rattle.meaning_laws.proofs.DisjunctLemmas.{disjuncts_mean}
 use Rattle.pota_names.specs.Names.{is_name}
 use Rattle.trace_growth.specs.Growing.{IsTrace}
 use Rattle.report.specs.declared.report.Report.{Report}

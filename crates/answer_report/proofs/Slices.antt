@@ -10,9 +10,9 @@ use Rattle.run_model.specs.Slice as model
 use Rattle.run_model.specs.Slice.{Cuts, StandsFor, IsLeastOf, IsPrintedAs, IsTextOf}
 use Rattle.run_model.specs.Meaning.{IsRun, Sat, Family}
 use Rattle.run_model.specs.Class.{disjuncts, IsKeptFor, Shown}
-use Rattle.run_model.proofs.DisjunctLemmas.{disjuncts_mean}
-use Rattle.run_model.proofs.JoinLemmas.{smallest_closed, smallest_wider}
-use Rattle.run_model.proofs.ShownLemmas.{shown_smallest}
+use Rattle.meaning_laws.proofs.DisjunctLemmas.{disjuncts_mean}
+use Rattle.meaning_laws.proofs.JoinLemmas.{smallest_closed, smallest_wider}
+use Rattle.meaning_laws.proofs.ShownLemmas.{shown_smallest}
 use Rattle.run_model.proofs.SliceLemmas.{exact_slice, stands_same}
 use Rattle.rctl_parts.specs.Pieces.{Piece}
 use Rattle.rctl_parts.specs.Spelled.{part_formulas, disjunction_of}

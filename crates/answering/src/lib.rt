@@ -20,4 +20,5 @@ mod answering;
 mod laws;
 
 pub use answering::Answering;
+pub use conjunctions::Answer;
 pub use laws::{a_fresh_start_answers_the_same, what_goes_on_goes_on_later};

@@ -12,9 +12,9 @@ use Rattle.log_rules.specs.WholeLogs.{all_of}
 use Rattle.rctl_class.specs.Nodes.{formula_of}
 use Rattle.vector_clock.specs.Filled.{filled_log}
 use Rattle.log_rules.proofs.Logs.{log_due, due_log}
-use Rattle.reported_log.specs.Aims.{Says, Aim, unknown_name}
-use Rattle.reported_log.specs.Checking.{IsCheckOf, HasClosed}
-use Rattle.reported_log.specs.declared.reported.ReportedLog.{ReportedLog}
+use Rattle.log_answers.specs.PassedOn.{Says, Aim, unknown_name}
+use Rattle.log_answers.specs.PassedOn.{IsCheckOf, HasClosed}
+use Rattle.log_answers.specs.PassedOn.{ReportedLog}
 use Rattle.log_answers.specs.declared.stop.StopCause.{StopCause}
 use Rattle.log_answers.specs.declared.stop.StopCause.TheVariants as causes
 use Rattle.log_answers.specs.declared.stop.Stop.{Stop}

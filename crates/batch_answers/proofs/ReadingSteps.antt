@@ -24,10 +24,10 @@ use Rattle.log_rules.specs.Due.{closed_of, placed, fault_in, told}
 use Rattle.log_rules.specs.Reported.{reported}
 use Rattle.log_rules.proofs.Items.{judged-append}
 use Rattle.log_rules.proofs.Readings.{log_is_read}
-use Rattle.reported_log.specs.Aims.{Says, Aim, rules_of}
-use Rattle.reported_log.specs.Checking.{IsCheckOf, IsFree, MayFollow}
-use Rattle.reported_log.specs.declared.reported.ReportedLog.{ReportedLog}
-use Rattle.log_check.proofs.Following.{follows_all}
+use Rattle.log_answers.specs.PassedOn.{Says, Aim, rules_of}
+use Rattle.log_answers.specs.PassedOn.{IsCheckOf, IsFree, MayFollow}
+use Rattle.log_answers.specs.PassedOn.{ReportedLog}
+use Rattle.log_answers.proofs.PassedOn.{follows_all}
 use Rattle.log_answers.specs.declared.stop.StopCause.{StopCause}
 use Rattle.log_answers.specs.declared.stop.StopCause.TheVariants as causes
 use Rattle.log_answers.specs.declared.stop.Stop.{Stop}

@@ -7,8 +7,8 @@ use Rattle.run_model.specs.Run.{Name, Watches}
 use Rattle.rctl_class.specs.Nodes.{node_of, formula_of}
 use Rattle.stated_formula.specs.declared.formula.Stated.{Stated}
 use Rattle.stated_formula.specs.Stating.{IsStated}
-use Rattle.run_report.specs.Reports.{Asked}
-use Rattle.reported_log.specs.Aims.{asked_of, aim_of}
+use Rattle.log_answers.specs.PassedOn.{Asked}
+use Rattle.log_answers.specs.PassedOn.{asked_of, aim_of}
 use Rattle.log_answers.specs.declared.stop.StopCause.TheVariants as causes
 use Rattle.log_answers.specs.declared.stop.Stop.{Stop}
 use Rattle.run_promise.specs.declared.outcome.Outcome.{Outcome}

@@ -8,8 +8,8 @@ use Rattle.event_log.specs.LogText.{onto}
 use Rattle.log_rules.specs.Judgement.{Judgement}
 use Rattle.log_rules.specs.Readings.{log_reading}
 use Rattle.log_rules.specs.Due.{Due, judgement_of}
-use Rattle.reported_log.specs.Aims.{Says, Aim, rules_of}
-use Rattle.reported_log.specs.declared.reported.ReportedLog.{ReportedLog}
+use Rattle.log_answers.specs.PassedOn.{Says, Aim, rules_of}
+use Rattle.log_answers.specs.PassedOn.{ReportedLog}
 use Rattle.log_rules.specs.Reported.{reported}
 use Rattle.log_answers.specs.declared.stop.StopCause.{StopCause}
 use Rattle.log_answers.specs.declared.stop.StopCause.TheVariants as causes

@@ -1,8 +1,8 @@
 //! Reading a log to its end, and reporting on it.
 ghost use Rattle.std.specs.Prelude.{◌≡◌};
 ghost use Rattle.log_rules.specs.Judgement.{waiting};
-ghost use Rattle.reported_log.specs.Aims.{Aim, said_by};
-ghost use Rattle.reported_log.specs.Checking.{IsCheckOf};
+ghost use Rattle.log_answers.specs.PassedOn.{Aim, said_by};
+ghost use Rattle.log_answers.specs.PassedOn.{IsCheckOf};
 ghost use Rattle.log_answers.specs.Calm.{IsCalmUnlessRead};
 ghost use Rattle.batch_answers.specs.Reading.{HasChecked};
 

@@ -15,5 +15,6 @@ mod outcome;
 mod reading;
 
 pub use checking::check_all;
+pub use log_answers::{CheckedLog, ReportedLog};
 pub use outcome::{faulty, outcome_of};
 pub use reading::read_log;

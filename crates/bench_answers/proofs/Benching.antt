@@ -32,9 +32,9 @@ use Rattle.log_rules.specs.Due.{whole_of, batches_of, at_end}
 use Rattle.log_rules.specs.WholeLogs.{first_fall, IsLogFor, all_of}
 use Rattle.log_rules.proofs.Items.{refused-stays}
 use Rattle.log_rules.proofs.Logs.{log_due, reads_back}
-use Rattle.reported_log.specs.Aims.{Says, Aim, rules_of, unknown_name}
-use Rattle.reported_log.specs.Checking.{IsCheckOf, IsFree, HasClosed, MayFollow}
-use Rattle.reported_log.specs.declared.reported.ReportedLog.{ReportedLog}
+use Rattle.batch_answers.specs.PassedOn.{Says, Aim, rules_of, unknown_name}
+use Rattle.batch_answers.specs.PassedOn.{IsCheckOf, IsFree, HasClosed, MayFollow}
+use Rattle.batch_answers.specs.PassedOn.{ReportedLog}
 use Rattle.trace_gen.specs.Generated.{generated_events}
 use Rattle.trace_gen.proofs.Clear.{length-names}
 use Rattle.trace_gen.proofs.Fits.{log_fits, all_written, filled_clean}

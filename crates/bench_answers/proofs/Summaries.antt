@@ -13,7 +13,7 @@ use Rattle.run_report.specs.Reports.{Asked}
 use Rattle.run_report.specs.Benches.{IsSummaryOf}
 use Rattle.fault_kinds.specs.declared.refusal.Refusal.TheVariants as refusal
 use Rattle.log_rules.specs.WholeLogs.{all_of}
-use Rattle.reported_log.specs.Aims.{Says, Aim, aim_of, names_of, watches_of}
+use Rattle.batch_answers.specs.PassedOn.{Says, Aim, aim_of, names_of, watches_of}
 use Rattle.watch.specs.declared.predicate.Handed.{Handed}
 use Rattle.fault_line.specs.Faults.{status_of}
 use Rattle.log_answers.specs.declared.stop.StopCause.{StopCause}

@@ -12,4 +12,5 @@
 mod nodes;
 mod rows;
 
+pub use canonical_text::{an_accepted_certificate_tells_the_truth, nodes_for};
 pub use nodes::CanonicalNodes;

@@ -8,6 +8,7 @@
 
 mod laws;
 
+pub use certificate::{an_accepted_certificate_tells_the_truth, nodes_for};
 pub use laws::{
     canonical_certificates_are_accepted, canonical_lines_follow, canonical_text_is_one,
 };

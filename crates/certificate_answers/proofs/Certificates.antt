@@ -27,11 +27,11 @@ use Rattle.log_rules.specs.Reported.{listed, reported}
 use Rattle.log_rules.specs.Counters.{counters_in}
 use Rattle.log_rules.proofs.Orders.{all_ordered}
 use Rattle.log_rules.proofs.Readings.{log_is_read}
-use Rattle.reported_log.specs.Aims.{Says, Aim, unknown_name, taken_for}
-use Rattle.reported_log.specs.Checking.{IsCheckOf, HasClosed}
-use Rattle.log_check.specs.Checked.{IsCheckedLog, observed_alone}
-use Rattle.reported_log.specs.declared.reported.ReportedLog.{ReportedLog}
-use Rattle.log_check.specs.declared.checked.CheckedLog.{CheckedLog}
+use Rattle.batch_answers.specs.PassedOn.{Says, Aim, unknown_name, taken_for}
+use Rattle.batch_answers.specs.PassedOn.{IsCheckOf, HasClosed}
+use Rattle.batch_answers.specs.PassedOn.{IsCheckedLog, observed_alone}
+use Rattle.batch_answers.specs.PassedOn.{ReportedLog}
+use Rattle.batch_answers.specs.PassedOn.{CheckedLog}
 use Rattle.log_answers.specs.declared.stop.StopCause.{StopCause}
 use Rattle.log_answers.specs.declared.stop.StopCause.TheVariants as causes
 use Rattle.log_answers.specs.declared.stop.Stop.{Stop}

@@ -11,4 +11,5 @@
 
 mod certifying;
 
+pub use batch_answers::{ReportedLog, check_all, faulty, outcome_of};
 pub use certifying::answer_certificate;

@@ -1,69 +1,43 @@
 //! A certificate that is read to the end of an input.
 
-ghost use Rattle.std.specs.Prelude.{◌≡◌, ◌≢◌, ◌<◌, [], length, IfOk, OnErr};
+ghost use Rattle.std.specs.Prelude.{◌≡◌, ◌≢◌, None, IfOk, OnErr};
+ghost use Rattle.certificate_text.specs.Taking.{VerifierView};
 ghost use Rattle.input_reading.specs.Changes.{of_source};
 ghost use Rattle.input_reading.specs.Intakes.{HasReadSome};
-ghost use Rattle.certificate_input.specs.inside.Pieces.{IsReady};
 ghost use Rattle.certificate_input.specs.Telling.{HasTold, IsFresh};
-ghost use Rattle.certificate_input.specs.inside.Telling.{HasToldOn, HasTurned};
+ghost use Rattle.certificate_input.specs.inside.Telling.{LeadsTo, IsRefused, bytes_left};
 
 use crate::input::CertificateInput;
 use crate::told::Told;
+use input_reading::{End, IntakeFor, Turn, read_for};
 use pota_base::{NoMemory, Source, Steps};
 use std::alloc::Global;
 use std::sync::ledger::Ledger;
 use verifier::{Takes, Verifier};
 
-/// The most bytes that one read takes.
-const PIECE: usize = 65_536;
-
-// Reads once. The answer is what is told of the bytes, or `None` where there may be more.
-fn take_turn<N: Takes, S: Source, L: Ledger>(
-    input: &mut CertificateInput<N>,
-    source: &mut S,
-    room: &mut [u8],
-    steps: &mut Steps<L>,
-) -> Result<Option<Told>, NoMemory>
-    requires room { 0 < length room.old }
-    requires ready { IsReady input.old }
-    ensures turn { IfOk result (HasTurned N.follows (of_source S.Source source.old source.new)
-        input.old input.new) }
-    ensures short { OnErr result (HasReadSome (of_source S.Source source.old source.new)) }
-    ensures calm { result ≢ Ok (Some Told.Failed) → S.faults source.new ≡ S.faults source.old }
-{
-    match source.read(room) {
-        Ok(0) => match input.finish() {
-            Ok(told) => Ok(Some(told)),
-            Err(short) => Err(short),
-        },
-        Ok(count) => match input.take(&room[..count], steps) {
-            Ok(None) => Ok(None),
-            Ok(Some(line)) => Ok(Some(Told::Refused(line))),
-            Err(short) => Err(short),
-        },
-        Err(_) => Ok(Some(Told::Failed)),
-    }
+/// A certificate whose bytes come, the count of the steps that its lines take, and the number of
+/// the line that is refused.
+#[derive(Drop)]
+struct Reading<'a, N: Takes, L: Ledger> {
+    input: CertificateInput<N>,
+    steps: &'a mut Steps<L>,
+    refused: Option<u64>,
 }
 
-// Reads until a line is refused, the input has ended, or a read failed.
-fn read_on<N: Takes, S: Source, L: Ledger>(
-    input: &mut CertificateInput<N>,
-    source: &mut S,
-    room: &mut [u8],
-    steps: &mut Steps<L>,
-) -> Result<Told, NoMemory>
-    requires room { 0 < length room.old }
-    requires ready { IsReady input.old }
-    ensures tells { IfOk result (HasToldOn N.follows (of_source S.Source source.old source.new)
-        input.old) }
-    ensures short { OnErr result (HasReadSome (of_source S.Source source.old source.new)) }
-    ensures calm { result ≢ Ok Told.Failed → S.faults source.new ≡ S.faults source.old }
-{
-    'turns: loop {
-        match take_turn(input, source, room, steps) {
-            Ok(None) => {}
-            Ok(Some(told)) => return Ok(told),
-            Err(short) => return Err(short),
+impl<'a, N: Takes, L: Ledger> IntakeFor for Reading<'a, N, L> {
+    ghost For = { VerifierView N };
+
+    ghost open_for = { λ first r bytes. LeadsTo N.follows first bytes r.input × (r.refused ≡ None) };
+
+    ghost done_for = { λ first r bytes. IsRefused N.follows first bytes r.refused };
+
+    ghost room_for = { λ r. bytes_left r.input };
+
+    fn take_for(&mut self, piece: &[u8]) -> Result<Turn, NoMemory> {
+        self.refused = self.input.take(piece, self.steps)?;
+        match self.refused {
+            Some(_) => Ok(Turn::Done),
+            None => Ok(Turn::More),
         }
     }
 }
@@ -88,12 +62,23 @@ pub fn read_certificate<N: Takes, S: Source, L: Ledger>(
     ensures short { OnErr result (HasReadSome (of_source S.Source source.old source.new)) }
     ensures calm { result ≢ Ok Told.Failed → S.faults source.new ≡ S.faults source.old }
 {
-    let mut buffer = vec![in alloc; 0u8; PIECE]?;
     let mut input = CertificateInput::new(alloc, verifier);
-    match input.take(front, steps) {
-        Ok(None) => {}
-        Ok(Some(line)) => return Ok(Told::Refused(line)),
-        Err(short) => return Err(short),
+    if let Some(line) = input.take(front, steps)? {
+        return Ok(Told::Refused(line));
     }
-    read_on(&mut input, source, buffer.as_mut_slice(), steps)
+    let mut reading = Reading {
+        input,
+        steps,
+        refused: None,
+    };
+    match read_for(alloc, source, &mut reading)? {
+        End::Ended => reading.input.finish(),
+        End::Done => {
+            let Some(line) = reading.refused else {
+                unreachable!()
+            };
+            Ok(Told::Refused(line))
+        }
+        End::Failed => Ok(Told::Failed),
+    }
 }

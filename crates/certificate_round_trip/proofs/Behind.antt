@@ -15,7 +15,7 @@ use Rattle.certificate.specs.Following.{Follows}
 use Rattle.certify.specs.Certifying.{nodes_of}
 use Rattle.run_promise.specs.Asking.{certifying, due_of, reading_of}
 use Rattle.run_promise.specs.Certificates.{disjuncts_on, line_of}
-use Rattle.verify_answers.specs.Asking.{AsksAbout}
+use Rattle.verify_top.specs.PassedOn.{AsksAbout}
 use Rattle.verify_top.specs.Asking.{aim_for, start_of}
 use Rattle.verify_top.specs.Verifying.{certificate_of}
 use Rattle.certificate_round_trip.specs.Behind.{IsAcceptedIn, IsWrittenOf}

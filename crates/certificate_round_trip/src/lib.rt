@@ -11,7 +11,7 @@
 ghost use Rattle.std.specs.Prelude.{ℕ, List as ListOf, ◌++◌};
 ghost use Rattle.log_lines.specs.Names.{Name};
 ghost use Rattle.rctl_grammar.specs.declared.tree.Tree.{Tree};
-ghost use Rattle.verify_answers.specs.Asking.{AsksAbout};
+ghost use Rattle.verify_top.specs.PassedOn.{AsksAbout};
 ghost use Rattle.certificate_round_trip.specs.Behind.{IsAcceptedIn, IsWrittenOf};
 
 use certify::{certificates_are_accepted, formula_lines_are_lines};

@@ -3,7 +3,7 @@ ghost use Rattle.std.specs.Prelude.{◌≡◌, ◌↔◌, ◌+◌, ◌<◌, ◌�
 ghost use Rattle.std.specs.Prelude.{IsTrue, MatchOption, OnOk};
 ghost use Rattle.std.specs.Bool.{OnFalse, OnTrue};
 ghost use Rattle.run_model.specs.Cut.{lengths};
-ghost use Rattle.vector_clock.specs.Events.{clocks_of};
+ghost use Rattle.part_pulls.specs.PassedOn.{clocks_of};
 ghost use Rattle.certified_rows.specs.Begun.{fresh_rows};
 ghost use Rattle.certified_nodes.specs.Plans.{IsPlan, system_at};
 ghost use Rattle.certified_nodes.specs.Given.{IsEnded};
@@ -20,12 +20,12 @@ use crate::plan::Plan;
 use crate::present::{begin, is_ended, raise};
 use crate::systems::system_of;
 use certified_rows::CertifiedRows;
+use part_pulls::Trace;
 use pota_base::{List, NoMemory, Steps};
 use slice_graph::Slice;
 use std::alloc::Global;
 use std::marker::Model;
 use std::sync::ledger::Ledger;
-use trace_growth::Trace;
 
 /// The nodes of a plan on one run.
 #[derive(Debug, Drop)]

@@ -1,10 +1,10 @@
 //! The order of the events of a run, which a trace keeps.
 ghost use Rattle.std.specs.Prelude.{◌≡◌, false};
-ghost use Rattle.vector_clock.specs.Events.{clocks_of};
+ghost use Rattle.part_pulls.specs.PassedOn.{clocks_of};
 
 use causal_order::Order;
+use part_pulls::Trace;
 use std::marker::Model;
-use trace_growth::Trace;
 
 /// A trace that isn't spent, of which the order of its events alone is asked. Contracts see the
 /// clocks of the events.
@@ -16,7 +16,7 @@ pub(crate) struct OrderedRun {
 impl Model for OrderedRun {
     ghost use Rattle.std.specs.Prelude.{◌≡◌, false};
     ghost use Rattle.run_model.specs.Cut.{Clocks};
-    ghost use Rattle.vector_clock.specs.Events.{clocks_of};
+    ghost use Rattle.part_pulls.specs.PassedOn.{clocks_of};
 
     ghost Value = { Clocks };
 

@@ -6,7 +6,7 @@ use Rattle.pota_base.specs.declared.fault.NoMemory.{NoMemory}
 use Rattle.pota_base.specs.Outside.{IsPrefix}
 use Rattle.rctl_parts.specs.Pieces.{Piece}
 use Rattle.part_pulls.specs.declared.observed.Observed.{Observed}
-use Rattle.certified_nodes.specs.Nodes.{NodesView, AreNodes}
+use Rattle.canonical_nodes.specs.PassedOn.{NodesView, AreNodes}
 use Rattle.certify.specs.Certifying.{nodes_of, HasFront, IsCertifying}
 use Rattle.certify.specs.inside.Written.{text_of, WroteFront, IsWritten}
 

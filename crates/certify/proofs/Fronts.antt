@@ -11,9 +11,9 @@ use Rattle.certificate_lines.specs.declared.line.Line.{Line}
 use Rattle.certificate_lines.specs.declared.line.Line.TheVariants.{Node, Row, Raise, Verdict}
 use Rattle.certificate_lines.specs.Spelling.{line_text, lines_text, title, end_line}
 use Rattle.certificate_text.specs.Running.{IsOfNode, certificate_lines}
-use Rattle.certified_nodes.specs.Nodes.{NodesView, AreNodes}
-use Rattle.canonical_text.specs.Canonical.{IsNext, AreNext, IsWhole}
-use Rattle.canonical_text.proofs.OneText.{is_front, one_whole}
+use Rattle.canonical_nodes.specs.PassedOn.{NodesView, AreNodes}
+use Rattle.canonical_nodes.specs.PassedOn.{IsNext, AreNext, IsWhole}
+use Rattle.canonical_nodes.proofs.PassedOn.{is_front, one_whole}
 use Rattle.certify.specs.inside.Written.{text_of, IsFrontOf, WroteAll, WroteFront, WroteUntil}
 use Rattle.certify.specs.inside.Written.{IsWritten}
 

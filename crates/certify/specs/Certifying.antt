@@ -11,9 +11,9 @@ use Rattle.part_pulls.specs.Counters.{CountersRise}
 use Rattle.certificate_lines.specs.declared.line.Line.{Line}
 use Rattle.certificate_lines.specs.Spelling.{lines_text}
 use Rattle.certificate_text.specs.Running.{certificate_lines}
-use Rattle.certified_nodes.specs.Nodes.{NodesView, AreNodes, fresh_nodes}
-use Rattle.certificate.specs.Numbering.{plan_of}
-use Rattle.canonical_text.specs.Canonical.{IsWhole}
+use Rattle.canonical_nodes.specs.PassedOn.{NodesView, AreNodes, fresh_nodes}
+use Rattle.canonical_nodes.specs.PassedOn.{plan_of}
+use Rattle.canonical_nodes.specs.PassedOn.{IsWhole}
 
 -- the formula of these disjuncts can be certified on what was observed: it may be judged, they are
 -- made for it and have few parts, and none of their counters falls

@@ -17,10 +17,10 @@ ghost use Rattle.part_pulls.specs.Counters.{CountersRise};
 ghost use Rattle.certificate_lines.specs.Spelling.{formula_line};
 ghost use Rattle.certificate_text.specs.Taking.{fresh};
 ghost use Rattle.certificate_text.specs.Bytes.{IsLine, Judged};
-ghost use Rattle.certificate.specs.Following.{Follows};
+ghost use Rattle.canonical_nodes.specs.PassedOn.{Follows};
 ghost use Rattle.certify.specs.Certifying.{IsCertificateOf, nodes_of};
 
-use certificate::an_accepted_certificate_tells_the_truth;
+use canonical_nodes::an_accepted_certificate_tells_the_truth;
 use printed_lengths::{printed_is_little_longer, printed_is_one_line};
 
 /// The verdict of a canonical certificate is the truth of the formula at the initial cut.

@@ -5,13 +5,12 @@ ghost use Rattle.pota_base.specs.Outside.{AppendsPrefix, HasCause};
 ghost use Rattle.rctl_parts.specs.Pieces.{disjuncts_of};
 ghost use Rattle.certificate_lines.specs.Spelling.{line_text, lines_text};
 ghost use Rattle.certificate_text.specs.Running.{IsOfNode};
-ghost use Rattle.canonical_text.specs.Canonical.{IsNext};
+ghost use Rattle.canonical_nodes.specs.PassedOn.{IsNext};
 ghost use Rattle.canonical_nodes.specs.Coming.{lines_left};
 ghost use Rattle.certify.specs.Certifying.{CanBeCertified, HasFront, IsCertifying};
 ghost use Rattle.certify.specs.inside.Written.{IsWritten, WroteFront};
 
-use canonical_nodes::CanonicalNodes;
-use certificate::nodes_for;
+use canonical_nodes::{CanonicalNodes, nodes_for};
 use certificate_lines::{Line, put_end, put_head, put_line};
 use part_pulls::Observed;
 use pota_base::{Bytes, Failed, List, NoMemory, Sink, Steps, write_all};

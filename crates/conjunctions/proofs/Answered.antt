@@ -10,7 +10,7 @@ use Rattle.run_model.specs.Sublattice.{Smallest, Either}
 use Rattle.run_model.specs.Slice.{StandsFor, Cuts, IsLeastOf, HasWithin}
 use Rattle.run_model.specs.Meaning.{Sat, Family}
 use Rattle.run_model.proofs.Orders.{initial_consistent}
-use Rattle.run_model.proofs.JoinLemmas.{smallest_in}
+use Rattle.meaning_laws.proofs.JoinLemmas.{smallest_in}
 use Rattle.pull_system.specs.Rows.{RowsView}
 use Rattle.slice_graph.specs.Views.{SliceView, slice_of, no_row}
 use Rattle.slice_graph.specs.Fitting.{FitsOrder}

@@ -8,7 +8,7 @@ use Rattle.run_model.specs.Sublattice.{IsSublattice, Smallest, given, Either}
 use Rattle.run_model.specs.Slice.{Slice, StandsFor, Cuts}
 use Rattle.run_model.specs.Meaning.{SatSome, Family}
 use Rattle.run_model.proofs.SliceLemmas.{stands_same, exact_slice}
-use Rattle.run_model.proofs.JoinLemmas.{smallest_closed, smallest_wider}
+use Rattle.meaning_laws.proofs.JoinLemmas.{smallest_closed, smallest_wider}
 use Rattle.rctl_parts.specs.Pieces.{Piece}
 use Rattle.rctl_parts.specs.Spelled.{Names, conjunction_of, conjunctions_of, disjunction_of}
 

@@ -3,7 +3,7 @@ use Rattle.std.proofs.Common.{◌≡◌, Bool, true, false, List, [], ◌∷◌,
 use Rattle.std.specs.Prelude.{IsTrue}
 use Rattle.run_model.specs.Sublattice.{Smallest}
 use Rattle.run_model.specs.Meaning.{Family}
-use Rattle.run_model.proofs.JoinLemmas.{smallest_closed}
+use Rattle.meaning_laws.proofs.JoinLemmas.{smallest_closed}
 use Rattle.trace_growth.specs.Growing.{IsTrace}
 use Rattle.rctl_grammar.specs.declared.tree.Operator.{Operator}
 use Rattle.slice_graph.specs.Views.{SliceView}

@@ -12,3 +12,4 @@ pub mod Laws
 pub mod NotedLines
 pub mod FittingItems
 pub mod inside
+pub mod PassedOn

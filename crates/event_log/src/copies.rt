@@ -1,14 +1,13 @@
 //! Copies of the parts of a header, in memory of their own.
 
 ghost use Rattle.std.specs.Prelude.{◌≡◌, ◌≤◌, true, length, All, IfOk};
-ghost use Rattle.pota_names.specs.Names.{is_name};
+ghost use Rattle.log_lines.specs.PassedOn.{is_name};
 ghost use Rattle.log_lines.specs.Drafts.{texts_of, values_of};
 ghost use Rattle.event_log.specs.Before.{filled, bindings_of, var_lines_of};
 
 use crate::log::Binding;
-use log_lines::Setting;
+use log_lines::{Name, Setting};
 use pota_base::{List, NoMemory};
-use pota_names::Name;
 use std::alloc::Global;
 
 /// What can be copied where there is memory.

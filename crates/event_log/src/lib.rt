@@ -36,7 +36,7 @@ pub use counting::{MANY_EVENTS, count_events};
 pub use item::{Fed, Item, LogCode, LogFault};
 pub use laws::{a_log_reads_back, items_fit, lines_are_noted, no_fault_is_a_log};
 pub use log::{Assign, Binding, Event, Header, Kind, Log};
-pub use pota_names::Name;
+pub use log_lines::Name;
 pub use reader::Reader;
 pub use split::split_line;
 pub use states::States;

@@ -10,10 +10,9 @@ use crate::log::{Binding, Header};
 use crate::numbers::event_named;
 use crate::refusals::refused;
 use log_lines::{
-    Frames, begins_vars, is_batch, is_end, place_among, read_event, read_procs, read_vars,
+    Frames, Name, begins_vars, is_batch, is_end, place_among, read_event, read_procs, read_vars,
 };
 use pota_base::{List, NoMemory, Refused};
-use pota_names::Name;
 use std::alloc::Global;
 
 /// How far the lines have come.

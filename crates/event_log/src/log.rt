@@ -1,9 +1,8 @@
 //! A log as values: names of processes and variables are numbers, from 0 in the order of the
 //! header.
 
-use log_lines::Named;
+use log_lines::{Name, Named};
 use pota_base::List;
-use pota_names::Name;
 
 /// A variable of a process, with the value that it has in the initial state.
 #[derive(Debug, Drop)]

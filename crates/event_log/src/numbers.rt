@@ -11,9 +11,8 @@ ghost use Rattle.event_log.specs.declared.item.LogCode.TheVariants.{UnknownProce
 
 use crate::item::LogCode;
 use crate::log::{Assign, Binding, Event, Kind};
-use log_lines::{ActionDraft, EventDraft, Setting, place_among, place_of};
+use log_lines::{ActionDraft, EventDraft, Name, Setting, place_among, place_of};
 use pota_base::{List, Refused};
-use pota_names::Name;
 use std::alloc::Global;
 
 /// The most events that a log may have.

@@ -17,8 +17,8 @@ ghost use Rattle.event_log.specs.Laws.{IsLog};
 
 use crate::log::{Assign, Binding, Event, Header, Kind, Log};
 use crate::numbers::variables_at;
+use log_lines::Name;
 use pota_base::{Bytes, List, NoMemory, put_i64, put_u64};
-use pota_names::Name;
 use std::alloc::Global;
 
 /// Appends a space and the word.

@@ -9,5 +9,6 @@ mod fault;
 mod line;
 mod texts;
 
+pub use event_log::{LogCode, LogFault};
 pub use fault::Fault;
 pub use line::tell;

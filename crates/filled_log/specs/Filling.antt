@@ -1,9 +1,12 @@
 -- What is kept of a log as its items come.
-use Rattle.std.specs.Prelude.{◌≡◌, ◌+◌, ◌≤◌, true, false, List, [], length, None, Some}
+use Rattle.std.specs.Prelude.{◌≡◌, ℕ, ◌+◌, ◌≤◌, true, false, List, [], length, None, Some}
 use Rattle.std.specs.List.{AllByRecursion}
+use Rattle.pota_base.specs.Limits.{most_events}
 use Rattle.event_log.specs.declared.log.Event.{Event}
 use Rattle.event_log.specs.LogText.{HeaderFits, EventFits, event_count}
 use Rattle.vector_clock.specs.Admitted.{HasAdmitted}
+use Rattle.vector_clock.specs.Events.{AllFit, no_events}
+use Rattle.vector_clock.specs.Faults.{batches_fault}
 use Rattle.log_rules.specs.Judgement.{Prefix, followed_by, events_of}
 use Rattle.log_rules.specs.Judgement.{Judgement, waiting, growing, finished, refused}
 use Rattle.log_rules.specs.WholeLogs.{all_of}
@@ -11,12 +14,20 @@ use Rattle.log_writing.specs.Spelling.{BatchesCanBeSpelled}
 use Rattle.filled_log.specs.declared.filling.Begun.{Begun}
 use Rattle.filled_log.specs.declared.filling.FilledLog.{FilledLog}
 
--- it is the log after these batches, whose lines can be spelled
+-- in these batches of so many processes each clock is written, and none has a fault of its clocks and
+-- messages; and they have no more events than a log may have
+pub record AreFaultless (procs : ℕ) (batches : List (List Event)) : Type 0 where
+  pub clocks : AllFit procs batches
+  pub faultless : batches_fault (no_events procs) batches ≡ None
+  pub events : event_count batches ≤ most_events
+
+-- it is the log after these batches, which have no fault and whose lines can be spelled
 pub record HasLog (begun : Begun) (log : Prefix) : Type 0 where
   pub fits : HeaderFits log.header
   pub log_is : all_of begun.log ≡ log
   pub admitted : HasAdmitted begun.clocks (events_of log)
   pub spelled : BatchesCanBeSpelled log.header log.batches
+  pub faultless : AreFaultless (length log.header.procs) log.batches
 
 -- the header came, and these batches
 pub record HasBegun (kept : FilledLog) (log : Prefix) : Type 0 where

@@ -9,7 +9,7 @@ ghost use Rattle.log_trace.specs.Judging.{IsRefused, without_formula};
 ghost use Rattle.log_trace.specs.inside.Judging.{MayFollow, end_item};
 ghost use Rattle.log_rules.specs.WholeLogs.{all_of};
 ghost use Rattle.log_writing.specs.Spelling.{HasText};
-ghost use Rattle.filled_log.specs.Filling.{HasLog, HasBegun, Keeps};
+ghost use Rattle.filled_log.specs.Filling.{AreFaultless, HasLog, HasBegun, Keeps};
 ghost use Rattle.filled_log.specs.inside.Filling.{IsBegunBy, MayComeBehind};
 
 use event_log::{Event, Header, Item, Log, LogFault};
@@ -194,7 +194,8 @@ impl FilledLog {
     /// The header and the closed batches.
     pub fn into_log(self) -> Log
         requires { (log : Prefix) × HasBegun self log }
-        ensures { (log : Prefix) → HasBegun self log → (all_of result ≡ log) × HasText result }
+        ensures { (log : Prefix) → HasBegun self log → (all_of result ≡ log) × HasText result
+            × AreFaultless (length result.header.procs) result.batches }
     {
         let FilledLog {
             begun,

@@ -8,7 +8,7 @@ use Rattle.run_model.specs.Slice.{Slice, Cuts, StandsFor}
 use Rattle.run_model.specs.Operators.{min_row, joined}
 use Rattle.run_model.proofs.Counts.{count-min, length-min}
 use Rattle.run_model.proofs.SliceLemmas.{stands_rows}
-use Rattle.run_model.proofs.JoinLemmas.{joined_stands, joined_grouped, smallest_closed}
+use Rattle.meaning_laws.proofs.JoinLemmas.{joined_stands, joined_grouped, smallest_closed}
 use Rattle.slice_graph.specs.Views.{SliceView, slice_of, IsCut, no_row}
 use Rattle.slice_graph.specs.Fitting.{FitsOrder}
 use Rattle.slice_graph.proofs.Building.{BuiltBy, fits_of_set}

@@ -1,7 +1,7 @@
 -- What is named by numbers is what is named by names.
-use Rattle.std.proofs.Common.{◌≡◌, ℕ, Bool, ◌&&◌, ◌||◌, List, [], ◌∷◌, map, refl, sym, ap, ◌∙◌, inl, inr}
+use Rattle.std.proofs.Common.{◌≡◌, ℕ, suc, Bool, ◌&&◌, ◌||◌, List, [], ◌∷◌, map, refl, sym, ap, ◌∙◌, inl, inr}
 use Rattle.std.specs.Prelude.{◌==◌}
-use Rattle.std.specs.List.{list_any}
+use Rattle.std.specs.List.{list_any, filter}
 use Rattle.std.proofs.lemmas.Bool.{cases_Bool, eqb-true}
 use Rattle.run_model.specs.Run as run
 use Rattle.kept_runs.specs.Kept as kept
@@ -11,7 +11,9 @@ use Rattle.event_log.specs.declared.log.Kind.{Kind}
 use Rattle.event_log.specs.declared.log.Kind.TheVariants as kind
 use Rattle.event_log.specs.declared.log.Event.{Event}
 use Rattle.event_log.specs.States.{event_of, kind_of, assignment_of}
-use Rattle.kept_log.specs.Kept.{is_kept_here}
+use Rattle.event_log.specs.declared.log.Binding.{Binding}
+use Rattle.kept_runs.specs.Chosen.{chosen, new_number}
+use Rattle.kept_log.specs.Kept.{is_kept_here, kept_assigns, kept_vars}
 use Rattle.kept_log.specs.declared.numbers.Ends.{Ends}
 use Rattle.kept_log.specs.declared.numbers.Numbers.{Numbers}
 use Rattle.kept_log.specs.inside.Numbered as by
@@ -77,3 +79,28 @@ module _ (trace : run.Trace) (names : Names) (e : Event) where
   pub kept_same : by.is_kept (numbers_of trace names) e ≡ is_kept_here trace names e
   kept_same = λ i. (any_mapped (variable_ends trace) (by.assigns_to e) (kept.assigns trace e.process (event_of e)) assigns_same names.variables i || open_same i)
       || any_mapped (process_number trace) (λ p. p == e.process) (λ name. process_number trace name == e.process) (λ name. refl) names.processes i
+
+-- ---- what they tell of a variable
+
+module _ (trace : run.Trace) (names : Names) where
+  named_same : (p v : ℕ) (x : kept.Pair) → ((process_number trace x.first == p) && ((variable_ends trace x).second == v)) ≡ ((process_number trace x.first == p) && (variable_number (run.process_at trace p) x.second == v))
+  named_same p v x = elim (cases_Bool (process_number trace x.first == p)) [
+    | inl here ↦
+        let at : process_number trace x.first ≡ p = eqb-true (process_number trace x.first) p here in
+        ap (λ (q : ℕ). (process_number trace x.first == p) && (variable_number (run.process_at trace q) x.second == v)) at
+    | inr other ↦
+        ap (λ (b : Bool). b && ((variable_ends trace x).second == v)) other
+        ∙ sym (ap (λ (b : Bool). b && (variable_number (run.process_at trace p) x.second == v)) other)
+  ]
+
+  pub variable_same : (p v : ℕ) → by.is_kept_variable (numbers_of trace names) p v ≡ kept.is_kept_variable trace names p v
+  variable_same p v = λ i. any_mapped (variable_ends trace) (λ (x : Ends). (x.first == p) && (x.second == v)) (λ (x : kept.Pair). (process_number trace x.first == p) && (variable_number (run.process_at trace p) x.second == v)) (named_same p v) names.variables i
+      || any_mapped (process_number trace) (λ q. q == p) (λ name. process_number trace name == p) (λ name. refl) names.processes i
+
+  pub assigned_same : (p : ℕ) (xs : List Assign) → by.assigns_by (numbers_of trace names) p xs ≡ kept_assigns trace names p xs
+  assigned_same p xs = λ i. map (λ (a : Assign). record a { variable = new_number (λ v. variable_same p v i) a.variable }) (filter (λ (a : Assign). variable_same p a.variable i) xs)
+
+  pub vars_same : (j : ℕ) (vars : List (List Binding)) → by.vars_by (numbers_of trace names) j vars ≡ kept_vars trace names j vars
+  unfolding by.vars_by kept_vars
+  vars_same j [] = refl
+  vars_same j (bs ∷ vars) = λ i. chosen (λ v. variable_same j v i) bs ∷ vars_same (suc j) vars i

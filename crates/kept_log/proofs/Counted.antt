@@ -1,5 +1,5 @@
 -- Events folded by numbers and counts are those folded by names.
-use Rattle.std.proofs.Common.{◌≡◌, ℕ, suc, ◌+◌, ◌≤◌, Bool, List, [], ◌∷◌, length, map, refl, sym, ap, ◌∙◌, subst, arith, inl, inr}
+use Rattle.std.proofs.Common.{◌≡◌, ℕ, suc, ◌+◌, ◌≤◌, List, [], ◌∷◌, length, map, refl, sym, ap, ◌∙◌, subst, arith, inl, inr}
 use Rattle.std.specs.Prelude.{if◌then◌else◌}
 use Rattle.std.specs.List.{AllByRecursion, filter}
 use Rattle.std.proofs.lemmas.Bool.{cases_Bool, cond-true, cond-false}
@@ -12,7 +12,7 @@ use Rattle.kept_log.specs.Kept.{is_kept_here, kept_here, kept_events}
 use Rattle.kept_log.specs.inside.Numbered as by
 use Rattle.kept_log.specs.inside.Counted.{count_at, clock_by, event_by, events_by}
 use Rattle.kept_log.proofs.Folded.{kept_one, dropped_one}
-use Rattle.kept_log.proofs.ByNumbers.{numbers_of, kept_same, open_same}
+use Rattle.kept_log.proofs.ByNumbers.{numbers_of, kept_same, open_same, assigned_same}
 
 -- the rows hold, for each process and each number of its first events, how many of these are kept
 abbrev pub AreCounts : run.Trace → Names → List (List ℕ) → Type 0
@@ -37,8 +37,9 @@ module _ (trace : run.Trace) (names : Names) (counts : List (List ℕ)) (are : A
 
   one_same : (e : Event) → IsCounted trace e → event_by (numbers_of trace names) counts e ≡ kept_here trace names e
   one_same e within =
-      ap (λ (c : Cut). record e { clock = c; kind = if by.is_open (numbers_of trace names) e then e.kind else kind.Internal }) (clock_from 0 e.clock (λ k. subst (λ (i : ℕ). count e.clock k ≤ length (run.process_at trace i).events) (omega arith) (within k)))
-      ∙ ap (λ (b : Bool). record e { clock = kept_cut trace names e.clock; kind = if b then e.kind else kind.Internal }) (open_same trace names e)
+      let numbers = numbers_of trace names in
+      ap (λ (c : Cut). record e { clock = c; kind = if by.is_open numbers e then e.kind else kind.Internal; assigns = by.assigns_by numbers e.process e.assigns }) (clock_from 0 e.clock (λ k. subst (λ (i : ℕ). count e.clock k ≤ length (run.process_at trace i).events) (omega arith) (within k)))
+      ∙ (λ i. record e { clock = kept_cut trace names e.clock; kind = if open_same trace names e i then e.kind else kind.Internal; assigns = assigned_same trace names e.process e.assigns i })
 
   pub events_same : (es : List Event) → AllByRecursion (IsCounted trace) es → events_by (numbers_of trace names) counts es ≡ kept_events trace names es
   events_same [] all = refl

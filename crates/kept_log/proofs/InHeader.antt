@@ -13,8 +13,8 @@ use Rattle.event_log.specs.declared.log.Log.{Log}
 use Rattle.event_log.specs.Numbers.{binding_names}
 use Rattle.event_log.specs.States.{states_of, trace_of_log}
 use Rattle.event_log.proofs.NameNumbers.{place_is, names_are, variables_are}
-use Rattle.kept_log.specs.declared.names.Pair.{Pair}
-use Rattle.kept_log.specs.declared.names.Names.{Names}
+use Rattle.kept_names.specs.declared.names.Pair.{Pair}
+use Rattle.kept_names.specs.declared.names.Names.{Names}
 use Rattle.kept_log.specs.declared.names.Second.TheVariants as second
 use Rattle.kept_log.specs.Named.{pair_of, names_of}
 use Rattle.kept_log.specs.inside.Numbered.{process_in, variable_in, ends_in, numbers_in}

@@ -10,3 +10,7 @@ pub mod Present
 pub mod InHeader
 pub mod Steps
 pub mod Whole
+pub mod Spelled
+pub mod Answering
+pub mod Again
+pub mod Looking

@@ -1,8 +1,8 @@
 -- What is named, as the definition of a kept run has it.
 use Rattle.std.specs.Prelude.{map}
 use Rattle.kept_runs.specs.Kept as kept
-use Rattle.kept_log.specs.declared.names.Pair.{Pair}
-use Rattle.kept_log.specs.declared.names.Names.{Names}
+use Rattle.kept_names.specs.declared.names.Pair.{Pair}
+use Rattle.kept_names.specs.declared.names.Names.{Names}
 
 abbrev pub pair_of : Pair → kept.Pair
 pair_of x = record { first = x.first; second = x.second }

@@ -7,9 +7,11 @@ ghost use Rattle.kept_log.specs.Named.{names_of};
 ghost use Rattle.kept_log.specs.inside.Counted.{clock_by, event_by, events_by};
 
 use crate::counts::all_counts;
-use crate::names::Names;
+use crate::names::numbers_in;
 use crate::numbers::Numbers;
-use event_log::{Copies, Event, Header, Kind, Log, copy_of};
+use crate::variables::{assigns_by, header_by};
+use event_log::{Event, Kind, Log};
+use kept_names::Names;
 use pota_base::{List, NoMemory};
 use std::alloc::Global;
 
@@ -50,8 +52,7 @@ fn event_by(
     ensures { IfOk result (λ kept. kept ≡ event_by numbers.now counts.now event.now) }
 {
     let clock = clock_by(alloc, counts, event.clock.as_slice())?;
-    let mut assigns = List::with_capacity(alloc, event.assigns.len())?;
-    assigns.extend_from_slice(event.assigns.as_slice())?;
+    let assigns = assigns_by(alloc, numbers, event.process, event.assigns.as_slice())?;
     let kind = if numbers.is_open(event) {
         event.kind
     } else {
@@ -101,31 +102,20 @@ fn kept_events(
     Ok(kept)
 }
 
-fn copy_of_header(alloc: Global, header: &Header) -> Result<Header, NoMemory>
-    ensures { IfOk result (λ copy. copy ≡ header.now) }
-{
-    let mut var_lines = List::with_capacity(alloc, header.var_lines.len())?;
-    var_lines.extend_from_slice(header.var_lines.as_slice())?;
-    Ok(Header {
-        version: header.version,
-        procs: copy_of(alloc, header.procs.as_slice())?,
-        vars: header.vars.copied(alloc)?,
-        var_lines,
-    })
-}
-
-/// The log folded to what is named, in memory of its own. A clock that is left out is filled in
+/// The log folded to what is named, in memory of its own: its kept events, and the variables that
+/// are named or of named processes. A clock that is left out is filled in
 /// before.
 pub fn keep(alloc: Global, log: &Log, names: &Names) -> Result<Log, NoMemory>
     requires { CanBeKept log.now }
-    ensures { IfOk result (λ kept. kept ≡ kept_log log.now (names_of names.now)) }
+    ensures is { IfOk result (λ kept. kept ≡ kept_log log.now (names_of names.now)) }
+    ensures again { IfOk result CanBeKept }
 {
-    let numbers = names.numbers_in(alloc, &log.header)?;
+    let numbers = numbers_in(alloc, &log.header, names)?;
     let processes = log.header.procs.len();
     let batches = log.batches.as_slice();
     let counts = all_counts(alloc, &numbers, batches, processes)?;
     let events = kept_events(alloc, &numbers, counts.as_slice(), batches)?;
-    let header = copy_of_header(alloc, &log.header)?;
+    let header = header_by(alloc, &numbers, &log.header)?;
     let mut batches = List::new(alloc);
     batches.push(events)?;
     Ok(Log { header, batches })

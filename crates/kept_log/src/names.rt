@@ -5,25 +5,10 @@ ghost use Rattle.kept_log.specs.inside.Numbered.{process_in, variable_in, ends_i
 
 use crate::numbers::{Ends, Numbers};
 use event_log::{Binding, Header, Name};
+use kept_names::{Names, Pair};
 use log_lines::{place_among, place_of};
 use pota_base::{List, NoMemory};
 use std::alloc::Global;
-
-/// A variable by the name of its process and its own, or a channel by the names of its sender and
-/// its receiver.
-#[derive(Debug, Drop)]
-pub struct Pair {
-    pub first: Name,
-    pub second: Name,
-}
-
-/// The variables and channels that are named, and the processes that are named as wholes.
-#[derive(Debug, Drop)]
-pub struct Names {
-    pub variables: List<Pair>,
-    pub channels: List<Pair>,
-    pub processes: List<Name>,
-}
 
 /// What the second name of a pair is the name of.
 #[derive(Clone, Copy, Debug)]
@@ -32,14 +17,14 @@ enum Second {
     Receiver,
 }
 
-fn process_number(header: &Header, name: &Name) -> usize
+pub fn process_number(header: &Header, name: &Name) -> usize
     ensures { result ≡ process_in header.now name.now }
 {
     let procs = header.procs.as_slice();
     place_among(procs, name.as_bytes()).unwrap_or(procs.len())
 }
 
-fn variables_at(header: &Header, process: usize) -> &[Binding]
+pub fn variables_at(header: &Header, process: usize) -> &[Binding]
     ensures { result.now ≡ variables_at header.now.vars process }
 {
     match header.vars.as_slice().get(process) {
@@ -48,7 +33,7 @@ fn variables_at(header: &Header, process: usize) -> &[Binding]
     }
 }
 
-fn variable_number(header: &Header, process: usize, name: &Name) -> usize
+pub fn variable_number(header: &Header, process: usize, name: &Name) -> usize
     ensures { result ≡ variable_in header.now process name.now }
 {
     let variables = variables_at(header, process);
@@ -91,16 +76,14 @@ fn process_numbers(alloc: Global, header: &Header, names: &[Name]) -> Result<Lis
     Ok(numbers)
 }
 
-impl Names {
-    /// The same by the numbers of a header. A name that the header does not have gets the number
-    /// behind the last one, which no event has.
-    pub fn numbers_in(&self, alloc: Global, header: &Header) -> Result<Numbers, NoMemory>
-        ensures { IfOk result (λ numbers. numbers ≡ numbers_in header.now self.now) }
-    {
-        Ok(Numbers {
-            variables: all_ends(alloc, header, Second::Variable, self.variables.as_slice())?,
-            channels: all_ends(alloc, header, Second::Receiver, self.channels.as_slice())?,
-            processes: process_numbers(alloc, header, self.processes.as_slice())?,
-        })
-    }
+/// The names by the numbers of a header. A name that the header does not have gets the number behind
+/// the last one, which no event has.
+pub fn numbers_in(alloc: Global, header: &Header, names: &Names) -> Result<Numbers, NoMemory>
+    ensures { IfOk result (λ numbers. numbers ≡ numbers_in header.now names.now) }
+{
+    Ok(Numbers {
+        variables: all_ends(alloc, header, Second::Variable, names.variables.as_slice())?,
+        channels: all_ends(alloc, header, Second::Receiver, names.channels.as_slice())?,
+        processes: process_numbers(alloc, header, names.processes.as_slice())?,
+    })
 }

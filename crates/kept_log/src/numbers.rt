@@ -1,9 +1,10 @@
 //! What is named, by numbers of processes and variables.
 
-ghost use Rattle.std.specs.Prelude.{◌≡◌};
+ghost use Rattle.std.specs.Prelude.{◌≡◌, ◌&&◌, ◌==◌};
+ghost use Rattle.kept_runs.specs.Chosen.{new_number};
 ghost use Rattle.kept_log.specs.inside.Numbered.{assigns_to, is_on, is_open, is_kept, is_send_to};
 ghost use Rattle.kept_log.specs.inside.Numbered.{is_among, is_assigned, is_whole};
-ghost use Rattle.kept_log.specs.inside.Numbered.{is_receipt_from};
+ghost use Rattle.kept_log.specs.inside.Numbered.{is_receipt_from, is_named, is_kept_variable};
 
 use event_log::{Assign, Event, Kind};
 use pota_base::List;
@@ -64,6 +65,12 @@ fn is_on(event: &Event, channel: Ends) -> bool
         || (channel.second == event.process as usize && is_receipt_from(channel.first, event.kind))
 }
 
+fn is_variable(named: Ends, process: usize, variable: usize) -> bool
+    ensures { result ≡ ((named.first == process) && (named.second == variable)) }
+{
+    named.first == process && named.second == variable
+}
+
 impl Numbers {
     /// Whether the event sends or receives on a named channel.
     pub fn is_open(&self, event: &Event) -> bool
@@ -91,6 +98,36 @@ impl Numbers {
             .as_slice()
             .iter()
             .any(|whole| *whole == process)
+    }
+
+    fn is_named(&self, process: usize, variable: usize) -> bool
+        ensures { result ≡ is_named self.now process variable }
+    {
+        self.variables
+            .as_slice()
+            .iter()
+            .any(|named| is_variable(*named, process, variable))
+    }
+
+    /// Whether the variable of the process is kept: it is named, or its process is.
+    pub fn keeps(&self, process: usize, variable: usize) -> bool
+        ensures { result ≡ is_kept_variable self.now process variable }
+    {
+        self.is_named(process, variable) || self.is_whole(process)
+    }
+
+    /// How many variables of the process that are kept stand before this one: its number among them.
+    #[tactic(auto, using(kept_runs::proofs::Chosen::number_below, kept_runs::proofs::Chosen::number_more, kept_runs::proofs::Chosen::number_stays))]
+    pub fn new_number(&self, process: usize, variable: u32) -> u32
+        ensures { result ≡ new_number (is_kept_variable self.now process) variable }
+    {
+        let mut number = 0;
+        for before in 0..variable {
+            if self.keeps(process, before as usize) {
+                number += 1;
+            }
+        }
+        number
     }
 
     /// Whether the event is kept.

@@ -1,8 +1,10 @@
 //! A run folded to what is named: only the events stay that assign a named variable, send or receive
-//! on a named channel, or are of a named process, in the order that happened before gives them. What
-//! is kept is a run (`kept_runs_are_runs`), its consistent cuts are the kept events of those of the
-//! whole run (`cuts_are_kept`), and a formula whose names are kept has the same truth in both
-//! (`truth_is_kept`). Each function here is a law and does nothing.
+//! on a named channel, or are of a named process, in the order that happened before gives them, and
+//! of the values only those of named variables and processes. What is kept is a run
+//! (`kept_runs_are_runs`), its consistent cuts are the kept events of those of the whole run
+//! (`cuts_are_kept`), a named variable has the values that it had (`values_are_kept`), and a formula
+//! whose names are kept has the same truth in both (`truth_is_kept`). Each function here is a law
+//! and does nothing.
 //!
 //! Not said here: EX, which goes by each event, dropped ones among them.
 #![tactic(auto)]
@@ -16,11 +18,12 @@ ghost use Rattle.kept_runs.specs.Laws.{KeptRunsAreRuns, ReceiptsKeepTheirSends};
 ghost use Rattle.kept_runs.specs.Laws.{HappenedBeforeIsKept, KeptEventsOfACutAreACut};
 ghost use Rattle.kept_runs.specs.Laws.{EachCutIsThatOfSome, NamesOfAFormulaWillDo, TruthIsKept};
 ghost use Rattle.kept_runs.specs.Laws.{PathsAreKept, EachPathIsThatOfSome};
+ghost use Rattle.kept_runs.specs.Laws.{NamedVariablesGetTheirNumbers, ValuesAreKept};
 ghost use Rattle.kept_runs.specs.Laws.{TruthAtTheStartIsKept, FamiliesAreKept};
 ghost use Rattle.kept_runs.specs.Laws.{RegularFormulasStayRegular, LeastCutsAreKept};
 ghost use Rattle.kept_runs.specs.Laws.{GreatestCutsAreKept, LeastCutsComeFromLeastCuts};
 ghost use Rattle.kept_runs.specs.Laws.{LeastCutsAreTheLeastWithTheirKeptEvents};
-ghost use Rattle.kept_runs.specs.Worked.{only_variable, only_process, OnlyX, YAndAnswers, Questions, WholeP};
+ghost use Rattle.kept_runs.specs.Worked.{only_variable, only_process, OnlyX, YAndAnswers, Questions, WholeP, OnlyTheSecond};
 
 /// What is kept of a run is a run, and its events stand in the order in which they stood.
 pub fn kept_runs_are_runs()
@@ -36,6 +39,12 @@ pub fn cuts_are_kept()
     ensures each { EachCutIsThatOfSome }
     ensures paths { PathsAreKept }
     ensures each_path { EachPathIsThatOfSome }
+{}
+
+/// A named variable has its values, under the number that it gets.
+pub fn values_are_kept()
+    ensures numbers { NamedVariablesGetTheirNumbers }
+    ensures values { ValuesAreKept }
 {}
 
 /// A formula whose names are kept, with no EX, is true in the kept run where it is in
@@ -58,6 +67,11 @@ pub fn five_events_kept()
     ensures y_and_answers { YAndAnswers }
     ensures questions { Questions }
     ensures whole_p { WholeP }
+{}
+
+/// What is kept of two variables of one process, where only the second is named.
+pub fn second_variable_kept()
+    ensures only_the_second { OnlyTheSecond }
 {}
 
 /// Why EX is left out: with the first event of P dropped, P has no next one.

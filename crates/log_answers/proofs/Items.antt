@@ -10,7 +10,7 @@ use Rattle.log_rules.proofs.Items.{judged-append, refused-stays, all_more}
 use Rattle.reported_log.specs.Aims.{Says, Aim, rules_of}
 use Rattle.reported_log.specs.Checking.{IsCheckOf, GoesOn, HasClosed, MayFollow, IsRefusedAs}
 use Rattle.reported_log.specs.declared.reported.ReportedLog.{ReportedLog}
-use Rattle.log_check.proofs.Following.{follows_first, follows_all}
+use Rattle.reported_log.proofs.PassedOn.{follows_first, follows_all}
 use Rattle.log_answers.specs.declared.stop.StopCause.{StopCause}
 use Rattle.log_answers.specs.declared.stop.StopCause.TheVariants as causes
 use Rattle.log_answers.specs.declared.stop.Stop.{Stop}

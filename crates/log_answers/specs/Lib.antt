@@ -3,3 +3,4 @@ pub mod Calm
 pub mod Whole
 pub mod Inputs
 pub mod inside
+pub mod PassedOn

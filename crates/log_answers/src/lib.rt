@@ -16,4 +16,5 @@ mod stop;
 mod whole;
 
 pub use checking::{Checking, Means};
+pub use reported_log::{CheckedLog, ReportedLog};
 pub use stop::{Stop, StopCause, Verdict};

@@ -18,8 +18,8 @@ use Rattle.log_rules.specs.Counters.{variable_in}
 use Rattle.log_rules.specs.Judgement.{Prefix, Judgement, waiting, growing}
 use Rattle.log_rules.specs.Judgement.{finished, refused}
 use Rattle.log_rules.specs.Due.{closed_of, batches_of}
-use Rattle.observation.specs.declared.observation.Observation.{Observation}
-use Rattle.observation.specs.Fed.{AnswersAs}
+use Rattle.log_intake.specs.PassedOn.{Observation}
+use Rattle.log_intake.specs.PassedOn.{AnswersAs}
 use Rattle.log_intake.specs.Taking.{IsIntakeOf, IsObserved, Closes}
 pub use Rattle.log_intake.specs.Taking.{MayFollow, HasClosed}
 use Rattle.log_check.specs.declared.check.LogCheck.{LogCheck}

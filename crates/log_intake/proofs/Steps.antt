@@ -25,7 +25,7 @@ use Rattle.trace_growth.specs.Growing.{with_trace_batch}
 use Rattle.counter_preds.specs.Falls.{fall_fault}
 use Rattle.rctl_parts.specs.declared.part.Part.{Part}
 use Rattle.rctl_parts.specs.Pieces.{disjuncts_of}
-use Rattle.part_pulls.specs.Counters.{counters_of}
+use Rattle.observation.specs.PassedOn.{counters_of}
 use Rattle.watch.specs.declared.predicate.Handed.{Handed}
 use Rattle.watch.specs.Saying.{Says}
 use Rattle.fault_kinds.specs.declared.refusal.Refusal.TheVariants as refusal

@@ -14,9 +14,9 @@ use Rattle.vector_clock.specs.Events.{no_events}
 use Rattle.trace_growth.specs.Growing.{TraceView, opened_trace}
 use Rattle.rctl_parts.specs.declared.part.Part.{Part}
 use Rattle.rctl_parts.specs.Pieces.{disjuncts_of}
-use Rattle.part_pulls.specs.Observing.{Reading}
-use Rattle.part_pulls.specs.Counters.{counters_of}
-use Rattle.part_pulls.specs.Later.{IsLater}
+use Rattle.observation.specs.PassedOn.{Reading}
+use Rattle.observation.specs.PassedOn.{counters_of}
+use Rattle.observation.specs.PassedOn.{IsLater}
 use Rattle.watch.specs.declared.predicate.Handed.{Handed}
 use Rattle.watch.specs.Saying.{Says}
 use Rattle.fault_kinds.specs.declared.refusal.Refusal.TheVariants as refusal

@@ -17,3 +17,4 @@
 mod intake;
 
 pub use intake::LogIntake;
+pub use observation::Observation;

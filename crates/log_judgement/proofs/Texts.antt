@@ -6,7 +6,7 @@ use Rattle.run_model.specs.Class.{IsOfClass}
 use Rattle.pota_base.specs.Outside.{IsPrefix}
 use Rattle.rctl_grammar.specs.declared.fault.FormulaFault.{FormulaFault}
 use Rattle.event_log.specs.declared.log.Header.{Header}
-use Rattle.report.specs.Spelling.{report_text}
+use Rattle.run_report.specs.PassedOn.{report_text}
 use Rattle.run_report.specs.Reports.{Asked}
 use Rattle.run_report.proofs.OneReport.{one_report}
 use Rattle.run_report.proofs.ReportThere.{report_there}

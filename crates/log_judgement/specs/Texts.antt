@@ -1,8 +1,8 @@
 -- The text that is due: the reports on the log after some of its batches, one after the other.
 use Rattle.std.specs.Prelude.{◌≡◌, ℕ, Bool, List, [], ◌∷◌, ◌++◌}
 use Rattle.run_model.specs.Run.{Watches}
-use Rattle.report.specs.declared.report.Report.{Report}
-use Rattle.report.specs.Spelling.{report_text}
+use Rattle.run_report.specs.PassedOn.{Report}
+use Rattle.run_report.specs.PassedOn.{report_text}
 use Rattle.run_report.specs.Reports.{Asked, IsReportOf}
 use Rattle.log_rules.specs.Judgement.{Prefix}
 use Rattle.log_rules.specs.Due.{Due}

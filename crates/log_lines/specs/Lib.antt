@@ -3,3 +3,4 @@ pub mod Spelling
 pub mod Reading
 pub mod Drafts
 pub mod inside
+pub mod PassedOn

@@ -15,5 +15,6 @@ pub use draft::{ActionDraft, EventDraft, LineError, Setting, Settings, VarsDraft
 pub use frames::Frames;
 pub use lines::{begins_vars, is_batch, is_end, read_event, read_procs, read_vars};
 pub use pota_base::signed_at;
+pub use pota_names::Name;
 pub use values::{clock_at, names_from};
 pub use words::{Named, are_distinct, name_at, place_among, place_of, spaced_name_at, text_at};

@@ -3,9 +3,11 @@
 //!
 //! A line `row NAME` begins a row and a line `end` ends it. Between them are lines `word TEXT`, a
 //! word of the command line; `in TEXT`, a line of the input; `out TEXT`, a line of the log that must
-//! be written; `diag TEXT`, the line that tells why there is none; and `status N`. In a TEXT, `\`
-//! and two hexadecimal digits stand for one byte. Each row is run over pieces of 1, 7 and 65,536
-//! bytes, and what was written is read and written once more, which must give the same bytes.
+//! be written; `diag TEXT`, a line that must be told; and `status N`. In a TEXT, `\` and two
+//! hexadecimal digits stand for one byte. Each row is run over pieces of 1, 7 and 65,536 bytes, and
+//! what was written is read and written once more, which must give the same bytes. A row with a line
+//! `cut A B` is run on each beginning of its input that has A bytes or more and less than B, with
+//! the lines `rest TEXT` behind it.
 #![tactic(auto)]
 
 mod row;

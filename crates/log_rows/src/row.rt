@@ -10,6 +10,10 @@ pub struct Row {
     pub words: Vec<String>,
     /// The input.
     pub input: Vec<u8>,
+    /// Where the input is cut: each number of bytes from the first of these to that before the second.
+    pub cut: Option<(usize, usize)>,
+    /// What follows behind a cut.
+    pub rest: Vec<u8>,
     /// What must be written.
     pub out: Vec<u8>,
     /// What must be told.
@@ -26,6 +30,12 @@ fn put_line(to: &mut Vec<u8>, text: &str) -> Result<(), AllocError> {
     Ok(())
 }
 
+// Two numbers, a blank between them.
+fn two_numbers(text: &str) -> Option<(usize, usize)> {
+    let (from, to) = text.split_once(' ')?;
+    Some((from.parse::<usize>().ok()?, to.parse::<usize>().ok()?))
+}
+
 impl Row {
     /// A row of which nothing was said.
     pub fn new(alloc: Global) -> Row {
@@ -33,6 +43,8 @@ impl Row {
             name: String::new(alloc),
             words: Vec::new(alloc),
             input: Vec::new(alloc),
+            cut: None,
+            rest: Vec::new(alloc),
             out: Vec::new(alloc),
             diag: Vec::new(alloc),
             status: 0,
@@ -51,6 +63,8 @@ impl Row {
             "row" => self.name = String::from_str(alloc, text)?,
             "word" => self.words.push(String::from_str(alloc, text)?)?,
             "in" => put_line(&mut self.input, text)?,
+            "cut" => self.cut = two_numbers(text),
+            "rest" => put_line(&mut self.rest, text)?,
             "out" => put_line(&mut self.out, text)?,
             "diag" => put_line(&mut self.diag, text)?,
             "status" => self.status = text.parse::<u8>().unwrap_or(u8::MAX),

@@ -4,7 +4,7 @@ use Rattle.std.proofs.lemmas.Bool.{cases_eq}
 use Rattle.run_model.specs.Cut.{Clocks, count, lengths}
 use Rattle.run_model.specs.Witness.{Place, IsPlace, IsBefore, IsFirst}
 use Rattle.run_model.proofs.Orders.{has_process}
-use Rattle.run_model.proofs.DecisionLemmas.{Decided}
+use Rattle.meaning_laws.proofs.DecisionLemmas.{Decided}
 
 -- the least number below k with the property, or none has it
 abbrev pub LeastBelow : (ℕ → Type 0) → ℕ → Type 0

@@ -4,8 +4,8 @@ use Rattle.std.proofs.lemmas.Bool.{cases_lt}
 use Rattle.run_model.specs.Cut.{Cut, Clocks, count, with_next}
 use Rattle.run_model.specs.Witness.{Place, FirstSteps}
 use Rattle.run_model.proofs.Counts.{search_below, total, total_below, total_next, with_next_above}
-use Rattle.run_model.proofs.Climb.{IsClimbable, Apart, apart_up, reached, next_exists}
-use Rattle.run_model.proofs.DecisionLemmas.{Decided}
+use Rattle.meaning_laws.proofs.Climb.{IsClimbable, Apart, apart_up, reached, next_exists}
+use Rattle.meaning_laws.proofs.DecisionLemmas.{Decided}
 use Rattle.model_laws.proofs.FirstEvents.{at, least_below}
 
 lacks : (c t : Cut) → ((j : ℕ) × (j < length t) × (count c j < count t j)) ⊎ ((j : ℕ) → j < length t → count t j ≤ count c j)

@@ -7,7 +7,7 @@ use Rattle.run_model.specs.Consistent.{IsOrder, IsConsistent}
 use Rattle.run_model.specs.Formula.{Formula, Truth, Comparison, Watched, InTransit, Empty, Difference, Not, And, Or, Temporal, Next, Until}
 use Rattle.run_model.specs.Meaning.{Sat}
 use Rattle.run_model.specs.Class.{is_local, is_conjunctive, all_conjunctive, IsRegular, signed, parts, all_parts, disjuncts, all_disjuncts, SatParts, SatDisjuncts}
-use Rattle.run_model.proofs.DisjunctLemmas.{disjuncts_mean}
+use Rattle.meaning_laws.proofs.DisjunctLemmas.{disjuncts_mean}
 
 pub one_list : (f : Formula) (sign : Bool) → is_conjunctive sign f ≡ true → disjuncts sign f ≡ parts sign f ∷ []
 unfolding is_conjunctive all_conjunctive disjuncts all_disjuncts parts all_parts

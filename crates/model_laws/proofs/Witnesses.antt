@@ -15,12 +15,12 @@ use Rattle.run_model.specs.Witness as W
 use Rattle.run_model.proofs.Counts.{within_both, initial_within}
 use Rattle.run_model.proofs.Orders.{initial_consistent, past_consistent, past_has, has_past}
 use Rattle.run_model.proofs.SliceLemmas.{cuts_member, member_cuts, least_of_member, stands_same, stands_fits, exact_slice}
-use Rattle.run_model.proofs.JoinLemmas.{smallest_of_closed}
-use Rattle.run_model.proofs.OperatorLemmas.{Below, below_climbable, below_apart, set_climbable, pairs_apart}
-use Rattle.run_model.proofs.RegularLemmas.{regular_closed}
-use Rattle.run_model.proofs.DecisionLemmas.{Decided, decide_within, decide_consistent, decide_sat}
-use Rattle.run_model.proofs.ListedSlices.{listed_slice, listed_stands}
-use Rattle.run_model.proofs.WitnessLemmas.{canonical_is_of_kind, canonical_same, canonical_one, first_steps_same}
+use Rattle.meaning_laws.proofs.JoinLemmas.{smallest_of_closed}
+use Rattle.meaning_laws.proofs.OperatorLemmas.{Below, below_climbable, below_apart, set_climbable, pairs_apart}
+use Rattle.meaning_laws.proofs.RegularLemmas.{regular_closed}
+use Rattle.meaning_laws.proofs.DecisionLemmas.{Decided, decide_within, decide_consistent, decide_sat}
+use Rattle.meaning_laws.proofs.ListedSlices.{listed_slice, listed_stands}
+use Rattle.meaning_laws.proofs.WitnessLemmas.{canonical_is_of_kind, canonical_same, canonical_one, first_steps_same}
 use Rattle.model_laws.proofs.FirstEvents.{at, first_event}
 use Rattle.model_laws.proofs.FirstPaths.{first_path}
 

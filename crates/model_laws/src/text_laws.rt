@@ -5,7 +5,7 @@ ghost use Rattle.run_model.specs.Consistent.{IsOrder};
 ghost use Rattle.run_model.specs.Sublattice.{IsSublattice};
 ghost use Rattle.run_model.specs.Slice.{Slice, StandsFor, SliceText, DenotedBy, IsTextOf};
 
-use run_model::sublattice_laws::SetOfCuts;
+use meaning_laws::sublattice_laws::SetOfCuts;
 
 /// A closed set with a slice has exactly one text, and the text denotes the set.
 pub fn one_text_of_a_closed_set<A: SetOfCuts>()

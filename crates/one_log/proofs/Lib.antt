@@ -1,6 +1,9 @@
 pub mod Words
 pub mod Texts
+pub mod Pieces
 pub mod Wholes
 pub mod Stands
+pub mod Beginnings
 pub mod Batches
+pub mod LeftOut
 pub mod Written

@@ -1,5 +1,5 @@
 -- What an input is once its bytes were read.
-use Rattle.std.proofs.Common.{◌≡◌, ◌≢◌, ℕ, ◌+◌, ◌<◌, ◌≤◌, Bool, true, false, Option, Some, None, List, [], ◌∷◌, ◌++◌, length, take, drop, refl, sym, ap, subst, ◌∙◌, arith}
+use Rattle.std.proofs.Common.{◌≡◌, ℕ, ◌+◌, ◌<◌, ◌≤◌, Bool, true, false, Option, Some, None, List, [], ◌∷◌, ◌++◌, length, take, drop, refl, sym, ap, subst, ◌∙◌, arith}
 use Rattle.std.specs.Prelude.{Result, Ok, Err, IfOk, OnErr, is_some, if◌then◌else◌}
 use Rattle.std.specs.Option.{option_map}
 use Rattle.std.specs.Io.KnownBytes.{IsAtEnd}
@@ -7,7 +7,6 @@ use Rattle.std.proofs.lemmas.Bool.{lt-ltb, le-ltb}
 use Rattle.std.proofs.lemmas.List.{take-append-drop, length-take-le}
 use Rattle.std.proofs.lemmas.Option.{none-some}
 use Rattle.pota_base.specs.declared.fault.NoMemory.{NoMemory}
-use Rattle.event_log.specs.declared.item.LogFault.{LogFault}
 use Rattle.event_log.specs.declared.log.Log.{Log}
 use Rattle.event_log.specs.FittingItems.{FitFrom, FitFirst}
 use Rattle.event_log.specs.LogText.{EventFits, event_items, log_items}
@@ -24,23 +23,22 @@ use Rattle.input_reading.specs.declared.kept.Kept.{Kept}
 use Rattle.input_reading.specs.declared.reading.End.{End}
 use Rattle.input_reading.specs.declared.reading.End.TheVariants as end
 use Rattle.input_reading.specs.Intakes.{Ends, HasReadAll, HasReadSome}
-use Rattle.log_merge.specs.Merging.{merged, merged_header, merged_events, numbered, merged_log}
+use Rattle.log_merge.specs.Merging.{merged_header, merged_events, numbered, merged_log}
 use Rattle.log_merge.proofs.Fits.{merged_logs_fit}
 use Rattle.log_sources.specs.declared.gathering.Gathered.{Gathered}
 use Rattle.log_sources.specs.declared.gathering.Gathered.TheVariants as gathered
 use Rattle.log_sources.specs.Gathering.{sources_fault, GathersTo, HasGathered}
 use Rattle.log_sources.specs.Reading.{CanMerge}
 use Rattle.log_sources.specs.Sources.{no_sources, after, logs_of}
-use Rattle.vclog_import.specs.Faults.{fault_of, is_too_long}
+use Rattle.vclog_import.specs.Faults.{fault_of}
 use Rattle.vclog_import.specs.Imported.{imported}
 use Rattle.vclog_import.proofs.LongTexts.{long_texts_are_faulty}
 use Rattle.form_readings.specs.Clocks.{import_refusal, clocks_fault, clocks_place}
-use Rattle.form_readings.specs.Sources.{merged_log_of, merged_fault, merged_place, origin_at, fault_at}
+use Rattle.form_readings.specs.Sources.{merged_log_of, merged_fault, merged_place}
 use Rattle.form_readings.proofs.Imports.{clocks_are_read}
 use Rattle.log_rules.specs.WholeLogs.{all_of}
-use Rattle.one_log.specs.declared.asking.Form.{Form}
 use Rattle.one_log.specs.declared.asking.Form.TheVariants as form
-use Rattle.one_log.specs.declared.places.Places.TheVariants.{Lines, Origins}
+use Rattle.one_log.specs.declared.places.Places.TheVariants.{Lines}
 use Rattle.one_log.specs.declared.reading.Input.{Input}
 use Rattle.one_log.specs.declared.reading.Input.TheVariants.{Whole, Faulty, Failed}
 use Rattle.one_log.specs.Logging.{log_due}
@@ -105,7 +103,7 @@ module _ (text : List ℕ) (free : clocks_fault true text ≡ None) where
   pub import_stands : (input : Input) → IsJudged (imported text) Lines input → StandsAt form.Clocks text input
   import_stands (Whole l) j =
       let due = whole_due clocks_fault imported clocks_place text free (all_of l) j.0 in
-      record { has = record { free = due.0; whole = due.1 }; text = j.1 }
+      record { has = record { free = due.0; whole = due.1 }; can = j.1 }
   import_stands (Faulty r) j = fault_due clocks_fault imported clocks_place text free j.0 j.1 ∙ ap (λ (x : Refusal). Some x) (sym j.2)
   import_stands Failed j = absurd j
 
@@ -174,11 +172,11 @@ module _ (s : Change) (kept : Kept) (e : End) (all : HasReadAll s (Open kept) (D
 
 -- ---- several logs
 
-merged_none : (ended : Bool) (bytes : List ℕ) → sources_fault ended bytes ≡ None → merged_fault ended bytes ≡ None
+pub merged_none : (ended : Bool) (bytes : List ℕ) → sources_fault ended bytes ≡ None → merged_fault ended bytes ≡ None
 merged_none false bytes none = ap (option_map (λ f. refusal.Merge f)) none
 merged_none true bytes none = ap (option_map (λ f. refusal.Merge f)) none
 
-merged_some : (ended : Bool) (bytes : List ℕ) (f : MergeFault) → sources_fault ended bytes ≡ Some f → merged_fault ended bytes ≡ Some (refusal.Merge f)
+pub merged_some : (ended : Bool) (bytes : List ℕ) (f : MergeFault) → sources_fault ended bytes ≡ Some f → merged_fault ended bytes ≡ Some (refusal.Merge f)
 merged_some false bytes f some = ap (option_map (λ x. refusal.Merge x)) some
 merged_some true bytes f some = ap (option_map (λ x. refusal.Merge x)) some
 
@@ -196,7 +194,7 @@ merge_fits logs can =
 merge_stands : (bytes : List ℕ) → merged_fault true bytes ≡ None → (input : Input) → IsMergedOf (logs_of (after no_sources bytes)) input → StandsAt form.Merged bytes input
 merge_stands bytes none (Whole l) j =
     let due = whole_due merged_fault merged_log_of merged_place bytes none (all_of l) j.0 in
-    record { has = record { free = due.0; whole = due.1 }; text = j.1 }
+    record { has = record { free = due.0; whole = due.1 }; can = j.1 }
 merge_stands bytes none (Faulty r) j = fault_due merged_fault merged_log_of merged_place bytes none j.0 j.1 ∙ ap (λ (x : Refusal). Some x) (sym j.2)
 merge_stands bytes none Failed j = absurd j
 

@@ -1,5 +1,5 @@
 -- The text of one log, as it was read.
-use Rattle.std.proofs.Common.{◌≡◌, ◌≢◌, ℕ, ◌<◌, ◌≤◌, Bool, true, false, Option, Some, None, List, [], ◌++◌, length, take, drop, refl, sym, ap, subst, ◌∙◌, arith, append-nil}
+use Rattle.std.proofs.Common.{◌≡◌, ℕ, ◌≤◌, Bool, true, false, Option, Some, None, List, [], ◌++◌, length, take, drop, refl, sym, ap, subst, ◌∙◌, arith, append-nil}
 use Rattle.std.specs.Option.{option_map}
 use Rattle.std.proofs.lemmas.Bool.{false≢true}
 use Rattle.std.proofs.lemmas.List.{take-append-drop, length-take-le}
@@ -8,7 +8,7 @@ use Rattle.event_log.specs.declared.item.Fed.{Fed}
 use Rattle.event_log.specs.declared.item.Item.{Item}
 use Rattle.event_log.specs.declared.item.LogFault.{LogFault}
 use Rattle.event_log.specs.declared.log.Log.{Log}
-use Rattle.event_log.specs.Faults.{FedIs, fault_of, end_fault, first_fault, items, items_in}
+use Rattle.event_log.specs.Faults.{FedIs, fault_of, end_fault, items, items_in}
 use Rattle.event_log.specs.FittingItems.{FitFirst}
 use Rattle.event_log.specs.LogText.{onto}
 use Rattle.event_log.specs.Reader.{HasRead}
@@ -21,18 +21,18 @@ use Rattle.input_reading.specs.declared.reading.End.{End}
 use Rattle.input_reading.specs.declared.reading.End.TheVariants as end
 use Rattle.log_rules.specs.Judgement.{Prefix, followed_by, Judgement, waiting, growing, finished, refused, judged}
 use Rattle.log_rules.specs.Due.{Due, whole_of, fault_in, at_end}
-use Rattle.log_rules.specs.Readings.{text_fault, log_reading}
+use Rattle.log_rules.specs.Readings.{log_reading}
 use Rattle.log_rules.specs.WholeLogs.{all_of}
 use Rattle.log_rules.proofs.Dues.{due_stays, due_bounded}
 use Rattle.log_rules.proofs.Logs.{log_due as due_of_log, due_log}
 use Rattle.log_rules.proofs.Readings.{log_is_read}
 use Rattle.log_trace.specs.Judging.{without_formula, IsRefused}
-use Rattle.log_writing.specs.Spelling.{HasText}
 use Rattle.filled_log.specs.declared.filling.FilledLog.{FilledLog}
 use Rattle.filled_log.specs.Filling.{HasBegun, Keeps}
 use Rattle.one_log.specs.declared.asking.Form.TheVariants as form
 use Rattle.one_log.specs.declared.reading.Input.{Input}
 use Rattle.one_log.specs.declared.reading.Input.TheVariants.{Whole, Faulty, Failed}
+use Rattle.one_log.proofs.Wholes.{IsTakenOf, can_be}
 use Rattle.one_log.specs.Logging.{log_due}
 use Rattle.one_log.specs.inside.Inputs.{IsFilled, HasTaken, HasTextFault, IsTextJudged, StandsAt}
 
@@ -56,7 +56,7 @@ unfolding items
 no_items = refl
 
 module _ (text : List ℕ) (fed : Fed) (is : FedIs fed [] (onto text [])) where
-  items_are : items_in text ≡ fed.items
+  pub items_are : items_in text ≡ fed.items
   items_are = is.items_are ∙ ap (λ (xs : List Item). xs ++ fed.items) no_items
 
   pub items_fit_first : FitFirst fed.items
@@ -115,10 +115,10 @@ module _ (reader : Reader) (kept : FilledLog) (text : List ℕ) (h : HasTaken re
     pub has_begun : (log : Prefix) × HasBegun kept log
     has_begun = (found.0, kept_whole j found.0 h.keeps whole_is)
 
-    pub is_filled : (log : Log) → ((p : Prefix) → HasBegun kept p → (all_of log ≡ p) × HasText log) → StandsAt form.OneLog text (Whole log)
+    pub is_filled : (log : Log) → IsTakenOf kept log → StandsAt form.OneLog text (Whole log)
     is_filled log came = let is_log = came found.0 (kept_whole (judged without_formula waiting (items_in text)) found.0 h.keeps whole_is) in record {
       has = record { free = none_due; whole = found.1 ∙ ap (λ (p : Prefix). Some p) (sym is_log.0) };
-      text = is_log.1;
+      can = can_be log is_log.1 is_log.2;
     }
 
   -- by why no more is read

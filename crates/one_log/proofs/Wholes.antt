@@ -1,24 +1,24 @@
 -- A log that stands once all bytes are there, judged without a formula.
-use Rattle.std.proofs.Common.{◌≡◌, ◌≢◌, ℕ, Bool, true, false, Option, Some, None, List, [], ◌∷◌, length, refl, sym, ap, subst, ◌∙◌}
-use Rattle.std.proofs.lemmas.Option.{none-some, same_Some}
+use Rattle.std.proofs.Common.{◌≡◌, ℕ, Bool, true, false, Option, Some, None, List, [], ◌∷◌, length, refl, sym, ap, subst, ◌∙◌}
+use Rattle.std.proofs.lemmas.Option.{none-some}
 use Rattle.event_log.specs.declared.item.LogFault.{LogFault}
 use Rattle.event_log.specs.declared.log.Event.{Event}
 use Rattle.event_log.specs.declared.log.Header.{Header}
 use Rattle.event_log.specs.declared.log.Log.{Log}
 use Rattle.event_log.specs.FittingItems.{FitFirst}
 use Rattle.event_log.specs.LogText.{log_items}
-use Rattle.event_log.specs.declared.item.Item.TheVariants as item
 use Rattle.fault_kinds.specs.declared.refusal.Refusal.{Refusal}
 use Rattle.fault_kinds.specs.declared.refusal.Refusal.TheVariants as refusal
 use Rattle.log_lines.specs.Reading.{choose}
-use Rattle.log_rules.specs.Judgement.{Prefix, followed_by, with_clocks, Judgement, waiting, growing, finished, refused, judge, judged}
+use Rattle.log_rules.specs.Judgement.{Prefix, followed_by, with_clocks, Judgement, waiting, growing, finished, refused, judged}
 use Rattle.log_rules.specs.Due.{Due, due, told, whole_of, fault_in}
 use Rattle.log_rules.specs.Readings.{whole_reading, items_at_end}
 use Rattle.log_rules.specs.WholeLogs.{all_of}
 use Rattle.log_trace.specs.Judging.{without_formula, IsRefused}
 use Rattle.log_writing.specs.Spelling.{HasText}
+use Rattle.kept_log.specs.Keeping.{CanBeKept}
 use Rattle.filled_log.specs.declared.filling.FilledLog.{FilledLog}
-use Rattle.filled_log.specs.Filling.{HasBegun, Keeps}
+use Rattle.filled_log.specs.Filling.{AreFaultless, HasBegun, Keeps}
 use Rattle.filled_log.proofs.Whole.{first_of, whole_judged}
 
 -- ---- a log of one batch that was taken whole
@@ -54,12 +54,20 @@ closes kept log one keeps = closed_batches kept log.header log.batches one keeps
 pub has_begun : (kept : FilledLog) (j : Judgement) → Closes kept j → (log : Prefix) × HasBegun kept log
 has_begun kept j c = (c.log, c.begun)
 
-pub whole_log : (kept : FilledLog) (j : Judgement) (log : Log) → Closes kept j → ((p : Prefix) → HasBegun kept p → (all_of log ≡ p) × HasText log) → (whole_of j ≡ Some (all_of log)) × HasText log
-whole_log kept j log c came = let is = came c.log c.begun in (c.whole ∙ ap (λ (p : Prefix). Some p) (sym is.0), is.1)
+-- it is that log, has a text, and has no fault of its clocks and messages
+abbrev pub IsTakenOf : FilledLog → Log → Type 0
+IsTakenOf kept log = (p : Prefix) → HasBegun kept p → (all_of log ≡ p) × HasText log × AreFaultless (length log.header.procs) log.batches
+
+pub can_be : (log : Log) → HasText log → AreFaultless (length log.header.procs) log.batches → CanBeKept log
+can_be log text are =
+    record { text = text; clocks = are.clocks; faultless = are.faultless; events = are.events }
+
+pub whole_log : (kept : FilledLog) (j : Judgement) (log : Log) → Closes kept j → IsTakenOf kept log → (whole_of j ≡ Some (all_of log)) × CanBeKept log
+whole_log kept j log c came = let is = came c.log c.begun in (c.whole ∙ ap (λ (p : Prefix). Some p) (sym is.0), can_be log is.1 is.2)
 
 -- ---- what is due of its bytes
 
-whole_free : (place : LogFault → Refusal) (j : Judgement) (log : Prefix) → whole_of j ≡ Some log → fault_in place j None ≡ None
+pub whole_free : (place : LogFault → Refusal) (j : Judgement) (log : Prefix) → whole_of j ≡ Some log → fault_in place j None ≡ None
 whole_free place waiting log is = refl
 whole_free place (growing so_far since) log is = refl
 whole_free place (finished so_far last) log is = refl

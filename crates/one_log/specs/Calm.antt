@@ -9,6 +9,7 @@ abbrev pub IsCalm : (lf lf' : ℕ) → Option Fault → Type 0
 IsCalm lf lf' None = lf' ≡ lf
 IsCalm lf lf' (Some fault.Usage) = lf' ≡ lf
 IsCalm lf lf' (Some (fault.Refused r)) = Unit {0}
+IsCalm lf lf' (Some (fault.Unknown place)) = lf' ≡ lf
 IsCalm lf lf' (Some fault.TooLong) = lf' ≡ lf
 IsCalm lf lf' (Some fault.Read) = Unit {0}
 IsCalm lf lf' (Some fault.Write) = lf' ≡ lf

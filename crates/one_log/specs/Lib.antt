@@ -1,5 +1,6 @@
 pub mod Asking
 pub mod Calm
 pub mod Faults
+pub mod LeftOut
 pub mod Logging
 pub mod inside

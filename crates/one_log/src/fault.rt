@@ -9,6 +9,9 @@ use fault_kinds::Refusal;
 pub enum Fault {
     /// The words are refused.
     Usage,
+    /// The word at this place, from 0 on, stands behind a `--keep` and names what the log does not
+    /// have.
+    Unknown { word: usize },
     /// The input is faulty.
     Refused(Refusal),
     /// The text of the log has more than 64 MiB.
@@ -28,6 +31,7 @@ impl Fault {
     {
         match self {
             Fault::Usage => 2,
+            Fault::Unknown { .. } => 2,
             Fault::Refused(_) => 4,
             Fault::Read => 5,
             Fault::Write => 6,

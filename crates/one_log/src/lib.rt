@@ -9,7 +9,14 @@
 //! object's count of faults rose, and where the log was written no read failed (`calm`). The line
 //! on `diag` is the fault's (`told`).
 //!
-//! The input is judged as one without a formula: no name is looked up in it, and none of its
+//! Torn logs are those of processes that were killed. Of their whole lines it is the log of the
+//! greatest beginning of the run of which everything is logged, and the lines on `diag` tell for
+//! each process how many of its events are left out.
+//!
+//! Where the words name variables, channels or processes by `--keep`, it is the log folded to these
+//! alone (`kept_log::keep`). A name that the log does not have is a fault.
+//!
+//! The input is judged as one without a formula: no name of one is looked up in it, and none of its
 //! variables is a counter.
 //!
 //! Not said: that memory suffices, and how long a call takes.
@@ -17,11 +24,13 @@
 
 mod asking;
 mod fault;
+mod left_out;
 mod places;
 mod reading;
 mod telling;
 mod top;
+mod torn;
 
-pub use asking::{Asked, Form};
+pub use asking::{Asked, Flags, Form};
 pub use fault::Fault;
 pub use top::{Logged, write_one_log};

@@ -1,9 +1,12 @@
 -- What was written is read again as the log that it is the text of.
-use Rattle.std.proofs.Common.{◌≡◌, ℕ, zero, suc, ◌+◌, ◌≤◌, Bool, true, false, Option, Some, None, List, [], ◌∷◌, ◌++◌, length, map, refl, sym, ap, subst, ◌∙◌, arith, append-nil}
+use Rattle.std.proofs.Common.{◌≡◌, ℕ, zero, suc, ◌≤◌, Bool, true, false, Option, Some, None, List, [], ◌∷◌, ◌++◌, length, map, refl, sym, ap, subst, ◌∙◌, arith}
+use Rattle.std.specs.Prelude.{if◌then◌else◌}
 use Rattle.std.specs.List.{AllByRecursion}
 use Rattle.std.proofs.lemmas.List.{length-append}
-use Rattle.std.proofs.lemmas.Option.{none-some, same_Some}
+use Rattle.std.proofs.lemmas.Option.{same_Some}
 use Rattle.run_model.specs.Run as run
+use Rattle.torn_runs.proofs.Greatest.{greatest_is_cut}
+use Rattle.torn_log.specs.Needs.{needs}
 use Rattle.pota_base.specs.Limits.{longest_log}
 use Rattle.event_log.specs.declared.item.LogFault.{LogFault}
 use Rattle.event_log.specs.declared.log.Binding.{Binding}
@@ -11,63 +14,34 @@ use Rattle.event_log.specs.declared.log.Event.{Event}
 use Rattle.event_log.specs.declared.log.Log.{Log}
 use Rattle.event_log.specs.LogText.{event_count, log_text}
 use Rattle.event_log.specs.States.{StatesView, opened, with_batch, with_batches, event_of, variable_of, processes_of}
-use Rattle.fault_kinds.specs.declared.refusal.Refusal.{Refusal}
 use Rattle.vector_clock.specs.Events.{Events, no_events}
-use Rattle.vector_clock.specs.Faults.{batch_fault, batches_fault, log_fault}
+use Rattle.vector_clock.specs.Faults.{batch_fault, log_fault}
 use Rattle.vector_clock.specs.Filled.{filled_log}
 use Rattle.clock_laws.specs.Joined.{as_one}
 use Rattle.clock_laws.proofs.Joined.{joined_none, joined_events, all_append}
-use Rattle.counter_preds.specs.Falls.{behind_batch, fall_fault}
+use Rattle.counter_preds.specs.Falls.{behind_batch}
 use Rattle.counter_preds.proofs.Staying.{none_without}
 use Rattle.log_lines.specs.Reading.{choose}
 use Rattle.log_merge.specs.Sources.{all_events}
+use Rattle.kept_names.specs.declared.names.Names.{Names}
+use Rattle.kept_names.specs.Words.{are_none}
+use Rattle.kept_log.specs.Kept.{kept_log}
+use Rattle.kept_log.specs.Named.{names_of}
 use Rattle.log_rules.specs.Judgement.{Prefix}
-use Rattle.log_rules.specs.Due.{due, whole_of, at_end, judgement_of}
-use Rattle.log_rules.specs.Readings.{Reading, IsReading, log_reading}
-use Rattle.log_rules.specs.Reported.{listed}
 use Rattle.log_rules.specs.SoFar.{trace_so_far}
 use Rattle.log_rules.specs.WholeLogs.{first_fall, IsLogFor, all_of}
 use Rattle.log_rules.proofs.Logs.{log_due as due_of_log}
-use Rattle.log_rules.proofs.Readings.{log_is_read}
-use Rattle.log_rules.proofs.Sound.{all_sound}
-use Rattle.log_trace.specs.Judging.{without_formula}
-use Rattle.form_readings.proofs.Imports.{clocks_are_read}
-use Rattle.form_readings.proofs.Merging.{sources_are_read}
-use Rattle.form_readings.specs.Clocks.{clocks_reading}
-use Rattle.form_readings.specs.Sources.{merged_reading}
 use Rattle.one_log.specs.declared.asking.Asked.{Asked}
-use Rattle.one_log.specs.declared.asking.Form.{Form}
 use Rattle.one_log.specs.declared.asking.Form.TheVariants as form
-use Rattle.one_log.specs.Logging.{batches_by, one_log, HasLog, IsLogOf}
-use Rattle.one_log_laws.specs.Laws.{as_it_is, WrittenAgainItIsTheSame, ItTellsOfTheSameRun}
-use Rattle.one_log_laws.specs.inside.Lines.{without_line, without_lines, batches_on_lines, first_header, as_read}
-use Rattle.one_log_laws.proofs.Few.{IsSmall, whole_small}
-use Rattle.one_log_laws.proofs.Fine.{IsPlaced, IsFine, fine_first, fine_next}
+use Rattle.one_log.specs.Logging.{batches_by, kept_of, one_log, asked_text, events_of, HasLog, IsLogOf}
+use Rattle.one_log_laws.specs.Laws.{as_it_is, WrittenAgainItIsTheSame, ItIsReadAsItWasWritten, ItTellsOfTheSameRun, OneTextIsWritten, NoGreaterBeginningIsLogged}
+use Rattle.one_log_laws.specs.inside.Lines.{without_line, without_lines, as_read}
+use Rattle.one_log_laws.proofs.Few.{IsSmall}
+use Rattle.one_log_laws.proofs.Fine.{IsPlaced, IsFine}
+use Rattle.one_log_laws.proofs.Folded.{as_log, kept_fine, kept_small}
+use Rattle.one_log_laws.proofs.Items.{of_items, one_alone, fine_so, small_so}
 use Rattle.one_log_laws.proofs.Lines.{batches_none, batches_cons, batches_on}
 use Rattle.one_log_laws.proofs.Numbered.{bare, same_text, log_fits, faultless, filled_already}
-
--- ---- what is known of a log that was read
-
-module _ (most : ℕ) (reading : Reading) (is : IsReading most reading) (input : List ℕ) (log : Prefix) (whole : (due reading without_formula true input).whole ≡ Some log) where
-  fine_so : IsFine log
-  fine_so = (subst (λ (o : Option Prefix). AllByRecursion IsFine (listed o)) whole (all_sound without_formula IsFine fine_first fine_next most reading is true input false)).0
-
-  whole_there : (fault : Option Refusal) (o : Option Prefix) → at_end true fault o ≡ Some log → o ≡ Some log
-  whole_there None o there = there
-  whole_there (Some f) o there = absurd (none-some log there)
-
-  small_so : IsSmall log
-  small_so = whole_small (reading.items true input) log (is.fit true input) (whole_there (reading.fault true input) (whole_of (judgement_of reading without_formula true input)) whole)
-
-fine_log : (f : Form) (input : List ℕ) (log : Prefix) → HasLog f input log → IsFine log
-fine_log form.OneLog input log has = fine_so 67108864 log_reading log_is_read input log has.whole
-fine_log form.Merged input log has = fine_so 67108864 merged_reading sources_are_read input log has.whole
-fine_log form.Clocks input log has = fine_so 67108864 clocks_reading clocks_are_read input log has.whole
-
-small_log : (f : Form) (input : List ℕ) (log : Prefix) → HasLog f input log → IsSmall log
-small_log form.OneLog input log has = small_so 67108864 log_reading log_is_read input log has.whole
-small_log form.Merged input log has = small_so 67108864 merged_reading sources_are_read input log has.whole
-small_log form.Clocks input log has = small_so 67108864 clocks_reading clocks_are_read input log has.whole
 
 -- ---- in one batch
 
@@ -83,7 +57,7 @@ all_of_them : (P : Event → Type 0) (bs : List (List Event)) → AllByRecursion
 all_of_them P [] each = tt
 all_of_them P (b ∷ bs) each = all_append P b (all_events bs) each.0 (all_of_them P bs each.1)
 
-abbrev in_batches : Bool → Prefix → Prefix
+abbrev pub in_batches : Bool → Prefix → Prefix
 in_batches one log = record log { batches = batches_by one log.batches }
 
 fine_by : (one : Bool) (log : Prefix) → IsFine log → IsFine (in_batches one log)
@@ -133,21 +107,53 @@ module _ (log : Prefix) (fine : IsFine log) (small : IsSmall log) (text : List �
   is_back : IsLogOf as_it_is text text
   is_back = record { log = all_of (as_read log); has = has_back; text_is = spelled; short = short }
 
+-- where nothing is named all is kept
+pub all_is_kept : (names : Names) (log : Prefix) → are_none names ≡ true → kept_of names log ≡ log
+all_is_kept names log none =
+    ap (λ (b : Bool). if b then log else all_of (kept_log (record { header = log.header; batches = log.batches }) (names_of names))) none
+
+pub some_is_kept : (names : Names) (log : Prefix) → are_none names ≡ false → kept_of names log ≡ all_of (kept_log (as_log log) (names_of names))
+some_is_kept names log some = ap (λ (b : Bool). if b then log else all_of (kept_log (as_log log) (names_of names))) some
+
+-- what is named of a log can be read again where the log can
+kept_is : (names : Names) (log : Prefix) → IsFine log → IsSmall log → IsFine (kept_of names log) × IsSmall (kept_of names log)
+kept_is names log fine small = go (are_none names)
+  where
+    given : Bool → Prefix
+    given none = if none then log else all_of (kept_log (as_log log) (names_of names))
+
+    go : (none : Bool) → IsFine (given none) × IsSmall (given none)
+    go true = (fine, small)
+    go false = (kept_fine log fine small (names_of names), kept_small log fine small (names_of names))
+
 module _ (asked : Asked) (input text : List ℕ) (w : IsLogOf asked input text) where
+  abbrev kept : Prefix
+  kept = kept_of asked.names w.log
+
+  kept_so : IsFine (kept_of asked.names w.log) × IsSmall (kept_of asked.names w.log)
+  kept_so =
+      let of = of_items asked.flags.torn asked.flags.form input w.log w.has in
+      kept_is asked.names w.log (fine_so w.log of) (small_so w.log of)
+
   abbrev given : Prefix
-  given = in_batches asked.one_batch w.log
+  given = in_batches asked.flags.one_batch (kept_of asked.names w.log)
 
-  given_fine : IsFine (in_batches asked.one_batch w.log)
-  given_fine = fine_by asked.one_batch w.log (fine_log asked.form input w.log w.has)
+  given_fine : IsFine (in_batches asked.flags.one_batch (kept_of asked.names w.log))
+  given_fine = fine_by asked.flags.one_batch kept kept_so.0
 
-  given_small : IsSmall (in_batches asked.one_batch w.log)
-  given_small = small_by asked.one_batch w.log (small_log asked.form input w.log w.has)
+  given_small : IsSmall (in_batches asked.flags.one_batch (kept_of asked.names w.log))
+  given_small = small_by asked.flags.one_batch kept kept_so.1
 
   again : IsLogOf as_it_is text text
   again = is_back given given_fine given_small text w.text_is w.short
 
-  has_given : HasLog form.OneLog text (all_of (as_read (in_batches asked.one_batch w.log)))
-  has_given = has_back given given_fine given_small text w.text_is w.short
+  has_written : HasLog form.OneLog text (all_of (as_read (in_batches asked.flags.one_batch (kept_of asked.names w.log))))
+  has_written = has_back given given_fine given_small text w.text_is w.short
+
+  -- where nothing is named
+  pub has_given : are_none asked.names ≡ true → HasLog form.OneLog text (all_of (as_read (in_batches asked.flags.one_batch w.log)))
+  has_given all =
+      subst (λ (p : Prefix). HasLog form.OneLog text (all_of (as_read (in_batches asked.flags.one_batch p)))) (all_is_kept asked.names w.log all) has_written
 
 pub written_again_it_is_the_same : WrittenAgainItIsTheSame
 written_again_it_is_the_same asked input text w = again asked input text w
@@ -155,7 +161,7 @@ written_again_it_is_the_same asked input text w = again asked input text w
 -- ---- its run
 
 -- a run knows no lines
-no_lines : (names : List (List ℕ)) (vars : List (List Binding)) (events : Events) → processes_of names vars (without_lines events) ≡ processes_of names vars events
+pub no_lines : (names : List (List ℕ)) (vars : List (List Binding)) (events : Events) → processes_of names vars (without_lines events) ≡ processes_of names vars events
 no_lines [] vars events = refl
 no_lines (n ∷ names) [] events = refl
 no_lines (n ∷ names) (v ∷ vars) [] = refl
@@ -167,7 +173,7 @@ no_lines (n ∷ names) (v ∷ vars) (es ∷ events) =
     same [] = refl
     same (x ∷ xs) = ap (λ (ys : List run.Event). event_of x ∷ ys) (same xs)
 
-none_bare : (n : ℕ) → without_lines (no_events n) ≡ no_events n
+pub none_bare : (n : ℕ) → without_lines (no_events n) ≡ no_events n
 none_bare zero = refl
 none_bare (suc n) = ap (λ (xs : Events). [] ∷ xs) (none_bare n)
 
@@ -182,7 +188,7 @@ read_run log =
     ∙ ap (processes_of log.header.procs log.header.vars) (sym (same_bare n log.batches (as_read log).batches (bare _ log.batches)))
     ∙ no_lines log.header.procs log.header.vars (with_batches (no_events n) log.batches)
 
-batched_run : (one : Bool) (log : Prefix) → trace_so_far log.header (batches_by one log.batches) ≡ trace_so_far log.header log.batches
+pub batched_run : (one : Bool) (log : Prefix) → trace_so_far log.header (batches_by one log.batches) ≡ trace_so_far log.header log.batches
 batched_run false log = refl
 batched_run true log =
     let n = length log.header.procs in
@@ -190,9 +196,25 @@ batched_run true log =
     (ap (with_batch (no_events n)) (as_one_is log.batches) ∙ joined_events (no_events n) log.batches)
 
 pub it_tells_of_the_same_run : ItTellsOfTheSameRun
-it_tells_of_the_same_run asked input text w log back has has_text =
-    let given : Prefix = in_batches asked.one_batch w.log in
-    let back_is : all_of (as_read given) ≡ back = same_Some (all_of (as_read given)) back (sym (has_given asked input text w).whole ∙ has_text.whole) in
-    let log_is : w.log ≡ log = same_Some w.log log (sym w.has.whole ∙ has.whole) in
-    ap (λ (p : Prefix). trace_so_far p.header p.batches) (sym back_is) ∙ read_run given ∙ batched_run asked.one_batch w.log
+it_tells_of_the_same_run asked input text all w log back has has_text =
+    let given : Prefix = in_batches asked.flags.one_batch w.log in
+    let back_is : all_of (as_read given) ≡ back = same_Some (all_of (as_read given)) back (sym (has_given asked input text w all).whole ∙ has_text.whole) in
+    let log_is : w.log ≡ log = one_alone asked.flags.torn asked.flags.form input w.log log w.has has in
+    ap (λ (p : Prefix). trace_so_far p.header p.batches) (sym back_is) ∙ read_run given ∙ batched_run asked.flags.one_batch w.log
     ∙ ap (λ (p : Prefix). trace_so_far p.header p.batches) log_is
+
+-- reading the text gives the run of the log that was written
+pub it_is_read_as_it_was_written : ItIsReadAsItWasWritten
+it_is_read_as_it_was_written asked input text w back has_text =
+    let given : Prefix = in_batches asked.flags.one_batch (kept_of asked.names w.log) in
+    let back_is : all_of (as_read given) ≡ back = same_Some (all_of (as_read given)) back (sym (has_written asked input text w).whole ∙ has_text.whole) in
+    ap (λ (p : Prefix). trace_so_far p.header p.batches) (sym back_is) ∙ read_run given
+
+-- ---- it is one alone
+
+pub one_text_is_written : OneTextIsWritten
+one_text_is_written asked input text other w v =
+    w.text_is ∙ ap (asked_text asked) (one_alone asked.flags.torn asked.flags.form input w.log v.log w.has v.has) ∙ sym v.text_is
+
+pub no_greater_beginning_is_logged : NoGreaterBeginningIsLogged
+no_greater_beginning_is_logged f text log has run begins order = (greatest_is_cut (needs (events_of f text)) run has.cut begins order).0 has.greatest

@@ -1,5 +1,5 @@
 -- How many events and batches a log has whose items fit.
-use Rattle.std.proofs.Common.{◌≡◌, ℕ, ◌+◌, ◌<◌, ◌≤◌, Option, Some, None, List, [], ◌∷◌, ◌++◌, length, refl, sym, ap, subst, ◌∙◌, arith}
+use Rattle.std.proofs.Common.{◌≡◌, ℕ, ◌+◌, ◌<◌, ◌≤◌, Option, Some, None, List, [], ◌∷◌, ◌++◌, length, ap, subst, ◌∙◌, arith}
 use Rattle.std.proofs.lemmas.List.{length_push}
 use Rattle.std.proofs.lemmas.Option.{none-some, same_Some}
 use Rattle.log_lines.specs.Reading.{choose}
@@ -8,7 +8,7 @@ use Rattle.event_log.specs.declared.item.Item.TheVariants as item
 use Rattle.event_log.specs.declared.item.LogFault.{LogFault}
 use Rattle.event_log.specs.declared.log.Event.{Event}
 use Rattle.event_log.specs.LogText.{event_count}
-use Rattle.event_log.specs.FittingItems.{FitFirst, FitFrom}
+use Rattle.event_log.specs.FittingItems.{FitFirst}
 use Rattle.event_log.specs.States.{with_batch}
 use Rattle.vector_clock.proofs.FilledBatches.{length-fill_from}
 use Rattle.fault_kinds.specs.declared.refusal.Refusal.TheVariants as refusal

@@ -1,5 +1,5 @@
 -- What is known of a log that was judged without a fault, its clocks filled in.
-use Rattle.std.proofs.Common.{◌≡◌, ℕ, zero, suc, ◌+◌, ◌<◌, ◌≤◌, Bool, true, false, Option, Some, None, List, [], ◌∷◌, ◌++◌, length, map, sum, get_or, refl, sym, ap, subst, ◌∙◌, arith}
+use Rattle.std.proofs.Common.{◌≡◌, ℕ, zero, suc, ◌+◌, ◌<◌, ◌≤◌, Bool, true, false, Option, Some, None, List, [], ◌∷◌, ◌++◌, length, map, sum, refl, sym, ap, subst, ◌∙◌, arith}
 use Rattle.std.specs.Prelude.{if◌then◌else◌}
 use Rattle.std.specs.List.{AllByRecursion}
 use Rattle.std.proofs.lemmas.List.Sums.{sum_by-cons}
@@ -68,27 +68,27 @@ placed_more h n m le e p = record {
 -- ---- counts of a clock
 
 -- a list of which each count is within a bound
-within_all : (c : Cut) (most : ℕ) → ((j : ℕ) → count c j ≤ most) → AllByRecursion (λ n. n ≤ most) c
+pub within_all : (c : Cut) (most : ℕ) → ((j : ℕ) → count c j ≤ most) → AllByRecursion (λ n. n ≤ most) c
 within_all [] most within = tt
 within_all (x ∷ c) most within = (within 0, within_all c most (λ j. within (suc j)))
 
-count_sum : (c : Cut) (j : ℕ) → count c j ≤ sum c
+pub count_sum : (c : Cut) (j : ℕ) → count c j ≤ sum c
 count_sum [] j = omega arith
 count_sum (x ∷ c) zero = let all : sum (x ∷ c) ≡ x + sum c = sum_by-cons (λ (n : ℕ). n) x c in omega (arith, all)
 count_sum (x ∷ c) (suc j) = let all : sum (x ∷ c) ≡ x + sum c = sum_by-cons (λ (n : ℕ). n) x c in omega (arith, all, count_sum c j)
 
-no_sum : (n : ℕ) → sum (map (length {A = Event}) (no_events n)) ≡ 0
+pub no_sum : (n : ℕ) → sum (map (length {A = Event}) (no_events n)) ≡ 0
 no_sum zero = refl
 no_sum (suc n) = no_sum n
 
-batches_sum : (ess : Events) (bs : List (List Event)) → sum (map length (with_batches ess bs)) ≤ sum (map length ess) + event_count bs
+pub batches_sum : (ess : Events) (bs : List (List Event)) → sum (map length (with_batches ess bs)) ≤ sum (map length ess) + event_count bs
 batches_sum ess [] = omega arith
 batches_sum ess (b ∷ bs) = omega (arith, batches_sum (with_batch ess b) bs, sum_batch ess b)
 
 -- ---- no event names one that isn't there
 
 -- of these events each has a clock within those that are there
-named_there : (before all : Events) (es : List Event) → fault_from before all es ≡ None → AllByRecursion (λ (e : Event). IsWithin e.clock (lengths (clocks_of all))) es
+pub named_there : (before all : Events) (es : List Event) → fault_from before all es ≡ None → AllByRecursion (λ (e : Event). IsWithin e.clock (lengths (clocks_of all))) es
 unfolding fault_from
 named_there before all [] none = tt
 named_there before all (e ∷ es) none =

@@ -1,5 +1,5 @@
 -- Faults of clocks and messages don't go by the lines on which the events stand.
-use Rattle.std.proofs.Common.{◌≡◌, ℕ, zero, suc, ◌+◌, List, [], ◌∷◌, ◌++◌, length, map, set, get_or, Option, None, Some, refl, sym, ap, ap₂, subst, ◌∙◌}
+use Rattle.std.proofs.Common.{◌≡◌, ℕ, zero, suc, ◌+◌, List, [], ◌∷◌, ◌++◌, length, map, set, Option, None, Some, refl, sym, ap, ap₂, subst, ◌∙◌}
 use Rattle.std.specs.Prelude.{Bool, false, is_some, not, ◌||◌, nat_lt, if◌then◌else◌}
 use Rattle.std.specs.Option.{option_map}
 use Rattle.std.proofs.lemmas.List.{length-map, map-append}
@@ -10,7 +10,7 @@ use Rattle.event_log.specs.declared.item.LogCode.{LogCode}
 use Rattle.event_log.specs.declared.item.LogFault.{LogFault}
 use Rattle.event_log.specs.States.{with_event, with_batch, with_batches}
 use Rattle.vector_clock.specs.declared.message.Message.{Message}
-use Rattle.vector_clock.specs.Events.{Events, own_events, clocks_of, place, no_events}
+use Rattle.vector_clock.specs.Events.{Events, own_events, clocks_of, place}
 use Rattle.vector_clock.specs.Messages.{message_sent, message_received, sends, receives, first_place, first_send, first_receipt}
 use Rattle.vector_clock.specs.Faults.{clock_fault, message_fault, event_fault, is_twice, is_unsent, is_early, at_line, fault_from, batch_fault, batches_fault}
 use Rattle.clock_laws.proofs.Same.{own_mapped}

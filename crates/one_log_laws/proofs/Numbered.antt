@@ -1,21 +1,18 @@
 -- A log whose clocks are all written, as reading its text gives it.
-use Rattle.std.proofs.Common.{◌≡◌, ℕ, ◌+◌, ◌^◌, ◌<◌, ◌≤◌, Bool, true, false, None, List, [], ◌∷◌, ◌++◌, length, map, refl, sym, ap, ap₂, subst, ◌∙◌, arith, inl, append_assoc}
+use Rattle.std.proofs.Common.{◌≡◌, ℕ, ◌+◌, ◌^◌, ◌<◌, ◌≤◌, false, None, List, [], ◌∷◌, ◌++◌, length, map, refl, sym, ap, ap₂, subst, arith, inl}
 use Rattle.std.specs.List.{AllByRecursion}
-use Rattle.std.proofs.lemmas.List.{length-append, length-map}
-use Rattle.event_log.specs.Before.{Line, headed}
+use Rattle.event_log.specs.Before.{Line}
 use Rattle.event_log.specs.declared.log.Event.{Event}
 use Rattle.event_log.specs.declared.log.Header.{Header}
-use Rattle.event_log.specs.declared.log.Log.{Log}
 use Rattle.event_log.specs.declared.log.Kind.{Kind}
 use Rattle.event_log.specs.declared.log.Kind.TheVariants as kind
-use Rattle.event_log.specs.LogText.{HeaderFits, EventFits, EventsFit, BatchesFit, KindFits, KindWithin, LogFits, event_count, header_lines, event_lines, batch_lines, closing_line, text_of, log_text}
+use Rattle.event_log.specs.LogText.{EventFits, EventsFit, BatchesFit, KindFits, KindWithin, LogFits, event_count, header_lines, event_lines, batch_lines, closing_line, text_of, log_text}
 use Rattle.vector_clock.specs.Events as clocks
 use Rattle.vector_clock.specs.Events.{AllFit, no_events}
-use Rattle.vector_clock.specs.Faults.{batches_fault, log_fault}
-use Rattle.vector_clock.specs.Filled.{filled_batches, filled_log}
+use Rattle.vector_clock.specs.Faults.{log_fault}
+use Rattle.vector_clock.specs.Filled.{filled_log}
 use Rattle.vector_clock.proofs.FilledLogs.{written_log}
 use Rattle.log_rules.specs.Judgement.{Prefix}
-use Rattle.log_rules.specs.WholeLogs.{all_of}
 use Rattle.one_log.specs.Logging.{one_log}
 use Rattle.one_log_laws.specs.inside.Lines.{without_line, without_lines, on_lines, batches_on_lines, first_header, as_read}
 use Rattle.one_log_laws.proofs.Few.{IsSmall}

@@ -7,7 +7,7 @@ use Rattle.std.proofs.Math.ListN.{get_or-map}
 use Rattle.std.proofs.lemmas.List.{length-map}
 use Rattle.event_log.specs.declared.log.Binding.{Binding}
 use Rattle.event_log.specs.declared.log.Event.{Event}
-use Rattle.vector_clock.specs.Events.{clocks_of}
+use Rattle.trace_growth.specs.PassedOn.{clocks_of}
 use Rattle.std.proofs.lemmas.Bool.Decides.{Decides-eqb}
 use Rattle.run_model.specs.Cut.{Cut, Clocks, count, initial, lengths}
 use Rattle.run_model.specs.Consistent.{IsConsistent}

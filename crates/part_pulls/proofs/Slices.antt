@@ -6,9 +6,9 @@ use Rattle.run_model.specs.Consistent.{IsConsistent}
 use Rattle.run_model.specs.Slice.{StandsFor}
 use Rattle.run_model.proofs.Counts.{length-lengths}
 use Rattle.run_model.proofs.SliceLemmas.{one_bottom, one_row}
-use Rattle.slice_graph.specs.Views.{SliceView, IsCut, slice_of, no_row}
-use Rattle.slice_graph.specs.Fitting.{FitsOrder}
-use Rattle.slice_graph.proofs.Events.{event_of_row}
+use Rattle.temporal_slice.specs.PassedOn.{SliceView, IsCut, slice_of, no_row}
+use Rattle.temporal_slice.specs.PassedOn.{FitsOrder}
+use Rattle.temporal_slice.proofs.PassedOn.{event_of_row}
 
 -- a cut of the order's lengths is one of the slice's
 pub cut_of_lengths : (o : Clocks) (slice : SliceView) → FitsOrder o slice → (c : Cut) → length c ≡ length o → IsWithin c (lengths o) → IsCut slice.lens c

@@ -8,7 +8,7 @@ use Rattle.run_model.specs.Meaning.{Sat}
 use Rattle.pull_system.specs.declared.pull.Pull.{Pull}
 use Rattle.pull_system.specs.System.{SystemView, IsPull}
 use Rattle.pull_system.specs.Pulls.{ClosedUnder}
-use Rattle.slice_graph.specs.PullLists.{pulls_of_order}
+use Rattle.temporal_slice.specs.PassedOn.{pulls_of_order}
 use Rattle.rctl_parts.specs.Exprs.{Expr}
 use Rattle.rctl_parts.specs.Pieces.{Atom, Piece, atom, temporal, local, at_most, at_least, never}
 use Rattle.rctl_parts.specs.Pieces.{diff_at_most, diff_at_least}

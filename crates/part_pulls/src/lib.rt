@@ -23,3 +23,4 @@ pub use atom::pulls_of_atom;
 pub use atom_pulls::AtomPulls;
 pub use observed::Observed;
 pub use operator::{has_first, has_initial, operate};
+pub use trace_growth::Trace;

@@ -4,17 +4,16 @@ ghost use Rattle.run_model.specs.Cut.{Cut, Clocks, initial};
 ghost use Rattle.run_model.specs.Consistent.{IsConsistent};
 ghost use Rattle.run_model.specs.Slice.{Cuts};
 ghost use Rattle.run_model.specs.Witness.{HasFirst};
-ghost use Rattle.slice_graph.specs.Views.{slice_of};
-ghost use Rattle.slice_graph.specs.Fitting.{FitsOrder};
+ghost use Rattle.temporal_slice.specs.PassedOn.{slice_of};
+ghost use Rattle.temporal_slice.specs.PassedOn.{FitsOrder};
 ghost use Rattle.part_pulls.specs.Operating.{Operated, operator_gives_order};
 
-use causal_order::Order;
 use cut_lattice::Cut;
 use pota_base::NoMemory;
 use rctl_grammar::Operator;
-use slice_graph::Slice;
 use std::alloc::Global;
-use temporal_slice::{ag, ef, eg};
+use temporal_slice::{Slice, ag, ef, eg};
+use trace_growth::Order;
 
 /// The slice of the consistent cuts at which EF, AG or EG over the operand is true.
 pub fn operate(

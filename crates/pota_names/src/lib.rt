@@ -11,7 +11,6 @@ ghost use Rattle.std.specs.Prelude.{◌≡◌, false, IfOk, IsTrue, MatchOption}
 ghost use Rattle.std.specs.List.{list_all};
 ghost use Rattle.std.specs.Str.{bytes_eq};
 
-use pota_base::{List, NoMemory};
 use std::alloc::Global;
 use std::marker::Model;
 
@@ -129,3 +128,5 @@ impl Name {
         self.key == key && self.bytes.as_slice() == bytes
     }
 }
+
+pub use pota_base::{List, NoMemory};

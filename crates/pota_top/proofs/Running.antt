@@ -34,7 +34,7 @@ use Rattle.log_rules.proofs.Dues.{due_grows}
 use Rattle.log_rules.proofs.Orders.{IsOrdered, all_ordered}
 use Rattle.log_rules.proofs.Rising.{IsKept, all_kept}
 use Rattle.log_judgement.proofs.Texts.{texts_split, one_text}
-use Rattle.reported_log.specs.Aims.{Says, Aim, asked_of, aim_of, names_of, watches_of, rules_of, unknown_name}
+use Rattle.certificate_answers.specs.PassedOn.{Says, Aim, asked_of, aim_of, names_of, watches_of, rules_of, unknown_name}
 use Rattle.watch.specs.declared.predicate.Handed.{Handed}
 use Rattle.fault_line.specs.Faults.{status_of, fault_of_refusal}
 use Rattle.run_promise.specs.Questions.{fault_of_question}
@@ -43,7 +43,7 @@ use Rattle.log_answers.specs.declared.stop.StopCause.TheVariants as causes
 use Rattle.log_answers.specs.declared.stop.Stop.{Stop}
 use Rattle.log_answers.specs.declared.stop.Verdict.{Verdict}
 use Rattle.run_promise.specs.declared.outcome.Outcome.{Outcome}
-use Rattle.batch_answers.specs.Outcome.{fault_of, faulty_outcome, outcome_of}
+use Rattle.certificate_answers.specs.PassedOn.{fault_of, faulty_outcome, outcome_of}
 use Rattle.run_promise.specs.Asking.{Handing, handing_of, asked_by, reading_of, due_of}
 use Rattle.log_answers.specs.Calm.{IsCalmUnlessRead}
 use Rattle.log_answers.specs.Checking.{AreReportsFor, HasPartOf, HasFrontOf}
@@ -52,7 +52,7 @@ use Rattle.run_report.proofs.Telling.{told_denotes, told_kinds}
 use Rattle.run_promise.proofs.Clauses.{not_both, not_certified, form_is_read}
 use Rattle.run_promise.specs.Certificates.{IsTrueAtStart}
 use Rattle.run_promise.specs.Run.{Tells, AllTell, IsTold, HasVerdict, IsRefused, HasPart, IsWholeDue, Answer, Ran}
-use Rattle.batch_answers.proofs.Undone.{stated_asked, ran_nothing}
+use Rattle.certificate_answers.proofs.PassedOn.{stated_asked, ran_nothing}
 
 front_half : (Good : Prefix → Type 0) (xs ys : List Prefix) → AllByRecursion Good (xs ++ ys) → AllByRecursion Good xs
 front_half Good [] ys h = tt

@@ -3,19 +3,19 @@ ghost use Rattle.std.specs.Prelude.{◌≡◌, ◌≢◌, ℕ, List, map, string
 ghost use Rattle.pota_base.specs.Outside.{Rose};
 ghost use Rattle.pota_base.specs.declared.status.Status.TheVariants.{ReadFault, WriteFault};
 ghost use Rattle.run_request.specs.Questions.{IsQuestion};
-ghost use Rattle.reported_log.specs.Aims.{AreWatches, said_by};
+ghost use Rattle.certificate_answers.specs.PassedOn.{AreWatches, said_by};
 ghost use Rattle.log_answers.specs.Calm.{IsCalmUnlessRead};
 ghost use Rattle.fault_line.specs.Lines.{Told};
 ghost use Rattle.run_promise.specs.Asking.{handing_of};
 ghost use Rattle.run_promise.specs.Run.{IsBenchAnswered, IsCalm, IsDecided, IsRefusedAsAsked};
 ghost use Rattle.run_promise.specs.Run.{IsRefusedAsDue, Ran};
 ghost use Rattle.run_promise.specs.Questions.{fault_of_question};
-ghost use Rattle.batch_answers.specs.Outcome.{outcome_of};
+ghost use Rattle.certificate_answers.specs.PassedOn.{outcome_of};
 ghost use Rattle.pota_top.specs.Telling.{line_of};
 
 use crate::inquiring::answer_inquiry;
-use batch_answers::{faulty, outcome_of};
 use bench_answers::answer_bench;
+use certificate_answers::{faulty, outcome_of};
 use command_words::Task;
 use fault_line::{Fault, tell};
 use log_answers::{Means, Stop, Verdict};

@@ -15,7 +15,7 @@ use Rattle.run_model.specs.Meaning.{Sat, SatAll}
 use Rattle.run_model.specs.Class as class
 use Rattle.run_model.specs.Class.{is_plain, all_plain, processes, all_processes, is_local, after_sign, channel_parts, parts, all_parts, difference_parts, are_bounded, is_unequal, disjuncts, all_disjuncts, SatParts, SatDisjuncts}
 use Rattle.run_model.proofs.Paths.{path_last}
-use Rattle.run_model.proofs.DisjunctLemmas.{parts_mean}
+use Rattle.meaning_laws.proofs.DisjunctLemmas.{parts_mean}
 use Rattle.rctl_grammar.specs.declared.tree.Operator.{Operator}
 use Rattle.rctl_grammar.specs.declared.tree.Operator.TheVariants as operator
 use Rattle.rctl_grammar.specs.declared.tree.Place.{Place}

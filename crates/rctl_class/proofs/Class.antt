@@ -2,7 +2,7 @@
 use Rattle.std.proofs.Common.{◌≡◌, ◌↔◌, ℕ, Bool, true, false, not, ◌&&◌, ◌||◌, IsTrue, Option, None, Some, if◌then◌else◌, sym, ap, refl, ◌∙◌}
 use Rattle.std.proofs.lemmas.Bool.{false≢true}
 use Rattle.run_model.specs.Class.{is_plain, all_plain, processes, all_processes, is_local, is_unequal, after_sign, are_bounded, is_analysed, is_conjunctive, all_conjunctive, is_disjunctive, all_disjunctive, IsOfClass}
-use Rattle.run_model.proofs.PartLemmas.{conjunctive_disjunctive}
+use Rattle.meaning_laws.proofs.PartLemmas.{conjunctive_disjunctive}
 use Rattle.rctl_grammar.specs.declared.fault.FormulaFault.{FormulaFault}
 use Rattle.rctl_grammar.specs.declared.tree.Operator.{Operator}
 use Rattle.rctl_grammar.specs.declared.tree.Operator.TheVariants as operator

@@ -15,8 +15,8 @@ use Rattle.rctl_grammar.specs.Grammar.{Leaf, Disjunction, one_conjunction, or, C
 use Rattle.rctl_grammar.specs.Shape as shape
 use Rattle.rctl_grammar.specs.Shape.{Shape, Shapes, plain_atom, model_atom, model_of, models, meaning, shape_of, shape_disjunction, disjunct_shapes, shape_conjunction, conjunct_shapes, shape_unary}
 use Rattle.rctl_grammar.proofs.Shapes.{tree-disjunction}
-use Rattle.rctl_lexer.specs.Lexing.{lex}
-use Rattle.rctl_parse.specs.Parsing.{IsReadAs}
+use Rattle.rctl_round_trip.specs.PassedOn.{lex}
+use Rattle.rctl_round_trip.specs.PassedOn.{IsReadAs}
 use Rattle.rctl_round_trip.proofs.Texts.{IsAtom, IsSpellable, AreSpellable}
 use Rattle.rctl_round_trip.proofs.Sound.{AreSound, lex-sound, disjunction-spelled}
 use Rattle.rctl_class.specs.Nodes.{Node, Nodes, leaf, negation, conjunction, disjunction, under, stepping, until_of, none, more, nodes_of, node_of, formula_of, formulas_of, is_small, counts_fit, all_counts_fit, node_count, nodes_count, IsWithinLimits}

@@ -6,7 +6,7 @@ use Rattle.run_model.specs.Run.{Run}
 use Rattle.run_model.specs.Consistent.{IsOrder, IsConsistent}
 use Rattle.run_model.specs.Meaning.{Sat}
 use Rattle.run_model.specs.Class.{IsRegular, SatDisjuncts, disjuncts}
-use Rattle.run_model.proofs.DisjunctLemmas.{disjuncts_mean, regular_is_one}
+use Rattle.meaning_laws.proofs.DisjunctLemmas.{disjuncts_mean, regular_is_one}
 use Rattle.rctl_class.specs.Nodes.{Node, formula_of, IsWithinLimits}
 use Rattle.rctl_class.specs.NamedParts.{NamedPiece, part_formula}
 use Rattle.rctl_class.specs.Classed.{IsClassed, disjunct_formulas}

@@ -6,7 +6,7 @@ ghost use Rattle.rctl_class.specs.NamedParts.{NamedPiece};
 ghost use Rattle.rctl_class.specs.Nodes.{IsWithinLimits, Node, formula_of, node_of};
 ghost use Rattle.rctl_grammar.specs.Shape.{meaning};
 ghost use Rattle.rctl_grammar.specs.declared.tree.Tree.{Tree};
-ghost use Rattle.rctl_parse.specs.Parsing.{IsReadAs};
+ghost use Rattle.rctl_round_trip.specs.PassedOn.{IsReadAs};
 ghost use Rattle.run_model.specs.Class.{DisjunctsKeptFor, IsKeptFor, IsOfClass, IsRegular};
 ghost use Rattle.run_model.specs.Class.{SatDisjuncts};
 ghost use Rattle.run_model.specs.Consistent.{IsConsistent, IsOrder};

@@ -14,7 +14,7 @@ ghost use Rattle.rctl_class.specs.Classed.{IsClassed};
 ghost use Rattle.rctl_class.specs.Faults.{first_fault};
 ghost use Rattle.rctl_class.specs.NamedParts.{disjuncts_of};
 ghost use Rattle.rctl_class.specs.Nodes.{IsWithinLimits, node_of};
-ghost use Rattle.rctl_parse.specs.Reading.{Faults};
+ghost use Rattle.rctl_round_trip.specs.PassedOn.{Faults};
 ghost use Rattle.std.specs.Prelude.{◌≡◌, false, MatchResult, Some, true};
 
 mod channel;

@@ -7,7 +7,7 @@ ghost use Rattle.rctl_class.specs.Walk.{all_disjuncts, all_parts, channel_parts,
 ghost use Rattle.rctl_class.specs.Walk.{parts_from};
 ghost use Rattle.rctl_grammar.specs.Shape.{relation_of};
 ghost use Rattle.rctl_grammar.specs.declared.fault.FormulaCode.TheVariants.{NotRegular};
-ghost use Rattle.rctl_parse.specs.Reading.{Faults};
+ghost use Rattle.rctl_round_trip.specs.PassedOn.{Faults};
 ghost use Rattle.run_model.specs.Class.{after_sign as turned_by, are_bounded};
 ghost use Rattle.std.specs.Prelude.{◌≡◌, ◌++◌, ◌∷◌, [], false, map, MatchResult, None, OnOk};
 ghost use Rattle.std.specs.Prelude.{Some, true};

@@ -1,7 +1,7 @@
 -- A reading of tokens from left to right: what of a derivation stands before a place, and what one
 -- more token makes of it. It says which tokens a formula may go on with.
 use Rattle.std.specs.Prelude.{ℕ, ℤ, Bool, true, false, List, [], ◌∷◌, Option, None, Some}
-use Rattle.pota_base.specs.Number.{◌>>=◌}
+use Rattle.pota_names.specs.PassedOn.{◌>>=◌}
 use Rattle.run_model.specs.Run.{Name}
 use Rattle.run_model.specs.Formula as model
 use Rattle.rctl_grammar.specs.declared.token.Kind.{Kind}

@@ -1,6 +1,6 @@
 ghost use Rattle.std.specs.Prelude.{◌≡◌, IfOk};
 
-use pota_base::NoMemory;
+use pota_names::NoMemory;
 use std::alloc::Global;
 use std::marker::Model;
 

@@ -15,5 +15,6 @@ mod tree;
 pub use boxed::Boxed;
 pub use fault::{FormulaCode, FormulaFault, Outside};
 pub use laws::trees_are_spelled;
+pub use pota_names::Name;
 pub use token::{End, Kind, Token, Word};
 pub use tree::{Atom, Compare, Formula, Operator, Place, Side, Tree};

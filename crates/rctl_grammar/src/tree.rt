@@ -1,6 +1,5 @@
 use crate::boxed::Boxed;
-use pota_base::List;
-use pota_names::Name;
+use pota_names::{List, Name};
 
 /// How two values are compared.
 #[derive(Clone, Copy, Debug, PartialEq, Eq)]

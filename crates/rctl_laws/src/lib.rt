@@ -12,3 +12,4 @@ pub use laws::{
     first_fault_precedes, first_fault_stands, no_fault_is_within_limits, reading_is_one,
     within_limits_is_read,
 };
+pub use rctl_lexer::lex;

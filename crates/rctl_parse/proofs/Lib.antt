@@ -7,3 +7,4 @@ pub mod SteppingSteps
 pub mod MemberSteps
 pub mod CycleSteps
 pub mod WholeSteps
+pub mod PassedOn

@@ -11,8 +11,8 @@ use Rattle.rctl_grammar.specs.declared.tree.Formula.{Formula}
 use Rattle.rctl_grammar.specs.Grammar.{tree_disjunction}
 use Rattle.rctl_grammar.specs.Machine.{read}
 use Rattle.rctl_grammar.specs.FirstFault.{first_fault}
-use Rattle.rctl_lexer.specs.declared.lexer.Lexed.{Lexed}
-use Rattle.rctl_lexer.specs.Lexing.{lex}
+use Rattle.rctl_laws.specs.PassedOn.{Lexed}
+use Rattle.rctl_laws.specs.PassedOn.{lex}
 use Rattle.rctl_laws.proofs.Reading.{one_reading}
 use Rattle.rctl_laws.proofs.Within.{within_is_read}
 use Rattle.rctl_parse.specs.Reading.{Faults}

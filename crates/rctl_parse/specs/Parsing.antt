@@ -8,7 +8,7 @@ use Rattle.rctl_grammar.specs.declared.fault.FormulaFault.{FormulaFault}
 use Rattle.rctl_grammar.specs.declared.tree.Tree.{Tree}
 use Rattle.rctl_grammar.specs.Grammar.{Disjunction, IsFormula, tree_disjunction}
 use Rattle.rctl_grammar.specs.FirstFault.{first_fault}
-use Rattle.rctl_lexer.specs.Lexing.{lex}
+use Rattle.rctl_laws.specs.PassedOn.{lex}
 use Rattle.rctl_laws.specs.Laws.{IsWithinLimits}
 
 -- the tokens, up to the end of the text, are those of a formula within the limits, and this is its

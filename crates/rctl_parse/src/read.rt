@@ -11,7 +11,7 @@ use crate::around::{Around, Stop, fault, refused_here};
 use crate::parser::{Part, formula};
 use pota_base::Refused;
 use rctl_grammar::{End, Formula, FormulaCode, FormulaFault, Token};
-use rctl_lexer::lex;
+use rctl_laws::lex;
 use std::alloc::Global;
 
 /// The most bytes of a formula that `parse` reads.

@@ -5,8 +5,7 @@ ghost use Rattle.rctl_grammar.specs.Shape.{transit};
 ghost use Rattle.rctl_print.specs.Canonical.{atom_text, sign_of, spaced, side_text, channel_text};
 
 use pota_base::{Bytes, NoMemory, put_i64, put_u64};
-use pota_names::Name;
-use rctl_grammar::{Atom, Compare, Place, Side};
+use rctl_grammar::{Atom, Compare, Name, Place, Side};
 
 fn sign(compare: Compare) -> &'static [u8]
     ensures { result.now ≡ sign_of compare }

@@ -7,3 +7,4 @@ pub mod Origin
 pub mod Sound
 pub mod Short
 pub mod RoundTrips
+pub mod PassedOn

@@ -7,8 +7,8 @@ use Rattle.rctl_grammar.specs.Shape.{Shape, shape_of, shape_disjunction}
 use Rattle.rctl_grammar.proofs.Shapes.{tree-disjunction}
 use Rattle.rctl_lexer.specs.Lexing.{lex}
 use Rattle.std.proofs.lemmas.Option.{same_Some}
-use Rattle.rctl_laws.proofs.Reading.{one_reading}
-use Rattle.rctl_laws.proofs.Within.{within_is_read}
+use Rattle.rctl_parse.proofs.PassedOn.{one_reading}
+use Rattle.rctl_parse.proofs.PassedOn.{within_is_read}
 use Rattle.rctl_grammar.specs.FirstFault.{first_fault}
 use Rattle.rctl_parse.specs.Parsing.{IsReadAs}
 use Rattle.rctl_print.specs.Canonical.{canonical}

@@ -9,6 +9,7 @@ ghost use Rattle.rctl_round_trip.specs.RoundTrip.{PrintedHasNoFault, PrintedIsIt
 ghost use Rattle.rctl_round_trip.specs.RoundTrip.{PrintedIsRead, PrintedIsShort};
 
 pub use again::{read_back, read_back_short};
+pub use rctl_parse::{parse_long, print};
 
 /// The canonical text of a formula that was read is read as the same formula but for its places.
 pub fn printed_is_read()

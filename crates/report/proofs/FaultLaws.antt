@@ -20,7 +20,7 @@ use Rattle.event_log.proofs.Lists.{all_append, all_push}
 use Rattle.event_log.proofs.Appends.{text_of-append}
 use Rattle.witness_kinds.specs.declared.Witness.{Witness}
 use Rattle.witness_kinds.specs.declared.Witness.TheVariants as witness
-use Rattle.slice_graph.specs.declared.edges.Edge.{Edge}
+use Rattle.report_lines.specs.PassedOn.{Edge}
 use Rattle.report_lines.specs.declared.kinds.WitnessText.{WitnessText}
 use Rattle.report_lines.specs.Spelling.{title, step_line, edge_line, EdgeFits, WitnessFits, WitnessTextFits, RunFits}
 use Rattle.report_lines.specs.Reading.{is_title, steps_of}

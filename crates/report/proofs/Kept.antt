@@ -21,7 +21,7 @@ use Rattle.event_log.proofs.Lists.{all_push, all_append}
 use Rattle.witness_kinds.specs.declared.Path.{Path}
 use Rattle.witness_kinds.specs.declared.Witness.{Witness}
 use Rattle.witness_kinds.specs.declared.Witness.TheVariants as witness
-use Rattle.slice_graph.specs.declared.edges.Edge.{Edge}
+use Rattle.report_lines.specs.PassedOn.{Edge}
 use Rattle.report_lines.specs.declared.kinds.WitnessText.{WitnessText}
 use Rattle.report_lines.specs.Formula.{IsCanonical}
 use Rattle.report_lines.specs.Spelling.{kind_text, title, batch_line, lengths_line, formula_line, verdict_line, slice_line, edge_line, witness_line, step_line, IsPositive, EdgeFits, BoundsFit, PathFits, WitnessFits, WitnessTextFits, RunFits}

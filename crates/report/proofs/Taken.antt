@@ -15,7 +15,7 @@ use Rattle.log_lines.proofs.LineLaws.{procs_again}
 use Rattle.event_log.specs.Before.{Line}
 use Rattle.witness_kinds.specs.declared.Witness.{Witness}
 use Rattle.witness_kinds.specs.declared.Witness.TheVariants as witness
-use Rattle.slice_graph.specs.declared.edges.Edge.{Edge}
+use Rattle.report_lines.specs.PassedOn.{Edge}
 use Rattle.report_lines.specs.declared.kinds.WitnessText.{WitnessText}
 use Rattle.report_lines.specs.Spelling.{slice_line, edge_line, witness_line, step_line, EdgeFits, BoundsFit, WitnessTextFits, RunFits}
 use Rattle.report_lines.specs.Reading.{slice_in, edge_in, step_in, witness_in, has_path, steps_of, with_steps, numbers_at}

@@ -13,7 +13,7 @@ use Rattle.event_log.specs.LogText.{text_of}
 use Rattle.event_log.proofs.Appends.{text_of-append}
 use Rattle.witness_kinds.specs.declared.Witness.{Witness}
 use Rattle.witness_kinds.specs.declared.Witness.TheVariants as witness
-use Rattle.slice_graph.specs.declared.edges.Edge.{Edge}
+use Rattle.report_lines.specs.PassedOn.{Edge}
 use Rattle.report_lines.specs.declared.kinds.WitnessText.{WitnessText}
 use Rattle.report_lines.specs.Spelling.{edge_line, step_line, EdgeFits, WitnessFits, WitnessTextFits, RunFits, IsNamed}
 use Rattle.report_lines.specs.Reading.{steps_of}

@@ -10,7 +10,7 @@ use Rattle.log_lines.specs.Names.{Name}
 use Rattle.log_lines.specs.Spelling.{ProcsFit, end_line}
 use Rattle.log_lines.specs.Reading.{choose, procs_in}
 use Rattle.event_log.specs.Before.{Line}
-use Rattle.slice_graph.specs.declared.edges.Edge.{Edge}
+use Rattle.report_lines.specs.PassedOn.{Edge}
 use Rattle.report_lines.specs.declared.kinds.WitnessText.{WitnessText}
 use Rattle.report_lines.specs.Formula.{IsCanonical}
 use Rattle.report_lines.specs.Spelling.{IsPositive}

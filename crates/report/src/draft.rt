@@ -20,10 +20,9 @@ use log_lines::{LineError, is_end, read_procs};
 use pota_base::{Bytes, EventId, List, NoMemory};
 use pota_names::Name;
 use report_lines::{
-    WitnessText, is_title, read_batch, read_edge, read_formula, read_lengths, read_slice,
+    Edge, WitnessText, is_title, read_batch, read_edge, read_formula, read_lengths, read_slice,
     read_step, read_verdict, read_witness,
 };
-use slice_graph::Edge;
 use std::alloc::Global;
 use witness_kinds::{Path, Witness};
 

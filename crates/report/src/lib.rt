@@ -15,6 +15,5 @@ mod writing;
 pub use draft::Draft;
 pub use reading::read_report;
 pub use report::{Report, ReportFault, SliceText};
-pub use report_lines::WitnessText;
-pub use slice_graph::Edge;
+pub use report_lines::{Edge, WitnessText};
 pub use writing::write_report;

@@ -3,8 +3,7 @@
 use cut_lattice::Cut;
 use pota_base::{Bytes, List};
 use pota_names::Name;
-use report_lines::WitnessText;
-use slice_graph::Edge;
+use report_lines::{Edge, WitnessText};
 
 /// A slice (Mittal and Garg) as it is printed: between bottom and top it has the consistent cuts
 /// that keep each edge.

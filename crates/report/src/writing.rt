@@ -13,8 +13,7 @@ use crate::report::{Report, SliceText};
 use event_log::{put_clock, put_names};
 use pota_base::{Bytes, EventId, NoMemory, put_u64};
 use pota_names::Name;
-use report_lines::{WitnessText, put_edge, put_slice, put_step, put_witness};
-use slice_graph::Edge;
+use report_lines::{Edge, WitnessText, put_edge, put_slice, put_step, put_witness};
 use std::alloc::Global;
 use witness_kinds::Witness;
 

@@ -17,7 +17,7 @@ use Rattle.rctl_lexer.specs.Words.{word_of}
 use Rattle.rctl_laws.proofs.Free.{no_fault}
 use Rattle.rctl_laws.proofs.Reading.{one_reading}
 use Rattle.rctl_laws.proofs.Within.{within_is_read}
-use Rattle.rctl_parse.specs.Parsing.{IsReadAs, long_fault}
+use Rattle.rctl_round_trip.specs.PassedOn.{IsReadAs, long_fault}
 use Rattle.rctl_print.specs.Canonical.{canonical}
 use Rattle.rctl_round_trip.proofs.RoundTrips.{printed_shortly}
 use Rattle.report_lines.specs.Formula.{IsCanonical, is_canonical, prints_as}

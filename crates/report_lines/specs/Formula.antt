@@ -7,7 +7,7 @@ use Rattle.rctl_grammar.specs.Grammar.{Disjunction}
 use Rattle.rctl_grammar.specs.Machine.{read}
 use Rattle.rctl_grammar.specs.Shape.{shape_of, shape_disjunction}
 use Rattle.rctl_lexer.specs.Lexing.{lex}
-use Rattle.rctl_parse.specs.Parsing.{IsReadAs, long_fault}
+use Rattle.rctl_round_trip.specs.PassedOn.{IsReadAs, long_fault}
 use Rattle.rctl_print.specs.Canonical.{canonical}
 
 -- the text is read, however long it is, and what was read is printed as the text

@@ -1,3 +1,4 @@
 pub mod Formula
 pub mod Spelling
 pub mod Reading
+pub mod PassedOn

@@ -13,7 +13,7 @@ use cut_lattice::Cut;
 use log_lines::text_at;
 use pota_base::{Bytes, NoMemory, Refused};
 use rctl_grammar::Formula;
-use rctl_parse::{parse_long, print};
+use rctl_round_trip::{parse_long, print};
 use std::alloc::Global;
 
 /// The most events of a run.

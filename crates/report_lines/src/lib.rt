@@ -16,6 +16,7 @@ mod writing;
 
 pub use head::{is_title, read_batch, read_formula, read_lengths, read_verdict};
 pub use kinds::WitnessText;
+pub use slice_graph::Edge;
 pub use slices::{read_edge, read_slice, read_step};
 pub use witnesses::read_witness;
 pub use writing::{put_edge, put_slice, put_step, put_witness};

@@ -1,12 +1,12 @@
 -- What the answers leave goes on with the log.
 use Rattle.std.proofs.Common.{◌≡◌, Option, Some, None, sym, subst}
 use Rattle.std.proofs.lemmas.Option.{none-some, same_Some}
-use Rattle.conjunctions.specs.declared.round.Kept.{Kept}
+use Rattle.answering.specs.PassedOn.{Kept}
 use Rattle.part_pulls.specs.Later.{IsLater}
-use Rattle.observation.specs.declared.observation.Observation.{Observation}
-use Rattle.observation.specs.Growing.{GrowingView}
+use Rattle.log_check.specs.PassedOn.{Observation}
+use Rattle.log_check.specs.PassedOn.{GrowingView}
 use Rattle.answering.specs.Going as answering
-use Rattle.log_intake.specs.Taking.{GrowsFrom}
+use Rattle.log_check.specs.PassedOn.{GrowsFrom}
 use Rattle.reported_log.specs.Checking.{MayAnswer}
 
 -- the law that what is kept goes on with all that is observed later

@@ -1,3 +1,4 @@
 mod Kept
 mod Going
 mod Reports
+pub mod PassedOn

@@ -15,19 +15,19 @@ use Rattle.report_lines.specs.Formula.{IsCanonical}
 use Rattle.stated_formula.specs.declared.formula.Stated.{Stated}
 use Rattle.stated_formula.specs.Stating.{IsStated}
 use Rattle.report.specs.declared.report.Report.{Report}
-use Rattle.conjunctions.specs.declared.answer.Answer.{Answer}
+use Rattle.answering.specs.PassedOn.{Answer}
 use Rattle.part_pulls.specs.declared.observed.Observed.{Observed}
 use Rattle.part_pulls.specs.Counters.{CountersRise}
 use Rattle.part_pulls.specs.Observing.{Reading, AreAnswers, trace_seen, run_seen}
-use Rattle.conjunctions.specs.Answering.{IsAnswer}
-use Rattle.run_report.specs.Reports.{Asked, IsReportOn}
+use Rattle.answering.specs.PassedOn.{IsAnswer}
+use Rattle.answer_report.specs.PassedOn.{Asked, IsReportOn}
 use Rattle.answer_report.specs.declared.wanted.Wanted.{Wanted}
 use Rattle.answer_report.specs.Asking.{IsAskedOf}
 use Rattle.log_rules.specs.Judgement.{Prefix}
 use Rattle.log_rules.proofs.Rising.{whole_log}
-use Rattle.observation.specs.declared.observation.Observation.{Observation}
-use Rattle.observation.specs.Growing.{GrowingView, HasTaken}
-use Rattle.log_intake.specs.Taking.{trace_after}
+use Rattle.log_check.specs.PassedOn.{Observation}
+use Rattle.log_check.specs.PassedOn.{GrowingView, HasTaken}
+use Rattle.log_check.specs.PassedOn.{trace_after}
 use Rattle.log_check.specs.Aims.{reading_of}
 use Rattle.log_check.specs.Checking.{IsObservedFor}
 use Rattle.reported_log.specs.Aims.{Says, Aim, asked_of, taken_for, IsReportFor}

@@ -1,11 +1,11 @@
 -- A log that is checked item by item: what is known of it behind its items so far.
 use Rattle.std.specs.Prelude.{◌≡◌, Bool, Option, None, Some}
-use Rattle.conjunctions.specs.declared.round.Kept.{Kept}
+use Rattle.answering.specs.PassedOn.{Kept}
 use Rattle.log_rules.specs.Judgement.{Judgement}
-use Rattle.observation.specs.declared.observation.Observation.{Observation}
-use Rattle.observation.specs.Growing.{GrowingView}
+use Rattle.log_check.specs.PassedOn.{Observation}
+use Rattle.log_check.specs.PassedOn.{GrowingView}
 use Rattle.answering.specs.Going as answering
-use Rattle.log_intake.specs.Taking.{Closes}
+use Rattle.log_check.specs.PassedOn.{Closes}
 use Rattle.log_check.specs.Checking as log_checking
 use Rattle.reported_log.specs.declared.reported.ReportedLog.{ReportedLog}
 use Rattle.reported_log.specs.Aims.{Says, Aim, taken_for}

@@ -14,4 +14,5 @@
 
 mod reported;
 
+pub use log_check::CheckedLog;
 pub use reported::ReportedLog;

@@ -57,6 +57,8 @@ mod case;
 mod cut_short;
 mod generated;
 mod handed;
+#[cfg(test)]
+mod in_turn;
 mod line;
 mod meeting;
 mod run;

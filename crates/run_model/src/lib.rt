@@ -1,23 +1,12 @@
-// The meaning of formulas over one run of a distributed program. The definitions stand in specs/;
-// each function here is a law that stands over them, and does nothing.
+// The meaning of formulas over one run of a distributed program: the definitions in specs/, and the
+// laws that runs are read by. Each function here is a law and does nothing.
 //
-// Promised: consistent cuts are closed under minimum and maximum (`consistent_cuts_are_closed`), a
-// path leads from each to each that holds it (`paths_rise`); a closed set is that of its slice
-// (`slice_of_a_closed_set`) and is denoted by its least cut, greatest cut and edges
-// (`printed_text_denotes`); what EF, AG, EG and EX make of a closed set (`operator_laws`); truth is
-// decided (`truth_is_decided`), the family of a regular formula is closed
-// (`regular_families_are_closed`), the disjuncts mean the formula (`disjuncts_mean_the_formula`);
-// the canonical witness is of its kind (`canonical_witness`). What stands against a wrong
-// definition are `worked_laws`, examples worked by hand.
+// Promised: what a trace's events give is a run (`traces_are_runs`), its states are those of its
+// events (`states_by_events`), and watches go by their answers (`watches_by_their_answers`).
+// What follows for cuts, slices, operators and formulas stands in `meaning_laws`, with the examples
+// worked by hand that stand against a wrong definition.
 //
 // Not said: that a log's clocks state what happened, and anything of AF, AX and until.
 #![tactic(auto)]
 
-pub mod formula_laws;
-pub mod operator_laws;
-pub mod order_laws;
 pub mod run_laws;
-pub mod slice_laws;
-pub mod sublattice_laws;
-pub mod witness_laws;
-pub mod worked_laws;

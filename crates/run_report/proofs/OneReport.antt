@@ -9,21 +9,21 @@ use Rattle.run_model.specs.Sublattice.{IsSublattice}
 use Rattle.run_model.specs.Slice.{Edge as EdgeOfRun, SliceText as TextOfRun}
 use Rattle.run_model.specs.Witness as model
 use Rattle.run_model.specs.Class.{IsKeptFor, IsRegularIn, IsOfClass, disjuncts, SatParts, AreRegular, HaveRegularParts, PartsKeptFor, DisjunctsKeptFor, Shown}
-use Rattle.run_model.proofs.PartLemmas.{disjuncts_regular, disjuncts_kept}
-use Rattle.run_model.proofs.ShownLemmas.{shown_closed}
+use Rattle.meaning_laws.proofs.PartLemmas.{disjuncts_regular, disjuncts_kept}
+use Rattle.meaning_laws.proofs.ShownLemmas.{shown_closed}
 use Rattle.run_model.proofs.TraceLemmas.{run_of_order}
 use Rattle.model_laws.proofs.Texts.{one_text}
 use Rattle.model_laws.proofs.Witnesses.{witness_one}
 use Rattle.pota_base.specs.declared.shape.EventId.{EventId}
 use Rattle.event_log.specs.declared.log.Event.{Event}
 use Rattle.event_log.specs.declared.log.Header.{Header}
-use Rattle.slice_graph.specs.declared.edges.Edge.{Edge}
-use Rattle.slice_graph.specs.Edges.{edge_of}
+use Rattle.report.specs.PassedOn.{Edge}
+use Rattle.report.specs.PassedOn.{edge_of}
 use Rattle.witness_kinds.specs.declared.Path.{Path}
 use Rattle.witness_kinds.specs.declared.Witness.{Witness}
 use Rattle.witness_kinds.specs.declared.Witness.TheVariants as witness
 use Rattle.witness_kinds.specs.Views.{place_of, places_of, path_of, witness_of}
-use Rattle.report_lines.specs.declared.kinds.WitnessText.{WitnessText}
+use Rattle.report.specs.PassedOn.{WitnessText}
 use Rattle.report.specs.declared.report.Report.{Report}
 use Rattle.report.specs.declared.report.SliceText.{SliceText}
 use Rattle.run_report.specs.Witnesses.{IsTextFor, ArePartTexts, AreTextsOfTrue, IsTextOfFalse, AreTextsOfFalse, AreWitnesses}

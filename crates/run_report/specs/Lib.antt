@@ -1,3 +1,4 @@
 pub mod Witnesses
 pub mod Reports
 pub mod Benches
+pub mod PassedOn

@@ -10,7 +10,7 @@ use Rattle.run_model.specs.Slice.{IsTextOf}
 use Rattle.run_model.specs.Slice as model
 use Rattle.event_log.specs.declared.log.Event.{Event}
 use Rattle.event_log.specs.declared.log.Header.{Header}
-use Rattle.slice_graph.specs.Edges.{edge_of}
+use Rattle.report.specs.PassedOn.{edge_of}
 use Rattle.report.specs.declared.report.Report.{Report}
 use Rattle.report.specs.declared.report.SliceText.{SliceText}
 use Rattle.log_rules.specs.SoFar.{trace_so_far, counted}

@@ -1,4 +1,4 @@
-//! Runs sessions on the cases of `data/`, and prints a line a case: `ok`, or what is told of the
+//! Runs sessions on the cases of its input, and prints a line a case: `ok`, or what is told of the
 //! first run that came out otherwise than it must.
 //!
 //! A line that is empty or begins with `#` says nothing; each other line is a keyword, and behind
@@ -49,11 +49,9 @@ mod verdict;
 use case::Case;
 use reading::add_line;
 use std::alloc::Global;
+use std::io;
 use std::thread::Threads;
-use std::{fs, io};
 use verdict::judge;
-
-const FILES: [&str; 3] = ["batches.cases", "watches.cases", "cuttings.cases"];
 
 // Prints what came of the case, and begins the one behind it.
 fn finish<R: Threads + Sync + Print>(rt: &R, alloc: Global, case: &mut Case) -> io::Result<()> {
@@ -63,32 +61,26 @@ fn finish<R: Threads + Sync + Print>(rt: &R, alloc: Global, case: &mut Case) -> 
     Ok(())
 }
 
-fn judge_lines<R: Threads + Sync + Print>(
+// Takes the next line, and runs the case that it ends.
+fn take_line<R: Threads + Sync + Print>(
     rt: &R,
     alloc: Global,
     case: &mut Case,
-    text: &str,
+    line: &str,
 ) -> io::Result<()> {
-    for line in text.lines() {
-        if line == "end" {
-            finish(rt, alloc, case)?;
-        } else {
-            add_line(alloc, case, line)?;
-        }
+    if line == "end" {
+        return finish(rt, alloc, case);
     }
+    add_line(alloc, case, line)?;
     Ok(())
-}
-
-fn judge_all<R: Threads + Sync + Print>(rt: &R, alloc: Global, text: &str) -> io::Result<()> {
-    let mut case = Case::new(alloc);
-    judge_lines(rt, alloc, &mut case, text)
 }
 
 fn main(rt: HostRuntime) -> io::Result<()> {
     let alloc = rt.alloc();
-    for path in FILES {
-        let text = fs::read_to_string(&rt, path)?;
-        judge_all(&rt, alloc, text.as_str())?;
+    let mut case = Case::new(alloc);
+    for line in rt.lines(alloc) {
+        let line = line?;
+        take_line(&rt, alloc, &mut case, line.as_str())?;
     }
     Ok(())
 }

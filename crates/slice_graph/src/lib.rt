@@ -24,6 +24,7 @@ mod slice_pulls;
 mod starting;
 mod table;
 
+pub use causal_order::Order;
 pub use cuts::{is_within, set_words};
 pub use edges::Edge;
 pub use growing::grown_order_system;

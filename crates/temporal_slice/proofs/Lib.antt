@@ -4,3 +4,4 @@ pub mod Asked
 pub mod Shared
 pub mod Sets
 pub mod NextPulls
+pub mod PassedOn

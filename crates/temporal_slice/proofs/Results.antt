@@ -6,8 +6,8 @@ use Rattle.run_model.specs.Sublattice.{IsSublattice, IsLeast, IsGreatest}
 use Rattle.run_model.specs.Slice.{Slice, Cuts, StandsFor}
 use Rattle.run_model.specs.Operators.{SomeTime, EachTime, Staying, HoldsAlways, HasPairs, whole, nowhere, lowered, raised}
 use Rattle.run_model.proofs.SliceLemmas.{exact_slice, cuts_closed}
-use Rattle.run_model.proofs.ClosureLemmas.{some_time_closed, each_time_closed, staying_closed}
-use Rattle.run_model.proofs.ResultSlices.{some_time_slice, some_time_nowhere, each_time_slice, each_time_nowhere, staying_slice, staying_nowhere}
+use Rattle.meaning_laws.proofs.ClosureLemmas.{some_time_closed, each_time_closed, staying_closed}
+use Rattle.meaning_laws.proofs.ResultSlices.{some_time_slice, some_time_nowhere, each_time_slice, each_time_nowhere, staying_slice, staying_nowhere}
 use Rattle.slice_graph.specs.Views.{SliceView, slice_of}
 use Rattle.slice_graph.specs.Fitting.{FitsOrder, Agrees}
 use Rattle.slice_graph.proofs.Building.{agrees_stands, fits_of_set}

@@ -1,2 +1,3 @@
 pub mod NextPulls
 pub mod inside
+pub mod PassedOn

@@ -5,7 +5,7 @@ ghost use Rattle.run_model.specs.Sublattice.{IsSublattice};
 ghost use Rattle.run_model.specs.Slice.{Slice, Cuts, StandsFor};
 ghost use Rattle.run_model.specs.Operators.{SomeTime, EachTime, Staying};
 
-use run_model::sublattice_laws::SetOfCuts;
+use meaning_laws::sublattice_laws::SetOfCuts;
 
 /// What stands for an operator's set over the cuts of a slice stands for it over each closed set
 /// that the slice stands for.

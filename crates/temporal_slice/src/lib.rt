@@ -23,4 +23,5 @@ pub use always::ag;
 pub use behind_next::{ex_fans, ex_pulls};
 pub use laws::operators_of_a_set;
 pub use possible::ef;
+pub use slice_graph::Slice;
 pub use staying_in::eg;

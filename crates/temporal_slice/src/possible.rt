@@ -10,10 +10,9 @@ ghost use Rattle.slice_graph.specs.Views.{slice_of};
 ghost use Rattle.slice_graph.specs.Fitting.{FitsOrder, Agrees};
 
 use crate::cuts::event_at;
-use causal_order::Order;
 use cut_lattice::Cut;
 use pota_base::{EventId, NoMemory};
-use slice_graph::{CutTable, Slice};
+use slice_graph::{CutTable, Order, Slice};
 use std::alloc::Global;
 
 /// The slice of the consistent cuts from which some path ends in a cut of the child.

@@ -10,10 +10,9 @@ ghost use Rattle.slice_graph.specs.Fitting.{Agrees};
 ghost use Rattle.temporal_slice.specs.inside.Operands.{operand, FitsOperand};
 
 use crate::cuts::event_at;
-use causal_order::Order;
 use cut_lattice::Cut;
 use pota_base::{EventId, NoMemory};
-use slice_graph::{CutTable, Slice, set_words};
+use slice_graph::{CutTable, Order, Slice, set_words};
 use std::alloc::Global;
 
 /// The slice of the cuts that hold the bottom, among those of the child, or among all consistent

@@ -13,10 +13,9 @@ ghost use Rattle.temporal_slice.specs.inside.Operands.{IsInRow, Shares};
 
 use crate::cuts::{event_at, join_into};
 use crate::raised::cuts_from;
-use causal_order::Order;
 use cut_lattice::Cut;
 use pota_base::{EventId, NoMemory};
-use slice_graph::{Slice, set_words};
+use slice_graph::{Order, Slice, set_words};
 use std::alloc::Global;
 
 /// The slice of the consistent cuts from which some path to the final cut stays in the child.

@@ -1,10 +1,9 @@
 //! Reads the texts of the rows on its input, and prints for each section how many of its rows came
-//! out as they must, and each row that did not.
+//! out as they must, and each row that did not. The crate `row_text` says how rows stand in
+//! sections, and bytes in a TEXT.
 //!
-//! A line `rows KIND NAME` begins a section. A line that begins with `#` says nothing, and an empty
-//! line ends a row. `formula_row` and `report_row` say what the lines of a row of formulas or of
-//! reports mean; of classes and imports, of which `class_row` and `import_row` tell, each line is a
-//! row. In a TEXT, `\` and two hexadecimal digits stand for one byte.
+//! `formula_row` and `report_row` say what the lines of a row of formulas or of reports mean; of
+//! classes and imports, of which `class_row` and `import_row` tell, each line is a row.
 #![tactic(auto)]
 
 mod class_row;
@@ -13,17 +12,18 @@ mod formula_row;
 mod formula_verdict;
 mod import_row;
 mod importing;
+mod kind;
 mod report_reading;
 mod report_row;
-mod section;
 mod texts;
 
-use section::Section;
+use kind::Kind;
+use row_text::Section;
 use std::io;
 
 fn main(rt: HostRuntime) -> io::Result<()> {
     let alloc = rt.alloc();
-    let mut section = Section::none(alloc);
+    let mut section = Section::<Kind>::none(alloc);
     for line in rt.lines(alloc) {
         let line = line?;
         if let Some(next) = Section::headed(alloc, line.as_str())? {

@@ -6,7 +6,7 @@ use Rattle.run_model.specs.Cut.{Cut, Clocks, count, IsWithin, lengths}
 use Rattle.run_model.specs.Consistent.{clock, IsEvent, IsOrder}
 use Rattle.run_model.specs.Sublattice.{IsGreatest}
 use Rattle.run_model.proofs.Counts.{within_both, within_refl, within_trans, length-lengths, search_below, total, total_below}
-use Rattle.run_model.proofs.DecisionLemmas.{decide_within}
+use Rattle.meaning_laws.proofs.DecisionLemmas.{decide_within}
 use Rattle.run_model.proofs.Orders.{has_process}
 use Rattle.torn_runs.specs.Torn.{IsBeginning, IsLoggedWhole}
 use Rattle.torn_runs.specs.Laws.{IsLoggedCut}

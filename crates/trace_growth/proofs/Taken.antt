@@ -8,8 +8,8 @@ use Rattle.event_log.specs.declared.log.Binding.{Binding}
 use Rattle.event_log.specs.declared.log.Header.{Header}
 use Rattle.event_log.specs.States.{StatesView, IsHeader, with_batch, trace_of, processes_of, opened, event_of}
 use Rattle.run_model.specs.Run as run
-use Rattle.causal_order.specs.Growth.{HasGrown}
-use Rattle.causal_order.proofs.Growing.{grown_none}
+use Rattle.vector_clock.specs.PassedOn.{HasGrown}
+use Rattle.vector_clock.proofs.PassedOn.{grown_none}
 use Rattle.vector_clock.specs.declared.clocks.Clocks as code
 use Rattle.vector_clock.specs.Events.{Events, EventFits, EventStands, clocks_of, own_events}
 use Rattle.vector_clock.specs.Events.{no_events}

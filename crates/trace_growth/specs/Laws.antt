@@ -3,7 +3,7 @@ use Rattle.std.specs.Prelude.{◌≡◌, ℕ, ℤ, List, ◌++◌, None}
 use Rattle.event_log.specs.declared.log.Event.{Event}
 use Rattle.event_log.specs.States.{trace_of}
 use Rattle.run_model.specs.Run as run
-use Rattle.causal_order.specs.Growth.{HasGrown}
+use Rattle.vector_clock.specs.PassedOn.{HasGrown}
 use Rattle.vector_clock.specs.Events.{clocks_of}
 use Rattle.trace_growth.specs.Growing.{TraceView, IsTrace, FitsTrace, trace_fault}
 use Rattle.trace_growth.specs.Growing.{with_trace_batch}

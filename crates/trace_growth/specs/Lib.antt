@@ -1,3 +1,4 @@
 pub mod Growing
 pub mod Laws
 pub mod inside
+pub mod PassedOn

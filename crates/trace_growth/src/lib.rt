@@ -13,3 +13,4 @@ mod trace;
 
 pub use laws::a_batch_only_adds;
 pub use trace::Trace;
+pub use vector_clock::Order;

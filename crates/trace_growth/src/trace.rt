@@ -12,12 +12,11 @@ ghost use Rattle.vector_clock.specs.Admitted.{IfFault, IfWantsMemory};
 ghost use Rattle.trace_growth.specs.Growing.{opened_trace, with_trace_batch, one_more, FitsTrace};
 ghost use Rattle.trace_growth.specs.Growing.{IsTrace, trace_fault};
 
-use causal_order::Order;
 use event_log::{Event, Header, LogFault, States};
 use pota_base::{EventId, List, NoMemory, Refused};
 use std::alloc::Global;
 use std::marker::Model;
-use vector_clock::{Clocks, Message, filled};
+use vector_clock::{Clocks, Message, Order, filled};
 
 /// The trace of a log: the data of its events and their order, batch by batch.
 ///

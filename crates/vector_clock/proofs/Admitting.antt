@@ -4,7 +4,7 @@ use Rattle.std.specs.Prelude.{◌==◌, true, Option, None, Some, Result, Ok, Er
 use Rattle.std.proofs.lemmas.Bool.{eqb-true}
 use Rattle.std.specs.List.{AllByRecursion}
 use Rattle.std.proofs.lemmas.List.{drop_more, drop_all, length-replicate}
-use Rattle.log_lines.specs.Reading.{choose}
+use Rattle.event_log.specs.PassedOn.{choose}
 use Rattle.event_log.specs.declared.log.Event.{Event}
 use Rattle.event_log.specs.declared.log.Log.{Log}
 use Rattle.event_log.specs.declared.item.LogFault.{LogFault}

@@ -4,7 +4,7 @@ use Rattle.std.specs.Prelude.{Option, None, Some}
 use Rattle.std.specs.List.{AllByRecursion}
 use Rattle.std.proofs.lemmas.Bool.{cases_eq}
 use Rattle.std.proofs.lemmas.List.{length-set, take-append-drop, take_all, drop_all, drop_more, take_more, map-set, get_or-set_same, get_or-set_other}
-use Rattle.log_lines.specs.Reading.{choose}
+use Rattle.event_log.specs.PassedOn.{choose}
 use Rattle.event_log.specs.declared.log.Event.{Event}
 use Rattle.event_log.specs.declared.item.LogCode.{LogCode}
 use Rattle.event_log.specs.States.{with_event, with_batch}

@@ -26,3 +26,4 @@ pub mod Readers
 pub mod CountLaws
 pub mod Turned
 pub mod FillLaws
+pub mod PassedOn

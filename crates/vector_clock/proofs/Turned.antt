@@ -6,7 +6,7 @@ use Rattle.std.specs.List.{AllByRecursion}
 use Rattle.std.proofs.lemmas.Option.{same_Some}
 use Rattle.std.proofs.lemmas.Bool.{cases_Bool, cases_eq, cond-true, cond-false, and_from, lt-ltb, le-leb}
 use Rattle.std.proofs.lemmas.List.{length-set, get_or_append_left, get_or-append-add}
-use Rattle.log_lines.specs.Reading.{choose}
+use Rattle.event_log.specs.PassedOn.{choose}
 use Rattle.event_log.specs.declared.log.Event.{Event}
 use Rattle.event_log.specs.declared.log.Kind.{Kind}
 use Rattle.event_log.specs.declared.log.Kind.TheVariants as kind

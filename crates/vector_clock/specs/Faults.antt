@@ -1,7 +1,7 @@
 -- The first fault of the clocks and messages of a batch.
 use Rattle.std.specs.Prelude.{ℕ, ◌-◌, Bool, false, not, ◌&&◌, ◌||◌, ◌==◌, nat_lt, nat_le, List, []}
 use Rattle.std.specs.Prelude.{◌∷◌, length, Option, None, Some, is_some, if◌then◌else◌}
-use Rattle.log_lines.specs.Reading.{choose}
+use Rattle.event_log.specs.PassedOn.{choose}
 use Rattle.run_model.specs.Cut.{Cut, Clocks, count, lengths}
 use Rattle.run_model.specs.Consistent as order
 use Rattle.event_log.specs.declared.item.LogCode.{LogCode}

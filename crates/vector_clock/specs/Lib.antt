@@ -11,3 +11,4 @@ pub mod Admitted
 pub mod Faultless
 pub mod Laws
 pub mod inside
+pub mod PassedOn

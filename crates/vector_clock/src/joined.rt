@@ -2,7 +2,7 @@
 ghost use Rattle.std.specs.Prelude.{◌≡◌, ℕ, ◌-◌, ◌<◌, ◌≤◌, ◌==◌, ◌&&◌, not, nat_lt, [], length};
 ghost use Rattle.std.specs.Prelude.{get_or, IfOk, IsTrue, None};
 ghost use Rattle.std.specs.List.{AllByRecursion};
-ghost use Rattle.log_lines.specs.Reading.{choose};
+ghost use Rattle.event_log.specs.PassedOn.{choose};
 ghost use Rattle.run_model.specs.Cut.{count, IsWithin, lengths};
 ghost use Rattle.run_model.specs.Consistent.{clock};
 ghost use Rattle.event_log.specs.LogText.{KindWithin};

@@ -30,6 +30,7 @@ mod messages;
 mod nodes;
 mod places;
 
+pub use causal_order::Order;
 pub use clocks::Clocks;
 pub use laws::{
     each_has_one_clock, faultless_is_a_run, no_fault_is_a_run, no_fault_is_an_order,

@@ -7,7 +7,7 @@ ghost use Rattle.run_model.specs.Cut.{count};
 ghost use Rattle.event_log.specs.declared.item.LogCode.TheVariants.{MessageTwice, ReceiveUnsent};
 ghost use Rattle.event_log.specs.declared.item.LogCode.TheVariants.{ReceiveEarly};
 ghost use Rattle.event_log.specs.LogText.{KindWithin};
-ghost use Rattle.log_lines.specs.Reading.{choose};
+ghost use Rattle.event_log.specs.PassedOn.{choose};
 ghost use Rattle.vector_clock.specs.Events.{Events, EventFits, no_events, place as place_of};
 ghost use Rattle.vector_clock.specs.inside.Events.{raised};
 ghost use Rattle.vector_clock.specs.Faults.{message_fault as fault_of_message};

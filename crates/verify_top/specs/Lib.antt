@@ -1,3 +1,4 @@
 pub mod Asking
 pub mod Verifying
 pub mod Exactness
+pub mod PassedOn

@@ -7,8 +7,8 @@ use Rattle.run_model.specs.Cut.{Cut, Clocks, count, IsWithin, lengths, initial}
 use Rattle.run_model.specs.Consistent.{clock, IsEvent, IsOrder, IsConsistent, HappenedBefore}
 use Rattle.run_model.proofs.Counts.{count_past, within_both, within_trans, total, total_within, total_below, length-lengths, count-initial, search_below}
 use Rattle.run_model.proofs.Orders.{initial_consistent, final_consistent, has_past}
-use Rattle.run_model.proofs.Climb.{next_exists}
-use Rattle.run_model.proofs.OperatorLemmas.{Below, below_climbable, below_apart}
+use Rattle.meaning_laws.proofs.Climb.{next_exists}
+use Rattle.meaning_laws.proofs.OperatorLemmas.{Below, below_climbable, below_apart}
 use Rattle.causal_order.proofs.Orders.{HasLast, has_last, all_last, is_before, next_others, next_consistent}
 use Rattle.std.proofs.lemmas.List.Sums.{sum_by-cons}
 use Rattle.event_log.proofs.Keeping.{item_le_sum}

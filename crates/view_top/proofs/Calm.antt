@@ -19,6 +19,8 @@ module _ (lf lf' : ℕ) (asked : View) (e : End) (input : List ℕ) (held held' 
   calm_by fault.Usage written calm (inl x) = absurd x.1
   calm_by fault.Usage written calm (inr x) = calm (ended x.1)
   calm_by (fault.Log f) written calm x = tt
+  calm_by fault.NoReport written calm (inl x) = calm (ended x.1.0)
+  calm_by fault.NoReport written calm (inr x) = calm (ended x.1)
   calm_by (fault.Report f) written calm (inl x) = calm (ended x.1.0)
   calm_by (fault.Report f) written calm (inr x) = calm (ended x.1)
   calm_by fault.TooLong written calm (inl x) = calm (done x.1.0)

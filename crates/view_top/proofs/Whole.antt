@@ -172,9 +172,18 @@ module _ (reader : Reader) (kept : LogTrace) (input rest : List ℕ) (h : HasRea
       pub no_report : (e : End) (f : Fault) → e ≡ end.Ended → NoReportIn trace.states rest f → NoViewIn e input f
       no_report e fault.Usage ended why = why
       no_report e (fault.Log f) ended why = absurd why
+      no_report e fault.NoReport ended why = (
+        ended,
+        record { states = trace.states; log = has_log; nothing = sym h.rest_is ∙ why },
+      )
       no_report e (fault.Report f) ended why = (
         ended,
-        record { states = trace.states; log = has_log; fault = subst (λ (t : List ℕ). IsFaultIn t f.line) h.rest_is why },
+        record {
+          states = trace.states;
+          log = has_log;
+          something = λ nothing. why.0 (h.rest_is ∙ nothing);
+          fault = subst (λ (t : List ℕ). IsFaultIn t f.line) h.rest_is why.1;
+        },
       )
       no_report e fault.TooLong ended why = absurd why
       no_report e fault.OtherLog ended why = (
@@ -201,6 +210,7 @@ module _ (reader : Reader) (kept : LogTrace) (input rest : List ℕ) (h : HasRea
 pub log_stops : (e : End) (input : List ℕ) (f : Fault) → StopsInLog input f → NoViewIn e input f
 log_stops e input fault.Usage why = why
 log_stops e input (fault.Log f) why = (false, λ no. absurd (false≢true no), why false)
+log_stops e input fault.NoReport why = absurd why
 log_stops e input (fault.Report f) why = absurd why
 log_stops e input fault.TooLong why = absurd why
 log_stops e input fault.OtherLog why = absurd why

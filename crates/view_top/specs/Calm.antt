@@ -9,6 +9,7 @@ abbrev pub IsCalm : (lf lf' : ℕ) → Option Fault → Type 0
 IsCalm lf lf' None = lf' ≡ lf
 IsCalm lf lf' (Some fault.Usage) = lf' ≡ lf
 IsCalm lf lf' (Some (fault.Log f)) = Unit {0}
+IsCalm lf lf' (Some fault.NoReport) = lf' ≡ lf
 IsCalm lf lf' (Some (fault.Report f)) = lf' ≡ lf
 IsCalm lf lf' (Some fault.TooLong) = lf' ≡ lf
 IsCalm lf lf' (Some fault.OtherLog) = lf' ≡ lf

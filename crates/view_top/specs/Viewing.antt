@@ -63,10 +63,17 @@ pub record IsViewIn (asked : View) (input shown : List ℕ) : Type 0 where
 abbrev pub most_bytes : ℕ
 most_bytes = 1073741824
 
+-- nothing stands behind the log
+pub record LacksReport (input : List ℕ) : Type 0 where
+  pub states : StatesView
+  pub log : HasLog input states
+  pub nothing : report_in input ≡ []
+
 -- what stands behind the log is no report, at this line
 pub record HasNoReport (input : List ℕ) (line : ℕ) : Type 0 where
   pub states : StatesView
   pub log : HasLog input states
+  pub something : report_in input ≡ [] → ⊥
   pub fault : IsFaultIn (report_in input) line
 
 -- the report that stands behind the log is none of it
@@ -97,6 +104,8 @@ Says (Some fault.Usage) left lf lf' of of' words read written =
 Says (Some (fault.Log f)) left lf lf' of of' words read written =
     (written ≡ []) × (ended : Bool) × (ended ≡ true → IsAtEnd left)
     × ((log_due ended read).fault ≡ Some (refusal.Log f))
+Says (Some fault.NoReport) left lf lf' of of' words read written =
+    (written ≡ []) × IsAtEnd left × LacksReport read
 Says (Some (fault.Report f)) left lf lf' of of' words read written =
     (written ≡ []) × IsAtEnd left × HasNoReport read f.line
 Says (Some fault.TooLong) left lf lf' of of' words read written =

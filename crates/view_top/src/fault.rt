@@ -12,6 +12,8 @@ pub enum Fault {
     Usage,
     /// The log is faulty.
     Log(LogFault),
+    /// Nothing stands behind the log, as where the formula of the report was refused.
+    NoReport,
     /// What stands behind the log is no report.
     Report(ReportFault),
     /// The input has 1 GiB or more.
@@ -37,7 +39,7 @@ impl Fault {
             Fault::Read => 5,
             Fault::Write => 6,
             Fault::Memory => 7,
-            Fault::Report(_) | Fault::TooLong => 8,
+            Fault::NoReport | Fault::Report(_) | Fault::TooLong => 8,
             Fault::OtherLog => 10,
         }
     }

@@ -56,6 +56,7 @@ pub fn tell<D: Sink>(diag: &mut D, fault: &Fault)
     match fault {
         Fault::Usage => put(diag, b"pota_view: usage: pota_view text or pota_view svg\n"),
         Fault::Log(fault) => put_shared(diag, Shared::Log(*fault)),
+        Fault::NoReport => put(diag, b"pota_view: no report behind the log\n"),
         Fault::Report(fault) => put_report_line(diag, fault.line),
         Fault::TooLong => put(diag, b"pota_view: input too long\n"),
         Fault::OtherLog => put(diag, b"pota_view: report of another log\n"),

@@ -42,6 +42,9 @@ fn report_of(alloc: Global, trace: &Trace, text: &[u8]) -> Result<Report, Fault>
     ensures { MatchResult result (IsReportIn trace.now.states text.now)
         (NoReportIn trace.now.states text.now) }
 {
+    if text.is_empty() {
+        return Err(Fault::NoReport);
+    }
     let report = match read_report(alloc, text) {
         Ok(report) => report,
         Err(Refused::Fault(fault)) => return Err(Fault::Report(fault)),

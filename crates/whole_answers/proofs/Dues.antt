@@ -14,7 +14,7 @@ use Rattle.log_rules.specs.Readings.{items_at_end}
 use Rattle.log_rules.specs.Due.{Due, whole_of, placed, fault_in, fault_alone, told}
 use Rattle.log_rules.proofs.WholeReadings.{before_the_end, with_a_fault, one_report}
 use Rattle.log_rules.specs.Reported.{listed, reported}
-use Rattle.reported_log.specs.Aims.{Aim, rules_of}
+use Rattle.log_answers.specs.PassedOn.{Aim, rules_of}
 use Rattle.log_answers.specs.declared.stop.StopCause.{StopCause}
 use Rattle.log_answers.specs.declared.stop.StopCause.TheVariants as causes
 use Rattle.log_answers.specs.declared.stop.Stop.{Stop}

@@ -1,8 +1,8 @@
 //! The check of an input once it was read.
 ghost use Rattle.std.specs.Prelude.{◌≡◌, Bool, false};
 ghost use Rattle.log_rules.specs.Judgement.{waiting};
-ghost use Rattle.reported_log.specs.Aims.{Aim, said_by};
-ghost use Rattle.reported_log.specs.Checking.{IsCheckOf};
+ghost use Rattle.log_answers.specs.PassedOn.{Aim, said_by};
+ghost use Rattle.log_answers.specs.PassedOn.{IsCheckOf};
 ghost use Rattle.log_answers.specs.Calm.{IsCalmUnlessRead};
 ghost use Rattle.log_answers.specs.Inputs.{HasCheckedBy};
 ghost use Rattle.form_readings.specs.Clocks.{clocks_reading};

@@ -14,7 +14,7 @@ use Rattle.run_model.specs.Meaning.{Family}
 use Rattle.run_model.specs.Witness as model
 use Rattle.run_model.specs.Witness.{WitnessOperator, AlwaysGlobally, ExistsNext, IsPartOf, HasFirst, Place, IsPlace, row_at, Departs, FirstSteps, IsCanonical, IsOfKind}
 use Rattle.run_model.proofs.Counts.{length-lengths, length-initial, length-with_next, count-initial, initial_within, with_next_same, with_next_least}
-use Rattle.run_model.proofs.WitnessLemmas.{canonical_is_of_kind}
+use Rattle.meaning_laws.proofs.WitnessLemmas.{canonical_is_of_kind}
 use Rattle.pota_base.specs.declared.shape.EventId.{EventId}
 use Rattle.pota_base.specs.Shape.{HasEvent}
 use Rattle.run_model.proofs.Orders.{has_process}

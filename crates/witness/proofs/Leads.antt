@@ -10,9 +10,9 @@ use Rattle.run_model.specs.Slice.{Slice, HasWithin, Cuts, Fits, cut_of}
 use Rattle.run_model.specs.Operators.{HasPairs}
 use Rattle.run_model.specs.Witness.{Place, FirstSteps, IsPlace, IsBefore, row_at}
 use Rattle.run_model.proofs.Counts.{count-max, length-max, within_both, max_left, max_right, max_within, length-with_next, with_next_same, with_next_above, with_next_least, total, total_next, total_within, length-lengths, count-initial, length-initial}
-use Rattle.run_model.proofs.Climb.{IsClimbable, Apart, next_exists, reached}
+use Rattle.meaning_laws.proofs.Climb.{IsClimbable, Apart, next_exists, reached}
 use Rattle.run_model.proofs.SliceLemmas.{least_there, cuts_closed}
-use Rattle.run_model.proofs.OperatorLemmas.{Below, below_climbable, below_apart, set_climbable, pairs_apart}
+use Rattle.meaning_laws.proofs.OperatorLemmas.{Below, below_climbable, below_apart, set_climbable, pairs_apart}
 use Rattle.pota_base.specs.declared.shape.EventId.{EventId}
 use Rattle.event_log.proofs.Keeping.{item_le_sum}
 use Rattle.slice_graph.specs.Views.{SliceView, slice_of, last_row}

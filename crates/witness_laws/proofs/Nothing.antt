@@ -9,7 +9,7 @@ use Rattle.run_model.specs.Formula.{Ef, Ag, Eg, Af, Ax, Formula, Truth, Comparis
 use Rattle.run_model.specs.Meaning.{Sat}
 use Rattle.run_model.specs.Witness.{Witness, PathTo, Place, Nothing, StepsIn, is_temporal, IsOfKind}
 use Rattle.run_model.specs.Witness as W
-use Rattle.run_model.proofs.WitnessLemmas.{cuts_along, steps_are_path}
+use Rattle.meaning_laws.proofs.WitnessLemmas.{cuts_along, steps_are_path}
 
 last_of_all : (A B : Cut → Type 0) (c : Cut) (es : List Cut) (d : Cut) → PathIn A c es d → AllIn B c es → B d
 last_of_all A B c [] d p h = subst B p.1 h

@@ -8,8 +8,8 @@ use Rattle.event_log.specs.LogText.{onto}
 use Rattle.event_log.specs.Reader.{HasRead}
 use Rattle.fault_kinds.specs.declared.refusal.Refusal.{Refusal}
 use Rattle.log_rules.specs.Readings.{log_reading}
-use Rattle.reported_log.specs.Aims.{Says, Aim}
-use Rattle.reported_log.specs.declared.reported.ReportedLog.{ReportedLog}
+use Rattle.log_answers.specs.PassedOn.{Says, Aim}
+use Rattle.log_answers.specs.PassedOn.{ReportedLog}
 use Rattle.log_answers.specs.declared.stop.StopCause.TheVariants as causes
 use Rattle.log_answers.specs.declared.stop.Stop.{Stop}
 use Rattle.batch_answers.specs.declared.reading.Turn.{Turn}

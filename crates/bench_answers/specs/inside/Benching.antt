@@ -7,7 +7,7 @@ use Rattle.command_words.specs.declared.request.Sizes.{Sizes}
 use Rattle.run_report.specs.Benches.{IsSummaryOf}
 use Rattle.fault_kinds.specs.declared.refusal.Refusal.TheVariants as refusal
 use Rattle.log_rules.specs.WholeLogs.{all_of}
-use Rattle.reported_log.specs.Aims.{Aim, asked_of, unknown_name, IsTrueSoFar}
+use Rattle.batch_answers.specs.PassedOn.{Aim, asked_of, unknown_name, IsTrueSoFar}
 use Rattle.log_answers.specs.declared.stop.StopCause.{StopCause}
 use Rattle.log_answers.specs.declared.stop.StopCause.TheVariants as causes
 use Rattle.log_answers.specs.declared.stop.Stop.{Stop}

@@ -19,9 +19,9 @@ use Rattle.log_rules.specs.SoFar.{counted}
 use Rattle.stated_formula.specs.declared.formula.Stated.{Stated}
 use Rattle.log_rules.specs.Judgement.{Prefix}
 use Rattle.log_rules.specs.Readings.{log_reading}
-use Rattle.reported_log.specs.Aims.{Aim, aim_of}
-use Rattle.log_check.specs.Checked.{observed_alone}
-use Rattle.log_check.specs.declared.checked.CheckedLog.{CheckedLog}
+use Rattle.batch_answers.specs.PassedOn.{Aim, aim_of}
+use Rattle.batch_answers.specs.PassedOn.{observed_alone}
+use Rattle.batch_answers.specs.PassedOn.{CheckedLog}
 use Rattle.certify.specs.Certifying.{HasFront, IsCertifying}
 use Rattle.log_answers.specs.declared.stop.StopCause.{StopCause}
 use Rattle.log_answers.specs.declared.stop.StopCause.TheVariants as causes

@@ -6,8 +6,8 @@ use Rattle.pota_base.specs.Outside.{IsPrefix, Rose}
 use Rattle.certificate_lines.specs.declared.line.Line.{Line}
 use Rattle.certificate_lines.specs.Spelling.{lines_text}
 use Rattle.certificate_text.specs.Running.{certificate_lines}
-use Rattle.certified_nodes.specs.Nodes.{NodesView, AreNodes}
-use Rattle.canonical_text.specs.Canonical.{IsWhole}
+use Rattle.canonical_nodes.specs.PassedOn.{NodesView, AreNodes}
+use Rattle.canonical_nodes.specs.PassedOn.{IsWhole}
 
 -- the text of a certificate of these lines
 abbrev pub text_of : List ℕ → List Line → List ℕ

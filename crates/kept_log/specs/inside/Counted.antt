@@ -6,7 +6,7 @@ use Rattle.event_log.specs.declared.log.Kind.TheVariants as kind
 use Rattle.event_log.specs.declared.log.Event.{Event}
 use Rattle.kept_log.specs.declared.numbers.Numbers.{Numbers}
 use Rattle.kept_log.specs.declared.counts.Row.{Row}
-use Rattle.kept_log.specs.inside.Numbered.{is_kept, is_open}
+use Rattle.kept_log.specs.inside.Numbered.{is_kept, is_open, assigns_by}
 
 -- ---- the counts
 
@@ -55,6 +55,7 @@ event_by numbers counts e =
     record e {
       clock = clock_by counts 0 e.clock;
       kind = if is_open numbers e then e.kind else kind.Internal;
+      assigns = assigns_by numbers e.process e.assigns;
     }
 
 abbrev pub events_by : Numbers → List (List ℕ) → List Event → List Event

@@ -4,7 +4,7 @@ use Rattle.std.specs.Io.KnownBytes.{Appends, Consumes, IsAtEnd}
 use Rattle.pota_base.specs.Limits.{longest_log}
 use Rattle.pota_base.specs.Outside.{Rose, IsPrefix}
 use Rattle.event_log.specs.declared.log.Log.{Log}
-use Rattle.event_log.specs.LogText.{onto, log_items, log_text}
+use Rattle.event_log.specs.LogText.{onto, log_items}
 use Rattle.event_log.specs.Faults.{fault_of, items_in}
 use Rattle.event_log.specs.Reader.{HasRead}
 use Rattle.event_log.specs.declared.reader.Reader.{Reader}
@@ -23,7 +23,8 @@ use Rattle.log_rules.specs.Judgement.{Prefix, judged, waiting}
 use Rattle.log_trace.specs.Judging.{IsRefused, without_formula}
 use Rattle.one_log.specs.declared.asking.Form.TheVariants as form
 use Rattle.log_rules.specs.WholeLogs.{all_of}
-use Rattle.log_writing.specs.Spelling.{HasText}
+use Rattle.kept_log.specs.Keeping.{CanBeKept}
+use Rattle.kept_log.specs.Unknown.{unknown_word}
 use Rattle.one_log.specs.declared.asking.Form.{Form}
 use Rattle.one_log.specs.declared.asking.Asked.{Asked}
 use Rattle.one_log.specs.declared.fault.Fault.{Fault}
@@ -32,22 +33,22 @@ use Rattle.one_log.specs.declared.places.Places.{Places}
 use Rattle.one_log.specs.declared.places.Places.TheVariants.{Lines, Origins}
 use Rattle.one_log.specs.declared.reading.Input.{Input}
 use Rattle.one_log.specs.declared.reading.Input.TheVariants.{Whole, Faulty, Failed}
-use Rattle.one_log.specs.Logging.{log_due, HasLog, one_log}
+use Rattle.one_log.specs.Logging.{log_due, HasLog, asked_text}
 
 -- the place of a fault of the log
 abbrev pub place_by : Places → LogFault → Refusal
 place_by Lines f = refusal.Log f
 place_by (Origins origins) f = refusal.Merge (fault_at (origin_at origins f.line) f)
 
--- the log of the bytes, all its clocks filled in, which has a text
+-- the log of the bytes, all its clocks filled in, which can be kept
 pub record IsFilled (form : Form) (bytes : List ℕ) (log : Log) : Type 0 where
   pub has : HasLog form bytes (all_of log)
-  pub text : HasText log
+  pub can : CanBeKept log
 
 -- a log of one batch was judged without a formula
 abbrev pub IsJudged : Log → Places → Input → Type 0
 IsJudged log places (Whole l) =
-    (whole_of (judged without_formula waiting (log_items log)) ≡ Some (all_of l)) × HasText l
+    (whole_of (judged without_formula waiting (log_items log)) ≡ Some (all_of l)) × CanBeKept l
 IsJudged log places (Faulty r) = (f : LogFault)
     × IsRefused (judged without_formula waiting (log_items log)) f × (r ≡ place_by places f)
 IsJudged log places Failed = ⊥
@@ -98,25 +99,29 @@ pub record HasStood (form : Form) (s : Change) (input : Input) : Type 0 where
 
 -- ---- what is written of it
 
--- the text of the log that is asked for, which can be read
-pub record IsTextFor (asked : Asked) (log : Prefix) (text : List ℕ) : Type 0 where
-  pub text_is : text ≡ log_text (one_log asked.one_batch log)
+-- the text of the log that is asked for, which can be read and has all that is named
+pub record IsTextFor (words : List (List ℕ)) (asked : Asked) (log : Prefix) (text : List ℕ)
+    : Type 0 where
+  pub text_is : text ≡ asked_text asked log
   pub short : length text ≤ longest_log
+  pub known : unknown_word log.header words ≡ None
 
 -- the text of the log that is asked for was written, or a front of it, or nothing
-abbrev pub PutsTo : Asked → Prefix → (of of' : ℕ) → List ℕ → Option Fault → Type 0
-PutsTo asked log of of' written None = IsTextFor asked log written
-PutsTo asked log of of' written (Some fault.Usage) = ⊥
-PutsTo asked log of of' written (Some (fault.Refused r)) = ⊥
-PutsTo asked log of of' written (Some fault.TooLong) =
-    (written ≡ []) × (longest_log < length (log_text (one_log asked.one_batch log)))
-PutsTo asked log of of' written (Some fault.Read) = ⊥
-PutsTo asked log of of' written (Some fault.Write) =
-    (text : List ℕ) × IsTextFor asked log text × IsPrefix written text × Rose of of'
-PutsTo asked log of of' written (Some fault.Memory) = written ≡ []
+abbrev pub PutsTo : List (List ℕ) → Asked → Prefix → (of of' : ℕ) → List ℕ → Option Fault → Type 0
+PutsTo words asked log of of' written None = IsTextFor words asked log written
+PutsTo words asked log of of' written (Some fault.Usage) = ⊥
+PutsTo words asked log of of' written (Some (fault.Unknown place)) =
+    (written ≡ []) × (unknown_word log.header words ≡ Some place)
+PutsTo words asked log of of' written (Some (fault.Refused r)) = ⊥
+PutsTo words asked log of of' written (Some fault.TooLong) = (written ≡ [])
+    × (longest_log < length (asked_text asked log)) × (unknown_word log.header words ≡ None)
+PutsTo words asked log of of' written (Some fault.Read) = ⊥
+PutsTo words asked log of of' written (Some fault.Write) =
+    (text : List ℕ) × IsTextFor words asked log text × IsPrefix written text × Rose of of'
+PutsTo words asked log of of' written (Some fault.Memory) = written ≡ []
 
-pub record PutsLog (asked : Asked) (log : Prefix) (held held' : Option (List ℕ)) (of of' : ℕ)
-    (fault : Option Fault) : Type 0 where
+pub record PutsLog (words : List (List ℕ)) (asked : Asked) (log : Prefix)
+    (held held' : Option (List ℕ)) (of of' : ℕ) (fault : Option Fault) : Type 0 where
   pub written : List ℕ
   pub wrote : Appends held held' written
-  pub to : PutsTo asked log of of' written fault
+  pub to : PutsTo words asked log of of' written fault

@@ -3,7 +3,7 @@ use Rattle.std.specs.Prelude.{◌<◌, List, length}
 use Rattle.std.specs.List.{AllByRecursion}
 use Rattle.pota_base.specs.declared.shape.EventId.{EventId}
 use Rattle.log_lines.specs.Names.{Name}
-use Rattle.slice_graph.specs.declared.edges.Edge.{Edge}
+use Rattle.report_lines.specs.PassedOn.{Edge}
 use Rattle.report_lines.specs.declared.kinds.WitnessText.{WitnessText}
 use Rattle.report_lines.specs.Spelling.{IsNamed}
 use Rattle.report_lines.specs.Reading.{steps_of}

@@ -5,7 +5,7 @@ use Rattle.std.specs.Prelude.{List, [], ◌∷◌, ◌++◌, length, map, take, 
 use Rattle.std.specs.Prelude.{Some}
 use Rattle.std.specs.Prelude.{if◌then◌else◌}
 use Rattle.std.specs.Option.{option_map}
-use Rattle.log_lines.specs.Reading.{choose}
+use Rattle.event_log.specs.PassedOn.{choose}
 use Rattle.run_model.specs.Cut.{Cut, Clocks, count}
 use Rattle.run_model.specs.Consistent.{clock}
 use Rattle.pota_base.specs.Shape.{HasEvent}

@@ -19,8 +19,8 @@ use Rattle.view_top.specs.declared.fault.Fault.{Fault}
 use Rattle.view_top.specs.declared.fault.Fault.TheVariants as fault
 use Rattle.log_trace.specs.declared.trace.LogTrace.{LogTrace}
 use Rattle.log_trace.specs.Judging.{without_formula, Keeps}
-use Rattle.view_top.specs.Viewing.{report_in, log_in, log_due, IsViewOf, IsViewIn, HasNoReport}
-use Rattle.view_top.specs.Viewing.{HasOtherReport}
+use Rattle.view_top.specs.Viewing.{report_in, log_in, log_due, IsViewOf, IsViewIn, LacksReport}
+use Rattle.view_top.specs.Viewing.{HasNoReport, HasOtherReport}
 
 -- ---- the log
 
@@ -36,6 +36,7 @@ abbrev pub StopsInLog : List ℕ → Fault → Type 0
 StopsInLog input fault.Usage = ⊥
 StopsInLog input (fault.Log f) =
     (ended : Bool) → (log_due ended input).fault ≡ Some (refusal.Log f)
+StopsInLog input fault.NoReport = ⊥
 StopsInLog input (fault.Report f) = ⊥
 StopsInLog input fault.TooLong = ⊥
 StopsInLog input fault.OtherLog = ⊥
@@ -60,7 +61,8 @@ pub record IsViewBehind (asked : View) (s : StatesView) (text shown : List ℕ) 
 abbrev pub NoReportIn : StatesView → List ℕ → Fault → Type 0
 NoReportIn s text fault.Usage = ⊥
 NoReportIn s text (fault.Log f) = ⊥
-NoReportIn s text (fault.Report f) = IsFaultIn text f.line
+NoReportIn s text fault.NoReport = text ≡ []
+NoReportIn s text (fault.Report f) = (text ≡ [] → ⊥) × IsFaultIn text f.line
 NoReportIn s text fault.TooLong = ⊥
 NoReportIn s text fault.OtherLog =
     (r : Report) × IsTextOf text r × (IsReportOf s r → ⊥)
@@ -76,6 +78,7 @@ NoViewIn e input fault.Usage = ⊥
 NoViewIn e input (fault.Log f) =
     (ended : Bool) × (ended ≡ true → e ≡ end.Ended)
     × ((log_due ended input).fault ≡ Some (refusal.Log f))
+NoViewIn e input fault.NoReport = (e ≡ end.Ended) × LacksReport input
 NoViewIn e input (fault.Report f) = (e ≡ end.Ended) × HasNoReport input f.line
 NoViewIn e input fault.TooLong = (e ≡ end.Done) × ((log_due false input).fault ≡ None)
 NoViewIn e input fault.OtherLog = (e ≡ end.Ended) × HasOtherReport input

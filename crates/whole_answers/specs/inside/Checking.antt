@@ -5,7 +5,7 @@ use Rattle.pota_base.specs.declared.fault.NoMemory.{NoMemory}
 use Rattle.event_log.specs.declared.log.Log.{Log}
 use Rattle.event_log.specs.FittingItems.{FitFirst}
 use Rattle.event_log.specs.LogText.{log_items}
-use Rattle.reported_log.specs.Aims.{Aim}
+use Rattle.log_answers.specs.PassedOn.{Aim}
 use Rattle.log_answers.specs.declared.stop.StopCause.{StopCause}
 use Rattle.log_answers.specs.declared.stop.StopCause.TheVariants as causes
 use Rattle.log_answers.specs.declared.stop.Stop.{Stop}

@@ -1,13 +1,25 @@
+use Rattle.std.proofs.Common.{refl}
 use Rattle.std.proofs.lemmas.Result.{IfOk-weaker}
-use Rattle.certificate_input.proofs.TellingLaws.{taken_front, refused_front}
+use Rattle.certificate_input.proofs.TellingLaws.{front_leads, tells_end, tells_failed}
 use Rattle.certificate_input.proofs.reading.read_certificate.Goals as goal
 
-pub returns-in-Ok-Some-clause-tells : goal.returns-in-Ok-Some-clause-tells
-returns-in-Ok-Some-clause-tells g c =
-    refused_front g.N.Said.follows c.args.verifier c.new-input.result c.args.front.now c.new-input.ensures (g.S.Source.left c.args.source.now) (g.S.Source.faults c.args.source.now) c.take.new.self c.in-Ok-Some.line
-    c.in-Ok-Some.field-0 c.in-Ok-Some.field-0-is c.in-Ok-Some.ensures
+pub read_for-requires : goal.read_for-requires
+read_for-requires g c = (
+  c.args.verifier,
+  c.args.front.now,
+  (front_leads g.N.Said.follows c.args.verifier c.new-input.result c.take.new.self c.args.front.now c.in_ok-line.field-0 c.new-input.ensures c.requires c.in_default.is c.in_ok-line.ensures, refl),
+)
+
+pub returns-in-Ended-clause-tells : goal.returns-in-Ended-clause-tells
+returns-in-Ended-clause-tells g c =
+    let leads = front_leads g.N.Said.follows c.args.verifier c.new-input.result c.take.new.self c.args.front.now c.in_ok-line.field-0 c.new-input.ensures c.requires c.in_default.is c.in_ok-line.ensures in
+    let all = c.in_ok-read_for.ensures.reads c.args.verifier c.args.front.now (leads, refl) in
+    IfOk-weaker c.finish.result _ _ (λ t is. tells_end g.N.Said.follows c.args.verifier (g.S.Source.left c.args.source.now) (g.S.Source.left c.read_for.new.source) (g.S.Source.faults c.args.source.now)
+    (g.S.Source.faults c.read_for.new.source) c.args.front.now c.read_for.new.intake.input c.read_for.new.intake.refused c.in_ok-read_for.field-0 t c.in-Ended.is all is) c.finish.ensures
 
 pub returns-clause-tells : goal.returns-clause-tells
 returns-clause-tells g c =
-    IfOk-weaker c.read_on.result _ _ (λ t h. taken_front g.N.Said.follows c.args.verifier c.new-input.result c.args.front.now c.new-input.ensures (g.S.Source.left c.args.source.now) (g.S.Source.left c.read_on.new.source)
-    (g.S.Source.faults c.args.source.now) (g.S.Source.faults c.read_on.new.source) c.take.new.self c.in-Ok-None.field-0 t c.in-Ok-None.field-0-is c.in-Ok-None.ensures h) c.read_on.ensures.tells
+    let leads = front_leads g.N.Said.follows c.args.verifier c.new-input.result c.take.new.self c.args.front.now c.in_ok-line.field-0 c.new-input.ensures c.requires c.in_default.is c.in_ok-line.ensures in
+    let all = c.in_ok-read_for.ensures.reads c.args.verifier c.args.front.now (leads, refl) in
+    tells_failed g.N.Said.follows c.args.verifier (g.S.Source.left c.args.source.now) (g.S.Source.left c.read_for.new.source) (g.S.Source.faults c.args.source.now)
+    (g.S.Source.faults c.read_for.new.source) c.args.front.now c.read_for.new.intake.input c.read_for.new.intake.refused c.in_ok-read_for.field-0 c.in-Failed.is all

@@ -1,56 +1,8 @@
-use Rattle.std.proofs.Common.{◌≡◌, ◌++◌, refl, ◌∙◌, ap, Ok, arith}
-use Rattle.input_reading.proofs.ReadingLaws.{nothing_yet, goes_on, nearer, read_to, short_behind}
-use Rattle.input_reading.specs.declared.reading.End.TheVariants as end
+use Rattle.std.proofs.lemmas.Result.{IfOk-weaker}
 use Rattle.input_reading.proofs.reading.read_all.Goals as goal
 
-pub turns-init : goal.turns-init
-turns-init g c = record {
-  calm = refl;
-  room = omega (arith, c.as_mut_slice-room.ensures.len, c.in_ok-buffer.ensures.len);
-  so_far = λ bytes open_. nothing_yet (g.S.Source.left c.args.source.now) (g.S.Source.faults c.args.source.now) (g.I.Intake.open_ c.args.intake.now) bytes open_;
-}
+pub read_for-requires : goal.read_for-requires
+read_for-requires g c = (tt, c.requires.0, c.requires.1)
 
-pub take_turn-requires-clause-at : goal.take_turn-requires-clause-at
-take_turn-requires-clause-at g c =
-    let so = c.turns.invariant.so_far c.requires.0 c.requires.1 in
-    (c.requires.0 ++ so.read, so.open_)
-
-pub turns-smaller : goal.turns-smaller
-turns-smaller g c =
-    let so = c.turns.invariant.so_far c.requires.0 c.requires.1 in
-    nearer (g.S.Source.left c.args.source.now) (g.S.Source.left c.turns.source) (g.S.Source.left c.take_turn.new.source) (g.S.Source.faults c.args.source.now) (g.S.Source.faults c.turns.source) (g.S.Source.faults c.take_turn.new.source)
-    (g.I.Intake.open_ c.turns.intake) (g.I.Intake.open_ c.take_turn.new.intake) (g.I.Intake.done c.take_turn.new.intake) (g.I.Intake.room c.turns.intake) (g.I.Intake.room c.take_turn.new.intake)
-    c.requires.0 so c.in-Ok-None.field-0 c.in-Ok-None.field-0-is (c.in-Ok-None.ensures.turn (c.requires.0 ++ so.read) so.open_)
-
-pub turns-preserved : goal.turns-preserved
-turns-preserved g c = record {
-  calm = c.in-Ok-None.ensures.calm (λ e. cc) ∙ c.turns.invariant.calm;
-  room = omega (arith, c.turns.invariant.room, c.take_turn.auto.room);
-  so_far = λ bytes open_.
-      let so = c.turns.invariant.so_far bytes open_ in
-      goes_on (g.S.Source.left c.args.source.now) (g.S.Source.left c.turns.source) (g.S.Source.left c.take_turn.new.source) (g.S.Source.faults c.args.source.now) (g.S.Source.faults c.turns.source) (g.S.Source.faults c.take_turn.new.source)
-      (g.I.Intake.open_ c.turns.intake) (g.I.Intake.open_ c.take_turn.new.intake) (g.I.Intake.done c.take_turn.new.intake) (g.I.Intake.room c.turns.intake) (g.I.Intake.room c.take_turn.new.intake)
-      bytes so c.in-Ok-None.field-0 c.in-Ok-None.field-0-is (c.in-Ok-None.ensures.turn (bytes ++ so.read) so.open_);
-}
-
-pub returns-in-Ok-Some-clause-reads : goal.returns-in-Ok-Some-clause-reads
-returns-in-Ok-Some-clause-reads g c bytes open_ =
-    let so = c.turns.invariant.so_far bytes open_ in
-    read_to (g.S.Source.left c.args.source.now) (g.S.Source.left c.turns.source) (g.S.Source.left c.take_turn.new.source) (g.S.Source.faults c.args.source.now) (g.S.Source.faults c.turns.source) (g.S.Source.faults c.take_turn.new.source)
-    (g.I.Intake.open_ c.turns.intake) (g.I.Intake.open_ c.take_turn.new.intake) (g.I.Intake.done c.take_turn.new.intake) (g.I.Intake.room c.turns.intake) (g.I.Intake.room c.take_turn.new.intake)
-    bytes so c.in-Ok-Some.end c.in-Ok-Some.field-0 c.in-Ok-Some.field-0-is (c.in-Ok-Some.ensures.turn (bytes ++ so.read) so.open_)
-
-pub returns-in-Err-clause-short : goal.returns-in-Err-clause-short
-returns-in-Err-clause-short g c =
-    let so = c.turns.invariant.so_far c.requires.0 c.requires.1 in
-    short_behind (g.S.Source.left c.args.source.now) (g.S.Source.left c.turns.source) (g.S.Source.left c.take_turn.new.source) (g.S.Source.faults c.args.source.now) (g.S.Source.faults c.turns.source) (g.S.Source.faults c.take_turn.new.source)
-    (g.I.Intake.open_ c.turns.intake) (g.I.Intake.open_ c.take_turn.new.intake) (g.I.Intake.done c.take_turn.new.intake) (g.I.Intake.room c.turns.intake) (g.I.Intake.room c.take_turn.new.intake)
-    c.requires.0 so c.in-Err.ensures.short
-
-pub returns-in-Ok-Some-clause-calm : goal.returns-in-Ok-Some-clause-calm
-returns-in-Ok-Some-clause-calm g c other =
-    let is = c.in-Ok-Some.field-0-is in
-    c.in-Ok-Some.ensures.calm (λ e. other (let same : c.in-Ok-Some.end ≡ end.Failed = cc in ap (λ x. Ok x) same)) ∙ c.turns.invariant.calm
-
-pub returns-in-Err-clause-calm : goal.returns-in-Err-clause-calm
-returns-in-Err-clause-calm g c other = c.in-Err.ensures.calm (λ e. cc) ∙ c.turns.invariant.calm
+pub returns-clause-reads : goal.returns-clause-reads
+returns-clause-reads g c = IfOk-weaker c.read_for.result _ _ (λ end reads bytes open_. reads tt bytes open_) c.read_for.ensures.reads

@@ -1,4 +1,3 @@
-use Rattle.std.proofs.Common.{refl}
 use Rattle.one_log.proofs.Wholes.{closes, has_begun, whole_log}
 use Rattle.log_rules.specs.Judgement.{judged, waiting}
 use Rattle.log_trace.specs.Judging.{without_formula}

@@ -1,4 +1,4 @@
-use Rattle.std.proofs.Common.{◌≡◌, sym, ap, subst, length, List}
+use Rattle.std.proofs.Common.{sym, ap, subst, length}
 use Rattle.event_log.specs.FittingItems.{FitFirst}
 use Rattle.event_log.specs.LogText.{log_items}
 use Rattle.log_merge.specs.declared.merged.Merged.{Merged}

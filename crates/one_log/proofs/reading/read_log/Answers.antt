@@ -1,4 +1,4 @@
-use Rattle.std.proofs.Common.{[], refl, arith}
+use Rattle.std.proofs.Common.{[], arith}
 use Rattle.input_reading.specs.Changes.{of_source}
 use Rattle.input_reading.specs.Intakes.{HasReadSome}
 use Rattle.one_log.proofs.Stands.{err_so, read_short, log_stood}

@@ -3,7 +3,7 @@ use Rattle.std.specs.Prelude.{set}
 use Rattle.run_model.specs.Cut.{Cut, initial, with_next}
 use Rattle.run_model.specs.Slice.{Slice, Cuts}
 use Rattle.run_model.proofs.Counts.{length-lengths}
-use Rattle.slice_graph.specs.Views.{slice_of}
+use Rattle.temporal_slice.specs.PassedOn.{slice_of}
 use Rattle.part_pulls.proofs.Firsts.{first_is}
 use Rattle.part_pulls.proofs.operator.has_first.Goals as goal
 

@@ -2,7 +2,7 @@ use Rattle.std.proofs.Common.{◌≡◌, length, sym, ◌∙◌, ap, subst}
 use Rattle.run_model.specs.Cut.{initial}
 use Rattle.run_model.specs.Slice.{Slice, Cuts}
 use Rattle.run_model.proofs.Counts.{length-lengths}
-use Rattle.slice_graph.specs.Views.{slice_of}
+use Rattle.temporal_slice.specs.PassedOn.{slice_of}
 use Rattle.part_pulls.proofs.Firsts.{start_is}
 use Rattle.part_pulls.proofs.operator.has_initial.Goals as goal
 

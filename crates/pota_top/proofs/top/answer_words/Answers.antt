@@ -5,8 +5,8 @@ use Rattle.run_request.specs.Questions.{IsQuestionFault, AreFaults}
 use Rattle.run_promise.proofs.Clauses.{told_as}
 use Rattle.fault_line.specs.declared.fault.Fault.{Fault}
 use Rattle.run_promise.specs.Questions.{fault_of_question}
-use Rattle.batch_answers.specs.Outcome.{faulty_outcome}
-use Rattle.batch_answers.proofs.Undone.{ran_short}
+use Rattle.certificate_answers.specs.PassedOn.{faulty_outcome}
+use Rattle.certificate_answers.proofs.PassedOn.{ran_short}
 use Rattle.run_promise.specs.declared.outcome.Outcome.{Outcome}
 use Rattle.pota_top.proofs.Running.{ran_misasked, calm_outcome}
 use Rattle.pota_top.proofs.top.answer_words.Goals as goal

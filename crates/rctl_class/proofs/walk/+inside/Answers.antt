@@ -1,6 +1,6 @@
 use Rattle.std.proofs.Common.{◌++◌, ◌∷◌, [], true, sym, ap, ◌∙◌}
 use Rattle.std.proofs.lemmas.List.{map-append}
-use Rattle.rctl_parse.proofs.LeafSteps.{passes_on}
+use Rattle.rctl_round_trip.proofs.PassedOn.{passes_on}
 use Rattle.run_model.specs.Class.{is_local}
 use Rattle.rctl_class.specs.NamedParts.{piece_of, pieces_of}
 use Rattle.rctl_class.specs.Nodes.{node_of, formula_of, under, stepping}

@@ -1,5 +1,5 @@
 use Rattle.std.proofs.Common.{◌++◌, ◌∷◌, [], false, sym, ap, ◌∙◌}
-use Rattle.rctl_parse.proofs.LeafSteps.{passes_on}
+use Rattle.rctl_round_trip.proofs.PassedOn.{passes_on}
 use Rattle.run_model.specs.Class.{is_local}
 use Rattle.rctl_class.specs.NamedParts.{piece_of, disjuncts_of}
 use Rattle.rctl_class.specs.Nodes.{node_of, formula_of}

@@ -1,7 +1,7 @@
 use Rattle.std.proofs.Common.{◌≡◌, ℕ, ◌+◌, ◌∙◌, true, [], ◌∷◌, length, sum, refl, sym, ap, subst, arith}
 use Rattle.run_model.specs.Cut.{Cut, Clocks, lengths}
 use Rattle.run_model.specs.Consistent.{IsOrder, clock}
-use Rattle.run_model.proofs.ListedSlices.{ordered, ordered_is}
+use Rattle.meaning_laws.proofs.ListedSlices.{ordered, ordered_is}
 use Rattle.event_log.specs.declared.log.Event.{Event}
 use Rattle.causal_order.specs.Growth.{MayExtend, with_row, with_clocks}
 use Rattle.causal_order.proofs.Growing.{length-with_clocks}

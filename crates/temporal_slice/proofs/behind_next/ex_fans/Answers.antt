@@ -3,7 +3,7 @@ use Rattle.std.specs.List.{range_with_len}
 use Rattle.run_model.specs.Slice.{Cuts}
 use Rattle.run_model.specs.Operators.{NextTime}
 use Rattle.run_model.proofs.SliceLemmas.{cuts_closed}
-use Rattle.run_model.proofs.ClosureLemmas.{next_time_closed}
+use Rattle.meaning_laws.proofs.ClosureLemmas.{next_time_closed}
 use Rattle.pull_system.specs.declared.pull.Pull.{Pull}
 use Rattle.pull_system.specs.System.{IsPull}
 use Rattle.pull_system.specs.Pulls.{ClosedUnder}

@@ -24,6 +24,11 @@ returns-in-TooLong g c =
     subst (λ (f : Fault). Told (g.D.Sink.held c.args.diag.now) (g.D.Sink.held c.put-in-TooLong.new.diag) (g.D.Sink.faults c.args.diag.now) (g.D.Sink.faults c.put-in-TooLong.new.diag) (line_of (Some f)))
     (sym c.in-TooLong.is) c.put-in-TooLong.ensures
 
+pub returns-in-NoReport : goal.returns-in-NoReport
+returns-in-NoReport g c =
+    subst (λ (f : Fault). Told (g.D.Sink.held c.args.diag.now) (g.D.Sink.held c.put-in-NoReport.new.diag) (g.D.Sink.faults c.args.diag.now) (g.D.Sink.faults c.put-in-NoReport.new.diag) (line_of (Some f)))
+    (sym c.in-NoReport.is) c.put-in-NoReport.ensures
+
 pub returns-in-OtherLog : goal.returns-in-OtherLog
 returns-in-OtherLog g c =
     subst (λ (f : Fault). Told (g.D.Sink.held c.args.diag.now) (g.D.Sink.held c.put-in-OtherLog.new.diag) (g.D.Sink.faults c.args.diag.now) (g.D.Sink.faults c.put-in-OtherLog.new.diag) (line_of (Some f)))

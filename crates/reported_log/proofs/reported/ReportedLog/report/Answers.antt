@@ -2,7 +2,7 @@ use Rattle.std.proofs.Common.{sym, ap, subst}
 use Rattle.part_pulls.specs.declared.observed.Observed.{Observed}
 use Rattle.part_pulls.specs.Observing.{IsReady}
 use Rattle.rctl_parts.specs.Pieces.{disjuncts_of}
-use Rattle.conjunctions.specs.Answering.{IsAnswer}
+use Rattle.answering.specs.PassedOn.{IsAnswer}
 use Rattle.log_check.specs.Aims as log_aims
 use Rattle.log_check.proofs.HandingOver.{has_taken}
 use Rattle.reported_log.specs.Aims.{taken_for}

@@ -1,0 +1,16 @@
+pub mod Climb
+pub mod OperatorLemmas
+pub mod ClosureLemmas
+pub mod ResultSlices
+pub mod JoinLemmas
+pub mod ShownLemmas
+pub mod PartLemmas
+pub mod DecisionLemmas
+pub mod DifferenceLemmas
+pub mod RegularLemmas
+pub mod DisjunctLemmas
+pub mod WitnessLemmas
+pub mod Listing
+pub mod ListedSlices
+pub mod WorkedLemmas
+pub mod WorkedWitnesses

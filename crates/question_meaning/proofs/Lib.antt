@@ -1,0 +1,4 @@
+pub mod Operators
+pub mod Disjuncts
+pub mod Answers
+pub mod Worked

@@ -1,0 +1,4 @@
+-- What those above read by this crate of the ones below it.
+pub use Rattle.rctl_lexer.specs.Lexing.{lex}
+pub use Rattle.rctl_parse.specs.Parsing.{IsReadAs, long_fault}
+pub use Rattle.rctl_parse.specs.Reading.{Faults}

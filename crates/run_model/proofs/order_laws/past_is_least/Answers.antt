@@ -1,5 +1,0 @@
-use Rattle.run_model.proofs.Orders.{past_least}
-use Rattle.run_model.proofs.order_laws.past_is_least.Goals as goal
-
-pub returns : goal.returns
-returns c = past_least

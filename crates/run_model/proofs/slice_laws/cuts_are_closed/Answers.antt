@@ -1,5 +1,0 @@
-use Rattle.run_model.proofs.SliceLemmas.{cuts_closed}
-use Rattle.run_model.proofs.slice_laws.cuts_are_closed.Goals as goal
-
-pub returns : goal.returns
-returns c = cuts_closed

@@ -1,5 +1,0 @@
-use Rattle.run_model.proofs.JoinLemmas.{smallest_grouped}
-use Rattle.run_model.proofs.sublattice_laws.unions_group.Goals as goal
-
-pub returns : goal.returns
-returns g c = λ d. smallest_grouped g.A.SetOfCuts.has g.B.SetOfCuts.has g.D.SetOfCuts.has d

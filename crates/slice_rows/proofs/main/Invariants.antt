@@ -1,4 +1,0 @@
-use Rattle.slice_rows.proofs.main.Given as goal
-
-abbrev pub ghosts-with_steps : goal.ghosts-with_steps
-ghosts-with_steps a = record { name = a.blank.name; parts = a.blank.parts }

@@ -1,5 +1,0 @@
-use Rattle.slice_graph.specs.Fitting.{FitsOrder}
-use Rattle.slice_rows.proofs.making.all_applied.Given as goal
-
-abbrev pub invariant-loop-operator : goal.invariant-loop-operator
-invariant-loop-operator l = FitsOrder l.order l.made

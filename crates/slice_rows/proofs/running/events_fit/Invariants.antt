@@ -1,7 +1,0 @@
-use Rattle.std.proofs.Common.{take}
-use Rattle.std.specs.List.{AllByRecursion}
-use Rattle.vector_clock.specs.Events.{EventFits}
-use Rattle.slice_rows.proofs.running.events_fit.Given as goal
-
-abbrev pub invariant-loop-event : goal.invariant-loop-event
-invariant-loop-event l = AllByRecursion (EventFits l.procs) (take l.event-index l.events)
