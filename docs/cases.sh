@@ -1,7 +1,7 @@
 #!/usr/bin/env bash
 # Prints what the pages show of a program, `pota` or the one that is named, as cases of the language that the crate `row_cases`
-# has. They stand in the rows of crates/call_rows and crates/reader_rows, whose programs run them: .ci/page_rows puts them there,
-# and compares.
+# has, and of `pota_log` as rows of crates/log_rows. They stand in the rows of that crate, crates/call_rows and
+# crates/reader_rows, whose programs run them: .ci/page_rows puts them there, and compares.
 #
 # Taken from a page are:
 #
@@ -9,6 +9,8 @@
 #   lines behind it: what the program prints, whole. Behind `$ cat FILE` must stand the file. FILE may be a pattern.
 # - of `pota_view`, a line `$ cat LOG REPORT | pota_view WORD` with the lines behind it, and of `pota_verify` likewise
 #   `$ cat LOG CERTIFICATE | pota_verify FORMULA`
+# - of `pota_log`, a line `$ pota_log WORD .. < FILE` or `$ cat FILE .. | pota_log WORD ..` with the lines behind it. Those that
+#   begin with `pota_log: ` come on standard error
 # - where `> FILE` ends the line of any of these, the file is what the program prints
 # - a row of a table whose second cell is `formula byte ..`: the formula in the first cell gives this fault
 # - a row whose second cell is `log line N: ..`: the log gives this fault where line N, or the last where there is no such
@@ -37,20 +39,35 @@ function code_of(cell,    from, rest) {
 }
 
 # Fills lines[1..] with the log, or with the logs one behind the other, begins[S] with what is before log S, and gives their
-# number.
-function read_log(paths,    count, path, files, list) {
-    count = files = 0
-    list = "ls " paths
+# number. Then `open_end` says whether the last line lacks its end, as where a process was killed while it wrote.
+function read_log(paths,    count, path, files, list, got) {
+    count = files = open_end = 0
+    list = "printf \"%s\\n\" " paths
     while ((list | getline path) > 0) {
+        if (open_end)
+            complain("a log follows on half a line, before " path)
         begins[++files] = count
-        while ((getline lines[count + 1] < path) > 0)
+        while ((got = (getline lines[count + 1] < path)) > 0)
             count++
+        if (got < 0)
+            complain("there is no log " path)
         close(path)
+        open_end = has_open_end(path)
     }
     close(list)
-    if (!count)
-        complain("there is no log " paths)
     return count
+}
+
+# Whether the last line of the file lacks its end.
+function has_open_end(path,    last, byte) {
+    if (!(path in open_ends)) {
+        last = "tail -c 1 " path
+        byte = ""
+        last | getline byte
+        close(last)
+        open_ends[path] = byte != ""
+    }
+    return open_ends[path]
 }
 
 function begin_case() {
@@ -58,20 +75,24 @@ function begin_case() {
 }
 
 # Prints the first lines of a log, one of them another where its number is not 0.
-function put_log(path, most, changed, text,    key, count, i) {
+function put_log(path, most, changed, text,    key, count) {
     key = path " " most " " changed " " text
-    if (key == put_before) {
-        print "log-as-before"
-        return
-    }
-    put_before = key
     count = read_log(path)
-    if (most && most < count)
-        count = most
+    if (key == put_before)
+        print "log-as-before"
+    else
+        put_lines("log", most && most < count ? most : count, changed, text)
+    put_before = key
+    if (open_end && !most)
+        print "cut 1"
+}
+
+# Prints lines[1..], the changed one or the last as this text where there is one.
+function put_lines(keyword, count, changed, text,    i) {
     if (changed > count)
         changed = count
     for (i = 1; i <= count; i++)
-        print "log " (i == changed ? text : lines[i])
+        print keyword " " (i == changed ? text : lines[i])
 }
 
 # The batches of a log that are closed before this line.
@@ -132,6 +153,10 @@ function begin_command(text,    at) {
         begin_sister(substr(text, 1, RLENGTH - 1), substr(text, RLENGTH + 1))
         return
     }
+    if (text ~ /^(cat .* \| )?pota_log( |$)/) {
+        begin_logged(text)
+        return
+    }
     if (program != "pota")
         return
     if (match(text, /^cat .* \| pota /)) {
@@ -184,6 +209,31 @@ function begin_sister(text, words_text,    part, at) {
     run_command()
 }
 
+# A row of what `pota_log` makes of its words and of a log, or of logs one behind the other.
+function begin_logged(text,    at, count, bytes) {
+    if (program != "pota_log")
+        return
+    if (match(text, /^cat .* \| /)) {
+        log_file = substr(text, 5, RLENGTH - 7)
+        text = substr(text, RLENGTH + 1)
+    } else if (match(text, / < [^ ]+$/)) {
+        log_file = substr(text, RSTART + 3)
+        text = substr(text, 1, RSTART - 1)
+    }
+    printf "row pages: %s %d\n", FILENAME, ++numbers[FILENAME]
+    word_count = split_words(substr(text, 10))
+    for (at = 1; at <= word_count; at++)
+        print "word " words[at]
+    count = log_file == "" ? 0 : read_log(log_file)
+    put_lines("in", count, 0, "")
+    if (count && open_end) {
+        for (at = 1; at <= count; at++)
+            bytes += length(lines[at]) + 1
+        print "cut " bytes - 1 " " bytes
+    }
+    run_command()
+}
+
 # What the command prints stands behind it, or in a file.
 function run_command(    count, i) {
     running = 1
@@ -205,8 +255,10 @@ function add_output(line) {
             complain("this is not line " seen " of " shown_file)
     } else if (running && line ~ /^pota: /)
         diag = line
+    else if (running && line ~ /^pota_log: /)
+        diag = diag "diag " line "\n"
     else if (running) {
-        report = report "report " line "\n"
+        report = report (program == "pota_log" ? "out " : "report ") line "\n"
         if (line ~ /^verdict /)
             verdict = substr(line, 9)
         if (line ~ /^batch /)
@@ -225,6 +277,12 @@ function end_command() {
     if (!running)
         return
     running = 0
+    if (program == "pota_log") {
+        printf "%s%s", report, diag
+        print "status " (diag ~ /^diag pota_log: (usage|--keep)/ ? 2 : diag ~ /^diag pota_log: log / ? 4 : 0)
+        print "end"
+        return
+    }
     if (program != "pota") {
         print "status " (report ~ /^report refused line / ? 1 : 0)
         print "room 1048576"
@@ -379,7 +437,8 @@ function take_row(row,    cells, second, third) {
 }
 
 BEGIN {
-    print "# What the pages show, printed by docs/cases.sh from them.\n"
+    if (program != "pota_log")
+        print "# What the pages show, printed by docs/cases.sh from them.\n"
 }
 FNR == 1 {
     end_command()
