@@ -5,9 +5,9 @@
 
 POTA and POTA_LOG are the built programs. LOG is one log with its clocks in one batch, in place of the log that `bench/log` makes. The
 forms are the log itself, the same without its clocks, as a two-line log, as a log for each process, and these where each eighth is cut
-in the middle of an event, 40 events before its end. What is printed goes to a file. A row has the least processor time of RUNS runs (5) in milliseconds, and the peak
-in units of 1,048,576 bytes. The exit status is 1 where `pota_log` takes more than twice the time of `pota check true`. It takes
-about half a minute, and writes temporary files alone.
+in the middle of an event, 40 events before its end. What is printed goes to a file. A row has the least processor time of RUNS runs (5)
+in milliseconds, and the peaks in units of 1,048,576 bytes. The exit status is 1 where `pota_log` takes more than twice the time of
+`pota check true`. It takes about half a minute, and writes temporary files alone.
 """
 import multiprocessing
 import os
