@@ -6,3 +6,4 @@ pub mod Allowed
 pub mod Lends
 pub mod Claiming
 pub mod Settling
+pub mod Own

@@ -1,5 +1,5 @@
 -- Each step keeps the rule.
-use Rattle.std.proofs.Common.{◌≡◌, ℕ, zero, suc, ◌+◌, ◌^◌, ◌<◌, ◌≤◌, inl, inr, List, [], ◌∷◌, true, false, length, get_or, set, sum, take, max, refl, arith, sym, ap, ◌∙◌, subst}
+use Rattle.std.proofs.Common.{◌≡◌, ℕ, zero, suc, ◌+◌, ◌^◌, ◌<◌, ◌≤◌, inl, inr, List, [], ◌∷◌, true, false, length, get_or, set, sum, take, max, Option, None, refl, arith, sym, ap, ◌∙◌, subst}
 use Rattle.std.proofs.lemmas.List.{length-set, get_or-take, take_all}
 use Rattle.std.proofs.Math.Seq.{take-set-lt}
 use mathlib.Core.Option.{some, none, some-injective, some-ne-none}
@@ -17,6 +17,11 @@ use Rattle.bound_table.specs.declared.seat.SeenBounds.{SeenBounds}
 use Rattle.bound_table.specs.inside.Kept.{larger}
 use Rattle.bound_table.specs.inside.Rule.{word_count, Fits, HasBounds, BoundsHold, IsSound}
 use Rattle.bound_table.specs.inside.Rule.{with_floor, opened, nobody, together, Looked}
+use Rattle.bound_table.specs.inside.Rule.{begun_words, words_of, HasWords, KeepsOwn}
+use Rattle.bound_table.specs.declared.seat.Begins.{Begins}
+use Rattle.bound_table.specs.declared.seat.Begins.TheVariants.{Shared, Own}
+use Rattle.bound_table.specs.Firm.{FirmView}
+use Rattle.pull_system.specs.Rows.{RowsView}
 use Rattle.bound_table.specs.inside.Rule.{IsMachineStep, Lifted}
 
 -- a list with one number put in a place, and another in the same place of a list above it
@@ -70,28 +75,41 @@ steps system words views id v i m kept here live more bound = record {
       below = record { each = λ j. omega (arith, fits.below.each j, set_above words i m more j) };
     }
 
+-- a table whose words are shared
+abbrev pub IsShared : Begins → Type 0
+IsShared (Shared floor) = Unit {0}
+IsShared (Own rows) = ⊥
+
+pub shares : (system : SystemView) (begins : Begins) (own : Option RowsView) → own ≡ None → KeepsOwn system begins own → IsShared begins
+shares system (Shared floor) own is_none kept = tt
+shares system (Own rows) own is_none kept = let P : Option RowsView → Type 0 = KeepsOwn system (Own rows) in subst P is_none kept
+
+abbrev SharedHold : SystemView → State (Unit {0}) SeenBounds → Type 0
+SharedHold system s = HasBounds system (take (word_count system.lens) s.words) s.views
+
 -- the same in the table, whose bounds may have other words behind them
-steps_table : (system : SystemView) (s : State (Unit {0}) SeenBounds) (id : ℕ) (v : SeenBounds) (i m : ℕ) → BoundsHold system s → get_elem? s.views id ≡ some v → v.live ≡ true → i < word_count system.lens
+steps_table : (system : SystemView) (s : State (Unit {0}) SeenBounds) (id : ℕ) (v : SeenBounds) (i m : ℕ) → SharedHold system s → get_elem? s.views id ≡ some v → v.live ≡ true → i < word_count system.lens
     → get_or s.words i 0 ≤ m → IsBound system i m → HasBounds system (take (word_count system.lens) (set s.words i m)) (set s.views id (with_floor v (set v.floor i m)))
 steps_table system s id v i m kept here live there more bound =
     let P : List ℕ → Type 0 = λ words. HasBounds system words (set s.views id (with_floor v (set v.floor i m))) in
     subst P (sym (take-set-lt (word_count system.lens) s.words i m there))
     (steps system (take (word_count system.lens) s.words) s.views id v i m kept here live (omega (arith, get_or-take (word_count system.lens) s.words i 0 there)) bound)
 
-word_bound : (system : SystemView) (s : State (Unit {0}) SeenBounds) (i : ℕ) → BoundsHold system s → i < word_count system.lens → IsBound system i (get_or s.words i 0)
+word_bound : (system : SystemView) (s : State (Unit {0}) SeenBounds) (i : ℕ) → SharedHold system s → i < word_count system.lens → IsBound system i (get_or s.words i 0)
 word_bound system s i kept there = let P : ℕ → Type 0 = IsBound system i in subst P (get_or-take (word_count system.lens) s.words i 0 there) (kept.bounds.below i)
 
 -- what the seat's floor is afterwards lies between the starts and the least closed vectors
 stays_sound : (system : SystemView) (v : SeenBounds) (i m : ℕ) → v.system ≡ system → IsSound v → get_or v.floor i 0 ≤ m → IsBound system i m → IsSound (with_floor v (set v.floor i m))
-stays_sound system v i m one sound more bound = record { live = sound.live; floor = bounds_set v.system v.floor i m sound.floor more (let P : SystemView → Type 0 = λ s. IsBound s i m in subst P (sym one) bound) }
+stays_sound system v i m one sound more bound = record { live = sound.live; begun = record { each = λ j. omega (arith, sound.begun.each j, set_above v.floor i m more j) }; floor = bounds_set v.system v.floor i m sound.floor more (let P : SystemView → Type 0 = λ s. IsBound s i m in subst P (sym one) bound) }
 
-below_word : (system : SystemView) (s : State (Unit {0}) SeenBounds) (id : ℕ) (v : SeenBounds) (i : ℕ) → BoundsHold system s → get_elem? s.views id ≡ some v → v.live ≡ true → i < word_count system.lens → get_or v.floor i 0 ≤ get_or s.words i 0
+below_word : (system : SystemView) (s : State (Unit {0}) SeenBounds) (id : ℕ) (v : SeenBounds) (i : ℕ) → SharedHold system s → get_elem? s.views id ≡ some v → v.live ≡ true → i < word_count system.lens → get_or v.floor i 0 ≤ get_or s.words i 0
 below_word system s id v i kept here live there = omega (arith, (kept.fits id v here live).below.each i, get_or-take (word_count system.lens) s.words i 0 there)
 
 -- a load keeps the rule
-pub looks : (system : SystemView) (slots id : ℕ) (me : Me (Unit {0}) SeenBounds) (i : ℕ) → me.0.system ≡ system → IsSound me.0 → i < word_count system.lens
-    → Allows (BoundsHold system) slots id me i (λ n. n) (Looked (step slots i 0 0 none) me)
-looks system slots id me i one sound there s kept homes here fits =
+pub looks : (begins : Begins) (system : SystemView) (slots id : ℕ) (me : Me (Unit {0}) SeenBounds) (i : ℕ) → IsShared begins → me.0.system ≡ system → IsSound me.0 → i < word_count system.lens
+    → Allows (BoundsHold begins system) slots id me i (λ n. n) (Looked (step slots i 0 0 none) me)
+looks (Own rows) system slots id me i shared one sound there s kept homes here fits = absurd shared
+looks (Shared floor) system slots id me i shared one sound there s kept homes here fits =
     let n = get_or s.words i 0 in
     let more = below_word system s id me.0 i kept here sound.live there in
     let bound = word_bound system s i kept there in (
@@ -103,9 +121,10 @@ looks system slots id me i one sound there s kept homes here fits =
     )
 
 -- a raise to a bound keeps the rule
-pub lifts : (system : SystemView) (slots id : ℕ) (me : Me (Unit {0}) SeenBounds) (i value : ℕ) → me.0.system ≡ system → IsSound me.0 → i < word_count system.lens → IsMachineStep me.0.system me.0.floor i value → IsBound system i value
-    → Allows (BoundsHold system) slots id me i (λ n. max n value) (Lifted (step slots i value 0 none) me)
-lifts system slots id me i value one sound there machine asked s kept homes here fits =
+pub lifts : (begins : Begins) (system : SystemView) (slots id : ℕ) (me : Me (Unit {0}) SeenBounds) (i value : ℕ) → IsShared begins → me.0.system ≡ system → IsSound me.0 → i < word_count system.lens → IsMachineStep me.0.system me.0.floor i value → IsBound system i value
+    → Allows (BoundsHold begins system) slots id me i (λ n. max n value) (Lifted (step slots i value 0 none) me)
+lifts (Own rows) system slots id me i value shared one sound there machine asked s kept homes here fits = absurd shared
+lifts (Shared floor) system slots id me i value shared one sound there machine asked s kept homes here fits =
     let n = max (get_or s.words i 0) value in
     let more : get_or me.0.floor i 0 ≤ n = omega (arith, below_word system s id me.0 i kept here sound.live there) in
     let bound = bound_max system i (get_or s.words i 0) value (word_bound system s i kept there) asked in (
@@ -117,12 +136,12 @@ lifts system slots id me i value one sound there machine asked s kept homes here
     )
 
 -- a second seat that knows the same keeps the rule
-pub splits : (system : SystemView) (id : ℕ) (v : SeenBounds) → Splits (BoundsHold system) id v v v
-splits system id v s kept here = record {
+pub splits : (begins : Begins) (system : SystemView) (id : ℕ) (v : SeenBounds) → Splits (BoundsHold begins system) id v v v
+splits begins system id v s kept here = record {
   bounds = kept.bounds;
   fits = λ j u at alive. elim (at_snoc (set s.views id v) v u j at) [
     | inl before ↦ let P : List SeenBounds → Type 0 = λ views. get_elem? views j ≡ some u in kept.fits j u (subst P (set_again s.views id v here) before) alive
-    | inr new ↦ let P : SeenBounds → Type 0 = Fits system (take (word_count system.lens) s.words) in let Q : SeenBounds → Type 0 = λ w. w.live ≡ true in subst P new (kept.fits id v here (subst Q (sym new) alive))
+    | inr new ↦ let P : SeenBounds → Type 0 = Fits system (words_of begins system.lens s.words) in let Q : SeenBounds → Type 0 = λ w. w.live ≡ true in subst P new (kept.fits id v here (subst Q (sym new) alive))
   ];
 }
 
@@ -139,30 +158,30 @@ length-larger (x ∷ xs) [] size = refl
 length-larger (x ∷ xs) (y ∷ ys) size = ap (λ n. suc n) (length-larger xs ys (omega arith))
 
 -- a seat that takes in what another knows keeps the rule
-pub meets : (system : SystemView) (id other : ℕ) (v w : SeenBounds) → v.live ≡ true → w.live ≡ true → Joins (BoundsHold system) id v other w (together v w) nobody
-meets system id other v w live_v live_w s kept here apart there = record {
+pub meets : (begins : Begins) (system : SystemView) (id other : ℕ) (v w : SeenBounds) → v.live ≡ true → w.live ≡ true → Joins (BoundsHold begins system) id v other w (together v w) nobody
+meets begins system id other v w live_v live_w s kept here apart there = record {
   bounds = kept.bounds;
   fits = λ j u at alive. elim (at_set (set s.views id (together v w)) other j nobody u at) [
     | inl spent ↦ let Q : SeenBounds → Type 0 = λ x. x.live ≡ true in let e : false ≡ true = subst Q (sym spent.1) alive in absurd (cc)
     | inr left ↦
         elim (at_set s.views id j (together v w) u left.1) [
-          | inl mine ↦ let P : SeenBounds → Type 0 = Fits system (take (word_count system.lens) s.words) in subst P mine.1 both
+          | inl mine ↦ let P : SeenBounds → Type 0 = Fits system (words_of begins system.lens s.words) in subst P mine.1 both
           | inr before ↦ kept.fits j u before.1 alive
         ]
   ];
 }
   where
-    fits_v : Fits system (take (word_count system.lens) s.words) v
+    fits_v : Fits system (words_of begins system.lens s.words) v
     fits_v = kept.fits id v here live_v
 
-    fits_w : Fits system (take (word_count system.lens) s.words) w
+    fits_w : Fits system (words_of begins system.lens s.words) w
     fits_w =
         elim (at_set s.views id other (together v w) w there) [
           | inl same ↦ absurd (apart same.0)
           | inr before ↦ kept.fits other w before.1 live_w
         ]
 
-    both : Fits system (take (word_count system.lens) s.words) (together v w)
+    both : Fits system (words_of begins system.lens s.words) (together v w)
     both = record {
       one_system = fits_v.one_system;
       size = length-larger v.floor w.floor (omega (arith, fits_v.size, fits_w.size)) ∙ fits_v.size;
@@ -171,17 +190,22 @@ meets system id other v w live_v live_w s kept here apart there = record {
     }
 
 -- the table and its first seat begin by the rule
-pub starts_kept : (system : SystemView) (floor : List ℕ) → AreBounds system floor → BoundsHold system (opening floor [] (opened system floor))
-starts_kept system floor bounds =
-    let whole : take (word_count system.lens) floor ≡ floor = take_all (word_count system.lens) floor (omega (arith, bounds.size)) in
-    let P : List ℕ → Type 0 = λ words. HasBounds system words (opened system floor ∷ []) in
-    subst P (sym whole) record { bounds = bounds; fits = λ j u at alive. first j u at }
+pub starts_kept : (system : SystemView) (begins : Begins) (firm : FirmView) (words : List ℕ) → AreBounds system (begun_words begins) → words_of begins system.lens words ≡ begun_words begins
+    → BoundsHold begins system (opening words [] (opened system firm (begun_words begins)))
+starts_kept system begins firm words bounds whole =
+    let floor : List ℕ = begun_words begins in
+    let P : List ℕ → Type 0 = λ list. HasBounds system list (opened system firm floor ∷ []) in
+    subst P (sym whole) record { bounds = bounds; fits = λ j u at alive. first floor bounds j u at }
   where
-    first : (j : ℕ) (u : SeenBounds) → get_elem? (opened system floor ∷ []) j ≡ some u → Fits system floor u
-    first zero u at =
+    first : (floor : List ℕ) → AreBounds system floor → (j : ℕ) (u : SeenBounds) → get_elem? (opened system firm floor ∷ []) j ≡ some u → Fits system floor u
+    first floor bounds zero u at =
         let P : SeenBounds → Type 0 = Fits system floor in
-        subst P (some-injective (opened system floor) u at) record { one_system = refl; size = refl; above = bounds.above; below = record { each = λ i. omega arith } }
-    first (suc j) u at = absurd (some-ne-none u (sym at))
+        subst P (some-injective (opened system firm floor) u at) record { one_system = refl; size = refl; above = bounds.above; below = record { each = λ i. omega arith } }
+    first floor bounds (suc j) u at = absurd (some-ne-none u (sym at))
+
+-- the words that a table begins with are all its words
+pub shared_whole : (system : SystemView) (floor : List ℕ) → AreBounds system floor → take (word_count system.lens) floor ≡ floor
+shared_whole system floor bounds = take_all (word_count system.lens) floor (omega (arith, bounds.size))
 
 -- a shape has a word
 pub some_words : (lens : List ℕ) → IsShape lens → 0 < word_count lens
@@ -194,6 +218,7 @@ few_words lens shape = omega (arith, shape.events, mul-le-mul_left (sum lens + 1
 pub together_sound : (v w : SeenBounds) → v.system ≡ w.system → IsSound v → IsSound w → IsSound (together v w)
 together_sound v w one sound_v sound_w = record {
   live = sound_v.live;
+  begun = record { each = λ i. omega (arith, sound_v.begun.each i, larger_case v.floor w.floor i) };
   floor = record {
     size = length-larger v.floor w.floor (omega (arith, sound_v.floor.size, size_w)) ∙ sound_v.floor.size;
     above = record { each = λ i. omega (arith, sound_v.floor.above.each i, larger_case v.floor w.floor i) };
@@ -212,3 +237,11 @@ met_maximum xs ys v w met same_v same_w same size = record {
   size = omega (arith, ap (λ z. length z) same_v, ap (λ z. length z) same, length-larger xs ys size);
   each = λ i. omega (arith, ap (λ z. get_or z i 0) same_v, ap (λ z. get_or z i 0) same_w, ap (λ z. get_or z i 0) same, larger_case xs ys i);
 }
+
+pub has_word : (begins : Begins) (lens : List ℕ) (count : ℕ) → IsShape lens → HasWords begins lens count → 0 < count
+has_word (Shared floor) lens count shape has = omega (arith, has, some_words lens shape)
+has_word (Own rows) lens count shape has = has
+
+pub shared_words : (begins : Begins) (lens : List ℕ) (count : ℕ) → IsShared begins → HasWords begins lens count → count ≡ word_count lens
+shared_words (Shared floor) lens count shared has = has
+shared_words (Own rows) lens count shared has = absurd shared

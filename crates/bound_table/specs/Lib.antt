@@ -1,3 +1,4 @@
+pub mod Firm
 pub mod Kept
 pub mod Lending
 pub mod Views

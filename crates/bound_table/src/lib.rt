@@ -8,11 +8,13 @@
 //! floor. Nothing is said of an order between callers, of progress, nor of time.
 #![tactic(auto)]
 
+mod firm;
 mod narrow;
 mod seat;
 mod settle;
 mod table;
 
+pub use firm::Firm;
 pub use narrow::widened;
 pub use seat::Seat;
 pub use table::BoundTable;

@@ -1,26 +1,38 @@
 //! What a caller of the table holds, and the rule that each of its steps keeps.
 ghost use Rattle.bound_table.specs.inside.Rule.{BoundsHold, opened, nobody, together, Looked};
-ghost use Rattle.bound_table.specs.inside.Rule.{Lifted};
+ghost use Rattle.bound_table.specs.inside.Rule.{Lifted, begun_words};
 
+use crate::firm::Firm;
 use atomic_table::{Join, Play, Split, TableRule};
 use process_claims::Claimer;
 use pull_fans::System;
-use pull_system::Floor;
+use pull_system::{Floor, Rows};
 use std::collections::LinkedList;
 use std::marker::Model;
 use std::snapshot::Snapshot;
 
-/// What the table is told once. It takes no bytes.
+/// What a table begins with: words that callers share, or rows that are its system's own.
+#[derive(Drop)]
+pub(crate) enum Begins {
+    Shared(Snapshot<Floor>),
+    Own(Snapshot<Rows>),
+}
+
+/// What the table is told once.
 #[derive(Drop)]
 pub(crate) struct Key {
     pub(crate) system: Snapshot<System>,
-    pub(crate) floor: Snapshot<Floor>,
+    pub(crate) firm: Snapshot<Firm>,
+    pub(crate) begins: Begins,
 }
 
-/// What a seat knows: the system, and a floor for each word. No value of it is made.
+/// What a seat knows: the system, the words that the table began with, which of its rows are firm,
+/// and a floor for each word. No value of it is made.
 pub(crate) struct SeenBounds {
     live: bool,
     system: System,
+    begun: LinkedList<u64>,
+    firm: Firm,
     floor: LinkedList<u64>,
 }
 
@@ -48,6 +60,8 @@ impl Model for Seat {
         id = seat.token.table_id;
         claims = seat.claimer.table;
         system = seat.token.me.0.system;
+        begun = seat.token.me.0.begun;
+        firm = seat.token.me.0.firm;
       };
       floor = seat.token.me.0.floor;
       claims = seat.claimer.claims;
@@ -73,9 +87,9 @@ impl Seat {
 pub(crate) struct Bounded;
 
 impl TableRule<(), SeenBounds, Key> for Bounded {
-    ghost holds = { λ key. BoundsHold key.system.value };
+    ghost holds = { λ key. BoundsHold key.begins key.system.value };
 
-    ghost first = { λ key. opened key.system.value key.floor.value.words };
+    ghost first = { λ key. opened key.system.value key.firm.value (begun_words key.begins) };
 }
 
 /// A load.

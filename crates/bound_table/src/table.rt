@@ -8,13 +8,15 @@ ghost use Rattle.raise_machine.specs.declared.step.Step.TheVariants.{Lend};
 ghost use Rattle.raise_machine.specs.Bounds.{AreBounds, word_at, has_start};
 ghost use Rattle.raise_machine.specs.Machine.{is_allowed};
 ghost use Rattle.bound_table.specs.inside.Asking.{IsPullStep, IsRaised};
+ghost use Rattle.bound_table.specs.Firm.{AreOwnRows, HasReachedFirm};
 ghost use Rattle.bound_table.specs.Kept.{Follows, rows_from};
 ghost use Rattle.bound_table.specs.Lending.{AreBothRows};
 ghost use Rattle.bound_table.specs.inside.Rule.{word_count};
 ghost use Rattle.bound_table.specs.Views.{KeepsClaims};
 
-use crate::narrow::{widen, widened};
-use crate::seat::{Bounded, Key, Lifts, Looks, Meets, Seat, SeenBounds, Twins};
+use crate::firm::Firm;
+use crate::narrow::{narrowed, widen, widened};
+use crate::seat::{Begins, Bounded, Key, Lifts, Looks, Meets, Seat, SeenBounds, Twins};
 use atomic_table::Table;
 use pota_base::NoMemory;
 use process_claims::Claims;
@@ -33,17 +35,24 @@ const PIECE: usize = 128;
 /// Between any two steps each word lies between its row's start and the row's least closed vector,
 /// and has reached the floor that each seat has for it. A process that a seat claims is claimed by
 /// no other. No call waits for another caller.
+///
+/// Some of the rows may be firm: they were the least when the table was made, and so no call raises
+/// them. Where the rows are the system's own all are, and they stand in 16 bits; there are no
+/// shared words then.
 #[derive(Drop)]
 pub struct BoundTable {
     table: Table<(), SeenBounds, Key, Bounded, Global>,
     claims: Claims,
     system: System,
+    firm: Firm,
+    own: Option<Rows>,
 }
 
 impl Model for BoundTable {
     ghost use Rattle.std.specs.Prelude.{◌≡◌, length, sum};
     ghost use Rattle.bound_table.specs.Views.{TableView};
-    ghost use Rattle.bound_table.specs.inside.Rule.{word_count};
+    ghost use Rattle.bound_table.specs.Firm.{HasReachedFirm};
+    ghost use Rattle.bound_table.specs.inside.Rule.{HasWords, KeepsOwn, begun_words};
     ghost use Rattle.pota_base.specs.Shape.{IsShape};
 
     ghost Value = { TableView };
@@ -52,16 +61,21 @@ impl Model for BoundTable {
       id = table.table.shared.table_id;
       claims = table.claims;
       system = table.system;
+      begun = begun_words table.table.shared.key.begins;
+      firm = table.firm;
     } };
 
     ghost invariant = { λ table. (table.table.shared.key.system.value ≡ table.system)
-        × (table.table.shared.table_id.words ≡ word_count table.system.lens)
-        × IsShape table.system.lens × (table.claims.words ≡ length table.system.lens) };
+        × HasWords table.table.shared.key.begins table.system.lens
+        table.table.shared.table_id.words
+        × IsShape table.system.lens × (table.claims.words ≡ length table.system.lens)
+        × HasReachedFirm table.system (begun_words table.table.shared.key.begins) table.firm
+        × KeepsOwn table.system table.table.shared.key.begins table.own };
 }
 
 impl BoundTable {
     /// The table whose words are the floor, which lies between the starts and the least closed
-    /// vectors, and its first seat.
+    /// vectors, and its first seat. No row is firm.
     pub fn new(alloc: Global, system: System, floor: &Rows) -> Result<(BoundTable, Seat), NoMemory>
         requires lens { floor.now.lens ≡ system.lens }
         requires bounds { AreBounds system floor.now.words }
@@ -70,24 +84,30 @@ impl BoundTable {
             ≡ record { table = pair.0; floor = floor.now.words; claims = []; marks = [] }) }
     {
         let floor = widened(alloc, floor)?;
-        BoundTable::begun(alloc, system, floor)
+        let firm = Firm::none(system.shape());
+        BoundTable::behind(alloc, system, floor, firm)
     }
 
-    /// The table as `new` gives it, whose words are copied from the floor as it stands.
-    pub fn begun(
+    /// The table as `new` gives it, whose words are copied from the floor as it stands. The floor
+    /// has reached the firm rows.
+    pub fn behind(
         alloc: Global,
         system: System,
         floor: Floor,
+        firm: Firm,
     ) -> Result<(BoundTable, Seat), NoMemory>
         requires lens { floor.lens ≡ system.lens }
         requires bounds { AreBounds system floor.words }
+        requires firm { HasReachedFirm system floor.words firm }
         ensures system { IfOk result (λ pair. pair.0.system ≡ system) }
+        ensures firm { IfOk result (λ pair. pair.0.firm ≡ firm) }
         ensures seat { IfOk result (λ pair. pair.1
             ≡ record { table = pair.0; floor = floor.words; claims = []; marks = [] }) }
     {
         let key = Key {
             system: Snapshot::of(&system),
-            floor: Snapshot::of(&floor),
+            firm: Snapshot::of(&firm),
+            begins: Begins::Shared(Snapshot::of(&floor)),
         };
         let (table, token) = Table::of_words(alloc, floor.as_words(), &key)?;
         drop(floor);
@@ -96,8 +116,65 @@ impl BoundTable {
             table,
             claims,
             system,
+            firm,
+            own: None,
         };
         Ok((table, Seat { token, claimer }))
+    }
+
+    /// The table of rows that are the system's own, which it keeps in 16 bits, and its first seat.
+    /// All rows are firm.
+    pub fn firm(alloc: Global, system: System, floor: Floor) -> Result<(BoundTable, Seat), NoMemory>
+        requires lens { floor.lens ≡ system.lens }
+        requires bounds { AreBounds system floor.words }
+        requires own { AreOwnRows system floor.words }
+        ensures system { IfOk result (λ pair. pair.0.system ≡ system) }
+        ensures firm { IfOk result (λ pair. pair.0.firm
+            ≡ record { firsts = system.lens; bottom = true }) }
+        ensures seat { IfOk result (λ pair. pair.1
+            ≡ record { table = pair.0; floor = floor.words; claims = []; marks = [] }) }
+    {
+        let firm = Firm::all(system.shape());
+        let rows = narrowed(alloc, &floor)?;
+        drop(floor);
+        let key = Key {
+            system: Snapshot::of(&system),
+            firm: Snapshot::of(&firm),
+            begins: Begins::Own(Snapshot::of(&rows)),
+        };
+        // A table of shared words has one at least. Nobody reads or raises it.
+        let (table, token) = Table::of_words(alloc, &[0], &key)?;
+        let (claims, claimer) = Claims::new(alloc, system.shape().procs())?;
+        let table = BoundTable {
+            table,
+            claims,
+            system,
+            firm,
+            own: Some(rows),
+        };
+        Ok((table, Seat { token, claimer }))
+    }
+
+    /// Which rows are firm. The seat's floors have reached them.
+    pub fn firm_rows(&self, seat: &Seat) -> &Firm
+        requires fits { seat.now.table ≡ self.now }
+        ensures firm { result.now ≡ self.now.firm }
+        ensures reached { HasReachedFirm self.now.system seat.now.floor self.now.firm }
+    {
+        self.reached(seat);
+        &self.firm
+    }
+
+    /// Does nothing. It tells contracts that the seat's floors are bounds, and have reached the
+    /// words that the table began with.
+    fn reached(&self, seat: &Seat)
+        requires fits { seat.now.table ≡ self.now }
+        ensures bounds { AreBounds self.now.system seat.now.floor }
+        ensures begun { IsAtMost self.now.begun seat.now.floor }
+    {
+        // The looks open the table and the seat.
+        let _ = &self.system;
+        let _ = &seat.token;
     }
 
     /// A second seat with the same floor, which claims nothing.
@@ -169,9 +246,13 @@ impl BoundTable {
             table,
             claims,
             system,
+            firm,
+            own,
         } = self;
         drop(table);
         drop(claims);
+        drop(firm);
+        drop(own);
         system
     }
 
@@ -297,6 +378,11 @@ impl BoundTable {
         ensures bounds { AreBounds self.now.system seat.new.floor }
     {
         seat.bounds();
+        if let Some(rows) = &self.own {
+            self.reached(seat);
+            words.extend_from_slice(&rows.as_words()[first..end])?;
+            return Ok(());
+        }
         let mut piece = [0; PIECE];
         let mut next = first;
         while next < end {
@@ -361,6 +447,10 @@ impl BoundTable {
     {
         // The look opens the table: the clauses rest on what its fields have in common.
         let _ = &self.system;
+        if let Some(rows) = &self.own {
+            self.reached(seat);
+            return rows.as_words()[word] as u64;
+        }
         self.table.shared.load::<Looks>(&mut seat.token, word)
     }
 
@@ -376,6 +466,10 @@ impl BoundTable {
             result }
     {
         let word = self.place(row, target);
+        if let Some(rows) = &self.own {
+            self.reached(seat);
+            return rows.as_words()[word] as u64;
+        }
         let found = self
             .table
             .shared
@@ -408,6 +502,10 @@ impl BoundTable {
     {
         seat.bounds();
         if y <= found {
+            return found;
+        }
+        if let Some(_rows) = &self.own {
+            self.reached(seat);
             return found;
         }
         let was = self

@@ -1,8 +1,8 @@
 -- Where a conjunction of atoms begins anew: at or above the least closed vector of all.
-use Rattle.std.proofs.Common.{◌≡◌, ℕ, List, get_or, sym, subst, arith, ap}
+use Rattle.std.proofs.Common.{◌≡◌, ℕ, List, get_or, sym, subst, arith}
 use Rattle.run_model.specs.Cut.{Clocks, lengths}
 use Rattle.pull_system.specs.declared.pull.Pull.{Pull}
-use Rattle.pull_system.specs.Vector.{IsVector, IsAtMost}
+use Rattle.pull_system.specs.Vector.{IsVector}
 use Rattle.pull_system.specs.System.{SystemView, IsLeastFrom}
 use Rattle.pull_system.specs.Pulls.{ClosedUnder}
 use Rattle.pull_system.specs.Rows.{IsLeast}

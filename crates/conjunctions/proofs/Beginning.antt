@@ -8,7 +8,7 @@ use Rattle.run_model.specs.Cut.{Clocks, lengths}
 use Rattle.pull_system.specs.declared.pull.Pull.{Pull}
 use Rattle.pull_system.specs.System.{SystemView, IsSystem, IsClosedFrom}
 use Rattle.pull_system.specs.Pulls.{ClosedUnder}
-use Rattle.pull_system.specs.Rows.{RowsView, AreLeastRows, start_of, starts, place_of, row_at}
+use Rattle.pull_system.specs.Rows.{RowsView, start_of, starts, place_of, row_at}
 use Rattle.pull_system.proofs.PullLists.{closed_under, closed_left, closed_right}
 use Rattle.pull_system.proofs.Starts.{length_starts, starts-place, get_or-row_at}
 use Rattle.raise_machine.specs.Bounds.{AreBounds}
@@ -19,7 +19,9 @@ use Rattle.slice_graph.specs.PullLists.{pulls_of_slice}
 use Rattle.slice_graph.specs.Starting.{AreWithinClosed}
 use Rattle.slice_graph.proofs.SlicePulls.{slice_pulls_fit, slice_pulls_count}
 use Rattle.slice_graph.proofs.Alone.{rows_alone}
+use Rattle.bound_table.specs.Firm.{AreOwnRows}
 use Rattle.conjunctions.specs.inside.Beginning.{GatheredView, MayBeginFrom, FloorFits}
+use Rattle.conjunctions.proofs.OwnRows.{slice_own}
 
 -- ---- more pulls
 
@@ -35,7 +37,7 @@ within_more lens some all words fewer within = record {
 pub floor_more : (lens : List ℕ) (old new : GatheredView) (added : List Pull) → new.pulls ≡ old.pulls ++ added → new.floor ≡ old.floor → (new.alone ≡ true → ⊥) → FloorFits lens old → FloorFits lens new
 floor_more lens old new added pulls floor others fits = record {
   begins = subst (λ (f : Option RowsView). IfSome f (MayBeginFrom lens new.pulls)) (sym floor) (IfSome_then old.floor fits.begins more);
-  least = λ is. absurd (others is);
+  own = λ is. absurd (others is);
 }
   where
     more : (rows : RowsView) → MayBeginFrom lens old.pulls rows → MayBeginFrom lens new.pulls rows
@@ -65,13 +67,14 @@ slice_system o slice fits rows =
     let square : n * n ≤ 32 * 32 = mul-le-mul {n₁ = n} {m₁ = n} {n₂ = 32} {m₂ = 32} few few in
     record { shape = rows.cuts.shape; pulls = slice_pulls_fit o slice fits rows; count = omega (arith, slice_pulls_count slice, square) }
 
--- the rows of a slice are the least of its pulls
-pub slice_least : (o : Clocks) (slice : SliceView) (new : List Pull) (rows : RowsView) → FitsOrder o slice → HasAllRows slice → new ≡ pulls_of_slice slice
+-- the rows of a slice are its pulls' own
+pub slice_rows : (o : Clocks) (slice : SliceView) (new : List Pull) (rows : RowsView) → FitsOrder o slice → HasAllRows slice → new ≡ pulls_of_slice slice
     → ((row : ℕ) → row ≤ sum slice.lens → row_at slice.lens rows.words row ≡ filled slice.lens (get_or slice.rows row no_row)) → AreWithinClosed slice.lens (pulls_of_slice slice) rows.words
-    → AreLeastRows (record { lens = lengths o; pulls = new }) rows.words
-slice_least o slice new rows fits are pulls words begins =
-    subst (λ (list : List Pull). AreLeastRows (record { lens = lengths o; pulls = list }) rows.words) (sym pulls)
-    (subst (λ (l : List ℕ). AreLeastRows (record { lens = l; pulls = pulls_of_slice slice }) rows.words) fits.shape (rows_alone o slice fits are (slice_system o slice fits are) rows.words words begins))
+    → AreOwnRows (record { lens = lengths o; pulls = new }) rows.words
+slice_rows o slice new rows fits are pulls words begins =
+    let own = slice_own slice rows.words (rows_alone o slice fits are (slice_system o slice fits are) rows.words words begins) words in
+    let P : List ℕ → List Pull → Type 0 = λ lens list. AreOwnRows (record { lens = lens; pulls = list }) rows.words in
+    subst (P (lengths o)) (sym pulls) (subst (λ (l : List ℕ). P l (pulls_of_slice slice)) fits.shape own)
 
 -- ---- the bounds of a table
 

@@ -1,19 +1,17 @@
 -- Which rows are final where a conjunction begins.
-use Rattle.std.proofs.Common.{◌≡◌, ℕ, zero, suc, ◌+◌, ◌<◌, ◌≤◌, inl, inr, Bool, true, false, List, [], ◌∷◌, length, sum, take, get_or, Option, Some, None, refl, sym, subst, arith}
-use Rattle.std.specs.Prelude.{IfSome}
+use Rattle.std.proofs.Common.{◌≡◌, ℕ, zero, suc, ◌<◌, ◌≤◌, inl, inr, Bool, true, false, List, [], ◌∷◌, length, take, get_or, Option, Some, None, refl, sym, subst, arith}
 use Rattle.std.proofs.lemmas.Bool.{cases_lt}
 use Rattle.std.proofs.lemmas.List.{get_or-take, length-take-le}
 use Rattle.pull_system.specs.declared.pull.Pull.{Pull}
 use Rattle.pull_system.specs.System.{SystemView, IsSystem}
-use Rattle.pull_system.specs.Rows.{RowsView, AreLeastRows, row_at}
+use Rattle.pull_system.specs.Rows.{RowsView, row_at}
 use Rattle.pull_system.specs.Growth.{DidNotFall, grown_words}
 use Rattle.pull_system.proofs.Starts.{get_or-row_at}
-use Rattle.slice_workers.specs.Reaching.{AreFinal, HasReachedFinals, ReachesFirst}
-use Rattle.slice_workers.proofs.Reached.{first_none, none_final}
-use Rattle.slice_workers.proofs.Firsts.{sum_old}
-use Rattle.conjunctions.specs.inside.Beginning.{GatheredView, FloorFits, BeginsOthers, AtomsBegin}
+use Rattle.bound_table.specs.Firm.{AreFinal, HasReachedFirm, ReachesFirst}
+use Rattle.bound_table.proofs.Own.{first_none, none_final}
+use Rattle.conjunctions.specs.inside.Beginning.{GatheredView, FloorFits, AtomsBegin}
 use Rattle.conjunctions.specs.inside.Beginning.{AreNone, AreWithin, HaveCuts, OthersBegin}
-use Rattle.conjunctions.specs.inside.Beginning.{FinalsOfOthers, FindsBottom}
+use Rattle.conjunctions.specs.inside.Beginning.{FindsBottom, AreFirmBy, rows_of_before, no_rows}
 use Rattle.conjunctions.specs.Settling.{CutsStay}
 use Rattle.conjunctions.specs.inside.Settling.{CanBegin}
 
@@ -62,22 +60,6 @@ cuts_are system is rows finals fell stays have = record {
           subst (λ (n : ℕ). ReachesFirst system p n (grown_words system.lens rows)) (sym zeroth) (first_none system p (grown_words system.lens rows))
     ]
 
--- rows that are the least already
-least_are : (system : SystemView) → IsSystem system → (words finals : List ℕ) → AreLeastRows system words → AreWithin system.lens finals → AreFinal system words (take (length system.lens) finals)
-least_are system is words finals least within = record {
-  size = size_of system is finals within.size;
-  few = λ p. omega (arith, taken (length system.lens) finals p, within.few p);
-  each = λ p there. record {
-    each = λ position one few.
-        let row : ℕ = sum (take p system.lens) + position in
-        record {
-          vector = row_at system.lens words row;
-          is = least.each row (sum_old system.lens p position (omega (arith, few, taken (length system.lens) finals p, within.few p)) there);
-          below = λ i i_there. omega (arith, get_or-row_at system.lens words row i i_there);
-        };
-  };
-}
-
 atoms_are : (lens : List ℕ) (pulls : List Pull) → IsSystem (record { lens = lens; pulls = pulls }) → (before : Option RowsView) (words finals : List ℕ) → CanBegin (record { lens = lens; pulls = pulls }) true before
     → AtomsBegin lens pulls before words finals → AreFinal (record { lens = lens; pulls = pulls }) words (take (length lens) finals)
 atoms_are lens pulls is None words finals can begins = none_are (record { lens = lens; pulls = pulls }) is words finals begins.firsts
@@ -85,27 +67,17 @@ atoms_are lens pulls is (Some rows) words finals can begins =
     subst (λ (w : List ℕ). AreFinal (record { lens = lens; pulls = pulls }) w (take (length lens) finals)) (sym begins.rows)
     (cuts_are (record { lens = lens; pulls = pulls }) is rows finals (can.fell.fell rows refl refl) (can.stays rows refl refl) begins.firsts)
 
-others_are : (lens : List ℕ) (pulls : List Pull) → IsSystem (record { lens = lens; pulls = pulls }) → (floor : Option RowsView) (alone : Bool) (words finals : List ℕ)
-    → (alone ≡ true → IfSome floor (λ rows. AreLeastRows (record { lens = lens; pulls = pulls }) rows.words)) → BeginsOthers lens floor words → FinalsOfOthers lens floor alone finals
-    → AreFinal (record { lens = lens; pulls = pulls }) words (take (length lens) finals)
-others_are lens pulls is None alone words finals least begins none = none_are (record { lens = lens; pulls = pulls }) is words finals none
-others_are lens pulls is (Some rows) false words finals least begins none = none_are (record { lens = lens; pulls = pulls }) is words finals none
-others_are lens pulls is (Some rows) true words finals least begins within =
-    subst (λ (w : List ℕ). AreFinal (record { lens = lens; pulls = pulls }) w (take (length lens) finals)) (sym begins)
-    (least_are (record { lens = lens; pulls = pulls }) is rows.words finals (least refl) within)
-
 first_are : (lens : List ℕ) (gathered : GatheredView) (keeps : Bool) (before : Option RowsView) (words finals : List ℕ) → IsSystem (record { lens = lens; pulls = gathered.pulls })
     → CanBegin (record { lens = lens; pulls = gathered.pulls }) keeps before → FloorFits lens gathered → (keeps ≡ true → AtomsBegin lens gathered.pulls before words finals)
-    → (keeps ≡ false → OthersBegin lens gathered.floor gathered.alone words finals) → AreFinal (record { lens = lens; pulls = gathered.pulls }) words (take (length lens) finals)
+    → (keeps ≡ false → OthersBegin lens gathered.floor words finals) → AreFinal (record { lens = lens; pulls = gathered.pulls }) words (take (length lens) finals)
 first_are lens gathered true before words finals is can fits atoms others = atoms_are lens gathered.pulls is before words finals can (atoms refl)
-first_are lens gathered false before words finals is can fits atoms others =
-    others_are lens gathered.pulls is gathered.floor gathered.alone words finals fits.least (others refl).rows (others refl).firsts
+first_are lens gathered false before words finals is can fits atoms others = none_are (record { lens = lens; pulls = gathered.pulls }) is words finals (others refl).firsts
 
 -- the rows that are taken as final where a conjunction begins are
 pub finals_are : (lens : List ℕ) (gathered : GatheredView) (keeps : Bool) (before : Option RowsView) (words finals : List ℕ) (bottom : Bool) (steps steps_now : ℕ) → IsSystem (record { lens = lens; pulls = gathered.pulls })
     → CanBegin (record { lens = lens; pulls = gathered.pulls }) keeps before → FloorFits lens gathered → (keeps ≡ true → AtomsBegin lens gathered.pulls before words finals)
-    → (keeps ≡ false → OthersBegin lens gathered.floor gathered.alone words finals) → FindsBottom (record { lens = lens; pulls = gathered.pulls }) keeps before bottom words steps steps_now
-    → HasReachedFinals (record { lens = lens; pulls = gathered.pulls }) words (record { firsts = take (length lens) finals; bottom = bottom })
+    → (keeps ≡ false → OthersBegin lens gathered.floor words finals) → FindsBottom (record { lens = lens; pulls = gathered.pulls }) keeps before bottom words steps steps_now
+    → HasReachedFirm (record { lens = lens; pulls = gathered.pulls }) words (record { firsts = take (length lens) finals; bottom = bottom })
 finals_are lens gathered keeps before words finals bottom steps steps_now is can fits atoms others finds = record {
   firsts = first_are lens gathered keeps before words finals is can fits atoms others;
   bottom = λ final. record {
@@ -114,3 +86,10 @@ finals_are lens gathered keeps before words finals bottom steps steps_now is can
     below = λ i there. omega (arith, get_or-row_at lens words 0 i there);
   };
 }
+
+-- and are rows of before, but for the bottom's
+pub firm_by : (system : SystemView) (keeps : Bool) (before floor : Option RowsView) (words finals : List ℕ) (bottom : Bool) → (keeps ≡ true → AtomsBegin system.lens system.pulls before words finals)
+    → (keeps ≡ false → OthersBegin system.lens floor words finals) → AreFirmBy system keeps before (record { firsts = take (length system.lens) finals; bottom = bottom }) words
+firm_by system true (Some rows) floor words finals bottom atoms others = rows_of_before rows finals refl refl (atoms refl).rows (atoms refl).firsts refl
+firm_by system true None floor words finals bottom atoms others = no_rows (λ p. omega (arith, taken (length system.lens) finals p, (atoms refl).firsts.none p))
+firm_by system false before floor words finals bottom atoms others = no_rows (λ p. omega (arith, taken (length system.lens) finals p, (others refl).firsts.none p))

@@ -10,6 +10,7 @@ mod Later
 mod FinalRows
 mod KeptCounters
 mod Finals
+mod OwnRows
 mod Asking
 mod Joining
 mod Parts

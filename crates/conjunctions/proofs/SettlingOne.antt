@@ -37,7 +37,7 @@ others_bounds lens pulls (Some rows) words fits begins =
 -- the rows from which a conjunction begins lie within the bounds
 pub floor_bounds : (lens : List ℕ) (gathered : GatheredView) (keeps : Bool) (before : Option RowsView) (words finals : List ℕ) → CanBegin (record { lens = lens; pulls = gathered.pulls }) keeps before
     → FloorFits lens gathered → (keeps ≡ true → AtomsBegin lens gathered.pulls before words finals)
-    → (keeps ≡ false → OthersBegin lens gathered.floor gathered.alone words finals) → AreBounds (record { lens = lens; pulls = gathered.pulls }) words
+    → (keeps ≡ false → OthersBegin lens gathered.floor words finals) → AreBounds (record { lens = lens; pulls = gathered.pulls }) words
 floor_bounds lens gathered true before words finals can fits atoms others = atoms_bounds lens gathered.pulls before words can (atoms refl).rows
 floor_bounds lens gathered false before words finals can fits atoms others = others_bounds lens gathered.pulls gathered.floor words fits.begins (others refl).rows
 

@@ -1,6 +1,6 @@
 -- The rows of conjunctions: what each of them has to be, and what a call of the recursion leaves of
 -- the lists of rows.
-use Rattle.std.specs.Prelude.{◌≡◌, ℕ, ◌+◌, ◌<◌, ◌≤◌, Bool, true, List, [], ◌∷◌, ◌++◌, length}
+use Rattle.std.specs.Prelude.{◌≡◌, ℕ, ◌+◌, ◌<◌, ◌≤◌, true, List, [], ◌∷◌, ◌++◌, length}
 use Rattle.std.specs.Prelude.{drop, sum, take, slice_index}
 use Rattle.run_model.specs.Cut.{Cut, IsWithin}
 use Rattle.run_model.specs.Sublattice.{IsLeast}
@@ -9,7 +9,7 @@ use Rattle.pull_system.specs.Rows.{RowsView, AreLeastRows, start_of, row_at}
 use Rattle.pull_system.specs.Growth.{DidNotFall, grown_words}
 use Rattle.pull_system.specs.Vector.{IsAtMost}
 use Rattle.raise_machine.specs.Bounds.{AreBounds}
-use Rattle.slice_workers.specs.Reaching.{ReachesFirst}
+use Rattle.bound_table.specs.Firm.{ReachesFirst}
 use Rattle.rctl_parts.specs.Pieces.{Piece}
 use Rattle.part_pulls.specs.declared.observed.Observed.{Observed}
 use Rattle.part_pulls.specs.Observing.{Reading, AreAnswers, Satisfying, clocks_seen, lens_seen}

@@ -3,17 +3,17 @@ ghost use Rattle.std.specs.Prelude.{◌≡◌, ℕ, ◌+◌, ◌<◌, ◌≤◌,
 ghost use Rattle.std.specs.Prelude.{slice_index, IsTrue, IfOk, IfSome, None};
 ghost use Rattle.run_model.specs.Cut.{lengths};
 ghost use Rattle.pull_system.specs.Vector.{IsAtMost};
-ghost use Rattle.pull_system.specs.Rows.{row_at};
+ghost use Rattle.pull_system.specs.Rows.{row_at, starts};
 ghost use Rattle.slice_graph.specs.Starting.{AreWithinClosed};
-ghost use Rattle.conjunctions.specs.inside.Beginning.{AreNone, AreWithin, HaveCuts};
+ghost use Rattle.conjunctions.specs.inside.Beginning.{AreNone, HaveCuts};
 ghost use Rattle.conjunctions.specs.inside.Beginning.{BeginsWithOrder, AtomsBegin, OthersBegin};
-ghost use Rattle.conjunctions.specs.inside.Beginning.{FindsBottom, GatheredFinals};
+ghost use Rattle.conjunctions.specs.inside.Beginning.{FindsBottom};
 ghost use Rattle.conjunctions.specs.inside.Settling.{IsFloorOf};
 
 use bound_table::widened;
 use causal_order::Order;
 use least_cut::least;
-use pota_base::{EventId, NoMemory, Shape, Steps};
+use pota_base::{EventId, NoMemory, Steps};
 use pull_fans::System;
 use pull_system::{Floor, Rows};
 use slice_graph::order_rows_above;
@@ -96,41 +96,39 @@ fn beginning_anew<L: Ledger>(
     })
 }
 
-/// Where another conjunction begins: at the rows that were gathered, all final where one temporal
-/// part asks alone, and where there are none each at its start.
+/// Where another conjunction begins: at the rows that were gathered, and where there are none each
+/// at its start.
 fn beginning_of_others(
     alloc: Global,
     order: &Order,
     gathered: Option<Floor>,
-    alone: bool,
 ) -> Result<Beginning, NoMemory>
     requires { IfSome gathered (λ rows. rows.lens ≡ lengths order.now) }
     ensures lens { IfOk result (λ begins. begins.floor.lens ≡ lengths order.now) }
-    ensures others { IfOk result (λ begins. OthersBegin (lengths order.now) gathered alone
+    ensures others { IfOk result (λ begins. OthersBegin (lengths order.now) gathered
         begins.floor.words begins.finals) }
     ensures bottom { IfOk result (λ begins. begins.bottom ≡ false) }
 {
     let bottom = false;
-    match gathered {
-        Some(floor) => {
-            let finals = gathered_finals(order.shape(), alone);
-            Ok(Beginning {
-                floor,
-                finals,
-                bottom,
-            })
-        }
-        None => {
-            let rows = Rows::new(alloc, order.shape())?;
-            let floor = widened(alloc, &rows)?;
-            let finals = no_rows();
-            Ok(Beginning {
-                floor,
-                finals,
-                bottom,
-            })
-        }
-    }
+    let finals = no_rows();
+    let floor = match gathered {
+        Some(floor) => floor,
+        None => starting_rows(alloc, order)?,
+    };
+    Ok(Beginning {
+        floor,
+        finals,
+        bottom,
+    })
+}
+
+/// The start of each row.
+fn starting_rows(alloc: Global, order: &Order) -> Result<Floor, NoMemory>
+    ensures lens { IfOk result (λ rows. rows.lens ≡ lengths order.now) }
+    ensures words { IfOk result (λ rows. rows.words ≡ starts (lengths order.now)) }
+{
+    let rows = Rows::new(alloc, order.shape())?;
+    widened(alloc, &rows)
 }
 
 /// Where a conjunction begins: where it keeps its rows, as one of atoms, and else at those that
@@ -142,7 +140,6 @@ pub fn beginning_of<L: Ledger>(
     keeps: bool,
     before: Option<Settled>,
     gathered: Option<Floor>,
-    alone: bool,
     steps: &mut Steps<L>,
 ) -> Result<Beginning, NoMemory>
     requires before { IsFloorOf (lengths order.now) keeps before }
@@ -153,22 +150,15 @@ pub fn beginning_of<L: Ledger>(
     ensures atoms { keeps ≡ true → IfOk result (λ begins. AtomsBegin (lengths order.now)
         system.now.pulls before begins.floor.words begins.finals) }
     ensures others { keeps ≡ false → IfOk result (λ begins. OthersBegin (lengths order.now)
-        gathered alone begins.floor.words begins.finals) }
+        gathered begins.floor.words begins.finals) }
     ensures bottom { IfOk result (λ begins. FindsBottom system.now keeps before begins.bottom
         begins.floor.words steps.old steps.new) }
 {
     if keeps {
         beginning_of_atoms(alloc, order, system, before, steps)
     } else {
-        beginning_of_others(alloc, order, gathered, alone)
+        beginning_of_others(alloc, order, gathered)
     }
-}
-
-/// Which of the rows that were gathered are final: all where one slice asks alone.
-fn gathered_finals(shape: &Shape, alone: bool) -> [u32; 32]
-    ensures { GatheredFinals shape.now alone result }
-{
-    if alone { all_rows(shape) } else { no_rows() }
 }
 
 /// No row of any process.
@@ -176,17 +166,6 @@ fn no_rows() -> [u32; 32]
     ensures { AreNone result }
 {
     [0; 32]
-}
-
-/// How many rows each process has.
-fn all_rows(shape: &Shape) -> [u32; 32]
-    ensures { AreWithin shape.now result }
-{
-    let mut finals = no_rows();
-    for process in 0..shape.procs() {
-        finals[process as usize] = shape.len_of(process);
-    }
-    finals
 }
 
 /// How many first rows of each process end with one that lies within the lengths.

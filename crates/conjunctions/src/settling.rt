@@ -1,27 +1,33 @@
 //! The rows of one conjunction, and its slice.
-ghost use Rattle.std.specs.Prelude.{◌≡◌, ◌^◌, ◌<◌, ◌≤◌, true, length, All, IfOk};
+ghost use Rattle.std.specs.Prelude.{◌≡◌, ◌^◌, ◌<◌, ◌≤◌, true, length, All, IfOk, IfSome};
 ghost use Rattle.run_model.specs.Cut.{lengths};
 ghost use Rattle.pull_system.specs.System.{IsPull};
 ghost use Rattle.slice_graph.specs.Fitting.{HasOrder};
 ghost use Rattle.conjunctions.specs.Counting.{first_of};
-ghost use Rattle.conjunctions.specs.inside.Beginning.{BeginsWithOrder, FloorFits};
-ghost use Rattle.conjunctions.specs.inside.Settling.{CanBegin, SettlesOne, SharesOrder};
+ghost use Rattle.bound_table.specs.Firm.{AreOwnRows};
+ghost use Rattle.conjunctions.specs.inside.Beginning.{BeginsTable, BeginsWithOrder, FloorFits};
+ghost use Rattle.conjunctions.specs.inside.Settling.{CanBegin, CanBeginTable, SettlesOne};
+ghost use Rattle.conjunctions.specs.inside.Settling.{SharesOrder};
 
 use crate::floors::{Beginning, beginning_of};
 use crate::gathered::Gathered;
 use crate::means::Means;
 use crate::round::Round;
 use crate::systems::{give_back, system_of_asked};
-use bound_table::BoundTable;
+use bound_table::{BoundTable, Firm, Seat};
 use causal_order::Order;
 use pota_base::{Gate, NoMemory, Steps};
+use pull_fans::System;
+use pull_system::Floor;
 use slice_graph::Slice;
-use slice_workers::{Finals, settle_behind};
+use slice_workers::{Settled, settle_all};
+use std::alloc::Global;
 use std::sync::ledger::Ledger;
 use std::thread::Threads;
 
 /// Settles the rows of the conjunction that has what was gathered, from its rows of before where
-/// they are kept, and gives its slice. Rows that are final where it begins are not settled again.
+/// they are kept, and gives its slice. Rows that are firm where it begins are not settled again:
+/// all of them where one slice asks alone.
 pub fn settle_gathered<R: Threads + Sync, G: Gate, L: Ledger>(
     means: &Means<R, G>,
     order: &Order,
@@ -47,35 +53,78 @@ pub fn settle_gathered<R: Threads + Sync, G: Gate, L: Ledger>(
     let (asked, floor) = gathered.into_asked();
     let has_order = asked.has_order;
     let system = system_of_asked(alloc, order, asked, round)?;
-    let begins = beginning_of(
+    let before = round.next();
+    let (table, mut seat) = table_of(alloc, order, system, keeps, before, floor, alone, steps)?;
+    let settled = settle_all(
+        means.rt,
         alloc,
-        order,
-        &system,
-        keeps,
-        round.next(),
-        floor,
-        alone,
+        &table,
+        &mut seat,
+        means.workers,
+        means.gate,
         steps,
     )?;
+    seat.bounds();
+    give_back(alloc, order, has_order, table.close(seat), round)?;
+    let slice = Slice::from_rows(alloc, order, settled.rows())?;
+    round.keep(settled)?;
+    Ok(slice)
+}
+
+/// The table of the system from which a conjunction begins: that of the rows of a slice that asks
+/// alone, all firm, and else one that shares its words.
+fn table_of<L: Ledger>(
+    alloc: Global,
+    order: &Order,
+    system: System,
+    keeps: bool,
+    before: Option<Settled>,
+    floor: Option<Floor>,
+    alone: bool,
+    steps: &mut Steps<L>,
+) -> Result<(BoundTable, Seat), NoMemory>
+    requires begins { CanBeginTable order.now system keeps before floor }
+    requires own { alone ≡ true → IfSome floor (λ rows. AreOwnRows system rows.words) }
+    ensures { IfOk result (λ pair. BeginsTable system keeps before pair.0 pair.1 steps.old
+        steps.new) }
+{
+    if !alone {
+        return shared_table(alloc, order, system, keeps, before, floor, steps);
+    }
+    match floor {
+        Some(rows) => {
+            drop(before);
+            let _shape = system.shape();
+            let (table, seat) = BoundTable::firm(alloc, system, rows)?;
+            Ok((table, seat))
+        }
+        None => shared_table(alloc, order, system, keeps, before, None, steps),
+    }
+}
+
+/// The table of the system from which a conjunction begins that shares its words. Of rows of before
+/// those with a cut are firm, and where there are none the bottom's is.
+fn shared_table<L: Ledger>(
+    alloc: Global,
+    order: &Order,
+    system: System,
+    keeps: bool,
+    before: Option<Settled>,
+    floor: Option<Floor>,
+    steps: &mut Steps<L>,
+) -> Result<(BoundTable, Seat), NoMemory>
+    requires begins { CanBeginTable order.now system keeps before floor }
+    ensures { IfOk result (λ pair. BeginsTable system keeps before pair.0 pair.1 steps.old
+        steps.new) }
+{
+    let _shape = system.shape();
+    let begins = beginning_of(alloc, order, &system, keeps, before, floor, steps)?;
     let Beginning {
         floor,
         finals,
         bottom,
     } = begins;
-    let (table, mut seat) = BoundTable::begun(alloc, system, floor)?;
-    let finals = Finals::new(order.shape(), finals, bottom);
-    let settled = settle_behind(
-        means.rt,
-        alloc,
-        &table,
-        &mut seat,
-        &finals,
-        means.workers,
-        means.gate,
-        steps,
-    )?;
-    give_back(alloc, order, has_order, table.close(seat), round)?;
-    let slice = Slice::from_rows(alloc, order, settled.rows())?;
-    round.keep(settled)?;
-    Ok(slice)
+    let firm = Firm::new(order.shape(), finals, bottom);
+    let (table, seat) = BoundTable::behind(alloc, system, floor, firm)?;
+    Ok((table, seat))
 }

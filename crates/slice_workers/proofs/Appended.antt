@@ -19,11 +19,13 @@ use Rattle.bound_table.specs.Views.{SeatView, KeepsClaims}
 use Rattle.bound_table.proofs.Floors.{within_trans}
 use Rattle.bound_table.proofs.Reading.{length-slice_range, get_or-slice_range}
 use Rattle.slice_workers.specs.Calls.{IsPaid, HasRisen, TakesLooks, TakesOthers, TakesBehind, process_looks}
-use Rattle.slice_workers.specs.Reaching.{FinalsView, Reaches, ReachesFirst, rows_left}
+use Rattle.slice_workers.specs.Reaching.{rows_left}
+use Rattle.bound_table.specs.Firm.{FirmView, Reaches, ReachesFirst}
 use Rattle.slice_workers.specs.inside.Reaching.{IsReached}
 use Rattle.slice_workers.specs.inside.Keeping.{AreKept, KeepsUpTo, TakesBottom, TakesRows}
 use Rattle.slice_workers.specs.inside.Settling.{HasOnlyRisen}
-use Rattle.slice_workers.proofs.Reached.{reaches_more, reached_more, floor_reached, before_is, within_refl, final_seen, reached_least}
+use Rattle.slice_workers.proofs.Reached.{reached_more, floor_reached, before_is, within_refl, final_seen, reached_least}
+use Rattle.bound_table.proofs.Own.{reaches_more}
 use Rattle.slice_workers.proofs.Rises.{row_paid}
 use Rattle.slice_workers.proofs.Passes.{length-left, get_or-left, total}
 
@@ -277,7 +279,7 @@ takes_others system finals bottom old seat process steps steps_now few up =
     looks_whole : (looks steps steps_now process procs : ℕ) → process ≤ procs → steps_now ≤ steps + 0 + looks * process → steps_now ≤ steps + procs * looks
     looks_whole looks steps steps_now process procs few took = omega (arith, took, mul-le-mul_left looks few)
 
-pub counts_takes : (system : SystemView) (finals : FinalsView) (firsts bottom : List ℕ) (old seat : SeatView) (process steps steps_now : ℕ) → firsts ≡ finals.firsts → 1 ≤ length system.lens → process ≤ length system.lens → IsVector system.lens bottom
+pub counts_takes : (system : SystemView) (finals : FirmView) (firsts bottom : List ℕ) (old seat : SeatView) (process steps steps_now : ℕ) → firsts ≡ finals.firsts → 1 ≤ length system.lens → process ≤ length system.lens → IsVector system.lens bottom
     → CountsUpTo system finals.bottom firsts bottom old seat process steps steps_now → TakesBehind system finals old seat steps steps_now
 counts_takes system finals firsts bottom old seat process steps steps_now same some few vector up =
     let P : Bool → Type 0 = λ b. CountsUpTo system b firsts bottom old seat process steps steps_now in

@@ -10,7 +10,8 @@ use Rattle.pull_system.specs.Growth.{Grows, Stays, old_row_from, old_row, grown_
 use Rattle.pull_system.proofs.Final.{final_row}
 use Rattle.pull_system.proofs.Climbing.{set_case}
 use Rattle.pull_system.proofs.Starts.{start_of-bottom, start_of-event, length-start_of, get_or-row_at}
-use Rattle.slice_workers.specs.Reaching.{ReachesFirst}
+use Rattle.bound_table.specs.Firm.{ReachesFirst}
+use Rattle.bound_table.proofs.Own.{sum_old}
 
 -- the row that an event had before
 old_row_at : (before : ℕ) (olds lens : List ℕ) (p k : ℕ) → length olds ≡ length lens → p < length lens → 1 ≤ k → k ≤ get_or olds p 0 → ((i : ℕ) → get_or olds i 0 ≤ get_or lens i 0)
@@ -44,11 +45,6 @@ start_rises lens p k m there one less few = record {
         | inr e ↦ omega (arith, ap (λ v. get_or v i 0) low, e.1, at, ap (λ j. get_or (start_of lens (sum (take p lens) + m)) j 0) e.0)
       ];
 }
-
-pub sum_old : (lens : List ℕ) (p k : ℕ) → k ≤ get_or lens p 0 → p < length lens → sum (take p lens) + k ≤ sum lens
-sum_old [] p k few there = absurd (omega arith)
-sum_old (len ∷ lens) zero k few there = omega (arith, sum_by-cons (λ (n : ℕ). n) len lens)
-sum_old (len ∷ lens) (suc p) k few there = omega (arith, sum_by-cons (λ (n : ℕ). n) len lens, sum_by-cons (λ (n : ℕ). n) len (take p lens), sum_old lens p k few (omega arith))
 
 pub first_final : (before after : SystemView) → IsSystem before → Grows before after → Stays before after → (old : RowsView) → old.lens ≡ before.lens → AreLeastRows before old.words
     → (p m : ℕ) → p < length before.lens → 1 ≤ m → m ≤ get_or before.lens p 0

@@ -4,12 +4,17 @@ use Rattle.std.proofs.lemmas.List.Sums.{sum_by-cons}
 use Rattle.std.proofs.Math.Nat.{mul-le-mul_left}
 use Rattle.pull_system.specs.Vector.{IsAtMost}
 use Rattle.pull_system.specs.System.{SystemView}
+use Rattle.pull_system.specs.Rows.{row_at}
 use Rattle.pull_system.proofs.Climbing.{set_case}
 use Rattle.bound_table.specs.Views.{SeatView}
-use Rattle.slice_workers.specs.Reaching.{rows_left, ReachesFirst}
+use Rattle.slice_workers.specs.Reaching.{rows_left}
+use Rattle.bound_table.specs.Firm.{ReachesFirst}
 use Rattle.slice_workers.specs.inside.Reaching.{AreHanded, HasReachedRows}
+use Rattle.bound_table.specs.Firm.{FirmView}
+use Rattle.slice_workers.specs.Calls.{TakesLooks, TakesBehind}
 use Rattle.slice_workers.specs.inside.Settling.{HasOnlyRisen, HasSettled}
-use Rattle.slice_workers.proofs.Reached.{handed_more, handed_set, final_more, reached_more}
+use Rattle.slice_workers.proofs.Reached.{handed_more, handed_set, reached_more}
+use Rattle.bound_table.proofs.Own.{final_more}
 
 pub passed_none : (system : SystemView) (old new : SeatView) (handed : List Bool) → new.table ≡ old.table → new.floor ≡ old.floor → AreHanded system old.floor handed → HasSettled system old new handed handed
 passed_none system old new handed table floor are =
@@ -89,3 +94,27 @@ pub sum-left : (lens finals : List ℕ) → sum (rows_left lens finals) ≤ sum 
 sum-left [] finals = omega arith
 sum-left (len ∷ lens) [] = omega (arith, sum_by-cons (λ (n : ℕ). n) len lens, sum_by-cons (λ (n : ℕ). n) len (rows_left lens []), sum-left lens [])
 sum-left (len ∷ lens) (count ∷ finals) = omega (arith, sum_by-cons (λ (n : ℕ). n) len lens, sum_by-cons (λ (n : ℕ). n) (len - count) (rows_left lens finals), sum-left lens finals)
+
+-- what settling takes behind firm rows is within what it takes with none
+pub takes_all : (system : SystemView) (firm : FirmView) (old new : SeatView) (s t : ℕ) → TakesBehind system firm old new s t → TakesLooks system system.lens old new s t
+takes_all system firm old new s t takes = by firm.bottom refl
+  where
+    turned : (a b c : ℕ) → a * (b * c) ≡ b * (a * c)
+    turned a b c = grind arith
+
+    by : (bottom : Bool) → firm.bottom ≡ bottom → TakesLooks system system.lens old new s t
+    by false is = record {
+      looks = (takes.all is).looks;
+      rises_paid = omega (arith, (takes.all is).rises_paid, mul-le-mul_left (length system.pulls) (sum-left system.lens firm.firsts));
+    }
+    by true is =
+        let pulls : ℕ = length system.pulls in
+        let n : ℕ = length system.lens in
+        let top : ℕ = sum system.lens + n in
+        let less : ℕ = top - sum (row_at system.lens old.floor 0) in
+        let one : pulls * less ≤ pulls * top = mul-le-mul_left pulls (let h : less ≤ top = omega arith in h) in
+        let swap : n * (pulls * top) ≡ pulls * (n * top) = turned n pulls top in
+        let wide : pulls * (n * top) ≤ pulls * ((n + 1) * top) = mul-le-mul_left pulls (let h : n * top ≤ (n + 1) * top = omega arith in h) in record {
+          looks = omega (arith, (takes.others is).looks, mul-le-mul_left n one, swap, wide);
+          rises_paid = omega (arith, (takes.others is).rises_paid, mul-le-mul_left pulls (sum-left system.lens firm.firsts));
+        }

@@ -1,5 +1,5 @@
 -- Rows that a floor has reached stay reached while it rises, and together they are all rows.
-use Rattle.std.proofs.Common.{◌≡◌, ℕ, zero, suc, refl, ◌+◌, ◌-◌, ◌<◌, ◌≤◌, ◌⊎◌, inl, inr, Bool, true, false, List, [], ◌∷◌, length, get_or, set, sum, take, replicate, arith, sym, ap, ◌∙◌, subst}
+use Rattle.std.proofs.Common.{◌≡◌, ℕ, zero, suc, ◌+◌, ◌-◌, ◌<◌, ◌≤◌, ◌⊎◌, inl, inr, Bool, true, false, List, [], ◌∷◌, length, get_or, set, sum, take, arith, sym, ap, ◌∙◌, subst}
 use Rattle.std.proofs.lemmas.List.{ext_get_or}
 use Rattle.std.proofs.lemmas.List.Sums.{sum_by-cons}
 use Rattle.pull_system.specs.Vector.{IsAtMost, IsMaximum}
@@ -13,27 +13,15 @@ use Rattle.raise_machine.specs.Bounds.{AreBounds, word_at, has_start}
 use Rattle.raise_machine.proofs.Raising.{word_below, has_start-bottom, has_start-event}
 use Rattle.bound_table.proofs.Lends.{has_start_next}
 use Rattle.bound_table.specs.Kept.{Follows}
-use Rattle.slice_workers.specs.Reaching.{Reaches, ReachesFirst, AreFinal}
+use Rattle.bound_table.specs.Firm.{Reaches, ReachesFirst, AreFinal}
 use Rattle.slice_workers.specs.inside.Reaching.{IsReached, ReachesAll, AreHanded, HasReachedRows}
-use Rattle.slice_workers.specs.inside.Reaching.{row_before}
+use Rattle.bound_table.specs.Firm.{row_before}
+use Rattle.bound_table.proofs.Own.{reaches_more, first_more, final_more}
 use Rattle.pull_system.proofs.Sums.{sum-within}
 use Rattle.pull_system.proofs.Starts.{start_of-bottom}
 
-pub reaches_more : (system : SystemView) (row : ℕ) (floor now : List ℕ) → IsAtMost floor now → Reaches system row floor → Reaches system row now
-reaches_more system row floor now within reaches = record {
-  vector = reaches.vector;
-  is = reaches.is;
-  below = λ process there. omega (arith, reaches.below process there, within.each (place_of system.lens row process));
-}
-
-pub first_more : (system : SystemView) (process count : ℕ) (floor now : List ℕ) → IsAtMost floor now → ReachesFirst system process count floor → ReachesFirst system process count now
-first_more system process count floor now within first = record { each = λ position one less. reaches_more system _ floor now within (first.each position one less) }
-
 pub handed_more : (system : SystemView) (floor now : List ℕ) (handed : List Bool) → IsAtMost floor now → AreHanded system floor handed → AreHanded system now handed
 handed_more system floor now handed within are = record { each = λ process is. first_more system process _ floor now within (are.each process is) }
-
-pub first_none : (system : SystemView) (process : ℕ) (floor : List ℕ) → ReachesFirst system process 0 floor
-first_none system process floor = record { each = λ position one less. absurd (omega arith) }
 
 within_one : (i n : ℕ) → i ≤ n + 1 → (i ≤ n) ⊎ (i ≡ n + 1)
 within_one i n h = grind arith
@@ -201,13 +189,6 @@ bottom_sum system row bottom v least other =
     sum-within bottom v (least.closed.vector.size ∙ sym other.closed.vector.size)
     (least.least v record { vector = other.closed.vector; above = record { each = λ i. omega (arith, start_of-bottom system.lens i) }; closed = other.closed.closed }).each
 
-pub final_more : (system : SystemView) (floor now finals : List ℕ) → IsAtMost floor now → AreFinal system floor finals → AreFinal system now finals
-final_more system floor now finals within are = record {
-  size = are.size;
-  few = are.few;
-  each = λ p there. first_more system p _ floor now within (are.each p there);
-}
-
 -- the bottom's row is settled, and what the floor had reached stays reached
 pub bottom_reaches : (system : SystemView) (old new v finals : List ℕ) (handed : List Bool) → Follows system 0 old new v → IsLeast system 0 v → AreFinal system old finals → AreHanded system old handed → HasReachedRows system new finals v handed
 bottom_reaches system old new v finals handed follows least final are = record {
@@ -219,25 +200,3 @@ bottom_reaches system old new v finals handed follows least final are = record {
 pub before_is : (lens : List ℕ) (process done row : ℕ) → 1 ≤ done → row ≡ sum (take process lens) + done → row ≡ row_before lens process done
 before_is lens process zero row some is = absurd (omega arith)
 before_is lens process (suc done) row some is = is
-
--- where no row is known to be final
-pub none_final : (system : SystemView) (floor finals : List ℕ) → length finals ≡ length system.lens → ((p : ℕ) → get_or finals p 0 ≡ 0) → AreFinal system floor finals
-none_final system floor finals size none = record {
-  size = size;
-  few = λ p. omega (arith, none p);
-  each = λ p there. let P : ℕ → Type 0 = λ n. ReachesFirst system p n floor in subst P (sym (none p)) (first_none system p floor);
-}
-
-abbrev pub zeros : ℕ → ℕ → List ℕ
-zeros n m = take n (replicate m 0)
-
-pub length-zeros : (n m : ℕ) → n ≤ m → length (zeros n m) ≡ n
-length-zeros zero m few = refl
-length-zeros (suc n) zero few = absurd (omega arith)
-length-zeros (suc n) (suc m) few = ap (λ (k : ℕ). suc k) (length-zeros n m (omega arith))
-
-pub get_or-zeros : (n m p : ℕ) → get_or (zeros n m) p 0 ≡ 0
-get_or-zeros zero m p = refl
-get_or-zeros (suc n) zero p = refl
-get_or-zeros (suc n) (suc m) zero = refl
-get_or-zeros (suc n) (suc m) (suc p) = get_or-zeros n m p

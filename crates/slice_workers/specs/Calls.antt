@@ -4,7 +4,8 @@ use Rattle.pull_system.specs.Vector.{IsAtMost}
 use Rattle.pull_system.specs.System.{SystemView}
 use Rattle.pull_system.specs.Rows.{RowsView, AreLeastRows, row_at}
 use Rattle.bound_table.specs.Views.{SeatView}
-use Rattle.slice_workers.specs.Reaching.{FinalsView, rows_left}
+use Rattle.slice_workers.specs.Reaching.{rows_left}
+use Rattle.bound_table.specs.Firm.{FirmView}
 
 -- the seat is of the same table, and no number of its floor fell
 pub record HasRisen (old new : SeatView) : Type 0 where
@@ -46,7 +47,7 @@ pub record TakesOthers (system : SystemView) (left : List ℕ) (old new : SeatVi
   pub rises_paid : IsPaid system (sum left) old new steps steps_now
 
 -- the look-ups that settling behind final rows takes at most, and what pays for them
-pub record TakesBehind (system : SystemView) (finals : FinalsView) (old new : SeatView)
+pub record TakesBehind (system : SystemView) (finals : FirmView) (old new : SeatView)
     (steps steps_now : ℕ) : Type 0 where
   pub all : finals.bottom ≡ false
       → TakesLooks system (rows_left system.lens finals.firsts) old new steps steps_now

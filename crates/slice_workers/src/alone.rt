@@ -5,16 +5,15 @@ ghost use Rattle.std.specs.Prelude.{slice_index, IfOk, OnOk};
 ghost use Rattle.pull_system.specs.Rows.{IsLeast};
 ghost use Rattle.bound_table.specs.Kept.{Follows};
 ghost use Rattle.bound_table.specs.Views.{KeepsClaims};
-ghost use Rattle.slice_workers.specs.Reaching.{HasReachedFinals, Reaches, ReachesFirst};
+ghost use Rattle.bound_table.specs.Firm.{HasReachedFirm, Reaches, ReachesFirst};
 ghost use Rattle.slice_workers.specs.inside.Reaching.{CanSettle};
 ghost use Rattle.slice_workers.specs.Calls.{HasRisen, AreSettledRows, TakesBehind, IsPaid};
 ghost use Rattle.slice_workers.specs.Calls.{process_looks};
 ghost use Rattle.slice_workers.specs.inside.Settling.{HasOnlyRisen};
 ghost use Rattle.slice_workers.specs.inside.Keeping.{AreKept, KeepsUpTo, TakesBottom, TakesRows};
 
-use crate::finals::Finals;
 use crate::process::{go_behind, settle_next};
-use bound_table::{BoundTable, Seat};
+use bound_table::{BoundTable, Firm, Seat};
 use pota_base::{EventId, Gate, NoMemory, Steps};
 use pull_system::Rows;
 use std::alloc::Global;
@@ -25,15 +24,15 @@ pub(crate) fn settle_alone<G: Gate, L: Ledger>(
     alloc: Global,
     table: &BoundTable,
     seat: &mut Seat,
-    finals: &Finals,
+    firm: &Firm,
     gate: &G,
     steps: &mut Steps<L>,
 ) -> Result<Rows, NoMemory>
     requires fits { seat.old.table ≡ table.now }
-    requires finals { HasReachedFinals table.now.system seat.old.floor finals.now }
+    requires firm { HasReachedFirm table.now.system seat.old.floor firm.now }
     ensures risen { HasRisen seat.old seat.new }
     ensures settled { IfOk result (AreSettledRows table.now.system seat.new.floor) }
-    ensures takes { TakesBehind table.now.system finals.now seat.old seat.new steps.old steps.new }
+    ensures takes { TakesBehind table.now.system firm.now seat.old seat.new steps.old steps.new }
 {
     let shape = table.system().shape();
     let procs = shape.procs() as usize;
@@ -42,7 +41,7 @@ pub(crate) fn settle_alone<G: Gate, L: Ledger>(
     let (bottom, into) = (&mut bottom[..procs], &mut into[..procs]);
     let mut words = Vec::with_capacity(alloc, (shape.events() as usize + 1) * procs)?;
     gate.enter(1);
-    let done = settle_in_order(table, seat, finals, bottom, into, &mut words, steps);
+    let done = settle_in_order(table, seat, firm, bottom, into, &mut words, steps);
     gate.leave(1);
     done?;
     seat.bounds();
@@ -53,26 +52,26 @@ pub(crate) fn settle_alone<G: Gate, L: Ledger>(
 fn settle_in_order<L: Ledger>(
     table: &BoundTable,
     seat: &mut Seat,
-    finals: &Finals,
+    firm: &Firm,
     bottom: &mut [u16],
     into: &mut [u16],
     words: &mut Vec<u16>,
     steps: &mut Steps<L>,
 ) -> Result<(), NoMemory>
     requires fits { seat.old.table ≡ table.now }
-    requires finals { HasReachedFinals table.now.system seat.old.floor finals.now }
+    requires firm { HasReachedFirm table.now.system seat.old.floor firm.now }
     requires bottom { length bottom.old ≡ length table.now.system.lens }
     requires into { length into.old ≡ length table.now.system.lens }
     requires words { words.old.items ≡ [] }
     ensures risen { HasRisen seat.old seat.new }
     ensures kept { OnOk result (AreKept table.now.system seat.new.floor
         (sum table.now.system.lens + 1) words.new.items) }
-    ensures takes { TakesBehind table.now.system finals.now seat.old seat.new steps.old steps.new }
+    ensures takes { TakesBehind table.now.system firm.now seat.old seat.new steps.old steps.new }
 {
     seat.bounds();
     let procs = table.system().shape().procs();
-    let firsts = finals.firsts();
-    settle_bottom(table, seat, finals.has_bottom(), bottom, steps);
+    let firsts = firm.firsts();
+    settle_bottom(table, seat, firm.has_bottom(), bottom, steps);
     words.extend_from_slice(bottom)?;
     for process in 0..procs {
         // Another seat may claim it too: its rows are settled all the same.
@@ -83,25 +82,25 @@ fn settle_in_order<L: Ledger>(
     Ok(())
 }
 
-/// Settles the bottom's row into `bottom`. Where it is final it is only looked at.
+/// Settles the bottom's row into `bottom`. Where it is firm it is only looked at.
 fn settle_bottom<L: Ledger>(
     table: &BoundTable,
     seat: &mut Seat,
-    is_final: bool,
+    is_firm: bool,
     bottom: &mut [u16],
     steps: &mut Steps<L>,
 )
     requires fits { seat.old.table ≡ table.now }
-    requires reached { is_final ≡ true → Reaches table.now.system 0 seat.old.floor }
+    requires reached { is_firm ≡ true → Reaches table.now.system 0 seat.old.floor }
     requires bottom { length bottom.old ≡ length table.now.system.lens }
     ensures keeps { KeepsClaims seat.old seat.new }
     ensures follows { Follows table.now.system 0 seat.old.floor seat.new.floor bottom.new }
     ensures least { IsLeast table.now.system 0 bottom.new }
-    ensures takes { TakesBottom table.now.system is_final seat.old.floor bottom.new steps.old
+    ensures takes { TakesBottom table.now.system is_firm seat.old.floor bottom.new steps.old
         steps.new }
 {
     seat.bounds();
-    if is_final {
+    if is_firm {
         table.look_narrow(seat, 0, bottom);
         return;
     }
@@ -137,7 +136,7 @@ fn keep_process<L: Ledger>(
     keep_others(table, seat, process, first, before, into, words, steps)
 }
 
-/// Appends the first rows of the process, which are final, after a look at their words. It gives
+/// Appends the first rows of the process, which are firm, after a look at their words. It gives
 /// the last of them, or the bottom's where there is none, with its vector in `into`.
 fn keep_firsts(
     table: &BoundTable,
@@ -162,7 +161,7 @@ fn keep_firsts(
     Ok(go_behind(table, seat, process, first, bottom, into))
 }
 
-/// Appends the first rows of the process, which are final, many words at once.
+/// Appends the first rows of the process, which are firm, many words at once.
 fn push_firsts(
     table: &BoundTable,
     seat: &mut Seat,

@@ -4,7 +4,7 @@ ghost use Rattle.pull_system.specs.Vector.{IsAtMost};
 ghost use Rattle.pull_system.specs.System.{SystemView, IsSystem};
 ghost use Rattle.pull_system.specs.Rows.{RowsView, AreLeastRows, row_at};
 ghost use Rattle.pull_system.specs.Growth.{Grows, Stays, grown_words};
-ghost use Rattle.slice_workers.specs.Reaching.{ReachesFirst};
+ghost use Rattle.bound_table.specs.Firm.{ReachesFirst};
 
 /// Where the row of a process's event lies within the lengths, the grown rows of its first events
 /// up to that one are the least already in each later system that asks for no more where what was

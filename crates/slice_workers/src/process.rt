@@ -4,9 +4,9 @@ ghost use Rattle.pull_system.specs.Vector.{IsAtMost};
 ghost use Rattle.pull_system.specs.Rows.{row_at};
 ghost use Rattle.raise_machine.specs.Bounds.{word_at};
 ghost use Rattle.bound_table.specs.Views.{KeepsClaims};
-ghost use Rattle.slice_workers.specs.Reaching.{ReachesFirst};
+ghost use Rattle.bound_table.specs.Firm.{ReachesFirst};
 ghost use Rattle.slice_workers.specs.inside.Reaching.{CanSettle, IsReached, MayLendTo};
-ghost use Rattle.slice_workers.specs.inside.Reaching.{row_before};
+ghost use Rattle.bound_table.specs.Firm.{row_before};
 ghost use Rattle.slice_workers.specs.Calls.{IsPaid};
 ghost use Rattle.slice_workers.specs.inside.Settling.{HasOnlyRisen};
 

@@ -1,10 +1,9 @@
 ghost use Rattle.std.specs.Prelude.{◌≡◌, ℕ, ◌≤◌, length, IfOk, OnOk};
-ghost use Rattle.slice_workers.specs.Reaching.{AreFinal, HasReachedFinals};
+ghost use Rattle.bound_table.specs.Firm.{AreFinal, HasReachedFirm};
 ghost use Rattle.slice_workers.specs.inside.Reaching.{AreHanded, ReachesAll};
 ghost use Rattle.slice_workers.specs.Calls.{HasRisen, AreSettledRows, TakesLooks, TakesBehind};
 
 use crate::alone::settle_alone;
-use crate::finals::Finals;
 use crate::threads::{make_jobs, meet_all, run};
 use crate::workers::{none_handed, settle_rest};
 use bound_table::{BoundTable, Seat};
@@ -15,8 +14,8 @@ use std::marker::Model;
 use std::sync::ledger::Ledger;
 use std::thread::Threads;
 
-/// The least closed vectors of all rows of a table. Only `settle_all` and `settle_behind`
-/// make it. Contracts see its rows.
+/// The least closed vectors of all rows of a table. Only `settle_all` makes it.
+/// Contracts see its rows.
 #[derive(Drop)]
 pub struct Settled {
     rows: Rows,
@@ -47,6 +46,9 @@ impl Settled {
 /// look-up; with more it counts those of the calling thread. It may wait for the threads that it
 /// joins. Where no thread can be made the workers run one after another. After `NoMemory` no floor
 /// of the seat has fallen.
+///
+/// The table's firm rows are left as they are: they are neither lent to nor looked up, and the
+/// count of one worker doesn't pay for them. Of several workers each looks up the bottom's.
 pub fn settle_all<R: Threads + Sync, G: Gate, L: Ledger>(
     rt: &R,
     alloc: Global,
@@ -63,47 +65,16 @@ pub fn settle_all<R: Threads + Sync, G: Gate, L: Ledger>(
     ensures settled { IfOk result (AreSettledRows table.now.system seat.new.floor) }
     ensures takes { workers ≡ 1 → TakesLooks table.now.system table.now.system.lens
         seat.old seat.new steps.old steps.new }
-{
-    let none = Finals::new(table.system().shape(), [0; 32], false);
-    settle_behind(rt, alloc, table, seat, &none, workers, gate, steps)
-}
-
-/// Settles all rows of the table as `settle_all` does, where the seat's floor has reached those
-/// that `finals` names. These rows are left as they are: they are neither lent to nor looked up,
-/// and the count of one worker doesn't pay for them. Of several workers each looks up the bottom's.
-pub fn settle_behind<R: Threads + Sync, G: Gate, L: Ledger>(
-    rt: &R,
-    alloc: Global,
-    table: &BoundTable,
-    seat: &mut Seat,
-    finals: &Finals,
-    workers: u32,
-    gate: &G,
-    steps: &mut Steps<L>,
-) -> Result<Settled, NoMemory>
-    requires fits { seat.old.table ≡ table.now }
-    requires finals { HasReachedFinals table.now.system seat.old.floor finals.now }
-    requires some { 1 ≤ workers }
-    requires few { workers ≤ 16 }
-    ensures risen { HasRisen seat.old seat.new }
-    ensures settled { IfOk result (AreSettledRows table.now.system seat.new.floor) }
-    ensures takes { workers ≡ 1 → TakesBehind table.now.system finals.now seat.old seat.new
+    ensures behind { workers ≡ 1 → TakesBehind table.now.system table.now.firm seat.old seat.new
         steps.old steps.new }
 {
+    let firm = table.firm_rows(seat);
     if workers == 1 {
-        let kept = settle_alone(alloc, table, seat, finals, gate, steps)?;
+        let kept = settle_alone(alloc, table, seat, firm, gate, steps)?;
         return Ok(Settled { rows: kept });
     }
-    settle_rows(
-        rt,
-        alloc,
-        table,
-        seat,
-        finals.firsts(),
-        workers,
-        gate,
-        steps,
-    )?;
+    let firsts = firm.firsts();
+    settle_rows(rt, alloc, table, seat, firsts, workers, gate, steps)?;
     seat.bounds();
     let rows = table.floors(alloc, seat)?;
     Ok(Settled { rows })

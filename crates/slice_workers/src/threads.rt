@@ -2,7 +2,7 @@
 ghost use Rattle.std.specs.Prelude.{◌≡◌, ◌⊎◌, ℕ, ◌<◌, ◌≤◌, All, true, false, length};
 ghost use Rattle.std.specs.Prelude.{slice_index_or, IfOk};
 ghost use Rattle.pull_system.specs.Vector.{IsAtMost};
-ghost use Rattle.slice_workers.specs.Reaching.{AreFinal};
+ghost use Rattle.bound_table.specs.Firm.{AreFinal};
 ghost use Rattle.slice_workers.specs.inside.Reaching.{AreHanded};
 ghost use Rattle.slice_workers.specs.inside.Jobs.{IsJob, IsDone};
 

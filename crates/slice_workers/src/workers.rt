@@ -1,6 +1,6 @@
 //! Which processes a worker settles, and what is left to the calling thread.
 ghost use Rattle.std.specs.Prelude.{◌≡◌, ℕ, ◌<◌, ◌≤◌, true, false, length, slice_index_or};
-ghost use Rattle.slice_workers.specs.Reaching.{AreFinal};
+ghost use Rattle.bound_table.specs.Firm.{AreFinal};
 ghost use Rattle.slice_workers.specs.inside.Reaching.{AreHanded, HasReachedRows};
 ghost use Rattle.slice_workers.specs.inside.Settling.{HasSettled};
 

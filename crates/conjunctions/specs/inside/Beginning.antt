@@ -1,14 +1,19 @@
 -- Where the rows of a conjunction begin, and which of them are final there.
 use Rattle.std.specs.Prelude.{◌≡◌, ℕ, ◌+◌, ◌*◌, ◌<◌, ◌≤◌, ◌++◌, Bool, true, false, List, length, sum}
 use Rattle.std.specs.Prelude.{take, slice_index, Option, Some, None, IfSome}
-use Rattle.run_model.specs.Cut.{Clocks, lengths}
+use Rattle.run_model.specs.Cut.{Clocks}
 use Rattle.pull_system.specs.declared.pull.Pull.{Pull}
-use Rattle.pull_system.specs.System.{SystemView}
+use Rattle.pull_system.specs.System.{SystemView, IsSystem}
 use Rattle.pull_system.specs.Vector.{IsAtMost}
-use Rattle.pull_system.specs.Rows.{RowsView, AreLeastRows, IsLeast, row_at, starts}
+use Rattle.pull_system.specs.Rows.{RowsView, IsLeast, row_at, starts}
 use Rattle.pull_system.specs.Growth.{grown_words}
 use Rattle.slice_graph.specs.PullLists.{pulls_of_order}
 use Rattle.slice_graph.specs.Starting.{AreWithinClosed}
+use Rattle.raise_machine.specs.Bounds.{AreBounds}
+use Rattle.bound_table.specs.Firm.{AreOwnRows, FirmView}
+use Rattle.bound_table.specs.Views.{TableView, SeatView}
+use Rattle.slice_workers.specs.Calls.{TakesBehind}
+use Rattle.conjunctions.specs.Counting.{steps_for}
 
 -- what the parts so far ask of cuts, behind the order's pulls where these come first, the clocks of
 -- that order, where there are some, rows to begin from, and whether one operator's slice alone asks
@@ -24,11 +29,11 @@ pub record MayBeginFrom (lens : List ℕ) (pulls : List Pull) (rows : RowsView) 
   pub within : AreWithinClosed lens pulls rows.words
 
 -- where rows are kept, a table of the pulls may begin from them, and where one temporal part asks
--- alone they are the least rows of its pulls
+-- alone they are its pulls' own
 pub record FloorFits (lens : List ℕ) (gathered : GatheredView) : Type 0 where
   pub begins : IfSome gathered.floor (MayBeginFrom lens gathered.pulls)
-  pub least : gathered.alone ≡ true → IfSome gathered.floor
-      (λ rows. AreLeastRows (record { lens = lens; pulls = gathered.pulls }) rows.words)
+  pub own : gathered.alone ≡ true → IfSome gathered.floor
+      (λ rows. AreOwnRows (record { lens = lens; pulls = gathered.pulls }) rows.words)
 
 -- the rows to begin from are as before, and no slice asks alone
 pub record KeepsFloor (old new : GatheredView) : Type 0 where
@@ -74,27 +79,17 @@ abbrev pub FinalsOfAtoms : Option RowsView → List ℕ → Type 0
 FinalsOfAtoms None finals = AreNone finals
 FinalsOfAtoms (Some rows) finals = HaveCuts rows finals
 
--- where one slice asks alone, all rows that were gathered may be final, and else none
-abbrev pub GatheredFinals : List ℕ → Bool → List ℕ → Type 0
-GatheredFinals lens false finals = AreNone finals
-GatheredFinals lens true finals = AreWithin lens finals
-
--- which rows of another conjunction are final where it begins
-abbrev pub FinalsOfOthers : List ℕ → Option RowsView → Bool → List ℕ → Type 0
-FinalsOfOthers lens None alone finals = AreNone finals
-FinalsOfOthers lens (Some rows) alone finals = GatheredFinals lens alone finals
-
 -- where a conjunction of atoms begins, and which first rows are final there
 pub record AtomsBegin (lens : List ℕ) (pulls : List Pull) (before : Option RowsView)
     (words finals : List ℕ) : Type 0 where
   pub rows : BeginsAtoms lens pulls before words
   pub firsts : FinalsOfAtoms before finals
 
--- where another conjunction begins, and which first rows are final there
-pub record OthersBegin (lens : List ℕ) (gathered : Option RowsView) (alone : Bool)
-    (words finals : List ℕ) : Type 0 where
+-- where another conjunction begins: none of its first rows are final there
+pub record OthersBegin (lens : List ℕ) (gathered : Option RowsView) (words finals : List ℕ)
+    : Type 0 where
   pub rows : BeginsOthers lens gathered words
-  pub firsts : FinalsOfOthers lens gathered alone finals
+  pub firsts : AreNone finals
 
 -- Whether the bottom's row is final where a conjunction begins, with the look-ups that this took:
 -- only a conjunction of atoms that has no rows of before looks for it.
@@ -106,3 +101,27 @@ pub record FindsBottom (system : SystemView) (keeps : Bool) (before : Option Row
   pub least : bottom ≡ true → IsLeast system 0 (row_at system.lens words 0)
   pub looks : bottom ≡ true → steps_now
       ≤ steps + length system.pulls * (1 + sum (row_at system.lens words 0))
+
+-- Which rows may be firm where a conjunction begins: rows that are the system's own, or of its rows
+-- of before those that have a cut. Where there are neither no row is, but for the bottom's.
+pub data AreFirmBy (system : SystemView) (keeps : Bool) (before : Option RowsView) (firm : FirmView)
+    (words : List ℕ) : Type 0 where
+  rows_of_slice : AreOwnRows system words → AreFirmBy system keeps before firm words
+  rows_of_before : (rows : RowsView) (finals : List ℕ) → keeps ≡ true → before ≡ Some rows
+      → words ≡ grown_words system.lens rows → HaveCuts rows finals
+      → firm.firsts ≡ take (length system.lens) finals → AreFirmBy system keeps before firm words
+  no_rows : ((process : ℕ) → slice_index firm.firsts process ≡ 0)
+      → AreFirmBy system keeps before firm words
+
+-- A table of the system and its first seat, from which a conjunction begins. What settling takes
+-- behind its firm rows, with what finding these took, is within what the conjunction may take.
+pub record BeginsTable (system : SystemView) (keeps : Bool) (before : Option RowsView)
+    (table : TableView) (seat : SeatView) (steps steps_now : ℕ) : Type 0 where
+  pub is : IsSystem system
+  pub system_is : table.system ≡ system
+  pub seat_is : seat.table ≡ table
+  pub firm : AreFirmBy system keeps before table.firm seat.floor
+  pub looks : (rows : RowsView) (new : SeatView) (last : ℕ) → rows.words ≡ new.floor
+      → IsAtMost seat.floor new.floor → AreBounds system new.floor
+      → TakesBehind system table.firm seat new steps_now last
+      → last ≤ steps + steps_for (length system.pulls) keeps system.lens before rows

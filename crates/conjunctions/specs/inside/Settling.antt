@@ -1,6 +1,6 @@
 -- Inside: what a conjunction needs before it is settled, and what has changed when it is.
 use Rattle.std.specs.Prelude.{◌≡◌, ℕ, ◌+◌, ◌≤◌, ◌↔◌, Bool, true, List, [], ◌∷◌, ◌++◌, length}
-use Rattle.std.specs.Prelude.{drop, Option, Some}
+use Rattle.std.specs.Prelude.{drop, Option, Some, IfSome}
 use Rattle.run_model.specs.Cut.{Cut, Clocks, lengths}
 use Rattle.run_model.specs.Consistent.{IsConsistent}
 use Rattle.run_model.specs.Slice.{Cuts}
@@ -19,7 +19,7 @@ use Rattle.part_pulls.specs.Counters.{AllRise, counters_of_part}
 use Rattle.conjunctions.specs.Numbering.{within}
 use Rattle.conjunctions.specs.Rounds.{RoundView, HasOrderSystem}
 use Rattle.conjunctions.specs.Counting.{first_of, steps_for}
-use Rattle.conjunctions.specs.inside.Beginning.{GatheredView}
+use Rattle.conjunctions.specs.inside.Beginning.{BeginsWithOrder, GatheredView, MayBeginFrom}
 use Rattle.conjunctions.specs.Settling.{CanSettle, CutsStay}
 
 -- a part can be settled: it is made for what was observed and has few parts, none of its counters
@@ -69,3 +69,12 @@ pub record CanBegin (system : SystemView) (keeps : Bool) (before : Option RowsVi
   pub floor : (rows : RowsView) → keeps ≡ true → before ≡ Some rows
       → AreBounds system (grown_words system.lens rows)
   pub stays : (rows : RowsView) → keeps ≡ true → before ≡ Some rows → CutsStay system rows
+
+-- a conjunction with this system may begin: from its rows of before, and from the rows that were
+-- gathered
+pub record CanBeginTable (o : Clocks) (system : SystemView) (keeps : Bool)
+    (before floor : Option RowsView) : Type 0 where
+  pub lens : system.lens ≡ lengths o
+  pub order : keeps ≡ true → BeginsWithOrder o system.pulls
+  pub kept : CanBegin system keeps before
+  pub gathered : IfSome floor (MayBeginFrom system.lens system.pulls)

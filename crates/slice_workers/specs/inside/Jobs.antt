@@ -3,7 +3,7 @@ use Rattle.std.specs.Prelude.{◌≡◌, ℕ, List}
 use Rattle.bound_table.specs.Views.{TableView}
 use Rattle.slice_workers.specs.declared.job.Job.{Job}
 use Rattle.slice_workers.specs.declared.job.Done.{Done}
-use Rattle.slice_workers.specs.Reaching.{AreFinal}
+use Rattle.bound_table.specs.Firm.{AreFinal}
 use Rattle.slice_workers.specs.inside.Reaching.{AreHanded}
 
 -- the seat is of the table, and its floor has reached the final rows

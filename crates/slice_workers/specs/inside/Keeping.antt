@@ -5,7 +5,8 @@ use Rattle.pull_system.specs.System.{SystemView}
 use Rattle.pull_system.specs.Rows.{row_at}
 use Rattle.bound_table.specs.Views.{SeatView}
 use Rattle.slice_workers.specs.Calls.{IsPaid, process_looks}
-use Rattle.slice_workers.specs.inside.Reaching.{IsReached, row_before}
+use Rattle.slice_workers.specs.inside.Reaching.{IsReached}
+use Rattle.bound_table.specs.Firm.{row_before}
 
 -- the words are those of the first rows, each the least closed vector of its row, which the floor
 -- has reached

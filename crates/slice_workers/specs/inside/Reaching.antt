@@ -1,10 +1,10 @@
 -- Inside: which rows a floor has reached, and which may be handed out or lent.
-use Rattle.std.specs.Prelude.{◌≡◌, ℕ, zero, suc, ◌+◌, ◌<◌, ◌≤◌, List, Bool}
-use Rattle.std.specs.Prelude.{true, false, length, sum, take, slice_index, slice_index_or}
+use Rattle.std.specs.Prelude.{◌≡◌, ℕ, ◌<◌, ◌≤◌, List, Bool}
+use Rattle.std.specs.Prelude.{true, false, length, sum, slice_index, slice_index_or}
 use Rattle.pull_system.specs.System.{SystemView}
 use Rattle.pull_system.specs.Rows.{IsLeast}
 use Rattle.raise_machine.specs.Bounds.{word_at, has_start}
-use Rattle.slice_workers.specs.Reaching.{AreFinal, Reaches, ReachesFirst}
+use Rattle.bound_table.specs.Firm.{AreFinal, Reaches, ReachesFirst}
 
 -- the vector is the least closed one of the row, and the floor has reached it
 pub record IsReached (system : SystemView) (row : ℕ) (floor vector : List ℕ) : Type 0 where
@@ -34,11 +34,6 @@ pub record MayLendTo (lens floor : List ℕ) (from_row to_row : ℕ) : Type 0 wh
 pub record AreHanded (system : SystemView) (floor : List ℕ) (handed : List Bool) : Type 0 where
   pub each : (process : ℕ) → slice_index_or handed process false ≡ true
       → ReachesFirst system process (slice_index system.lens process) floor
-
--- the row of the process's event of this number, or the bottom's before the first
-abbrev pub row_before : List ℕ → ℕ → ℕ → ℕ
-row_before lens process zero = 0
-row_before lens process (suc done) = sum (take process lens) + suc done
 
 -- what the floor has reached: the first rows of each process, the bottom's row, whose vector it is,
 -- and all rows of the processes that are marked

@@ -1,11 +1,8 @@
-use Rattle.std.proofs.Common.{rules, ◌≡◌, ◌∙◌, ◌≤◌, ◌+◌, ◌*◌, ℕ, List, length, sum, true, refl, ap, sym, subst, arith}
-use Rattle.std.proofs.lemmas.Result.{IfOk-weaker}
-use Rattle.run_model.specs.Cut.{lengths}
-use Rattle.run_model.proofs.Counts.{length-lengths}
+use Rattle.std.proofs.Common.{◌≡◌, ◌∙◌, ◌≤◌, ◌+◌, ◌*◌, ℕ, List, length, sum, refl, ap, sym, subst, arith}
 use Rattle.pull_system.specs.Vector.{IsVector}
 use Rattle.pull_system.specs.System.{SystemView}
 use Rattle.pull_system.specs.Rows.{IsLeast, row_at}
-use Rattle.slice_workers.proofs.Reached.{zeros, length-zeros, get_or-zeros}
+use Rattle.bound_table.proofs.Own.{zeros, length-zeros, get_or-zeros}
 use Rattle.conjunctions.proofs.Anew.{least_bottom, above_least}
 use Rattle.conjunctions.proofs.floors.beginning_anew.Goals as goal
 

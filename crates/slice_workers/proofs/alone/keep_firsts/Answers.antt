@@ -1,7 +1,8 @@
 use Rattle.pull_system.specs.System.{SystemView}
 use Rattle.bound_table.proofs.Claiming.{keeps_trans}
 use Rattle.bound_table.proofs.Floors.{within_trans}
-use Rattle.slice_workers.proofs.Reached.{first_more, reached_more}
+use Rattle.slice_workers.proofs.Reached.{reached_more}
+use Rattle.bound_table.proofs.Own.{first_more}
 use Rattle.slice_workers.proofs.Appended.{kept_more}
 use Rattle.slice_workers.proofs.alone.keep_firsts.Goals as goal
 

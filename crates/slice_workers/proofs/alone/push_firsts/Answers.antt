@@ -3,7 +3,7 @@ use Rattle.std.proofs.lemmas.Result.{on_ok_weaker}
 use Rattle.pull_system.specs.System.{SystemView}
 use Rattle.bound_table.proofs.Allowed.{bounds_along}
 use Rattle.bound_table.proofs.Claiming.{keeps_refl}
-use Rattle.slice_workers.proofs.Firsts.{sum_old}
+use Rattle.bound_table.proofs.Own.{sum_old}
 use Rattle.slice_workers.proofs.Reached.{within_refl}
 use Rattle.slice_workers.proofs.Appended.{kept_firsts}
 use Rattle.slice_workers.proofs.alone.push_firsts.Goals as goal

@@ -4,9 +4,10 @@ use Rattle.pull_system.specs.Vector.{IsAtMost}
 use Rattle.pull_system.specs.System.{SystemView}
 use Rattle.bound_table.proofs.Allowed.{bounds_along}
 use Rattle.slice_workers.specs.inside.Reaching.{CanSettle}
-use Rattle.slice_workers.specs.Reaching.{AreFinal}
+use Rattle.bound_table.specs.Firm.{AreFinal}
 use Rattle.slice_workers.specs.inside.Keeping.{AreKept, TakesBottom}
-use Rattle.slice_workers.proofs.Reached.{final_more, reached_more, settled_row}
+use Rattle.slice_workers.proofs.Reached.{reached_more, settled_row}
+use Rattle.bound_table.proofs.Own.{final_more}
 use Rattle.slice_workers.proofs.Appended.{counts_none, counts_next, counts_risen, counts_takes, kept_none, kept_push, sum_next}
 use Rattle.slice_workers.proofs.alone.settle_in_order.Goals as goal
 
@@ -16,7 +17,7 @@ loop-process-init g c =
     let old = bounds_along _ system _ c.args.seat.now.floor (search rules) (search rules) c.bounds.ensures in
     let bottom = c.settle_bottom.ensures in
     let reached = settled_row system 0 _ _ _ bottom.follows bottom.least in record {
-      counts = counts_none system c.args.finals.now.bottom c.firsts-firsts.result.now _ _ _ _ _ old bottom.keeps bottom.follows (subst (λ (b : Bool). TakesBottom system b c.args.seat.now.floor c.settle_bottom.new.bottom c.args.steps.now c.settle_bottom.new.steps) c.has_bottom.ensures bottom.takes);
+      counts = counts_none system c.args.firm.now.bottom c.firsts-firsts.result.now _ _ _ _ _ old bottom.keeps bottom.follows (subst (λ (b : Bool). TakesBottom system b c.args.seat.now.floor c.settle_bottom.new.bottom c.args.steps.now c.settle_bottom.new.steps) c.has_bottom.ensures bottom.takes);
       bottom = reached;
       kept = kept_push system _ 0 _ _ _ (kept_none system _ _ c.requires.words) reached c.in_ok-extend_from_slice.ensures.items;
     }
@@ -32,8 +33,8 @@ returns-in_err-extend_from_slice-clause-takes g c =
     let some : 1 ≤ length system.lens = omega (arith, c.procs-procs.ensures.shape.some, lens) in
     let old = bounds_along _ system _ c.args.seat.now.floor (search rules) (search rules) c.bounds.ensures in
     let bottom = c.settle_bottom.ensures in
-    counts_takes system c.args.finals.now c.firsts-firsts.result.now _ _ _ 0 _ _ c.firsts-firsts.ensures some (omega arith) bottom.least.closed.vector
-    (counts_none system c.args.finals.now.bottom c.firsts-firsts.result.now _ _ _ _ _ old bottom.keeps bottom.follows (subst (λ (b : Bool). TakesBottom system b c.args.seat.now.floor c.settle_bottom.new.bottom c.args.steps.now c.settle_bottom.new.steps) c.has_bottom.ensures bottom.takes))
+    counts_takes system c.args.firm.now c.firsts-firsts.result.now _ _ _ 0 _ _ c.firsts-firsts.ensures some (omega arith) bottom.least.closed.vector
+    (counts_none system c.args.firm.now.bottom c.firsts-firsts.result.now _ _ _ _ _ old bottom.keeps bottom.follows (subst (λ (b : Bool). TakesBottom system b c.args.seat.now.floor c.settle_bottom.new.bottom c.args.steps.now c.settle_bottom.new.steps) c.has_bottom.ensures bottom.takes))
 
 pub keep_process-requires-clause-able : goal.keep_process-requires-clause-able
 keep_process-requires-clause-able g c =
@@ -44,7 +45,7 @@ keep_process-requires-clause-able g c =
     let there : process < length system.lens = omega (arith, c.procs-procs.ensures.count, c.loop-process-test.true, lens) in
     let inv = c.loop-process.invariant in
     let Q : List ℕ → Type 0 = AreFinal system c.loop-process.seat.floor in
-    let final = subst Q (sym c.firsts-firsts.ensures) (final_more system _ _ _ inv.counts.rises c.requires.finals.firsts) in
+    let final = subst Q (sym c.firsts-firsts.ensures) (final_more system _ _ _ inv.counts.rises c.requires.firm.firsts) in
     let P : List ℕ → Type 0 = λ f. CanSettle system f c.settle_bottom.new.bottom process first in
     subst P (sym c.claim.ensures.floor) (record { bottom = inv.bottom; first = final.few process; kept = final.each process there })
 
@@ -70,7 +71,7 @@ returns-in_err-keep_process-clause-takes g c =
     let there : c.loop-process.process < length system.lens = omega (arith, c.procs-procs.ensures.count, c.loop-process-test.true, lens) in
     let inv = c.loop-process.invariant in
     let done = c.keep_process.ensures in
-    counts_takes system c.args.finals.now _ _ _ _ (c.loop-process.process + 1) _ _ c.firsts-firsts.ensures some (omega (arith, there)) inv.bottom.least.closed.vector
+    counts_takes system c.args.firm.now _ _ _ _ (c.loop-process.process + 1) _ _ c.firsts-firsts.ensures some (omega (arith, there)) inv.bottom.least.closed.vector
     (counts_next system _ _ _ _ _ _ _ _ _ _ _ there inv.counts c.claim.ensures.table c.claim.ensures.floor done.risen done.takes)
 
 pub loop-process-preserved : goal.loop-process-preserved
@@ -102,7 +103,7 @@ returns-clause-takes g c =
     let some : 1 ≤ length system.lens = omega (arith, c.procs-procs.ensures.shape.some, lens) in
     let end : c.loop-process.process ≡ length system.lens = omega (arith, c.procs-procs.ensures.count, c.loop-process-test.false, c.loop-process.auto.process-end, lens) in
     let inv = c.loop-process.invariant in
-    counts_takes system c.args.finals.now _ _ _ _ _ _ _ c.firsts-firsts.ensures some (omega (arith, end)) inv.bottom.least.closed.vector inv.counts
+    counts_takes system c.args.firm.now _ _ _ _ _ _ _ c.firsts-firsts.ensures some (omega (arith, end)) inv.bottom.least.closed.vector inv.counts
 
 pub returns-clause-kept : goal.returns-clause-kept
 returns-clause-kept g c =

@@ -1,6 +1,6 @@
 use Rattle.std.proofs.Common.{arith, ap, ◌≡◌, ◌+◌, ◌∙◌, ℕ, sum, take, subst, sym}
 use Rattle.pull_system.specs.System.{SystemView}
-use Rattle.slice_workers.specs.Reaching.{Reaches}
+use Rattle.bound_table.specs.Firm.{Reaches}
 use Rattle.slice_workers.proofs.Reached.{final_seen, settled_row}
 use Rattle.slice_workers.proofs.process.go_behind.Goals as goal
 

@@ -2,8 +2,9 @@ use Rattle.std.proofs.Common.{arith, ap, ◌≡◌, ◌+◌, ◌≤◌, ◌∙�
 use Rattle.pull_system.specs.System.{SystemView}
 use Rattle.bound_table.proofs.Claiming.{keeps_trans}
 use Rattle.bound_table.proofs.Floors.{within_trans}
-use Rattle.slice_workers.specs.Reaching.{ReachesFirst}
-use Rattle.slice_workers.proofs.Reached.{first_next, first_more, reaches_row, may_start, is_before}
+use Rattle.bound_table.specs.Firm.{ReachesFirst}
+use Rattle.slice_workers.proofs.Reached.{first_next, reaches_row, may_start, is_before}
+use Rattle.bound_table.proofs.Own.{first_more}
 use Rattle.slice_workers.proofs.Reached.IsBefore.{After}
 use Rattle.slice_workers.proofs.process.settle_process.Goals as goal
 

@@ -1,5 +1,5 @@
 use Rattle.std.proofs.Common.{◌≤◌, sum}
-use Rattle.slice_workers.specs.Reaching.{ReachesFirst}
+use Rattle.bound_table.specs.Firm.{ReachesFirst}
 use Rattle.slice_workers.specs.inside.Reaching.{IsReached}
 use Rattle.slice_workers.specs.inside.Settling.{HasOnlyRisen}
 use Rattle.slice_workers.proofs.Reached.{IsBefore}

@@ -1,7 +1,7 @@
 use Rattle.std.proofs.Common.{ap, sym, subst, ℕ, List}
-use Rattle.slice_workers.specs.Reaching.{AreFinal}
+use Rattle.bound_table.specs.Firm.{AreFinal}
 use Rattle.pull_system.specs.System.{SystemView}
-use Rattle.slice_workers.proofs.Reached.{final_more}
+use Rattle.bound_table.proofs.Own.{final_more}
 use Rattle.slice_workers.proofs.settled.settle_rows.Goals as goal
 
 pub finish-requires-clause-finals : goal.finish-requires-clause-finals

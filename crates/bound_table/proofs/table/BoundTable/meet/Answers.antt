@@ -1,13 +1,13 @@
-use Rattle.std.proofs.Common.{rules, arith, ◌≡◌, ◌<◌, ℕ, subst, sym, ap, ◌∙◌}
+use Rattle.std.proofs.Common.{rules, arith, ◌≡◌, subst, sym, ap, ◌∙◌}
 use Rattle.pull_system.specs.System.{SystemView}
 use Rattle.raise_machine.specs.Bounds.{AreBounds}
 use Rattle.bound_table.specs.declared.seat.SeenBounds.{SeenBounds}
 use Rattle.bound_table.specs.inside.Rule.{IsSound, word_count}
-use Rattle.bound_table.proofs.Moves.{meets, some_words, together_sound, met_maximum}
+use Rattle.bound_table.proofs.Moves.{meets, has_word, together_sound, met_maximum}
 use Rattle.bound_table.proofs.table.BoundTable.meet.Goals as goal
 
 pub join_seat-requires : goal.join_seat-requires
-join_seat-requires c = (search rules, search rules, search rules, let P : ℕ → Type 0 = λ n. 0 < n in subst P (sym c.self.invariant.1) (some_words _ c.self.invariant.2), meets _ _ _ _ _ c.seat.invariant.0.live c.other.invariant.0.live)
+join_seat-requires c = (search rules, search rules, search rules, has_word c.self.inside.table.shared.key.begins _ _ c.self.invariant.2 c.self.invariant.1, meets c.self.inside.table.shared.key.begins _ _ _ _ _ c.seat.invariant.0.live c.other.invariant.0.live)
 
 pub invariant_of-seat : goal.invariant_of-seat
 invariant_of-seat c =

@@ -1,6 +1,6 @@
-use Rattle.std.proofs.Common.{rules, ◌<◌, ℕ, subst, sym}
-use Rattle.bound_table.proofs.Moves.{splits, some_words}
+use Rattle.std.proofs.Common.{rules}
+use Rattle.bound_table.proofs.Moves.{splits, has_word}
 use Rattle.bound_table.proofs.table.BoundTable.split.Goals as goal
 
 pub split_seat-requires : goal.split_seat-requires
-split_seat-requires c = (search rules, let P : ℕ → Type 0 = λ n. 0 < n in subst P (sym c.self.invariant.1) (some_words _ c.self.invariant.2), splits _ _ _)
+split_seat-requires c = (search rules, has_word c.self.inside.table.shared.key.begins _ _ c.self.invariant.2 c.self.invariant.1, splits c.self.inside.table.shared.key.begins _ _ _)

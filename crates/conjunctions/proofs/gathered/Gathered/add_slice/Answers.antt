@@ -3,11 +3,12 @@ use Rattle.std.specs.Prelude.{IfSome}
 use Rattle.run_model.specs.Cut.{lengths}
 use Rattle.pull_system.specs.declared.pull.Pull.{Pull}
 use Rattle.pull_fans.specs.Fans.{pulls_of_fans}
-use Rattle.pull_system.specs.Rows.{RowsView, AreLeastRows}
+use Rattle.pull_system.specs.Rows.{RowsView}
+use Rattle.bound_table.specs.Firm.{AreOwnRows}
 use Rattle.slice_graph.specs.PullLists.{pulls_of_slice}
 use Rattle.conjunctions.specs.inside.Beginning.{GatheredView, MayBeginFrom}
 use Rattle.conjunctions.specs.inside.Gathering.{first_pulls}
-use Rattle.conjunctions.proofs.Beginning.{floor_more, slice_floor, slice_least}
+use Rattle.conjunctions.proofs.Beginning.{floor_more, slice_floor, slice_rows}
 use Rattle.conjunctions.proofs.gathered.Gathered.add_slice.Goals as goal
 
 pub returns-in_ok-rows-clause-floor : goal.returns-in_ok-rows-clause-floor
@@ -22,11 +23,11 @@ returns-in_ok-rows-clause-floor c = λ o fits before.
     record {
       begins = subst (λ (f : Option RowsView). IfSome f (MayBeginFrom (lengths o) new.pulls)) (sym kept)
           (slice_floor o c.args.slice.now old new.pulls rows fits pulls c.in_ok-rows.ensures.lens (c.in_ok-rows.ensures.begins o fits));
-      least = λ is.
+      own = λ is.
           let none : old ≡ [] = c.asks_nothing-alone.ensures.pulls (sym alone ∙ is) in
           let own : new.pulls ≡ pulls_of_slice c.args.slice.now = pulls ∙ ap (λ (list : List Pull). list ++ pulls_of_slice c.args.slice.now) none in
-          subst (λ (f : Option RowsView). IfSome f (λ r. AreLeastRows (record { lens = lengths o; pulls = new.pulls }) r.words)) (sym kept)
-          (slice_least o c.args.slice.now new.pulls rows fits c.shape-shape.ensures.rows own c.in_ok-rows.ensures.words (c.in_ok-rows.ensures.begins o fits));
+          subst (λ (f : Option RowsView). IfSome f (λ r. AreOwnRows (record { lens = lengths o; pulls = new.pulls }) r.words)) (sym kept)
+          (slice_rows o c.args.slice.now new.pulls rows fits c.shape-shape.ensures.rows own c.in_ok-rows.ensures.words (c.in_ok-rows.ensures.begins o fits));
     }
 
 pub returns-else-is_none-clause-floor : goal.returns-else-is_none-clause-floor
