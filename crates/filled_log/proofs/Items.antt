@@ -11,9 +11,8 @@ use Rattle.fault_kinds.specs.declared.refusal.Refusal.TheVariants as refusal
 use Rattle.log_rules.specs.Judgement.{Judgement, waiting, judge, judged}
 use Rattle.log_rules.proofs.Items.{refused-stays}
 use Rattle.filled_log.specs.declared.filling.FilledLog.{FilledLog}
-use Rattle.log_trace.specs.Judging.{without_formula, IsRefused}
+use Rattle.log_trace.specs.Judging.{without_formula, IsRefused, MayFollow}
 use Rattle.filled_log.specs.Filling.{Keeps}
-use Rattle.log_trace.specs.inside.Judging.{MayFollow}
 use Rattle.log_trace.proofs.Following.{follows_one, follows_first}
 
 judged-none : (j : Judgement) → judged without_formula j [] ≡ j

@@ -15,8 +15,8 @@ use Rattle.vector_clock.proofs.FilledBatches.{length-fill_from}
 use Rattle.counter_preds.proofs.Staying.{none_without}
 use Rattle.fault_kinds.specs.declared.refusal.Refusal.TheVariants as refusal
 use Rattle.log_rules.specs.Judgement.{Prefix, followed_by, events_of, states_of, with_clocks, clock_fault, Judgement, waiting, growing, finished, refused, opened, judge}
-use Rattle.log_trace.specs.Judging.{without_formula, IsRefused}
-use Rattle.log_trace.specs.inside.Judging.{MayFollow, end_item}
+use Rattle.log_trace.specs.Judging.{without_formula, IsRefused, MayFollow}
+use Rattle.log_trace.specs.inside.Judging.{end_item}
 use Rattle.log_trace.proofs.Following.{event_count-push}
 use Rattle.filled_log.specs.declared.filling.Begun.{Begun}
 use Rattle.filled_log.specs.declared.filling.FilledLog.{FilledLog}

@@ -15,8 +15,7 @@ use Rattle.event_log.specs.FittingItems.{FitFrom, FitFirst}
 use Rattle.event_log.specs.LogText.{EventFits, event_items, log_items}
 use Rattle.log_rules.specs.Judgement.{Prefix, Judgement, waiting, growing, opened, judge, judged}
 use Rattle.log_rules.proofs.Logs.{judged-batch}
-use Rattle.log_trace.specs.Judging.{without_formula, IsRefused}
-use Rattle.log_trace.specs.inside.Judging.{MayFollow}
+use Rattle.log_trace.specs.Judging.{without_formula, IsRefused, MayFollow}
 use Rattle.filled_log.specs.declared.filling.FilledLog.{FilledLog}
 use Rattle.filled_log.specs.Filling.{Keeps}
 

@@ -11,9 +11,8 @@ use Rattle.event_log.specs.FittingItems.{FitFrom}
 use Rattle.event_log.specs.States.{with_batch}
 use Rattle.vector_clock.proofs.FilledBatches.{length-fill_from}
 use Rattle.fault_kinds.specs.declared.refusal.Refusal.TheVariants as refusal
-use Rattle.log_rules.specs.Judgement.{Prefix, followed_by, events_of, with_clocks, Judgement, waiting, growing, finished, refused, judge}
-use Rattle.log_trace.specs.Judging.{without_formula}
-use Rattle.log_trace.specs.inside.Judging.{MayFollow}
+use Rattle.log_rules.specs.Judgement.{Prefix, followed_by, events_of, with_clocks, Judgement, waiting, growing, finished, refused, judge, judged}
+use Rattle.log_trace.specs.Judging.{without_formula, MayFollow}
 
 pub event_count-push : (bs : List (List Event)) (b : List Event) → event_count (bs ++ b ∷ []) ≡ event_count bs + length b
 event_count-push [] b = omega arith
@@ -66,3 +65,8 @@ follows_first (finished log last) (item.Event e) rest fit = (fit.0, (fit.1.0, fi
 follows_first (finished log last) item.BatchEnd rest fit = (fit.0, tt)
 follows_first (finished log last) item.End rest fit = (fit.0, tt)
 follows_first (refused log why) i rest fit = tt
+
+pub follows_all : (j : Judgement) (xs ys : List Item) → MayFollow j (xs ++ ys) → MayFollow (judged without_formula j xs) ys
+unfolding judged
+follows_all j [] ys fit = fit
+follows_all j (i ∷ xs) ys fit = follows_all (judge without_formula j i) xs ys (follows_one j i (xs ++ ys) fit)

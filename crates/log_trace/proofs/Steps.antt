@@ -21,14 +21,13 @@ use Rattle.vector_clock.proofs.BatchLaws.{events_stand}
 use Rattle.vector_clock.proofs.FilledBatches.{length-fill_from}
 use Rattle.trace_growth.specs.Growing.{TraceView, FitsTrace, opened_trace, trace_fault}
 use Rattle.trace_growth.specs.Growing.{with_trace_batch}
-use Rattle.counter_preds.specs.Falls.{fall_fault}
 use Rattle.counter_preds.proofs.Staying.{none_without}
 use Rattle.fault_kinds.specs.declared.refusal.Refusal.TheVariants as refusal
-use Rattle.log_rules.specs.Judgement.{Prefix, followed_by, events_of, states_of, with_clocks, clock_fault, Judgement, waiting, growing, finished, refused, opened, closing, judge}
+use Rattle.log_rules.specs.Judgement.{Prefix, followed_by, events_of, states_of, with_clocks, clock_fault, Judgement, waiting, growing, finished, refused, opened, judge}
 use Rattle.log_rules.proofs.Orders.{with_batches-push, event_count_is}
 use Rattle.log_trace.specs.declared.trace.LogTrace.{LogTrace}
-use Rattle.log_trace.specs.Judging.{without_formula, IsRefused, HasTrace, Keeps}
-use Rattle.log_trace.specs.inside.Judging.{MayFollow, end_item}
+use Rattle.log_trace.specs.Judging.{without_formula, IsRefused, HasTrace, Keeps, MayFollow}
+use Rattle.log_trace.specs.inside.Judging.{end_item}
 use Rattle.log_trace.proofs.Following.{event_count-push}
 
 -- ---- events of a log fit its trace

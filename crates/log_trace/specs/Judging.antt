@@ -1,10 +1,11 @@
 -- The trace of a log as its items come: what is kept of it, and which items may come.
-use Rattle.std.specs.Prelude.{◌≡◌, ◌+◌, ◌≤◌, true, false, List, [], length, None, Some}
+use Rattle.std.specs.Prelude.{◌≡◌, ℕ, ◌+◌, ◌≤◌, true, false, List, [], length, None, Some}
 use Rattle.std.specs.Prelude.{Option}
 use Rattle.std.specs.List.{AllByRecursion}
-use Rattle.event_log.specs.declared.item.Item.TheVariants as item
+use Rattle.event_log.specs.declared.item.Item.{Item}
 use Rattle.event_log.specs.declared.item.LogFault.{LogFault}
 use Rattle.event_log.specs.declared.log.Event.{Event}
+use Rattle.event_log.specs.FittingItems.{FitFrom, FitFirst}
 use Rattle.event_log.specs.LogText.{HeaderFits, EventFits, event_count}
 use Rattle.trace_growth.specs.Growing.{TraceView}
 use Rattle.fault_kinds.specs.declared.refusal.Refusal.TheVariants as refusal
@@ -17,6 +18,14 @@ abbrev pub without_formula : Rules
 without_formula = with_rules (λ h. None) (λ h. [])
 
 -- ---- what is judged
+
+-- items of a log that may come behind a judgement
+abbrev pub MayFollow : Judgement → List Item → Type 0
+MayFollow waiting items = FitFirst items
+MayFollow (growing log since) items =
+    FitFrom log.header (event_count log.batches + length since) items
+MayFollow (finished log last) items = (n : ℕ) × FitFrom log.header n items
+MayFollow (refused log why) items = Unit {0}
 
 -- this fault of the log is judged
 abbrev pub IsRefused : Judgement → LogFault → Type 0

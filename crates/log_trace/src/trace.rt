@@ -1,11 +1,10 @@
 //! The trace of a log, as its items come.
 ghost use Rattle.std.specs.Prelude.{◌∷◌, [], OnOk};
 ghost use Rattle.vector_clock.specs.Admitted.{IfFault};
-ghost use Rattle.event_log.specs.FittingItems.{FitFirst};
 ghost use Rattle.event_log.specs.LogText.{HeaderFits};
 ghost use Rattle.log_rules.specs.Judgement.{Judgement, judge, judged, opened, waiting};
-ghost use Rattle.log_trace.specs.Judging.{Keeps, IsRefused, without_formula};
-ghost use Rattle.log_trace.specs.inside.Judging.{MayFollow, end_item};
+ghost use Rattle.log_trace.specs.Judging.{Keeps, IsRefused, MayFollow, without_formula};
+ghost use Rattle.log_trace.specs.inside.Judging.{end_item};
 
 use event_log::{Event, Header, Item, LogFault};
 use pota_base::{List, NoMemory, Refused};
@@ -99,12 +98,13 @@ impl LogTrace {
         }
     }
 
-    /// Takes these items, the first ones of a log, in their order and up to the first fault.
+    /// Takes these items, behind those before, in their order and up to the first fault.
     pub fn take_all(&mut self, alloc: Global, items: List<Item>) -> Result<(), Refused<LogFault>>
-        requires none { Keeps self.old waiting }
-        requires fit { FitFirst items }
-        ensures ok { OnOk result (Keeps self.new (judged without_formula waiting items)) }
-        ensures fault { IfFault result (IsRefused (judged without_formula waiting items)) }
+        requires { (j : Judgement) × Keeps self.old j × MayFollow j items }
+        ensures ok { OnOk result ((j : Judgement) → Keeps self.old j → MayFollow j items
+            → Keeps self.new (judged without_formula j items)) }
+        ensures fault { IfFault result (λ f. (j : Judgement) → Keeps self.old j
+            → MayFollow j items → IsRefused (judged without_formula j items) f) }
     {
         let mut rest = items.into_vec().into_iter();
         while let Some(item) = rest.next() {

@@ -14,8 +14,7 @@ use Rattle.vector_clock.proofs.FilledBatches.{length-fill_from}
 use Rattle.fault_kinds.specs.declared.refusal.Refusal.TheVariants as refusal
 use Rattle.log_rules.specs.Judgement.{Prefix, followed_by, events_of, with_clocks, Judgement, waiting, growing, finished, refused, judge, judged}
 use Rattle.log_rules.specs.Due.{whole_of}
-use Rattle.log_trace.specs.Judging.{without_formula}
-use Rattle.log_trace.specs.inside.Judging.{MayFollow}
+use Rattle.log_trace.specs.Judging.{without_formula, MayFollow}
 use Rattle.log_trace.proofs.Following.{event_count-push, follows_one}
 
 -- so many events, and some batch

@@ -2,9 +2,8 @@ use Rattle.std.proofs.Common.{◌∷◌, [], sym, subst}
 use Rattle.event_log.specs.declared.item.Item.{Item}
 use Rattle.event_log.specs.declared.item.Item.TheVariants as item
 use Rattle.log_rules.specs.Judgement.{Judgement, judge}
-use Rattle.log_trace.specs.Judging.{without_formula}
+use Rattle.log_trace.specs.Judging.{without_formula, MayFollow}
 use Rattle.filled_log.specs.Filling.{Keeps}
-use Rattle.log_trace.specs.inside.Judging.{MayFollow}
 use Rattle.filled_log.proofs.Steps.{adds, header_first}
 use Rattle.filled_log.proofs.filling.FilledLog.take.Goals as goal
 

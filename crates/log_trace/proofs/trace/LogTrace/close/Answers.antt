@@ -4,7 +4,7 @@ use Rattle.pota_base.specs.declared.fault.Refused.{Refused}
 use Rattle.pota_base.specs.declared.fault.Refused.TheVariants as refused
 use Rattle.event_log.specs.declared.item.LogFault.{LogFault}
 use Rattle.vector_clock.specs.Admitted.{IfFault}
-use Rattle.log_trace.proofs.Steps.{batch_fits, closes, close_refuses, stays, has_header}
+use Rattle.log_trace.proofs.Steps.{batch_fits, closes, close_refuses}
 use Rattle.log_trace.proofs.trace.LogTrace.close.Goals as goal
 
 -- what is told of a fault

@@ -2,8 +2,7 @@ use Rattle.std.proofs.Common.{◌∷◌, [], sym, subst}
 use Rattle.event_log.specs.declared.item.Item.{Item}
 use Rattle.event_log.specs.declared.item.Item.TheVariants as item
 use Rattle.log_rules.specs.Judgement.{Judgement, judge}
-use Rattle.log_trace.specs.Judging.{Keeps, without_formula}
-use Rattle.log_trace.specs.inside.Judging.{MayFollow}
+use Rattle.log_trace.specs.Judging.{Keeps, without_formula, MayFollow}
 use Rattle.log_trace.proofs.Steps.{adds, header_first}
 use Rattle.log_trace.proofs.trace.LogTrace.take.Goals as goal
 
