@@ -1,6 +1,6 @@
-//! The views of a run as a program: a log and a report of it come on standard input, one behind the
-//! other, the view goes to standard output, and the line that tells why there is none to standard
-//! error.
+//! The views of a run as a program: a log and one report of it or more come on standard input, one
+//! behind the other, the view goes to standard output, and the line that tells why there is none to
+//! standard error.
 #![tactic(auto)]
 
 use pota_base::{Sink, write_all};

@@ -1,4 +1,5 @@
+pub mod Bounds
 pub mod Folds
-pub mod Names
 pub mod Settings
+pub mod Steps
 pub mod Walks

@@ -1,5 +1,5 @@
 pub mod Folding
-pub mod Named
 pub mod Claims
 pub mod Latest
+pub mod Shown
 pub mod Text

@@ -24,8 +24,10 @@ use Rattle.view_parts.specs.Each.{each_below}
 use Rattle.view_parts.specs.Parts.{place, variable_name, place_text, line_text, kind_text}
 use Rattle.view_parts.specs.Parts.{assigns_text}
 use Rattle.view_text.specs.Folding.{folded}
-use Rattle.view_text.specs.Named.{names_variable}
-use Rattle.view_text.specs.Latest.{last_setting}
+use Rattle.named_events.specs.Naming.{begin_with_variable, names}
+use Rattle.view_text.specs.declared.extent.Extent.{Extent}
+use Rattle.view_text.specs.Shown.{bounds_of, is_whole, is_shown}
+use Rattle.view_text.specs.Latest.{last_setting, next_setting}
 use Rattle.view_text.specs.Claims.{claims}
 
 -- ---- columns
@@ -58,11 +60,26 @@ event_row s e =
 abbrev pub step_row : StatesView → ℕ → EventId → List ℕ
 step_row s number e = to_the_right 5 (decimal number) ++ spaces 2 ++ event_row s e
 
-abbrev pub no_place : EventId
-no_place = record { process = 0; position = 0 }
+-- how many steps are not shown, where some are not
+abbrev pub left_out_row : ℕ → List ℕ
+left_out_row n =
+    if n == 0 then []
+    else spaces 7 ++ decimal n ++ (if n == 1 then codes " event" else codes " events") ++ 10 ∷ []
 
-abbrev pub step_rows : StatesView → List EventId → List ℕ
-step_rows s steps = each_below (length steps) (λ k. step_row s (k + 1) (get_or steps k no_place))
+-- the steps that are shown with their numbers, the first of them has this one; in place of others
+-- how many they are, and as many stand before the first
+unfoldable pub folded_steps : StatesView → (EventId → Bool) → ℕ → ℕ → List EventId → List ℕ
+folded_steps s shown number left_out [] = left_out_row left_out
+folded_steps s shown number left_out (e ∷ es) =
+    if shown e
+    then left_out_row left_out ++ step_row s number e ++ folded_steps s shown (number + 1) 0 es
+    else folded_steps s shown (number + 1) (left_out + 1) es
+
+-- the steps of a path
+abbrev pub step_rows : StatesView → List Token → Extent → Path → List ℕ
+step_rows s tokens e path =
+    folded_steps s
+    (is_shown s tokens (is_whole e (length path.steps)) (bounds_of s tokens e path)) 1 0 path.steps
 
 -- `NAME POSITION (line N)`
 abbrev pub lined : StatesView → EventId → List ℕ
@@ -75,6 +92,11 @@ abbrev pub since : StatesView → ℕ → Option ℕ → List ℕ
 since s process None = codes "the start"
 since s process (Some position) = lined s (place process position)
 
+-- the event that sets a variable next, or that none does
+abbrev pub until : StatesView → ℕ → Option ℕ → List ℕ
+until s process None = codes "the end"
+until s process (Some position) = lined s (place process position)
+
 -- `PROCESS.VARIABLE = `
 abbrev pub owned : StatesView → ℕ → ℕ → List ℕ
 owned s process variable =
@@ -85,17 +107,20 @@ abbrev pub value_text : StatesView → ℕ → ℕ → ℕ → List ℕ
 value_text s process variable events =
     signed_decimal (value_of (process_at (trace_of s) process) events variable)
 
--- that value, and the event that last set it
+-- that value, the event that last set it, and the one that sets it next
 abbrev pub value_row : StatesView → ℕ → ℕ → ℕ → List ℕ
 value_row s process variable events =
     codes "       there  " ++ owned s process variable ++ value_text s process variable events
     ++ codes ", since "
-    ++ since s process (last_setting (get_or s.events process []) variable events) ++ 10 ∷ []
+    ++ since s process (last_setting (get_or s.events process []) variable events)
+    ++ codes ", until "
+    ++ until s process (next_setting (get_or s.events process []) variable events) ++ 10 ∷ []
 
 -- nothing is told of a variable that the formula doesn't name
 abbrev pub named_row : StatesView → List Token → ℕ → ℕ → ℕ → List ℕ
 named_row s tokens process variable events =
-    if names_variable (name_at s.header.procs process) (variable_name s process variable) tokens
+    if names (begin_with_variable (name_at s.header.procs process)
+    (variable_name s process variable)) tokens
     then value_row s process variable events else []
 
 -- a process has at most 16 variables
@@ -118,36 +143,36 @@ goal_row shown path =
     shown ++ clock_text path.goal ++ codes "; steps: " ++ decimal (length path.steps) ++ 10 ∷ []
 
 -- what is shown of a path: what holds at its goal, its steps, and the values at its goal
-abbrev pub path_rows : StatesView → List Token → List ℕ → Path → List ℕ
-path_rows s tokens shown path =
-    goal_row shown path ++ step_rows s path.steps ++ value_rows s tokens path.goal
+abbrev pub path_rows : StatesView → List Token → Extent → List ℕ → Path → List ℕ
+path_rows s tokens e shown path =
+    goal_row shown path ++ step_rows s tokens e path ++ value_rows s tokens path.goal
 
 abbrev pub pair_rows : StatesView → EventId → EventId → List ℕ
 pair_rows s first other =
     codes "a cut where the operand holds has both of these or neither, and a step takes one"
     ++ 10 ∷ [] ++ spaces 7 ++ event_row s first ++ spaces 7 ++ event_row s other
 
-abbrev pub witness_told : StatesView → List Token → Witness → List ℕ
-witness_told s tokens witness.Nothing = codes "there is nothing to show" ++ 10 ∷ []
-witness_told s tokens (witness.Reach path) =
-    path_rows s tokens (codes "the operand holds at ") path
-witness_told s tokens (witness.Against path) =
-    path_rows s tokens (codes "the operand does not hold at ") path
-witness_told s tokens (witness.Always path) =
-    path_rows s tokens (codes "the operand holds at each cut on the way to ") path
-witness_told s tokens witness.StuckStart =
+abbrev pub witness_told : StatesView → List Token → Extent → Witness → List ℕ
+witness_told s tokens e witness.Nothing = codes "there is nothing to show" ++ 10 ∷ []
+witness_told s tokens e (witness.Reach path) =
+    path_rows s tokens e (codes "the operand holds at ") path
+witness_told s tokens e (witness.Against path) =
+    path_rows s tokens e (codes "the operand does not hold at ") path
+witness_told s tokens e (witness.Always path) =
+    path_rows s tokens e (codes "the operand holds at each cut on the way to ") path
+witness_told s tokens e witness.StuckStart =
     codes "the operand does not hold where nothing has happened yet" ++ 10 ∷ []
-witness_told s tokens witness.StuckFinish =
+witness_told s tokens e witness.StuckFinish =
     codes "the operand does not hold at the end" ++ 10 ∷ []
-witness_told s tokens (witness.StuckPair first other) = pair_rows s first other
+witness_told s tokens e (witness.StuckPair first other) = pair_rows s first other
 
 -- an empty line, and the numbers of a witness
 abbrev pub witness_head : WitnessText → List ℕ
 witness_head w =
     10 ∷ codes "witness " ++ decimal w.disjunct ++ codes "." ++ decimal w.part ++ codes ": "
 
-abbrev pub witness_rows : StatesView → List Token → WitnessText → List ℕ
-witness_rows s tokens w = witness_head w ++ witness_told s tokens w.witness
+abbrev pub witness_rows : StatesView → List Token → Extent → WitnessText → List ℕ
+witness_rows s tokens e w = witness_head w ++ witness_told s tokens e w.witness
 
 -- ---- the slice
 
@@ -210,11 +235,11 @@ abbrev pub formula_tokens : Report → List Token
 formula_tokens r = (lex r.formula).tokens
 
 -- before long lines are broken
-abbrev pub plain_text : StatesView → Report → List ℕ
-plain_text s r =
-    head_rows r (formula_tokens r) ++ flat_map (witness_rows s (formula_tokens r)) r.witnesses
+abbrev pub plain_text : StatesView → Extent → Report → List ℕ
+plain_text s e r =
+    head_rows r (formula_tokens r) ++ flat_map (witness_rows s (formula_tokens r) e) r.witnesses
     ++ slice_rows s r.slice
 
 -- the view of a run by a report of it
-abbrev pub view_text : StatesView → Report → List ℕ
-view_text s r = folded 0 (plain_text s r)
+abbrev pub view_text : StatesView → Extent → Report → List ℕ
+view_text s e r = folded 0 (plain_text s e r)

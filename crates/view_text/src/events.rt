@@ -1,8 +1,7 @@
 //! Rows of events.
 ghost use Rattle.std.specs.Prelude.{◌≡◌, ◌≤◌, ◌++◌, [], ◌∷◌, length, map, OnOk};
-ghost use Rattle.std.specs.List.{AllByRecursion};
 ghost use Rattle.pota_base.specs.Shape.{HasEvent};
-ghost use Rattle.view_text.specs.Text.{with_assigns, event_row, step_row, step_rows};
+ghost use Rattle.view_text.specs.Text.{with_assigns, event_row, step_row, left_out_row};
 ghost use Rattle.view_text.specs.Text.{lined};
 
 use crate::columns::{put_cell, put_spaces, put_to_the_right};
@@ -57,8 +56,8 @@ pub fn put_event_row(
     out.push(b'\n')
 }
 
-// Appends the row of a step with its number.
-fn put_step_row(
+/// Appends the row of a step with its number.
+pub fn put_step_row(
     out: &mut Bytes,
     alloc: Global,
     states: &States,
@@ -75,20 +74,20 @@ fn put_step_row(
     put_event_row(out, alloc, states, event)
 }
 
-/// Appends the rows of the steps of a path.
-pub fn put_step_rows(
-    out: &mut Bytes,
-    alloc: Global,
-    states: &States,
-    steps: &[EventId],
-) -> Result<(), NoMemory>
-    requires { AllByRecursion (HasEvent (map length states.now.events)) steps.now }
-    ensures { OnOk result (out.new ≡ out.old ++ step_rows states.now steps.now) }
+/// Appends how many steps are not shown, where some are not.
+pub fn put_left_out(out: &mut Bytes, steps: u64) -> Result<(), NoMemory>
+    ensures { OnOk result (out.new ≡ out.old ++ left_out_row steps) }
 {
-    for k in 0..steps.len() {
-        put_step_row(out, alloc, states, k as u64 + 1, steps[k])?;
+    if steps == 0 {
+        return Ok(());
     }
-    Ok(())
+    put_spaces(out, 7)?;
+    put_u64(out, steps)?;
+    out.extend_from_slice(if steps == 1 {
+        b" event\n"
+    } else {
+        b" events\n"
+    })
 }
 
 /// Appends `NAME POSITION (line N)`.

@@ -4,14 +4,14 @@ ghost use Rattle.std.specs.Prelude.{IfSome};
 ghost use Rattle.pota_base.specs.Shape.{HasEvent};
 ghost use Rattle.report_lines.specs.Spelling.{CutFits};
 ghost use Rattle.view_parts.specs.Parts.{place};
-ghost use Rattle.view_text.specs.Text.{since, owned, value_text, value_row, named_row};
+ghost use Rattle.view_text.specs.Text.{since, until, owned, value_text, value_row, named_row};
 ghost use Rattle.view_text.specs.Text.{process_rows, value_rows};
 
 use crate::events::put_lined;
-use crate::latest::last_setting;
-use crate::named::names_variable;
+use crate::latest::{last_setting, next_setting};
 use cut_lattice::Cut;
 use event_log::States;
+use named_events::{Sought, names};
 use pota_base::{Bytes, EventId, NoMemory, put_i64};
 use rctl_grammar::Token;
 use view_parts::{name_at, variable_name, variables_at};
@@ -32,6 +32,23 @@ fn put_since(
 {
     match setting {
         None => out.extend_from_slice(b"the start"),
+        Some(position) => put_lined(out, states, EventId { process, position }),
+    }
+}
+
+// Appends the event that sets a variable next, or that none does.
+fn put_until(
+    out: &mut Bytes,
+    states: &States,
+    process: u32,
+    setting: Option<u32>,
+) -> Result<(), NoMemory>
+    requires { IfSome setting (λ position.
+        HasEvent (map length states.now.events) (place process position)) }
+    ensures { OnOk result (out.new ≡ out.old ++ until states.now process setting) }
+{
+    match setting {
+        None => out.extend_from_slice(b"the end"),
         Some(position) => put_lined(out, states, EventId { process, position }),
     }
 }
@@ -62,7 +79,8 @@ fn put_value(
     put_i64(out, states.value(process, events, variable))
 }
 
-// Appends the value of a variable after so many events, and the event that last set it.
+// Appends the value of a variable after so many events, the event that last set it, and the one
+// that sets it next.
 fn put_value_row(
     out: &mut Bytes,
     states: &States,
@@ -81,6 +99,13 @@ fn put_value_row(
     out.extend_from_slice(b", since ")?;
     let setting = last_setting(states, process, variable, events);
     put_since(out, states, process, setting)?;
+    out.extend_from_slice(b", until ")?;
+    put_until(
+        out,
+        states,
+        process,
+        next_setting(states, process, variable, events),
+    )?;
     out.push(b'\n')
 }
 
@@ -100,7 +125,8 @@ fn put_named_row(
         ≡ out.old ++ named_row states.now tokens.now process variable events) }
 {
     let owner = name_at(states.header().procs.as_slice(), process);
-    if names_variable(owner, variable_name(states, process, variable), tokens) {
+    let sought = Sought::Variable(owner, variable_name(states, process, variable));
+    if names(sought, tokens) {
         return put_value_row(out, states, process, variable, events);
     }
     Ok(())

@@ -7,6 +7,7 @@ ghost use Rattle.view_text.specs.Text.{verdict_word, head_rows, plain_text, view
 ghost use Rattle.view_text.specs.Text.{formula_tokens};
 
 use crate::claims::put_claims;
+use crate::extent::Extent;
 use crate::folding::folded;
 use crate::slices::put_slice_rows;
 use crate::witnesses::{Told, put_witnesses};
@@ -38,10 +39,15 @@ fn put_head_rows(out: &mut Bytes, report: &Report, tokens: &[Token]) -> Result<(
 }
 
 // The text before long lines are broken.
-fn plain_text(alloc: Global, states: &States, report: &Report) -> Result<Bytes, NoMemory>
+fn plain_text(
+    alloc: Global,
+    states: &States,
+    extent: Extent,
+    report: &Report,
+) -> Result<Bytes, NoMemory>
     requires formed { IsWellFormed report.now }
     requires fits { IsReportOf states.now report.now }
-    ensures { IfOk result (λ text. text ≡ plain_text states.now report.now) }
+    ensures { IfOk result (λ text. text ≡ plain_text states.now extent report.now) }
 {
     let lexed = lex(alloc, report.formula.as_slice())?;
     let tokens = lexed.tokens.as_slice();
@@ -49,6 +55,7 @@ fn plain_text(alloc: Global, states: &States, report: &Report) -> Result<Bytes, 
         alloc,
         states,
         tokens,
+        extent,
     };
     let mut out = Bytes::new(alloc);
     put_head_rows(&mut out, report, tokens)?;
@@ -58,12 +65,17 @@ fn plain_text(alloc: Global, states: &States, report: &Report) -> Result<Bytes, 
 }
 
 /// The view of a run by a report of it.
-pub fn view_text(alloc: Global, states: &States, report: &Report) -> Result<Bytes, NoMemory>
+pub fn view_text(
+    alloc: Global,
+    states: &States,
+    extent: Extent,
+    report: &Report,
+) -> Result<Bytes, NoMemory>
     requires formed { IsWellFormed report.now }
     requires fits { IsReportOf states.now report.now }
-    ensures view { IfOk result (λ text. text ≡ view_text states.now report.now) }
+    ensures view { IfOk result (λ text. text ≡ view_text states.now extent report.now) }
     ensures short { IfOk result (AreShort 0) }
 {
-    let text = plain_text(alloc, states, report)?;
+    let text = plain_text(alloc, states, extent, report)?;
     folded(alloc, text.as_slice())
 }

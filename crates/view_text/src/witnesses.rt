@@ -3,11 +3,13 @@ ghost use Rattle.std.specs.Prelude.{◌≡◌, ◌++◌, ◌∷◌, [], length, 
 ghost use Rattle.std.specs.List.{AllByRecursion, flat_map};
 ghost use Rattle.pota_base.specs.Shape.{HasEvent};
 ghost use Rattle.report_lines.specs.Spelling.{PathFits, WitnessFits, WitnessTextFits};
-ghost use Rattle.view_text.specs.Text.{goal_row, path_rows, pair_rows, witness_told, witness_rows};
+ghost use Rattle.view_text.specs.Text.{goal_row, step_rows, path_rows, pair_rows, witness_told, witness_rows};
 ghost use Rattle.view_text.specs.Text.{witness_head};
 
 use crate::columns::put_spaces;
-use crate::events::{put_event_row, put_step_rows};
+use crate::events::{put_event_row, put_left_out, put_step_row};
+use crate::extent::Extent;
+use crate::shown::{bounds_of, is_shown, is_whole};
 use crate::values::put_value_rows;
 use event_log::{States, put_clock};
 use pota_base::{Bytes, EventId, NoMemory, put_u64};
@@ -23,6 +25,7 @@ pub struct Told<'a> {
     pub states: &'a States,
     /// The tokens of the report's formula.
     pub tokens: &'a [Token],
+    pub extent: Extent,
 }
 
 // Appends what holds at the goal of a path, and how many steps lead there.
@@ -36,14 +39,37 @@ fn put_goal_row(out: &mut Bytes, shown: &[u8], path: &Path) -> Result<(), NoMemo
     out.push(b'\n')
 }
 
+// Appends the rows of the steps of a path that are shown, and how many are not.
+fn put_step_rows(out: &mut Bytes, told: &Told<'_>, path: &Path) -> Result<(), NoMemory>
+    requires { PathFits (map length told.now.states.now.events) path.now }
+    ensures { OnOk result (out.new ≡ out.old
+        ++ step_rows told.now.states.now told.now.tokens.now told.now.extent path.now) }
+{
+    let bounds = bounds_of(told, path)?;
+    let steps = path.steps.as_slice();
+    let whole = is_whole(told.extent, steps.len());
+    let mut left_out = 0;
+    for k in 0..steps.len() {
+        if is_shown(told, whole, &bounds, steps[k]) {
+            put_left_out(out, left_out)?;
+            put_step_row(out, told.alloc, told.states, k as u64 + 1, steps[k])?;
+            left_out = 0;
+        } else {
+            left_out += 1;
+        }
+    }
+    put_left_out(out, left_out)
+}
+
 // Appends what is shown of a path.
 fn put_path(out: &mut Bytes, told: &Told<'_>, shown: &[u8], path: &Path) -> Result<(), NoMemory>
     requires { PathFits (map length told.now.states.now.events) path.now }
     ensures { OnOk result (out.new
-        ≡ out.old ++ path_rows told.now.states.now told.now.tokens.now shown.now path.now) }
+        ≡ out.old ++ path_rows told.now.states.now told.now.tokens.now told.now.extent shown.now
+        path.now) }
 {
     put_goal_row(out, shown, path)?;
-    put_step_rows(out, told.alloc, told.states, path.steps.as_slice())?;
+    put_step_rows(out, told, path)?;
     put_value_rows(out, told.states, told.tokens, &path.goal)
 }
 
@@ -71,7 +97,8 @@ fn put_pair(
 fn put_witness(out: &mut Bytes, told: &Told<'_>, witness: &Witness) -> Result<(), NoMemory>
     requires { WitnessFits (map length told.now.states.now.events) witness.now }
     ensures { OnOk result (out.new
-        ≡ out.old ++ witness_told told.now.states.now told.now.tokens.now witness.now) }
+        ≡ out.old ++ witness_told told.now.states.now told.now.tokens.now told.now.extent
+        witness.now) }
 {
     match witness {
         Witness::Nothing => out.extend_from_slice(b"there is nothing to show\n"),
@@ -107,7 +134,8 @@ fn put_head(out: &mut Bytes, witness: &WitnessText) -> Result<(), NoMemory>
 fn put_witness_rows(out: &mut Bytes, told: &Told<'_>, witness: &WitnessText) -> Result<(), NoMemory>
     requires { WitnessTextFits (map length told.now.states.now.events) witness.now }
     ensures { OnOk result (out.new
-        ≡ out.old ++ witness_rows told.now.states.now told.now.tokens.now witness.now) }
+        ≡ out.old ++ witness_rows told.now.states.now told.now.tokens.now told.now.extent
+        witness.now) }
 {
     put_head(out, witness)?;
     put_witness(out, told, &witness.witness)
@@ -122,7 +150,8 @@ pub fn put_witnesses(
     requires { AllByRecursion (WitnessTextFits (map length told.now.states.now.events))
         witnesses.now }
     ensures { OnOk result (out.new ≡ out.old
-        ++ flat_map (witness_rows told.now.states.now told.now.tokens.now) witnesses.now) }
+        ++ flat_map (witness_rows told.now.states.now told.now.tokens.now told.now.extent)
+        witnesses.now) }
 {
     for witness in witnesses {
         put_witness_rows(out, told, witness)?;

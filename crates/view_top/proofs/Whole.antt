@@ -1,21 +1,14 @@
 -- The log in front of an input.
-use Rattle.std.proofs.Common.{◌≡◌, ℕ, ◌-◌, Bool, true, false, Option, Some, None, List, [], ◌++◌, length, take, refl, sym, ap, subst, ◌∙◌, arith}
-use Rattle.std.specs.Prelude.{Result, Ok, Err, IfOk, IfErr, MatchResult}
+use Rattle.std.proofs.Common.{◌≡◌, ℕ, ◌-◌, Bool, true, false, Option, Some, None, List, [], length, take, refl, sym, ap, subst, ◌∙◌, arith}
 use Rattle.std.specs.Option.{option_map}
-use Rattle.std.proofs.lemmas.Bool.{false≢true}
 use Rattle.std.proofs.lemmas.List.{length-append}
 use Rattle.std.proofs.lemmas.Option.{none-some, same_Some}
 use Rattle.std.proofs.Math.Seq.{take-append_seam}
-use Rattle.event_log.specs.declared.item.Fed.{Fed}
-use Rattle.event_log.specs.declared.item.Item.{Item}
 use Rattle.event_log.specs.declared.item.LogFault.{LogFault}
 use Rattle.event_log.specs.declared.reader.Reader.{Reader}
-use Rattle.event_log.specs.Faults.{fault_of, end_fault, first_fault, items, items_in}
-use Rattle.event_log.specs.FittingItems.{FitFirst}
+use Rattle.event_log.specs.Faults.{fault_of, end_fault, items_in}
 use Rattle.event_log.specs.LogEnd.{log_upto, behind_log}
 use Rattle.event_log.specs.LogText.{onto}
-use Rattle.event_log.specs.Reader.{HasRead, ReadsLog}
-use Rattle.event_log.proofs.FittingItems.{items_fit}
 use Rattle.event_log.proofs.LogEnds.{parted}
 use Rattle.vector_clock.specs.Filled.{filled_log}
 use Rattle.fault_kinds.specs.declared.refusal.Refusal.{Refusal}
@@ -28,13 +21,13 @@ use Rattle.log_rules.proofs.Logs.{log_due as due_of_log, due_log}
 use Rattle.log_trace.specs.declared.trace.LogTrace.{LogTrace}
 use Rattle.log_trace.specs.Judging.{without_formula, IsRefused, HasTrace, Keeps}
 use Rattle.view_top.specs.Viewing.{report_in, log_in, log_due, HasLog, IsViewIn}
-use Rattle.view_top.specs.inside.Inputs.{HasReadLog, StopsInLog, IsViewBehind, NoReportIn, NoViewIn}
+use Rattle.view_top.specs.inside.Inputs.{HasReadLog, IsViewBehind, NoReportIn, NoViewIn}
 use Rattle.view_top.specs.declared.asking.View.{View}
 use Rattle.view_top.specs.declared.fault.Fault.{Fault}
 use Rattle.view_top.specs.declared.fault.Fault.TheVariants as fault
 use Rattle.input_reading.specs.declared.reading.End.{End}
 use Rattle.input_reading.specs.declared.reading.End.TheVariants as end
-use Rattle.report.specs.Fault.{IsTextOf, IsFaultIn}
+use Rattle.last_report.specs.Series.{IsLastOf, IsFaultInAll}
 use Rattle.trace_growth.specs.Growing.{TraceView}
 
 -- ---- the bytes of the log
@@ -46,63 +39,27 @@ log_past input =
     ap (λ (n : ℕ). onto (take n input) []) count ∙ ap (λ (xs : List ℕ). onto (take (length p.front) xs) []) p.bytes_are
     ∙ ap (λ (xs : List ℕ). onto xs []) (take-append_seam p.front (behind_log [] input)) ∙ sym p.upto_is
 
-no_items : items [] ≡ []
-unfolding items
-no_items = refl
-
 -- ---- what is due of it
 
 -- how a fault of a batch is told
-abbrev as_is : LogFault → Refusal
+abbrev pub as_is : LogFault → Refusal
 as_is f = refusal.Log f
 
-abbrev of_text : Option LogFault → Option Refusal
+abbrev pub of_text : Option LogFault → Option Refusal
 of_text fault = option_map as_is fault
 
-kept_told : (kept : LogTrace) (j : Judgement) (fault : Option Refusal) → Keeps kept j → fault_in as_is j fault ≡ fault
+pub kept_told : (kept : LogTrace) (j : Judgement) (fault : Option Refusal) → Keeps kept j → fault_in as_is j fault ≡ fault
 kept_told kept waiting fault keeps = refl
 kept_told kept (growing log since) fault keeps = refl
 kept_told kept (finished log last) fault keeps = refl
 kept_told kept (refused log why) fault keeps = absurd keeps
 
-refused_told : (j : Judgement) (fault : Option Refusal) (f : LogFault) → IsRefused j f → fault_in as_is j fault ≡ Some (refusal.Log f)
+pub refused_told : (j : Judgement) (fault : Option Refusal) (f : LogFault) → IsRefused j f → fault_in as_is j fault ≡ Some (refusal.Log f)
 refused_told j fault f is = ap (λ (k : Judgement). fault_in as_is k fault) is.1
 
-text_fault_is : (bytes : List ℕ) (f : LogFault) → fault_of bytes ≡ Some f → (ended : Bool) → text_fault ended bytes ≡ Some f
+pub text_fault_is : (bytes : List ℕ) (f : LogFault) → fault_of bytes ≡ Some f → (ended : Bool) → text_fault ended bytes ≡ Some f
 text_fault_is bytes f there false = there
 text_fault_is bytes f there true = rw there refl
-
-module _ (reader : Reader) (input : List ℕ) (fed : Fed) (rest : List ℕ) (r : ReadsLog reader input fed rest []) where
-  items_are : items_in (log_in input) ≡ fed.items
-  items_are = ap items (log_past input) ∙ r.fed_is.items_are ∙ ap (λ (xs : List Item). xs ++ fed.items) no_items
-
-  pub items_fit_first : FitFirst fed.items
-  items_fit_first = subst FitFirst items_are (items_fit (onto (log_in input) []))
-
-  fault_is : fault_of (log_in input) ≡ fed.fault
-  fault_is = ap first_fault (log_past input) ∙ sym r.fed_is.fault_is
-
-  -- the items have this fault
-  pub item_fault : (f : LogFault) → IsRefused (judged without_formula waiting fed.items) f → (ended : Bool) → (log_due ended input).fault ≡ Some (refusal.Log f)
-  item_fault f is ended =
-      refused_told (judged without_formula waiting (items_in (log_in input))) (of_text (text_fault ended (log_in input))) f (is.0, ap (judged without_formula waiting) items_are ∙ is.1)
-
-  keeps_all : (kept : LogTrace) → Keeps kept (judged without_formula waiting fed.items) → Keeps kept (judged without_formula waiting (items_in (log_in input)))
-  keeps_all kept keeps = subst (λ (xs : List Item). Keeps kept (judged without_formula waiting xs)) (sym items_are) keeps
-
-  -- the bytes have this fault
-  pub byte_fault : (kept : LogTrace) (f : LogFault) → Keeps kept (judged without_formula waiting fed.items) → fed.fault ≡ Some f → (ended : Bool) → (log_due ended input).fault ≡ Some (refusal.Log f)
-  byte_fault kept f keeps there ended =
-      kept_told kept (judged without_formula waiting (items_in (log_in input))) (of_text (text_fault ended (log_in input))) (keeps_all kept keeps)
-      ∙ ap of_text (text_fault_is (log_in input) f (fault_is ∙ there) ended)
-
-  pub read_so_far : (kept : LogTrace) → Keeps kept (judged without_formula waiting fed.items) → fed.fault ≡ None → HasReadLog reader kept input rest
-  read_so_far kept keeps none = record {
-    rest_is = r.rest_is none;
-    read = subst (HasRead reader) (sym (log_past input)) r.reads;
-    free = fault_is ∙ none;
-    keeps = keeps_all kept keeps;
-  }
 
 -- ---- no byte of it has a fault
 
@@ -163,7 +120,7 @@ module _ (reader : Reader) (kept : LogTrace) (input rest : List ℕ) (h : HasRea
         states = trace.states;
         log = has_log;
         report = v.report;
-        text = subst (λ (t : List ℕ). IsTextOf t v.report) h.rest_is v.is.text_is;
+        text = subst (λ (t : List ℕ). IsLastOf t v.report) h.rest_is v.is.text_is;
         fits = v.is.fits;
         view = v.view;
       }
@@ -182,38 +139,14 @@ module _ (reader : Reader) (kept : LogTrace) (input rest : List ℕ) (h : HasRea
           states = trace.states;
           log = has_log;
           something = λ nothing. why.0 (h.rest_is ∙ nothing);
-          fault = subst (λ (t : List ℕ). IsFaultIn t f.line) h.rest_is why.1;
+          fault = subst (λ (t : List ℕ). IsFaultInAll t f.line) h.rest_is why.1;
         },
       )
       no_report e fault.TooLong ended why = absurd why
       no_report e fault.OtherLog ended why = (
         ended,
-        record { states = trace.states; log = has_log; report = why.0; text = subst (λ (t : List ℕ). IsTextOf t why.0) h.rest_is why.1; other = why.2 },
+        record { states = trace.states; log = has_log; report = why.0; text = subst (λ (t : List ℕ). IsLastOf t why.0) h.rest_is why.1; other = why.2 },
       )
       no_report e fault.Read ended why = absurd why
       no_report e fault.Write ended why = why
       no_report e fault.Memory ended why = tt
-
-      -- each of the two, as it came out
-      pub view_of : (asked : View) (e : End) (r : Result (List ℕ) Fault) → e ≡ end.Ended
-          → MatchResult r (IsViewBehind asked trace.states rest) (NoReportIn trace.states rest)
-          → IfOk r (λ (shown : List ℕ). (e ≡ end.Ended) × IsViewIn asked input shown)
-      view_of asked e (Ok shown) ended came = (ended, view_behind asked shown came)
-      view_of asked e (Err f) ended came = tt
-
-      pub no_view_of : (asked : View) (e : End) (r : Result (List ℕ) Fault) → e ≡ end.Ended
-          → MatchResult r (IsViewBehind asked trace.states rest) (NoReportIn trace.states rest) → IfErr r (NoViewIn e input)
-      no_view_of asked e (Ok shown) ended came = tt
-      no_view_of asked e (Err f) ended came = no_report e f ended came
-
--- a fault of the log, for whichever reason no more is read
-pub log_stops : (e : End) (input : List ℕ) (f : Fault) → StopsInLog input f → NoViewIn e input f
-log_stops e input fault.Usage why = why
-log_stops e input (fault.Log f) why = (false, λ no. absurd (false≢true no), why false)
-log_stops e input fault.NoReport why = absurd why
-log_stops e input (fault.Report f) why = absurd why
-log_stops e input fault.TooLong why = absurd why
-log_stops e input fault.OtherLog why = absurd why
-log_stops e input fault.Read why = absurd why
-log_stops e input fault.Write why = why
-log_stops e input fault.Memory why = tt

@@ -1,17 +1,37 @@
 -- Which view the words ask for.
 use Rattle.std.specs.Prelude.{ℕ, List, [], ◌∷◌, codes, Option, None, Some, if◌then◌else◌}
 use Rattle.std.specs.Str.{bytes_eq}
+use Rattle.pota_base.specs.Number.{number_at, whole}
+use Rattle.view_text.specs.declared.extent.Extent.{Extent}
+use Rattle.view_text.specs.declared.extent.Extent.TheVariants as extent
 use Rattle.view_top.specs.declared.asking.View.{View}
 use Rattle.view_top.specs.declared.asking.View.TheVariants as view
 
--- the view of this name
-abbrev pub view_named : List ℕ → Option View
-view_named word =
-    if bytes_eq word (codes "text") then Some view.Text
-    else if bytes_eq word (codes "svg") then Some view.Svg else None
+abbrev pub last : Option ℕ → Option Extent
+last None = None
+last (Some limit) = Some (extent.Last limit)
 
--- the view of which the words are the name
+-- the last so many steps of each process, by a number of 32 bits
+abbrev pub limit_named : List ℕ → Option Extent
+limit_named word = last (whole (number_at 4294967295 word))
+
+-- the steps that the words behind `text` ask for
+abbrev pub extent_asked : List (List ℕ) → Option Extent
+extent_asked [] = Some extent.Folded
+extent_asked (word ∷ []) = if bytes_eq word (codes "--all") then Some extent.Whole else None
+extent_asked (word ∷ limit ∷ []) =
+    if bytes_eq word (codes "--last") then limit_named limit else None
+extent_asked (word ∷ limit ∷ other ∷ words) = None
+
+abbrev pub text_of : Option Extent → Option View
+text_of None = None
+text_of (Some e) = Some (view.Text e)
+
+-- the view for which the words ask: `svg` alone, or `text` and how many steps
 abbrev pub view_asked : List (List ℕ) → Option View
 view_asked [] = None
-view_asked (word ∷ []) = view_named word
-view_asked (word ∷ other ∷ words) = None
+view_asked (word ∷ []) =
+    if bytes_eq word (codes "svg") then Some view.Svg
+    else if bytes_eq word (codes "text") then text_of (extent_asked []) else None
+view_asked (word ∷ other ∷ words) =
+    if bytes_eq word (codes "text") then text_of (extent_asked (other ∷ words)) else None

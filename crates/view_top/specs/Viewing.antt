@@ -11,7 +11,7 @@ use Rattle.log_rules.specs.Judgement.{Prefix, states_of}
 use Rattle.log_rules.specs.Readings.{log_reading}
 use Rattle.log_rules.specs.Due.{Due, due}
 use Rattle.report.specs.declared.report.Report.{Report}
-use Rattle.report.specs.Fault.{IsTextOf, IsFaultIn}
+use Rattle.last_report.specs.Series.{IsLastOf, IsFaultInAll}
 use Rattle.view_parts.specs.Parts.{IsReportOf}
 use Rattle.view_text.specs.Text.{view_text}
 use Rattle.view_picture.specs.Picture.{IsPictureOf}
@@ -24,7 +24,7 @@ use Rattle.log_trace.specs.Judging.{without_formula}
 
 -- ---- the log and the report of an input
 
--- the text of the report: what stands behind the `end` line of the log
+-- the text of the reports: what stands behind the `end` line of the log
 abbrev pub report_in : List ℕ → List ℕ
 report_in input = behind_log [] input
 
@@ -45,15 +45,16 @@ pub record HasLog (input : List ℕ) (s : StatesView) : Type 0 where
 
 -- the view of a run by a report of it
 abbrev pub IsViewOf : View → StatesView → Report → List ℕ → Type 0
-IsViewOf view.Text s r shown = shown ≡ view_text s r
+IsViewOf (view.Text e) s r shown = shown ≡ view_text s e r
 IsViewOf view.Svg s r shown = IsPictureOf s r shown
 
--- the input is a log without a fault and the text of a report of it, and this is the view of them
+-- the input is a log without a fault and the text of reports, of which the last is one of the log,
+-- and this is the view of log and report
 pub record IsViewIn (asked : View) (input shown : List ℕ) : Type 0 where
   pub states : StatesView
   pub log : HasLog input states
   pub report : Report
-  pub text : IsTextOf (report_in input) report
+  pub text : IsLastOf (report_in input) report
   pub fits : IsReportOf states report
   pub view : IsViewOf asked states report shown
 
@@ -69,19 +70,19 @@ pub record LacksReport (input : List ℕ) : Type 0 where
   pub log : HasLog input states
   pub nothing : report_in input ≡ []
 
--- what stands behind the log is no report, at this line
+-- what stands behind the log is not one report or more, at this line
 pub record HasNoReport (input : List ℕ) (line : ℕ) : Type 0 where
   pub states : StatesView
   pub log : HasLog input states
   pub something : report_in input ≡ [] → ⊥
-  pub fault : IsFaultIn (report_in input) line
+  pub fault : IsFaultInAll (report_in input) line
 
--- the report that stands behind the log is none of it
+-- the last report that stands behind the log is none of it
 pub record HasOtherReport (input : List ℕ) : Type 0 where
   pub states : StatesView
   pub log : HasLog input states
   pub report : Report
-  pub text : IsTextOf (report_in input) report
+  pub text : IsLastOf (report_in input) report
   pub other : IsReportOf states report → ⊥
 
 -- the words ask for a view, the input was read to its end, and this is the view

@@ -14,11 +14,11 @@ pub enum Fault {
     Log(LogFault),
     /// Nothing stands behind the log, as where the formula of the report was refused.
     NoReport,
-    /// What stands behind the log is no report.
+    /// What stands behind the log is not one report or more.
     Report(ReportFault),
     /// The input has 1 GiB or more.
     TooLong,
-    /// The report has other processes than the log, or other numbers of events.
+    /// The last report has other processes than the log, or other numbers of events.
     OtherLog,
     /// The input could not be read.
     Read,

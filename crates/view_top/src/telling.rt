@@ -54,7 +54,10 @@ pub fn tell<D: Sink>(diag: &mut D, fault: &Fault)
         (line_of (Some fault.now)) }
 {
     match fault {
-        Fault::Usage => put(diag, b"pota_view: usage: pota_view text or pota_view svg\n"),
+        Fault::Usage => put(
+            diag,
+            b"pota_view: usage: pota_view text, with --all or --last N, or pota_view svg\n",
+        ),
         Fault::Log(fault) => put_shared(diag, Shared::Log(*fault)),
         Fault::NoReport => put(diag, b"pota_view: no report behind the log\n"),
         Fault::Report(fault) => put_report_line(diag, fault.line),

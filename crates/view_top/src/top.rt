@@ -1,14 +1,14 @@
 //! The one call that the program runs.
-ghost use Rattle.std.specs.Prelude.{◌≡◌, map, string_bytes};
+ghost use Rattle.std.specs.Prelude.{◌≡◌, ℕ, List as ListOf, map, string_bytes};
 ghost use Rattle.fault_line.specs.Lines.{Told};
 ghost use Rattle.view_top.specs.Calm.{IsCalm};
 ghost use Rattle.view_top.specs.Faults.{line_of, exit_status};
-ghost use Rattle.view_top.specs.inside.Inputs.{PutsView};
+ghost use Rattle.view_top.specs.inside.Inputs.{HasCome, PutsView};
 ghost use Rattle.view_top.specs.Viewing.{HasViewed};
 
 use crate::asking::{View, view_asked};
 use crate::fault::Fault;
-use crate::gathering::Gathered;
+use crate::input::Input;
 use crate::telling::tell;
 use crate::viewing::view_in;
 use input_reading::{End, read_all};
@@ -38,11 +38,13 @@ impl Viewed {
 fn put_view<O: Sink>(
     alloc: Global,
     asked: View,
-    input: &[u8],
+    input: &mut Input,
     end: End,
     out: &mut O,
 ) -> Option<Fault>
-    ensures { PutsView asked end input.now (O.held out.old) (O.held out.new) (O.faults out.old)
+    requires { (bytes : ListOf ℕ) × HasCome end input.old bytes }
+    ensures { (bytes : ListOf ℕ) → HasCome end input.old bytes
+        → PutsView asked end bytes (O.held out.old) (O.held out.new) (O.faults out.old)
         (O.faults out.new) result }
 {
     let shown = match view_in(alloc, asked, input, end) {
@@ -70,15 +72,15 @@ fn answer<S: Source, O: Sink>(
     let Some(asked) = view_asked(words) else {
         return Some(Fault::Usage);
     };
-    let mut gathered = Gathered::new(alloc);
-    match read_all(alloc, input, &mut gathered) {
-        Ok(end) => put_view(alloc, asked, gathered.bytes.as_slice(), end, out),
+    let mut taken = Input::new(alloc);
+    match read_all(alloc, input, &mut taken) {
+        Ok(end) => put_view(alloc, asked, &mut taken, end, out),
         Err(NoMemory) => Some(Fault::Memory),
     }
 }
 
-/// Writes the view that the words ask for: of the log that the source has, and of the report of it
-/// that stands at once behind the log's `end` line.
+/// Writes the view that the words ask for: of the log that the source has, and of the last report
+/// of those that stand at once behind the log's `end` line, one behind the other.
 ///
 /// The words are the command line without the program's name. The view goes to `out`, and one line
 /// that tells why there is none to `diag`.

@@ -1,22 +1,19 @@
 //! The view of an input that was read.
-ghost use Rattle.std.specs.Prelude.{◌≡◌, [], false, IfOk, IfErr, MatchResult};
-ghost use Rattle.input_reading.specs.declared.reading.End.TheVariants.{Ended};
-ghost use Rattle.event_log.specs.Reader.{HasRead};
-ghost use Rattle.log_rules.specs.Judgement.{waiting};
+ghost use Rattle.std.specs.Prelude.{◌≡◌, ℕ, List as ListOf, false, IfOk, IfErr, MatchResult};
+ghost use Rattle.input_reading.specs.declared.reading.End.TheVariants.{Done, Ended};
 ghost use Rattle.report.specs.Spelling.{IsWellFormed};
 ghost use Rattle.view_parts.specs.Parts.{IsReportOf};
-ghost use Rattle.log_trace.specs.Judging.{Keeps};
 ghost use Rattle.view_top.specs.Viewing.{IsViewOf, IsViewIn};
-ghost use Rattle.view_top.specs.inside.Inputs.{HasReadLog, StopsInLog, IsReportIn, IsViewBehind};
+ghost use Rattle.view_top.specs.inside.Inputs.{HasCome, IsDone, IsReportIn, IsViewBehind};
 ghost use Rattle.view_top.specs.inside.Inputs.{NoReportIn, NoViewIn};
 
 use crate::asking::View;
 use crate::fault::Fault;
-use event_log::{Fed, Reader};
+use crate::input::Input;
 use input_reading::End;
-use log_trace::LogTrace;
+use last_report::read_last_report;
 use pota_base::{Bytes, NoMemory, Refused};
-use report::{Report, read_report};
+use report::Report;
 use std::alloc::Global;
 use trace_growth::Trace;
 use view_parts::is_report_of;
@@ -31,12 +28,12 @@ fn view_of(alloc: Global, asked: View, trace: &Trace, report: &Report) -> Result
     ensures { IfOk result (IsViewOf asked trace.now.states report.now) }
 {
     match asked {
-        View::Text => view_text(alloc, trace.states(), report),
+        View::Text(extent) => view_text(alloc, trace.states(), extent, report),
         View::Svg => view_picture(alloc, trace, report),
     }
 }
 
-// The report of the run whose text this is.
+// The report of the run that is the last one of this text.
 fn report_of(alloc: Global, trace: &Trace, text: &[u8]) -> Result<Report, Fault>
     requires { trace.now.spent ≡ false }
     ensures { MatchResult result (IsReportIn trace.now.states text.now)
@@ -45,7 +42,7 @@ fn report_of(alloc: Global, trace: &Trace, text: &[u8]) -> Result<Report, Fault>
     if text.is_empty() {
         return Err(Fault::NoReport);
     }
-    let report = match read_report(alloc, text) {
+    let report = match read_last_report(alloc, text) {
         Ok(report) => report,
         Err(Refused::Fault(fault)) => return Err(Fault::Report(fault)),
         Err(Refused::NoMemory) => return Err(Fault::Memory),
@@ -73,71 +70,34 @@ fn view_behind(alloc: Global, asked: View, trace: &Trace, text: &[u8]) -> Result
     }
 }
 
-// Reads the log in front of the input, and gives what stands behind it.
-fn read_log<'a>(
-    alloc: Global,
-    reader: &mut Reader,
-    log: &mut LogTrace,
-    input: &'a [u8],
-) -> Result<&'a [u8], Fault>
-    requires read { HasRead reader.old [] }
-    requires none { Keeps log.old waiting }
-    ensures { MatchResult result (λ rest. HasReadLog reader.new log.new input.now rest.now)
-        (StopsInLog input.now) }
+// Why nothing is read behind the bytes that came.
+fn stopped_by(input: &Input) -> Fault
+    ensures { (bytes : ListOf ℕ) → IsDone input.now bytes → NoViewIn Done bytes result }
 {
-    let Ok((fed, rest)) = reader.feed_log(input) else {
-        return Err(Fault::Memory);
-    };
-    let Fed { items, fault } = fed;
-    match log.take_all(alloc, items) {
-        Ok(()) => {}
-        Err(Refused::Fault(fault)) => return Err(Fault::Log(fault)),
-        Err(Refused::NoMemory) => return Err(Fault::Memory),
+    match input.fault {
+        Some(fault) => Fault::Log(fault),
+        None => Fault::TooLong,
     }
-    match fault {
-        Some(fault) => Err(Fault::Log(fault)),
-        None => Ok(rest),
-    }
-}
-
-// The view of an input, by a reader and a log that took nothing yet.
-fn view_by(
-    alloc: Global,
-    asked: View,
-    reader: &mut Reader,
-    log: &mut LogTrace,
-    input: &[u8],
-    end: End,
-) -> Result<Bytes, Fault>
-    requires read { HasRead reader.old [] }
-    requires none { Keeps log.old waiting }
-    ensures view { IfOk result (λ shown. (end ≡ Ended) × IsViewIn asked input.now shown) }
-    ensures fault { IfErr result (NoViewIn end input.now) }
-{
-    let rest = match read_log(alloc, reader, log, input) {
-        Ok(rest) => rest,
-        Err(fault) => return Err(fault),
-    };
-    match end {
-        End::Failed => return Err(Fault::Read),
-        End::Done => return Err(Fault::TooLong),
-        End::Ended => {}
-    }
-    if let Some(fault) = reader.finish() {
-        return Err(Fault::Log(fault));
-    }
-    let Some(trace) = &log.trace else {
-        unreachable!()
-    };
-    view_behind(alloc, asked, trace, rest)
 }
 
 /// The view that is asked for of an input that is read no further for this reason.
-pub fn view_in(alloc: Global, asked: View, input: &[u8], end: End) -> Result<Bytes, Fault>
-    ensures view { IfOk result (λ shown. (end ≡ Ended) × IsViewIn asked input.now shown) }
-    ensures fault { IfErr result (NoViewIn end input.now) }
+pub fn view_in(alloc: Global, asked: View, input: &mut Input, end: End) -> Result<Bytes, Fault>
+    requires { (bytes : ListOf ℕ) × HasCome end input.old bytes }
+    ensures view { IfOk result (λ shown. (bytes : ListOf ℕ) → HasCome end input.old bytes
+        → (end ≡ Ended) × IsViewIn asked bytes shown) }
+    ensures fault { IfErr result (λ fault. (bytes : ListOf ℕ) → HasCome end input.old bytes
+        → NoViewIn end bytes fault) }
 {
-    let mut reader = Reader::new(alloc);
-    let mut log = LogTrace::new(alloc);
-    view_by(alloc, asked, &mut reader, &mut log, input, end)
+    match end {
+        End::Failed => return Err(Fault::Read),
+        End::Done => return Err(stopped_by(input)),
+        End::Ended => {}
+    }
+    if let Some(fault) = input.reader.finish() {
+        return Err(Fault::Log(fault));
+    }
+    let Some(trace) = &input.log.trace else {
+        unreachable!()
+    };
+    view_behind(alloc, asked, trace, input.behind.as_slice())
 }

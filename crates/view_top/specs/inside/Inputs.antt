@@ -1,7 +1,9 @@
--- What is made of an input once no more of it is read.
-use Rattle.std.specs.Prelude.{◌≡◌, ◌⊎◌, ℕ, Bool, true, false, List, [], Option, None, Some}
+-- An input as it comes, and what is made of it once no more of it is read.
+use Rattle.std.specs.Prelude.{◌≡◌, ◌⊎◌, ℕ, ◌<◌, ◌≤◌, Bool, true, false, List, [], length}
+use Rattle.std.specs.Prelude.{Option, None, Some}
 use Rattle.std.specs.Io.KnownBytes.{Appends}
 use Rattle.pota_base.specs.Outside.{Rose, IsPrefix}
+use Rattle.event_log.specs.declared.item.LogFault.{LogFault}
 use Rattle.event_log.specs.declared.reader.Reader.{Reader}
 use Rattle.event_log.specs.Faults.{fault_of, items_in}
 use Rattle.event_log.specs.LogText.{onto}
@@ -10,17 +12,18 @@ use Rattle.event_log.specs.States.{StatesView}
 use Rattle.input_reading.specs.declared.reading.End.{End}
 use Rattle.input_reading.specs.declared.reading.End.TheVariants as end
 use Rattle.fault_kinds.specs.declared.refusal.Refusal.TheVariants as refusal
-use Rattle.log_rules.specs.Judgement.{judged, waiting}
+use Rattle.log_rules.specs.Judgement.{Judgement, judged, waiting}
 use Rattle.report.specs.declared.report.Report.{Report}
-use Rattle.report.specs.Fault.{IsTextOf, IsFaultIn}
+use Rattle.last_report.specs.Series.{IsLastOf, IsFaultInAll}
 use Rattle.view_parts.specs.Parts.{IsReportOf}
 use Rattle.view_top.specs.declared.asking.View.{View}
 use Rattle.view_top.specs.declared.fault.Fault.{Fault}
 use Rattle.view_top.specs.declared.fault.Fault.TheVariants as fault
+use Rattle.view_top.specs.declared.input.Input.{Input}
 use Rattle.log_trace.specs.declared.trace.LogTrace.{LogTrace}
-use Rattle.log_trace.specs.Judging.{without_formula, Keeps}
-use Rattle.view_top.specs.Viewing.{report_in, log_in, log_due, IsViewOf, IsViewIn, LacksReport}
-use Rattle.view_top.specs.Viewing.{HasNoReport, HasOtherReport}
+use Rattle.log_trace.specs.Judging.{without_formula, IsRefused, Keeps}
+use Rattle.view_top.specs.Viewing.{most_bytes, report_in, log_in, log_due, IsViewOf, IsViewIn}
+use Rattle.view_top.specs.Viewing.{LacksReport, HasNoReport, HasOtherReport}
 
 -- ---- the log
 
@@ -31,46 +34,66 @@ pub record HasReadLog (reader : Reader) (kept : LogTrace) (input rest : List ℕ
   pub free : fault_of (log_in input) ≡ None
   pub keeps : Keeps kept (judged without_formula waiting (items_in (log_in input)))
 
--- it has this fault, whether the input has ended or not
-abbrev pub StopsInLog : List ℕ → Fault → Type 0
-StopsInLog input fault.Usage = ⊥
-StopsInLog input (fault.Log f) =
-    (ended : Bool) → (log_due ended input).fault ≡ Some (refusal.Log f)
-StopsInLog input fault.NoReport = ⊥
-StopsInLog input (fault.Report f) = ⊥
-StopsInLog input fault.TooLong = ⊥
-StopsInLog input fault.OtherLog = ⊥
-StopsInLog input fault.Read = ⊥
-StopsInLog input fault.Write = ⊥
-StopsInLog input fault.Memory = Unit {0}
+-- this fault is due of it, whether the input has ended or not
+abbrev pub IsDueInLog : List ℕ → LogFault → Type 0
+IsDueInLog input f = (ended : Bool) → (log_due ended input).fault ≡ Some (refusal.Log f)
+
+-- the items of a piece were all taken and its bytes have this fault if any, or it is one of an item
+abbrev pub JudgesTo : LogTrace → Judgement → (fault told : Option LogFault) → Type 0
+JudgesTo kept j fault None = Keeps kept j × (fault ≡ None)
+JudgesTo kept j fault (Some f) = IsRefused j f ⊎ (Keeps kept j × (fault ≡ Some f))
+
+-- ---- the input so far
+
+-- these bytes came, without a fault of the log in them
+pub record IsOpen (input : Input) (bytes : List ℕ) : Type 0 where
+  pub log : HasReadLog input.reader input.log bytes input.behind
+  pub none : input.fault ≡ None
+  pub count : input.count ≡ length bytes
+  pub few : length bytes < most_bytes
+
+-- these bytes came, behind which none is read: a fault is due of the log, or they are too many
+abbrev pub EndsBy : Input → Option LogFault → List ℕ → Type 0
+EndsBy input None bytes =
+    HasReadLog input.reader input.log bytes input.behind × (most_bytes ≤ length bytes)
+EndsBy input (Some f) bytes = IsDueInLog bytes f
+
+abbrev pub IsDone : Input → List ℕ → Type 0
+IsDone input bytes = EndsBy input input.fault bytes
+
+-- these bytes came, and no more is read for this reason
+abbrev pub HasCome : End → Input → List ℕ → Type 0
+HasCome end.Ended input bytes = IsOpen input bytes
+HasCome end.Done input bytes = IsDone input bytes
+HasCome end.Failed input bytes = IsOpen input bytes
 
 -- ---- the report
 
--- the text is that of a report of the run
+-- this is the last report of the text, and one of the run
 pub record IsReportIn (s : StatesView) (text : List ℕ) (r : Report) : Type 0 where
-  pub text_is : IsTextOf text r
+  pub text_is : IsLastOf text r
   pub fits : IsReportOf s r
 
--- the view of a run by the report whose text this is
+-- the view of a run by the last report of the text
 pub record IsViewBehind (asked : View) (s : StatesView) (text shown : List ℕ) : Type 0 where
   pub report : Report
   pub is : IsReportIn s text report
   pub view : IsViewOf asked s report shown
 
--- why the text is that of no report of the run
+-- why the text has no last report that is one of the run
 abbrev pub NoReportIn : StatesView → List ℕ → Fault → Type 0
 NoReportIn s text fault.Usage = ⊥
 NoReportIn s text (fault.Log f) = ⊥
 NoReportIn s text fault.NoReport = text ≡ []
-NoReportIn s text (fault.Report f) = (text ≡ [] → ⊥) × IsFaultIn text f.line
+NoReportIn s text (fault.Report f) = (text ≡ [] → ⊥) × IsFaultInAll text f.line
 NoReportIn s text fault.TooLong = ⊥
 NoReportIn s text fault.OtherLog =
-    (r : Report) × IsTextOf text r × (IsReportOf s r → ⊥)
+    (r : Report) × IsLastOf text r × (IsReportOf s r → ⊥)
 NoReportIn s text fault.Read = ⊥
 NoReportIn s text fault.Write = ⊥
 NoReportIn s text fault.Memory = Unit {0}
 
--- ---- the input
+-- ---- the view
 
 -- why there is no view of an input that is read no further for this reason
 abbrev pub NoViewIn : End → List ℕ → Fault → Type 0
@@ -80,7 +103,8 @@ NoViewIn e input (fault.Log f) =
     × ((log_due ended input).fault ≡ Some (refusal.Log f))
 NoViewIn e input fault.NoReport = (e ≡ end.Ended) × LacksReport input
 NoViewIn e input (fault.Report f) = (e ≡ end.Ended) × HasNoReport input f.line
-NoViewIn e input fault.TooLong = (e ≡ end.Done) × ((log_due false input).fault ≡ None)
+NoViewIn e input fault.TooLong =
+    (e ≡ end.Done) × ((log_due false input).fault ≡ None) × (most_bytes ≤ length input)
 NoViewIn e input fault.OtherLog = (e ≡ end.Ended) × HasOtherReport input
 NoViewIn e input fault.Read = (e ≡ end.Failed) × ((log_due false input).fault ≡ None)
 NoViewIn e input fault.Write = ⊥
