@@ -3,15 +3,15 @@ use Rattle.std.proofs.Common.{◌≡◌, ℕ, zero, suc, ◌+◌, ◌-◌, true,
 use Rattle.std.specs.Prelude.{codes}
 use Rattle.std.specs.Fmt.{decimal}
 use Rattle.log_lines.specs.Names.{are_distinct}
-use Rattle.run_model.specs.Cut.{Cut, count}
+use Rattle.run_model.specs.Cut.{Cut}
 use Rattle.view_parts.specs.Each.{each_below}
 use Rattle.slice_graph.specs.declared.edges.Edge.{Edge}
 use Rattle.view_picture.specs.declared.svg.Point.{Point}
 use Rattle.view_picture.specs.declared.frame.Frame.{Frame}
 use Rattle.view_picture.specs.Columns.{Rows}
 use Rattle.view_picture.specs.Svg.{attribute, line, circle, text}
-use Rattle.view_picture.specs.Frame.{at, behind}
-use Rattle.view_picture.specs.Drawing.{spot, bow, edge_drawn, corner, corners, cut_drawn}
+use Rattle.view_picture.specs.Frame.{at, lane}
+use Rattle.view_picture.specs.Drawing.{spot, bow, edge_drawn, crossing, corner, corners, cut_drawn}
 use Rattle.picture_laws.specs.Xml.{Attribute, is_in_value, attribute_text, names_of, IsContent}
 use Rattle.picture_laws.proofs.Plain.{IsValue, both, number_value}
 use Rattle.picture_laws.proofs.Grammar.{feed, Look, look_of, attr, valued, number, looks, leaf, box}
@@ -70,8 +70,8 @@ corner_value x y = both is_in_value (decimal x) (44 ∷ decimal y) (number_value
 
 corners_value : (f : Frame) (rows : Rows) (cut : Cut) (shift process : ℕ) → IsValue (corners f rows cut shift process)
 corners_value f rows cut shift process =
-    let p = behind f rows process (count cut process) in
-    both is_in_value (corner (p.x + shift) (p.y - 32)) (corner (p.x + shift) (p.y + 32)) (corner_value (p.x + shift) (p.y - 32)) (corner_value (p.x + shift) (p.y + 32))
+    let x = crossing f rows cut shift process in
+    both is_in_value (corner x (lane process - 32)) (corner x (lane process + 32)) (corner_value x (lane process - 32)) (corner_value x (lane process + 32))
 
 each_value : (made : ℕ → List ℕ) (n : ℕ) → ((k : ℕ) → IsValue (made k)) → IsValue (each_below n made)
 each_value made zero each = refl

@@ -11,3 +11,4 @@ pub mod WellFormed
 pub mod Printed
 pub mod OfRuns
 pub mod Closed
+pub mod Lost

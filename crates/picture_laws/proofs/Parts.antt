@@ -1,7 +1,7 @@
 -- What is drawn of events, messages, cuts, witnesses and slices is content.
-use Rattle.std.proofs.Common.{◌≡◌, ℕ, zero, suc, ◌+◌, ◌-◌, ◌*◌, Bool, true, false, List, [], ◌∷◌, ◌++◌, length, take, get_or, refl, subst, append_assoc}
+use Rattle.std.proofs.Common.{◌≡◌, ℕ, zero, suc, ◌+◌, ◌-◌, ◌*◌, Bool, true, false, List, [], ◌∷◌, ◌++◌, length, map, take, get_or, refl, subst, append_assoc}
 use Rattle.std.specs.Prelude.{codes, min, nat_lt, nat_le, ◌==◌, Option, None, Some, if◌then◌else◌}
-use Rattle.std.specs.List.{AllByRecursion}
+use Rattle.std.specs.List.{AllByRecursion, filter, flat_map}
 use Rattle.std.specs.Fmt.{decimal, signed_decimal}
 use Rattle.run_model.specs.Cut.{Cut}
 use Rattle.log_lines.specs.Names.{is_name, are_distinct}
@@ -23,21 +23,28 @@ use Rattle.report.specs.declared.report.SliceText.{SliceText}
 use Rattle.view_picture.specs.declared.svg.Point.{Point}
 use Rattle.view_picture.specs.declared.frame.Frame.{Frame}
 use Rattle.view_picture.specs.Columns.{Rows}
-use Rattle.view_parts.specs.Each.{each_below}
+use Rattle.view_parts.specs.Each.{each_below, places}
 use Rattle.view_picture.specs.Svg.{line, circle, text}
 use Rattle.view_picture.specs.Frame.{lane, at}
 use Rattle.view_picture.specs.Drawing.{point, lane_drawn, send_of, arrow_from, arrow_to, title}
-use Rattle.view_picture.specs.Drawing.{is_beyond, cut_drawn, mark_look, number_look, disc, short}
-use Rattle.view_picture.specs.Drawing.{assigned, no_assign, assign_text, under_back_look}
-use Rattle.view_picture.specs.Drawing.{under_look, under, more_under, assigns_under, shown_under}
-use Rattle.view_picture.specs.Drawing.{mark, least_look, greatest_look, goal_look, step_back_look}
+use Rattle.view_picture.specs.Drawing.{lost_of, short_of, lost_look, lost_to, lost_from}
+use Rattle.view_picture.specs.Drawing.{receives, number_of, lanes_apart, on_arrow, most_numbers}
+use Rattle.view_picture.specs.Drawing.{message_number_look, number_from, number_to, numbers_drawn}
+use Rattle.view_picture.specs.Drawing.{least_shift, goal_shift, greatest_shift}
+use Rattle.view_picture.specs.Drawing.{is_beyond, cut_drawn, mark_look, number_look, disc}
+use Rattle.view_picture.specs.Drawing.{name_within, value_text, room_for, no_assign, assign_text}
+use Rattle.view_picture.specs.Drawing.{under_look, under, more_under, assigns_under}
+use Rattle.view_picture.specs.Drawing.{mark, least_look, greatest_look, goal_look}
 use Rattle.view_picture.specs.Drawing.{step_look, numbered, no_place, steps_drawn, ring, path_drawn}
 use Rattle.view_picture.specs.Drawing.{witness_drawn}
-use Rattle.view_picture.specs.Picture.{row_at, sample, note, bounds_drawn, slice_drawn, edges_note, meaning_of, witness_meaning, one_drawn}
+use Rattle.view_picture.specs.Picture.{row_at, told, sample, sample_disc, message_look, legend}
+use Rattle.view_picture.specs.Picture.{slice_legend, bounds_drawn, slice_drawn, most_edges}
+use Rattle.view_picture.specs.Picture.{edges_note, edge_sample_look, edges_told, edges_legend, meaning_of}
+use Rattle.view_picture.specs.Picture.{witness_meaning, one_drawn}
 use Rattle.picture_laws.specs.Xml.{Attribute, is_plain, names_of, IsContent, nothing}
 use Rattle.picture_laws.specs.WellFormed.{HasNames}
 use Rattle.picture_laws.proofs.Plain.{IsPlain, both, first_of, number_plain, signed_plain, names_plain}
-use Rattle.picture_laws.proofs.Grammar.{plain_content, one_more, each_content, feed, Look, look_of, attr, box}
+use Rattle.picture_laws.proofs.Grammar.{plain_content, one_more, each_content, all_content, feed, Look, look_of, attr, box}
 use Rattle.picture_laws.proofs.Elements.{line_content, circle_content, text_content, cut_content}
 
 either_content : (b : Bool) (xs ys : List ℕ) → IsContent xs → IsContent ys → IsContent (if b then xs else ys)
@@ -83,17 +90,19 @@ clock_plain : (ns : List ℕ) → IsPlain (clock_text ns)
 clock_plain [] = refl
 clock_plain (n ∷ ns) = both is_plain (decimal n) (clock_rest ns) (number_plain n) (clock_rest_plain ns)
 
-short_plain : (whole : List ℕ) → IsPlain whole → IsPlain (short whole)
-short_plain whole h = by_length (nat_le (length whole) 11)
+within_plain : (most : ℕ) (name : List ℕ) → IsPlain name → IsPlain (name_within most name)
+within_plain most name h = by_length (nat_le (length name) most)
   where
-    by_length : (b : Bool) → IsPlain (if b then whole else take 9 whole ++ codes "..")
+    by_length : (b : Bool) → IsPlain (if b then name else take (most - 2) name ++ codes "..")
     by_length true = h
-    by_length false = both is_plain (take 9 whole) (codes "..") (first_of is_plain 9 whole h) refl
+    by_length false = both is_plain (take (most - 2) name) (codes "..") (first_of is_plain (most - 2) name h) refl
 
-assign_plain : (s : StatesView) → HasNames s.header → (e : EventId) (k : ℕ) → IsPlain (assign_text s e k)
-assign_plain s named e k =
+assign_plain : (s : StatesView) → HasNames s.header → (wide : Bool) (e : EventId) (k : ℕ) → IsPlain (assign_text s wide e k)
+assign_plain s named wide e k =
     let a = get_or (event_at s e).assigns k no_assign in
-    short_plain (assigned s e.process a) (both is_plain (variable_name s e.process a.variable) (61 ∷ signed_decimal a.value) (variable_plain s named e.process a.variable) (signed_plain a.value))
+    let name = variable_name s e.process a.variable in
+    let most = room_for wide - length (value_text a) in
+    both is_plain (name_within most name) (value_text a) (within_plain most name (variable_plain s named e.process a.variable)) (signed_plain a.value)
 
 -- ---- marks
 
@@ -116,9 +125,15 @@ title_content s named e =
     subst IsContent (title_is (codes "<title>") line (codes ": ") place (codes " ") kind assigns (codes " clock ") clock (codes "</title>" ++ 10 ∷ []))
     (box (codes "title") [] [] inner (10 ∷ []) refl (look_of [] refl) refl (plain_content inner plain) feed)
 
-mark_look_is : (beyond : Bool) → Look (codes "fill" ∷ []) (mark_look beyond)
-mark_look_is true = look_of (attr (codes "fill") (codes "#c9c9c9") ∷ []) refl
-mark_look_is false = look_of (attr (codes "fill") (codes "#2b6cb0") ∷ []) refl
+abbrev ringed : List ℕ → List Attribute
+ringed fill = attr (codes "fill") fill ∷ attr (codes "stroke") (codes "#ffffff") ∷ attr (codes "stroke-width") (codes "6") ∷ []
+
+abbrev ringed_names : List (List ℕ)
+ringed_names = codes "fill" ∷ codes "stroke" ∷ codes "stroke-width" ∷ []
+
+mark_look_is : (beyond : Bool) → Look ringed_names (mark_look beyond)
+mark_look_is true = look_of (ringed (codes "#c9c9c9")) refl
+mark_look_is false = look_of (ringed (codes "#2b6cb0")) refl
 
 abbrev middle : List ℕ → List ℕ → List Attribute
 middle size fill = attr (codes "font-size") size ∷ attr (codes "text-anchor") (codes "middle") ∷ attr (codes "fill") fill ∷ []
@@ -133,29 +148,28 @@ disc_content : (p : Point) (beyond : Bool) (number : ℕ) → IsContent (disc p 
 disc_content p beyond number =
     let small = nat_lt number 1000 in
     one_more (circle p 11 (mark_look beyond)) (text (point p.x (p.y + 4)) (number_look beyond small) (decimal number))
-    (circle_content p 11 (codes "fill" ∷ []) (mark_look beyond) (mark_look_is beyond) refl)
+    (circle_content p 11 ringed_names (mark_look beyond) (mark_look_is beyond) refl)
     (text_content (point p.x (p.y + 4)) (codes "font-size" ∷ codes "text-anchor" ∷ codes "fill" ∷ []) (number_look beyond small) (decimal number) (number_look_is beyond small) refl (plain_content (decimal number) (number_plain number)))
 
-abbrev on_white : List ℕ → List ℕ → List Attribute
-on_white anchor width = attr (codes "font-size") (codes "12") ∷ attr (codes "text-anchor") anchor ∷ attr (codes "fill") (codes "#ffffff") ∷ attr (codes "stroke") (codes "#ffffff") ∷ attr (codes "stroke-width") width ∷ []
+abbrev rimmed : List ℕ → List ℕ → List ℕ → List Attribute
+rimmed anchor fill width = attr (codes "text-anchor") anchor ∷ attr (codes "fill") fill ∷ attr (codes "stroke") (codes "#ffffff") ∷ attr (codes "stroke-width") width ∷ []
 
-under_content : (p : Point) (row : ℕ) (shown : List ℕ) → IsPlain shown → IsContent (under p row shown)
-under_content p row shown h =
-    let spot = point p.x (p.y + 33 + 12 * row) in
-    let back = on_white (codes "middle") (codes "4") in
-    let front = middle (codes "12") (codes "#333333") in
-    one_more (text spot under_back_look shown) (text spot under_look shown)
-    (text_content spot (names_of back) under_back_look shown (look_of back refl) refl (plain_content shown h)) (text_content spot (names_of front) under_look shown (look_of front refl) refl (plain_content shown h))
+abbrev wide_label : List Attribute
+wide_label = rimmed (codes "middle") (codes "#333333") (codes "3")
 
-assigns_content : (s : StatesView) → HasNames s.header → (p : Point) (e : EventId) → IsContent (assigns_under s p e)
-assigns_content s named p e =
+abbrev narrow_label : List Attribute
+narrow_label = attr (codes "font-size") (codes "9") ∷ wide_label
+
+under_content : (wide : Bool) (p : Point) (row : ℕ) (shown : List ℕ) → IsPlain shown → IsContent (under wide p row shown)
+under_content true p row shown h = text_content (point p.x (p.y + 33 + 12 * row)) (names_of wide_label) (under_look true) shown (look_of wide_label refl) refl (plain_content shown h)
+under_content false p row shown h = text_content (point p.x (p.y + 33 + 12 * row)) (names_of narrow_label) (under_look false) shown (look_of narrow_label refl) refl (plain_content shown h)
+
+assigns_content : (s : StatesView) → HasNames s.header → (wide : Bool) (p : Point) (e : EventId) → IsContent (assigns_under s wide p e)
+assigns_content s named wide p e =
     let count = length (event_at s e).assigns in
-    one_more (each_below (min count 3) (λ k. under p k (assign_text s e k))) (more_under p count) (each_content (λ k. under p k (assign_text s e k)) (min count 3) (λ k. under_content p k (assign_text s e k) (assign_plain s named e k)))
-    (either_content (nat_lt 3 count) (under p 3 (codes "..")) [] (under_content p 3 (codes "..") refl) nothing)
-
-shown_content : (s : StatesView) → HasNames s.header → (wide : Bool) (p : Point) (e : EventId) → IsContent (shown_under s wide p e)
-shown_content s named true p e = assigns_content s named p e
-shown_content s named false p e = nothing
+    let row : ℕ → List ℕ = λ k. under wide p k (assign_text s wide e k) in
+    one_more (each_below (min count 3) row) (more_under wide p count) (each_content row (min count 3) (λ k. under_content wide p k (assign_text s wide e k) (assign_plain s named wide e k)))
+    (either_content (nat_lt 3 count) (under wide p 3 (codes "..")) [] (under_content wide p 3 (codes "..") refl) nothing)
 
 mark_is : (head a b c rest : List ℕ) → head ++ ((a ++ (b ++ c)) ++ rest) ≡ head ++ a ++ b ++ c ++ rest
 mark_is head a b c rest = simp append_assoc
@@ -164,10 +178,10 @@ pub mark_content : (s : StatesView) → HasNames s.header → (f : Frame) (rows 
 mark_content s named f rows top e =
     let p = at f rows e in
     let beyond = is_beyond top e in
-    subst IsContent (mark_is (codes "<g>") (title s e) (disc p beyond e.position) (shown_under s f.wide p e) (codes "</g>" ++ 10 ∷ []))
-    (box (codes "g") [] [] (title s e ++ (disc p beyond e.position ++ shown_under s f.wide p e)) (10 ∷ []) refl (look_of [] refl) refl
-    (one_more (title s e) (disc p beyond e.position ++ shown_under s f.wide p e) (title_content s named e)
-    (one_more (disc p beyond e.position) (shown_under s f.wide p e) (disc_content p beyond e.position) (shown_content s named f.wide p e)))
+    subst IsContent (mark_is (codes "<g>") (title s e) (disc p beyond e.position) (assigns_under s f.wide p e) (codes "</g>" ++ 10 ∷ []))
+    (box (codes "g") [] [] (title s e ++ (disc p beyond e.position ++ assigns_under s f.wide p e)) (10 ∷ []) refl (look_of [] refl) refl
+    (one_more (title s e) (disc p beyond e.position ++ assigns_under s f.wide p e) (title_content s named e)
+    (one_more (disc p beyond e.position) (assigns_under s f.wide p e) (disc_content p beyond e.position) (assigns_content s named f.wide p e)))
     feed)
 
 -- ---- lanes and messages
@@ -199,6 +213,35 @@ arrow_content s f rows e = by_send (send_of s e)
     by_send (Some send) =
         line_content (at f rows send) (at f rows e) (names_of arrow_attributes) (codes " stroke='#555555' stroke-width='1.5' marker-end='url(#message)'") (look_of arrow_attributes refl) refl
 
+abbrev lost_attributes : List Attribute
+lost_attributes = attr (codes "stroke") (codes "#555555") ∷ attr (codes "stroke-width") (codes "1.5") ∷ attr (codes "marker-end") (codes "url(#lost)") ∷ []
+
+pub lost_content : (s : StatesView) (f : Frame) (rows : Rows) (e : EventId) → IsContent (lost_from s f rows e)
+lost_content s f rows e = by_receiver (lost_of s e)
+  where
+    by_receiver : (o : Option ℕ) → IsContent (lost_to (at f rows e) e.process o)
+    by_receiver None = nothing
+    by_receiver (Some receiver) =
+        let down = nat_lt e.process receiver in
+        line_content (at f rows e) (short_of (at f rows e) down) (names_of lost_attributes) lost_look (look_of lost_attributes refl) refl
+
+abbrev number_attributes : List Attribute
+number_attributes = attr (codes "font-size") (codes "10") ∷ rimmed (codes "middle") (codes "#555555") (codes "3")
+
+number_content : (s : StatesView) (f : Frame) (rows : Rows) (e : EventId) → IsContent (number_to s f rows e)
+number_content s f rows e = by_send (send_of s e)
+  where
+    by_send : (o : Option EventId) → IsContent (number_from f rows e (number_of (event_at s e).kind) o)
+    by_send None = nothing
+    by_send (Some send) =
+        let number = number_of (event_at s e).kind in
+        text_content (on_arrow (at f rows send) (at f rows e) (lanes_apart send.process e.process)) (names_of number_attributes) message_number_look (decimal number) (look_of number_attributes refl) refl (plain_content (decimal number) (number_plain number))
+
+pub numbers_content : (s : StatesView) (f : Frame) (rows : Rows) → IsContent (numbers_drawn s f rows)
+numbers_content s f rows =
+    let events = places (map length s.events) in
+    either_content (nat_le (length (filter (receives s) events)) most_numbers) (flat_map (number_to s f rows) events) [] (all_content (number_to s f rows) events (number_content s f rows)) nothing
+
 -- ---- cuts and witnesses
 
 abbrev cut_attributes : List ℕ → List Attribute
@@ -214,21 +257,17 @@ abbrev greatest_attributes : List Attribute
 greatest_attributes = cut_attributes (codes "2 3")
 
 abbrev step_attributes : List Attribute
-step_attributes = attr (codes "font-size") (codes "12") ∷ attr (codes "font-weight") (codes "bold") ∷ attr (codes "text-anchor") (codes "end") ∷ attr (codes "fill") (codes "#b35900") ∷ []
+step_attributes = attr (codes "font-weight") (codes "bold") ∷ rimmed (codes "end") (codes "#b35900") (codes "4")
 
 numbered_content : (p : Point) (number : ℕ) → IsContent (numbered p number)
 numbered_content p number =
-    let spot = point (p.x - 14) (p.y + 4) in
-    let back = on_white (codes "end") (codes "5") in
-    let shown = plain_content (decimal number) (number_plain number) in
-    one_more (text spot step_back_look (decimal number)) (text spot step_look (decimal number)) (text_content spot (names_of back) step_back_look (decimal number) (look_of back refl) refl shown)
-    (text_content spot (names_of step_attributes) step_look (decimal number) (look_of step_attributes refl) refl shown)
+    text_content (point (p.x - 14) (p.y + 4)) (names_of step_attributes) step_look (decimal number) (look_of step_attributes refl) refl (plain_content (decimal number) (number_plain number))
 
 path_content : (f : Frame) (rows : Rows) (steps : List EventId) (goal : Cut) → IsContent (path_drawn f rows steps goal)
 path_content f rows steps goal =
-    one_more (steps_drawn f rows steps) (cut_drawn f rows goal 32 goal_look)
+    one_more (steps_drawn f rows steps) (cut_drawn f rows goal goal_shift goal_look)
     (each_content (λ k. numbered (at f rows (get_or steps k no_place)) (k + 1)) (length steps) (λ k. numbered_content (at f rows (get_or steps k no_place)) (k + 1)))
-    (cut_content f rows goal 32 (names_of goal_attributes) goal_look (look_of goal_attributes refl) refl)
+    (cut_content f rows goal goal_shift (names_of goal_attributes) goal_look (look_of goal_attributes refl) refl)
 
 ring_content : (f : Frame) (rows : Rows) (e : EventId) → IsContent (ring f rows e)
 ring_content f rows e =
@@ -249,39 +288,69 @@ witness_content f rows (witness.StuckPair first other) = one_more (ring f rows f
 abbrev note_attributes : List Attribute
 note_attributes = attr (codes "font-size") (codes "12") ∷ []
 
-sample_content : (f : Frame) (row : ℕ) (names : List (List ℕ)) (look meaning : List ℕ) → Look names look → are_distinct (codes "x1" ∷ codes "y1" ∷ codes "x2" ∷ codes "y2" ∷ names) ≡ true → IsPlain meaning
-    → IsContent (sample f row look meaning)
-sample_content f row names look meaning l distinct h =
-    let y = row_at f row in
-    one_more (line (point 20 y) (point 70 y) look) (text (point 80 (y + 4)) (codes " font-size='12'") meaning) (line_content (point 20 y) (point 70 y) names look l distinct)
-    (text_content (point 80 (y + 4)) (names_of note_attributes) (codes " font-size='12'") meaning (look_of note_attributes refl) refl (plain_content meaning h))
+told_content : (p : Point) (right : ℕ) (meaning : List ℕ) → IsPlain meaning → IsContent (told p right meaning)
+told_content p right meaning h =
+    text_content (point (p.x + right) (p.y + 4)) (names_of note_attributes) (codes " font-size='12'") meaning (look_of note_attributes refl) refl (plain_content meaning h)
 
-note_content : (f : Frame) (from_below : ℕ) (meaning : List ℕ) → IsPlain meaning → IsContent (note f from_below meaning)
-note_content f from_below meaning h =
-    text_content (point 20 (f.height - from_below)) (names_of note_attributes) (codes " font-size='12'") meaning (look_of note_attributes refl) refl (plain_content meaning h)
+sample_content : (p : Point) (names : List (List ℕ)) (look meaning : List ℕ) → Look names look → are_distinct (codes "x1" ∷ codes "y1" ∷ codes "x2" ∷ codes "y2" ∷ names) ≡ true → IsPlain meaning → IsContent (sample p look meaning)
+sample_content p names look meaning l distinct h =
+    one_more (line p (point (p.x + 50) p.y) look) (told p 60 meaning) (line_content p (point (p.x + 50) p.y) names look l distinct) (told_content p 60 meaning h)
+
+disc_sample_content : (p : Point) (beyond : Bool) (meaning : List ℕ) → IsPlain meaning → IsContent (sample_disc p (mark_look beyond) meaning)
+disc_sample_content p beyond meaning h =
+    one_more (circle (point (p.x + 25) p.y) 7 (mark_look beyond)) (told p 60 meaning) (circle_content (point (p.x + 25) p.y) 7 ringed_names (mark_look beyond) (mark_look_is beyond) refl) (told_content p 60 meaning h)
+
+abbrev message_attributes : List Attribute
+message_attributes = attr (codes "stroke") (codes "#555555") ∷ attr (codes "stroke-width") (codes "1.5") ∷ []
+
+pub legend_content : (f : Frame) → IsContent (legend f)
+legend_content f =
+    let event = sample_disc (row_at f 20 0) (mark_look false) (codes "event") in
+    let message = sample (row_at f 20 1) message_look (codes "message") in
+    let lost = sample (row_at f 20 2) lost_look (codes "message that is not received") in
+    one_more (event ++ message) lost
+    (one_more event message (disc_sample_content (row_at f 20 0) false (codes "event") refl)
+    (sample_content (row_at f 20 1) (names_of message_attributes) message_look (codes "message") (look_of message_attributes refl) refl refl))
+    (sample_content (row_at f 20 2) (names_of lost_attributes) lost_look (codes "message that is not received") (look_of lost_attributes refl) refl refl)
+
+slice_legend_content : (f : Frame) → IsContent (slice_legend f)
+slice_legend_content f =
+    let least = sample (row_at f 300 0) least_look (codes "least cut of the slice") in
+    let greatest = sample (row_at f 300 1) greatest_look (codes "greatest cut of the slice") in
+    let beyond = sample_disc (row_at f 300 2) (mark_look true) (codes "event beyond the greatest cut") in
+    one_more (least ++ greatest) beyond
+    (one_more least greatest (sample_content (row_at f 300 0) (names_of least_attributes) least_look (codes "least cut of the slice") (look_of least_attributes refl) refl refl)
+    (sample_content (row_at f 300 1) (names_of greatest_attributes) greatest_look (codes "greatest cut of the slice") (look_of greatest_attributes refl) refl refl))
+    (disc_sample_content (row_at f 300 2) true (codes "event beyond the greatest cut") refl)
 
 bounds_content : (f : Frame) (rows : Rows) (bounds : Option (Cut × Cut)) → IsContent (bounds_drawn f rows bounds)
-bounds_content f rows None = note_content f 82 (codes "slice empty") refl
+bounds_content f rows None = told_content (row_at f 300 0) 0 (codes "slice empty") refl
 bounds_content f rows (Some bounds) =
-    let least = cut_drawn f rows bounds.0 18 least_look in
-    let greatest = cut_drawn f rows bounds.1 25 greatest_look in
-    let least_sample = sample f 0 least_look (codes "least cut of the slice") in
-    let greatest_sample = sample f 1 greatest_look (codes "greatest cut of the slice") in
-    one_more (least ++ greatest ++ least_sample) greatest_sample
-    (one_more (least ++ greatest) least_sample
-    (one_more least greatest (cut_content f rows bounds.0 18 (names_of least_attributes) least_look (look_of least_attributes refl) refl)
-    (cut_content f rows bounds.1 25 (names_of greatest_attributes) greatest_look (look_of greatest_attributes refl) refl))
-    (sample_content f 0 (names_of least_attributes) least_look (codes "least cut of the slice") (look_of least_attributes refl) refl refl))
-    (sample_content f 1 (names_of greatest_attributes) greatest_look (codes "greatest cut of the slice") (look_of greatest_attributes refl) refl refl)
+    let least = cut_drawn f rows bounds.0 least_shift least_look in
+    let greatest = cut_drawn f rows bounds.1 greatest_shift greatest_look in
+    one_more (least ++ greatest) (slice_legend f)
+    (one_more least greatest (cut_content f rows bounds.0 least_shift (names_of least_attributes) least_look (look_of least_attributes refl) refl)
+    (cut_content f rows bounds.1 greatest_shift (names_of greatest_attributes) greatest_look (look_of greatest_attributes refl) refl))
+    (slice_legend_content f)
 
 pub slice_content : (f : Frame) (rows : Rows) (o : Option SliceText) → IsContent (slice_drawn f rows o)
 slice_content f rows None = nothing
 slice_content f rows (Some slice) = bounds_content f rows slice.bounds
 
-pub edges_note_content : (f : Frame) (left_out : ℕ) → IsContent (edges_note f left_out)
+edges_note_content : (f : Frame) (left_out : ℕ) → IsContent (edges_note f left_out)
 edges_note_content f left_out =
     let meaning = codes "edges that are not drawn: " ++ decimal left_out in
-    either_content (left_out == 0) [] (note f 22 meaning) nothing (note_content f 22 meaning (both is_plain (codes "edges that are not drawn: ") (decimal left_out) refl (number_plain left_out)))
+    either_content (left_out == 0) [] (told (row_at f 300 4) 0 meaning) nothing (told_content (row_at f 300 4) 0 meaning (both is_plain (codes "edges that are not drawn: ") (decimal left_out) refl (number_plain left_out)))
+
+abbrev dashed_attributes : List Attribute
+dashed_attributes = attr (codes "stroke") (codes "#7a3db8") ∷ attr (codes "stroke-dasharray") (codes "5 4") ∷ []
+
+pub edges_legend_content : (f : Frame) (edges : ℕ) → IsContent (edges_legend f edges)
+edges_legend_content f edges =
+    let dashed = sample (row_at f 20 4) edge_sample_look (codes "edge of the slice") in
+    let left_out = edges_note f (edges - most_edges) in
+    either_content (edges == 0) [] (edges_told f edges) nothing
+    (one_more dashed left_out (sample_content (row_at f 20 4) (names_of dashed_attributes) edge_sample_look (codes "edge of the slice") (look_of dashed_attributes refl) refl refl) (edges_note_content f (edges - most_edges)))
 
 meaning_plain : (w : Witness) → IsPlain (meaning_of w)
 meaning_plain witness.Nothing = refl
@@ -303,5 +372,6 @@ witness_plain w =
 pub one_content : (f : Frame) (rows : Rows) (o : Option WitnessText) → IsContent (one_drawn f rows o)
 one_content f rows None = nothing
 one_content f rows (Some w) =
-    one_more (witness_drawn f rows w.witness) (sample f 2 goal_look (witness_meaning w)) (witness_content f rows w.witness)
-    (sample_content f 2 (names_of goal_attributes) goal_look (witness_meaning w) (look_of goal_attributes refl) refl (witness_plain w))
+    let p = row_at f 20 3 in
+    one_more (witness_drawn f rows w.witness) (sample p goal_look (witness_meaning w)) (witness_content f rows w.witness)
+    (sample_content p (names_of goal_attributes) goal_look (witness_meaning w) (look_of goal_attributes refl) refl (witness_plain w))

@@ -1,5 +1,5 @@
 -- The whole picture is a document.
-use Rattle.std.proofs.Common.{◌≡◌, ℕ, ◌-◌, Bool, true, false, List, [], ◌∷◌, ◌++◌, length, map, take, refl, subst, append_assoc}
+use Rattle.std.proofs.Common.{◌≡◌, ℕ, Bool, true, false, List, [], ◌∷◌, ◌++◌, length, map, take, refl, subst, append_assoc}
 use Rattle.std.specs.Prelude.{codes}
 use Rattle.std.specs.List.{list_all, flat_map}
 use Rattle.std.specs.Fmt.{decimal}
@@ -10,21 +10,21 @@ use Rattle.view_picture.specs.declared.frame.Frame.{Frame}
 use Rattle.view_picture.specs.Columns.{Rows}
 use Rattle.view_picture.specs.Svg.{attribute, escaped}
 use Rattle.view_picture.specs.Frame.{frame_of}
-use Rattle.view_picture.specs.Drawing.{point, lane_drawn, arrow_to, edge_drawn, mark}
-use Rattle.view_picture.specs.Picture.{size, box_text, arrow_heads, verdict_drawn, formula_drawn, top_of, edges_of, slice_drawn, most_edges, edges_note, first_drawn, one_drawn, body}
+use Rattle.view_picture.specs.Drawing.{point, lane_drawn, arrow_to, lost_from, numbers_drawn, edge_drawn, mark}
+use Rattle.view_picture.specs.Picture.{size, box_text, lost_head, arrow_heads, verdict_drawn, formula_drawn, top_of, edges_of, slice_drawn, most_edges, legend, edges_legend, first_drawn, one_drawn, body}
 use Rattle.report_lines.specs.Spelling.{truth_text}
 use Rattle.picture_laws.specs.Xml.{Attribute, is_printed, is_in_value, names_of, IsContent, byte}
 use Rattle.picture_laws.specs.WellFormed.{HasNames, PicturesAreWellFormed}
 use Rattle.picture_laws.proofs.Plain.{IsPlain, both, number_value}
 use Rattle.picture_laws.proofs.Grammar.{nothing_behind, plain_content, one_more, each_content, all_content, feed, escaped_content, Look, look_of, attr, valued, number, looks, leaf, box, root_element}
 use Rattle.picture_laws.proofs.Elements.{text_content, edge_content}
-use Rattle.picture_laws.proofs.Parts.{mark_content, lane_content, arrow_content, slice_content, edges_note_content, one_content}
+use Rattle.picture_laws.proofs.Parts.{mark_content, lane_content, arrow_content, lost_content, numbers_content, slice_content, legend_content, edges_legend_content, one_content}
 
 -- ---- the heads of arrows, which are the same in each picture
 
 abbrev head_attributes : List ℕ → List Attribute
 head_attributes name =
-    attr (codes "id") name ∷ attr (codes "viewBox") (codes "0 0 20 8") ∷ attr (codes "refX") (codes "20") ∷ attr (codes "refY") (codes "4") ∷ attr (codes "markerWidth") (codes "20") ∷ attr (codes "markerHeight") (codes "8")
+    attr (codes "id") name ∷ attr (codes "viewBox") (codes "0 0 20 8") ∷ attr (codes "refX") (codes "23") ∷ attr (codes "refY") (codes "4") ∷ attr (codes "markerWidth") (codes "20") ∷ attr (codes "markerHeight") (codes "8")
     ∷ attr (codes "markerUnits") (codes "userSpaceOnUse") ∷ attr (codes "orient") (codes "auto") ∷ []
 
 abbrev tip_attributes : List ℕ → List Attribute
@@ -40,7 +40,7 @@ edge_tip : IsContent (tip_text (codes "#7a3db8"))
 edge_tip = leaf (codes "path") (codes "d" ∷ codes "fill" ∷ []) (codes " d='M0 0 L8 4 L0 8 z' fill='#7a3db8'") [] refl (look_of (tip_attributes (codes "#7a3db8")) refl) refl nothing_behind
 
 abbrev head_look : List ℕ → List ℕ
-head_look name = codes " id='" ++ name ++ codes "' viewBox='0 0 20 8' refX='20' refY='4' markerWidth='20' markerHeight='8' markerUnits='userSpaceOnUse' orient='auto'"
+head_look name = codes " id='" ++ name ++ codes "' viewBox='0 0 20 8' refX='23' refY='4' markerWidth='20' markerHeight='8' markerUnits='userSpaceOnUse' orient='auto'"
 
 abbrev head_text : List ℕ → List ℕ → List ℕ
 head_text name color = codes "<marker" ++ head_look name ++ codes ">" ++ tip_text color ++ (codes "</marker>" ++ 10 ∷ [])
@@ -52,12 +52,38 @@ message_head =
 edge_head : IsContent (head_text (codes "edge") (codes "#7a3db8"))
 edge_head = box (codes "marker") (names_of (head_attributes (codes "edge"))) (head_look (codes "edge")) (tip_text (codes "#7a3db8")) (10 ∷ []) refl (look_of (head_attributes (codes "edge")) refl) refl edge_tip feed
 
+abbrev lost_attributes : List Attribute
+lost_attributes =
+    attr (codes "id") (codes "lost") ∷ attr (codes "viewBox") (codes "0 0 18 10") ∷ attr (codes "refX") (codes "13") ∷ attr (codes "refY") (codes "5") ∷ attr (codes "markerWidth") (codes "18") ∷ attr (codes "markerHeight") (codes "10")
+    ∷ attr (codes "markerUnits") (codes "userSpaceOnUse") ∷ attr (codes "orient") (codes "auto") ∷ []
+
+abbrev lost_text : List ℕ
+lost_text = codes " id='lost' viewBox='0 0 18 10' refX='13' refY='5' markerWidth='18' markerHeight='10' markerUnits='userSpaceOnUse' orient='auto'"
+
+abbrev cross_attributes : List Attribute
+cross_attributes = attr (codes "d") (codes "M0 1 L6 5 L0 9 M9 1 L17 9 M9 9 L17 1") ∷ attr (codes "fill") (codes "none") ∷ attr (codes "stroke") (codes "#555555") ∷ attr (codes "stroke-width") (codes "1.5") ∷ []
+
+abbrev cross_look : List ℕ
+cross_look = codes " d='M0 1 L6 5 L0 9 M9 1 L17 9 M9 9 L17 1' fill='none' stroke='#555555' stroke-width='1.5'"
+
+abbrev cross_text : List ℕ
+cross_text = codes "<path" ++ cross_look ++ codes "/>"
+
+cross : IsContent cross_text
+cross = leaf (codes "path") (names_of cross_attributes) cross_look [] refl (look_of cross_attributes refl) refl nothing_behind
+
+lost_head_content : IsContent lost_head
+lost_head_content = box (codes "marker") (names_of lost_attributes) lost_text cross_text (10 ∷ []) refl (look_of lost_attributes refl) refl cross feed
+
+abbrev three_heads : List ℕ
+three_heads = head_text (codes "message") (codes "#555555") ++ (lost_head ++ head_text (codes "edge") (codes "#7a3db8"))
+
+three_content : IsContent three_heads
+three_content =
+    one_more (head_text (codes "message") (codes "#555555")) (lost_head ++ head_text (codes "edge") (codes "#7a3db8")) message_head (one_more lost_head (head_text (codes "edge") (codes "#7a3db8")) lost_head_content edge_head)
+
 heads_content : IsContent arrow_heads
-heads_content =
-    box (codes "defs") [] [] (10 ∷ (head_text (codes "message") (codes "#555555") ++ head_text (codes "edge") (codes "#7a3db8"))) (10 ∷ []) refl (look_of [] refl) refl
-    (byte 10 (head_text (codes "message") (codes "#555555") ++ head_text (codes "edge") (codes "#7a3db8")) refl
-    (one_more (head_text (codes "message") (codes "#555555")) (head_text (codes "edge") (codes "#7a3db8")) message_head edge_head))
-    feed
+heads_content = box (codes "defs") [] [] (10 ∷ three_heads) (10 ∷ []) refl (look_of [] refl) refl (byte 10 three_heads refl three_content) feed
 
 -- ---- verdict and formula
 
@@ -84,22 +110,29 @@ body_content : (s : StatesView) → HasNames s.header → (f : Frame) (rows : Ro
 body_content s named f rows r =
     let lanes = each_below (length s.header.procs) (lane_drawn s f) in
     let arrows = flat_map (arrow_to s f rows) (places (map length s.events)) in
+    let lost = flat_map (lost_from s f rows) (places (map length s.events)) in
     let edges = flat_map (edge_drawn f rows) (take most_edges (edges_of r.slice)) in
     let slice = slice_drawn f rows r.slice in
     let one = one_drawn f rows (first_drawn r.witnesses) in
     let marks = flat_map (mark s f rows (top_of r.slice)) (places (map length s.events)) in
-    let left_out = length (edges_of r.slice) - most_edges in
-    one_more (lanes ++ arrows ++ edges ++ slice ++ one ++ marks) (edges_note f left_out)
-    (one_more (lanes ++ arrows ++ edges ++ slice ++ one) marks
-    (one_more (lanes ++ arrows ++ edges ++ slice) one
-    (one_more (lanes ++ arrows ++ edges) slice
-    (one_more (lanes ++ arrows) edges
+    let count = length (edges_of r.slice) in
+    one_more (lanes ++ arrows ++ lost ++ numbers_drawn s f rows ++ edges ++ slice ++ one ++ marks ++ legend f) (edges_legend f count)
+    (one_more (lanes ++ arrows ++ lost ++ numbers_drawn s f rows ++ edges ++ slice ++ one ++ marks) (legend f)
+    (one_more (lanes ++ arrows ++ lost ++ numbers_drawn s f rows ++ edges ++ slice ++ one) marks
+    (one_more (lanes ++ arrows ++ lost ++ numbers_drawn s f rows ++ edges ++ slice) one
+    (one_more (lanes ++ arrows ++ lost ++ numbers_drawn s f rows ++ edges) slice
+    (one_more (lanes ++ arrows ++ lost ++ numbers_drawn s f rows) edges
+    (one_more (lanes ++ arrows ++ lost) (numbers_drawn s f rows)
+    (one_more (lanes ++ arrows) lost
     (one_more lanes arrows (each_content (lane_drawn s f) (length s.header.procs) (lane_content s named f)) (all_content (arrow_to s f rows) (places (map length s.events)) (arrow_content s f rows)))
+    (all_content (lost_from s f rows) (places (map length s.events)) (lost_content s f rows)))
+    (numbers_content s f rows))
     (all_content (edge_drawn f rows) (take most_edges (edges_of r.slice)) (edge_content f rows)))
     (slice_content f rows r.slice))
     (one_content f rows (first_drawn r.witnesses)))
     (all_content (mark s f rows (top_of r.slice)) (places (map length s.events)) (mark_content s named f rows (top_of r.slice))))
-    (edges_note_content f left_out)
+    (legend_content f))
+    (edges_legend_content f count)
 
 -- ---- the root
 
@@ -123,22 +156,22 @@ abbrev root_text : List ℕ
 root_text = codes " xmlns='http://www.w3.org/2000/svg' version='1.1'"
 
 abbrev font_attributes : List Attribute
-font_attributes = attr (codes "font-family") (codes "sans-serif") ∷ []
+font_attributes = attr (codes "font-family") (codes "sans-serif") ∷ attr (codes "font-size") (codes "12") ∷ attr (codes "paint-order") (codes "stroke") ∷ attr (codes "stroke-linejoin") (codes "round") ∷ []
 
 abbrev font_text : List ℕ
-font_text = codes " font-family='sans-serif'"
+font_text = codes " font-family='sans-serif' font-size='12' paint-order='stroke' stroke-linejoin='round'"
 
 abbrev root_look : Frame → List ℕ
 root_look f = root_text ++ (size f ++ (box_text f ++ font_text))
 
 abbrev root_names : List (List ℕ)
-root_names = codes "xmlns" ∷ codes "version" ∷ codes "width" ∷ codes "height" ∷ codes "viewBox" ∷ codes "font-family" ∷ []
+root_names = codes "xmlns" ∷ codes "version" ∷ codes "width" ∷ codes "height" ∷ codes "viewBox" ∷ names_of font_attributes
 
 root_is_look : (f : Frame) → Look root_names (root_look f)
 root_is_look f =
-    looks (names_of root_attributes) (codes "width" ∷ codes "height" ∷ codes "viewBox" ∷ codes "font-family" ∷ []) root_text (size f ++ (box_text f ++ font_text)) (look_of root_attributes refl)
-    (looks (codes "width" ∷ codes "height" ∷ []) (codes "viewBox" ∷ codes "font-family" ∷ []) (size f) (box_text f ++ font_text) (size_look f)
-    (looks (codes "viewBox" ∷ []) (codes "font-family" ∷ []) (box_text f) font_text (box_look f) (look_of font_attributes refl)))
+    looks (names_of root_attributes) (codes "width" ∷ codes "height" ∷ codes "viewBox" ∷ names_of font_attributes) root_text (size f ++ (box_text f ++ font_text)) (look_of root_attributes refl)
+    (looks (codes "width" ∷ codes "height" ∷ []) (codes "viewBox" ∷ names_of font_attributes) (size f) (box_text f ++ font_text) (size_look f)
+    (looks (codes "viewBox" ∷ []) (names_of font_attributes) (box_text f) font_text (box_look f) (look_of font_attributes refl)))
 
 abbrev white : List ℕ
 white = codes " fill='#ffffff'"
@@ -163,7 +196,7 @@ inner_content f r below h content =
     (one_more (verdict_drawn r.verdict) (formula_drawn r.formula ++ below) (verdict_content r.verdict) (one_more (formula_drawn r.formula) below (formula_content r.formula h) content))))
 
 root_is : (head size box font close white paper heads verdict formula below last feed : List ℕ)
-    → head ++ size ++ box ++ (font ++ close) ++ size ++ (white ++ paper) ++ heads ++ verdict ++ formula ++ below ++ (last ++ feed)
+    → head ++ size ++ box ++ font ++ close ++ size ++ (white ++ paper) ++ heads ++ verdict ++ formula ++ below ++ (last ++ feed)
     ≡ (head ++ ((size ++ (box ++ font)) ++ (close ++ (((size ++ white) ++ paper) ++ (heads ++ (verdict ++ (formula ++ below))) ++ last)))) ++ feed
 root_is head size box font close white paper heads verdict formula below last feed = simp append_assoc
 

@@ -1,5 +1,5 @@
 -- Laws of the picture, as statements.
-use Rattle.std.specs.Prelude.{◌≡◌, map, length, Some, Bool}
+use Rattle.std.specs.Prelude.{◌≡◌, ◌↔◌, ℕ, map, length, Some, Bool}
 use Rattle.std.specs.List.{flat_map, AllByRecursion}
 use Rattle.run_model.specs.Run.{Run}
 use Rattle.run_model.specs.Formula.{Formula}
@@ -19,7 +19,7 @@ use Rattle.view_parts.specs.Each.{places}
 use Rattle.view_parts.specs.Parts.{event_at, IsReportOf}
 use Rattle.view_picture.specs.declared.frame.Frame.{Frame}
 use Rattle.view_picture.specs.Columns.{Rows, AreColumns}
-use Rattle.view_picture.specs.Drawing.{arrow_to, edge_drawn}
+use Rattle.view_picture.specs.Drawing.{arrow_to, lost_of, edge_drawn}
 use Rattle.picture_laws.specs.Lines.{Ends, between, times_drawn, message_lines, arrow_along}
 use Rattle.picture_laws.specs.Lines.{first_edges, edge_line, edge_lines, dashed_along, times_listed}
 
@@ -68,6 +68,21 @@ abbrev pub ArrowsAreOfMessages : Type 0
 ArrowsAreOfMessages =
     (s : StatesView) (f : Frame) (rows : Rows) → IsDrawable s rows
     → AllByRecursion (IsOfMessage s f rows) (message_lines s f rows)
+
+-- ---- messages that nothing receives
+
+-- the event sends a message to this process, and no event receives it
+pub record IsLostTo (s : StatesView) (send : EventId) (receiver : ℕ) : Type 0 where
+  pub message : Message
+  pub sent : IsSend s message send
+  pub receiver_is : message.receiver ≡ receiver
+  pub lost : (receipt : EventId) → IsReceipt s message receipt → ⊥
+
+-- an event has a short arrow to the lane of a process exactly where it does
+abbrev pub ShortArrowsAreOfLost : Type 0
+ShortArrowsAreOfLost =
+    (s : StatesView) (send : EventId) (receiver : ℕ) → HasEvent (map length s.events) send
+    → (lost_of s send ≡ Some receiver) ↔ IsLostTo s send receiver
 
 -- ---- edges
 

@@ -1,16 +1,17 @@
 //! Laws of the picture of a run, as contracts of functions that do nothing.
 //!
 //! Each message whose send and receipt are there has exactly one arrow, from mark to mark, and no
-//! other arrow is drawn (`messages_have_one_arrow`). Each of the first 40 edges of a run's report
-//! has exactly one dashed line (`first_edges_have_one_line`). The text of a picture is well-formed
-//! XML, and so is each picture that `view_top` writes (`pictures_are_well_formed`), by a grammar
-//! whose documents have as many `>` as `<` (`documents_close_their_tags`).
+//! other arrow is drawn (`messages_have_one_arrow`). Exactly a message that is sent and not
+//! received has a short arrow (`lost_messages_have_short_arrows`). Each of the first 40 edges of a
+//! run's report has exactly one dashed line (`first_edges_have_one_line`). The text of a picture is
+//! well-formed XML, and so is each picture that `view_top` writes (`pictures_are_well_formed`), by
+//! a grammar whose documents have as many `>` as `<` (`documents_close_their_tags`).
 //!
 //! Not said: how the picture is written, and that it is this one. `view_picture` says so.
 #![tactic(auto)]
 
 ghost use Rattle.picture_laws.specs.Laws.{ArrowsAreDrawn, MessagesHaveOneArrow};
-ghost use Rattle.picture_laws.specs.Laws.{ArrowsAreOfMessages};
+ghost use Rattle.picture_laws.specs.Laws.{ArrowsAreOfMessages, ShortArrowsAreOfLost};
 ghost use Rattle.picture_laws.specs.Laws.{EdgeLinesAreDrawn, FirstEdgesHaveTheirLines};
 ghost use Rattle.picture_laws.specs.Laws.{EachFirstEdgeHasOneLine};
 ghost use Rattle.picture_laws.specs.WellFormed.{PicturesAreWellFormed, PicturesOfRunsAreWellFormed};
@@ -23,6 +24,12 @@ pub fn messages_have_one_arrow()
     ensures drawn { ArrowsAreDrawn }
     ensures one { MessagesHaveOneArrow }
     ensures no_other { ArrowsAreOfMessages }
+{}
+
+/// An event has a short arrow to the lane of a process exactly where it sends a message there that
+/// no event receives.
+pub fn lost_messages_have_short_arrows()
+    ensures { ShortArrowsAreOfLost }
 {}
 
 /// Among the first 40 edges of the report, an edge has one dashed line each time that it stands

@@ -12,7 +12,7 @@ use Rattle.view_picture.specs.Svg.{escape, escaped}
 use Rattle.view_picture.specs.Frame.{column_at}
 use Rattle.view_picture.specs.Laws.{MarksAreApart, IsNoBracket, EscapedHasNoTag}
 
-columns_apart : (left : ℕ) (wide : Bool) (c d : ℕ) → c < d → column_at left wide c + 48 ≤ column_at left wide d
+pub columns_apart : (left : ℕ) (wide : Bool) (c d : ℕ) → c < d → column_at left wide c + 48 ≤ column_at left wide d
 columns_apart left true c d lt = omega arith
 columns_apart left false c d lt = omega arith
 

@@ -24,7 +24,7 @@ each_below_most [] n p lt = absurd (omega (arith, lt))
 each_below_most (row ∷ rows) n zero lt = let more = grows rows (max n (last_of row)) in omega arith
 each_below_most (row ∷ rows) n (suc p) lt = each_below_most rows (max n (last_of row)) p (omega (arith, lt))
 
-column_rises : (left : ℕ) (wide : Bool) (c d : ℕ) → c ≤ d → column_at left wide c ≤ column_at left wide d
+pub column_rises : (left : ℕ) (wide : Bool) (c d : ℕ) → c ≤ d → column_at left wide c ≤ column_at left wide d
 column_rises left true c d le = omega arith
 column_rises left false c d le = omega arith
 

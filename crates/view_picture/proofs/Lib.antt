@@ -4,3 +4,6 @@ pub mod Once
 pub mod Apart
 pub mod Inside
 pub mod Unique
+pub mod Sides
+pub mod Counted
+pub mod Behind

@@ -6,7 +6,7 @@ use Rattle.run_model.specs.Consistent.{IsEvent}
 use Rattle.view_picture.specs.Columns.{Rows, AreColumns, column}
 use Rattle.view_picture.specs.Laws.{ColumnsAreOne}
 
-some : (o : Clocks) (rows : Rows) → AreColumns o rows → (i a : ℕ) → IsEvent (lengths o) i a → 1 ≤ column rows i a
+pub some : (o : Clocks) (rows : Rows) → AreColumns o rows → (i a : ℕ) → IsEvent (lengths o) i a → 1 ≤ column rows i a
 some o rows columns i a ev = elim (columns.tight i a ev) [
   | inl one ↦ omega (arith, one)
   | inr w ↦ omega (arith, w.next_to)

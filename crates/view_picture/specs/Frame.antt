@@ -21,7 +21,7 @@ most rows = fold (λ n row. max n (get_or row (length row - 1) 0)) 0 rows
 abbrev pub left_of : StatesView → ℕ
 left_of s = 40 + 9 * longest s.header.procs
 
--- up to 60 columns each has room for the assignments of its events
+-- up to 60 columns each has room for long assignments of its events
 abbrev pub are_wide : Rows → Bool
 are_wide rows = nat_le (most rows) 60
 
@@ -39,8 +39,8 @@ frame_of s rows r = record {
   left = left_of s;
   wide = are_wide rows;
   width =
-      max (max (column_at (left_of s) (are_wide rows) (most rows) + 60) (heading_width r)) 440;
-  height = 150 + 96 * length s.header.procs + 60;
+      max (max (column_at (left_of s) (are_wide rows) (most rows) + 60) (heading_width r)) 560;
+  height = 150 + 96 * length s.header.procs + 100;
 }
 
 abbrev pub lane : ℕ → ℕ

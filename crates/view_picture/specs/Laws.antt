@@ -1,8 +1,8 @@
 -- What is said of the marks of the picture and of its texts.
-use Rattle.std.specs.Prelude.{◌≡◌, ◌⊎◌, ℕ, ◌+◌, ◌≤◌, ◌&&◌, ◌==◌, Bool, List, [], ◌∷◌, length}
+use Rattle.std.specs.Prelude.{◌≡◌, ◌⊎◌, ℕ, ◌+◌, ◌<◌, ◌≤◌, ◌&&◌, ◌==◌, Bool, List, [], ◌∷◌, length}
 use Rattle.std.specs.Prelude.{if◌then◌else◌}
 use Rattle.std.specs.List.{AllByRecursion}
-use Rattle.run_model.specs.Cut.{Clocks, lengths}
+use Rattle.run_model.specs.Cut.{Cut, Clocks, count, lengths}
 use Rattle.run_model.specs.Consistent.{IsOrder}
 use Rattle.pota_base.specs.declared.shape.EventId.{EventId}
 use Rattle.pota_base.specs.Shape.{HasEvent}
@@ -14,6 +14,7 @@ use Rattle.view_picture.specs.declared.frame.Frame.{Frame}
 use Rattle.view_picture.specs.Columns.{Rows, AreColumns}
 use Rattle.view_picture.specs.Svg.{escaped}
 use Rattle.view_picture.specs.Frame.{at, frame_of}
+use Rattle.view_picture.specs.Drawing.{crossing, least_shift, goal_shift, greatest_shift}
 
 abbrev pub is_place : EventId → EventId → Bool
 is_place e f = f.process == e.process && f.position == e.position
@@ -58,6 +59,28 @@ MarksAreInside =
     (o : Clocks) (s : StatesView) (r : Report) (rows : Rows) → IsOrder o → AreColumns o rows
     → length s.header.procs ≡ length o → (e : EventId) → HasEvent (lengths o) e
     → IsInside (frame_of s rows r) (at (frame_of s rows r) rows e)
+
+-- on the lane of a process the line of a goal runs right of that of the least cut where the goal
+-- has all that the least cut has there
+abbrev pub GoalsAreBehindTheLeast : Type 0
+GoalsAreBehindTheLeast =
+    (o : Clocks) (f : Frame) (rows : Rows) → IsOrder o → AreColumns o rows → (low goal : Cut)
+    (p : ℕ) → p < length o → count low p ≤ count goal p → count goal p ≤ count (lengths o) p
+    → crossing f rows low least_shift p < crossing f rows goal goal_shift p
+
+-- and left of that of the greatest cut where the greatest cut has all that the goal has there
+abbrev pub GoalsAreBeforeTheGreatest : Type 0
+GoalsAreBeforeTheGreatest =
+    (o : Clocks) (f : Frame) (rows : Rows) → IsOrder o → AreColumns o rows → (goal high : Cut)
+    (p : ℕ) → p < length o → count goal p ≤ count high p → count high p ≤ count (lengths o) p
+    → crossing f rows goal goal_shift p < crossing f rows high greatest_shift p
+
+-- and right of it where the goal has more
+abbrev pub GoalsBeyondAreBeyond : Type 0
+GoalsBeyondAreBeyond =
+    (o : Clocks) (f : Frame) (rows : Rows) → IsOrder o → AreColumns o rows → (goal high : Cut)
+    (p : ℕ) → p < length o → count high p < count goal p → count goal p ≤ count (lengths o) p
+    → crossing f rows high greatest_shift p < crossing f rows goal goal_shift p
 
 -- a byte that begins no tag and ends none
 abbrev pub IsNoBracket : ℕ → Type 0

@@ -17,10 +17,13 @@ use Rattle.report.specs.declared.report.Report.{Report}
 use Rattle.view_parts.specs.Each.{each_below, places}
 use Rattle.view_picture.specs.declared.frame.Frame.{Frame}
 use Rattle.view_picture.specs.Columns.{Rows, AreColumns}
-use Rattle.view_picture.specs.Svg.{attribute, line, text, escaped}
+use Rattle.view_picture.specs.declared.svg.Point.{Point}
+use Rattle.view_picture.specs.Svg.{attribute, line, circle, text, escaped}
 use Rattle.view_picture.specs.Frame.{frame_of}
-use Rattle.view_picture.specs.Drawing.{point, lane_drawn, arrow_to, edge_drawn, mark, cut_drawn}
-use Rattle.view_picture.specs.Drawing.{least_look, greatest_look, goal_look, witness_drawn}
+use Rattle.view_picture.specs.Drawing.{point, lane_drawn, arrow_to, numbers_drawn, lost_look}
+use Rattle.view_picture.specs.Drawing.{lost_from, edge_drawn, mark_look, mark, cut_drawn}
+use Rattle.view_picture.specs.Drawing.{least_look, greatest_look, goal_look, least_shift}
+use Rattle.view_picture.specs.Drawing.{greatest_shift, witness_drawn}
 
 -- ---- the heading
 
@@ -31,24 +34,37 @@ abbrev pub box_text : Frame → List ℕ
 box_text f =
     codes " viewBox='0 0 " ++ decimal f.width ++ 32 ∷ [] ++ decimal f.height ++ 39 ∷ []
 
+-- what holds for all that is drawn: texts and marks have their rims behind them
+abbrev pub root_look : List ℕ
+root_look =
+    codes " font-family='sans-serif' font-size='12' paint-order='stroke' stroke-linejoin='round'"
+
 -- the tag that opens the image, and the white behind it
 abbrev pub opening : Frame → List ℕ
 opening f =
     codes "<svg xmlns='http://www.w3.org/2000/svg' version='1.1'" ++ size f ++ box_text f
-    ++ (codes " font-family='sans-serif'>" ++ 10 ∷ codes "<rect") ++ size f
+    ++ root_look ++ (codes ">" ++ 10 ∷ codes "<rect") ++ size f
     ++ (codes " fill='#ffffff'/>" ++ 10 ∷ [])
 
--- the head of an arrow of this name and color, whose tip is at the rim of a mark
+-- the head of an arrow of this name and color, whose tip is at the white ring of a mark
 abbrev pub arrow_head : List ℕ → List ℕ → List ℕ
 arrow_head name color =
     codes "<marker id='" ++ name
-    ++ codes "' viewBox='0 0 20 8' refX='20' refY='4' markerWidth='20' markerHeight='8'"
+    ++ codes "' viewBox='0 0 20 8' refX='23' refY='4' markerWidth='20' markerHeight='8'"
     ++ codes " markerUnits='userSpaceOnUse' orient='auto'><path d='M0 0 L8 4 L0 8 z' fill='"
     ++ color ++ (codes "'/></marker>" ++ 10 ∷ [])
 
+-- an open head and a cross
+abbrev pub lost_head : List ℕ
+lost_head =
+    codes "<marker id='lost' viewBox='0 0 18 10' refX='13' refY='5' markerWidth='18'"
+    ++ codes " markerHeight='10' markerUnits='userSpaceOnUse' orient='auto'>"
+    ++ codes "<path d='M0 1 L6 5 L0 9 M9 1 L17 9 M9 9 L17 1' fill='none' stroke='#555555'"
+    ++ (codes " stroke-width='1.5'/></marker>" ++ 10 ∷ [])
+
 abbrev pub arrow_heads : List ℕ
 arrow_heads =
-    (codes "<defs>" ++ 10 ∷ []) ++ arrow_head (codes "message") (codes "#555555")
+    (codes "<defs>" ++ 10 ∷ []) ++ arrow_head (codes "message") (codes "#555555") ++ lost_head
     ++ arrow_head (codes "edge") (codes "#7a3db8") ++ (codes "</defs>" ++ 10 ∷ [])
 
 abbrev pub verdict_drawn : Bool → List ℕ
@@ -79,33 +95,48 @@ abbrev pub edges_of : Option SliceText → List Edge
 edges_of None = []
 edges_of (Some slice) = slice.edges
 
--- ---- what the lines across mean, below the lanes
+-- ---- what each color and dash means, below the lanes
 
--- the height of a row below the lanes
-abbrev pub row_at : Frame → ℕ → ℕ
-row_at f row = f.height - 86 + 20 * row
+-- a row below the lanes, so far from the left
+abbrev pub row_at : Frame → ℕ → ℕ → Point
+row_at f x row = point x (f.height - 106 + 20 * row)
 
-abbrev pub sample_line : ℕ → List ℕ → List ℕ
-sample_line y look = line (point 20 y) (point 70 y) look
+-- what stands so far right of the beginning of a row
+abbrev pub told : Point → ℕ → List ℕ → List ℕ
+told p right meaning = text (point (p.x + right) (p.y + 4)) (codes " font-size='12'") meaning
 
-abbrev pub sample_text : ℕ → List ℕ → List ℕ
-sample_text y meaning = text (point 80 (y + 4)) (codes " font-size='12'") meaning
+-- a line with its look, and what it means
+abbrev pub sample : Point → List ℕ → List ℕ → List ℕ
+sample p look meaning = line p (point (p.x + 50) p.y) look ++ told p 60 meaning
 
--- a line with its look, and what it means, on a row of its own
-abbrev pub sample : Frame → ℕ → List ℕ → List ℕ → List ℕ
-sample f row look meaning = sample_line (row_at f row) look ++ sample_text (row_at f row) meaning
+-- a disc with its look, and what it means
+abbrev pub sample_disc : Point → List ℕ → List ℕ → List ℕ
+sample_disc p look meaning = circle (point (p.x + 25) p.y) 7 look ++ told p 60 meaning
 
-abbrev pub note : Frame → ℕ → List ℕ → List ℕ
-note f from_below meaning =
-    text (point 20 (f.height - from_below)) (codes " font-size='12'") meaning
+abbrev pub message_look : List ℕ
+message_look = codes " stroke='#555555' stroke-width='1.5'"
+
+-- what each picture has: three shapes beside the marks and arrows of the run
+abbrev pub legend : Frame → List ℕ
+legend f =
+    sample_disc (row_at f 20 0) (mark_look false) (codes "event")
+    ++ sample (row_at f 20 1) message_look (codes "message")
+    ++ sample (row_at f 20 2) lost_look (codes "message that is not received")
+
+-- what lines and marks say of a slice: three shapes more
+abbrev pub slice_legend : Frame → List ℕ
+slice_legend f =
+    sample (row_at f 300 0) least_look (codes "least cut of the slice")
+    ++ sample (row_at f 300 1) greatest_look (codes "greatest cut of the slice")
+    ++ sample_disc (row_at f 300 2) (mark_look true) (codes "event beyond the greatest cut")
 
 -- the bounds of a slice, or that it is empty
 abbrev pub bounds_drawn : Frame → Rows → Option (Cut × Cut) → List ℕ
-bounds_drawn f rows None = note f 82 (codes "slice empty")
+bounds_drawn f rows None = told (row_at f 300 0) 0 (codes "slice empty")
 bounds_drawn f rows (Some bounds) =
-    cut_drawn f rows bounds.0 18 least_look ++ cut_drawn f rows bounds.1 25 greatest_look
-    ++ sample f 0 least_look (codes "least cut of the slice")
-    ++ sample f 1 greatest_look (codes "greatest cut of the slice")
+    cut_drawn f rows bounds.0 least_shift least_look
+    ++ cut_drawn f rows bounds.1 greatest_shift greatest_look
+    ++ slice_legend f
 
 abbrev pub slice_drawn : Frame → Rows → Option SliceText → List ℕ
 slice_drawn f rows None = []
@@ -119,7 +150,20 @@ most_edges = 40
 abbrev pub edges_note : Frame → ℕ → List ℕ
 edges_note f left_out =
     if left_out == 0 then []
-    else note f 22 (codes "edges that are not drawn: " ++ decimal left_out)
+    else told (row_at f 300 4) 0 (codes "edges that are not drawn: " ++ decimal left_out)
+
+abbrev pub edge_sample_look : List ℕ
+edge_sample_look = codes " stroke='#7a3db8' stroke-dasharray='5 4'"
+
+-- what the dashed lines of so many edges mean
+abbrev pub edges_told : Frame → ℕ → List ℕ
+edges_told f edges =
+    sample (row_at f 20 4) edge_sample_look (codes "edge of the slice")
+    ++ edges_note f (edges - most_edges)
+
+-- the same, if there are edges
+abbrev pub edges_legend : Frame → ℕ → List ℕ
+edges_legend f edges = if edges == 0 then [] else edges_told f edges
 
 -- ---- the witness that is drawn
 
@@ -158,20 +202,22 @@ witness_meaning w =
 abbrev pub one_drawn : Frame → Rows → Option WitnessText → List ℕ
 one_drawn f rows None = []
 one_drawn f rows (Some w) =
-    witness_drawn f rows w.witness ++ sample f 2 goal_look (witness_meaning w)
+    witness_drawn f rows w.witness ++ sample (row_at f 20 3) goal_look (witness_meaning w)
 
 -- ---- the whole
 
--- each lane, then what runs across them, and above that the marks
+-- each lane, then what runs across them, above that the marks, and what they mean
 abbrev pub body : StatesView → Frame → Rows → Report → List ℕ
 body s f rows r =
     each_below (length s.header.procs) (lane_drawn s f)
     ++ flat_map (arrow_to s f rows) (places (map length s.events))
+    ++ flat_map (lost_from s f rows) (places (map length s.events))
+    ++ numbers_drawn s f rows
     ++ flat_map (edge_drawn f rows) (take most_edges (edges_of r.slice))
     ++ slice_drawn f rows r.slice
     ++ one_drawn f rows (first_drawn r.witnesses)
     ++ flat_map (mark s f rows (top_of r.slice)) (places (map length s.events))
-    ++ edges_note f (length (edges_of r.slice) - most_edges)
+    ++ legend f ++ edges_legend f (length (edges_of r.slice))
 
 -- the picture of a run by a report of it, where these are the columns of its events
 abbrev pub picture : StatesView → Rows → Report → List ℕ

@@ -24,8 +24,8 @@ fn placed(process: u32, position: Option<u32>) -> Option<EventId>
     }
 }
 
-// The event that sends what an event receives, if it receives something.
-fn send_of(trace: &Trace, receipt: EventId) -> Option<EventId>
+/// The event that sends what an event receives, if it receives something.
+pub fn send_of(trace: &Trace, receipt: EventId) -> Option<EventId>
     requires here { trace.now.spent ≡ false }
     requires there { HasEvent (map length trace.now.states.events) receipt }
     ensures { result ≡ send_of trace.now.states receipt }

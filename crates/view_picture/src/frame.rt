@@ -12,7 +12,11 @@ use report::Report;
 const TOP: u64 = 150;
 /// Lanes are so far from each other.
 const LANE: u64 = 96;
-/// Up to so many columns each is wide, and has the assignments of its events.
+/// What is told below the lanes is so high.
+const LEGEND: u64 = 100;
+/// The least width, in which there is room for what is told below the lanes.
+const LEAST_WIDTH: u64 = 560;
+/// Up to so many columns each is wide, with room for long assignments of its events.
 const MANY_COLUMNS: u32 = 60;
 
 const WIDE: u64 = 78;
@@ -24,7 +28,7 @@ const NARROW: u64 = 48;
 pub struct Frame {
     /// Where the lanes begin.
     pub left: u32,
-    /// Whether columns are wide, so that the assignments of their events are shown.
+    /// Whether columns are wide, so that there is room for long assignments of their events.
     pub wide: bool,
     pub width: u64,
     pub height: u64,
@@ -78,8 +82,8 @@ impl Frame {
             wide,
             width: (Frame::column_at(left, wide, most) + 60)
                 .max(heading)
-                .max(440),
-            height: TOP + LANE * procs.len() as u64 + 60,
+                .max(LEAST_WIDTH),
+            height: TOP + LANE * procs.len() as u64 + LEGEND,
         }
     }
 

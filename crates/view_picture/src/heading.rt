@@ -1,8 +1,8 @@
 //! The heading of the picture.
 ghost use Rattle.std.specs.Prelude.{◌≡◌, ◌++◌, OnOk};
 ghost use Rattle.report_lines.specs.Spelling.{truth_text};
-ghost use Rattle.view_picture.specs.Picture.{size, box_text, opening, arrow_head, arrow_heads};
-ghost use Rattle.view_picture.specs.Picture.{verdict_drawn, formula_drawn, heading};
+ghost use Rattle.view_picture.specs.Picture.{size, box_text, opening, arrow_head, lost_head};
+ghost use Rattle.view_picture.specs.Picture.{arrow_heads, verdict_drawn, formula_drawn, heading};
 
 use crate::frame::Frame;
 use crate::svg::{Point, put_attribute, put_escaped, put_text};
@@ -36,19 +36,23 @@ fn put_opening(out: &mut Bytes, frame: &Frame) -> Result<(), NoMemory>
     out.extend_from_slice(b"<svg xmlns='http://www.w3.org/2000/svg' version='1.1'")?;
     put_size(out, frame)?;
     put_box(out, frame)?;
-    out.extend_from_slice(b" font-family='sans-serif'>\n<rect")?;
+    out.extend_from_slice(
+        b" font-family='sans-serif' font-size='12' paint-order='stroke' stroke-linejoin='round'",
+    )?;
+    out.extend_from_slice(b">\n<rect")?;
     put_size(out, frame)?;
     out.extend_from_slice(b" fill='#ffffff'/>\n")
 }
 
-// Appends the head of an arrow of this name and color, whose tip is at the rim of a mark.
+// Appends the head of an arrow of this name and color, whose tip is at the white ring of a
+// mark.
 fn put_arrow_head(out: &mut Bytes, name: &[u8], color: &[u8]) -> Result<(), NoMemory>
     ensures { OnOk result (out.new ≡ out.old ++ arrow_head name.now color.now) }
 {
     out.extend_from_slice(b"<marker id='")?;
     out.extend_from_slice(name)?;
     out.extend_from_slice(
-        b"' viewBox='0 0 20 8' refX='20' refY='4' markerWidth='20' markerHeight='8'",
+        b"' viewBox='0 0 20 8' refX='23' refY='4' markerWidth='20' markerHeight='8'",
     )?;
     out.extend_from_slice(
         b" markerUnits='userSpaceOnUse' orient='auto'><path d='M0 0 L8 4 L0 8 z' fill='",
@@ -57,11 +61,26 @@ fn put_arrow_head(out: &mut Bytes, name: &[u8], color: &[u8]) -> Result<(), NoMe
     out.extend_from_slice(b"'/></marker>\n")
 }
 
+// Appends the open head and the cross of a message that is not received.
+fn put_lost_head(out: &mut Bytes) -> Result<(), NoMemory>
+    ensures { OnOk result (out.new ≡ out.old ++ lost_head) }
+{
+    out.extend_from_slice(
+        b"<marker id='lost' viewBox='0 0 18 10' refX='13' refY='5' markerWidth='18'",
+    )?;
+    out.extend_from_slice(b" markerHeight='10' markerUnits='userSpaceOnUse' orient='auto'>")?;
+    out.extend_from_slice(
+        b"<path d='M0 1 L6 5 L0 9 M9 1 L17 9 M9 9 L17 1' fill='none' stroke='#555555'",
+    )?;
+    out.extend_from_slice(b" stroke-width='1.5'/></marker>\n")
+}
+
 fn put_arrow_heads(out: &mut Bytes) -> Result<(), NoMemory>
     ensures { OnOk result (out.new ≡ out.old ++ arrow_heads) }
 {
     out.extend_from_slice(b"<defs>\n")?;
     put_arrow_head(out, b"message", b"#555555")?;
+    put_lost_head(out)?;
     put_arrow_head(out, b"edge", b"#7a3db8")?;
     out.extend_from_slice(b"</defs>\n")
 }

@@ -1,6 +1,8 @@
 //! Laws of the picture, as contracts of functions that do nothing.
 ghost use Rattle.view_picture.specs.Laws.{EachEventOnce, MarksAreApart, MarksAreInside};
 ghost use Rattle.view_picture.specs.Laws.{ColumnsAreOne, EscapedHasNoTag};
+ghost use Rattle.view_picture.specs.Laws.{GoalsAreBehindTheLeast, GoalsAreBeforeTheGreatest};
+ghost use Rattle.view_picture.specs.Laws.{GoalsBeyondAreBeyond};
 
 /// Each event gets one mark, and one arrow if it receives something.
 pub fn each_event_once()
@@ -20,6 +22,13 @@ pub fn marks_are_apart()
 /// All marks lie within the picture.
 pub fn marks_are_inside()
     ensures { MarksAreInside }
+{}
+
+/// The line of a goal is drawn on the side of the other lines where the goal is.
+pub fn goals_are_on_their_side()
+    ensures behind { GoalsAreBehindTheLeast }
+    ensures before { GoalsAreBeforeTheGreatest }
+    ensures beyond { GoalsBeyondAreBeyond }
 {}
 
 /// A formula adds no tag to the picture.

@@ -1,81 +1,120 @@
-//! What the lines across mean, in words below the lanes.
+//! What each color and dash means, in words below the lanes.
 ghost use Rattle.std.specs.Prelude.{◌≡◌, ◌<◌, ◌≤◌, ◌^◌, ◌++◌, OnOk, IfOk};
-ghost use Rattle.view_picture.specs.Picture.{row_at, sample_line, sample_text, sample, note};
-ghost use Rattle.view_picture.specs.Picture.{edges_note, meaning_of, witness_meaning};
+ghost use Rattle.view_picture.specs.Picture.{row_at, told, sample, sample_disc, legend};
+ghost use Rattle.view_picture.specs.Picture.{slice_legend, edges_note, edges_told, edges_legend};
+ghost use Rattle.view_picture.specs.Picture.{meaning_of, witness_meaning};
 
+use crate::edges::MOST_EDGES;
 use crate::frame::Frame;
-use crate::svg::{Point, put_line, put_text};
+use crate::marks::mark_look;
+use crate::svg::{Point, put_circle, put_line, put_text};
 use pota_base::{Bytes, NoMemory, put_u64};
 use report::WitnessText;
 use std::alloc::Global;
 use witness_kinds::Witness;
 
-// Appends a line with its look.
-fn put_sample_line(out: &mut Bytes, y: u64, look: &[u8]) -> Result<(), NoMemory>
-    ensures { OnOk result (out.new ≡ out.old ++ sample_line y look.now) }
+/// A row below the lanes, so far from the left.
+pub fn row_at(frame: &Frame, x: u64, row: u64) -> Point
+    requires height { frame.now.height < 2 ^ 40 }
+    requires row { row ≤ 4 }
+    ensures at { result ≡ row_at frame.now x row }
+    ensures low { result.y < 2 ^ 50 }
 {
-    put_line(out, Point { x: 20, y }, Point { x: 70, y }, look)
+    Point {
+        x,
+        y: frame.height.saturating_sub(106) + 20 * row,
+    }
 }
 
-// Appends what it means.
-fn put_sample_text(out: &mut Bytes, y: u64, meaning: &[u8]) -> Result<(), NoMemory>
-    requires { y < 2 ^ 50 }
-    ensures { OnOk result (out.new ≡ out.old ++ sample_text y meaning.now) }
+/// Appends what stands so far right of the beginning of a row.
+pub fn put_told(out: &mut Bytes, at: Point, right: u64, meaning: &[u8]) -> Result<(), NoMemory>
+    requires near { at.x < 2 ^ 50 }
+    requires low { at.y < 2 ^ 50 }
+    requires right { right ≤ 100 }
+    ensures { OnOk result (out.new ≡ out.old ++ told at right meaning.now) }
 {
-    let beside = Point { x: 80, y: y + 4 };
+    let beside = Point {
+        x: at.x + right,
+        y: at.y + 4,
+    };
     put_text(out, beside, b" font-size='12'", meaning)
 }
 
-// The height of a row below the lanes.
-fn row_at(frame: &Frame, row: u64) -> u64
-    requires low { frame.now.height < 2 ^ 40 }
-    requires row { row ≤ 3 }
-    ensures at { result ≡ row_at frame.now row }
-    ensures low { result < 2 ^ 50 }
+/// Appends a line with its look, and what it means.
+pub fn put_sample(out: &mut Bytes, at: Point, look: &[u8], meaning: &[u8]) -> Result<(), NoMemory>
+    requires near { at.x < 2 ^ 50 }
+    requires low { at.y < 2 ^ 50 }
+    ensures { OnOk result (out.new ≡ out.old ++ sample at look.now meaning.now) }
 {
-    frame.height.saturating_sub(86) + 20 * row
-}
-
-/// Appends a line with its look, and what it means, on a row of its own below the lanes.
-pub fn put_sample(
-    out: &mut Bytes,
-    frame: &Frame,
-    row: u64,
-    look: &[u8],
-    meaning: &[u8],
-) -> Result<(), NoMemory>
-    requires low { frame.now.height < 2 ^ 40 }
-    requires row { row ≤ 3 }
-    ensures { OnOk result (out.new ≡ out.old ++ sample frame.now row look.now meaning.now) }
-{
-    let y = row_at(frame, row);
-    put_sample_line(out, y, look)?;
-    put_sample_text(out, y, meaning)
-}
-
-/// Appends a text so far above the lower rim of the picture.
-pub fn put_note(
-    out: &mut Bytes,
-    frame: &Frame,
-    from_below: u64,
-    meaning: &[u8],
-) -> Result<(), NoMemory>
-    ensures { OnOk result (out.new ≡ out.old ++ note frame.now from_below meaning.now) }
-{
-    let at = Point {
-        x: 20,
-        y: frame.height.saturating_sub(from_below),
+    let end = Point {
+        x: at.x + 50,
+        y: at.y,
     };
-    put_text(out, at, b" font-size='12'", meaning)
+    put_line(out, at, end, look)?;
+    put_told(out, at, 60, meaning)
 }
 
-/// Appends how many edges are not drawn.
-pub fn put_edges_note(
+// Appends a disc with its look, and what it means.
+fn put_sample_disc(out: &mut Bytes, at: Point, look: &[u8], meaning: &[u8]) -> Result<(), NoMemory>
+    requires near { at.x < 2 ^ 50 }
+    requires low { at.y < 2 ^ 50 }
+    ensures { OnOk result (out.new ≡ out.old ++ sample_disc at look.now meaning.now) }
+{
+    let middle = Point {
+        x: at.x + 25,
+        y: at.y,
+    };
+    put_circle(out, middle, 7, look)?;
+    put_told(out, at, 60, meaning)
+}
+
+/// Appends what the shapes mean that each picture has.
+pub fn put_legend(out: &mut Bytes, frame: &Frame) -> Result<(), NoMemory>
+    requires { frame.now.height < 2 ^ 40 }
+    ensures { OnOk result (out.new ≡ out.old ++ legend frame.now) }
+{
+    let message = b" stroke='#555555' stroke-width='1.5'";
+    let lost = b" stroke='#555555' stroke-width='1.5' marker-end='url(#lost)'";
+    put_sample_disc(out, row_at(frame, 20, 0), mark_look(false), b"event")?;
+    put_sample(out, row_at(frame, 20, 1), message, b"message")?;
+    put_sample(
+        out,
+        row_at(frame, 20, 2),
+        lost,
+        b"message that is not received",
+    )
+}
+
+/// Appends what lines and marks say of a slice.
+pub fn put_slice_legend(out: &mut Bytes, frame: &Frame) -> Result<(), NoMemory>
+    requires { frame.now.height < 2 ^ 40 }
+    ensures { OnOk result (out.new ≡ out.old ++ slice_legend frame.now) }
+{
+    let least = b" stroke='#7a3db8' stroke-width='2' stroke-dasharray='8 4'";
+    let greatest = b" stroke='#7a3db8' stroke-width='2' stroke-dasharray='2 3'";
+    put_sample(out, row_at(frame, 300, 0), least, b"least cut of the slice")?;
+    put_sample(
+        out,
+        row_at(frame, 300, 1),
+        greatest,
+        b"greatest cut of the slice",
+    )?;
+    put_sample_disc(
+        out,
+        row_at(frame, 300, 2),
+        mark_look(true),
+        b"event beyond the greatest cut",
+    )
+}
+
+// Appends how many edges are not drawn.
+fn put_edges_note(
     out: &mut Bytes,
     alloc: Global,
     frame: &Frame,
     left_out: usize,
 ) -> Result<(), NoMemory>
+    requires { frame.now.height < 2 ^ 40 }
     ensures { OnOk result (out.new ≡ out.old ++ edges_note frame.now left_out) }
 {
     if left_out == 0 {
@@ -84,7 +123,42 @@ pub fn put_edges_note(
     let mut meaning = Bytes::new(alloc);
     meaning.extend_from_slice(b"edges that are not drawn: ")?;
     put_u64(&mut meaning, left_out as u64)?;
-    put_note(out, frame, 22, meaning.as_slice())
+    put_told(out, row_at(frame, 300, 4), 0, meaning.as_slice())
+}
+
+// Appends what the dashed lines of so many edges mean.
+fn put_edges_told(
+    out: &mut Bytes,
+    alloc: Global,
+    frame: &Frame,
+    edges: usize,
+) -> Result<(), NoMemory>
+    requires { frame.now.height < 2 ^ 40 }
+    ensures { OnOk result (out.new ≡ out.old ++ edges_told frame.now edges) }
+{
+    put_sample(
+        out,
+        row_at(frame, 20, 4),
+        b" stroke='#7a3db8' stroke-dasharray='5 4'",
+        b"edge of the slice",
+    )?;
+    put_edges_note(out, alloc, frame, edges.saturating_sub(MOST_EDGES))
+}
+
+/// Appends the same, if there are edges.
+pub fn put_edges_legend(
+    out: &mut Bytes,
+    alloc: Global,
+    frame: &Frame,
+    edges: usize,
+) -> Result<(), NoMemory>
+    requires { frame.now.height < 2 ^ 40 }
+    ensures { OnOk result (out.new ≡ out.old ++ edges_legend frame.now edges) }
+{
+    if edges == 0 {
+        return Ok(());
+    }
+    put_edges_told(out, alloc, frame, edges)
 }
 
 // What is drawn of a witness, in words.

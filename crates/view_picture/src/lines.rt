@@ -1,6 +1,6 @@
 //! Cuts as lines across the lanes, and the witness that is drawn.
 ghost use Rattle.std.specs.Prelude.{◌≡◌, ◌+◌, ◌<◌, ◌≤◌, ◌^◌, ◌++◌, length, OnOk};
-ghost use Rattle.view_picture.specs.Drawing.{corner, corners, cut_drawn, numeral, numbered};
+ghost use Rattle.view_picture.specs.Drawing.{corner, corners, cut_drawn, numbered};
 ghost use Rattle.view_picture.specs.Drawing.{steps_drawn, ring, path_drawn, witness_drawn};
 ghost use Rattle.view_picture.specs.inside.Drawing.{HasFewProcesses};
 
@@ -11,6 +11,13 @@ use cut_lattice::Cut;
 use pota_base::{Bytes, EventId, NoMemory, put_u64};
 use std::alloc::Global;
 use witness_kinds::{Path, Witness};
+
+/// The line of the least cut of a slice runs so far behind the last event that is in.
+pub const LEAST_SHIFT: u64 = 18;
+/// The line of a goal does.
+const GOAL_SHIFT: u64 = 25;
+/// The line of the greatest cut does.
+pub const GREATEST_SHIFT: u64 = 32;
 
 // Appends ` X,Y`.
 fn put_corner(out: &mut Bytes, x: u64, y: u64) -> Result<(), NoMemory>
@@ -64,16 +71,10 @@ pub fn put_cut(
     out.extend_from_slice(b"/>\n")
 }
 
-// Appends a number at the left of a mark.
-fn put_numeral(
-    out: &mut Bytes,
-    alloc: Global,
-    at: Point,
-    number: u64,
-    look: &[u8],
-) -> Result<(), NoMemory>
+// Appends the number of a step, at the left of its mark.
+fn put_numbered(out: &mut Bytes, alloc: Global, at: Point, number: u64) -> Result<(), NoMemory>
     requires { at.y < 2 ^ 40 }
-    ensures { OnOk result (out.new ≡ out.old ++ numeral at number look.now) }
+    ensures { OnOk result (out.new ≡ out.old ++ numbered at number) }
 {
     let mut digits = Bytes::new(alloc);
     put_u64(&mut digits, number)?;
@@ -81,27 +82,11 @@ fn put_numeral(
         x: at.x.saturating_sub(14),
         y: at.y + 4,
     };
-    put_text(out, corner, look, digits.as_slice())
-}
-
-// Appends the number of a step at its mark, on white, since its lane runs behind it.
-fn put_numbered(out: &mut Bytes, alloc: Global, at: Point, number: u64) -> Result<(), NoMemory>
-    requires { at.y < 2 ^ 40 }
-    ensures { OnOk result (out.new ≡ out.old ++ numbered at number) }
-{
-    put_numeral(
+    put_text(
         out,
-        alloc,
-        at,
-        number,
-        b" font-size='12' text-anchor='end' fill='#ffffff' stroke='#ffffff' stroke-width='5'",
-    )?;
-    put_numeral(
-        out,
-        alloc,
-        at,
-        number,
-        b" font-size='12' font-weight='bold' text-anchor='end' fill='#b35900'",
+        corner,
+        b" font-weight='bold' text-anchor='end' fill='#b35900' stroke='#ffffff' stroke-width='4'",
+        digits.as_slice(),
     )
 }
 
@@ -156,7 +141,7 @@ fn put_path(
         columns,
         frame,
         &path.goal,
-        32,
+        GOAL_SHIFT,
         b" stroke='#b35900' stroke-width='2.5'",
     )
 }

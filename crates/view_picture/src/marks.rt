@@ -7,8 +7,9 @@ ghost use Rattle.pota_base.specs.Shape.{HasEvent};
 ghost use Rattle.view_parts.specs.Each.{own_places, places};
 ghost use Rattle.view_parts.specs.Parts.{event_at};
 ghost use Rattle.view_picture.specs.Drawing.{title, is_beyond, mark_look, number_look, disc};
-ghost use Rattle.view_picture.specs.Drawing.{short, assigned, assign_text, under, more_under};
-ghost use Rattle.view_picture.specs.Drawing.{assigns_under, shown_under, mark};
+ghost use Rattle.view_picture.specs.Drawing.{name_within, value_text, room_for, assigned};
+ghost use Rattle.view_picture.specs.Drawing.{assign_text, under_look, under, more_under};
+ghost use Rattle.view_picture.specs.Drawing.{assigns_under, mark};
 
 use crate::columns::Columns;
 use crate::frame::Frame;
@@ -21,8 +22,6 @@ use view_parts::{event_at, put_assigns, put_kind, put_line_of, put_place, variab
 
 /// The most assignments that are shown under a mark.
 const MOST_ASSIGNS: usize = 3;
-/// An assignment of more bytes is cut.
-const ASSIGN_BYTES: usize = 11;
 
 /// What the marks of a picture are drawn from.
 #[derive(Clone, Copy)]
@@ -63,13 +62,14 @@ fn is_beyond(top: Option<&Cut>, event: EventId) -> bool
     }
 }
 
-fn mark_look(beyond: bool) -> &'static [u8]
+/// The look of a mark, with a white ring.
+pub fn mark_look(beyond: bool) -> &'static [u8]
     ensures { result.now ≡ mark_look beyond }
 {
     if beyond {
-        return b" fill='#c9c9c9'";
+        return b" fill='#c9c9c9' stroke='#ffffff' stroke-width='6'";
     }
-    b" fill='#2b6cb0'"
+    b" fill='#2b6cb0' stroke='#ffffff' stroke-width='6'"
 }
 
 // The look of the number in a mark.
@@ -110,102 +110,118 @@ fn put_disc(
     )
 }
 
-// Appends a text, cut where it is long.
-fn put_short(out: &mut Bytes, whole: &[u8]) -> Result<(), NoMemory>
-    ensures { OnOk result (out.new ≡ out.old ++ short whole.now) }
+// Appends a name, cut where it has more bytes.
+fn put_name_within(out: &mut Bytes, most: usize, name: &[u8]) -> Result<(), NoMemory>
+    ensures { OnOk result (out.new ≡ out.old ++ name_within most name.now) }
 {
-    if whole.len() <= ASSIGN_BYTES {
-        return out.extend_from_slice(whole);
+    if name.len() <= most {
+        return out.extend_from_slice(name);
     }
-    out.extend_from_slice(&whole[..ASSIGN_BYTES - 2])?;
+    out.extend_from_slice(&name[..most.saturating_sub(2)])?;
     out.extend_from_slice(b"..")
 }
 
-// Appends `NAME=VALUE`.
-fn put_assign(
-    out: &mut Bytes,
-    states: &States,
-    process: u32,
-    assign: Assign,
-) -> Result<(), NoMemory>
-    ensures { OnOk result (out.new ≡ out.old ++ assigned states.now process assign) }
+// `=VALUE`.
+fn value_text(alloc: Global, assign: Assign) -> Result<Bytes, NoMemory>
+    ensures { IfOk result (λ text. text ≡ value_text assign) }
 {
-    out.extend_from_slice(variable_name(states, process, assign.variable))?;
-    out.push(b'=')?;
-    put_i64(out, assign.value)
-}
-
-// The text of an assignment of an event.
-fn assign_text(alloc: Global, states: &States, event: EventId, k: usize) -> Result<Bytes, NoMemory>
-    requires event { HasEvent (map length states.now.events) event }
-    requires assign { k < length (event_at states.now event).assigns }
-    ensures { IfOk result (λ text. text ≡ assign_text states.now event k) }
-{
-    let assign = event_at(states, event).assigns.as_slice()[k];
-    let mut whole = Bytes::new(alloc);
-    put_assign(&mut whole, states, event.process, assign)?;
     let mut text = Bytes::new(alloc);
-    put_short(&mut text, whole.as_slice())?;
+    text.push(b'=')?;
+    put_i64(&mut text, assign.value)?;
     Ok(text)
 }
 
-// Appends a row under the mark of an event, on white, since arrows and cuts run behind it.
-fn put_under(out: &mut Bytes, at: Point, row: usize, shown: &[u8]) -> Result<(), NoMemory>
+// How many bytes of an assignment have room in a column.
+fn room_for(wide: bool) -> usize
+    ensures { result ≡ room_for wide }
+{
+    if wide {
+        return 11;
+    }
+    9
+}
+
+// `NAME=VALUE`, of which the name is cut where there is no room for it.
+fn assigned(
+    alloc: Global,
+    states: &States,
+    wide: bool,
+    process: u32,
+    assign: Assign,
+) -> Result<Bytes, NoMemory>
+    ensures { IfOk result (λ text. text ≡ assigned states.now wide process assign) }
+{
+    let value = value_text(alloc, assign)?;
+    let room = room_for(wide).saturating_sub(value.len());
+    let mut text = Bytes::new(alloc);
+    put_name_within(
+        &mut text,
+        room,
+        variable_name(states, process, assign.variable),
+    )?;
+    text.extend_from_slice(value.as_slice())?;
+    Ok(text)
+}
+
+// The text of an assignment of an event.
+fn assign_text(marked: &Marked<'_>, event: EventId, k: usize) -> Result<Bytes, NoMemory>
+    requires event { HasEvent (map length marked.now.states.now.events) event }
+    requires assign { k < length (event_at marked.now.states.now event).assigns }
+    ensures { IfOk result (λ text. text
+        ≡ assign_text marked.now.states.now marked.now.frame.now.wide event k) }
+{
+    let assign = event_at(marked.states, event).assigns.as_slice()[k];
+    assigned(
+        marked.alloc,
+        marked.states,
+        marked.frame.wide,
+        event.process,
+        assign,
+    )
+}
+
+// The look of an assignment, with a thin rim of white round the letters.
+fn under_look(wide: bool) -> &'static [u8]
+    ensures { result.now ≡ under_look wide }
+{
+    if wide {
+        return b" text-anchor='middle' fill='#333333' stroke='#ffffff' stroke-width='3'";
+    }
+    b" font-size='9' text-anchor='middle' fill='#333333' stroke='#ffffff' stroke-width='3'"
+}
+
+// Appends a row under the mark of an event.
+fn put_under(
+    out: &mut Bytes,
+    wide: bool,
+    at: Point,
+    row: usize,
+    shown: &[u8],
+) -> Result<(), NoMemory>
     requires high { at.y < 2 ^ 40 }
     requires row { row ≤ 3 }
-    ensures { OnOk result (out.new ≡ out.old ++ under at row shown.now) }
+    ensures { OnOk result (out.new ≡ out.old ++ under wide at row shown.now) }
 {
     let below = Point {
         x: at.x,
         y: at.y + 33 + 12 * row as u64,
     };
-    put_text(
-        out,
-        below,
-        b" font-size='12' text-anchor='middle' fill='#ffffff' stroke='#ffffff' stroke-width='4'",
-        shown,
-    )?;
-    put_text(
-        out,
-        below,
-        b" font-size='12' text-anchor='middle' fill='#333333'",
-        shown,
-    )
+    put_text(out, below, under_look(wide), shown)
 }
 
 // Appends that there are more assignments than are shown.
-fn put_more(out: &mut Bytes, at: Point, count: usize) -> Result<(), NoMemory>
+fn put_more(out: &mut Bytes, wide: bool, at: Point, count: usize) -> Result<(), NoMemory>
     requires { at.y < 2 ^ 40 }
-    ensures { OnOk result (out.new ≡ out.old ++ more_under at count) }
+    ensures { OnOk result (out.new ≡ out.old ++ more_under wide at count) }
 {
     if count > MOST_ASSIGNS {
-        return put_under(out, at, MOST_ASSIGNS, b"..");
+        return put_under(out, wide, at, MOST_ASSIGNS, b"..");
     }
     Ok(())
 }
 
 // Appends the first assignments of an event under its mark.
 fn put_assigns_under(
-    out: &mut Bytes,
-    alloc: Global,
-    states: &States,
-    at: Point,
-    event: EventId,
-) -> Result<(), NoMemory>
-    requires event { HasEvent (map length states.now.events) event }
-    requires high { at.y < 2 ^ 40 }
-    ensures { OnOk result (out.new ≡ out.old ++ assigns_under states.now at event) }
-{
-    let count = event_at(states, event).assigns.len();
-    for k in 0..count.min(MOST_ASSIGNS) {
-        let text = assign_text(alloc, states, event, k)?;
-        put_under(out, at, k, text.as_slice())?;
-    }
-    put_more(out, at, count)
-}
-
-// The same where columns are wide.
-fn put_shown_under(
     out: &mut Bytes,
     marked: &Marked<'_>,
     at: Point,
@@ -214,12 +230,14 @@ fn put_shown_under(
     requires event { HasEvent (map length marked.now.states.now.events) event }
     requires high { at.y < 2 ^ 40 }
     ensures { OnOk result (out.new
-        ≡ out.old ++ shown_under marked.now.states.now marked.now.frame.now.wide at event) }
+        ≡ out.old ++ assigns_under marked.now.states.now marked.now.frame.now.wide at event) }
 {
-    if marked.frame.wide {
-        return put_assigns_under(out, marked.alloc, marked.states, at, event);
+    let count = event_at(marked.states, event).assigns.len();
+    for k in 0..count.min(MOST_ASSIGNS) {
+        let text = assign_text(marked, event, k)?;
+        put_under(out, marked.frame.wide, at, k, text.as_slice())?;
     }
-    Ok(())
+    put_more(out, marked.frame.wide, at, count)
 }
 
 // Appends the mark of an event.
@@ -234,7 +252,7 @@ fn put_mark(out: &mut Bytes, marked: &Marked<'_>, event: EventId) -> Result<(), 
     put_title(out, marked.states, event)?;
     let beyond = is_beyond(marked.top, event);
     put_disc(out, marked.alloc, at, beyond, event.position)?;
-    put_shown_under(out, marked, at, event)?;
+    put_assigns_under(out, marked, at, event)?;
     out.extend_from_slice(b"</g>\n")
 }
 

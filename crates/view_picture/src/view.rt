@@ -12,13 +12,17 @@ ghost use Rattle.view_picture.specs.Picture.{picture, IsPictureOf};
 
 use crate::arrows::put_arrows;
 use crate::columns::{Columns, columns_of};
-use crate::edges::{MOST_EDGES, put_edges};
+use crate::edges::put_edges;
 use crate::frame::Frame;
 use crate::heading::put_heading;
 use crate::lanes::put_lanes;
-use crate::legend::{put_edges_note, put_note, put_sample, witness_meaning};
-use crate::lines::{put_cut, put_witness};
+use crate::legend::{
+    put_edges_legend, put_legend, put_sample, put_slice_legend, put_told, row_at, witness_meaning,
+};
+use crate::lines::{GREATEST_SHIFT, LEAST_SHIFT, put_cut, put_witness};
+use crate::lost::put_lost;
 use crate::marks::{Marked, put_marks};
+use crate::numbers::put_numbers;
 use cut_lattice::Cut;
 use pota_base::{Bytes, NoMemory};
 use report::{Report, SliceText, WitnessText};
@@ -89,10 +93,9 @@ fn put_both(
 {
     let least = b" stroke='#7a3db8' stroke-width='2' stroke-dasharray='8 4'";
     let greatest = b" stroke='#7a3db8' stroke-width='2' stroke-dasharray='2 3'";
-    put_cut(out, columns, frame, low, 18, least)?;
-    put_cut(out, columns, frame, high, 25, greatest)?;
-    put_sample(out, frame, 0, least, b"least cut of the slice")?;
-    put_sample(out, frame, 1, greatest, b"greatest cut of the slice")
+    put_cut(out, columns, frame, low, LEAST_SHIFT, least)?;
+    put_cut(out, columns, frame, high, GREATEST_SHIFT, greatest)?;
+    put_slice_legend(out, frame)
 }
 
 // Appends the bounds of the slice, where one was asked for.
@@ -110,7 +113,7 @@ fn put_slice(
     match slice {
         None => Ok(()),
         Some(slice) => match &slice.bounds {
-            None => put_note(out, frame, 82, b"slice empty"),
+            None => put_told(out, row_at(frame, 300, 0), 0, b"slice empty"),
             Some((low, high)) => put_both(out, columns, frame, low, high),
         },
     }
@@ -136,8 +139,7 @@ fn put_one(
             let meaning = witness_meaning(alloc, witness)?;
             put_sample(
                 out,
-                frame,
-                2,
+                row_at(frame, 20, 3),
                 b" stroke='#b35900' stroke-width='2.5'",
                 meaning.as_slice(),
             )
@@ -172,6 +174,8 @@ fn put_body(
     };
     put_lanes(out, states, frame)?;
     put_arrows(out, trace, columns, frame)?;
+    put_lost(out, states, columns, frame)?;
+    put_numbers(out, alloc, trace, columns, frame)?;
     put_edges(out, columns, frame, edges)?;
     put_slice(out, columns, frame, &report.slice)?;
     put_one(
@@ -182,7 +186,8 @@ fn put_body(
         first_drawn(report.witnesses.as_slice()),
     )?;
     put_marks(out, &marked)?;
-    put_edges_note(out, alloc, frame, edges.len().saturating_sub(MOST_EDGES))
+    put_legend(out, frame)?;
+    put_edges_legend(out, alloc, frame, edges.len())
 }
 
 /// The picture of a run by a report of it: one SVG image.

@@ -8,7 +8,7 @@ returns c =
     let out = c.args.out.now in
     let a0 = codes "<marker id='" in
     let a1 = c.args.name.now in
-    let a2 = codes "' viewBox='0 0 20 8' refX='20' refY='4' markerWidth='20' markerHeight='8'" in
+    let a2 = codes "' viewBox='0 0 20 8' refX='23' refY='4' markerWidth='20' markerHeight='8'" in
     let a3 = codes " markerUnits='userSpaceOnUse' orient='auto'><path d='M0 0 L8 4 L0 8 z' fill='" in
     let a4 = c.args.color.now in
     let a5 = codes "'/></marker>" ++ 10 ∷ [] in
