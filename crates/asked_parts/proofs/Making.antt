@@ -47,7 +47,7 @@ operand-count : (ps : List Piece) → operand_count (pieces ps) ≡ parts_count 
 operand-count [] = refl
 operand-count (p ∷ ps) = omega (arith, operand-count ps)
 
-asked-count : (form : Form) (ps : List Piece) → parts_count (asked_pieces form ps) ≡ parts_count ps + parts_added form
+pub asked-count : (form : Form) (ps : List Piece) → parts_count (asked_pieces form ps) ≡ parts_count ps + parts_added form
 asked-count form.Never ps = omega (arith, operand-count ps)
 asked-count form.Can ps = omega (arith, operand-count ps)
 asked-count form.Always ps = omega (arith, operand-count ps)
@@ -84,7 +84,7 @@ operand-fits : (scope : Scope) (ps : List Piece) → EachFits scope ps → Piece
 operand-fits scope [] h = h
 operand-fits scope (p ∷ ps) h = (h.0, operand-fits scope ps h.1)
 
-asked-fits : (scope : Scope) (form : Form) (ps : List Piece) → EachFits scope ps → EachFits scope (asked_pieces form ps)
+pub asked-fits : (scope : Scope) (form : Form) (ps : List Piece) → EachFits scope ps → EachFits scope (asked_pieces form ps)
 asked-fits scope form.Never ps h = ((tt, operand-fits scope ps h), tt)
 asked-fits scope form.Can ps h = ((tt, operand-fits scope ps h), tt)
 asked-fits scope form.Always ps h = ((tt, operand-fits scope ps h), tt)
@@ -108,7 +108,7 @@ operand-watch w (p ∷ ps) = rw (operand-watch w ps) refl
 under-watch : (w : ℕ) (ps : List Piece) → operand_names_watch w (pieces ps) || false ≡ parts_name_watch w ps
 under-watch w ps = or-false (operand_names_watch w (pieces ps)) ∙ operand-watch w ps
 
-asked-watch : (w : ℕ) (form : Form) (ps : List Piece) → parts_name_watch w (asked_pieces form ps) ≡ parts_name_watch w ps
+pub asked-watch : (w : ℕ) (form : Form) (ps : List Piece) → parts_name_watch w (asked_pieces form ps) ≡ parts_name_watch w ps
 asked-watch w form.Never ps = under-watch w ps
 asked-watch w form.Can ps = under-watch w ps
 asked-watch w form.Always ps = under-watch w ps

@@ -18,8 +18,8 @@ fn over(alloc: Global, operator: Operator, parts: List<Part>) -> Result<List<Par
     Ok(made)
 }
 
-// What the form asks of the parts of one disjunct.
-fn ask_parts(alloc: Global, form: Form, parts: List<Part>) -> Result<List<Part>, NoMemory>
+/// What the form asks of the parts of one disjunct. Without memory for it they are dropped.
+pub fn ask_parts(alloc: Global, form: Form, parts: List<Part>) -> Result<List<Part>, NoMemory>
     ensures { IfOk result (λ made. pieces_of made ≡ asked_pieces form (pieces_of parts)) }
 {
     match form {

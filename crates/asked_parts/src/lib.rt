@@ -1,6 +1,7 @@
 //! What is asked of a formula's parts with numbers, in each form of a question.
 //!
-//! `ask` puts the operators of a form over the parts of each disjunct (`asked_pieces`). Laws: the
+//! `ask` puts the operators of a form over the parts of each disjunct (`asked_pieces`), `ask_parts` over
+//! those of one. Laws: the
 //! asked parts spell what the form asks of the formulas of the parts, so that a question holds
 //! exactly where their answer says so (`asked_parts_spell_what_is_asked`); and they have the
 //! counters of the given ones, and are made for the same header (`asked_parts_are_made_alike`).
@@ -12,5 +13,5 @@
 mod asking;
 mod laws;
 
-pub use asking::ask;
+pub use asking::{ask, ask_parts};
 pub use laws::{asked_parts_are_made_alike, asked_parts_spell_what_is_asked};

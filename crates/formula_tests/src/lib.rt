@@ -1,5 +1,5 @@
-//! Tests of formulas as text: the grammar, tokens, reading, printing, and reading back what was
-//! printed.
+//! Tests of formulas and questions as text: the grammar, tokens, reading, printing, and reading back
+//! what was printed.
 //!
 //! They stand apart from what they test, so that each crate is proved once.
 #![tactic(auto)]
@@ -7,7 +7,11 @@
 #[cfg(test)]
 mod grammar;
 #[cfg(test)]
+mod lists;
+#[cfg(test)]
 mod printing;
+#[cfg(test)]
+mod questions;
 #[cfg(test)]
 mod reading;
 #[cfg(test)]

@@ -1,0 +1,3 @@
+mod Parts
+mod Held
+pub mod Listed

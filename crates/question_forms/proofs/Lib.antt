@@ -1,0 +1,5 @@
+mod Regular
+mod Takes
+mod Counting
+mod Readings
+pub mod Answered

@@ -1,0 +1,4 @@
+pub mod Taking
+pub mod Questions
+pub mod Worked
+pub mod inside

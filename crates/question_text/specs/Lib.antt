@@ -1,0 +1,5 @@
+pub mod Bytes
+pub mod Forms
+pub mod Heads
+pub mod Worked
+pub mod inside
