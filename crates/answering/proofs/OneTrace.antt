@@ -42,7 +42,7 @@ same_row says handed here there one other is w (Some p) on paired =
     same_front (watch_row one w) (watch_row other w) (says a.0 []) (says b.0 []) size
     (sym (is.fed.fed w p first.0 a.0 on first.1 a.1 []) ∙ told ∙ is.fed_other.fed w p first.0 b.0 on_other first.1 b.1 [])
 
-same_rows : {B : Type 0} (says : B → List (List ℤ) → List Bool) (handed here there : List B) (one other : Observed) → IsOneTrace says handed here there one other → length handed ≡ length one.watch_process
+pub same_rows : {B : Type 0} (says : B → List (List ℤ) → List Bool) (handed here there : List B) (one other : Observed) → IsOneTrace says handed here there one other → length handed ≡ length one.watch_process
     → other.watch_rows ≡ one.watch_rows
 same_rows says handed here there one other is paired =
     ext_get_or [] other.watch_rows one.watch_rows (is.fed_other.rows ∙ ap length is.watches ∙ sym is.fed.rows)

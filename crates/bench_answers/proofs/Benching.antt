@@ -1,6 +1,6 @@
 -- A bench: the items of the log that is made, and what they lead to.
 use Rattle.std.proofs.Common.{◌≡◌, ℕ, true, false, Option, Some, None, Result, Ok, Err, List, [], ◌∷◌, ◌++◌, length, refl, sym, ap, subst, ◌∙◌, arith}
-use Rattle.std.proofs.KnownBytes.{Appends-nil, Appends-trans}
+use Rattle.std.proofs.KnownBytes.{Appends-nil}
 use Rattle.std.proofs.lemmas.List.{length-replicate}
 use Rattle.std.proofs.lemmas.Option.{none-some}
 use Rattle.log_lines.specs.Reading.{choose}
@@ -45,12 +45,12 @@ use Rattle.log_answers.specs.declared.stop.StopCause.TheVariants as causes
 use Rattle.log_answers.specs.declared.stop.Stop.{Stop}
 use Rattle.log_answers.specs.declared.stop.Verdict.{Verdict}
 use Rattle.run_promise.specs.Run.{made_by, sizes_of}
-use Rattle.log_answers.specs.Checking.{StopsIn, SummaryStops, SumsUpTo, SumsUp}
+use Rattle.log_answers.specs.Checking.{SummaryStops, SumsUpTo, SumsUp}
 use Rattle.bench_answers.specs.Benching.{CanBeMade}
 use Rattle.bench_answers.specs.inside.Benching.{BenchStops, BenchesTo, HasMade}
 use Rattle.batch_answers.proofs.ReadingSteps.{of_text}
-use Rattle.log_answers.specs.Whole.{TakesWhole}
-use Rattle.log_answers.proofs.OneBatch.{whole_closed, no_part, no_text}
+use Rattle.log_answers.specs.Whole.{TakingStops}
+use Rattle.log_answers.proofs.OneBatch.{whole_closed}
 use Rattle.bench_answers.proofs.NoFall.{none_falls}
 
 -- ---- what the items lead to
@@ -148,54 +148,49 @@ module _ {X : Type 0} {P : X → Type 0} (says : Says X P) (aim : Aim) (sizes : 
   made_closed rises check is =
       whole_closed (judged (rules_of aim) waiting (log_items (made_by sizes))) (all_of (made_by sizes)) (made_whole rises (has_names check is)).whole
 
-  -- the items of the log that was made
-  pub as_made : {T : Type 0} (made : Log) → made ≡ made_by sizes → (held now : Option (List ℕ)) (of of_now : ℕ) (check : ReportedLog X P) (result : Result T Stop)
-      → TakesWhole held now of of_now says aim check made result → TakesWhole held now of of_now says aim check (made_by sizes) result
-  as_made {T} made same held now of of_now check result t = subst (λ (l : Log). TakesWhole {T = T} held now of of_now says aim check l result) same t
+  -- the log that was made is that one
+  pub as_made : (made : Log) → made ≡ made_by sizes → (check : ReportedLog X P) → IsCheckOf says aim check (judged (rules_of aim) waiting (log_items made))
+      → IsCheckOf says aim check (judged (rules_of aim) waiting (log_items (made_by sizes)))
+  as_made made same check is = subst (λ (l : Log). IsCheckOf says aim check (judged (rules_of aim) waiting (log_items l))) same is
 
   -- ---- the summary
 
-  module _ (rises : MadeRises aim sizes) (held now held' : Option (List ℕ)) (of of_now of' : ℕ) (check : ReportedLog X P) {T : Type 0} (x : T)
-      (t : TakesWhole held now of of_now says aim check (made_by sizes) (Ok x)) where
+  module _ (rises : MadeRises aim sizes) (held held' : Option (List ℕ)) (of of' : ℕ) (check : ReportedLog X P)
+      (taken : IsCheckOf says aim check (judged (rules_of aim) waiting (log_items (made_by sizes)))) where
     count_is : check.log.intake.batches ≡ 1
-    count_is = t.to.check_is.log.intake.batches ∙ (made_whole rises (has_names check t.to.check_is)).count
+    count_is = taken.log.intake.batches ∙ (made_whole rises (has_names check taken)).count
 
-    sum_stops : (f : StopCause) (n : ℕ) (text : List ℕ) → SummaryStops f n of_now of' aim check.log.intake.batches (all_of (made_by sizes)) (sizes_of sizes) text
+    sum_stops : (f : StopCause) (n : ℕ) (text : List ℕ) → SummaryStops f n of of' aim check.log.intake.batches (all_of (made_by sizes)) (sizes_of sizes) text
         → BenchStops f n of of' aim sizes text
     sum_stops causes.Write n text h = (
       record {
-        named = has_names check t.to.check_is;
+        named = has_names check taken;
         summary = h.0;
         is = h.1;
         part = h.2;
         count = h.3 ∙ count_is;
       },
-      let rose = h.4 in omega (arith, rose, t.later),
+      h.4,
     )
     sum_stops causes.Memory n text h = h
     sum_stops (causes.Refused r) n text h = absurd h
     sum_stops causes.Read n text h = absurd h
 
-    sum_to : (result : Result Verdict Stop) (text : List ℕ) → SumsUpTo of_now of' aim check.log.intake.batches (all_of (made_by sizes)) (sizes_of sizes) text result
+    sum_to : (result : Result Verdict Stop) (text : List ℕ) → SumsUpTo of of' aim check.log.intake.batches (all_of (made_by sizes)) (sizes_of sizes) text result
         → BenchesTo of of' aim sizes text result
     sum_to (Ok v) text h = record {
-      named = has_names check t.to.check_is;
+      named = has_names check taken;
       summary = h.0;
       truth = h.1;
       batches = h.2 ∙ count_is;
     }
     sum_to (Err stop) text h = sum_stops stop.cause stop.batches text h
 
-    pub summed : (result : Result Verdict Stop) → SumsUp now held' of_now of' aim check.log.intake.batches (all_of (made_by sizes)) (sizes_of sizes) result
+    pub summed : (result : Result Verdict Stop) → SumsUp held held' of of' aim check.log.intake.batches (all_of (made_by sizes)) (sizes_of sizes) result
         → HasMade held held' of of' aim sizes result
-    summed result s = record {
-      written = t.written ++ s.written;
-      wrote = Appends-trans held now held' t.written s.written t.wrote s.wrote;
-      later = omega (arith, t.later, s.later);
-      to = subst (λ (xs : List ℕ). BenchesTo of of' aim sizes (xs ++ s.written) result) (sym t.to.texts) (sum_to result s.written s.to);
-    }
+    summed result s = record { written = s.written; wrote = s.wrote; later = s.later; to = sum_to result s.written s.to }
 
-  -- ---- a stop at an item
+  -- ---- a stop before its end
 
   not_refused : MadeRises aim sizes → (why : Refusal) (at : Option Prefix) → judged (rules_of aim) waiting (log_items (made_by sizes)) ≡ refused at why
       → (f : FormulaFault) × (names (made_by sizes).header ≡ Some f) × (why ≡ refusal.Formula f)
@@ -207,37 +202,34 @@ module _ {X : Type 0} {P : X → Type 0} (says : Says X P) (aim : Aim) (sizes : 
           let both : refused at why ≡ refused None (refusal.Formula f) = sym is ∙ made_refused f e in
           (f, refl, cc)
 
-  stop_of : MadeRises aim sizes → (f : StopCause) (n of of' : ℕ) (text : List ℕ) → StopsIn f n of of' aim false (judged (rules_of aim) waiting (log_items (made_by sizes))) text
-      → BenchStops f n of of' aim sizes text
-  stop_of rises (causes.Refused (refusal.Formula x)) n of of' text h =
+  stop_of : MadeRises aim sizes → (f : StopCause) (n of of' : ℕ) → TakingStops f n aim (made_by sizes) → BenchStops f n of of' aim sizes []
+  stop_of rises (causes.Refused (refusal.Formula x)) n of of' h =
       let found = not_refused rises (refusal.Formula x) h.log h.is in
       let same : refusal.Formula x ≡ refusal.Formula found.0 = found.2 in
       let mine : found.0 ≡ x = cc in
-      (found.1 ∙ ap (λ (y : FormulaFault). Some y) mine, h.texts, h.count ∙ ap batches_of (made_refused found.0 found.1))
-  stop_of rises (causes.Refused (refusal.Log x)) n of of' text h =
+      (found.1 ∙ ap (λ (y : FormulaFault). Some y) mine, refl, h.number ∙ ap batches_of (made_refused found.0 found.1))
+  stop_of rises (causes.Refused (refusal.Log x)) n of of' h =
       let found = not_refused rises (refusal.Log x) h.log h.is in
       let same : refusal.Log x ≡ refusal.Formula found.0 = found.2 in
       absurd cc
-  stop_of rises (causes.Refused (refusal.Import x)) n of of' text h =
+  stop_of rises (causes.Refused (refusal.Import x)) n of of' h =
       let found = not_refused rises (refusal.Import x) h.log h.is in
       let same : refusal.Import x ≡ refusal.Formula found.0 = found.2 in
       absurd cc
-  stop_of rises (causes.Refused (refusal.Merge x)) n of of' text h =
+  stop_of rises (causes.Refused (refusal.Merge x)) n of of' h =
       let found = not_refused rises (refusal.Merge x) h.log h.is in
       let same : refusal.Merge x ≡ refusal.Formula found.0 = found.2 in
       absurd cc
-  stop_of rises causes.Write n of of' text h = no_part aim text n h.0
-  stop_of rises causes.Memory n of of' text h = (no_text aim text n h, h.count)
-  stop_of rises causes.Read n of of' text h = absurd h
+  stop_of rises causes.Write n of of' h = absurd h
+  stop_of rises causes.Memory n of of' h = (refl, h)
+  stop_of rises causes.Read n of of' h = absurd h
 
-  pub made_stops : MadeRises aim sizes → {T : Type 0} (held held' : Option (List ℕ)) (of of' : ℕ) (check : ReportedLog X P) (stop : Stop)
-      → TakesWhole {T = T} held held' of of' says aim check (made_by sizes) (Err stop)
-      → HasMade held held' of of' aim sizes (Err stop)
-  made_stops rises held held' of of' check stop t = record {
-    written = t.written;
-    wrote = t.wrote;
-    later = t.later;
-    to = stop_of rises stop.cause stop.batches of of' t.written t.to;
+  pub made_stops : MadeRises aim sizes → (held : Option (List ℕ)) (of : ℕ) (stop : Stop) → TakingStops stop.cause stop.batches aim (made_by sizes) → HasMade held held of of aim sizes (Err stop)
+  made_stops rises held of stop t = record {
+    written = [];
+    wrote = Appends-nil held;
+    later = omega arith;
+    to = stop_of rises stop.cause stop.batches of of t;
   }
 
   pub made_short : (held : Option (List ℕ)) (of : ℕ) (stop : Stop) → stop ≡ record { batches = 0; cause = causes.Memory }

@@ -1,5 +1,5 @@
 //! The answer to a bench.
-ghost use Rattle.std.specs.Prelude.{◌≡◌, ◌≤◌, ◌<◌, ℕ, false, List as ListOf, Option};
+ghost use Rattle.std.specs.Prelude.{◌≡◌, ◌≤◌, ◌<◌, ℕ, List as ListOf, Option};
 ghost use Rattle.log_rules.specs.Judgement.{waiting};
 ghost use Rattle.command_words.specs.declared.request.Task.TheVariants.{Bench};
 ghost use Rattle.run_request.specs.Questions.{AsksFor};
@@ -36,7 +36,7 @@ fn summary_sizes(sizes: Sizes) -> bench_summary::Sizes
     }
 }
 
-// Takes the items of the log that is made, and writes its summary.
+// Takes the log that is made, and writes its summary.
 fn bench_all<R: Threads + Sync, G: Gate, L: Ledger, O: Sink>(
     means: &Means<'_, R, G>,
     checking: &mut Checking<L>,
@@ -44,7 +44,6 @@ fn bench_all<R: Threads + Sync, G: Gate, L: Ledger, O: Sink>(
     out: &mut O,
 ) -> Result<Verdict, Stop>
     requires sizes { CanBeMade sizes }
-    requires last { checking.old.each_batch ≡ false }
     requires check { (aim : Aim) × IsCheckOf (said_by answers) aim checking.old.check waiting }
     ensures { (aim : Aim) → IsCheckOf (said_by answers) aim checking.old.check waiting
         → IsBenchAim aim
@@ -54,7 +53,7 @@ fn bench_all<R: Threads + Sync, G: Gate, L: Ledger, O: Sink>(
     let Ok(log) = generate(means.alloc, sizes.seed, sizes.procs, sizes.events) else {
         return Err(Stop::without_memory());
     };
-    if let Err(stop) = checking.take_whole(means, log, out) {
+    if let Err(stop) = checking.take_whole(means.alloc, log) {
         return Err(stop);
     }
     checking.sum_up(means, summary_sizes(sizes), out)

@@ -9,22 +9,30 @@ use Rattle.fault_kinds.specs.declared.refusal.Refusal.{Refusal}
 use Rattle.log_rules.specs.Judgement.{Prefix, Judgement, waiting, refused, judged}
 use Rattle.log_rules.specs.Due.{whole_of, batches_of}
 use Rattle.reported_log.specs.Aims.{Says, Aim, rules_of, IsTrueSoFar}
+use Rattle.reported_log.specs.Checking.{IsCheckOf, IsRefusedAs}
 use Rattle.reported_log.specs.declared.reported.ReportedLog.{ReportedLog}
 use Rattle.log_answers.specs.declared.stop.StopCause.{StopCause}
 use Rattle.log_answers.specs.declared.stop.StopCause.TheVariants as causes
 use Rattle.log_answers.specs.declared.stop.Stop.{Stop}
 use Rattle.log_answers.specs.declared.stop.Verdict.{Verdict}
-use Rattle.log_answers.specs.Checking.{AreReportsFor, HasPartOf, TakesItems}
+use Rattle.log_answers.specs.Checking.{AreReportsFor, HasPartOf}
 
 -- what all items of a log lead to
 abbrev pub judgement_on : Aim → Log → Judgement
 judgement_on aim log = judged (rules_of aim) waiting (log_items log)
 
--- its items were taken, and nothing was written
-abbrev pub TakesWhole : {T X : Type 0} {P : X → Type 0} → (held held' : Option (List ℕ))
-    → (of of' : ℕ) → Says X P → Aim → ReportedLog X P → Log → Result T Stop → Type 0
-TakesWhole held held' of of' says aim check log result =
-    TakesItems held held' of of' says aim false check (judgement_on aim log) [] result
+-- a stop before its end
+abbrev pub TakingStops : StopCause → ℕ → Aim → Log → Type 0
+TakingStops (causes.Refused r) n aim log = IsRefusedAs waiting (judgement_on aim log) n r
+TakingStops causes.Memory n aim log = n ≡ 0
+TakingStops causes.Write n aim log = ⊥
+TakingStops causes.Read n aim log = ⊥
+
+-- it was taken to its end, or not
+abbrev pub TakesWhole : {T X : Type 0} {P : X → Type 0} → Says X P → Aim → ReportedLog X P → Log
+    → Result T Stop → Type 0
+TakesWhole says aim check log (Ok x) = IsCheckOf says aim check (judgement_on aim log)
+TakesWhole says aim check log (Err stop) = TakingStops stop.cause stop.batches aim log
 
 -- the log has no fault, its report is this text, and this is the verdict
 pub record IsWholeVerdict (aim : Aim) (log : Log) (text : List ℕ) (v : Verdict) : Type 0 where

@@ -1,4 +1,5 @@
 pub mod Counters
 pub mod Following
 pub mod Steps
+mod Whole
 pub mod HandingOver

@@ -1,9 +1,11 @@
 //! A log that is taken for a formula item by item.
-ghost use Rattle.std.specs.Prelude.{◌≡◌, ◌∷◌, [], ℕ, List as ListOf, Some, IfOk, OnOk};
+ghost use Rattle.std.specs.Prelude.{◌≡◌, ◌∷◌, [], ℕ, List as ListOf, length, Some, IfOk, OnOk};
 ghost use Rattle.vector_clock.specs.Admitted.{IfFault};
-ghost use Rattle.event_log.specs.LogText.{HeaderFits};
+ghost use Rattle.event_log.specs.FittingItems.{FitFirst};
+ghost use Rattle.event_log.specs.LogText.{HeaderFits, batch_items, log_items};
 ghost use Rattle.stated_formula.specs.Stating.{IsStated};
-ghost use Rattle.log_rules.specs.Judgement.{Judgement, Prefix, judge, opened, waiting};
+ghost use Rattle.log_rules.specs.Judgement.{Judgement, Prefix, judge, judged, opened};
+ghost use Rattle.log_rules.specs.Judgement.{growing, waiting};
 ghost use Rattle.log_intake.specs.Taking.{MayFollow, HasClosed, GrowsFrom, end_item};
 ghost use Rattle.log_check.specs.Aims.{Aim, AreWatches, aim_of, names_of, rules_of};
 ghost use Rattle.log_check.specs.Aims.{said_by, watches_of};
@@ -16,7 +18,7 @@ ghost use Rattle.part_pulls.specs.Counters.{CountersRise};
 ghost use Rattle.part_pulls.specs.Observing.{IsReady, scope_seen};
 
 use crate::checked::CheckedLog;
-use event_log::{Header, Item};
+use event_log::{Event, Header, Item, Log};
 use fault_kinds::Refusal;
 use log_intake::{LogIntake, Observation};
 use pota_base::{List, NoMemory, Refused};
@@ -146,6 +148,57 @@ impl LogCheck {
             },
             Item::BatchEnd => self.close(alloc, false),
             Item::End => self.close(alloc, true),
+        }
+    }
+
+    // Takes a batch at once, and the end of the log behind it.
+    fn take_last(&mut self, alloc: Global, batch: List<Event>) -> Result<(), Refused<Refusal>>
+        requires check { (aim : Aim) × (log : Prefix)
+            × IsCheckOf (said_by answers) aim self.old (growing log [])
+            × MayFollow (growing log []) (batch_items (batch ∷ [])) }
+        ensures ok { OnOk result ((aim : Aim) (log : Prefix)
+            → IsCheckOf (said_by answers) aim self.old (growing log [])
+            → MayFollow (growing log []) (batch_items (batch ∷ []))
+            → IsCheckOf (said_by answers) aim self.new
+            (judged (rules_of aim) (growing log []) (batch_items (batch ∷ [])))) }
+        ensures fault { IfFault result (λ why. (aim : Aim) (log : Prefix)
+            → IsCheckOf (said_by answers) aim self.old (growing log [])
+            → MayFollow (growing log []) (batch_items (batch ∷ []))
+            → IsRefusedAs (growing log [])
+            (judged (rules_of aim) (growing log []) (batch_items (batch ∷ [])))
+            self.new.intake.batches why) }
+    {
+        self.intake.add_all(batch);
+        match self.close(alloc, true) {
+            Ok(_) => Ok(()),
+            Err(refused) => Err(refused),
+        }
+    }
+
+    /// Takes a whole log of one batch: its header, its events at once, and its end. `Fault` is the
+    /// first refusal that is due of it; nothing may be taken behind it.
+    pub fn take_log(&mut self, alloc: Global, log: Log) -> Result<(), Refused<Refusal>>
+        requires check { (aim : Aim) × IsCheckOf (said_by answers) aim self.old waiting }
+        requires batch { length log.batches ≡ 1 }
+        requires fits { FitFirst (log_items log) }
+        ensures ok { OnOk result ((aim : Aim) → IsCheckOf (said_by answers) aim self.old waiting
+            → IsCheckOf (said_by answers) aim self.new
+            (judged (rules_of aim) waiting (log_items log))) }
+        ensures later { OnOk result (GrowsFrom self.old.intake.observation
+            self.new.intake.observation) }
+        ensures fault { IfFault result (λ why. (aim : Aim)
+            → IsCheckOf (said_by answers) aim self.old waiting
+            → IsRefusedAs waiting (judged (rules_of aim) waiting (log_items log))
+            self.new.intake.batches why) }
+    {
+        let Log { header, batches } = log;
+        let mut batches = batches.into_vec();
+        let Some(batch) = batches.pop() else {
+            unreachable!()
+        };
+        match self.open(alloc, header) {
+            Ok(()) => self.take_last(alloc, batch),
+            Err(refused) => Err(refused),
         }
     }
 

@@ -12,7 +12,8 @@ use Rattle.event_log.specs.declared.log.Assign.{Assign}
 use Rattle.event_log.specs.declared.log.Binding.{Binding}
 use Rattle.event_log.specs.declared.log.Event.{Event}
 use Rattle.event_log.specs.declared.log.Header.{Header}
-use Rattle.event_log.specs.LogText.{EventFits, AssignFits, event_count}
+use Rattle.event_log.specs.FittingItems.{FitFrom}
+use Rattle.event_log.specs.LogText.{EventFits, AssignFits, event_count, event_items}
 use Rattle.event_log.specs.Numbers.{variables_at}
 use Rattle.event_log.specs.States.{IsKnown, with_event, with_batch, with_batches}
 use Rattle.event_log.proofs.Keeping.{sum_batch}
@@ -105,6 +106,17 @@ same_fault rules g log batch judged is =
     let fault : TraceView → Option LogFault = λ t. choose (fall_fault t.states counters (filled_for t batch)) (λ f. Some f) (trace_fault t batch) in
     ap fault is ∙ sym (judged.batch log refl (with_clocks log batch))
 
+-- events that may come fit, and stay within what a log may have
+record AllFit (h : Header) (n : ℕ) (batch : List Event) : Type 0 where
+  each : AllByRecursion (EventFits h) batch
+  few : n ≤ 50000 → n + length batch ≤ 50000
+
+all_fit : (h : Header) (n : ℕ) (batch : List Event) → FitFrom h n (event_items batch) → AllFit h n batch
+all_fit h n [] fit = record { each = tt; few = λ k. omega (arith, k) }
+all_fit h n (e ∷ es) fit =
+    let rest = all_fit h (n + 1) es fit.2 in
+    record { each = (fit.0, rest.each); few = λ k. let m = rest.few (omega (arith, fit.1)) in omega (arith, m) }
+
 module _ {X : Type 0} {P : X → Type 0} (says : Says X P) (terms : Terms) where
   -- ---- the header
 
@@ -140,6 +152,21 @@ module _ {X : Type 0} {P : X → Type 0} (says : Says X P) (terms : Terms) where
     keeps = (record { observation = is.keeps.0.observation; some = is.keeps.0.some; is = is.keeps.0.is }, is.keeps.1);
   }
   adds (refused log why) e kept es is fit pushed = absurd is.keeps
+
+  -- ---- the events of a batch at once
+
+  pub adds_all : (log : Prefix) (kept : LogIntake X P) (batch : List Event) → IsIntakeOf says terms kept (growing log []) → MayFollow (growing log []) (event_items batch)
+      → IsIntakeOf says terms (record kept { since = batch }) (growing log batch)
+  adds_all log kept batch is fit =
+      let fits = all_fit log.header (event_count log.batches + 0) batch fit in
+      let few = fits.few is.keeps.1.few in
+      record {
+        batches = is.batches;
+        keeps = (
+          record { observation = is.keeps.0.observation; some = is.keeps.0.some; is = is.keeps.0.is },
+          record { since_is = refl; open_ = is.keeps.1.open_; each = fits.each; few = omega (arith, few) },
+        );
+      }
 
   -- ---- a batch is closed
 

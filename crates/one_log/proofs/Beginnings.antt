@@ -26,7 +26,7 @@ use Rattle.input_reading.specs.declared.reading.End.{End}
 use Rattle.input_reading.specs.declared.reading.End.TheVariants as end
 use Rattle.input_reading.specs.Intakes.{Ends, HasReadAll}
 use Rattle.log_lines.specs.Reading.{choose}
-use Rattle.log_merge.specs.Merging.{merged, merged_header, merged_events, numbered}
+use Rattle.log_merge.specs.Merging.{merged}
 use Rattle.log_sources.specs.Sources.{no_sources, after, last_fault, logs_of}
 use Rattle.form_readings.specs.Sources.{merged_log_of, merged_fault, merged_place}
 use Rattle.log_rules.specs.Due.{Due, told, whole_of, fault_in, at_end}
@@ -186,7 +186,7 @@ ends_so b (c ∷ bs) =
       ap (λ (xs : List Item). event_items b ++ item.BatchEnd ∷ xs) rest.1 ∙ sym (append_assoc (event_items b) (item.BatchEnd ∷ rest.0) (item.End ∷ [])),
     )
 
-are_whole : (log : Log) (bs : List (List Event)) → log.batches ≡ bs → 0 < length bs → AreWhole (log_items log)
+pub are_whole : (log : Log) (bs : List (List Event)) → log.batches ≡ bs → 0 < length bs → AreWhole (log_items log)
 are_whole log [] is some = absurd (omega (arith, some))
 are_whole log (b ∷ bs) is some =
     let ends = ends_so b bs in
@@ -237,9 +237,6 @@ module _ (text : List ℕ) (items : List Item) (items_are : items ≡ items_in t
 
 -- ---- several logs
 
-pub merged_ends : (logs : List Log) → EndsWhole (log_items (merged logs).log) None
-merged_ends logs none = (merged_header logs, event_items (numbered 1 (merged_events logs)), refl)
-
 module _ (text : List ℕ) (faultless : last_fault (after no_sources text) ≡ None) where
   none : merged_fault true text ≡ None
   none = merged_none true text faultless
@@ -282,17 +279,6 @@ merged_refused text f some =
       greatest = greatest.1;
       is = ap (λ (o : Option Refusal). (told true (merged_place text) (judged_upto greatest.0 (items_at_end true o (merged_log_of text))) o).fault) fault;
     }
-
--- the events of a batch as items, one by one
-pub item_more : (so_far all : List Item) (es rest : List Event) (e : Event) → so_far ++ event_items rest ≡ all → rest ≡ e ∷ es → (so_far ++ item.Event e ∷ []) ++ event_items es ≡ all
-item_more so_far all es rest e is head =
-    append_assoc so_far (item.Event e ∷ []) (event_items es) ∙ ap (λ (xs : List Event). so_far ++ event_items xs) (sym head) ∙ is
-
-pub items_there : (so_far all : List Item) (rest : List Event) → rest ≡ [] → so_far ++ event_items rest ≡ all → so_far ≡ all
-items_there so_far all rest none is = sym (append-nil so_far) ∙ ap (λ (xs : List Event). so_far ++ event_items xs) (sym none) ∙ is
-
-pub one_batch_items : (log : Log) (b : List Event) (items : List Item) → log.batches ≡ b ∷ [] → items ≡ (item.Header log.header ∷ event_items b) ++ item.End ∷ [] → items ≡ log_items log
-one_batch_items log b items is items_are = items_are ∙ ap (λ (bs : List (List Event)). item.Header log.header ∷ batch_items bs) (sym is)
 
 -- ---- the input
 

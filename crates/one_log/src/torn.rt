@@ -1,8 +1,8 @@
 //! The log of processes that were killed: their texts mended, up to the greatest cut that is logged
 //! whole.
-ghost use Rattle.std.specs.Prelude.{◌≡◌, ◌≢◌, ◌++◌, length, IfOk, OnOk, OnErr};
+ghost use Rattle.std.specs.Prelude.{◌≡◌, ◌≢◌, length, None, IfOk, OnErr};
 ghost use Rattle.event_log.specs.FittingItems.{FitFirst};
-ghost use Rattle.event_log.specs.LogText.{event_items, log_items};
+ghost use Rattle.event_log.specs.LogText.{log_items};
 ghost use Rattle.input_reading.specs.Changes.{of_source};
 ghost use Rattle.input_reading.specs.Intakes.{HasReadSome};
 ghost use Rattle.log_sources.specs.Reading.{CanMerge};
@@ -13,7 +13,7 @@ ghost use Rattle.torn_text.specs.Mending.{mended};
 
 use crate::asking::Form;
 use crate::places::Places;
-use event_log::{Event, Item, Log, LogFault, Reader};
+use event_log::{Item, Log, LogFault, Reader};
 use fault_kinds::Refusal;
 use filled_log::FilledLog;
 use input_reading::{End, Kept, read_all};
@@ -21,7 +21,7 @@ use log_merge::{Merged, merge};
 use log_sources::SourceReader;
 use pota_base::{List, NoMemory, Refused, Source};
 use std::alloc::Global;
-use torn_log::{Torn, whole_beginning};
+use torn_log::{Torn, TornLog, whole_beginning, whole_beginning_of};
 use torn_text::mended;
 
 /// A beginning of a run of which everything is logged.
@@ -94,32 +94,23 @@ fn judge_log(alloc: Global, text: &[u8]) -> Result<TornInput, NoMemory>
     judge_items(alloc, fed.items, fault, &Places::Lines)
 }
 
-// These events as items, behind those before.
-fn put_events(items: &mut List<Item>, events: List<Event>) -> Result<(), NoMemory>
-    ensures { OnOk result (items.new ≡ items.old ++ event_items events) }
+// The same of a log of one batch, without a list of its items.
+fn judge_whole(alloc: Global, log: Log, places: &Places) -> Result<TornInput, NoMemory>
+    requires batch { length log.batches ≡ 1 }
+    requires fit { FitFirst (log_items log) }
+    ensures { IfOk result (IsTornJudged (log_items log) None places.now) }
 {
-    let mut rest = events.into_vec().into_iter();
-    while let Some(event) = rest.next() {
-        items.push(Item::Event(event))?;
+    let torn = whole_beginning_of(alloc, log)?;
+    let TornLog { log, left_out } = torn;
+    let mut filled = FilledLog::new(alloc);
+    match filled.take_log(alloc, log) {
+        Ok(()) => {
+            let log = filled.into_log();
+            Ok(TornInput::Whole(Beginning { log, left_out }))
+        }
+        Err(Refused::Fault(found)) => Ok(TornInput::Faulty(places.place(found))),
+        Err(Refused::NoMemory) => Err(NoMemory),
     }
-    Ok(())
-}
-
-// The items of a log of one batch.
-fn items_of(alloc: Global, log: Log) -> Result<List<Item>, NoMemory>
-    requires { length log.batches ≡ 1 }
-    ensures { IfOk result (λ items. items ≡ log_items log) }
-{
-    let Log { header, batches } = log;
-    let mut batches = batches.into_vec();
-    let Some(batch) = batches.pop() else {
-        unreachable!()
-    };
-    let mut items = List::new(alloc);
-    items.push(Item::Header(header))?;
-    put_events(&mut items, batch)?;
-    items.push(Item::End)?;
-    Ok(items)
 }
 
 // Merges logs of one process each.
@@ -130,8 +121,7 @@ fn merge_logs(alloc: Global, logs: &[Log]) -> Result<TornInput, NoMemory>
     match merge(alloc, logs) {
         Ok(merged) => {
             let Merged { log, origins } = merged;
-            let items = items_of(alloc, log)?;
-            judge_items(alloc, items, None, &Places::Origins(origins))
+            judge_whole(alloc, log, &Places::Origins(origins))
         }
         Err(Refused::Fault(_)) => unreachable!(),
         Err(Refused::NoMemory) => Err(NoMemory),

@@ -1,9 +1,11 @@
 //! A log that is checked item by item, and its reports.
-ghost use Rattle.std.specs.Prelude.{◌≡◌, ◌≤◌, ◌∷◌, [], ℕ, List as ListOf, IfOk, OnOk};
+ghost use Rattle.std.specs.Prelude.{◌≡◌, ◌≤◌, ◌∷◌, [], ℕ, List as ListOf, length, IfOk, OnOk};
 ghost use Rattle.vector_clock.specs.Admitted.{IfFault};
 ghost use Rattle.stated_formula.specs.Stating.{IsStated};
 ghost use Rattle.report.specs.Spelling.{IsWellFormed};
-ghost use Rattle.log_rules.specs.Judgement.{Prefix, Judgement, judge, waiting};
+ghost use Rattle.event_log.specs.FittingItems.{FitFirst};
+ghost use Rattle.event_log.specs.LogText.{log_items};
+ghost use Rattle.log_rules.specs.Judgement.{Prefix, Judgement, judge, judged, waiting};
 ghost use Rattle.trace_growth.specs.Growing.{IsTrace};
 ghost use Rattle.rctl_parts.specs.Pieces.{disjuncts_of};
 ghost use Rattle.rctl_parts.specs.MadeFor.{AreMadeFor};
@@ -16,7 +18,7 @@ ghost use Rattle.reported_log.specs.Checking.{GoesOn, HasClosed, IsCheckOf, IsRe
 
 use answer_report::{Wanted, report_on};
 use answering::{Answering, what_goes_on_goes_on_later};
-use event_log::Item;
+use event_log::{Item, Log};
 use fault_kinds::Refusal;
 use log_check::{CheckedLog, LogCheck};
 use pota_base::{Gate, NoMemory, Refused, Steps};
@@ -80,6 +82,27 @@ impl ReportedLog {
         what_goes_on_goes_on_later();
         match self.log.take(alloc, item) {
             Ok(closed) => Ok(closed),
+            Err(refused) => Err(refused),
+        }
+    }
+
+    /// Takes a whole log of one batch. `Fault` is the first refusal that is due of it; nothing may
+    /// be taken behind it.
+    pub fn take_log(&mut self, alloc: Global, log: Log) -> Result<(), Refused<Refusal>>
+        requires check { (aim : Aim) × IsCheckOf (said_by answers) aim self.old waiting }
+        requires batch { length log.batches ≡ 1 }
+        requires fits { FitFirst (log_items log) }
+        ensures ok { OnOk result ((aim : Aim) → IsCheckOf (said_by answers) aim self.old waiting
+            → IsCheckOf (said_by answers) aim self.new
+            (judged (rules_of aim) waiting (log_items log))) }
+        ensures fault { IfFault result (λ why. (aim : Aim)
+            → IsCheckOf (said_by answers) aim self.old waiting
+            → IsRefusedAs waiting (judged (rules_of aim) waiting (log_items log))
+            self.new.log.intake.batches why) }
+    {
+        what_goes_on_goes_on_later();
+        match self.log.take_log(alloc, log) {
+            Ok(()) => Ok(()),
             Err(refused) => Err(refused),
         }
     }

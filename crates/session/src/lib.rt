@@ -2,8 +2,10 @@
 //!
 //! A session is an `observation` and an `answering` of it. `Session::extend` takes a batch whole,
 //! or answers exactly its first fault and is as before (`ok`, `fault`), and makes the answer on the
-//! trace so far (`answer`): it observes, and then answers what it observed. After want of memory
-//! the session is spent: it answers that from then on and feeds nothing (`memory`, `spent`).
+//! trace so far (`answer`): it observes, and then answers what it observed. The law
+//! `a_session_is_its_halves_in_a_row` says so of the clauses: what comes of a batch in a session is
+//! what comes of it in both halves, one behind the other. After want of memory the session is
+//! spent: it answers that from then on and feeds nothing (`memory`, `spent`).
 //!
 //! `Session::answer` has the truth of the formula, its slice and its parts on the trace so far, and
 //! `Session::settled` the rows of each of the `Session::conjunctions`. The rows of a conjunction of
@@ -18,6 +20,8 @@
 #![tactic(auto)]
 
 mod answered;
+mod laws;
 mod session;
 
+pub use laws::a_session_is_its_halves_in_a_row;
 pub use session::Session;

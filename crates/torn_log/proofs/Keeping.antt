@@ -1,23 +1,25 @@
 -- Items up to a cut.
-use Rattle.std.proofs.Common.{◌≡◌, ℕ, ◌+◌, ◌-◌, ◌^◌, ◌<◌, ◌≤◌, ◌⊎◌, Bool, true, false, List, [], ◌∷◌, ◌++◌, length, drop, map, replicate, get_or, sym, ap, ◌∙◌, subst, inl, inr, arith, append_assoc, append-nil}
+use Rattle.std.proofs.Common.{◌≡◌, ℕ, ◌+◌, ◌-◌, ◌^◌, ◌<◌, ◌≤◌, ◌⊎◌, Bool, true, false, List, [], ◌∷◌, ◌++◌, length, drop, map, replicate, get_or, refl, sym, ap, ◌∙◌, subst, inl, inr, arith, append_assoc, append-nil}
 use Rattle.std.proofs.lemmas.Bool.{cases_Bool, cond-true, cond-false}
-use Rattle.std.proofs.lemmas.List.{drop_more, drop_all}
+use Rattle.std.proofs.lemmas.List.{drop_more, drop_all, length_push, nil_from_length}
 use Rattle.run_model.specs.Cut.{Cut}
 use Rattle.event_log.specs.declared.item.Item.{Item}
 use Rattle.event_log.specs.declared.item.Item.TheVariants as item
 use Rattle.event_log.specs.declared.log.Event.{Event}
 use Rattle.event_log.specs.declared.log.Header.{Header}
 use Rattle.event_log.specs.declared.log.Kind.{Kind}
+use Rattle.event_log.specs.declared.log.Log.{Log}
 use Rattle.event_log.specs.declared.log.Kind.TheVariants as kind
-use Rattle.event_log.specs.LogText.{KindWithin, KindFits, EventFits, ClockStands}
+use Rattle.event_log.specs.LogText.{KindWithin, KindFits, EventFits, ClockStands, event_items, log_items}
 use Rattle.event_log.specs.FittingItems.{FitFrom, FitFirst}
 use Rattle.vector_clock.specs.Events.{Events, EventStands, own_events, no_events}
 use Rattle.torn_log.specs.Counts.{HasRoom}
-use Rattle.torn_log.proofs.Passing.{counts_none, length-none, own_none, length-lens, count-lens, length-with_item, length-with_items, own_more}
+use Rattle.torn_log.proofs.Passing.{counts_none, length-none, own_none, length-lens, count-lens, length-with_item, length-with_items, own_more, with_items-append}
 use Rattle.std.specs.Prelude.{if◌then◌else◌}
-use Rattle.torn_log.specs.Torn.{IsKept, IsTornOf}
+use Rattle.torn_log.specs.Torn.{IsKept, AreUpto, IsTornOf}
+use Rattle.torn_log.specs.declared.torn.Torn.{Torn}
 use Rattle.torn_log.proofs.Standing.{length-needs}
-use Rattle.torn_log.specs.Items.{events_in, procs_in, with_item, with_items, ItemStands, ItemsStand, stays, kept_item, kept_from, items_upto, differences}
+use Rattle.torn_log.specs.Items.{events_in, procs_in, with_item, with_items, ItemStands, ItemsStand, stays, kept_item, kept_from, items_upto, differences, left_out}
 
 -- ---- which items stand
 
@@ -164,29 +166,73 @@ keeps_all cut items kept counts rest none k = sym (append-nil kept) ∙ ap (λ (
 
 -- ---- all together
 
-pub stands_by : (items all : List Item) (procs : ℕ) → FitFirst items → all ≡ items → procs ≡ procs_in all → ItemsStand procs all
-stands_by items all procs fit same is = subst (λ (n : ℕ). ItemsStand n all) (sym is) (first_stands all (subst FitFirst (sym same) fit))
+cut_long : (procs : ℕ) (items : List Item) (cut : Cut) → IsKept (with_items (no_events procs) items) cut → length cut ≡ procs
+cut_long procs items cut kept = kept.member.shaped ∙ length-needs (with_items (no_events procs) items) ∙ length-with_items (no_events procs) items ∙ length-none procs
 
-pub cut_long : (procs : ℕ) (all : List Item) (cut : Cut) → IsKept (with_items (no_events procs) all) cut → length cut ≡ procs
-cut_long procs all cut kept = kept.member.shaped ∙ length-needs (with_items (no_events procs) all) ∙ length-with_items (no_events procs) all ∙ length-none procs
+pub cut_stands : (procs : ℕ) (items : List Item) (cut : Cut) → ItemsStand procs items → IsKept (with_items (no_events procs) items) cut → ItemsStand (length cut) items
+cut_stands procs items cut stand kept = subst (λ (n : ℕ). ItemsStand n items) (sym (cut_long procs items cut kept)) stand
 
-pub cut_stands : (items all : List Item) (procs : ℕ) (cut : Cut) → FitFirst items → all ≡ items → procs ≡ procs_in all → IsKept (with_items (no_events procs) all) cut → ItemsStand (length cut) items
-cut_stands items all procs cut fit same is kept =
-    subst (ItemsStand (length cut)) same (subst (λ (n : ℕ). ItemsStand n all) (sym (cut_long procs all cut kept)) (stands_by items all procs fit same is))
-
-same_events : (items all : List Item) (procs : ℕ) → all ≡ items → procs ≡ procs_in all → with_items (no_events procs) all ≡ events_in items
-same_events items all procs same is = ap (λ (n : ℕ). with_items (no_events n) all) is ∙ ap events_in same
-
-pub is_torn : (items all : List Item) (procs : ℕ) (cut : Cut) (counts left : List ℕ) (kept : List Item) → all ≡ items → procs ≡ procs_in all → IsKept (with_items (no_events procs) all) cut
-    → counts ≡ map length (with_items (no_events procs) all) → left ≡ differences counts cut → kept ≡ kept_from cut (no_events (length cut)) items → IsTornOf items (record { items = kept; left_out = left })
-is_torn items all procs cut counts left kept same is great are left_is kept_is = record {
+pub are_upto : (procs : ℕ) (items : List Item) (cut : Cut) (counts left : List ℕ) (kept : List Item) → IsKept (with_items (no_events procs) items) cut
+    → counts ≡ map length (with_items (no_events procs) items) → left ≡ differences counts cut → kept ≡ kept_from cut (no_events (length cut)) items → AreUpto procs items kept left
+are_upto procs items cut counts left kept great are left_is kept_is = record {
   cut = cut;
-  greatest = subst (λ events. IsKept events cut) (same_events items all procs same is) great;
-  items_are = kept_is ∙ ap (λ (n : ℕ). kept_from cut (no_events n) items) (cut_long procs all cut great ∙ is ∙ ap procs_in same);
-  left_out_are = left_is ∙ ap (λ cs. differences cs cut) (are ∙ ap (map length) (same_events items all procs same is));
+  greatest = great;
+  kept_are = kept_is ∙ ap (λ (n : ℕ). kept_from cut (no_events n) items) (cut_long procs items cut great);
+  left_out_are = left_is ∙ ap (λ cs. differences cs cut) are;
 }
 
-pub torn_fits : (items all : List Item) (procs : ℕ) (cut : Cut) (kept : List Item) → FitFirst items → all ≡ items → procs ≡ procs_in all → IsKept (with_items (no_events procs) all) cut
-    → kept ≡ kept_from cut (no_events (length cut)) items → FitFirst kept
-torn_fits items all procs cut kept fit same is great kept_is =
-    subst FitFirst (sym (kept_is ∙ ap (λ (n : ℕ). kept_from cut (no_events n) items) (cut_long procs all cut great ∙ is ∙ ap procs_in same))) (first_kept cut items fit)
+-- ---- of items
+
+pub stands_by : (items : List Item) (procs : ℕ) → FitFirst items → procs ≡ procs_in items → ItemsStand procs items
+stands_by items procs fit is = subst (λ (n : ℕ). ItemsStand n items) (sym is) (first_stands items fit)
+
+pub is_torn : (items kept : List Item) (left : List ℕ) (procs : ℕ) → procs ≡ procs_in items → AreUpto procs items kept left → IsTornOf items (record { items = kept; left_out = left })
+is_torn items kept left procs is upto = record {
+  cut = upto.cut;
+  greatest = subst (λ (n : ℕ). IsKept (with_items (no_events n) items) upto.cut) is upto.greatest;
+  items_are = upto.kept_are ∙ ap (λ (n : ℕ). kept_from upto.cut (no_events n) items) is;
+  left_out_are = upto.left_out_are ∙ ap (λ (n : ℕ). left_out (with_items (no_events n) items) upto.cut) is;
+}
+
+pub torn_fits : (items : List Item) (torn : Torn) → FitFirst items → IsTornOf items torn → FitFirst torn.items
+torn_fits items torn fit is = subst FitFirst (sym is.items_are) (first_kept is.cut items fit)
+
+-- ---- of a log of one batch
+
+-- the one that was taken out is all
+pub only : (all given rest : List (List Event)) (b : List Event) → length all ≡ 1 → given ≡ all → given ≡ rest ++ b ∷ [] → (all ≡ b ∷ []) × (rest ≡ [])
+only all given rest b one is split =
+    let long : length rest + 1 ≡ 1 = sym (length_push rest b) ∙ ap length (sym split ∙ is) ∙ one in
+    let none : rest ≡ [] = nil_from_length rest (omega (arith, long)) in
+    (sym is ∙ split ∙ ap (λ (xs : List (List Event)). xs ++ b ∷ []) none, none)
+
+abbrev one_batch : Header → List Event → Log
+one_batch h b = record { header = h; batches = b ∷ [] }
+
+ends_there : (events : Events) (b : List Event) → with_items events (event_items b ++ item.End ∷ []) ≡ with_items events (event_items b)
+ends_there events b = with_items-append events (event_items b) (item.End ∷ [])
+
+front_stands_so : (procs : ℕ) (b : List Event) → ItemsStand procs (event_items b ++ item.End ∷ []) → ItemsStand procs (event_items b)
+front_stands_so procs [] all = tt
+front_stands_so procs (e ∷ b) all = (all.0, front_stands_so procs b all.1)
+
+pub batch_stands : (log : Log) (b : List Event) → log.batches ≡ b ∷ [] → FitFirst (log_items log) → ItemsStand (length log.header.procs) (event_items b)
+batch_stands log b is fit =
+    front_stands_so (length log.header.procs) b
+    (first_stands (log_items (one_batch log.header b)) (subst (λ (bs : List (List Event)). FitFirst (log_items (record { header = log.header; batches = bs }))) is fit)).1
+
+pub log_torn : (log : Log) (b kept : List Event) (batches : List (List Event)) (left : List ℕ) → log.batches ≡ b ∷ [] → batches ≡ kept ∷ [] → AreUpto (length log.header.procs) (event_items b) (event_items kept) left
+    → IsTornOf (log_items log) (record { items = log_items (record { header = log.header; batches = batches }); left_out = left })
+log_torn log b kept batches left is now upto =
+    let procs = length log.header.procs in
+    let all : log_items log ≡ log_items (one_batch log.header b) = ap (λ (bs : List (List Event)). log_items (record { header = log.header; batches = bs })) is in
+    let same : with_items (no_events procs) (event_items b) ≡ events_in (log_items log) = sym (ends_there (no_events procs) b) ∙ ap events_in (sym all) in
+    record {
+      cut = upto.cut;
+      greatest = subst (λ (events : Events). IsKept events upto.cut) same upto.greatest;
+      items_are = ap (λ (bs : List (List Event)). log_items (record { header = log.header; batches = bs })) now
+          ∙ ap (λ (xs : List Item). item.Header log.header ∷ (xs ++ item.End ∷ [])) upto.kept_are
+          ∙ ap (λ (xs : List Item). item.Header log.header ∷ xs) (sym (kept_append upto.cut (no_events procs) (event_items b) item.End (with_items (no_events procs) (event_items b)) refl))
+          ∙ ap (items_upto upto.cut) (sym all);
+      left_out_are = upto.left_out_are ∙ ap (λ (events : Events). left_out events upto.cut) same;
+    }

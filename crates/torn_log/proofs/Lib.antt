@@ -1,4 +1,5 @@
 pub mod Passing
+pub mod Parts
 pub mod Standing
 pub mod Lowering
 pub mod Keeping

@@ -1,10 +1,11 @@
 -- The events that the items of a log give, and the items up to a cut.
 use Rattle.std.specs.Prelude.{ℕ, ◌-◌, Bool, true, nat_le, List, [], ◌∷◌, ◌++◌, length, map}
-use Rattle.std.specs.Prelude.{if◌then◌else◌}
+use Rattle.std.specs.Prelude.{Option, None, Some, if◌then◌else◌}
 use Rattle.std.specs.List.{AllByRecursion}
 use Rattle.run_model.specs.Cut.{Cut, count}
 use Rattle.event_log.specs.declared.item.Item.{Item}
 use Rattle.event_log.specs.declared.item.Item.TheVariants as item
+use Rattle.event_log.specs.declared.log.Event.{Event}
 use Rattle.event_log.specs.States.{with_event}
 use Rattle.vector_clock.specs.Events.{Events, EventStands, no_events, place}
 
@@ -15,6 +16,13 @@ procs_in (item.Header h ∷ items) = length h.procs
 procs_in (item.Event e ∷ items) = 0
 procs_in (item.BatchEnd ∷ items) = 0
 procs_in (item.End ∷ items) = 0
+
+-- the event of an item, where it is one
+abbrev pub event_in : Item → Option Event
+event_in (item.Header h) = None
+event_in (item.Event e) = Some e
+event_in item.BatchEnd = None
+event_in item.End = None
 
 -- an event stands behind those of its process
 abbrev pub with_item : Events → Item → Events

@@ -4,7 +4,7 @@ ghost use Rattle.vector_clock.specs.Events.{Events, no_events};
 ghost use Rattle.torn_log.specs.Items.{with_item, with_items, ItemStands, ItemsStand};
 ghost use Rattle.torn_log.specs.Counts.{HasRoom};
 
-use event_log::Item;
+use crate::part::Part;
 use pota_base::{List, NoMemory};
 use std::alloc::Global;
 
@@ -26,32 +26,29 @@ fn raise(counts: &mut List<usize>, place: usize)
     let _ = counts.replace(place, count + 1);
 }
 
-/// Counts the event, if the item is one.
-pub fn count(counts: &mut List<usize>, item: &Item)
-    requires stands { ItemStands (length counts.old) item.now }
+/// Counts the event, if the part is one.
+pub fn count<P: Part>(counts: &mut List<usize>, part: &P)
+    requires stands { ItemStands (length counts.old) (P.item part.now) }
     requires room { HasRoom counts.old }
     ensures { (events : Events) → counts.old ≡ map length events
-        → counts.new ≡ map length (with_item events item.now) }
+        → counts.new ≡ map length (with_item events (P.item part.now)) }
 {
-    match item {
-        Item::Event(event) => raise(counts, event.process as usize),
-        Item::Header(_) => {}
-        Item::BatchEnd => {}
-        Item::End => {}
+    if let Some(event) = part.event() {
+        raise(counts, event.process as usize);
     }
 }
 
 /// How many events each of so many processes has.
-pub fn count_all(alloc: Global, items: &[Item], procs: usize) -> Result<List<usize>, NoMemory>
-    requires { ItemsStand procs items.now }
+pub fn count_all<P: Part>(alloc: Global, parts: &[P], procs: usize) -> Result<List<usize>, NoMemory>
+    requires { ItemsStand procs (map P.item parts.now) }
     ensures { IfOk result (λ counts. counts
-        ≡ map length (with_items (no_events procs) items.now)) }
+        ≡ map length (with_items (no_events procs) (map P.item parts.now))) }
 {
     // So its length is one that a word holds.
-    let _len = items.len();
+    let _len = parts.len();
     let mut counts = zeros(alloc, procs)?;
-    for item in items {
-        count(&mut counts, item);
+    for part in parts {
+        count(&mut counts, part);
     }
     Ok(counts)
 }

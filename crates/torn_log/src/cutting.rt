@@ -9,8 +9,9 @@ ghost use Rattle.torn_log.specs.Torn.{IsKept};
 ghost use Rattle.torn_log.specs.Rounds.{BoundsAll, IsLowered, HasLooked, IsRound};
 
 use crate::counting::{count, count_all, zeros};
+use crate::part::Part;
 use crate::sends::Sends;
-use event_log::{Event, Item};
+use event_log::Event;
 use pota_base::{List, NoMemory};
 use std::alloc::Global;
 
@@ -35,20 +36,18 @@ fn lower(sends: &Sends, cut: &mut List<usize>, counts: &List<usize>, event: &Eve
     true
 }
 
-// Looks at one item more.
-fn look(sends: &Sends, cut: &mut List<usize>, counts: &List<usize>, item: &Item) -> bool
-    requires stands { ItemStands (length cut.old) item.now }
+// Looks at one part more.
+fn look<P: Part>(sends: &Sends, cut: &mut List<usize>, counts: &List<usize>, part: &P) -> bool
+    requires stands { ItemStands (length cut.old) (P.item part.now) }
     requires counts { length counts.now ≡ length cut.old }
     ensures long { length cut.new ≡ length cut.old }
     ensures looked { (events before : Events) → HasSends sends.now events → BoundsAll events cut.old
-        → counts.now ≡ map length before → Grows (with_item before item.now) events
-        → HasLooked events before item.now cut.old cut.new result }
+        → counts.now ≡ map length before → Grows (with_item before (P.item part.now)) events
+        → HasLooked events before (P.item part.now) cut.old cut.new result }
 {
-    match item {
-        Item::Event(event) => lower(sends, cut, counts, event),
-        Item::Header(_) => false,
-        Item::BatchEnd => false,
-        Item::End => false,
+    match part.event() {
+        Some(event) => lower(sends, cut, counts, event),
+        None => false,
     }
 }
 
@@ -58,40 +57,44 @@ fn either(one: bool, other: bool) -> bool
     one || other
 }
 
-// Looks at all items, and tells whether the cut was lowered.
-fn look_at_all(
+// Looks at all parts, and tells whether the cut was lowered.
+fn look_at_all<P: Part>(
     alloc: Global,
     sends: &Sends,
     cut: &mut List<usize>,
-    items: &[Item],
+    parts: &[P],
 ) -> Result<bool, NoMemory>
-    requires { ItemsStand (length cut.old) items.now }
-    ensures { IfOk result (IsRound sends.now (with_items (no_events (length cut.old)) items.now)
-        cut.old cut.new) }
+    requires { ItemsStand (length cut.old) (map P.item parts.now) }
+    ensures { IfOk result (IsRound sends.now
+        (with_items (no_events (length cut.old)) (map P.item parts.now)) cut.old cut.new) }
 {
     // So its length is one that a word holds.
-    let _len = items.len();
+    let _len = parts.len();
     let procs = cut.len();
     let mut counts = zeros(alloc, procs)?;
     let mut lowered = false;
-    for item in items {
-        let looked = look(sends, cut, &counts, item);
+    for part in parts {
+        let looked = look(sends, cut, &counts, part);
         let both = either(lowered, looked);
         lowered = both;
-        count(&mut counts, item);
+        count(&mut counts, part);
     }
     Ok(lowered)
 }
 
-/// The greatest cut of the items' events that has all that its events stand on.
-pub fn greatest_cut(alloc: Global, items: &[Item], procs: usize) -> Result<List<usize>, NoMemory>
-    requires { ItemsStand procs items.now }
-    ensures { IfOk result (λ cut. IsKept (with_items (no_events procs) items.now) cut) }
+/// The greatest cut of the parts' events that has all that its events stand on.
+pub fn greatest_cut<P: Part>(
+    alloc: Global,
+    parts: &[P],
+    procs: usize,
+) -> Result<List<usize>, NoMemory>
+    requires { ItemsStand procs (map P.item parts.now) }
+    ensures { IfOk result (IsKept (with_items (no_events procs) (map P.item parts.now))) }
 {
-    let sends = Sends::of(alloc, items, procs)?;
-    let mut cut = count_all(alloc, items, procs)?;
+    let sends = Sends::of(alloc, parts, procs)?;
+    let mut cut = count_all(alloc, parts, procs)?;
     'rounds: loop {
-        let lowered = look_at_all(alloc, &sends, &mut cut, items)?;
+        let lowered = look_at_all(alloc, &sends, &mut cut, parts)?;
         if !lowered {
             return Ok(cut);
         }

@@ -10,7 +10,8 @@ ghost use Rattle.torn_log.specs.Needs.{need, need_of_receipt};
 ghost use Rattle.torn_log.specs.Sends.{place_in, HasSends, IsNoted};
 
 use crate::counting::{count, zeros};
-use event_log::{Event, Item, Kind};
+use crate::part::Part;
+use event_log::{Event, Kind};
 use pota_base::{List, NoMemory};
 use std::alloc::Global;
 use std::collections::BTreeMap;
@@ -69,33 +70,33 @@ impl Sends {
         }
     }
 
-    // The same of an item, by the counts of the events before it.
-    fn note_item(&mut self, item: &Item, counts: &List<usize>) -> Result<(), NoMemory>
-        requires stands { ItemStands (length counts.now) item.now }
+    // The same of a part, by the counts of the events before it.
+    fn note_part<P: Part>(&mut self, part: &P, counts: &List<usize>) -> Result<(), NoMemory>
+        requires stands { ItemStands (length counts.now) (P.item part.now) }
         requires room { HasRoom counts.now }
         ensures { OnOk result ((events : Events) → HasSends self.old events
-            → counts.now ≡ map length events → HasSends self.new (with_item events item.now)) }
+            → counts.now ≡ map length events
+            → HasSends self.new (with_item events (P.item part.now))) }
     {
-        match item {
-            Item::Event(event) => self.note(event, counts.as_slice()[event.process as usize] + 1),
-            Item::Header(_) => Ok(()),
-            Item::BatchEnd => Ok(()),
-            Item::End => Ok(()),
+        match part.event() {
+            Some(event) => self.note(event, counts.as_slice()[event.process as usize] + 1),
+            None => Ok(()),
         }
     }
 
-    /// The first sends of the items of so many processes.
-    pub fn of(alloc: Global, items: &[Item], procs: usize) -> Result<Sends, NoMemory>
-        requires { ItemsStand procs items.now }
-        ensures { IfOk result (λ sends. HasSends sends (with_items (no_events procs) items.now)) }
+    /// The first sends of the parts of so many processes.
+    pub fn of<P: Part>(alloc: Global, parts: &[P], procs: usize) -> Result<Sends, NoMemory>
+        requires { ItemsStand procs (map P.item parts.now) }
+        ensures { IfOk result (λ sends. HasSends sends
+            (with_items (no_events procs) (map P.item parts.now))) }
     {
         // So its length is one that a word holds.
-        let _len = items.len();
+        let _len = parts.len();
         let mut sends = Sends::new(alloc);
         let mut counts = zeros(alloc, procs)?;
-        for item in items {
-            sends.note_item(item, &counts)?;
-            count(&mut counts, item);
+        for part in parts {
+            sends.note_part(part, &counts)?;
+            count(&mut counts, part);
         }
         Ok(sends)
     }

@@ -1,5 +1,5 @@
 //! The check of an input once it was read.
-ghost use Rattle.std.specs.Prelude.{◌≡◌, Bool, false};
+ghost use Rattle.std.specs.Prelude.{◌≡◌, Bool};
 ghost use Rattle.log_rules.specs.Judgement.{waiting};
 ghost use Rattle.log_answers.specs.PassedOn.{Aim, said_by};
 ghost use Rattle.log_answers.specs.PassedOn.{IsCheckOf};
@@ -33,7 +33,6 @@ fn check_standing<R: Threads + Sync, G: Gate, L: Ledger, O: Sink>(
     out: &mut O,
 ) -> Result<Verdict, Stop>
     requires can { CanBeChecked standing }
-    requires last { checking.old.each_batch ≡ false }
     requires check { (aim : Aim) × IsCheckOf (said_by answers) aim checking.old.check waiting }
     ensures { (aim : Aim) → IsCheckOf (said_by answers) aim checking.old.check waiting
         → ChecksStanding (O.held out.old) (O.held out.new) (O.faults out.old) (O.faults out.new) aim
@@ -54,7 +53,6 @@ pub fn check_clocks<R: Threads + Sync, G: Gate, L: Ledger, S: Source, O: Sink>(
     source: &mut S,
     out: &mut O,
 ) -> Result<Verdict, Stop>
-    requires last { checking.old.each_batch ≡ false }
     requires check { (aim : Aim) × IsCheckOf (said_by answers) aim checking.old.check waiting }
     ensures checks { (aim : Aim) → IsCheckOf (said_by answers) aim checking.old.check waiting
         → (each : Bool)
@@ -74,7 +72,6 @@ pub fn check_sources<R: Threads + Sync, G: Gate, L: Ledger, S: Source, O: Sink>(
     source: &mut S,
     out: &mut O,
 ) -> Result<Verdict, Stop>
-    requires last { checking.old.each_batch ≡ false }
     requires check { (aim : Aim) × IsCheckOf (said_by answers) aim checking.old.check waiting }
     ensures checks { (aim : Aim) → IsCheckOf (said_by answers) aim checking.old.check waiting
         → (each : Bool)

@@ -1,4 +1,4 @@
-use Rattle.std.proofs.Common.{◌≡◌, length, sum}
+use Rattle.std.proofs.Common.{◌≡◌, length, map, sum}
 use Rattle.vector_clock.specs.Events.{no_events}
 use Rattle.torn_log.specs.Items.{with_items}
 use Rattle.torn_log.specs.Sends.{HasSends}
@@ -6,11 +6,11 @@ use Rattle.torn_log.specs.Rounds.{BoundsAll}
 use Rattle.torn_log.proofs.cutting.greatest_cut.Given as goal
 
 abbrev pub invariant-rounds : goal.invariant-rounds
-invariant-rounds l = record {
+invariant-rounds g l = record {
   long : length l.cut ≡ l.procs;
-  sends : HasSends l.sends (with_items (no_events l.procs) l.items);
-  bounds : BoundsAll (with_items (no_events l.procs) l.items) l.cut;
+  sends : HasSends l.sends (with_items (no_events l.procs) (map g.P.Part.item l.parts));
+  bounds : BoundsAll (with_items (no_events l.procs) (map g.P.Part.item l.parts)) l.cut;
 }
 
 abbrev pub decreases-rounds : goal.decreases-rounds
-decreases-rounds l = sum l.cut
+decreases-rounds g l = sum l.cut
