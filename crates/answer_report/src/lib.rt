@@ -14,8 +14,6 @@ mod choice;
 mod copies;
 mod reporting;
 mod shown_slice;
-mod wanted;
 mod witnesses;
 
 pub use reporting::report_on;
-pub use wanted::Wanted;

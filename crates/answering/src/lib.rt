@@ -20,5 +20,5 @@ mod answering;
 mod laws;
 
 pub use answering::Answering;
-pub use conjunctions::Answer;
+pub use conjunctions::{Answer, Means};
 pub use laws::{a_fresh_start_answers_the_same, what_goes_on_goes_on_later};

@@ -40,4 +40,5 @@ mod systems;
 pub use answer::{Answer, PartAnswer};
 pub use disjuncts::answer_all;
 pub use laws::{counters_are_kept, one_answer, rows_with_a_cut_are_final, settled_rows_are_kept};
+pub use means::Means;
 pub use round::{Kept, Round};

@@ -28,7 +28,9 @@ use watch::{Handed, Watch};
 
 // Answers a question, of the input that the source has or of a log that is made.
 fn answer_question<R: Threads + Sync, G: Gate, S: Source, O: Sink>(
-    means: &Means<'_, R, G>,
+    rt: &R,
+    alloc: Global,
+    gate: &G,
     question: Question,
     watches: Vec<Handed>,
     log: &mut S,
@@ -47,9 +49,15 @@ fn answer_question<R: Threads + Sync, G: Gate, S: Source, O: Sink>(
         workers,
         stated,
     } = question;
+    let means = Means {
+        rt,
+        alloc,
+        workers,
+        gate,
+    };
     match task {
-        Task::Read(inquiry) => answer_inquiry(means, stated, inquiry, workers, watches, log, out),
-        Task::Bench(sizes) => answer_bench(means, stated, sizes, workers, watches, out),
+        Task::Read(inquiry) => answer_inquiry(&means, stated, inquiry, watches, log, out),
+        Task::Bench(sizes) => answer_bench(&means, stated, sizes, watches, out),
     }
 }
 
@@ -65,7 +73,9 @@ fn fault_of_question(fault: QuestionFault) -> Fault
 
 // Answers the words on the input that the source has, and says how that ended.
 fn answer_words<R: Threads + Sync, G: Gate, S: Source, O: Sink>(
-    means: &Means<'_, R, G>,
+    rt: &R,
+    alloc: Global,
+    gate: &G,
     words: &[String],
     watches: Vec<Handed>,
     log: &mut S,
@@ -77,8 +87,10 @@ fn answer_words<R: Threads + Sync, G: Gate, S: Source, O: Sink>(
         (handing_of (said_by answers) watches.items) (map string_bytes words.now) result }
     ensures calm { result.status ≢ ReadFault → S.faults log.new ≡ S.faults log.old }
 {
-    match read_question(means.alloc, words) {
-        Ok(question) => outcome_of(answer_question(means, question, watches, log, out)),
+    match read_question(alloc, words) {
+        Ok(question) => {
+            outcome_of(answer_question(rt, alloc, gate, question, watches, log, out))
+        }
         Err(Refused::Fault(fault)) => faulty(0, fault_of_question(fault)),
         Err(Refused::NoMemory) => outcome_of(Err(Stop::without_memory())),
     }
@@ -126,12 +138,7 @@ pub fn pota<R: Threads + Sync, S: Source, O: Sink, D: Sink, G: Gate>(
         → IsBenchAnswered (handing_of (said_by answers) watches.items) (map string_bytes words.now)
         (O.held out.old) (O.held out.new) result }
 {
-    let means = Means {
-        runtime: rt,
-        alloc,
-        gate,
-    };
-    let outcome = answer_words(&means, words, watches, log, out);
+    let outcome = answer_words(rt, alloc, gate, words, watches, log, out);
     tell(diag, b"pota", &outcome.fault);
     outcome
 }

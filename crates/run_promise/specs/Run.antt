@@ -19,7 +19,7 @@ use Rattle.command_words.specs.declared.request.Task.TheVariants as task
 use Rattle.command_words.specs.declared.request.Inquiry.{Inquiry}
 use Rattle.command_words.specs.declared.request.Product.{Product}
 use Rattle.command_words.specs.declared.request.Product.TheVariants as product
-use Rattle.command_words.specs.declared.request.Sizes.{Sizes}
+use Rattle.run_options.specs.declared.sizes.Sizes.{Sizes}
 use Rattle.run_request.specs.declared.question.QuestionFault.{QuestionFault}
 use Rattle.run_request.specs.declared.question.QuestionFault.TheVariants as question
 use Rattle.run_request.specs.Questions.{IsQuestionFault, AsksFor}
@@ -29,7 +29,6 @@ use Rattle.run_report.specs.Reports.{Asked, text_seen, IsReportOf}
 use Rattle.log_rules.specs.SoFar.{trace_so_far, counted}
 use Rattle.run_report.specs.Witnesses.{IsShownFor}
 use Rattle.run_report.specs.Benches.{IsSummaryOf}
-use Rattle.run_report.specs.Benches as bench
 use Rattle.fault_kinds.specs.declared.refusal.Refusal.{Refusal}
 use Rattle.fault_kinds.specs.declared.refusal.Refusal.TheVariants as refusal
 use Rattle.log_rules.specs.Judgement.{Prefix}
@@ -138,9 +137,6 @@ pub record HasPart (left : Option (List ℕ)) (on : Handing) (words : List (List
 
 -- ---- a log that is made
 
-abbrev pub sizes_of : Sizes → bench.Sizes
-sizes_of s = record { seed = s.seed; procs = s.procs; events = s.events }
-
 abbrev pub made_by : Sizes → Log
 made_by s = generated s.seed s.procs s.events
 
@@ -151,7 +147,7 @@ pub record IsBenched (on : Handing) (words : List (List ℕ)) (summary : List �
   pub sizes : Sizes
   pub asks : AsksFor words (task.Bench sizes) tree
   pub named : unknown_name (node_of tree) on.names (made_by sizes).header ≡ None
-  pub says : IsSummaryOf (sizes_of sizes) (asked tree true false) (made_by sizes).header
+  pub says : IsSummaryOf sizes (asked tree true false) (made_by sizes).header
       (made_by sizes).batches on.watches summary
   pub truth : (verdict ≡ true)
       ↔ IsTrueAtStart on.watches tree

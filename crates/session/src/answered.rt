@@ -9,9 +9,8 @@ ghost use Rattle.conjunctions.specs.Counting.{bounds};
 ghost use Rattle.conjunctions.specs.Settling.{IsSettled};
 ghost use Rattle.conjunctions.specs.Answering.{IsAnswer};
 ghost use Rattle.observation.specs.Growing.{HasTaken};
-ghost use Rattle.answering.specs.Going.{AreWorkers};
 
-use answering::{Answering, what_goes_on_goes_on_later};
+use answering::{Answering, Means, what_goes_on_goes_on_later};
 use conjunctions::Answer;
 use observation::Observation;
 use part_pulls::Observed;
@@ -77,27 +76,21 @@ impl Answered {
     /// Makes the answer on what was observed since. After want of memory there is none.
     pub fn renew<R: Threads + Sync, G: Gate, L: Ledger>(
         &mut self,
-        rt: &R,
-        alloc: Global,
+        means: &Means<R, G>,
         observation: &Observation,
-        workers: u32,
-        gate: &G,
         steps: &mut Steps<L>,
     ) -> Result<(), NoMemory>
         requires taken { HasTaken observation.now.growing }
         requires formula { observation.now.growing.disjuncts ≡ self.old.of.disjuncts }
         requires later { IsLater self.old.of.seen observation.now.growing.seen }
-        requires workers { AreWorkers workers }
         ensures of { self.new.of ≡ observation.now.growing }
         ensures answer { OnOk result (IsSome self.new.answer) }
-        ensures looks { OnOk result (workers ≡ 1 → steps.new ≤ steps.old
+        ensures looks { OnOk result (means.now.workers ≡ 1 → steps.new ≤ steps.old
             + bounds (lens_seen observation.now.growing.seen) self.old.settled
             (all_conjunctions (disjuncts_of observation.now.growing.disjuncts)) self.new.settled) }
     {
         what_goes_on_goes_on_later();
-        let answered = self
-            .answering
-            .answer(rt, alloc, observation, workers, gate, steps);
+        let answered = self.answering.answer(means, observation, steps);
         self.seen = Snapshot::of(observation.seen());
         self.disjuncts = Snapshot::of(observation.disjuncts());
         match answered {

@@ -19,10 +19,10 @@ ghost use Rattle.watch.specs.Saying.{said_by};
 ghost use Rattle.observation.specs.Growing.{opened_observed, opened_growing};
 ghost use Rattle.observation.specs.Fed.{Feeds, AreFedFrom, AnswersAs};
 ghost use Rattle.observation.specs.Taken.{TakesWhole, RefusesBatch};
-ghost use Rattle.answering.specs.Going.{AreWorkers};
-ghost use Rattle.session.specs.Standing.{HasAnswer};
+ghost use Rattle.session.specs.Standing.{AreWorkers, HasAnswer};
 
 use crate::answered::Answered;
+use answering::Means;
 use conjunctions::Answer;
 use event_log::{Event, Header, LogFault};
 use observation::Observation;
@@ -129,9 +129,13 @@ impl Session {
                 return Err(Refused::NoMemory);
             }
         }
-        let renewed = self
-            .answered
-            .renew(rt, self.alloc, &self.observation, workers, gate, steps);
+        let means = Means {
+            rt,
+            alloc: self.alloc,
+            workers,
+            gate,
+        };
+        let renewed = self.answered.renew(&means, &self.observation, steps);
         if let Err(NoMemory) = renewed {
             self.spent = true;
             return Err(Refused::NoMemory);

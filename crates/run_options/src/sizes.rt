@@ -1,9 +1,9 @@
-/// How a log was made.
+/// The log that a bench makes.
 #[derive(Clone, Copy, Debug, PartialEq, Eq)]
 pub struct Sizes {
     pub seed: u64,
-    /// How many processes the log has.
+    /// 1 to 32 processes.
     pub procs: u32,
-    /// How many events the log has.
+    /// At most 50,000 events.
     pub events: u32,
 }

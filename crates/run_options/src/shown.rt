@@ -1,6 +1,6 @@
 /// What a report shows beside the verdict.
 #[derive(Clone, Copy, Debug, PartialEq, Eq)]
-pub struct Wanted {
+pub struct Shown {
     /// The slice of the formula.
     pub slice: bool,
     /// The witnesses of the verdict.
