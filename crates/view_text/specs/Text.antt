@@ -87,15 +87,10 @@ lined s e = place_text s.header.procs e ++ codes " (" ++ line_text s e ++ codes 
 
 -- ---- values at a cut
 
--- the event that set a value, or that none did
-abbrev pub since : StatesView → ℕ → Option ℕ → List ℕ
-since s process None = codes "the start"
-since s process (Some position) = lined s (place process position)
-
--- the event that sets a variable next, or that none does
-abbrev pub until : StatesView → ℕ → Option ℕ → List ℕ
-until s process None = codes "the end"
-until s process (Some position) = lined s (place process position)
+-- the event that sets a value, or what is said where none does
+abbrev pub set_by : StatesView → ℕ → List ℕ → Option ℕ → List ℕ
+set_by s process otherwise None = otherwise
+set_by s process otherwise (Some position) = lined s (place process position)
 
 -- `PROCESS.VARIABLE = `
 abbrev pub owned : StatesView → ℕ → ℕ → List ℕ
@@ -112,9 +107,11 @@ abbrev pub value_row : StatesView → ℕ → ℕ → ℕ → List ℕ
 value_row s process variable events =
     codes "       there  " ++ owned s process variable ++ value_text s process variable events
     ++ codes ", since "
-    ++ since s process (last_setting (get_or s.events process []) variable events)
+    ++ set_by s process (codes "the start")
+    (last_setting (get_or s.events process []) variable events)
     ++ codes ", until "
-    ++ until s process (next_setting (get_or s.events process []) variable events) ++ 10 ∷ []
+    ++ set_by s process (codes "the end")
+    (next_setting (get_or s.events process []) variable events) ++ 10 ∷ []
 
 -- nothing is told of a variable that the formula doesn't name
 abbrev pub named_row : StatesView → List Token → ℕ → ℕ → ℕ → List ℕ

@@ -4,7 +4,7 @@ ghost use Rattle.std.specs.Prelude.{IfSome};
 ghost use Rattle.pota_base.specs.Shape.{HasEvent};
 ghost use Rattle.report_lines.specs.Spelling.{CutFits};
 ghost use Rattle.view_parts.specs.Parts.{place};
-ghost use Rattle.view_text.specs.Text.{since, until, owned, value_text, value_row, named_row};
+ghost use Rattle.view_text.specs.Text.{set_by, owned, value_text, value_row, named_row};
 ghost use Rattle.view_text.specs.Text.{process_rows, value_rows};
 
 use crate::events::put_lined;
@@ -19,36 +19,21 @@ use view_parts::{name_at, variable_name, variables_at};
 /// The most variables of a process.
 const MOST_VARIABLES: usize = 16;
 
-// Appends the event that set a value, or that none did.
-fn put_since(
+// Appends the event that sets a value, or what is said where none does.
+fn put_set_by(
     out: &mut Bytes,
     states: &States,
     process: u32,
+    otherwise: &[u8],
     setting: Option<u32>,
 ) -> Result<(), NoMemory>
     requires { IfSome setting (λ position.
         HasEvent (map length states.now.events) (place process position)) }
-    ensures { OnOk result (out.new ≡ out.old ++ since states.now process setting) }
+    ensures { OnOk result (out.new
+        ≡ out.old ++ set_by states.now process otherwise.now setting) }
 {
     match setting {
-        None => out.extend_from_slice(b"the start"),
-        Some(position) => put_lined(out, states, EventId { process, position }),
-    }
-}
-
-// Appends the event that sets a variable next, or that none does.
-fn put_until(
-    out: &mut Bytes,
-    states: &States,
-    process: u32,
-    setting: Option<u32>,
-) -> Result<(), NoMemory>
-    requires { IfSome setting (λ position.
-        HasEvent (map length states.now.events) (place process position)) }
-    ensures { OnOk result (out.new ≡ out.old ++ until states.now process setting) }
-{
-    match setting {
-        None => out.extend_from_slice(b"the end"),
+        None => out.extend_from_slice(otherwise),
         Some(position) => put_lined(out, states, EventId { process, position }),
     }
 }
@@ -98,14 +83,10 @@ fn put_value_row(
     put_value(out, states, process, variable, events)?;
     out.extend_from_slice(b", since ")?;
     let setting = last_setting(states, process, variable, events);
-    put_since(out, states, process, setting)?;
+    put_set_by(out, states, process, b"the start", setting)?;
     out.extend_from_slice(b", until ")?;
-    put_until(
-        out,
-        states,
-        process,
-        next_setting(states, process, variable, events),
-    )?;
+    let next = next_setting(states, process, variable, events);
+    put_set_by(out, states, process, b"the end", next)?;
     out.push(b'\n')
 }
 
