@@ -39,7 +39,14 @@ shown_above kept (suc limit) zero = zero
 shown_above kept (suc limit) (suc n) =
     if kept (suc n) then shown_above kept limit n else shown_above kept (suc limit) n
 
--- that position of each process, on the way to the goal of a path
+-- how many events behind this position, up to event n, are kept
+unfoldable pub kept_behind : (ℕ → Bool) → ℕ → ℕ → ℕ
+kept_behind kept position zero = zero
+kept_behind kept position (suc n) =
+    if nat_lt position (suc n) && kept (suc n) then suc (kept_behind kept position n)
+    else kept_behind kept position n
+
+-- the position above which each process's steps on the way to the goal are shown
 abbrev pub bounds_of : StatesView → List Token → Extent → Path → List ℕ
 bounds_of s tokens e path =
     each_below (length s.events)
