@@ -1,6 +1,6 @@
 #!/usr/bin/env bash
 # Prints what the pages show of a program, `pota` or the one that is named, as cases of the language that the crate `row_cases`
-# has, and of `pota_log` as rows of crates/log_rows. They stand in the rows of that crate, crates/call_rows and
+# has, and of `pota_log` and `pota_ask` as rows of crates/log_rows. They stand in the rows of that crate, crates/call_rows and
 # crates/reader_rows, whose programs run them: .ci/page_rows puts them there, and compares.
 #
 # Taken from a page are:
@@ -11,6 +11,8 @@
 #   `$ cat LOG CERTIFICATE | pota_verify FORMULA`
 # - of `pota_log`, a line `$ pota_log WORD .. < FILE` or `$ cat FILE .. | pota_log WORD ..` with the lines behind it. Those that
 #   begin with `pota_log: ` come on standard error
+# - of `pota_ask` likewise, and its lines that begin with `pota_ask: ` come on standard error. Behind a line `$ mapfile -t questions <
+#   FILE` the word `"${questions[@]}"` is the lines of that file
 # - where `> FILE` ends the line of any of these, the file is what the program prints
 # - a row of a table whose second cell is `formula byte ..`: the formula in the first cell gives this fault
 # - a row whose second cell is `log line N: ..`: the log gives this fault where line N, or the last where there is no such
@@ -145,7 +147,7 @@ function split_words(text,    count, at) {
 function begin_command(text,    at) {
     end_command()
     log_file = log_lines = shown_file = option = out_file = ""
-    if (match(text, / > [^ ]+$/)) {
+    if (match(text, / > [^ \047]+$/)) {
         out_file = substr(text, RSTART + 3)
         text = substr(text, 1, RSTART - 1)
     }
@@ -153,7 +155,11 @@ function begin_command(text,    at) {
         begin_sister(substr(text, 1, RLENGTH - 1), substr(text, RLENGTH + 1))
         return
     }
-    if (text ~ /^(cat .* \| )?pota_log( |$)/) {
+    if (text ~ /^mapfile -t questions < [^ ]+$/) {
+        questions_file = substr(text, 24)
+        return
+    }
+    if (match(text, /^(cat .* \| )?pota_(log|ask)( |$)/)) {
         begin_logged(text)
         return
     }
@@ -209,21 +215,24 @@ function begin_sister(text, words_text,    part, at) {
     run_command()
 }
 
-# A row of what `pota_log` makes of its words and of a log, or of logs one behind the other.
+# A row of what `pota_log` or `pota_ask` makes of its words and of a log, or of logs one behind the other.
 function begin_logged(text,    at, count, bytes) {
-    if (program != "pota_log")
-        return
     if (match(text, /^cat .* \| /)) {
         log_file = substr(text, 5, RLENGTH - 7)
         text = substr(text, RLENGTH + 1)
-    } else if (match(text, / < [^ ]+$/)) {
+    }
+    if (substr(text, 1, 8) != program)
+        return
+    if (log_file == "" && match(text, / < [^ ]+$/)) {
         log_file = substr(text, RSTART + 3)
         text = substr(text, 1, RSTART - 1)
     }
     printf "row pages: %s %d\n", FILENAME, ++numbers[FILENAME]
+    if (program == "pota_ask")
+        print "program pota_ask"
     word_count = split_words(substr(text, 10))
     for (at = 1; at <= word_count; at++)
-        print "word " words[at]
+        put_word(words[at])
     count = log_file == "" ? 0 : read_log(log_file)
     put_lines("in", count, 0, "")
     if (count && open_end) {
@@ -232,6 +241,17 @@ function begin_logged(text,    at, count, bytes) {
         print "cut " bytes - 1 " " bytes
     }
     run_command()
+}
+
+# A word of a command, or the lines of the file of questions.
+function put_word(text,    count, i) {
+    if (text != "\"${questions[@]}\"") {
+        print "word " text
+        return
+    }
+    count = read_log(questions_file)
+    for (i = 1; i <= count; i++)
+        print "word " lines[i]
 }
 
 # What the command prints stands behind it, or in a file.
@@ -255,10 +275,10 @@ function add_output(line) {
             complain("this is not line " seen " of " shown_file)
     } else if (running && line ~ /^pota: /)
         diag = line
-    else if (running && line ~ /^pota_log: /)
+    else if (running && line ~ /^pota_(log|ask): /)
         diag = diag "diag " line "\n"
     else if (running) {
-        report = report (program == "pota_log" ? "out " : "report ") line "\n"
+        report = report (of_rows ? "out " : "report ") line "\n"
         if (line ~ /^verdict /)
             verdict = substr(line, 9)
         if (line ~ /^batch /)
@@ -277,9 +297,9 @@ function end_command() {
     if (!running)
         return
     running = 0
-    if (program == "pota_log") {
+    if (of_rows) {
         printf "%s%s", report, diag
-        print "status " (diag ~ /^diag pota_log: (usage|--keep)/ ? 2 : diag ~ /^diag pota_log: log / ? 4 : 0)
+        print "status " status_of_row()
         print "end"
         return
     }
@@ -310,6 +330,17 @@ function end_command() {
     if (diag != "")
         print "diag " diag
     print "end\n"
+}
+
+# The status of a row of `pota_log` or `pota_ask`, by what is told and written.
+function status_of_row() {
+    if (diag ~ /^diag pota_(log|ask): (usage|--keep)/)
+        return 2
+    if (diag ~ /^diag pota_ask: question /)
+        return 3
+    if (diag ~ /^diag pota_(log|ask): log /)
+        return 4
+    return program == "pota_ask" && report ~ /\nout not ok / ? 1 : 0
 }
 
 function put_formula_fault(formula, fault) {
@@ -437,7 +468,8 @@ function take_row(row,    cells, second, third) {
 }
 
 BEGIN {
-    if (program != "pota_log")
+    of_rows = program ~ /^pota_(log|ask)$/
+    if (!of_rows)
         print "# What the pages show, printed by docs/cases.sh from them.\n"
 }
 FNR == 1 {

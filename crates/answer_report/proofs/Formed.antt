@@ -21,7 +21,7 @@ use Rattle.conjunctions.specs.declared.answer.PartAnswer.{PartAnswer}
 use Rattle.conjunctions.specs.declared.answer.Answer.{Answer}
 use Rattle.part_pulls.specs.Observing.{clocks_seen}
 use Rattle.conjunctions.specs.Answering.{IsAnswer, places_from, all_places, ArePartAnswers}
-use Rattle.answer_report.specs.declared.wanted.Wanted.{Wanted}
+use Rattle.run_options.specs.declared.shown.Shown.{Shown}
 use Rattle.answer_report.specs.inside.Choosing.{of_disjunct, first_true, first_false, chosen}
 use Rattle.answer_report.specs.inside.Showing.{IsNumbered, TellAll}
 use Rattle.answer_report.proofs.Parts.{part_answers}
@@ -80,10 +80,10 @@ told_fit o (p ∷ parts) (w ∷ ws) h told = (told.0.fits h.0, told_fit o parts 
 -- ---- the report
 
 pub formed : (seen : Observed) → IsTrace seen.trace.states → IsShape (lengths (clocks_seen seen)) → (ds : List (List Piece)) (answer : Answer) → IsAnswer seen ds answer
-    → seen.trace.batches < 2 ^ 32 → 1 ≤ seen.trace.batches → (wanted : Wanted) (text : List ℕ) (report : Report) → IsMadeOf seen answer wanted text report
+    → seen.trace.batches < 2 ^ 32 → 1 ≤ seen.trace.batches → (shown : Shown) (text : List ℕ) (report : Report) → IsMadeOf seen answer shown text report
     → report.procs ≡ seen.trace.states.header.procs → AllByRecursion (λ n. is_name n ≡ true) seen.trace.states.header.procs → IfSome report.slice (SliceFits (lengths (clocks_seen seen)))
     → IsCanonical text → IsWellFormed report
-formed seen trace shape ds answer is small some wanted text report made names spelled slice canonical = record {
+formed seen trace shape ds answer is small some shown text report made names spelled slice canonical = record {
   batch = record { some = omega (arith, made.number, some); small = omega (arith, made.number, small) };
   run = record {
     procs = record {
@@ -99,7 +99,7 @@ formed seen trace shape ds answer is small some wanted text report made names sp
   };
   formula = subst IsCanonical (sym made.formula) canonical;
   slice = subst (λ lens. IfSome report.slice (SliceFits lens)) (sym made.lengths_are) slice;
-  witnesses = subst (λ lens. AllByRecursion (WitnessTextFits lens) report.witnesses) (sym made.lengths_are) (elim (cases_Bool wanted.witness) [
+  witnesses = subst (λ lens. AllByRecursion (WitnessTextFits lens) report.witnesses) (sym made.lengths_are) (elim (cases_Bool shown.witness) [
     | inl on ↦ told_fit (clocks_seen seen) (chosen answer.truth answer.parts) report.witnesses (all_chosen IsNumbered answer.truth answer.parts (numbered seen 1 (omega arith) ds answer.parts is.parts)) (made.witnesses on)
     | inr off ↦ subst (AllByRecursion (WitnessTextFits (lengths (clocks_seen seen)))) (sym (made.unwanted off)) tt
   ]);

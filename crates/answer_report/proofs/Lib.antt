@@ -7,3 +7,4 @@ pub mod Spelled
 pub mod Loops
 pub mod Said
 pub mod Formed
+pub mod Telling

@@ -17,7 +17,7 @@ use Rattle.run_report.specs.Witnesses.{AreWitnesses}
 use Rattle.part_pulls.specs.declared.observed.Observed.{Observed}
 use Rattle.conjunctions.specs.declared.answer.Answer.{Answer}
 use Rattle.part_pulls.specs.Observing.{Reading, clocks_seen, run_seen, trace_seen}
-use Rattle.answer_report.specs.declared.wanted.Wanted.{Wanted}
+use Rattle.run_options.specs.declared.shown.Shown.{Shown}
 use Rattle.answer_report.specs.Asking.{IsAskedOf}
 use Rattle.answer_report.specs.inside.Choosing.{chosen}
 use Rattle.answer_report.specs.inside.Showing.{IsSliceTold, TellAll}
@@ -27,24 +27,24 @@ use Rattle.answer_report.proofs.Texts.{texts_of_true, texts_of_false}
 use Rattle.answer_report.proofs.Slices.{same_truth, slice_shown}
 
 -- what a report was made of
-pub record IsMadeOf (seen : Observed) (answer : Answer) (wanted : Wanted) (text : List ℕ) (report : Report) : Type 0 where
+pub record IsMadeOf (seen : Observed) (answer : Answer) (shown : Shown) (text : List ℕ) (report : Report) : Type 0 where
   pub number : report.batch ≡ seen.trace.batches
   pub lengths_are : report.lengths ≡ lengths (clocks_seen seen)
   pub formula : report.formula ≡ text
   pub verdict : report.verdict ≡ answer.truth
-  pub slice : IsSliceTold wanted.slice (clocks_seen seen) answer.slice report.slice
-  pub witnesses : wanted.witness ≡ true → TellAll (clocks_seen seen) (chosen answer.truth answer.parts) report.witnesses
-  pub unwanted : wanted.witness ≡ false → report.witnesses ≡ []
+  pub slice : IsSliceTold shown.slice (clocks_seen seen) answer.slice report.slice
+  pub witnesses : shown.witness ≡ true → TellAll (clocks_seen seen) (chosen answer.truth answer.parts) report.witnesses
+  pub unwanted : shown.witness ≡ false → report.witnesses ≡ []
 
-pub says : (seen : Observed) → IsTrace seen.trace.states → AllByRecursion (λ n. is_name n ≡ true) seen.trace.states.header.procs → (answer : Answer) (wanted : Wanted) (text : List ℕ) (report : Report) → IsMadeOf seen answer wanted text report
-    → (reading : Reading) (q : Asked) → IsAskedOf seen answer wanted text reading q → IsReportOn q seen.trace.batches (trace_seen seen) reading.watches report
-says seen trace spelled answer wanted text report made reading q asked = record {
+pub says : (seen : Observed) → IsTrace seen.trace.states → AllByRecursion (λ n. is_name n ≡ true) seen.trace.states.header.procs → (answer : Answer) (shown : Shown) (text : List ℕ) (report : Report) → IsMadeOf seen answer shown text report
+    → (reading : Reading) (q : Asked) → IsAskedOf seen answer shown text reading q → IsReportOn q seen.trace.batches (trace_seen seen) reading.watches report
+says seen trace spelled answer shown text report made reading q asked = record {
   number = made.number;
   lengths_are = made.lengths_are;
   formula = made.formula ∙ sym asked.text_is;
   verdict = (λ h. truth.0 (sym made.verdict ∙ h), λ h. made.verdict ∙ truth.1 h);
   slice = subst (λ (b : Bool). IsSliceShown b r q.formula report.slice) (sym asked.slice)
-      (slice_shown seen reading run asked.watches asked.pieces answer asked.answered q.formula asked.meaning asked.kept wanted.slice report.slice made.slice);
+      (slice_shown seen reading run asked.watches asked.pieces answer asked.answered q.formula asked.meaning asked.kept shown.slice report.slice made.slice);
   witnesses = λ on. subst (λ (b : Bool). AreWitnesses r q.formula b report.witnesses) (sym made.verdict) (by answer.truth refl (made.witnesses (sym asked.witness ∙ on)));
   unasked = λ off. made.unwanted (sym asked.witness ∙ off);
 }

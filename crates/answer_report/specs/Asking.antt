@@ -9,16 +9,16 @@ use Rattle.conjunctions.specs.declared.answer.Answer.{Answer}
 use Rattle.part_pulls.specs.Observing.{Reading, AreAnswers, names_seen, run_seen}
 use Rattle.conjunctions.specs.Answering.{IsAnswer}
 use Rattle.run_report.specs.Reports.{Asked}
-use Rattle.answer_report.specs.declared.wanted.Wanted.{Wanted}
+use Rattle.run_options.specs.declared.shown.Shown.{Shown}
 
--- the question is for this text and for what is wanted, and the answer is that of parts which mean,
+-- the question is for this text and for what is shown, and the answer is that of parts which mean,
 -- one by one, what the parts of the formula do, under the names and the watches of the reading. No
 -- variable of the formula's differences falls in the run
-pub record IsAskedOf (seen : Observed) (answer : Answer) (wanted : Wanted) (text : List ℕ)
+pub record IsAskedOf (seen : Observed) (answer : Answer) (shown : Shown) (text : List ℕ)
     (reading : Reading) (q : Asked) : Type 0 where
   pub text_is : q.text ≡ text
-  pub slice : q.slice ≡ wanted.slice
-  pub witness : q.witness ≡ wanted.witness
+  pub slice : q.slice ≡ shown.slice
+  pub witness : q.witness ≡ shown.witness
   pub watches : AreAnswers seen reading
   pub pieces : List (List Piece)
   pub answered : IsAnswer seen pieces answer

@@ -1,3 +1,4 @@
 pub mod Asking
+pub mod Told
 pub mod inside
 pub mod PassedOn

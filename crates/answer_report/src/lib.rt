@@ -7,6 +7,8 @@
 //! set that is shown; witnesses stand there where they are wanted, and are the canonical ones. A
 //! report after a batch, with a canonical text, is well formed, so that it has a text (`formed`).
 //!
+//! `witnesses_of` gives the witnesses of an answer alone, by the parts that were answered.
+//!
 //! Nothing is said of the time or the memory that a call takes.
 #![tactic(auto)]
 
@@ -14,8 +16,8 @@ mod choice;
 mod copies;
 mod reporting;
 mod shown_slice;
-mod wanted;
+mod told;
 mod witnesses;
 
 pub use reporting::report_on;
-pub use wanted::Wanted;
+pub use told::witnesses_of;

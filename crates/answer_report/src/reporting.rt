@@ -10,12 +10,12 @@ ghost use Rattle.answer_report.specs.Asking.{IsAskedOf};
 
 use crate::copies::{copy_names, copy_text, cut_of};
 use crate::shown_slice::slice_told;
-use crate::wanted::Wanted;
 use crate::witnesses::witnesses_told;
 use conjunctions::Answer;
 use part_pulls::Observed;
 use pota_base::{Bytes, NoMemory};
 use report::Report;
+use run_options::Shown;
 use std::alloc::Global;
 
 /// The report on what was observed, by the answer of the formula that has this text. It can be
@@ -24,22 +24,22 @@ pub fn report_on(
     alloc: Global,
     seen: &Observed,
     answer: &Answer,
-    wanted: Wanted,
+    shown: Shown,
     text: &Bytes,
 ) -> Result<Report, NoMemory>
     requires ready { IsReady seen.now }
     requires answer { (pieces : List (List Piece)) × IsAnswer seen.now pieces answer.now }
     ensures names { IfOk result (λ report. report.procs ≡ seen.now.trace.states.header.procs) }
     ensures says { IfOk result (λ report. (reading : Reading) (q : Asked)
-        → IsAskedOf seen.now answer.now wanted text.now reading q
+        → IsAskedOf seen.now answer.now shown text.now reading q
         → IsReportOn q seen.now.trace.batches (trace_seen seen.now) reading.watches report) }
     ensures formed { IfOk result (λ report. IsCanonical text.now → 1 ≤ seen.now.trace.batches
         → IsWellFormed report) }
 {
     let order = seen.trace.order();
     let parts = answer.parts.as_slice();
-    let slice = slice_told(alloc, order, &answer.slice, wanted.slice)?;
-    let witnesses = witnesses_told(alloc, order, parts, answer.truth, wanted.witness)?;
+    let slice = slice_told(alloc, order, &answer.slice, shown.slice)?;
+    let witnesses = witnesses_told(alloc, order, parts, answer.truth, shown.witness)?;
     Ok(Report {
         batch: seen.trace.batches(),
         procs: copy_names(alloc, seen.trace.header().procs.as_slice())?,

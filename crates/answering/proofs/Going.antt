@@ -1,9 +1,8 @@
 -- What an answer leaves to the next one.
-use Rattle.std.proofs.Common.{◌≡◌, ℕ, zero, suc, List, [], ◌∷◌, length, Option, Some, None, slice_get, slice_index_or, refl, sym, ◌∙◌, ap, subst, arith}
+use Rattle.std.proofs.Common.{◌≡◌, ℕ, zero, suc, List, [], ◌∷◌, length, Some, None, slice_get, slice_index_or, refl, sym, ◌∙◌, ap, subst, arith}
 use Rattle.std.specs.Prelude.{IfSome}
 use Rattle.std.proofs.lemmas.Option.{none-some, same_Some, slice_get_past}
-use Rattle.pull_system.specs.Rows.{RowsView}
-use Rattle.pull_system.specs.System.{SystemView}
+use Rattle.slice_workers.specs.Views.{SettledView}
 use Rattle.slice_graph.specs.Growing.{IsEarlierSystem}
 use Rattle.trace_growth.specs.Growing.{IsTrace}
 use Rattle.rctl_parts.specs.declared.part.Part.{Part}
@@ -18,18 +17,18 @@ use Rattle.conjunctions.specs.Numbering.{all_conjunctions}
 use Rattle.conjunctions.specs.Settling.{IsSettled, AreSettled, AreFloors}
 use Rattle.observation.specs.Growing.{GrowingView}
 use Rattle.observation.proofs.Later.{later_on, later_itself}
-use Rattle.answering.specs.Going.{MayGoOn, GoesOn}
+use Rattle.answering.specs.Going.{GoesOn}
 use Rattle.answering.proofs.Earlier.{system_on, no_system}
 
 -- the law that rows may be begun from once more was observed
 abbrev pub KeptRows : Type 0
-KeptRows = (before after : Observed) (ds : List (List Piece)) (rows : List RowsView) → IsTrace before.trace.states → IsTrace after.trace.states → AreFull before → IsLater before after
+KeptRows = (before after : Observed) (ds : List (List Piece)) (rows : List SettledView) → IsTrace before.trace.states → IsTrace after.trace.states → AreFull before → IsLater before after
     → AllFit (scope_seen before) ds → CountersRise after ds → AreSettled before (all_conjunctions ds) rows → AreFloors after rows (all_conjunctions ds)
 
 -- nothing is kept
 pub goes_on_anew : (kept : Kept) (growing : GrowingView) → kept.settled ≡ [] → kept.system ≡ None → GoesOn kept growing
 goes_on_anew kept growing rows system = record {
-  rows = record { floors = λ later is more rise. subst (λ (rs : List RowsView). AreFloors later rs (all_conjunctions (disjuncts_of growing.disjuncts))) (sym rows) tt };
+  rows = record { floors = λ later is more rise. subst (λ (rs : List SettledView). AreFloors later rs (all_conjunctions (disjuncts_of growing.disjuncts))) (sym rows) tt };
   system = no_system (clocks_seen growing.seen) kept.system system;
 }
 
@@ -57,15 +56,15 @@ goes_on_later kept before after same later goes = record {
   system = system_on before.seen after.seen kept.system later goes.system;
 }
 
-pub settled_count : (seen : Observed) (cs : List (List Piece)) (rows : List RowsView) → AreSettled seen cs rows → length rows ≡ length cs
+pub settled_count : (seen : Observed) (cs : List (List Piece)) (rows : List SettledView) → AreSettled seen cs rows → length rows ≡ length cs
 settled_count seen [] [] h = refl
 settled_count seen [] (r ∷ rows) h = absurd h
 settled_count seen (c ∷ cs) [] h = absurd h
 settled_count seen (c ∷ cs) (r ∷ rows) h = ap suc (settled_count seen cs rows h.1)
 
-pub settled_at : (seen : Observed) (cs : List (List Piece)) (rows : List RowsView) (k : ℕ) (r : RowsView) → AreSettled seen cs rows → slice_get rows k ≡ Some r → IsSettled seen (slice_index_or cs k []) r
+pub settled_at : (seen : Observed) (cs : List (List Piece)) (rows : List SettledView) (k : ℕ) (r : SettledView) → AreSettled seen cs rows → slice_get rows k ≡ Some r → IsSettled seen (slice_index_or cs k []) r.rows
 settled_at seen [] [] k r h is = absurd (none-some r (sym (slice_get_past [] k (omega arith)) ∙ is))
 settled_at seen [] (x ∷ rows) k r h is = absurd h
 settled_at seen (c ∷ cs) [] k r h is = absurd h
-settled_at seen (c ∷ cs) (x ∷ rows) zero r h is = subst (IsSettled seen c) (same_Some x r is) h.0
+settled_at seen (c ∷ cs) (x ∷ rows) zero r h is = subst (λ (one : SettledView). IsSettled seen c one.rows) (same_Some x r is) h.0
 settled_at seen (c ∷ cs) (x ∷ rows) (suc k) r h is = settled_at seen cs rows k r h.1 is

@@ -1,5 +1,5 @@
 -- One answer for one trace.
-use Rattle.std.proofs.Common.{◌≡◌, ℕ, ◌+◌, ℤ, Bool, List, [], ◌∷◌, ◌++◌, length, take, get_or, Option, Some, None, refl, sym, ◌∙◌, ap, subst, arith, append-nil, append_assoc}
+use Rattle.std.proofs.Common.{◌≡◌, ℕ, ◌+◌, ℤ, Bool, List, [], ◌∷◌, ◌++◌, length, take, get_or, Option, Some, None, refl, sym, ◌∙◌, ap, subst, arith}
 use Rattle.std.proofs.lemmas.List.{ext_get_or}
 use Rattle.std.proofs.Math.Seq.{take-append_seam}
 use Rattle.run_model.specs.Run.{process_at, states_of}
@@ -12,7 +12,7 @@ use Rattle.slice_graph.specs.Views.{SliceView}
 use Rattle.part_pulls.specs.declared.observed.Observed.{Observed}
 use Rattle.conjunctions.specs.declared.answer.Answer.{Answer}
 use Rattle.conjunctions.specs.declared.answer.PartAnswer.{PartAnswer}
-use Rattle.part_pulls.specs.Observing.{clocks_seen, states_seen}
+use Rattle.part_pulls.specs.Observing.{states_seen}
 use Rattle.conjunctions.specs.Answering.{IsSliceOf, Place, IsOperand, IsPartAnswer, ArePartAnswers}
 use Rattle.conjunctions.specs.Answering.{IsAnswer, all_places}
 use Rattle.observation.specs.Fed.{watch_row}

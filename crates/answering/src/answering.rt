@@ -9,12 +9,12 @@ ghost use Rattle.part_pulls.specs.Counters.{CountersRise};
 ghost use Rattle.slice_graph.specs.Growing.{IsEarlierSystem};
 ghost use Rattle.conjunctions.specs.Numbering.{all_conjunctions};
 ghost use Rattle.conjunctions.specs.Counting.{bounds};
-ghost use Rattle.conjunctions.specs.Settling.{AreFloors, AreSettled, IsSettled};
+ghost use Rattle.conjunctions.specs.Settling.{AreFloors, AreSettled, AreSettledBySteps, IsSettled};
 ghost use Rattle.conjunctions.specs.Answering.{IsAnswer};
 ghost use Rattle.observation.specs.Growing.{GrowingView, HasTaken};
-ghost use Rattle.answering.specs.Going.{GoesOn, AreWorkers};
+ghost use Rattle.answering.specs.Going.{GoesOn};
 
-use conjunctions::{Answer, Kept, Round, answer_all, settled_rows_are_kept};
+use conjunctions::{Answer, Kept, Means, Round, answer_all, settled_rows_are_kept};
 use observation::Observation;
 use part_pulls::Observed;
 use pota_base::{Gate, List, NoMemory, Steps};
@@ -48,13 +48,10 @@ fn begin_round(alloc: Global, kept: &mut Kept) -> Round
 // before, and the new rows stand in their place. The system of the order's pulls is grown where
 // there is one. After want of memory nothing is kept.
 fn answer_seen<R: Threads + Sync, G: Gate, L: Ledger>(
-    rt: &R,
-    alloc: Global,
+    means: &Means<R, G>,
     seen: &Observed,
     disjuncts: &List<List<Part>>,
     kept: &mut Kept,
-    workers: u32,
-    gate: &G,
     steps: &mut Steps<L>,
 ) -> Result<Answer, NoMemory>
     requires ready { IsReady seen.now }
@@ -63,11 +60,12 @@ fn answer_seen<R: Threads + Sync, G: Gate, L: Ledger>(
     requires floors { AreFloors seen.now kept.old.settled
         (all_conjunctions (disjuncts_of disjuncts.now)) }
     requires system { IfSome kept.old.system (IsEarlierSystem (clocks_seen seen.now)) }
-    requires workers { AreWorkers workers }
     ensures answer { IfOk result (IsAnswer seen.now (disjuncts_of disjuncts.now)) }
     ensures settled { OnOk result (AreSettled seen.now
         (all_conjunctions (disjuncts_of disjuncts.now)) kept.new.settled) }
-    ensures looks { OnOk result (workers ≡ 1 → steps.new ≤ steps.old
+    ensures by_steps { OnOk result (AreSettledBySteps kept.old.settled
+        (all_conjunctions (disjuncts_of disjuncts.now)) kept.new.settled) }
+    ensures looks { OnOk result (means.now.workers ≡ 1 → steps.new ≤ steps.old
         + bounds (lens_seen seen.now) kept.old.settled
         (all_conjunctions (disjuncts_of disjuncts.now)) kept.new.settled) }
     ensures system { OnOk result
@@ -75,17 +73,8 @@ fn answer_seen<R: Threads + Sync, G: Gate, L: Ledger>(
     ensures no_rows { OnErr result (kept.new.settled ≡ []) }
     ensures no_system { OnErr result (kept.new.system ≡ None) }
 {
-    let mut round = begin_round(alloc, kept);
-    let answer = answer_all(
-        rt,
-        alloc,
-        seen,
-        disjuncts.as_slice(),
-        &mut round,
-        workers,
-        gate,
-        steps,
-    )?;
+    let mut round = begin_round(means.alloc, kept);
+    let answer = answer_all(means, seen, disjuncts.as_slice(), &mut round, steps)?;
     *kept = round.into_kept();
     Ok(answer)
 }
@@ -101,42 +90,34 @@ impl Answering {
         }
     }
 
-    /// Makes the answer on what was observed so far by 1 to 16 workers. It may wait for the threads
-    /// that it joins. Where memory is wanted it may be asked again, and begins anew.
+    /// Makes the answer on what was observed so far. It may wait for the threads that it joins.
+    /// Where memory is wanted it may be asked again, and begins anew.
     pub fn answer<R: Threads + Sync, G: Gate, L: Ledger>(
         &mut self,
-        rt: &R,
-        alloc: Global,
+        means: &Means<R, G>,
         observation: &Observation,
-        workers: u32,
-        gate: &G,
         steps: &mut Steps<L>,
     ) -> Result<Answer, NoMemory>
         requires taken { HasTaken observation.now.growing }
         requires goes_on { GoesOn self.old.kept observation.now.growing }
-        requires workers { AreWorkers workers }
         ensures answer { IfOk result (IsAnswer observation.now.growing.seen
             (disjuncts_of observation.now.growing.disjuncts)) }
         ensures settled { OnOk result (AreSettled observation.now.growing.seen
             (all_conjunctions (disjuncts_of observation.now.growing.disjuncts))
             self.new.kept.settled) }
-        ensures looks { OnOk result (workers ≡ 1 → steps.new ≤ steps.old
+        ensures by_steps { OnOk result (AreSettledBySteps self.old.kept.settled
+            (all_conjunctions (disjuncts_of observation.now.growing.disjuncts))
+            self.new.kept.settled) }
+        ensures looks { OnOk result (means.now.workers ≡ 1 → steps.new ≤ steps.old
             + bounds (lens_seen observation.now.growing.seen) self.old.kept.settled
             (all_conjunctions (disjuncts_of observation.now.growing.disjuncts))
             self.new.kept.settled) }
         ensures goes_on { GoesOn self.new.kept observation.now.growing }
     {
         settled_rows_are_kept();
-        answer_seen(
-            rt,
-            alloc,
-            observation.seen(),
-            observation.disjuncts(),
-            &mut self.kept,
-            workers,
-            gate,
-            steps,
-        )
+        let seen = observation.seen();
+        let disjuncts = observation.disjuncts();
+        answer_seen(means, seen, disjuncts, &mut self.kept, steps)
     }
 
     /// How many conjunctions `settled` numbers.
@@ -157,7 +138,7 @@ impl Answering {
         requires there { conjunction ≤ length self.now.kept.settled }
         ensures settled { (seen : Observed) (cs : ListOf (ListOf Piece))
             → AreSettled seen cs self.now.kept.settled
-            → IsSettled seen (slice_index_or cs (conjunction - 1) []) result.now }
+            → IsSettled seen (slice_index_or cs (conjunction - 1) []) result.now.rows }
         ensures kept { result.now
             ≡ slice_index_or self.now.kept.settled (conjunction - 1) result.now }
     {

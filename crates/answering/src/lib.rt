@@ -7,10 +7,10 @@
 //! look-up.
 //!
 //! `Answering::settled` has the rows of each of the `Answering::conjunctions` of the last answer.
-//! Each answer begins at the rows of the one before, and one worker takes at most the steps of
-//! their rise (`looks`). From the second answer on, the system of the order's pulls is kept too,
-//! and the next answer grows it. After want of memory nothing is kept, and the next answer begins
-//! anew.
+//! Each answer begins at the rows of the one before, those of atoms are settled by steps
+//! (`by_steps`), and one worker takes at most the steps of their rise (`looks`). From the second
+//! answer on, the system of the order's pulls is kept too, and the next answer grows it. After want
+//! of memory nothing is kept, and the next answer begins anew.
 //!
 //! Nothing is said of the time or the memory that a call takes, nor of the steps of several
 //! workers.
@@ -20,5 +20,5 @@ mod answering;
 mod laws;
 
 pub use answering::Answering;
-pub use conjunctions::Answer;
+pub use conjunctions::{Answer, Means};
 pub use laws::{a_fresh_start_answers_the_same, what_goes_on_goes_on_later};

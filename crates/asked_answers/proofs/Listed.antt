@@ -49,7 +49,7 @@ drop_map f zero xs = refl
 drop_map f (suc k) [] = refl
 drop_map f (suc k) (x ∷ xs) = drop_map f k xs
 
-range_map : {A B : Type 0} (f : A → B) (from to : ℕ) (xs : List A) → range_of from to (map f xs) ≡ map f (range_of from to xs)
+pub range_map : {A B : Type 0} (f : A → B) (from to : ℕ) (xs : List A) → range_of from to (map f xs) ≡ map f (range_of from to xs)
 range_map f from to xs = ap (take (to - from)) (drop_map f from xs) ∙ take_map f (to - from) (drop from xs)
 
 as_many : (header : Header) (watches : List Name) (all : List (List NamedPiece)) (resolved : Resolved) → IsResolved header watches all resolved → length (disjuncts_of resolved.disjuncts) ≡ length all
@@ -73,7 +73,7 @@ ranged header watches all resolved is range forms own has =
       items = refl;
     }
 
-asked : (header : Header) (watches : List Name) (all : List (List NamedPiece)) (resolved : Resolved) → IsResolved header watches all resolved
+pub asked : (header : Header) (watches : List Name) (all : List (List NamedPiece)) (resolved : Resolved) → IsResolved header watches all resolved
     → (range : AskedRange) (forms : List Form) (own : List (List NamedPiece)) → HasRange range forms all own → IsAskedIn (asked_each forms (disjuncts_of resolved.disjuncts)) range (own_of range resolved)
 asked header watches all resolved is range forms own has = asked_in range forms (disjuncts_of resolved.disjuncts) (own_of range resolved) (ranged header watches all resolved is range forms own has)
 
@@ -86,7 +86,7 @@ own_formulas header watches all resolved is range forms own has =
     sym (range_map (map (formula_of names)) range.from range.to (disjuncts_of resolved.disjuncts)) ∙ ap (range_of range.from range.to) is.spelled
     ∙ range_map (map part_formula) range.from range.to all ∙ ap disjunct_formulas has.items
 
-spelled : (text : List ℕ) (head : Head) (t : Tree) (q : Question) → IsQuestion text head t q
+pub spelled : (text : List ℕ) (head : Head) (t : Tree) (q : Question) → IsQuestion text head t q
     → (header : Header) (watches : List Name) (all : List (List NamedPiece)) (resolved : Resolved) → IsResolved header watches all resolved
     → (range : AskedRange) (forms : List Form) → HasRange range forms all (named.disjuncts_of q.classed.disjuncts)
     → (r : Run) → IsOrder r.clocks → SpellAt r (names_of header watches) (own_of range resolved) (asked_formula q.form (meaning t))
@@ -97,7 +97,7 @@ spelled text head t q question header watches all resolved is range forms has r 
     subst (λ fs. MeanAt r fs (asked_formula q.form (meaning t))) (sym (own_formulas header watches all resolved is range forms (named.disjuncts_of q.classed.disjuncts) has)) (question_means text head t q question r order) in
     λ c k. (λ h. (mean c k).0 (spelled_disjuncts r names own c h), λ h. disjuncts_spelled r names own c ((mean c k).1 h))
 
-one : (text : List ℕ) (head : Head) (t : Tree) (q : Question) → IsQuestion text head t q
+pub one : (text : List ℕ) (head : Head) (t : Tree) (q : Question) → IsQuestion text head t q
     → (header : Header) (watches : List Name) (all : List (List NamedPiece)) (resolved : Resolved) → IsResolved header watches all resolved
     → (range : AskedRange) (forms : List Form) → HasRange range forms all (named.disjuncts_of q.classed.disjuncts)
     → AreFor q.form (part_formulas (names_of header watches) (own_of range resolved))

@@ -1,4 +1,4 @@
 mod Counts
 pub mod Added
-mod Ranges
+pub mod Ranges
 pub mod Asked

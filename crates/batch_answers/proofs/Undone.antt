@@ -1,12 +1,12 @@
 -- What holds of each answer: a formula that is stated is asked, and a run that did nothing is one.
 use Rattle.std.proofs.Common.{◌≡◌, ℕ, List, [], Option, Err, refl, sym, ap, subst, arith, inl}
-use Rattle.std.specs.Prelude.{Bool}
 use Rattle.std.proofs.KnownBytes.{Appends-nil, Consumes-nil}
 use Rattle.pota_base.specs.Outside.{IsPrefix}
 use Rattle.run_model.specs.Run.{Name, Watches}
 use Rattle.rctl_class.specs.Nodes.{node_of, formula_of}
 use Rattle.stated_formula.specs.declared.formula.Stated.{Stated}
 use Rattle.stated_formula.specs.Stating.{IsStated}
+use Rattle.run_options.specs.declared.shown.Shown.{Shown}
 use Rattle.log_answers.specs.PassedOn.{Asked}
 use Rattle.log_answers.specs.PassedOn.{asked_of, aim_of}
 use Rattle.log_answers.specs.declared.stop.StopCause.TheVariants as causes
@@ -18,10 +18,10 @@ use Rattle.run_promise.specs.Run.{Answer, Ran}
 
 -- ---- a formula that is stated is asked
 
-pub stated_asked : (s : Stated) (slice witness : Bool) (names : List Name) (watches : Watches) (text : List ℕ) → IsStated text s
-    → asked_of (aim_of s slice witness names watches) ≡ asked s.formula.tree slice witness
-stated_asked s slice witness names watches text is =
-    ap (λ (t : List ℕ). let q : Asked = record { formula = formula_of (node_of s.formula.tree); text = t; slice = slice; witness = witness } in q) is.printed
+pub stated_asked : (s : Stated) (shown : Shown) (names : List Name) (watches : Watches) (text : List ℕ) → IsStated text s
+    → asked_of (aim_of s shown names watches) ≡ asked s.formula.tree shown.slice shown.witness
+stated_asked s shown names watches text is =
+    ap (λ (t : List ℕ). let q : Asked = record { formula = formula_of (node_of s.formula.tree); text = t; slice = shown.slice; witness = shown.witness } in q) is.printed
 
 -- ---- nothing was done
 

@@ -5,7 +5,7 @@ use Rattle.std.proofs.lemmas.List.{length-replicate}
 use Rattle.std.proofs.lemmas.Option.{none-some}
 use Rattle.log_lines.specs.Reading.{choose}
 use Rattle.rctl_grammar.specs.declared.fault.FormulaFault.{FormulaFault}
-use Rattle.command_words.specs.declared.request.Sizes.{Sizes}
+use Rattle.run_options.specs.declared.sizes.Sizes.{Sizes}
 use Rattle.event_log.specs.declared.log.Event.{Event}
 use Rattle.event_log.specs.declared.item.LogFault.{LogFault}
 use Rattle.event_log.specs.declared.log.Header.{Header}
@@ -44,7 +44,7 @@ use Rattle.log_answers.specs.declared.stop.StopCause.{StopCause}
 use Rattle.log_answers.specs.declared.stop.StopCause.TheVariants as causes
 use Rattle.log_answers.specs.declared.stop.Stop.{Stop}
 use Rattle.log_answers.specs.declared.stop.Verdict.{Verdict}
-use Rattle.run_promise.specs.Run.{made_by, sizes_of}
+use Rattle.run_promise.specs.Run.{made_by}
 use Rattle.log_answers.specs.Checking.{SummaryStops, SumsUpTo, SumsUp}
 use Rattle.bench_answers.specs.Benching.{CanBeMade}
 use Rattle.bench_answers.specs.inside.Benching.{BenchStops, BenchesTo, HasMade}
@@ -160,7 +160,7 @@ module _ {X : Type 0} {P : X → Type 0} (says : Says X P) (aim : Aim) (sizes : 
     count_is : check.log.intake.batches ≡ 1
     count_is = taken.log.intake.batches ∙ (made_whole rises (has_names check taken)).count
 
-    sum_stops : (f : StopCause) (n : ℕ) (text : List ℕ) → SummaryStops f n of of' aim check.log.intake.batches (all_of (made_by sizes)) (sizes_of sizes) text
+    sum_stops : (f : StopCause) (n : ℕ) (text : List ℕ) → SummaryStops f n of of' aim check.log.intake.batches (all_of (made_by sizes)) sizes text
         → BenchStops f n of of' aim sizes text
     sum_stops causes.Write n text h = (
       record {
@@ -176,7 +176,7 @@ module _ {X : Type 0} {P : X → Type 0} (says : Says X P) (aim : Aim) (sizes : 
     sum_stops (causes.Refused r) n text h = absurd h
     sum_stops causes.Read n text h = absurd h
 
-    sum_to : (result : Result Verdict Stop) (text : List ℕ) → SumsUpTo of of' aim check.log.intake.batches (all_of (made_by sizes)) (sizes_of sizes) text result
+    sum_to : (result : Result Verdict Stop) (text : List ℕ) → SumsUpTo of of' aim check.log.intake.batches (all_of (made_by sizes)) sizes text result
         → BenchesTo of of' aim sizes text result
     sum_to (Ok v) text h = record {
       named = has_names check taken;
@@ -186,7 +186,7 @@ module _ {X : Type 0} {P : X → Type 0} (says : Says X P) (aim : Aim) (sizes : 
     }
     sum_to (Err stop) text h = sum_stops stop.cause stop.batches text h
 
-    pub summed : (result : Result Verdict Stop) → SumsUp held held' of of' aim check.log.intake.batches (all_of (made_by sizes)) (sizes_of sizes) result
+    pub summed : (result : Result Verdict Stop) → SumsUp held held' of of' aim check.log.intake.batches (all_of (made_by sizes)) sizes result
         → HasMade held held' of of' aim sizes result
     summed result s = record { written = s.written; wrote = s.wrote; later = s.later; to = sum_to result s.written s.to }
 

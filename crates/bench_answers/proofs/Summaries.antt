@@ -5,7 +5,7 @@ use Rattle.std.proofs.KnownBytes.{Consumes-nil}
 use Rattle.pota_base.specs.Outside.{IsPrefix}
 use Rattle.pota_base.specs.declared.status.Status.TheVariants as status
 use Rattle.command_words.specs.declared.request.Task.TheVariants as task
-use Rattle.command_words.specs.declared.request.Sizes.{Sizes}
+use Rattle.run_options.specs.declared.sizes.Sizes.{Sizes}
 use Rattle.stated_formula.specs.declared.formula.Stated.{Stated}
 use Rattle.run_request.specs.Questions.{AsksFor}
 use Rattle.stated_formula.specs.Stating.{IsStated}
@@ -26,21 +26,21 @@ use Rattle.bench_answers.specs.inside.Benching.{IsSummary, missing_name, IsBench
 use Rattle.bench_answers.specs.inside.Benching.{BenchesTo, HasMade}
 use Rattle.run_promise.proofs.Clauses.{not_both}
 use Rattle.run_promise.specs.Certificates.{IsTrueAtStart}
-use Rattle.run_promise.specs.Run.{IsBenched, HasBenched, sizes_of, made_by, Answer, Ran}
+use Rattle.run_promise.specs.Run.{IsBenched, HasBenched, made_by, Answer, Ran}
 use Rattle.batch_answers.proofs.Undone.{stated_asked, nothing_front}
 
 module _ {X : Type 0} {P : X → Type 0} (says : Says X P) (s : Stated) (sizes : Sizes) (handed : List (Handed X P)) (words : List (List ℕ)) (formula : List ℕ) (is : IsStated formula s) (asks : AsksFor words (task.Bench sizes) s.formula.tree) where
   abbrev bench_aim : Aim
-  bench_aim = aim_of s true false (names_of handed) (watches_of says handed)
+  bench_aim = aim_of s (record { slice = true; witness = false }) (names_of handed) (watches_of says handed)
 
   abbrev bench_on : Handing
   bench_on = handing_of says handed
 
   summary_asked : (text : List ℕ) → IsSummary bench_aim sizes text
-      → IsSummaryOf (sizes_of sizes) (asked s.formula.tree true false) (made_by sizes).header (made_by sizes).batches (watches_of says handed) text
+      → IsSummaryOf sizes (asked s.formula.tree true false) (made_by sizes).header (made_by sizes).batches (watches_of says handed) text
   summary_asked text h =
-      subst (λ (q : Asked). IsSummaryOf (sizes_of sizes) q (made_by sizes).header (made_by sizes).batches (watches_of says handed) text)
-      (stated_asked s true false (names_of handed) (watches_of says handed) formula is) h
+      subst (λ (q : Asked). IsSummaryOf sizes q (made_by sizes).header (made_by sizes).batches (watches_of says handed) text)
+      (stated_asked s (record { slice = true; witness = false }) (names_of handed) (watches_of says handed) formula is) h
 
   abbrev benched_as : (text : List ℕ) (b : Bool) → missing_name bench_aim sizes ≡ None → IsSummary bench_aim sizes text
       → ((b ≡ true) ↔ IsTrueAtStart (watches_of says handed) s.formula.tree (all_of (made_by sizes))) → IsBenched bench_on words text b

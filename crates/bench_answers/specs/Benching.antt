@@ -1,6 +1,6 @@
 -- A bench: what its log and its summary lead to.
 use Rattle.std.specs.Prelude.{◌≤◌}
-use Rattle.command_words.specs.declared.request.Sizes.{Sizes}
+use Rattle.run_options.specs.declared.sizes.Sizes.{Sizes}
 use Rattle.fault_kinds.specs.declared.refusal.Refusal.TheVariants as refusal
 use Rattle.log_answers.specs.declared.stop.StopCause.TheVariants as causes
 

@@ -1,40 +1,28 @@
 //! The answer to a bench.
-ghost use Rattle.std.specs.Prelude.{◌≡◌, ◌≤◌, ◌<◌, ℕ, List as ListOf, Option};
+ghost use Rattle.std.specs.Prelude.{◌≡◌, ◌<◌, ℕ, List as ListOf, Option};
 ghost use Rattle.log_rules.specs.Judgement.{waiting};
 ghost use Rattle.command_words.specs.declared.request.Task.TheVariants.{Bench};
 ghost use Rattle.run_request.specs.Questions.{AsksFor};
 ghost use Rattle.stated_formula.specs.Stating.{IsStated};
 ghost use Rattle.batch_answers.specs.PassedOn.{Aim, AreWatches, said_by};
 ghost use Rattle.batch_answers.specs.PassedOn.{IsCheckOf};
-ghost use Rattle.bench_summary.specs.Views.{sizes_of as summed_sizes};
 ghost use Rattle.log_answers.specs.Checking.{IsBenchAim};
 ghost use Rattle.run_promise.specs.Asking.{handing_of};
-ghost use Rattle.run_promise.specs.Run.{Ran, sizes_of};
+ghost use Rattle.run_promise.specs.Run.{Ran};
 ghost use Rattle.batch_answers.specs.Outcome.{outcome_of};
 ghost use Rattle.bench_answers.specs.Benching.{CanBeMade};
 ghost use Rattle.bench_answers.specs.inside.Benching.{HasMade};
 
 use batch_answers::ReportedLog;
-use command_words::Sizes;
 use log_answers::{Checking, Means, Stop, Verdict};
 use pota_base::{Gate, Sink, Steps};
+use run_options::{Shown, Sizes};
 use stated_formula::Stated;
 use std::marker::Brand;
 use std::sync::ledger::{Blank, Ledger};
 use std::thread::Threads;
 use trace_gen::generate;
 use watch::{Handed, Watch};
-
-// The sizes as a summary has them.
-fn summary_sizes(sizes: Sizes) -> bench_summary::Sizes
-    ensures { summed_sizes result ≡ sizes_of sizes }
-{
-    bench_summary::Sizes {
-        seed: sizes.seed,
-        procs: sizes.procs,
-        events: sizes.events,
-    }
-}
 
 // Takes the log that is made, and writes its summary.
 fn bench_all<R: Threads + Sync, G: Gate, L: Ledger, O: Sink>(
@@ -56,7 +44,7 @@ fn bench_all<R: Threads + Sync, G: Gate, L: Ledger, O: Sink>(
     if let Err(stop) = checking.take_whole(means.alloc, log) {
         return Err(stop);
     }
-    checking.sum_up(means, summary_sizes(sizes), out)
+    checking.sum_up(means, sizes, out)
 }
 
 // Checks the log that is made, and writes its summary.
@@ -65,14 +53,11 @@ fn bench_log<R: Threads + Sync, G: Gate, L: Ledger, O: Sink>(
     means: &Means<'_, R, G>,
     check: ReportedLog,
     sizes: Sizes,
-    workers: u32,
     out: &mut O,
 ) -> Result<Verdict, Stop>
     requires name { blank.name ≡ L.name }
     requires parts { blank.parts ≡ L.parts }
     requires one { 0 < blank.parts }
-    requires some { 1 ≤ workers }
-    requires few { workers ≤ 16 }
     requires sizes { CanBeMade sizes }
     requires check { (aim : Aim) × IsCheckOf (said_by answers) aim check waiting }
     ensures { (aim : Aim) → IsCheckOf (said_by answers) aim check waiting → IsBenchAim aim
@@ -82,7 +67,6 @@ fn bench_log<R: Threads + Sync, G: Gate, L: Ledger, O: Sink>(
     let mut checking = Checking {
         check,
         each_batch: false,
-        workers,
         steps: Steps::<L>::new(blank),
     };
     let verdict = bench_all(means, &mut checking, sizes, out);
@@ -95,12 +79,9 @@ pub fn answer_bench<R: Threads + Sync, G: Gate, O: Sink>(
     means: &Means<'_, R, G>,
     stated: Stated,
     sizes: Sizes,
-    workers: u32,
     watches: Vec<Handed>,
     out: &mut O,
 ) -> Result<Verdict, Stop>
-    requires some { 1 ≤ workers }
-    requires few { workers ≤ 16 }
     requires sizes { CanBeMade sizes }
     requires watches { AreWatches watches.items }
     requires stated { (text : ListOf ℕ) × IsStated text stated }
@@ -109,8 +90,12 @@ pub fn answer_bench<R: Threads + Sync, G: Gate, O: Sink>(
         → Ran left left (O.held out.old) (O.held out.new) lf lf (O.faults out.old)
         (O.faults out.new) (handing_of (said_by answers) watches.items) words (outcome_of result) }
 {
-    let Ok(check) = ReportedLog::new(means.alloc, stated, true, false, watches) else {
+    let shown = Shown {
+        slice: true,
+        witness: false,
+    };
+    let Ok(check) = ReportedLog::new(means.alloc, stated, shown, watches) else {
         return Err(Stop::without_memory());
     };
-    bench_log::<R, G, Brand, O>(Blank::new(1), means, check, sizes, workers, out)
+    bench_log::<R, G, Brand, O>(Blank::new(1), means, check, sizes, out)
 }

@@ -7,7 +7,8 @@ use Rattle.event_log.specs.LogText.{text_of}
 use Rattle.event_log.proofs.Appends.{text_of-append}
 use Rattle.report_lines.specs.Spelling.{formula_line, verdict_line}
 use Rattle.report.specs.declared.report.Report.{Report}
-use Rattle.run_report.specs.Benches.{Sizes, number_line, slice_lines, summary_lines, summary_text}
+use Rattle.run_options.specs.declared.sizes.Sizes.{Sizes}
+use Rattle.run_report.specs.Benches.{number_line, slice_lines, summary_lines, summary_text}
 
 -- one line more behind others
 pub more_lines : (out middle new : List ℕ) (xs ys : List Line) → middle ≡ out ++ text_of xs → new ≡ middle ++ text_of ys → new ≡ out ++ text_of (xs ++ ys)

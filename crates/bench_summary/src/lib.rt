@@ -5,8 +5,6 @@
 //! said of the memory that a call takes.
 #![tactic(auto)]
 
-mod sizes;
 mod writing;
 
-pub use sizes::Sizes;
 pub use writing::write_summary;

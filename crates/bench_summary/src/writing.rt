@@ -3,12 +3,11 @@ ghost use Rattle.std.specs.Prelude.{◌≡◌, ◌+◌, [], ◌∷◌, ◌++◌,
 ghost use Rattle.event_log.specs.LogText.{text_of};
 ghost use Rattle.report_lines.specs.Spelling.{formula_line, verdict_line};
 ghost use Rattle.run_report.specs.Benches.{number_line, slice_lines, summary_text};
-ghost use Rattle.bench_summary.specs.Views.{sizes_of};
 
-use crate::sizes::Sizes;
 use pota_base::{Bytes, NoMemory, put_u64};
 use report::{Report, SliceText};
 use report_lines::put_slice;
+use run_options::Sizes;
 use std::alloc::Global;
 
 // The line of a word and a number.
@@ -67,7 +66,7 @@ fn put_slice_lines(out: &mut Bytes, slice: &Option<SliceText>) -> Result<(), NoM
 
 /// The text of the summary of a bench on a log of these sizes, on which this is the report.
 pub fn write_summary(alloc: Global, sizes: Sizes, report: &Report) -> Result<Bytes, NoMemory>
-    ensures { IfOk result (λ text. text ≡ summary_text (sizes_of sizes) report.now) }
+    ensures { IfOk result (λ text. text ≡ summary_text sizes report.now) }
 {
     let mut out = Bytes::new(alloc);
     out.extend_from_slice(b"pota-bench 1\n")?;

@@ -26,6 +26,7 @@ use batch_answers::{CheckedLog, ReportedLog, read_log};
 use certify::{certificates_tell_the_truth, certify};
 use log_answers::{Checking, Means, Stop, StopCause, Verdict};
 use pota_base::{Bytes, Failed, Gate, List, NoMemory, Sink, Source, Steps};
+use run_options::Shown;
 use stated_formula::Stated;
 use std::alloc::Global;
 use std::marker::Brand;
@@ -158,7 +159,11 @@ fn unwatched_check(alloc: Global, stated: Stated) -> Result<ReportedLog, NoMemor
     ensures { IfOk result (λ check. IsCheckOf (said_by answers) (aim_for stated) check waiting) }
 {
     let watches: Vec<Handed> = Vec::new(alloc);
-    ReportedLog::new(alloc, stated, false, false, watches)
+    let shown = Shown {
+        slice: false,
+        witness: false,
+    };
+    ReportedLog::new(alloc, stated, shown, watches)
 }
 
 // Certifies the log whose text the source has, on one thread.
@@ -184,7 +189,6 @@ fn certify_text<R: Threads + Sync, G: Gate, L: Ledger, S: Source, O: Sink>(
     let checking = Checking {
         check,
         each_batch: false,
-        workers: 1,
         steps: Steps::<L>::new(blank),
     };
     certify_log(means, checking, log, out)

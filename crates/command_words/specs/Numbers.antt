@@ -3,7 +3,7 @@ use Rattle.std.specs.Prelude.{ℕ, ◌-◌, ◌^◌, ◌&&◌, nat_le, Option, N
 use Rattle.std.specs.Prelude.{if◌then◌else◌}
 use Rattle.pota_base.specs.Number.{number_at, whole}
 use Rattle.command_words.specs.Rule.{Text}
-use Rattle.command_words.specs.declared.request.Sizes.{Sizes}
+use Rattle.run_options.specs.declared.sizes.Sizes.{Sizes}
 
 -- the number of 64 bits that the whole text spells, in decimal digits without a sign or a leading
 -- zero, where it is in this range

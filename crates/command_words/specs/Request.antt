@@ -7,7 +7,7 @@ use Rattle.command_words.specs.declared.request.Task.TheVariants.{Read, Bench}
 use Rattle.command_words.specs.declared.request.Form.{Form}
 use Rattle.command_words.specs.declared.request.Form.TheVariants as form
 use Rattle.command_words.specs.declared.request.Product.TheVariants.{Reports, Certificate}
-use Rattle.command_words.specs.declared.request.Shown.{Shown}
+use Rattle.command_words.specs.declared.request.Reporting.{Reporting}
 use Rattle.command_words.specs.Rule.{Text, Given, given, is_used, value_of}
 use Rattle.command_words.specs.Numbers.{workers_of, sizes_of}
 
@@ -41,9 +41,12 @@ values_of g = record {
   merged = is_used (codes "merged") g.uses;
 }
 
--- what the flags show
-abbrev pub shown_of : Values → Shown
-shown_of v = record { slice = v.slice; witness = v.witness; each_batch = v.each_batch }
+-- what the flags ask for
+abbrev pub reporting_of : Values → Reporting
+reporting_of v = record {
+  shown = record { slice = v.slice; witness = v.witness };
+  each_batch = v.each_batch;
+}
 
 -- one of the three options of `bench` stands
 abbrev pub has_sizes : Values → Bool
@@ -61,7 +64,8 @@ form_of v = if v.merged then (if v.vclog || v.each_batch then None else Some for
 -- `check` takes the flags, and none of the three options of `bench`
 abbrev pub check_of : Values → Option Task
 check_of v = if has_sizes v then None
-    else option_map (λ f. Read (record { form = f; product = Reports (shown_of v) })) (form_of v)
+    else option_map (λ f. Read (record { form = f; product = Reports (reporting_of v) }))
+    (form_of v)
 
 -- `certify` takes neither, and reads the text of one log
 abbrev pub certify_of : Values → Option Task

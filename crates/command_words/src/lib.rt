@@ -12,8 +12,8 @@
 //! What a flag more needs, a line each: its name in `flags` of `specs/Rule.antt`; its spelling in
 //! `kind_of` of `src/kind.rt`; `with_flag` in `src/command.rt` and in that function's proof; its
 //! look-ups in `proofs/Names.antt`; its field in `Values` (`specs/Request.antt`), `TextValues` and
-//! `values_in` of both sides, and what it means (`shown_of`, `form_of`, `has_flags`). An option is
-//! the same, in `options` and `with_options`. A command more is a line in `task_of` and in
+//! `values_in` of both sides, and what it means (`reporting_of`, `form_of`, `has_flags`). An option
+//! is the same, in `options` and `with_options`. A command more is a line in `task_of` and in
 //! `task_named`, and a variant of `Task`; one that reads its input is a variant of `Product`, and a
 //! form of input more is a variant of `Form`.
 #![tactic(auto)]
@@ -27,4 +27,5 @@ mod request;
 mod values;
 
 pub use laws::{clap_gives_the_rule, clap_takes_the_rule};
-pub use request::{Form, Inquiry, Product, Request, Shown, Sizes, Task, read_request};
+pub use request::{Form, Inquiry, Product, Reporting, Request, Task, read_request};
+pub use run_options::{Shown, Sizes};

@@ -4,8 +4,8 @@ ghost use Rattle.pota_base.specs.Number.{number_at, whole};
 ghost use Rattle.command_words.specs.Numbers.{number, workers_of, needed, sizes_of};
 ghost use Rattle.command_words.specs.inside.Seen.{text_seen};
 
-use crate::request::Sizes;
 use pota_base::read_u64;
+use run_options::Sizes;
 
 // The number that the text spells.
 fn whole_number(text: &str) -> Option<u64>

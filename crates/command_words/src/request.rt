@@ -16,6 +16,7 @@ use crate::values::{TextValues, values_in};
 use clap::error::ErrorKind;
 use clap::{ArgMatches, Error};
 use pota_base::NoMemory;
+use run_options::{Shown, Sizes};
 use std::alloc::Global;
 
 /// How an input is read as a log.
@@ -29,13 +30,10 @@ pub enum Form {
     Merged,
 }
 
-/// What the reports on a log show beside the verdict.
+/// Which reports on a log are asked for.
 #[derive(Clone, Copy, Debug, PartialEq, Eq)]
-pub struct Shown {
-    /// The slice of the formula.
-    pub slice: bool,
-    /// The witnesses of the verdict.
-    pub witness: bool,
+pub struct Reporting {
+    pub shown: Shown,
     /// A report for each batch, and not for the last one alone.
     pub each_batch: bool,
 }
@@ -44,7 +42,7 @@ pub struct Shown {
 #[derive(Clone, Copy, Debug, PartialEq, Eq)]
 pub enum Product {
     /// Reports on it.
-    Reports(Shown),
+    Reports(Reporting),
     /// The certificate of the formula's truth.
     Certificate,
 }
@@ -54,16 +52,6 @@ pub enum Product {
 pub struct Inquiry {
     pub form: Form,
     pub product: Product,
-}
-
-/// The log that `bench` makes.
-#[derive(Clone, Copy, Debug, PartialEq, Eq)]
-pub struct Sizes {
-    pub seed: u64,
-    /// 1 to 32 processes.
-    pub procs: u32,
-    /// At most 50,000 events.
-    pub events: u32,
 }
 
 /// A command with what belongs to it.
@@ -126,11 +114,14 @@ fn check_task(values: &TextValues<'_>) -> Option<Task>
     let shown = Shown {
         slice: values.slice,
         witness: values.witness,
+    };
+    let reporting = Reporting {
+        shown,
         each_batch: values.each_batch,
     };
     Some(Task::Read(Inquiry {
         form,
-        product: Product::Reports(shown),
+        product: Product::Reports(reporting),
     }))
 }
 

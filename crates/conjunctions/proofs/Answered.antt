@@ -11,7 +11,7 @@ use Rattle.run_model.specs.Slice.{StandsFor, Cuts, IsLeastOf, HasWithin}
 use Rattle.run_model.specs.Meaning.{Sat, Family}
 use Rattle.run_model.proofs.Orders.{initial_consistent}
 use Rattle.meaning_laws.proofs.JoinLemmas.{smallest_in}
-use Rattle.pull_system.specs.Rows.{RowsView}
+use Rattle.slice_workers.specs.Views.{SettledView}
 use Rattle.slice_graph.specs.Views.{SliceView, slice_of, no_row}
 use Rattle.slice_graph.specs.Fitting.{FitsOrder}
 use Rattle.rctl_parts.specs.Pieces.{Piece}
@@ -170,7 +170,7 @@ pub disjunct_floors : (seen : Observed) (workers : ℕ) (round now : RoundView) 
     → AreFloors seen round.before (all_conjunctions (ds ++ d ∷ later)) → Settles seen workers round now s t (all_conjunctions ds) → AreFloors seen now.before (conjunctions_in d)
 disjunct_floors seen workers round now s t ds d later floors settles =
     let behind = floors_right seen round.before (all_conjunctions ds) (conjunctions_in d ++ all_conjunctions later) (subst (AreFloors seen round.before) split floors) in
-    subst (λ (before : List RowsView). AreFloors seen before (conjunctions_in d)) (sym settles.before)
+    subst (λ (before : List SettledView). AreFloors seen before (conjunctions_in d)) (sym settles.before)
     (floors_left seen (drop (length (all_conjunctions ds)) round.before) (conjunctions_in d) (all_conjunctions later) behind)
   where
     split : all_conjunctions (ds ++ d ∷ later) ≡ all_conjunctions ds ++ (conjunctions_in d ++ all_conjunctions later)

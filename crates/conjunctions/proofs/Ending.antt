@@ -9,6 +9,7 @@ use Rattle.trace_growth.specs.Growing.{IsTrace}
 use Rattle.pull_system.specs.declared.pull.Pull.{Pull}
 use Rattle.pull_system.specs.System.{IsPull}
 use Rattle.pull_system.specs.Rows.{RowsView}
+use Rattle.slice_workers.specs.Views.{SettledView}
 use Rattle.pull_system.specs.Growth.{DidNotFall, grown_words}
 use Rattle.raise_machine.specs.Bounds.{AreBounds}
 use Rattle.slice_graph.specs.Views.{SliceView}
@@ -98,26 +99,26 @@ begins_with_order seen pulls ps adds order is keeps keeps_is kept =
     (record { others = adds.added; is = adds.is ∙ ap (λ b. first_pulls (clocks_seen seen) b ++ adds.added) (atoms_give_none ps (sym keeps_is ∙ kept)) })
 
 -- the rows of before of the conjunction itself
-pub can_begin : (seen : Observed) (before : List RowsView) (pulls : List Pull) (ps : List Piece) → AddsPulls seen (first_pulls (clocks_seen seen) (gives_order ps)) pulls ps → AreFloors seen before (ps ∷ [])
+pub can_begin : (seen : Observed) (before : List SettledView) (pulls : List Pull) (ps : List Piece) → AddsPulls seen (first_pulls (clocks_seen seen) (gives_order ps)) pulls ps → AreFloors seen before (ps ∷ [])
     → CanBegin (record { lens = lens_seen seen; pulls = pulls }) (all_atoms ps) (first_of before)
 can_begin seen [] pulls ps adds floors = record { fell = record { fell = λ rows keeps is. absurd (cc) }; floor = λ rows keeps is. absurd (cc); stays = λ rows keeps is. absurd (cc) }
-can_begin seen (rows ∷ before) pulls ps adds floors = record {
+can_begin seen (one ∷ before) pulls ps adds floors = record {
   fell = record { fell = λ found keeps is. subst (λ (r : RowsView). DidNotFall r.lens (lens_seen seen)) (same found is) floors.0.fell };
   floor = λ found keeps is.
       let P : List Pull → RowsView → Type 0 = λ list r. AreBounds (record { lens = lens_seen seen; pulls = list }) (grown_words (lens_seen seen) r) in
-      subst (λ (r : RowsView). P pulls r) (same found is) (subst (λ (list : List Pull). P list rows) (sym (own keeps)) (floors.0.floor keeps));
+      subst (λ (r : RowsView). P pulls r) (same found is) (subst (λ (list : List Pull). P list one.rows) (sym (own keeps)) (floors.0.floor keeps));
   stays = λ found keeps is.
       let P : List Pull → RowsView → Type 0 = λ list r. CutsStay (record { lens = lens_seen seen; pulls = list }) r in
-      subst (λ (r : RowsView). P pulls r) (same found is) (subst (λ (list : List Pull). P list rows) (sym (own keeps)) (floors.0.stays keeps));
+      subst (λ (r : RowsView). P pulls r) (same found is) (subst (λ (list : List Pull). P list one.rows) (sym (own keeps)) (floors.0.stays keeps));
 }
   where
     own : all_atoms ps ≡ true → pulls ≡ pulls_of_order (clocks_seen seen) ++ pulls_of_parts seen ps
     own keeps = adds.is ∙ ap (λ b. first_pulls (clocks_seen seen) b ++ adds.added) (atoms_give_none ps keeps) ∙ ap (λ list. pulls_of_order (clocks_seen seen) ++ list) (adds.own keeps)
 
-    same : (found : RowsView) → first_of (rows ∷ before) ≡ Some found → rows ≡ found
+    same : (found : RowsView) → first_of (one ∷ before) ≡ Some found → one.rows ≡ found
     same found is = cc
 
-pub can_begin_by : (seen : Observed) (before : List RowsView) (pulls : List Pull) (ps : List Piece) → AddsPulls seen (first_pulls (clocks_seen seen) (gives_order ps)) pulls ps → AreFloors seen before (ps ∷ [])
+pub can_begin_by : (seen : Observed) (before : List SettledView) (pulls : List Pull) (ps : List Piece) → AddsPulls seen (first_pulls (clocks_seen seen) (gives_order ps)) pulls ps → AreFloors seen before (ps ∷ [])
     → (order : Clocks) → order ≡ clocks_seen seen → (keeps : Bool) → keeps ≡ all_atoms ps → CanBegin (record { lens = lengths order; pulls = pulls }) keeps (first_of before)
 can_begin_by seen before pulls ps adds floors order is keeps keeps_is =
     subst (λ (k : Bool). CanBegin (record { lens = lengths order; pulls = pulls }) k (first_of before)) (sym keeps_is)

@@ -1,7 +1,8 @@
 -- Which rows are final where a conjunction begins.
 use Rattle.std.proofs.Common.{◌≡◌, ℕ, zero, suc, ◌<◌, ◌≤◌, inl, inr, Bool, true, false, List, [], ◌∷◌, length, take, get_or, Option, Some, None, refl, sym, subst, arith}
 use Rattle.std.proofs.lemmas.Bool.{cases_lt}
-use Rattle.std.proofs.lemmas.List.{get_or-take, length-take-le}
+use Rattle.std.proofs.lemmas.List.{get_or-take, get_or_past, length-take-le}
+use Rattle.std.proofs.lemmas.Option.{none-some}
 use Rattle.pull_system.specs.declared.pull.Pull.{Pull}
 use Rattle.pull_system.specs.System.{SystemView, IsSystem}
 use Rattle.pull_system.specs.Rows.{RowsView, row_at}
@@ -11,8 +12,8 @@ use Rattle.bound_table.specs.Firm.{AreFinal, HasReachedFirm, ReachesFirst}
 use Rattle.bound_table.proofs.Own.{first_none, none_final}
 use Rattle.conjunctions.specs.inside.Beginning.{GatheredView, FloorFits, AtomsBegin}
 use Rattle.conjunctions.specs.inside.Beginning.{AreNone, AreWithin, HaveCuts, OthersBegin}
-use Rattle.conjunctions.specs.inside.Beginning.{FindsBottom, AreFirmBy, rows_of_before, no_rows}
-use Rattle.conjunctions.specs.Settling.{CutsStay}
+use Rattle.conjunctions.specs.inside.Beginning.{FindsBottom, AreFirmBy, no_rows}
+use Rattle.conjunctions.specs.Settling.{CutsStay, HasCut, MayBeFirm}
 use Rattle.conjunctions.specs.inside.Settling.{CanBegin}
 
 -- ---- counts of rows, process by process
@@ -87,9 +88,36 @@ finals_are lens gathered keeps before words finals bottom steps steps_now is can
   };
 }
 
--- and are rows of before, but for the bottom's
-pub firm_by : (system : SystemView) (keeps : Bool) (before floor : Option RowsView) (words finals : List ℕ) (bottom : Bool) → (keeps ≡ true → AtomsBegin system.lens system.pulls before words finals)
-    → (keeps ≡ false → OthersBegin system.lens floor words finals) → AreFirmBy system keeps before (record { firsts = take (length system.lens) finals; bottom = bottom }) words
-firm_by system true (Some rows) floor words finals bottom atoms others = rows_of_before rows finals refl refl (atoms refl).rows (atoms refl).firsts refl
-firm_by system true None floor words finals bottom atoms others = no_rows (λ p. omega (arith, taken (length system.lens) finals p, (atoms refl).firsts.none p))
-firm_by system false before floor words finals bottom atoms others = no_rows (λ p. omega (arith, taken (length system.lens) finals p, (others refl).firsts.none p))
+-- of those that are taken, so many as there were, or none
+taken_is : (n : ℕ) (finals : List ℕ) (p : ℕ) → 1 ≤ get_or (take n finals) p 0 → get_or (take n finals) p 0 ≡ get_or finals p 0
+taken_is zero finals p some = absurd (omega (arith, some))
+taken_is (suc n) [] p some = refl
+taken_is (suc n) (x ∷ finals) zero some = refl
+taken_is (suc n) (x ∷ finals) (suc p) some = taken_is n finals p some
+
+-- the last of the first rows has a cut
+taken_cut : (rows : RowsView) (n : ℕ) (finals : List ℕ) → HaveCuts rows finals → (p : ℕ) → 1 ≤ get_or (take n finals) p 0 → HasCut rows p (get_or (take n finals) p 0)
+taken_cut rows n finals have p some =
+    let is = taken_is n finals p some in
+    let least : 1 ≤ get_or finals p 0 = omega (arith, is, some) in
+    let there : p < length rows.lens = elim (cases_lt p (length rows.lens)) [
+      | inl less ↦ less
+      | inr past ↦ absurd (omega (arith, least, have.within.few p, get_or_past rows.lens p 0 past))
+    ] in
+    subst (HasCut rows p) (sym is) (record { there = have.within.few p; cut = have.cut p there least })
+
+-- of a conjunction of atoms they are rows of before that have a cut
+atoms_by : (lens : List ℕ) (pulls : List Pull) (before : Option RowsView) (words finals : List ℕ) (bottom : Bool) → (bottom ≡ true → before ≡ None) → AtomsBegin lens pulls before words finals
+    → MayBeFirm before (record { firsts = take (length lens) finals; bottom = bottom })
+atoms_by lens pulls None words finals bottom anew begins = λ p. omega (arith, taken (length lens) finals p, begins.firsts.none p)
+atoms_by lens pulls (Some rows) words finals true anew begins = absurd (none-some rows (sym (anew refl)))
+atoms_by lens pulls (Some rows) words finals false anew begins = record { cuts = taken_cut rows (length lens) finals begins.firsts; bottom = refl }
+
+-- and of another there are none
+pub firm_by : (system : SystemView) (keeps : Bool) (before floor : Option RowsView) (words finals : List ℕ) (bottom : Bool) → (bottom ≡ true → before ≡ None)
+    → (keeps ≡ true → AtomsBegin system.lens system.pulls before words finals) → (keeps ≡ false → OthersBegin system.lens floor words finals)
+    → AreFirmBy system keeps before (record { firsts = take (length system.lens) finals; bottom = bottom }) words
+firm_by system keeps before floor words finals bottom anew atoms others = record {
+  atoms = λ is. atoms_by system.lens system.pulls before words finals bottom anew (atoms is);
+  others = λ is. no_rows (λ p. omega (arith, taken (length system.lens) finals p, (others is).firsts.none p));
+}

@@ -3,7 +3,7 @@ use Rattle.std.proofs.Common.{◌≡◌, ℕ, ◌+◌, List, [], ◌∷◌, ◌+
 use Rattle.std.proofs.lemmas.Grind.{flat_map-append}
 use Rattle.std.proofs.lemmas.List.Concat.{flat_map-cons}
 use Rattle.pull_system.specs.declared.pull.Pull.{Pull}
-use Rattle.pull_system.specs.Rows.{RowsView}
+use Rattle.slice_workers.specs.Views.{SettledView}
 use Rattle.rctl_parts.specs.Pieces.{Piece}
 use Rattle.part_pulls.specs.declared.observed.Observed.{Observed}
 use Rattle.conjunctions.specs.declared.answer.PartAnswer.{PartAnswer}
@@ -63,7 +63,7 @@ floors_at seen workers round now s t ps p later floors settles =
     let P : List (List Piece) → Type 0 = λ cs. AreFloors seen round.before cs in
     let behind : AreFloors seen (drop (length (flat_map within ps)) round.before) (within p ++ (flat_map within later ++ (ps ++ p ∷ later) ∷ [])) =
     floors_right seen round.before (flat_map within ps) (within p ++ (flat_map within later ++ (ps ++ p ∷ later) ∷ [])) (subst P split floors) in
-    subst (λ (before : List RowsView). AreFloors seen before (within p)) (sym settles.before)
+    subst (λ (before : List SettledView). AreFloors seen before (within p)) (sym settles.before)
     (floors_left seen (drop (length (flat_map within ps)) round.before) (within p) (flat_map within later ++ (ps ++ p ∷ later) ∷ []) behind)
   where
     split : conjunctions_in (ps ++ p ∷ later) ≡ flat_map within ps ++ (within p ++ (flat_map within later ++ (ps ++ p ∷ later) ∷ []))
@@ -75,4 +75,4 @@ floors_at seen workers round now s t ps p later floors settles =
 pub floors_last : (seen : Observed) (workers : ℕ) (round now : RoundView) (s t : ℕ) (ps : List Piece)
     → AreFloors seen round.before (conjunctions_in ps) → Settles seen workers round now s t (flat_map within ps) → AreFloors seen now.before (ps ∷ [])
 floors_last seen workers round now s t ps floors settles =
-    subst (λ (before : List RowsView). AreFloors seen before (ps ∷ [])) (sym settles.before) (floors_right seen round.before (flat_map within ps) (ps ∷ []) floors)
+    subst (λ (before : List SettledView). AreFloors seen before (ps ∷ [])) (sym settles.before) (floors_right seen round.before (flat_map within ps) (ps ∷ []) floors)

@@ -8,6 +8,7 @@ use Rattle.pull_system.specs.declared.pull.Pull.{Pull}
 use Rattle.pull_system.specs.System.{no_pull}
 use Rattle.pull_system.specs.Vector.{IsAtMost}
 use Rattle.pull_system.specs.Rows.{RowsView, row_at}
+use Rattle.slice_workers.specs.Views.{SettledView}
 use Rattle.pull_system.specs.Growth.{DidNotFall, PullGrows, Grows}
 use Rattle.raise_machine.proofs.Raising.{grown_bounds}
 use Rattle.slice_workers.proofs.Firsts.{first_final}
@@ -106,12 +107,12 @@ kept_floor before after run ps rows fits rise settled = record {
   };
 }
 
-kept_floors : (before after : Observed) → RunGrows before after → (cs : List (List Piece)) (rows : List RowsView) → AllFit (scope_seen before) cs → EachRises after cs → AreSettled before cs rows
+kept_floors : (before after : Observed) → RunGrows before after → (cs : List (List Piece)) (rows : List SettledView) → AllFit (scope_seen before) cs → EachRises after cs → AreSettled before cs rows
     → AreFloors after rows cs
 kept_floors before after run [] [] fits rise h = tt
 kept_floors before after run [] (r ∷ rows) fits rise h = tt
 kept_floors before after run (c ∷ cs) [] fits rise h = tt
-kept_floors before after run (c ∷ cs) (r ∷ rows) fits rise h = (kept_floor before after run c r fits.0 rise.0 h.0, kept_floors before after run cs rows fits.1 rise.1 h.1)
+kept_floors before after run (c ∷ cs) (r ∷ rows) fits rise h = (kept_floor before after run c r.rows fits.0 rise.0 h.0, kept_floors before after run cs rows fits.1 rise.1 h.1)
 
 -- ---- each conjunction is made for what the formula is made for
 
@@ -191,7 +192,7 @@ order_grows before after old new full later = record {
 }
 
 -- rows that were settled are rows from which the same conjunctions may begin later
-pub settled_are_floors : (before after : Observed) (ds : List (List Piece)) (rows : List RowsView) → IsTrace before.trace.states → IsTrace after.trace.states → AreFull before → IsLater before after
+pub settled_are_floors : (before after : Observed) (ds : List (List Piece)) (rows : List SettledView) → IsTrace before.trace.states → IsTrace after.trace.states → AreFull before → IsLater before after
     → AllFit (scope_seen before) ds → CountersRise after ds → AreSettled before (all_conjunctions ds) rows → AreFloors after rows (all_conjunctions ds)
 settled_are_floors before after ds rows old new full later fits rise settled =
     kept_floors before after (record { grows = order_grows before after old new full later; stays = orders_stay before after old new full later }) (all_conjunctions ds) rows (conjunctions_fit (scope_seen before) ds fits) (conjunctions_rise after ds rise) settled

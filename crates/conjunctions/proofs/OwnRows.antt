@@ -1,5 +1,5 @@
 -- The rows of a slice are its pulls' own, and a table of them has nothing left to settle.
-use Rattle.std.proofs.Common.{◌≡◌, ℕ, zero, suc, ◌+◌, ◌*◌, ◌-◌, ◌<◌, ◌≤◌, Bool, true, List, [], ◌∷◌, All, length, get_or, sum, Option, refl, sym, ◌∙◌, ap, subst, arith}
+use Rattle.std.proofs.Common.{◌≡◌, ℕ, zero, suc, ◌+◌, ◌*◌, ◌-◌, ◌<◌, ◌≤◌, Bool, true, false, List, [], ◌∷◌, All, length, get_or, sum, Option, refl, sym, ◌∙◌, ap, subst, arith}
 use Rattle.std.proofs.lemmas.List.Elements.{All-nil, All-cons, All-get_or}
 use Rattle.std.proofs.lemmas.List.Sums.{sum_by-cons}
 use Rattle.run_model.specs.Cut.{count}
@@ -21,7 +21,7 @@ use Rattle.slice_graph.proofs.Pairs.{all_pairs}
 use Rattle.slice_graph.proofs.SlicePulls.{entry_within}
 use Rattle.slice_workers.specs.Reaching.{rows_left}
 use Rattle.slice_workers.specs.Calls.{TakesBehind}
-use Rattle.conjunctions.specs.inside.Beginning.{BeginsTable, rows_of_slice}
+use Rattle.conjunctions.specs.inside.Beginning.{BeginsTable, own_rows}
 
 -- what the pull asks, up to its source's length, is what the rows have
 abbrev AsksRows : List ℕ → List ℕ → Pull → Type 0
@@ -70,13 +70,13 @@ own_looks system is words own size seat new s t floor_is bounds rises takes =
     omega (arith, (takes.others refl).rises_paid, ap (λ (n : ℕ). pulls * n) sums, ap (λ (n : ℕ). pulls * n) none)
 
 -- and it is one from which a conjunction may begin
-pub own_begins : (system : SystemView) → IsSystem system → (keeps : Bool) (before : Option RowsView) (table : TableView) (seat : SeatView) (words : List ℕ) (s : ℕ) → AreOwnRows system words → length words ≡ word_count system.lens
+pub own_begins : (system : SystemView) → IsSystem system → (keeps : Bool) → keeps ≡ false → (before : Option RowsView) (table : TableView) (seat : SeatView) (words : List ℕ) (s : ℕ) → AreOwnRows system words → length words ≡ word_count system.lens
     → table.system ≡ system → table.firm ≡ record { firsts = system.lens; bottom = true } → seat.table ≡ table → seat.floor ≡ words → BeginsTable system keeps before table seat s s
-own_begins system is keeps before table seat words s own size system_is firm_is seat_is floor_is = record {
+own_begins system is keeps others before table seat words s own size system_is firm_is seat_is floor_is = record {
   is = is;
   system_is = system_is;
   seat_is = seat_is;
-  firm = rows_of_slice (subst (AreOwnRows system) (sym floor_is) own);
+  firm = record { atoms = λ atoms. absurd (let e : false ≡ true = sym others ∙ atoms in cc); others = λ _. own_rows (subst (AreOwnRows system) (sym floor_is) own) };
   looks = λ rows new last new_is rises bounds takes.
       let took : last ≤ s = own_looks system is words own size seat new s last floor_is bounds rises (subst (λ (f : FirmView). TakesBehind system f seat new s last) firm_is takes) in
       omega (arith, took);

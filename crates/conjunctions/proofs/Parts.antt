@@ -22,7 +22,7 @@ use Rattle.part_pulls.specs.Systems.{is_atom, IsAtomOf, pulls_of_part}
 use Rattle.conjunctions.specs.Numbering.{within, within_operand, conjunctions_in}
 use Rattle.conjunctions.specs.inside.Numbering.{part_gives_order}
 use Rattle.conjunctions.specs.Counting.{room_of}
-use Rattle.pull_system.specs.Rows.{RowsView}
+use Rattle.slice_workers.specs.Views.{SettledView}
 use Rattle.conjunctions.specs.Rounds.{RoundView, HasOrderSystem}
 use Rattle.conjunctions.specs.Settling.{AreFloors, Settles}
 use Rattle.part_pulls.specs.Operating.{Operated}
@@ -127,7 +127,7 @@ temporal_fits scope p o ps is fits = let both = subst (PieceFits scope) is fits 
 pub temporal_count : (p : Piece) (o : Operator) (ps : List Piece) → p ≡ temporal o (pieces ps) → part_count p ≤ 128 → parts_count ps ≤ 128
 temporal_count p o ps is few = omega (arith, ap part_count is, count_pieces ps)
 
-pub temporal_floors : (seen : Observed) (before : List RowsView) (p : Piece) (o : Operator) (ps : List Piece) → p ≡ temporal o (pieces ps) → AreFloors seen before (within p)
+pub temporal_floors : (seen : Observed) (before : List SettledView) (p : Piece) (o : Operator) (ps : List Piece) → p ≡ temporal o (pieces ps) → AreFloors seen before (within p)
     → AreFloors seen before (conjunctions_in ps)
 temporal_floors seen before p o ps is floors = subst (AreFloors seen before) (ap within is ∙ within_temporal o ps) floors
 

@@ -105,12 +105,13 @@ pub rows_settled : (seen : Observed) (pulls : List Pull) (ps : List Piece) (work
     → SettlesOne (clocks_seen seen) pulls (all_atoms ps) workers old new s t slice → Settles seen workers old new s t (ps ∷ [])
 rows_settled seen pulls ps workers old new s t slice order adds one = record {
   before = one.before;
-  added = one.rows ∷ [];
+  added = one.one ∷ [];
   settled = one.settled;
   rows = (is_settled, tt);
+  by_steps = (one.by_steps, tt);
   looks = λ single.
       let looks = one.looks single in
-      let more = more_steps (length pulls) (pulls_bound (length (lens_seen seen)) ps) (all_atoms ps) (lens_seen seen) (first_of old.before) one.rows (few_pulls seen pulls ps order adds) in
+      let more = more_steps (length pulls) (pulls_bound (length (lens_seen seen)) ps) (all_atoms ps) (lens_seen seen) (first_of old.before) one.one.rows (few_pulls seen pulls ps order adds) in
       omega arith;
   order = one.order;
 }
@@ -121,12 +122,12 @@ rows_settled seen pulls ps workers old new s t slice order adds one = record {
     own : all_atoms ps ≡ true → pulls ≡ pulls_of_order (clocks_seen seen) ++ pulls_of_parts seen ps
     own atoms = adds.is ∙ ap (λ b. first_pulls (clocks_seen seen) b ++ adds.added) (atoms_give_none ps atoms) ∙ ap (λ list. pulls_of_order (clocks_seen seen) ++ list) (adds.own atoms)
 
-    is_settled : IsSettled seen ps one.rows
+    is_settled : IsSettled seen ps one.one.rows
     is_settled = record {
       lens = one.lens;
       cuts = λ reading are.
           least_cuts (clocks_seen seen) (record { lens = lens_seen seen; pulls = pulls }) (Satisfying seen reading ps) refl (has_order seen pulls ps order adds) (members seen pulls ps order adds reading are)
-          one.rows.words one.least;
-      least = λ atoms. let P : List Pull → Type 0 = λ list. AreLeastRows (record { lens = lens_seen seen; pulls = list }) one.rows.words in subst P (own atoms) one.least;
+          one.one.rows.words one.least;
+      least = λ atoms. let P : List Pull → Type 0 = λ list. AreLeastRows (record { lens = lens_seen seen; pulls = list }) one.one.rows.words in subst P (own atoms) one.least;
       system = λ atoms. let P : List Pull → Type 0 = λ list. IsSystem (record { lens = lens_seen seen; pulls = list }) in subst P (own atoms) one.system;
     }

@@ -3,6 +3,7 @@ use Rattle.std.specs.Prelude.{ℕ, ◌+◌, ◌-◌, ◌*◌, Bool, true, false,
 use Rattle.std.specs.Prelude.{Option, Some, None}
 use Rattle.pull_system.specs.Rows.{RowsView, starts}
 use Rattle.pull_system.specs.Growth.{grown_words}
+use Rattle.slice_workers.specs.Views.{SettledView}
 use Rattle.rctl_parts.specs.Pieces.{Piece, atom, temporal}
 use Rattle.conjunctions.specs.Numbering.{all_atoms}
 
@@ -20,9 +21,10 @@ rooms_of n (p ∷ ps) = room_of n p + rooms_of n ps
 abbrev pub pulls_bound : ℕ → List Piece → ℕ
 pulls_bound n ps = n * (n - 1) + rooms_of n ps
 
-abbrev pub first_of : List RowsView → Option RowsView
+-- the rows of the first one, where there is one
+abbrev pub first_of : List SettledView → Option RowsView
 first_of [] = None
-first_of (rows ∷ more) = Some rows
+first_of (one ∷ more) = Some one.rows
 
 -- no row of a conjunction of atoms begins below its row of before, grown, or its start
 abbrev pub floor_words : List ℕ → Option RowsView → List ℕ
@@ -42,8 +44,8 @@ bound_of lens before ps rows =
     steps_for (pulls_bound (length lens) ps) (all_atoms ps) lens before rows
 
 -- one number for each conjunction
-abbrev pub bounds : List ℕ → List RowsView → List (List Piece) → List RowsView → ℕ
-bounds lens before [] rows = 0
+abbrev pub bounds : List ℕ → List SettledView → List (List Piece) → List SettledView → ℕ
+bounds lens before [] settled = 0
 bounds lens before (ps ∷ cs) [] = 0
-bounds lens before (ps ∷ cs) (rows ∷ more) =
-    bound_of lens (first_of before) ps rows + bounds lens (drop 1 before) cs more
+bounds lens before (ps ∷ cs) (one ∷ more) =
+    bound_of lens (first_of before) ps one.rows + bounds lens (drop 1 before) cs more

@@ -1,7 +1,7 @@
 -- The rows of conjunctions: what each of them has to be, and what a call of the recursion leaves of
 -- the lists of rows.
-use Rattle.std.specs.Prelude.{◌≡◌, ℕ, ◌+◌, ◌<◌, ◌≤◌, true, List, [], ◌∷◌, ◌++◌, length}
-use Rattle.std.specs.Prelude.{drop, sum, take, slice_index}
+use Rattle.std.specs.Prelude.{◌≡◌, ℕ, ◌+◌, ◌<◌, ◌≤◌, true, false, List, [], ◌∷◌, ◌++◌, length}
+use Rattle.std.specs.Prelude.{drop, sum, take, slice_index, Option, Some, None}
 use Rattle.run_model.specs.Cut.{Cut, IsWithin}
 use Rattle.run_model.specs.Sublattice.{IsLeast}
 use Rattle.pull_system.specs.System.{SystemView, IsSystem}
@@ -9,14 +9,17 @@ use Rattle.pull_system.specs.Rows.{RowsView, AreLeastRows, start_of, row_at}
 use Rattle.pull_system.specs.Growth.{DidNotFall, grown_words}
 use Rattle.pull_system.specs.Vector.{IsAtMost}
 use Rattle.raise_machine.specs.Bounds.{AreBounds}
-use Rattle.bound_table.specs.Firm.{ReachesFirst}
+use Rattle.bound_table.specs.Firm.{FirmView, ReachesFirst}
+use Rattle.slice_workers.specs.Views.{SettledView}
 use Rattle.rctl_parts.specs.Pieces.{Piece}
+use Rattle.rctl_parts.specs.MadeFor.{AllFit, disjuncts_count}
 use Rattle.part_pulls.specs.declared.observed.Observed.{Observed}
 use Rattle.part_pulls.specs.Observing.{Reading, AreAnswers, Satisfying, clocks_seen, lens_seen}
+use Rattle.part_pulls.specs.Observing.{scope_seen}
 use Rattle.conjunctions.specs.Numbering.{all_atoms}
 use Rattle.part_pulls.specs.Systems.{system_of}
 use Rattle.conjunctions.specs.Rounds.{RoundView, HasOrderSystem}
-use Rattle.conjunctions.specs.Counting.{bounds}
+use Rattle.conjunctions.specs.Counting.{bounds, first_of}
 
 -- the members that hold the start
 abbrev pub Above : (Cut → Type 0) → Cut → Cut → Type 0
@@ -44,11 +47,38 @@ pub record IsSettled (seen : Observed) (ps : List Piece) (rows : RowsView) : Typ
   pub system : all_atoms ps ≡ true → IsSystem (system_of seen ps)
 
 -- one after the other, as many rows as conjunctions
-abbrev pub AreSettled : Observed → List (List Piece) → List RowsView → Type 0
+abbrev pub AreSettled : Observed → List (List Piece) → List SettledView → Type 0
 AreSettled seen [] [] = Unit {0}
-AreSettled seen [] (rows ∷ more) = ⊥
+AreSettled seen [] (one ∷ more) = ⊥
 AreSettled seen (ps ∷ rest) [] = ⊥
-AreSettled seen (ps ∷ rest) (rows ∷ more) = IsSettled seen ps rows × AreSettled seen rest more
+AreSettled seen (ps ∷ rest) (one ∷ more) = IsSettled seen ps one.rows × AreSettled seen rest more
+
+-- the process's event of this number is there, and its row lies within the lengths
+pub record HasCut (rows : RowsView) (process position : ℕ) : Type 0 where
+  pub there : position ≤ slice_index rows.lens process
+  pub cut : IsAtMost (row_at rows.lens rows.words (sum (take process rows.lens) + position))
+      rows.lens
+
+-- so many first rows of each process end with one that has a cut, and the bottom's is none of them
+pub record EndWithCuts (rows : RowsView) (firm : FirmView) : Type 0 where
+  pub cuts : (process : ℕ) → 1 ≤ slice_index firm.firsts process
+      → HasCut rows process (slice_index firm.firsts process)
+  pub bottom : firm.bottom ≡ false
+
+-- Which rows of a conjunction of atoms may have been firm when it was settled: rows of before that
+-- have a cut. Where there are none of before, no event's row, and so the bottom's alone.
+abbrev pub MayBeFirm : Option RowsView → FirmView → Type 0
+MayBeFirm None firm = (process : ℕ) → slice_index firm.firsts process ≡ 0
+MayBeFirm (Some rows) firm = EndWithCuts rows firm
+
+-- each conjunction of atoms was settled by steps on a shared table: no row was handed in as firm
+-- but these
+abbrev pub AreSettledBySteps : List SettledView → List (List Piece) → List SettledView → Type 0
+AreSettledBySteps before [] settled = Unit {0}
+AreSettledBySteps before (ps ∷ cs) [] = Unit {0}
+AreSettledBySteps before (ps ∷ cs) (one ∷ more) =
+    (all_atoms ps ≡ true → MayBeFirm (first_of before) one.firm)
+    × AreSettledBySteps (drop 1 before) cs more
 
 -- where the row of a process's event lies within the lengths, the rows of its first events up to
 -- that one, grown, are the least of the system already
@@ -66,10 +96,16 @@ pub record IsFloor (seen : Observed) (ps : List Piece) (rows : RowsView) : Type 
   pub stays : all_atoms ps ≡ true → CutsStay (system_of seen ps) rows
 
 -- where there are rows from before, each conjunction may begin from its own
-abbrev pub AreFloors : Observed → List RowsView → List (List Piece) → Type 0
+abbrev pub AreFloors : Observed → List SettledView → List (List Piece) → Type 0
 AreFloors seen [] cs = Unit {0}
-AreFloors seen (rows ∷ before) [] = Unit {0}
-AreFloors seen (rows ∷ before) (ps ∷ cs) = IsFloor seen ps rows × AreFloors seen before cs
+AreFloors seen (one ∷ before) [] = Unit {0}
+AreFloors seen (one ∷ before) (ps ∷ cs) = IsFloor seen ps one.rows × AreFloors seen before cs
+
+-- these disjuncts may be answered on what was observed: each part is made for it, and they are few
+pub record CanAnswer (seen : Observed) (ds : List (List Piece)) : Type 0 where
+  pub fit : AllFit (scope_seen seen) ds
+  pub few : length ds ≤ 64
+  pub parts : disjuncts_count ds ≤ 128
 
 -- these conjunctions may be settled in the round: each may begin from its rows of before, and the
 -- system that the round has is that of the order, or of an earlier one
@@ -78,13 +114,14 @@ pub record CanSettle (seen : Observed) (round : RoundView) (cs : List (List Piec
   pub order : HasOrderSystem (clocks_seen seen) round
 
 -- these conjunctions were settled: their rows stand behind the others, as many rows of before are
--- used up, one worker took no more steps than each may, and the system that the round has is that
--- of the order, or of an earlier one
+-- used up, those of atoms were settled by steps, one worker took no more steps than each may, and
+-- the system that the round has is that of the order, or of an earlier one
 pub record Settles (seen : Observed) (workers : ℕ) (old new : RoundView)
     (steps_before steps_after : ℕ) (cs : List (List Piece)) : Type 0 where
   pub before : new.before ≡ drop (length cs) old.before
-  pub added : List RowsView
+  pub added : List SettledView
   pub settled : new.settled ≡ old.settled ++ added
   pub rows : AreSettled seen cs added
+  pub by_steps : AreSettledBySteps old.before cs added
   pub looks : workers ≡ 1 → steps_after ≤ steps_before + bounds (lens_seen seen) old.before cs added
   pub order : HasOrderSystem (clocks_seen seen) new

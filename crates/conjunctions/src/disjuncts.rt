@@ -1,12 +1,11 @@
 //! The answer of a formula: its disjuncts one after the other.
-ghost use Rattle.std.specs.Prelude.{◌≡◌, ◌≤◌, length, IfOk, IfSome, OnOk};
+ghost use Rattle.std.specs.Prelude.{◌≡◌, length, IfOk, IfSome, OnOk};
 ghost use Rattle.graft.specs.Joined.{joined_views};
 ghost use Rattle.rctl_parts.specs.Pieces.{disjuncts_of};
-ghost use Rattle.rctl_parts.specs.MadeFor.{AreMadeFor};
-ghost use Rattle.part_pulls.specs.Observing.{IsReady, scope_seen};
+ghost use Rattle.part_pulls.specs.Observing.{IsReady};
 ghost use Rattle.part_pulls.specs.Counters.{CountersRise};
 ghost use Rattle.conjunctions.specs.Numbering.{all_conjunctions};
-ghost use Rattle.conjunctions.specs.Settling.{CanSettle, Settles};
+ghost use Rattle.conjunctions.specs.Settling.{CanAnswer, CanSettle, Settles};
 ghost use Rattle.conjunctions.specs.Answering.{IsAnswer};
 ghost use Rattle.conjunctions.specs.inside.Joining.{so_far};
 
@@ -63,32 +62,22 @@ fn sharers_of_all(disjuncts: &[List<Part>]) -> u32 {
 /// The truth is that of the disjuncts, each by its own slice: the joined slice may have the initial
 /// cut where no disjunct does.
 pub fn answer_all<R: Threads + Sync, G: Gate, L: Ledger>(
-    rt: &R,
-    alloc: Global,
+    means: &Means<R, G>,
     seen: &Observed,
     disjuncts: &[List<Part>],
     round: &mut Round,
-    workers: u32,
-    gate: &G,
     steps: &mut Steps<L>,
 ) -> Result<Answer, NoMemory>
     requires ready { IsReady seen.now }
-    requires made { AreMadeFor (scope_seen seen.now) (disjuncts_of disjuncts.now) }
+    requires made { CanAnswer seen.now (disjuncts_of disjuncts.now) }
     requires counters { CountersRise seen.now (disjuncts_of disjuncts.now) }
     requires begins { CanSettle seen.now round.old (all_conjunctions (disjuncts_of disjuncts.now)) }
-    requires some { 1 ≤ workers }
-    requires few { workers ≤ 16 }
     ensures answer { IfOk result (IsAnswer seen.now (disjuncts_of disjuncts.now)) }
-    ensures settles { OnOk result (Settles seen.now workers round.old round.new steps.old steps.new
-        (all_conjunctions (disjuncts_of disjuncts.now))) }
+    ensures settles { OnOk result (Settles seen.now means.now.workers round.old round.new steps.old
+        steps.new (all_conjunctions (disjuncts_of disjuncts.now))) }
 {
+    let alloc = means.alloc;
     let shape = seen.trace.order().shape();
-    let means = Means {
-        rt,
-        alloc,
-        workers,
-        gate,
-    };
     round.begin(sharers_of_all(disjuncts));
     let mut parts = List::new(alloc);
     let mut truth = false;
@@ -96,7 +85,7 @@ pub fn answer_all<R: Threads + Sync, G: Gate, L: Ledger>(
     'disjuncts: for (index, disjunct) in disjuncts.iter().enumerate() {
         let number = index as u32 + 1;
         let disjunct = disjunct.as_slice();
-        let one = settle_conjunction(&means, seen, disjunct, number, round, &mut parts, steps)?;
+        let one = settle_conjunction(means, seen, disjunct, number, round, &mut parts, steps)?;
         truth |= has_initial(alloc, &one)?;
         let more = join_disjunct(alloc, joined, one)?;
         joined = Some(more);

@@ -17,7 +17,6 @@ use pota_base::{EventId, NoMemory, Steps};
 use pull_fans::System;
 use pull_system::{Floor, Rows};
 use slice_graph::order_rows_above;
-use slice_workers::Settled;
 use std::alloc::Global;
 use std::sync::ledger::Ledger;
 
@@ -36,7 +35,7 @@ fn beginning_of_atoms<L: Ledger>(
     alloc: Global,
     order: &Order,
     system: &System,
-    before: Option<Settled>,
+    before: Option<Rows>,
     steps: &mut Steps<L>,
 ) -> Result<Beginning, NoMemory>
     requires before { IsFloorOf (lengths order.now) true before }
@@ -49,10 +48,10 @@ fn beginning_of_atoms<L: Ledger>(
         begins.floor.words steps.old steps.new) }
 {
     match before {
-        Some(settled) => {
-            let finals = rows_with_cuts(settled.rows());
-            let rows = Rows::grown(alloc, settled.rows(), order.shape())?;
-            drop(settled);
+        Some(kept) => {
+            let finals = rows_with_cuts(&kept);
+            let rows = Rows::grown(alloc, &kept, order.shape())?;
+            drop(kept);
             let floor = widened(alloc, &rows)?;
             let bottom = false;
             Ok(Beginning {
@@ -138,7 +137,7 @@ pub fn beginning_of<L: Ledger>(
     order: &Order,
     system: &System,
     keeps: bool,
-    before: Option<Settled>,
+    before: Option<Rows>,
     gathered: Option<Floor>,
     steps: &mut Steps<L>,
 ) -> Result<Beginning, NoMemory>

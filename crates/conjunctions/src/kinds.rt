@@ -41,10 +41,7 @@ pub fn are_atoms(parts: &[Part]) -> bool
 fn operator_gives_order(operator: Operator) -> bool
     ensures { result ≡ operator_gives_order operator }
 {
-    match operator {
-        Operator::Ef | Operator::Ag | Operator::Eg => true,
-        Operator::Ex(_) | Operator::Af | Operator::Ax => false,
-    }
+    matches!(operator, Operator::Ef | Operator::Ag | Operator::Eg)
 }
 
 /// Whether the part is an operator that does.

@@ -5,6 +5,7 @@ ghost use Rattle.trace_growth.specs.Growing.{IsTrace};
 ghost use Rattle.pull_system.specs.Vector.{IsAtMost};
 ghost use Rattle.pull_system.specs.Rows.{RowsView, IsLeast, row_at};
 ghost use Rattle.pull_system.specs.Growth.{old_row, grown_words};
+ghost use Rattle.slice_workers.specs.Views.{SettledView};
 ghost use Rattle.rctl_parts.specs.Pieces.{Piece};
 ghost use Rattle.rctl_parts.specs.MadeFor.{AllFit, EachFits};
 ghost use Rattle.part_pulls.specs.declared.observed.Observed.{Observed};
@@ -31,7 +32,7 @@ pub fn one_answer()
 /// The rows of conjunctions may be begun from once more was observed, and no counter fell: grown,
 /// they lie between the starts and the least rows.
 pub fn settled_rows_are_kept()
-    ensures { (before after : Observed) (ds : List (List Piece)) (rows : List RowsView)
+    ensures { (before after : Observed) (ds : List (List Piece)) (rows : List SettledView)
         → IsTrace before.trace.states → IsTrace after.trace.states → AreFull before
         → IsLater before after → AllFit (scope_seen before) ds → CountersRise after ds
         → AreSettled before (all_conjunctions ds) rows

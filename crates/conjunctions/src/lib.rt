@@ -6,9 +6,10 @@
 //! slice of its operand (clause `answer`), for every number of workers, each gate, and whatever
 //! rows it begins from. The rows of each conjunction are the least cuts at which its parts are
 //! true; for a conjunction of atoms they are the least closed vectors of its system, begun from its
-//! rows of before; and one worker takes at most the steps of `specs/Counting.antt` (clause
-//! `settles`). What was observed has one answer (`one_answer`), and the rows of before may be begun
-//! from once more was observed (`settled_rows_are_kept`).
+//! rows of before and settled by steps on a shared table, but for rows of before that have a cut;
+//! and one worker takes at most the steps of `specs/Counting.antt` (clause `settles`). What was
+//! observed has one answer (`one_answer`), and the rows of before may be begun from once more was
+//! observed (`settled_rows_are_kept`).
 //!
 //! Conjunctions of atoms, and those whose operators are all EX, begin with the order's pulls. The
 //! first of them makes their system, and each leaves it to the next in the round. From the second
@@ -40,4 +41,5 @@ mod systems;
 pub use answer::{Answer, PartAnswer};
 pub use disjuncts::answer_all;
 pub use laws::{counters_are_kept, one_answer, rows_with_a_cut_are_final, settled_rows_are_kept};
+pub use means::Means;
 pub use round::{Kept, Round};

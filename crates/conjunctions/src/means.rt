@@ -2,7 +2,7 @@ ghost use Rattle.std.specs.Prelude.{◌≤◌};
 
 use std::alloc::Global;
 
-/// By what means conjunctions are settled.
+/// By what means a formula is answered: its conjunctions are settled by these.
 #[derive(Drop)]
 pub struct Means<'a, R, G> {
     /// What starts threads.

@@ -105,10 +105,7 @@ pub fn add_operator(
         (initial order.now)) }
 {
     match operator {
-        Operator::Ef | Operator::Ag | Operator::Eg => {
-            add_operated(alloc, order, operator, operand, gathered)
-        }
         Operator::Ex(process) => add_next(alloc, order, process, operand, gathered),
-        Operator::Af | Operator::Ax => unreachable!(),
+        _ => add_operated(alloc, order, operator, operand, gathered),
     }
 }

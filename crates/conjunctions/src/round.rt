@@ -4,6 +4,7 @@ ghost use Rattle.conjunctions.specs.Counting.{first_of};
 
 use pota_base::{List, NoMemory};
 use pull_fans::System;
+use pull_system::Rows;
 use slice_workers::Settled;
 use std::alloc::Global;
 use std::marker::Model;
@@ -93,13 +94,16 @@ impl Round {
     }
 
     /// The next rows of before.
-    pub fn next(&mut self) -> Option<Settled>
+    pub fn next(&mut self) -> Option<Rows>
         ensures next { result ≡ first_of self.old.before }
         ensures before { self.new.before ≡ drop 1 self.old.before }
         ensures settled { self.new.settled ≡ self.old.settled }
         ensures system { self.new.system ≡ self.old.system }
     {
-        self.before.next()
+        match self.before.next() {
+            Some(settled) => Some(settled.into_rows()),
+            None => None,
+        }
     }
 
     /// Keeps the rows behind those that were settled.

@@ -18,9 +18,9 @@ use bound_table::{BoundTable, Firm, Seat};
 use causal_order::Order;
 use pota_base::{Gate, NoMemory, Steps};
 use pull_fans::System;
-use pull_system::Floor;
+use pull_system::{Floor, Rows};
 use slice_graph::Slice;
-use slice_workers::{Settled, settle_all};
+use slice_workers::settle_all;
 use std::alloc::Global;
 use std::sync::ledger::Ledger;
 use std::thread::Threads;
@@ -72,13 +72,13 @@ pub fn settle_gathered<R: Threads + Sync, G: Gate, L: Ledger>(
 }
 
 /// The table of the system from which a conjunction begins: that of the rows of a slice that asks
-/// alone, all firm, and else one that shares its words.
+/// alone, all firm, and else one that shares its words. Of atoms no slice asks.
 fn table_of<L: Ledger>(
     alloc: Global,
     order: &Order,
     system: System,
     keeps: bool,
-    before: Option<Settled>,
+    before: Option<Rows>,
     floor: Option<Floor>,
     alone: bool,
     steps: &mut Steps<L>,
@@ -88,7 +88,7 @@ fn table_of<L: Ledger>(
     ensures { IfOk result (λ pair. BeginsTable system keeps before pair.0 pair.1 steps.old
         steps.new) }
 {
-    if !alone {
+    if keeps || !alone {
         return shared_table(alloc, order, system, keeps, before, floor, steps);
     }
     match floor {
@@ -109,7 +109,7 @@ fn shared_table<L: Ledger>(
     order: &Order,
     system: System,
     keeps: bool,
-    before: Option<Settled>,
+    before: Option<Rows>,
     floor: Option<Floor>,
     steps: &mut Steps<L>,
 ) -> Result<(BoundTable, Seat), NoMemory>

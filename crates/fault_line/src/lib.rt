@@ -12,3 +12,4 @@ mod texts;
 pub use event_log::{LogCode, LogFault};
 pub use fault::Fault;
 pub use line::tell;
+pub use texts::{formula_code_text, import_code_text, log_code_text, merge_code_text};

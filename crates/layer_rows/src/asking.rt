@@ -1,6 +1,6 @@
 //! What a command line asks for, in words.
 
-use command_words::{Form, Inquiry, Product, Request, Shown, Sizes, Task, read_request};
+use command_words::{Form, Inquiry, Product, Reporting, Request, Sizes, Task, read_request};
 use std::alloc::{AllocError, Global};
 
 // How the input is read, where that isn't as the text of one log.
@@ -12,16 +12,16 @@ fn form_text(form: Form) -> &'static str {
     }
 }
 
-fn reports_text(alloc: Global, form: Form, shown: &Shown) -> Result<String, AllocError> {
+fn reports_text(alloc: Global, form: Form, reporting: &Reporting) -> Result<String, AllocError> {
     let mut text = String::from_str(alloc, "check")?;
     text.push_str(form_text(form))?;
-    if shown.slice {
+    if reporting.shown.slice {
         text.push_str(" slice")?;
     }
-    if shown.witness {
+    if reporting.shown.witness {
         text.push_str(" witness")?;
     }
-    if shown.each_batch {
+    if reporting.each_batch {
         text.push_str(" each-batch")?;
     }
     Ok(text)
@@ -29,7 +29,7 @@ fn reports_text(alloc: Global, form: Form, shown: &Shown) -> Result<String, Allo
 
 fn inquiry_text(alloc: Global, inquiry: &Inquiry) -> Result<String, AllocError> {
     match &inquiry.product {
-        Product::Reports(shown) => reports_text(alloc, inquiry.form, shown),
+        Product::Reports(reporting) => reports_text(alloc, inquiry.form, reporting),
         Product::Certificate => String::from_str(alloc, "certify"),
     }
 }

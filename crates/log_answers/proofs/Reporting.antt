@@ -9,7 +9,7 @@ use Rattle.report.specs.Spelling.{report_text}
 use Rattle.run_report.specs.Reports.{Asked, IsReportOf}
 use Rattle.log_rules.specs.SoFar.{counted}
 use Rattle.run_report.specs.Benches.{IsSummaryOf, benched, summary_text}
-use Rattle.run_report.specs.Benches as bench
+use Rattle.run_options.specs.declared.sizes.Sizes.{Sizes}
 use Rattle.fault_kinds.specs.declared.refusal.Refusal.{Refusal}
 use Rattle.log_rules.specs.Judgement.{Prefix, Judgement, waiting, growing, finished, refused}
 use Rattle.log_rules.specs.Due.{batches_of}
@@ -135,7 +135,7 @@ bench_asked aim is =
     ap (λ (b : Bool). record (asked_of aim) { slice = b }) is.slice
     ∙ ap (λ (b : Bool). record (asked_of aim) { slice = true; witness = b }) is.witness
 
-module _ (aim : Aim) (n : ℕ) (log : Prefix) (sizes : bench.Sizes) where
+module _ (aim : Aim) (n : ℕ) (log : Prefix) (sizes : Sizes) where
   pub summary_short : (held : Option (List ℕ)) (of : ℕ) (stop : Stop) → stop ≡ record { batches = 0; cause = causes.Memory }
       → SumsUp held held of of aim n log sizes (Err stop)
   summary_short held of stop is = subst (λ (s : Stop). SumsUp held held of of aim n log sizes (Err s)) (sym is) (record {

@@ -7,8 +7,8 @@ use Rattle.pota_base.specs.Outside.{Rose, IsPrefix}
 use Rattle.report.specs.declared.report.Report.{Report}
 use Rattle.report.specs.Spelling.{report_text}
 use Rattle.log_rules.specs.SoFar.{counted}
+use Rattle.run_options.specs.declared.sizes.Sizes.{Sizes}
 use Rattle.run_report.specs.Benches.{IsSummaryOf}
-use Rattle.run_report.specs.Benches as bench
 use Rattle.fault_kinds.specs.declared.refusal.Refusal.{Refusal}
 use Rattle.log_rules.specs.Judgement.{Prefix, Judgement, refused}
 use Rattle.log_rules.specs.Due.{closed_of, batches_of}
@@ -126,11 +126,11 @@ pub record TakesItems {T X : Type 0} {P : X → Type 0} (held held' : Option (Li
 
 -- a bench shows the slice and no witnesses
 pub record IsBenchAim (aim : Aim) : Type 0 where
-  pub slice : aim.slice ≡ true
-  pub witness : aim.witness ≡ false
+  pub slice : aim.shown.slice ≡ true
+  pub witness : aim.shown.witness ≡ false
 
 -- a summary could not be written, or there was no memory for it
-abbrev pub SummaryStops : StopCause → ℕ → ℕ → ℕ → Aim → ℕ → Prefix → bench.Sizes
+abbrev pub SummaryStops : StopCause → ℕ → ℕ → ℕ → Aim → ℕ → Prefix → Sizes
     → List ℕ → Type 0
 SummaryStops causes.Write n of of' aim batches log sizes text =
     (whole : List ℕ)
@@ -140,7 +140,7 @@ SummaryStops causes.Memory n of of' aim batches log sizes text = (text ≡ []) �
 SummaryStops (causes.Refused r) n of of' aim batches log sizes text = ⊥
 SummaryStops causes.Read n of of' aim batches log sizes text = ⊥
 
-abbrev pub SumsUpTo : ℕ → ℕ → Aim → ℕ → Prefix → bench.Sizes → List ℕ
+abbrev pub SumsUpTo : ℕ → ℕ → Aim → ℕ → Prefix → Sizes → List ℕ
     → Result Verdict Stop → Type 0
 SumsUpTo of of' aim batches log sizes text (Ok v) =
     IsSummaryOf sizes (asked_of aim) log.header log.batches aim.watches text
@@ -149,7 +149,7 @@ SumsUpTo of of' aim batches log sizes text (Err stop) =
     SummaryStops stop.cause stop.batches of of' aim batches log sizes text
 
 pub record SumsUp (held held' : Option (List ℕ)) (of of' : ℕ) (aim : Aim)
-    (batches : ℕ) (log : Prefix) (sizes : bench.Sizes) (result : Result Verdict Stop) : Type 0
+    (batches : ℕ) (log : Prefix) (sizes : Sizes) (result : Result Verdict Stop) : Type 0
   where
     pub written : List ℕ
     pub wrote : Appends held held' written

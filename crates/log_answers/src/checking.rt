@@ -1,5 +1,5 @@
 //! A log that is checked item by item, with the reports that its batches have.
-ghost use Rattle.std.specs.Prelude.{◌≡◌, ◌∷◌, ◌++◌, ◌≤◌, [], ℕ, List as ListOf};
+ghost use Rattle.std.specs.Prelude.{◌≡◌, ◌∷◌, ◌++◌, [], ℕ, List as ListOf};
 ghost use Rattle.std.specs.Prelude.{IfOk, OnOk};
 ghost use Rattle.log_rules.specs.Judgement.{Prefix, Judgement, judge, judged};
 ghost use Rattle.report.specs.Spelling.{IsWellFormed};
@@ -8,36 +8,25 @@ ghost use Rattle.reported_log.specs.Checking.{HasClosed, IsCheckOf, MayFollow};
 ghost use Rattle.log_answers.specs.Checking.{AreReportsFor, IsBenchAim, Reports};
 ghost use Rattle.log_answers.specs.inside.Checking.{Judges, Puts};
 ghost use Rattle.log_answers.specs.Checking.{Stands, SumsUp, TakesItems};
-ghost use Rattle.bench_summary.specs.Views.{sizes_of};
 
 use crate::stop::{Stop, StopCause, Verdict};
-use bench_summary::{Sizes, write_summary};
+use bench_summary::write_summary;
 use event_log::Item;
 use pota_base::{Gate, List, NoMemory, Refused, Sink, Steps, write_all};
 use report::{Report, write_report};
-use reported_log::ReportedLog;
+use reported_log::{Means, ReportedLog};
+use run_options::Sizes;
 use std::alloc::Global;
 use std::sync::ledger::Ledger;
 use std::thread::Threads;
 use watch::{Handed, Watch};
-
-/// What a run works with.
-#[derive(Drop)]
-pub struct Means<'a, R, G> {
-    pub runtime: &'a R,
-    pub alloc: Global,
-    pub gate: &'a G,
-}
 
 /// A log that is checked, and whether each of its batches has a report.
 #[derive(Drop)]
 pub struct Checking<L: Ledger> {
     pub check: ReportedLog,
     pub each_batch: bool,
-    pub workers: u32,
     pub steps: Steps<L>,
-    ghost some: { 1 ≤ workers },
-    ghost few: { workers ≤ 16 },
 }
 
 /// Writes a text of so many batches.
@@ -81,8 +70,7 @@ impl<L: Ledger> Checking<L> {
             → IsCheckOf (said_by answers) aim self.new.check j) }
         ensures each { self.new.each_batch ≡ self.old.each_batch }
     {
-        let steps = &mut self.steps;
-        self.check.report(means.runtime, means.alloc, self.workers, means.gate, steps)
+        self.check.report(means, &mut self.steps)
     }
 
     /// Writes the report on the log as far as the last closed batch, and gives its verdict.
@@ -206,7 +194,7 @@ impl<L: Ledger> Checking<L> {
         ensures { (aim : Aim) (j : Judgement) (log : Prefix)
             → IsCheckOf (said_by answers) aim self.old.check j → HasClosed j log → IsBenchAim aim
             → SumsUp (O.held out.old) (O.held out.new) (O.faults out.old) (O.faults out.new) aim
-            self.old.check.log.intake.batches log (sizes_of sizes) result }
+            self.old.check.log.intake.batches log sizes result }
     {
         let batches = self.check.log.intake.batches;
         let Ok(report) = self.ask(means) else {

@@ -15,6 +15,6 @@ mod checking;
 mod stop;
 mod whole;
 
-pub use checking::{Checking, Means};
-pub use reported_log::{CheckedLog, ReportedLog};
+pub use checking::Checking;
+pub use reported_log::{CheckedLog, Means, ReportedLog};
 pub use stop::{Stop, StopCause, Verdict};

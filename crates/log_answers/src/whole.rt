@@ -7,10 +7,11 @@ ghost use Rattle.reported_log.specs.Aims.{Aim, said_by};
 ghost use Rattle.reported_log.specs.Checking.{IsCheckOf};
 ghost use Rattle.log_answers.specs.Whole.{HasWhole, TakesWhole};
 
-use crate::checking::{Checking, Means};
+use crate::checking::Checking;
 use crate::stop::{Stop, StopCause, Verdict};
 use event_log::Log;
 use pota_base::{Gate, Refused, Sink};
+use reported_log::Means;
 use std::alloc::Global;
 use std::sync::ledger::Ledger;
 use std::thread::Threads;

@@ -7,11 +7,15 @@ use std::alloc::{AllocError, Global};
 #[derive(Drop)]
 pub struct Row {
     pub name: String,
+    /// Whether it is one of `pota_ask`.
+    pub asked: bool,
     pub words: Vec<String>,
     /// The input.
     pub input: Vec<u8>,
     /// Where the input is cut: each number of bytes from the first of these to that before the second.
     pub cut: Option<(usize, usize)>,
+    /// Whether each read fails, and each write.
+    pub fails: (bool, bool),
     /// What follows behind a cut.
     pub rest: Vec<u8>,
     /// What must be written.
@@ -41,9 +45,11 @@ impl Row {
     pub fn new(alloc: Global) -> Row {
         Row {
             name: String::new(alloc),
+            asked: false,
             words: Vec::new(alloc),
             input: Vec::new(alloc),
             cut: None,
+            fails: (false, false),
             rest: Vec::new(alloc),
             out: Vec::new(alloc),
             diag: Vec::new(alloc),
@@ -61,6 +67,8 @@ impl Row {
         let (key, text) = line.split_once(' ').unwrap_or((line, ""));
         match key {
             "row" => self.name = String::from_str(alloc, text)?,
+            "program" => self.asked = text == "pota_ask",
+            "fails" => self.fails = (text == "read", text == "write"),
             "word" => self.words.push(String::from_str(alloc, text)?)?,
             "in" => put_line(&mut self.input, text)?,
             "cut" => self.cut = two_numbers(text),

@@ -43,17 +43,18 @@ use Rattle.torn_log.specs.Torn.{IsKept, IsTornOf}
 use Rattle.torn_log.proofs.Keeping.{kept_append}
 use Rattle.torn_text.specs.Mending.{mended}
 use Rattle.torn_log.specs.Items.{with_items}
-use Rattle.one_log.specs.declared.asking.Form.{Form}
-use Rattle.one_log.specs.declared.asking.Form.TheVariants as form
-use Rattle.one_log.specs.declared.places.Places.{Places}
-use Rattle.one_log.specs.declared.places.Places.TheVariants.{Lines}
+use Rattle.log_input.specs.declared.form.Form.{Form}
+use Rattle.log_input.specs.declared.form.Form.TheVariants as form
+use Rattle.log_input.specs.declared.places.Places.{Places}
+use Rattle.log_input.specs.declared.places.Places.TheVariants.{Lines}
 use Rattle.one_log.specs.declared.torn.TornInput.{TornInput}
 use Rattle.one_log.specs.declared.torn.TornInput.TheVariants.{Whole, Faulty, Failed, TooLong}
 use Rattle.one_log.specs.Logging.{HasTornFault, items_of, events_of, torn_due}
-use Rattle.one_log.specs.inside.Inputs.{place_by}
+use Rattle.log_input.specs.Places.{place_by}
 use Rattle.one_log.specs.inside.Torn.{text_refusal, AreWhole, EndsWhole, judged_upto, IsTornJudged, IsMergedTornOf, IsTornAt, StandsTornTo, HasStoodTorn}
-use Rattle.one_log.proofs.Stands.{Open, Done, merged_none}
-use Rattle.one_log.proofs.Wholes.{Closes, IsTakenOf, can_be, whole_free}
+use Rattle.log_input.proofs.Stands.{Open, Done, merged_none}
+use Rattle.log_input.proofs.Wholes.{Closes, IsTakenOf, faultless_so, whole_free}
+use Rattle.one_log.proofs.Kept.{kept_so}
 
 -- ---- items that end whole
 
@@ -171,7 +172,7 @@ module _ (items : List Item) (torn : Torn) (is : IsTornOf items torn) where
           cut = is.cut;
           greatest = is.greatest;
           whole = closes.whole ∙ ap (λ (p : Prefix). Some p) (sym is_log.0);
-          can = can_be log is_log.1 is_log.2;
+          can = kept_so log (faultless_so log is_log.1 is_log.2);
           left_out_are = left_is ∙ is.left_out_are;
         },
       )
@@ -247,8 +248,8 @@ module _ (text : List ℕ) (faultless : last_fault (after no_sources text) ≡ N
   due_is : (cut : Cut) → torn_due form.Merged cut text ≡ told true (merged_place text) (judged_upto cut (log_items (merged_log_of text))) None
   due_is cut = ap (λ (o : Option Refusal). told true (merged_place text) (judged_upto cut (items_at_end true o (merged_log_of text))) o) none
 
-  kept_so : (cut : Cut) → IsKept (events_in (log_items (merged_log_of text))) cut → IsKept (events_of form.Merged text) cut
-  kept_so cut greatest = subst (λ (xs : List Item). IsKept (events_in xs) cut) (sym items_same) greatest
+  greatest_so : (cut : Cut) → IsKept (events_in (log_items (merged_log_of text))) cut → IsKept (events_of form.Merged text) cut
+  greatest_so cut greatest = subst (λ (xs : List Item). IsKept (events_in xs) cut) (sym items_same) greatest
 
   pub merged_torn : (input : TornInput) → IsMergedTornOf (logs_of (after no_sources text)) input → IsTornAt form.Merged text input
   merged_torn (Whole b) j =
@@ -256,7 +257,7 @@ module _ (text : List ℕ) (faultless : last_fault (after no_sources text) ≡ N
       record {
         has = record {
           cut = j.1.cut;
-          greatest = kept_so j.1.cut j.1.greatest;
+          greatest = greatest_so j.1.cut j.1.greatest;
           free = ap (λ (d : Due). d.fault) (due_is j.1.cut) ∙ whole_free (merged_place text) at (all_of b.log) j.1.whole;
           whole = ap (λ (d : Due). d.whole) (due_is j.1.cut) ∙ j.1.whole;
         };
@@ -264,7 +265,7 @@ module _ (text : List ℕ) (faultless : last_fault (after no_sources text) ≡ N
         left_out_are = j.1.left_out_are ∙ ap (λ (xs : List Item). left_out (events_in xs) j.1.cut) (sym items_same);
       }
   merged_torn (Faulty why) j =
-      record { cut = j.cut; greatest = kept_so j.cut j.greatest; is = ap (λ (d : Due). d.fault) (due_is j.cut) ∙ j.is }
+      record { cut = j.cut; greatest = greatest_so j.cut j.greatest; is = ap (λ (d : Due). d.fault) (due_is j.cut) ∙ j.is }
   merged_torn Failed j = absurd j
   merged_torn TooLong j = absurd j
 

@@ -1,8 +1,6 @@
 pub mod Words
-pub mod Texts
 pub mod Pieces
-pub mod Wholes
-pub mod Stands
+pub mod Kept
 pub mod Beginnings
 pub mod Batches
 pub mod LeftOut

@@ -10,8 +10,8 @@ use Rattle.kept_names.specs.declared.names.Names.{Names}
 use Rattle.kept_names.specs.Words.{is_keep, others, others_from, names_kept}
 use Rattle.one_log.specs.declared.asking.Asked.{Asked}
 use Rattle.one_log.specs.declared.asking.Flags.{Flags}
-use Rattle.one_log.specs.declared.asking.Form.{Form}
-use Rattle.one_log.specs.declared.asking.Form.TheVariants as form
+use Rattle.log_input.specs.declared.form.Form.{Form}
+use Rattle.log_input.specs.declared.form.Form.TheVariants as form
 use Rattle.one_log.specs.Asking.{with_word, with_next, with_words, if_taken, is_clocks, flags_by, asked_by, flags_at_first}
 
 abbrev pub under : Option Flags → Option Flags

@@ -16,14 +16,16 @@ use Rattle.log_rules.specs.WholeLogs.{all_of}
 use Rattle.one_log.specs.declared.asking.Asked.{Asked}
 use Rattle.one_log.specs.declared.fault.Fault.{Fault}
 use Rattle.one_log.specs.declared.fault.Fault.TheVariants as fault
-use Rattle.one_log.specs.declared.reading.Input.TheVariants.{Whole, Faulty, Failed}
+use Rattle.log_input.specs.declared.places.Places.{Places}
+use Rattle.log_input.specs.declared.reading.Input.TheVariants.{Whole, Faulty, Failed}
 use Rattle.one_log.specs.Asking.{asked_by}
 use Rattle.one_log.specs.Calm.{IsCalm}
 use Rattle.one_log.specs.declared.torn.Beginning.{Beginning}
 use Rattle.one_log.specs.declared.torn.TornInput.TheVariants as torn
 use Rattle.one_log.specs.LeftOut.{left_out_lines}
 use Rattle.one_log.specs.Logging.{asked_text, HasLogBy, HasAsked, HasLogged, IsAnswer, IsToldOf, IsRefusedBy, IsFreeBy, IsTooLong, Says}
-use Rattle.one_log.specs.inside.Inputs.{HasStood, IsTextFor, PutsTo, PutsLog}
+use Rattle.log_input.specs.Inputs.{HasStood}
+use Rattle.one_log.specs.inside.Inputs.{IsTextFor, PutsTo, PutsLog}
 use Rattle.one_log.specs.inside.Torn.{HasStoodTorn}
 
 -- ---- a line
@@ -115,9 +117,9 @@ module _ (words : List (List ℕ)) (asked : Asked) (asks : asked_by words ≡ So
     as_plain : (P : Bool → Type 0) → P false → P asked.flags.torn
     as_plain P p = subst P (sym plain) p
 
-    pub whole : (log : Log) (stood : HasStood asked.flags.form s (Whole log)) (held' : Option (List ℕ)) (of' : ℕ) (f : Option Fault) → PutsLog words asked (all_of log) held held' of of' f
+    pub whole : (log : Log) (places : Places) (stood : HasStood asked.flags.form s (Whole log places)) (held' : Option (List ℕ)) (of' : ℕ) (f : Option Fault) → PutsLog words asked (all_of log) held held' of of' f
         → HasLogged s.before s.after held held' s.faults_before s.faults_after of of' words f []
-    whole log stood held' of' f puts =
+    whole log places stood held' of' f puts =
         logged stood.read stood.consumed stood.to.0 (all_of log) (as_plain (λ t. HasLogBy t asked.flags.form stood.read (all_of log)) stood.to.2.has) held' of' [] f puts
         (λ none. as_plain (λ t. IsToldOf t asked.flags.form stood.read []) refl)
 

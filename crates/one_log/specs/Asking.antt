@@ -6,8 +6,8 @@ use Rattle.std.specs.Option.{option_map}
 use Rattle.std.specs.Str.{bytes_eq}
 use Rattle.log_lines.specs.Reading.{choose}
 use Rattle.kept_names.specs.Words.{is_keep, names_kept, others}
-use Rattle.one_log.specs.declared.asking.Form.{Form}
-use Rattle.one_log.specs.declared.asking.Form.TheVariants as form
+use Rattle.log_input.specs.declared.form.Form.{Form}
+use Rattle.log_input.specs.declared.form.Form.TheVariants as form
 use Rattle.one_log.specs.declared.asking.Flags.{Flags}
 use Rattle.one_log.specs.declared.asking.Asked.{Asked}
 

@@ -27,29 +27,14 @@ use Rattle.kept_log.specs.Named.{names_of}
 use Rattle.kept_log.specs.Unknown.{unknown_word}
 use Rattle.form_readings.specs.Clocks.{clocks_reading}
 use Rattle.form_readings.specs.Sources.{merged_reading}
-use Rattle.one_log.specs.declared.asking.Form.{Form}
-use Rattle.one_log.specs.declared.asking.Form.TheVariants as form
+use Rattle.log_input.specs.declared.form.Form.{Form}
+use Rattle.log_input.specs.declared.form.Form.TheVariants as form
+use Rattle.log_input.specs.Readings.{reading_of, log_due, HasLog}
 use Rattle.one_log.specs.declared.asking.Asked.{Asked}
 use Rattle.one_log.specs.declared.fault.Fault.{Fault}
 use Rattle.one_log.specs.declared.fault.Fault.TheVariants as fault
 use Rattle.one_log.specs.Asking.{asked_by}
 use Rattle.one_log.specs.LeftOut.{left_out_lines}
-
--- ---- the log of an input
-
-abbrev pub reading_of : Form → Reading
-reading_of form.OneLog = log_reading
-reading_of form.Merged = merged_reading
-reading_of form.Clocks = clocks_reading
-
--- what is due of the bytes without a formula
-abbrev pub log_due : Form → (ended : Bool) → List ℕ → Due
-log_due form ended bytes = due (reading_of form) without_formula ended bytes
-
--- no fault is due of the input, and this is its log with all clocks filled in
-pub record HasLog (form : Form) (input : List ℕ) (log : Prefix) : Type 0 where
-  pub free : (log_due form true input).fault ≡ None
-  pub whole : (log_due form true input).whole ≡ Some log
 
 -- ---- the log of torn logs, whose texts were mended
 

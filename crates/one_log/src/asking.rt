@@ -4,19 +4,9 @@ ghost use Rattle.one_log.specs.Asking.{with_form, with_one_batch, with_torn, wit
 ghost use Rattle.one_log.specs.Asking.{with_next, is_clocks, if_taken, flags_by, asked_by};
 
 use kept_names::{Names, is_keep, names_kept, waits_behind};
+use log_input::Form;
 use pota_base::NoMemory;
 use std::alloc::Global;
-
-/// A form of input.
-#[derive(Clone, Copy, Debug, PartialEq, Eq)]
-pub enum Form {
-    /// The text of one log.
-    OneLog,
-    /// The texts of several logs one behind another, each of one process.
-    Merged,
-    /// Records of two lines, of which the first has a vector clock.
-    Clocks,
-}
 
 /// What the words without a value ask for.
 #[derive(Clone, Copy, Debug, PartialEq, Eq)]

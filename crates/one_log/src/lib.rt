@@ -25,12 +25,11 @@
 mod asking;
 mod fault;
 mod left_out;
-mod places;
-mod reading;
 mod telling;
 mod top;
 mod torn;
 
-pub use asking::{Asked, Flags, Form};
+pub use asking::{Asked, Flags};
 pub use fault::Fault;
+pub use log_input::Form;
 pub use top::{Logged, write_one_log};

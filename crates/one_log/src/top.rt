@@ -15,12 +15,12 @@ ghost use Rattle.one_log.specs.inside.Inputs.{PutsLog};
 use crate::asking::{Asked, asked_by};
 use crate::fault::Fault;
 use crate::left_out::left_out_lines;
-use crate::reading::{Input, read_input};
 use crate::telling::tell;
 use crate::torn::{Beginning, TornInput, read_torn};
 use event_log::{Event, Log};
 use kept_log::{keep, unknown_word};
 use kept_names::Names;
+use log_input::{Input, read_input};
 use log_writing::text_of;
 use pota_base::{Bytes, LONGEST_LOG, List, NoMemory, Sink, Source, write_all};
 use std::alloc::Global;
@@ -221,7 +221,10 @@ fn log_whole<S: Source, O: Sink>(
     ensures calm { IsCalm (S.faults input.old) (S.faults input.new) result }
 {
     match read_input(alloc, asked.flags.form, input) {
-        Ok(Input::Whole(log)) => put_log(alloc, words, asked, log, out),
+        Ok(Input::Whole(log, places)) => {
+            drop(places);
+            put_log(alloc, words, asked, log, out)
+        }
         Ok(Input::Faulty(refusal)) => Some(Fault::Refused(refusal)),
         Ok(Input::Failed) => Some(Fault::Read),
         Err(NoMemory) => Some(Fault::Memory),

@@ -32,8 +32,9 @@ use Rattle.log_rules.specs.SoFar.{trace_so_far}
 use Rattle.log_rules.specs.WholeLogs.{first_fall, IsLogFor, all_of}
 use Rattle.log_rules.proofs.Logs.{log_due as due_of_log}
 use Rattle.one_log.specs.declared.asking.Asked.{Asked}
-use Rattle.one_log.specs.declared.asking.Form.TheVariants as form
-use Rattle.one_log.specs.Logging.{batches_by, kept_of, one_log, asked_text, events_of, HasLog, IsLogOf}
+use Rattle.log_input.specs.declared.form.Form.TheVariants as form
+use Rattle.one_log.specs.Logging.{batches_by, kept_of, one_log, asked_text, events_of, IsLogOf}
+use Rattle.log_input.specs.Readings.{HasLog}
 use Rattle.one_log_laws.specs.Laws.{as_it_is, WrittenAgainItIsTheSame, ItIsReadAsItWasWritten, ItTellsOfTheSameRun, OneTextIsWritten, NoGreaterBeginningIsLogged}
 use Rattle.one_log_laws.specs.inside.Lines.{without_line, without_lines, as_read}
 use Rattle.one_log_laws.proofs.Few.{IsSmall}

@@ -20,9 +20,10 @@ use Rattle.log_rules.specs.Reported.{listed}
 use Rattle.log_rules.proofs.Readings.{log_is_read}
 use Rattle.log_rules.proofs.Sound.{all_sound}
 use Rattle.log_trace.specs.Judging.{without_formula}
-use Rattle.one_log.specs.declared.asking.Form.{Form}
-use Rattle.one_log.specs.declared.asking.Form.TheVariants as form
-use Rattle.one_log.specs.Logging.{reading_of, HasLogBy, HasTornLog, events_of, items_of, torn_due, upto}
+use Rattle.log_input.specs.declared.form.Form.{Form}
+use Rattle.log_input.specs.declared.form.Form.TheVariants as form
+use Rattle.log_input.specs.Readings.{reading_of}
+use Rattle.one_log.specs.Logging.{HasLogBy, HasTornLog, events_of, items_of, torn_due, upto}
 use Rattle.one_log_laws.proofs.Few.{IsSmall, whole_small}
 use Rattle.one_log_laws.proofs.Fine.{IsFine, fine_first, fine_next}
 

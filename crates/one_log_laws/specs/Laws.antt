@@ -18,9 +18,10 @@ use Rattle.event_log.specs.States.{trace_of_log}
 use Rattle.log_rules.specs.Judgement.{Prefix}
 use Rattle.log_rules.specs.SoFar.{trace_so_far}
 use Rattle.one_log.specs.declared.asking.Asked.{Asked}
-use Rattle.one_log.specs.declared.asking.Form.{Form}
-use Rattle.one_log.specs.declared.asking.Form.TheVariants as form
-use Rattle.one_log.specs.Logging.{HasLog, HasLogBy, HasTornLog, IsLogOf, events_of}
+use Rattle.log_input.specs.declared.form.Form.{Form}
+use Rattle.log_input.specs.declared.form.Form.TheVariants as form
+use Rattle.log_input.specs.Readings.{HasLog}
+use Rattle.one_log.specs.Logging.{HasLogBy, HasTornLog, IsLogOf, events_of}
 use Rattle.one_log.specs.Logging.{kept_of, one_log}
 
 -- one log is read, and its batches stay

@@ -1,6 +1,6 @@
 -- Lines, circles, texts and cuts are elements.
-use Rattle.std.proofs.Common.{◌≡◌, ℕ, zero, suc, ◌+◌, ◌-◌, true, List, [], ◌∷◌, ◌++◌, length, refl, subst, append_assoc}
-use Rattle.std.specs.Prelude.{codes}
+use Rattle.std.proofs.Common.{◌≡◌, ℕ, zero, suc, ◌+◌, ◌-◌, Bool, true, false, List, [], ◌∷◌, ◌++◌, length, get_or, refl, subst, append_assoc}
+use Rattle.std.specs.Prelude.{codes, if◌then◌else◌}
 use Rattle.std.specs.Fmt.{decimal}
 use Rattle.log_lines.specs.Names.{are_distinct}
 use Rattle.run_model.specs.Cut.{Cut}
@@ -11,7 +11,8 @@ use Rattle.view_picture.specs.declared.frame.Frame.{Frame}
 use Rattle.view_picture.specs.Columns.{Rows}
 use Rattle.view_picture.specs.Svg.{attribute, line, circle, text}
 use Rattle.view_picture.specs.Frame.{at, lane}
-use Rattle.view_picture.specs.Drawing.{spot, bow, edge_drawn, crossing, corner, corners, cut_drawn}
+use Rattle.view_picture.specs.Drawing.{spot, bow, edge_drawn, crossing, corner, corners, shown_corners, cut_drawn}
+use Rattle.view_picture.specs.Shown.{has_shown}
 use Rattle.picture_laws.specs.Xml.{Attribute, is_in_value, attribute_text, names_of, IsContent}
 use Rattle.picture_laws.proofs.Plain.{IsValue, both, number_value}
 use Rattle.picture_laws.proofs.Grammar.{feed, Look, look_of, attr, valued, number, looks, leaf, box}
@@ -71,7 +72,14 @@ corner_value x y = both is_in_value (decimal x) (44 ∷ decimal y) (number_value
 corners_value : (f : Frame) (rows : Rows) (cut : Cut) (shift process : ℕ) → IsValue (corners f rows cut shift process)
 corners_value f rows cut shift process =
     let x = crossing f rows cut shift process in
-    both is_in_value (corner x (lane process - 32)) (corner x (lane process + 32)) (corner_value x (lane process - 32)) (corner_value x (lane process + 32))
+    both is_in_value (corner x (lane rows process - 32)) (corner x (lane rows process + 32)) (corner_value x (lane rows process - 32)) (corner_value x (lane rows process + 32))
+
+shown_corners_value : (f : Frame) (rows : Rows) (cut : Cut) (shift process : ℕ) → IsValue (shown_corners f rows cut shift process)
+shown_corners_value f rows cut shift process = either (has_shown (get_or rows process []))
+  where
+    either : (b : Bool) → IsValue (if b then corners f rows cut shift process else [])
+    either true = corners_value f rows cut shift process
+    either false = refl
 
 each_value : (made : ℕ → List ℕ) (n : ℕ) → ((k : ℕ) → IsValue (made k)) → IsValue (each_below n made)
 each_value made zero each = refl
@@ -86,12 +94,12 @@ no_fill = attr (codes "fill") (codes "none") ∷ []
 pub cut_content : (f : Frame) (rows : Rows) (cut : Cut) (shift : ℕ) (names : List (List ℕ)) (look : List ℕ) → Look names look → are_distinct (codes "points" ∷ codes "fill" ∷ names) ≡ true
     → IsContent (cut_drawn f rows cut shift look)
 cut_content f rows cut shift names look l distinct =
-    let points = each_below (length cut) (corners f rows cut shift) in
+    let points = each_below (length cut) (shown_corners f rows cut shift) in
     let fill = codes " fill='none'" in
     subst IsContent (value_first (codes "<polyline points='") points (39 ∷ []) fill look (codes "/>" ++ 10 ∷ []))
     (leaf (codes "polyline") (codes "points" ∷ codes "fill" ∷ names) (attribute_text (attr (codes "points") points) ++ (fill ++ look)) (10 ∷ []) refl
     (looks (codes "points" ∷ []) (codes "fill" ∷ names) (attribute_text (attr (codes "points") points)) (fill ++ look)
-    (valued (codes "points") points refl (each_value (corners f rows cut shift) (length cut) (corners_value f rows cut shift)))
+    (valued (codes "points") points refl (each_value (shown_corners f rows cut shift) (length cut) (shown_corners_value f rows cut shift)))
     (looks (codes "fill" ∷ []) names fill look (look_of no_fill refl) l))
     distinct feed)
 

@@ -1,6 +1,9 @@
 pub mod Places
 pub mod Once
 pub mod Arrows
+pub mod Mailed
+pub mod Order
+pub mod Ties
 pub mod Dashes
 pub mod Listed
 pub mod Plain

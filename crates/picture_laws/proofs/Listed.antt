@@ -11,15 +11,14 @@ use Rattle.run_model.specs.Class.{Shown}
 use Rattle.run_model.specs.Slice.{Slice, Edge as EdgeOfRun, cut_of, previous, edge_into, edges_of, IsPrintedAs}
 use Rattle.slice_graph.specs.declared.edges.Edge.{Edge}
 use Rattle.slice_graph.specs.Edges.{edge_of}
-use Rattle.report_lines.specs.Spelling.{EdgeFits}
 use Rattle.report.specs.declared.report.SliceText.{SliceText}
 use Rattle.run_report.specs.Reports.{IsSliceShown}
-use Rattle.view_picture.specs.Picture.{most_edges, edges_of as edges_in}
-use Rattle.view_picture.specs.Laws.{is_place}
+use Rattle.view_picture.specs.Told.{most_edges, edges_of as edges_in}
+use Rattle.view_picture.specs.Choice.{is_place}
 use Rattle.picture_laws.specs.Lines.{times_drawn, edge_line, edge_lines, first_edges, is_edge, times_listed}
 use Rattle.picture_laws.specs.Laws.{EachFirstEdgeHasOneLine}
-use Rattle.picture_laws.proofs.Places.{all_take, place_itself, second_false}
-use Rattle.picture_laws.proofs.Dashes.{edges_fit, first_edges_have_their_lines}
+use Rattle.picture_laws.proofs.Places.{place_itself, second_false}
+use Rattle.picture_laws.proofs.Dashes.{HasMarks, first_marked, first_edges_have_their_lines}
 
 -- ---- how often an edge stands among edges as the model of runs has them
 
@@ -160,10 +159,10 @@ paired P Q R step [] all more = tt
 paired P Q R step (x ∷ xs) all more = (step x all.0 more.0, paired P Q R step xs all.1 more.1)
 
 pub each_first_edge_has_one_line : EachFirstEdgeHasOneLine
-each_first_edge_has_one_line s f rows r drawable formed report_of asked run formula is =
-    paired (EdgeFits r.lengths) (λ e. 1 ≤ times_listed e (first_edges r)) (λ e. times_drawn (edge_line f rows e) (edge_lines f rows r) ≡ 1)
-    (λ e fits some. first_edges_have_their_lines s f rows r drawable formed report_of e fits ∙ once e some)
-    (first_edges r) (all_take (EdgeFits r.lengths) most_edges (edges_in r.slice) (edges_fit r.lengths r.slice formed.slice)) (each_listed (first_edges r))
+each_first_edge_has_one_line s f x r rows drawable formed report_of asked run formula is =
+    paired (HasMarks s rows) (λ e. 1 ≤ times_listed e (first_edges r)) (λ e. times_drawn (edge_line f rows e) (edge_lines f rows r) ≡ 1)
+    (λ e marked some. first_edges_have_their_lines s f x r rows drawable formed report_of e marked.0 marked.1 ∙ once e some)
+    (first_edges r) (first_marked s x r rows drawable formed report_of) (each_listed (first_edges r))
   where
     once : (e : Edge) → 1 ≤ times_listed e (first_edges r) → times_listed e (first_edges r) ≡ 1
     once e some = omega (arith, some, fewer e most_edges (edges_in r.slice), listed_once asked run formula r.slice is e)

@@ -32,7 +32,7 @@ has_names : (h : Header) → HeaderFits h → HasNames h
 has_names h fits = record { procs = fits.procs.each; variables = all_named h.vars fits.vars }
 
 pub pictures_of_runs : PicturesOfRunsAreWellFormed
-pictures_of_runs s r bytes fits formed is =
+pictures_of_runs s x r bytes fits formed is =
     subst IsDocument (sym is.text_is) (pictures_are_well_formed s is.rows r (has_names s.header fits) (canonical_is_printed r.formula formed.formula))
 
 -- ---- what is written of an input
@@ -52,4 +52,4 @@ log_named input s log =
     subst (λ (t : StatesView). HeaderFits t.header) (sym log.states) named.0
 
 pub written_pictures : WrittenPicturesAreWellFormed
-written_pictures input shown is = pictures_of_runs is.states is.report shown (log_named input is.states is.log) is.text.fits is.view
+written_pictures x input shown is = pictures_of_runs is.states x is.report shown (log_named input is.states is.log) is.text.fits is.view

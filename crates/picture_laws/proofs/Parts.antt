@@ -1,7 +1,7 @@
 -- What is drawn of events, messages, cuts, witnesses and slices is content.
 use Rattle.std.proofs.Common.{◌≡◌, ℕ, zero, suc, ◌+◌, ◌-◌, ◌*◌, Bool, true, false, List, [], ◌∷◌, ◌++◌, length, map, take, get_or, refl, subst, append_assoc}
 use Rattle.std.specs.Prelude.{codes, min, nat_lt, nat_le, ◌==◌, Option, None, Some, if◌then◌else◌}
-use Rattle.std.specs.List.{AllByRecursion, filter, flat_map}
+use Rattle.std.specs.List.{AllByRecursion, count_by, flat_map}
 use Rattle.std.specs.Fmt.{decimal, signed_decimal}
 use Rattle.run_model.specs.Cut.{Cut}
 use Rattle.log_lines.specs.Names.{is_name, are_distinct}
@@ -23,10 +23,15 @@ use Rattle.report.specs.declared.report.SliceText.{SliceText}
 use Rattle.view_picture.specs.declared.svg.Point.{Point}
 use Rattle.view_picture.specs.declared.frame.Frame.{Frame}
 use Rattle.view_picture.specs.Columns.{Rows}
-use Rattle.view_parts.specs.Each.{each_below, places}
+use Rattle.view_parts.specs.Each.{each_below}
 use Rattle.view_picture.specs.Svg.{line, circle, text}
-use Rattle.view_picture.specs.Frame.{lane, at}
-use Rattle.view_picture.specs.Drawing.{point, lane_drawn, send_of, arrow_from, arrow_to, title}
+use Rattle.view_picture.specs.Frame.{lane, behind, at}
+use Rattle.slice_graph.specs.declared.edges.Edge.{Edge}
+use Rattle.view_picture.specs.Told.{most_edges}
+use Rattle.view_picture.specs.Shown.{is_shown, shown_events, has_shown, left_out}
+use Rattle.view_picture.specs.Ties.{shown_send}
+use Rattle.view_picture.specs.Drawing.{left_out_look, left_out_text, halfway, left_out_before, right_of, left_out_behind, left_out_drawn, tie_look, tie_drawn}
+use Rattle.view_picture.specs.Drawing.{point, lane_drawn, arrow_from, arrow_to, title}
 use Rattle.view_picture.specs.Drawing.{lost_of, short_of, lost_look, lost_to, lost_from}
 use Rattle.view_picture.specs.Drawing.{receives, number_of, lanes_apart, on_arrow, most_numbers}
 use Rattle.view_picture.specs.Drawing.{message_number_look, number_from, number_to, numbers_drawn}
@@ -35,12 +40,12 @@ use Rattle.view_picture.specs.Drawing.{is_beyond, cut_drawn, mark_look, number_l
 use Rattle.view_picture.specs.Drawing.{name_within, value_text, room_for, no_assign, assign_text}
 use Rattle.view_picture.specs.Drawing.{under_look, under, more_under, assigns_under}
 use Rattle.view_picture.specs.Drawing.{mark, least_look, greatest_look, goal_look}
-use Rattle.view_picture.specs.Drawing.{step_look, numbered, no_place, steps_drawn, ring, path_drawn}
+use Rattle.view_picture.specs.Drawing.{step_look, numbered, no_place, step_drawn, steps_drawn, ring, path_drawn}
 use Rattle.view_picture.specs.Drawing.{witness_drawn}
 use Rattle.view_picture.specs.Picture.{row_at, told, sample, sample_disc, message_look, legend}
-use Rattle.view_picture.specs.Picture.{slice_legend, bounds_drawn, slice_drawn, most_edges}
+use Rattle.view_picture.specs.Picture.{slice_legend, bounds_drawn, slice_drawn}
 use Rattle.view_picture.specs.Picture.{edges_note, edge_sample_look, edges_told, edges_legend, meaning_of}
-use Rattle.view_picture.specs.Picture.{witness_meaning, one_drawn}
+use Rattle.view_picture.specs.Picture.{witness_meaning, one_drawn, ties_legend, note_text, are_all, note_drawn}
 use Rattle.picture_laws.specs.Xml.{Attribute, is_plain, names_of, IsContent, nothing}
 use Rattle.picture_laws.specs.WellFormed.{HasNames}
 use Rattle.picture_laws.proofs.Plain.{IsPlain, both, first_of, number_plain, signed_plain, names_plain}
@@ -192,21 +197,59 @@ lane_attributes = attr (codes "stroke") (codes "#bbbbbb") ∷ attr (codes "strok
 abbrev name_attributes : List Attribute
 name_attributes = attr (codes "font-size") (codes "15") ∷ attr (codes "font-weight") (codes "bold") ∷ []
 
-pub lane_content : (s : StatesView) → HasNames s.header → (f : Frame) (process : ℕ) → IsContent (lane_drawn s f process)
-lane_content s named f process =
+pub lane_content : (s : StatesView) → HasNames s.header → (f : Frame) (rows : Rows) (process : ℕ) → IsContent (lane_drawn s f rows process)
+lane_content s named f rows process =
     let name = name_at s.header.procs process in
-    let from = point f.left (lane process) in
-    let to = point (f.width - 20) (lane process) in
+    let y = lane rows process in
+    let from = point f.left y in
+    let to = point (f.width - 20) y in
     let look = codes " stroke='#bbbbbb' stroke-width='2'" in
     let bold = codes " font-size='15' font-weight='bold'" in
-    one_more (line from to look) (text (point 20 (lane process + 5)) bold name) (line_content from to (names_of lane_attributes) look (look_of lane_attributes refl) refl)
-    (text_content (point 20 (lane process + 5)) (names_of name_attributes) bold name (look_of name_attributes refl) refl (plain_content name (process_plain s named process)))
+    either_content (has_shown (get_or rows process [])) (line from to look ++ text (point 20 (y + 5)) bold name) []
+    (one_more (line from to look) (text (point 20 (y + 5)) bold name) (line_content from to (names_of lane_attributes) look (look_of lane_attributes refl) refl)
+    (text_content (point 20 (y + 5)) (names_of name_attributes) bold name (look_of name_attributes refl) refl (plain_content name (process_plain s named process))))
+    nothing
+
+-- ---- what is left out, and ties
+
+abbrev left_out_attributes : List Attribute
+left_out_attributes = attr (codes "font-size") (codes "10") ∷ rimmed (codes "middle") (codes "#777777") (codes "3")
+
+left_out_text_content : (p : Point) (n : ℕ) → IsContent (left_out_text p n)
+left_out_text_content p n =
+    let shown = codes ".. " ++ decimal n ++ codes " .." in
+    either_content (n == 0) [] (text (point p.x (p.y - 15)) left_out_look shown) nothing
+    (text_content (point p.x (p.y - 15)) (names_of left_out_attributes) left_out_look shown (look_of left_out_attributes refl) refl
+    (plain_content shown (both is_plain (codes ".. " ++ decimal n) (codes " ..") (both is_plain (codes ".. ") (decimal n) refl (number_plain n)) refl)))
+
+before_content : (f : Frame) (rows : Rows) (e : EventId) → IsContent (left_out_before f rows e)
+before_content f rows e = left_out_text_content (halfway (behind f rows e.process (e.position - 1)) (at f rows e)) (left_out rows e.process (e.position - 1))
+
+behind_content : (f : Frame) (rows : Rows) (process events : ℕ) → IsContent (left_out_behind f rows process events)
+behind_content f rows process events =
+    let shown = left_out_text (right_of (behind f rows process events)) (left_out rows process events) in
+    either_content (has_shown (get_or rows process [])) shown [] (left_out_text_content (right_of (behind f rows process events)) (left_out rows process events)) nothing
+
+pub left_out_content : (s : StatesView) (f : Frame) (rows : Rows) → IsContent (left_out_drawn s f rows)
+left_out_content s f rows =
+    let events = shown_events (map length s.events) rows in
+    let last : ℕ → List ℕ = λ p. left_out_behind f rows p (get_or (map length s.events) p 0) in
+    one_more (flat_map (left_out_before f rows) events) (each_below (length s.events) last) (all_content (left_out_before f rows) events (before_content f rows))
+    (each_content last (length s.events) (λ p. behind_content f rows p (get_or (map length s.events) p 0)))
+
+abbrev tie_attributes : List Attribute
+tie_attributes = attr (codes "stroke") (codes "#999999") ∷ attr (codes "stroke-width") (codes "1") ∷ []
+
+pub tie_content : (f : Frame) (rows : Rows) (tie : Edge) → IsContent (tie_drawn f rows tie)
+tie_content f rows tie = line_content (at f rows tie.cause) (at f rows tie.effect) (names_of tie_attributes) tie_look (look_of tie_attributes refl) refl
+
+-- ---- messages
 
 abbrev arrow_attributes : List Attribute
 arrow_attributes = attr (codes "stroke") (codes "#555555") ∷ attr (codes "stroke-width") (codes "1.5") ∷ attr (codes "marker-end") (codes "url(#message)") ∷ []
 
 pub arrow_content : (s : StatesView) (f : Frame) (rows : Rows) (e : EventId) → IsContent (arrow_to s f rows e)
-arrow_content s f rows e = by_send (send_of s e)
+arrow_content s f rows e = by_send (shown_send s rows e)
   where
     by_send : (o : Option EventId) → IsContent (arrow_from f rows e o)
     by_send None = nothing
@@ -229,7 +272,7 @@ abbrev number_attributes : List Attribute
 number_attributes = attr (codes "font-size") (codes "10") ∷ rimmed (codes "middle") (codes "#555555") (codes "3")
 
 number_content : (s : StatesView) (f : Frame) (rows : Rows) (e : EventId) → IsContent (number_to s f rows e)
-number_content s f rows e = by_send (send_of s e)
+number_content s f rows e = by_send (shown_send s rows e)
   where
     by_send : (o : Option EventId) → IsContent (number_from f rows e (number_of (event_at s e).kind) o)
     by_send None = nothing
@@ -239,8 +282,8 @@ number_content s f rows e = by_send (send_of s e)
 
 pub numbers_content : (s : StatesView) (f : Frame) (rows : Rows) → IsContent (numbers_drawn s f rows)
 numbers_content s f rows =
-    let events = places (map length s.events) in
-    either_content (nat_le (length (filter (receives s) events)) most_numbers) (flat_map (number_to s f rows) events) [] (all_content (number_to s f rows) events (number_content s f rows)) nothing
+    let events = shown_events (map length s.events) rows in
+    either_content (nat_le (count_by (receives s) events) most_numbers) (flat_map (number_to s f rows) events) [] (all_content (number_to s f rows) events (number_content s f rows)) nothing
 
 -- ---- cuts and witnesses
 
@@ -263,10 +306,13 @@ numbered_content : (p : Point) (number : ℕ) → IsContent (numbered p number)
 numbered_content p number =
     text_content (point (p.x - 14) (p.y + 4)) (names_of step_attributes) step_look (decimal number) (look_of step_attributes refl) refl (plain_content (decimal number) (number_plain number))
 
+step_content : (f : Frame) (rows : Rows) (e : EventId) (number : ℕ) → IsContent (step_drawn f rows e number)
+step_content f rows e number = either_content (is_shown rows e) (numbered (at f rows e) number) [] (numbered_content (at f rows e) number) nothing
+
 path_content : (f : Frame) (rows : Rows) (steps : List EventId) (goal : Cut) → IsContent (path_drawn f rows steps goal)
 path_content f rows steps goal =
     one_more (steps_drawn f rows steps) (cut_drawn f rows goal goal_shift goal_look)
-    (each_content (λ k. numbered (at f rows (get_or steps k no_place)) (k + 1)) (length steps) (λ k. numbered_content (at f rows (get_or steps k no_place)) (k + 1)))
+    (each_content (λ k. step_drawn f rows (get_or steps k no_place) (k + 1)) (length steps) (λ k. step_content f rows (get_or steps k no_place) (k + 1)))
     (cut_content f rows goal goal_shift (names_of goal_attributes) goal_look (look_of goal_attributes refl) refl)
 
 ring_content : (f : Frame) (rows : Rows) (e : EventId) → IsContent (ring f rows e)
@@ -351,6 +397,29 @@ edges_legend_content f edges =
     let left_out = edges_note f (edges - most_edges) in
     either_content (edges == 0) [] (edges_told f edges) nothing
     (one_more dashed left_out (sample_content (row_at f 20 4) (names_of dashed_attributes) edge_sample_look (codes "edge of the slice") (look_of dashed_attributes refl) refl refl) (edges_note_content f (edges - most_edges)))
+
+pub ties_legend_content : (f : Frame) (ties : ℕ) → IsContent (ties_legend f ties)
+ties_legend_content f ties =
+    let meaning = codes "happened before, and no arrow shows it" in
+    either_content (ties == 0) [] (sample (row_at f 20 5) tie_look meaning) nothing (sample_content (row_at f 20 5) (names_of tie_attributes) tie_look meaning (look_of tie_attributes refl) refl refl)
+
+abbrev grey_attributes : List Attribute
+grey_attributes = attr (codes "font-size") (codes "12") ∷ attr (codes "fill") (codes "#555555") ∷ []
+
+note_plain : (shown events without : ℕ) → IsPlain (note_text shown events without)
+note_plain shown events without =
+    let first = codes "shown: " ++ decimal shown in
+    let second = first ++ codes " of " ++ decimal events in
+    let told = codes " events; .. N .. are N others; processes without a shown event: " in
+    both is_plain (second ++ told) (decimal without)
+    (both is_plain second told (both is_plain (first ++ codes " of ") (decimal events) (both is_plain first (codes " of ") (both is_plain (codes "shown: ") (decimal shown) refl (number_plain shown)) refl) (number_plain events)) refl)
+    (number_plain without)
+
+pub note_content : (shown events without : ℕ) → IsContent (note_drawn shown events without)
+note_content shown events without =
+    let told = note_text shown events without in
+    either_content (are_all shown events without) [] (text (point 20 84) (codes " font-size='12' fill='#555555'") told) nothing
+    (text_content (point 20 84) (names_of grey_attributes) (codes " font-size='12' fill='#555555'") told (look_of grey_attributes refl) refl (plain_content told (note_plain shown events without)))
 
 meaning_plain : (w : Witness) → IsPlain (meaning_of w)
 meaning_plain witness.Nothing = refl

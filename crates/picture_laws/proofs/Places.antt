@@ -1,7 +1,7 @@
 -- Places of events and their marks.
-use Rattle.std.proofs.Common.{◌≡◌, ℕ, zero, suc, ◌+◌, ◌<◌, ◌≤◌, Bool, true, false, ◌&&◌, List, [], ◌∷◌, length, map, take, get_or, refl, sym, ap, ◌∙◌, subst, arith, inl, inr, eq-eqb}
+use Rattle.std.proofs.Common.{◌≡◌, ℕ, zero, suc, ◌+◌, ◌<◌, Bool, true, false, ◌&&◌, List, [], ◌∷◌, length, map, take, get_or, refl, sym, ap, ◌∙◌, subst, arith, inl, inr, eq-eqb}
 use Rattle.std.specs.Prelude.{◌==◌}
-use Rattle.std.specs.List.{AllByRecursion}
+use Rattle.std.specs.List.{AllByRecursion, filter}
 use Rattle.std.proofs.lemmas.Bool.{cases_Bool, and_parts, and_from, eqb-true}
 use Rattle.std.proofs.lemmas.List.{get_or-map, length-map}
 use Rattle.run_model.specs.Cut.{lengths}
@@ -9,18 +9,24 @@ use Rattle.pota_base.specs.declared.shape.EventId.{EventId}
 use Rattle.pota_base.specs.Shape.{HasEvent}
 use Rattle.event_log.specs.declared.log.Event.{Event}
 use Rattle.event_log.specs.States.{StatesView}
-use Rattle.event_log.proofs.Lists.{all_append}
+use Rattle.run_model.specs.Consistent.{IsOrder}
+use Rattle.report.specs.declared.report.Report.{Report}
 use Rattle.vector_clock.specs.Events.{Events, own_events, clocks_of}
 use Rattle.vector_clock.proofs.Receipts.{faultless_order}
-use Rattle.view_parts.specs.Each.{each_below, own_places, places}
+use Rattle.view_parts.specs.Each.{places}
+use Rattle.view_parts.specs.declared.extent.Extent.{Extent}
+use Rattle.view_picture.specs.Choice.{is_place, is_wanted}
+use Rattle.view_picture.specs.Shown.{is_shown, shown_events}
+use Rattle.view_picture.proofs.Places.{places_there}
+use Rattle.view_picture.proofs.Shown.{chosen_are_shown}
 use Rattle.view_picture.specs.declared.svg.Point.{Point}
 use Rattle.view_picture.specs.declared.frame.Frame.{Frame}
 use Rattle.view_picture.specs.Columns.{Rows}
 use Rattle.view_picture.specs.Frame.{at}
-use Rattle.view_picture.specs.Laws.{is_place, times, AreApart}
+use Rattle.view_picture.specs.Laws.{times, AreApart}
 use Rattle.view_picture.proofs.Apart.{marks_are_apart}
 use Rattle.picture_laws.specs.Lines.{Ends, is_point, has_ends, times_drawn}
-use Rattle.picture_laws.specs.Laws.{IsDrawable}
+use Rattle.picture_laws.specs.Laws.{IsDrawable, IsMarked}
 
 -- ---- lists
 
@@ -34,10 +40,6 @@ all_take P zero xs all = tt
 all_take P (suc n) [] all = tt
 all_take P (suc n) (x ∷ xs) all = (all.0, all_take P n xs all.1)
 
-all_each : {A : Type 0} (P : A → Type 0) (made : ℕ → List A) (n : ℕ) → ((k : ℕ) → k < n → AllByRecursion P (made k)) → AllByRecursion P (each_below n made)
-all_each P made zero each = tt
-all_each P made (suc n) each = all_append P (each_below n made) (made n) (all_each P made n (λ k lt. each k (omega (arith, lt)))) (each n (omega arith))
-
 -- ---- events that are there
 
 pub lengths_are : (events : Events) → lengths (clocks_of events) ≡ map length events
@@ -46,12 +48,16 @@ lengths_are [] = refl
 lengths_are (es ∷ events) =
     ap (λ (n : ℕ). n ∷ map length (clocks_of events)) (length-map es (λ (e : Event). e.clock)) ∙ ap (λ (l : List ℕ). length es ∷ l) (lengths_are events)
 
-own_there : (lens : List ℕ) (p n : ℕ) → p < length lens → n ≤ get_or lens p 0 → AllByRecursion (HasEvent lens) (own_places p n)
-own_there lens p n lt le =
-    all_each (HasEvent lens) (λ k. record { process = p; position = k + 1 } ∷ []) n (λ k below. (record { process = omega (arith, lt); first = omega arith; last = omega (arith, le, below) }, tt))
+-- each event that is shown has a mark
+pub all_marked : (s : StatesView) (rows : Rows) (es : List EventId) → AllByRecursion (HasEvent (map length s.events)) es → AllByRecursion (IsMarked s rows) (filter (is_shown rows) es)
+all_marked s rows [] all = tt
+all_marked s rows (e ∷ es) all = elim (cases_Bool (is_shown rows e)) [
+  | inl shows ↦ rw shows (record { there = all.0; shown = shows }, all_marked s rows es all.1)
+  | inr hides ↦ rw hides (all_marked s rows es all.1)
+]
 
-pub places_there : (lens : List ℕ) → AllByRecursion (HasEvent lens) (places lens)
-places_there lens = all_each (HasEvent lens) (λ p. own_places p (get_or lens p 0)) (length lens) (λ p lt. own_there lens p (get_or lens p 0) lt (omega arith))
+pub marked_there : (s : StatesView) (rows : Rows) → AllByRecursion (IsMarked s rows) (shown_events (map length s.events) rows)
+marked_there s rows = all_marked s rows (places (map length s.events)) (places_there (map length s.events))
 
 -- as many as the lengths say
 pub own_count : (events : Events) (p : ℕ) → p < length events → get_or (map length events) p 0 ≡ length (own_events events p)
@@ -88,21 +94,26 @@ points_apart p q apart = elim (cases_Bool (is_point p q)) [
 ]
 
 -- marks are at one point exactly where the events are one
-pub mark_is : (s : StatesView) (f : Frame) (rows : Rows) → IsDrawable s rows → (e g : EventId) → HasEvent (map length s.events) e → HasEvent (map length s.events) g
-    → is_point (at f rows e) (at f rows g) ≡ is_place e g
-mark_is s f rows drawable e g he hg = elim (cases_Bool (is_place e g)) [
-  | inl same ↦ ap (λ (x : EventId). is_point (at f rows e) (at f rows x)) (place_is e g same) ∙ point_itself (at f rows e) ∙ sym same
+pub mark_is : (s : StatesView) (f : Frame) (x : Extent) (r : Report) (rows : Rows) → IsDrawable s x r rows → (e g : EventId) → IsMarked s rows e → IsMarked s rows g → is_point (at f rows e) (at f rows g) ≡ is_place e g
+mark_is s f x r rows drawable e g he hg = elim (cases_Bool (is_place e g)) [
+  | inl same ↦ ap (λ (y : EventId). is_point (at f rows e) (at f rows y)) (place_is e g same) ∙ point_itself (at f rows e) ∙ sym same
   | inr other ↦
       points_apart (at f rows e) (at f rows g)
-      (marks_are_apart (clocks_of s.events) f rows (faultless_order (length s.header.procs) s.events drawable.faultless) drawable.columns e g (there e he) (there g hg) (λ is. differ is other))
+      (marks_are_apart (clocks_of s.events) (is_wanted s x r) f rows order drawable.columns e g (there e he.there) (there g hg.there) (wanted e he) (wanted g hg) (λ is. differ is other))
       ∙ sym other
 ]
   where
-    there : (x : EventId) → HasEvent (map length s.events) x → HasEvent (lengths (clocks_of s.events)) x
-    there x h = subst (λ (l : List ℕ). HasEvent l x) (sym (lengths_are s.events)) h
+    order : IsOrder (clocks_of s.events)
+    order = faultless_order (length s.header.procs) s.events drawable.faultless
+
+    there : (y : EventId) → HasEvent (map length s.events) y → HasEvent (lengths (clocks_of s.events)) y
+    there y h = subst (λ (l : List ℕ). HasEvent l y) (sym (lengths_are s.events)) h
+
+    wanted : (y : EventId) → IsMarked s rows y → is_wanted s x r y ≡ true
+    wanted y h = sym (chosen_are_shown (clocks_of s.events) (is_wanted s x r) rows order drawable.columns y (there y h.there)) ∙ h.shown
 
     differ : e ≡ g → is_place e g ≡ false → ⊥
-    differ is other = let same : is_place e g ≡ true = ap (λ (x : EventId). is_place e x) (sym is) ∙ place_itself e in cc
+    differ is other = let same : is_place e g ≡ true = ap (λ (y : EventId). is_place e y) (sym is) ∙ place_itself e in cc
 
 -- ---- counting
 

@@ -1,7 +1,7 @@
 -- The whole picture is a document.
-use Rattle.std.proofs.Common.{◌≡◌, ℕ, Bool, true, false, List, [], ◌∷◌, ◌++◌, length, map, take, refl, subst, append_assoc}
+use Rattle.std.proofs.Common.{◌≡◌, ℕ, ◌-◌, Bool, true, false, List, [], ◌∷◌, ◌++◌, length, map, take, refl, subst, append_assoc}
 use Rattle.std.specs.Prelude.{codes}
-use Rattle.std.specs.List.{list_all, flat_map}
+use Rattle.std.specs.List.{list_all, flat_map, count_by}
 use Rattle.std.specs.Fmt.{decimal}
 use Rattle.event_log.specs.States.{StatesView}
 use Rattle.report.specs.declared.report.Report.{Report}
@@ -10,15 +10,18 @@ use Rattle.view_picture.specs.declared.frame.Frame.{Frame}
 use Rattle.view_picture.specs.Columns.{Rows}
 use Rattle.view_picture.specs.Svg.{attribute, escaped}
 use Rattle.view_picture.specs.Frame.{frame_of}
-use Rattle.view_picture.specs.Drawing.{point, lane_drawn, arrow_to, lost_from, numbers_drawn, edge_drawn, mark}
-use Rattle.view_picture.specs.Picture.{size, box_text, lost_head, arrow_heads, verdict_drawn, formula_drawn, top_of, edges_of, slice_drawn, most_edges, legend, edges_legend, first_drawn, one_drawn, body}
+use Rattle.view_picture.specs.Told.{top_of, edges_of, most_edges, first_drawn}
+use Rattle.view_picture.specs.Shown.{shown_events, has_shown}
+use Rattle.view_picture.specs.Ties.{ties_of}
+use Rattle.view_picture.specs.Drawing.{point, lane_drawn, tie_drawn, arrow_to, lost_from, numbers_drawn, left_out_drawn, edge_drawn, mark}
+use Rattle.view_picture.specs.Picture.{size, box_text, lost_head, arrow_heads, verdict_drawn, formula_drawn, slice_drawn, legend, edges_legend, ties_legend, note_of, one_drawn, run_drawn, report_drawn, meaning_drawn, body}
 use Rattle.report_lines.specs.Spelling.{truth_text}
 use Rattle.picture_laws.specs.Xml.{Attribute, is_printed, is_in_value, names_of, IsContent, byte}
 use Rattle.picture_laws.specs.WellFormed.{HasNames, PicturesAreWellFormed}
 use Rattle.picture_laws.proofs.Plain.{IsPlain, both, number_value}
 use Rattle.picture_laws.proofs.Grammar.{nothing_behind, plain_content, one_more, each_content, all_content, feed, escaped_content, Look, look_of, attr, valued, number, looks, leaf, box, root_element}
 use Rattle.picture_laws.proofs.Elements.{text_content, edge_content}
-use Rattle.picture_laws.proofs.Parts.{mark_content, lane_content, arrow_content, lost_content, numbers_content, slice_content, legend_content, edges_legend_content, one_content}
+use Rattle.picture_laws.proofs.Parts.{mark_content, lane_content, arrow_content, lost_content, numbers_content, left_out_content, tie_content, slice_content, legend_content, edges_legend_content, ties_legend_content, note_content, one_content}
 
 -- ---- the heads of arrows, which are the same in each picture
 
@@ -106,33 +109,46 @@ formula_content formula h =
 
 -- ---- what stands behind the heading
 
-body_content : (s : StatesView) → HasNames s.header → (f : Frame) (rows : Rows) (r : Report) → IsContent (body s f rows r)
-body_content s named f rows r =
-    let lanes = each_below (length s.header.procs) (lane_drawn s f) in
-    let arrows = flat_map (arrow_to s f rows) (places (map length s.events)) in
-    let lost = flat_map (lost_from s f rows) (places (map length s.events)) in
+run_content : (s : StatesView) → HasNames s.header → (f : Frame) (rows : Rows) → IsContent (run_drawn s f rows)
+run_content s named f rows =
+    let shown = shown_events (map length s.events) rows in
+    let lanes = each_below (length s.header.procs) (lane_drawn s f rows) in
+    let ties = flat_map (tie_drawn f rows) (ties_of s rows) in
+    let arrows = flat_map (arrow_to s f rows) shown in
+    let lost = flat_map (lost_from s f rows) shown in
+    one_more (lanes ++ ties ++ arrows ++ lost ++ numbers_drawn s f rows) (left_out_drawn s f rows)
+    (one_more (lanes ++ ties ++ arrows ++ lost) (numbers_drawn s f rows)
+    (one_more (lanes ++ ties ++ arrows) lost
+    (one_more (lanes ++ ties) arrows
+    (one_more lanes ties (each_content (lane_drawn s f rows) (length s.header.procs) (lane_content s named f rows)) (all_content (tie_drawn f rows) (ties_of s rows) (tie_content f rows)))
+    (all_content (arrow_to s f rows) shown (arrow_content s f rows)))
+    (all_content (lost_from s f rows) shown (lost_content s f rows)))
+    (numbers_content s f rows))
+    (left_out_content s f rows)
+
+report_content : (s : StatesView) → HasNames s.header → (f : Frame) (rows : Rows) (r : Report) → IsContent (report_drawn s f rows r)
+report_content s named f rows r =
+    let shown = shown_events (map length s.events) rows in
     let edges = flat_map (edge_drawn f rows) (take most_edges (edges_of r.slice)) in
     let slice = slice_drawn f rows r.slice in
     let one = one_drawn f rows (first_drawn r.witnesses) in
-    let marks = flat_map (mark s f rows (top_of r.slice)) (places (map length s.events)) in
-    let count = length (edges_of r.slice) in
-    one_more (lanes ++ arrows ++ lost ++ numbers_drawn s f rows ++ edges ++ slice ++ one ++ marks ++ legend f) (edges_legend f count)
-    (one_more (lanes ++ arrows ++ lost ++ numbers_drawn s f rows ++ edges ++ slice ++ one ++ marks) (legend f)
-    (one_more (lanes ++ arrows ++ lost ++ numbers_drawn s f rows ++ edges ++ slice ++ one) marks
-    (one_more (lanes ++ arrows ++ lost ++ numbers_drawn s f rows ++ edges ++ slice) one
-    (one_more (lanes ++ arrows ++ lost ++ numbers_drawn s f rows ++ edges) slice
-    (one_more (lanes ++ arrows ++ lost ++ numbers_drawn s f rows) edges
-    (one_more (lanes ++ arrows ++ lost) (numbers_drawn s f rows)
-    (one_more (lanes ++ arrows) lost
-    (one_more lanes arrows (each_content (lane_drawn s f) (length s.header.procs) (lane_content s named f)) (all_content (arrow_to s f rows) (places (map length s.events)) (arrow_content s f rows)))
-    (all_content (lost_from s f rows) (places (map length s.events)) (lost_content s f rows)))
-    (numbers_content s f rows))
-    (all_content (edge_drawn f rows) (take most_edges (edges_of r.slice)) (edge_content f rows)))
-    (slice_content f rows r.slice))
-    (one_content f rows (first_drawn r.witnesses)))
-    (all_content (mark s f rows (top_of r.slice)) (places (map length s.events)) (mark_content s named f rows (top_of r.slice))))
-    (legend_content f))
-    (edges_legend_content f count)
+    let marks = flat_map (mark s f rows (top_of r.slice)) shown in
+    one_more (edges ++ slice ++ one) marks
+    (one_more (edges ++ slice) one (one_more edges slice (all_content (edge_drawn f rows) (take most_edges (edges_of r.slice)) (edge_content f rows)) (slice_content f rows r.slice)) (one_content f rows (first_drawn r.witnesses)))
+    (all_content (mark s f rows (top_of r.slice)) shown (mark_content s named f rows (top_of r.slice)))
+
+meaning_content : (s : StatesView) (f : Frame) (rows : Rows) (edges ties : ℕ) → IsContent (meaning_drawn s f rows edges ties)
+meaning_content s f rows edges ties =
+    one_more (legend f ++ edges_legend f edges ++ ties_legend f ties) (note_of s rows)
+    (one_more (legend f ++ edges_legend f edges) (ties_legend f ties) (one_more (legend f) (edges_legend f edges) (legend_content f) (edges_legend_content f edges)) (ties_legend_content f ties))
+    (note_content (length (shown_events (map length s.events) rows)) (length (places (map length s.events))) (length rows - count_by has_shown rows))
+
+body_content : (s : StatesView) → HasNames s.header → (f : Frame) (rows : Rows) (r : Report) → IsContent (body s f rows r)
+body_content s named f rows r =
+    let edges = length (edges_of r.slice) in
+    let ties = length (ties_of s rows) in
+    one_more (run_drawn s f rows ++ report_drawn s f rows r) (meaning_drawn s f rows edges ties)
+    (one_more (run_drawn s f rows) (report_drawn s f rows r) (run_content s named f rows) (report_content s named f rows r)) (meaning_content s f rows edges ties)
 
 -- ---- the root
 

@@ -6,15 +6,16 @@ use Rattle.pota_base.specs.declared.shape.EventId.{EventId}
 use Rattle.event_log.specs.States.{StatesView}
 use Rattle.slice_graph.specs.declared.edges.Edge.{Edge}
 use Rattle.report.specs.declared.report.Report.{Report}
-use Rattle.view_parts.specs.Each.{places}
 use Rattle.view_picture.specs.declared.svg.Point.{Point}
 use Rattle.view_picture.specs.declared.frame.Frame.{Frame}
 use Rattle.view_picture.specs.Columns.{Rows}
 use Rattle.view_picture.specs.Svg.{line}
 use Rattle.view_picture.specs.Frame.{at}
-use Rattle.view_picture.specs.Drawing.{send_of, spot, bow}
-use Rattle.view_picture.specs.Picture.{most_edges, edges_of}
-use Rattle.view_picture.specs.Laws.{is_place}
+use Rattle.view_picture.specs.Drawing.{spot, bow}
+use Rattle.view_picture.specs.Told.{most_edges, edges_of}
+use Rattle.view_picture.specs.Choice.{is_place}
+use Rattle.view_picture.specs.Shown.{shown_events}
+use Rattle.view_picture.specs.Ties.{shown_send}
 
 -- where a line begins and where it ends
 pub record Ends : Type 0 where
@@ -44,11 +45,11 @@ line_from f rows receipt None = []
 line_from f rows receipt (Some send) = between f rows send receipt ∷ []
 
 abbrev pub line_to : StatesView → Frame → Rows → EventId → List Ends
-line_to s f rows receipt = line_from f rows receipt (send_of s receipt)
+line_to s f rows receipt = line_from f rows receipt (shown_send s rows receipt)
 
--- for each event in turn, that of what it receives
+-- for each shown event in turn, that of what it receives
 abbrev pub message_lines : StatesView → Frame → Rows → List Ends
-message_lines s f rows = flat_map (line_to s f rows) (places (map length s.events))
+message_lines s f rows = flat_map (line_to s f rows) (shown_events (map length s.events) rows)
 
 -- a straight line with the head of an arrow
 abbrev pub arrow_along : Ends → List ℕ

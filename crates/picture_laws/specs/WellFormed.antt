@@ -8,6 +8,7 @@ use Rattle.event_log.specs.LogText.{HeaderFits}
 use Rattle.event_log.specs.States.{StatesView}
 use Rattle.report.specs.declared.report.Report.{Report}
 use Rattle.report.specs.Spelling.{IsWellFormed}
+use Rattle.view_parts.specs.declared.extent.Extent.{Extent}
 use Rattle.view_picture.specs.Columns.{Rows}
 use Rattle.view_picture.specs.Picture.{picture, IsPictureOf}
 use Rattle.view_top.specs.declared.asking.View.TheVariants as view
@@ -28,10 +29,10 @@ PicturesAreWellFormed =
 -- so the picture of a run by a report of it is well-formed, where its log has a text
 abbrev pub PicturesOfRunsAreWellFormed : Type 0
 PicturesOfRunsAreWellFormed =
-    (s : StatesView) (r : Report) (bytes : List ℕ) → HeaderFits s.header → IsWellFormed r
-    → IsPictureOf s r bytes → IsDocument bytes
+    (s : StatesView) (x : Extent) (r : Report) (bytes : List ℕ) → HeaderFits s.header
+    → IsWellFormed r → IsPictureOf s x r bytes → IsDocument bytes
 
 -- so each picture that is written of an input is well-formed, whatever the input is
 abbrev pub WrittenPicturesAreWellFormed : Type 0
 WrittenPicturesAreWellFormed =
-    (input shown : List ℕ) → IsViewIn view.Svg input shown → IsDocument shown
+    (x : Extent) (input shown : List ℕ) → IsViewIn (view.Svg x) input shown → IsDocument shown

@@ -15,7 +15,7 @@ use Rattle.command_words.specs.declared.request.Form.{Form}
 use Rattle.command_words.specs.declared.request.Product.{Product}
 use Rattle.command_words.specs.declared.request.Inquiry.{Inquiry}
 use Rattle.command_words.specs.declared.request.Product.TheVariants as product
-use Rattle.command_words.specs.declared.request.Shown.{Shown}
+use Rattle.command_words.specs.declared.request.Reporting.{Reporting}
 use Rattle.stated_formula.specs.declared.formula.Stated.{Stated}
 use Rattle.run_request.specs.declared.question.QuestionFault.{QuestionFault}
 use Rattle.run_request.specs.declared.question.QuestionFault.TheVariants as question
@@ -59,17 +59,17 @@ front_half Good [] ys h = tt
 front_half Good (x ∷ xs) ys h = (h.0, front_half Good xs ys h.1)
 
 -- each report on logs whose clocks are an order, and in which no counter falls, tells of the run
-all_tell : (t : Tree) (shown : Shown) (watches : Watches) → IsOfClass (asked_by t shown).formula → (logs : List Prefix) → AllByRecursion IsOrdered logs
-    → AllByRecursion (IsKept (asked_by t shown).formula watches) logs → AllTell watches t (product.Reports shown) logs
-all_tell t shown watches class [] ordered kept = tt
-all_tell t shown watches class (log ∷ logs) ordered kept =
-    let q = asked_by t shown in
-    let here : Tells watches t (product.Reports shown) log = λ report is. record {
+all_tell : (t : Tree) (reporting : Reporting) (watches : Watches) → IsOfClass (asked_by t reporting).formula → (logs : List Prefix) → AllByRecursion IsOrdered logs
+    → AllByRecursion (IsKept (asked_by t reporting).formula watches) logs → AllTell watches t (product.Reports reporting) logs
+all_tell t reporting watches class [] ordered kept = tt
+all_tell t reporting watches class (log ∷ logs) ordered kept =
+    let q = asked_by t reporting in
+    let here : Tells watches t (product.Reports reporting) log = λ report is. record {
       ordered = ordered.0;
       denotes = told_denotes q log.header log.batches watches ordered.0 kept.0 report is;
       kinds = told_kinds q log.header log.batches watches class ordered.0 kept.0 report is;
     } in
-    (here, all_tell t shown watches class logs ordered.1 kept.1)
+    (here, all_tell t reporting watches class logs ordered.1 kept.1)
 
 -- what is asked of an input, by its form and its product
 pub asked_so : (words : List (List ℕ)) (t : Tree) (i : Inquiry) (read_as : Form) (written : Product) → i.form ≡ read_as → i.product ≡ written → AsksFor words (task.Read i) t
@@ -80,33 +80,33 @@ asked_so words t i read_as written form_is is asks =
 
 -- ---- reports on an input that is read
 
-module _ {X : Type 0} {P : X → Type 0} (says : Says X P) (s : Stated) (read_as : Form) (shown : Shown) (handed : List (Handed X P)) (words : List (List ℕ)) (formula : List ℕ) (is : IsStated formula s)
-    (asks : AsksFor words (task.Read (record { form = read_as; product = product.Reports shown })) s.formula.tree) where
+module _ {X : Type 0} {P : X → Type 0} (says : Says X P) (s : Stated) (read_as : Form) (reporting : Reporting) (handed : List (Handed X P)) (words : List (List ℕ)) (formula : List ℕ) (is : IsStated formula s)
+    (asks : AsksFor words (task.Read (record { form = read_as; product = product.Reports reporting })) s.formula.tree) where
   abbrev aim : Aim
-  aim = aim_of s shown.slice shown.witness (names_of handed) (watches_of says handed)
+  aim = aim_of s reporting.shown (names_of handed) (watches_of says handed)
 
   abbrev on : Handing
   on = handing_of says handed
 
   abbrev inquiry : Inquiry
-  inquiry = record { form = read_as; product = product.Reports shown }
+  inquiry = record { form = read_as; product = product.Reports reporting }
 
   abbrev reading : Reading
   reading = reading_of read_as
 
   abbrev each : Bool
-  each = shown.each_batch
+  each = reporting.each_batch
 
   abbrev q : Asked
-  q = asked_by s.formula.tree shown
+  q = asked_by s.formula.tree reporting
 
-  same : asked_of (aim_of s shown.slice shown.witness (names_of handed) (watches_of says handed)) ≡ asked_by s.formula.tree shown
-  same = stated_asked s shown.slice shown.witness (names_of handed) (watches_of says handed) formula is
+  same : asked_of (aim_of s reporting.shown (names_of handed) (watches_of says handed)) ≡ asked_by s.formula.tree reporting
+  same = stated_asked s reporting.shown (names_of handed) (watches_of says handed) formula is
 
   texts_asked : (logs : List Prefix) (text : List ℕ) → AreReportsFor aim logs text → AreReports q (watches_of says handed) logs text
   texts_asked logs text h = subst (λ (a : Asked). AreReports a (watches_of says handed) logs text) same h
 
-  class_asked : IsOfClass (asked_by s.formula.tree shown).formula
+  class_asked : IsOfClass (asked_by s.formula.tree reporting).formula
   class_asked = (of_the_class (node_of s.formula.tree)).0 is.classed.free
 
   due_ordered : (ended : Bool) (bytes : List ℕ) → AllByRecursion IsOrdered (reported each (due_by reading aim ended bytes))
@@ -115,9 +115,9 @@ module _ {X : Type 0} {P : X → Type 0} (says : Says X P) (s : Stated) (read_as
   due_kept : (ended : Bool) (bytes : List ℕ) → AllByRecursion (IsKept q.formula (watches_of says handed)) (reported each (due_by reading aim ended bytes))
   due_kept ended bytes = all_kept q.formula (watches_of says handed) 67108864 reading (form_is_read read_as) (unknown_name aim.node (names_of handed)) each ended bytes
 
-  due_tell : (ended : Bool) (bytes : List ℕ) → AllTell (watches_of says handed) s.formula.tree (product.Reports shown) (reported each (due_by reading aim ended bytes))
+  due_tell : (ended : Bool) (bytes : List ℕ) → AllTell (watches_of says handed) s.formula.tree (product.Reports reporting) (reported each (due_by reading aim ended bytes))
   due_tell ended bytes =
-      all_tell s.formula.tree shown (watches_of says handed) class_asked (reported each (due_by reading aim ended bytes)) (due_ordered ended bytes) (due_kept ended bytes)
+      all_tell s.formula.tree reporting (watches_of says handed) class_asked (reported each (due_by reading aim ended bytes)) (due_ordered ended bytes) (due_kept ended bytes)
 
   abbrev told_of : (ended : Bool) (bytes text : List ℕ) (n : ℕ) → n ≡ (due_by reading aim ended bytes).batches
       → AreReportsFor aim (reported each (due_by reading aim ended bytes)) text → IsTold on words ended bytes text n
@@ -144,7 +144,7 @@ module _ {X : Type 0} {P : X → Type 0} (says : Says X P) (s : Stated) (read_as
     log = h.log;
     behind = h.behind;
     due_are = h.are;
-    telling = subst (AllTell (watches_of says handed) s.formula.tree (product.Reports shown)) h.are (due_tell ended bytes);
+    telling = subst (AllTell (watches_of says handed) s.formula.tree (product.Reports reporting)) h.are (due_tell ended bytes);
     text = h.whole;
     texts = texts_asked h.before h.whole h.texts;
     part = h.part;
@@ -198,7 +198,7 @@ module _ {X : Type 0} {P : X → Type 0} (says : Says X P) (s : Stated) (read_as
     stop_answer causes.Write n h = (inl (has_part left h.0 read written n h.1 h.2), refl, h.3)
     stop_answer causes.Memory n h = record {
       front = λ none. front_of read written n h;
-      certified = λ u k. absurd (not_certified words read_as shown s.formula.tree u asks k);
+      certified = λ u k. absurd (not_certified words read_as reporting s.formula.tree u asks k);
       unread = λ t sizes k. absurd (not_both words inquiry sizes s.formula.tree t asks k);
       unnamed = λ t sizes f k. absurd (not_both words inquiry sizes s.formula.tree t asks k);
       fault = refl;

@@ -7,7 +7,7 @@ use Rattle.std.proofs.lemmas.Bool.Decides.{nat_tests}
 use Rattle.std.proofs.lemmas.Option.{none-some, same_Some}
 use Rattle.pota_base.specs.Number.{number_at, whole}
 use Rattle.rctl_grammar.specs.declared.tree.Tree.{Tree}
-use Rattle.command_words.specs.declared.request.Sizes.{Sizes}
+use Rattle.run_options.specs.declared.sizes.Sizes.{Sizes}
 use Rattle.command_words.specs.declared.request.Task.{Task}
 use Rattle.command_words.specs.declared.request.Form.{Form}
 use Rattle.command_words.specs.declared.request.Form.TheVariants as form
@@ -15,7 +15,7 @@ use Rattle.command_words.specs.declared.request.Inquiry.{Inquiry}
 use Rattle.command_words.specs.declared.request.Product.TheVariants.{Reports, Certificate}
 use Rattle.command_words.specs.declared.request.Task.TheVariants.{Read, Bench}
 use Rattle.command_words.specs.Numbers.{number, workers_of, needed, sizes_of}
-use Rattle.command_words.specs.Request.{Values, values_of, shown_of, has_sizes, has_flags, form_of, check_of, certify_of, bench_of, task_of, Wanted, wanted, request_of}
+use Rattle.command_words.specs.Request.{Values, values_of, reporting_of, has_sizes, has_flags, form_of, check_of, certify_of, bench_of, task_of, Wanted, wanted, request_of}
 use Rattle.command_words.specs.Rule.{Text, given}
 use Rattle.run_request.specs.declared.question.Question.{Question}
 use Rattle.run_request.specs.Questions.{IsQuestion, AsksFor}
@@ -85,7 +85,7 @@ check_not : (v : Values) (s : Sizes) → check_of v ≡ Some (Bench s) → ⊥
 check_not v s h = by_sizes (has_sizes v) refl
   where
     asked : Option Form → Option Task
-    asked o = option_map (λ f. Read (record { form = f; product = Reports (shown_of v) })) o
+    asked o = option_map (λ f. Read (record { form = f; product = Reports (reporting_of v) })) o
 
     sized : Bool → Option Task
     sized b = if b then None else asked (form_of v)
@@ -129,7 +129,7 @@ check_reports : (v : Values) (i : Inquiry) → check_of v ≡ Some (Read i) → 
 check_reports v i h is = by_sizes (has_sizes v) refl
   where
     asked : Option Form → Option Task
-    asked o = option_map (λ f. Read (record { form = f; product = Reports (shown_of v) })) o
+    asked o = option_map (λ f. Read (record { form = f; product = Reports (reporting_of v) })) o
 
     sized : Bool → Option Task
     sized b = if b then None else asked (form_of v)
@@ -137,10 +137,10 @@ check_reports v i h is = by_sizes (has_sizes v) refl
     other_asked : (o : Option Form) → asked o ≡ Some (Read i) → ⊥
     other_asked None k = none-some (Read i) k
     other_asked (Some f) k =
-        let mine : Inquiry = record { form = f; product = Reports (shown_of v) } in
+        let mine : Inquiry = record { form = f; product = Reports (reporting_of v) } in
         let tasks : Read mine ≡ Read i = same_Some (Read mine) (Read i) k in
         let same : mine ≡ i = cc in
-        let products : Reports (shown_of v) ≡ Certificate = ap (λ (x : Inquiry). x.product) same ∙ is in
+        let products : Reports (reporting_of v) ≡ Certificate = ap (λ (x : Inquiry). x.product) same ∙ is in
         absurd cc
 
     by_sizes : (b : Bool) → has_sizes v ≡ b → ⊥

@@ -1,5 +1,5 @@
 //! The answers to an inquiry.
-ghost use Rattle.std.specs.Prelude.{◌≡◌, ◌≤◌, ◌<◌, ℕ, Bool, List as ListOf};
+ghost use Rattle.std.specs.Prelude.{◌≡◌, ◌<◌, ℕ, Bool, List as ListOf};
 ghost use Rattle.log_rules.specs.Judgement.{waiting};
 ghost use Rattle.command_words.specs.declared.request.Task.TheVariants.{Read};
 ghost use Rattle.command_words.specs.declared.request.Product.TheVariants.{Reports};
@@ -12,12 +12,13 @@ ghost use Rattle.log_answers.specs.Inputs.{HasCheckedBy};
 ghost use Rattle.form_readings.specs.Clocks.{clocks_reading};
 ghost use Rattle.form_readings.specs.Sources.{merged_reading};
 ghost use Rattle.run_promise.specs.Asking.{handing_of};
-ghost use Rattle.run_promise.specs.Run.{Ran};
+ghost use Rattle.run_promise.specs.Run.{RanOn};
+ghost use Rattle.input_reading.specs.Changes.{of_source, of_sink};
 ghost use Rattle.certificate_answers.specs.PassedOn.{outcome_of};
 ghost use Rattle.certificate_answers.specs.PassedOn.{HasChecked};
 
 use certificate_answers::{ReportedLog, answer_certificate, check_all};
-use command_words::{Form, Inquiry, Product, Shown};
+use command_words::{Form, Inquiry, Product, Reporting};
 use log_answers::{Checking, Means, Stop, Verdict};
 use pota_base::{Gate, Sink, Source, Steps};
 use stated_formula::Stated;
@@ -33,15 +34,12 @@ fn check_text<R: Threads + Sync, G: Gate, L: Ledger, S: Source, O: Sink>(
     means: &Means<'_, R, G>,
     check: ReportedLog,
     each_batch: bool,
-    workers: u32,
     log: &mut S,
     out: &mut O,
 ) -> Result<Verdict, Stop>
     requires name { blank.name ≡ L.name }
     requires parts { blank.parts ≡ L.parts }
     requires one { 0 < blank.parts }
-    requires some { 1 ≤ workers }
-    requires few { workers ≤ 16 }
     requires check { (aim : Aim) × IsCheckOf (said_by answers) aim check waiting }
     ensures checks { (aim : Aim) → IsCheckOf (said_by answers) aim check waiting
         → HasChecked (S.left log.old) (S.left log.new) (O.held out.old) (O.held out.new)
@@ -52,7 +50,6 @@ fn check_text<R: Threads + Sync, G: Gate, L: Ledger, S: Source, O: Sink>(
     let mut checking = Checking {
         check,
         each_batch,
-        workers,
         steps: Steps::<L>::new(blank),
     };
     let verdict = check_all(means, &mut checking, log, out);
@@ -65,15 +62,12 @@ fn check_records<R: Threads + Sync, G: Gate, L: Ledger, S: Source, O: Sink>(
     blank: Blank,
     means: &Means<'_, R, G>,
     check: ReportedLog,
-    workers: u32,
     source: &mut S,
     out: &mut O,
 ) -> Result<Verdict, Stop>
     requires name { blank.name ≡ L.name }
     requires parts { blank.parts ≡ L.parts }
     requires one { 0 < blank.parts }
-    requires some { 1 ≤ workers }
-    requires few { workers ≤ 16 }
     requires check { (aim : Aim) × IsCheckOf (said_by answers) aim check waiting }
     ensures checks { (aim : Aim) → IsCheckOf (said_by answers) aim check waiting → (each : Bool)
         → HasCheckedBy clocks_reading (S.left source.old) (S.left source.new) (O.held out.old)
@@ -84,7 +78,6 @@ fn check_records<R: Threads + Sync, G: Gate, L: Ledger, S: Source, O: Sink>(
     let mut checking = Checking {
         check,
         each_batch: false,
-        workers,
         steps: Steps::<L>::new(blank),
     };
     let verdict = check_clocks(means, &mut checking, source, out);
@@ -97,15 +90,12 @@ fn check_logs<R: Threads + Sync, G: Gate, L: Ledger, S: Source, O: Sink>(
     blank: Blank,
     means: &Means<'_, R, G>,
     check: ReportedLog,
-    workers: u32,
     source: &mut S,
     out: &mut O,
 ) -> Result<Verdict, Stop>
     requires name { blank.name ≡ L.name }
     requires parts { blank.parts ≡ L.parts }
     requires one { 0 < blank.parts }
-    requires some { 1 ≤ workers }
-    requires few { workers ≤ 16 }
     requires check { (aim : Aim) × IsCheckOf (said_by answers) aim check waiting }
     ensures checks { (aim : Aim) → IsCheckOf (said_by answers) aim check waiting → (each : Bool)
         → HasCheckedBy merged_reading (S.left source.old) (S.left source.new) (O.held out.old)
@@ -116,7 +106,6 @@ fn check_logs<R: Threads + Sync, G: Gate, L: Ledger, S: Source, O: Sink>(
     let mut checking = Checking {
         check,
         each_batch: false,
-        workers,
         steps: Steps::<L>::new(blank),
     };
     let verdict = check_sources(means, &mut checking, source, out);
@@ -129,33 +118,29 @@ fn answer_reports<R: Threads + Sync, G: Gate, S: Source, O: Sink>(
     means: &Means<'_, R, G>,
     stated: Stated,
     form: Form,
-    shown: Shown,
-    workers: u32,
+    reporting: Reporting,
     watches: Vec<Handed>,
     log: &mut S,
     out: &mut O,
 ) -> Result<Verdict, Stop>
-    requires some { 1 ≤ workers }
-    requires few { workers ≤ 16 }
     requires watches { AreWatches watches.items }
     requires stated { (text : ListOf ℕ) × IsStated text stated }
     ensures ran { (words : ListOf (ListOf ℕ)) (text : ListOf ℕ) → IsStated text stated
-        → AsksFor words (Read (record { form = form; product = Reports shown })) stated.formula.tree
-        → Ran (S.left log.old) (S.left log.new) (O.held out.old) (O.held out.new) (S.faults log.old)
-        (S.faults log.new) (O.faults out.old) (O.faults out.new)
+        → AsksFor words (Read (record { form = form; product = Reports reporting }))
+        stated.formula.tree
+        → RanOn (of_source S.Source log.old log.new) (of_sink O.Sink out.old out.new)
         (handing_of (said_by answers) watches.items) words (outcome_of result) }
     ensures calm { IsCalmUnlessRead (S.faults log.old) (S.faults log.new) result }
 {
-    let Ok(check) = ReportedLog::new(means.alloc, stated, shown.slice, shown.witness, watches)
-    else {
+    let Ok(check) = ReportedLog::new(means.alloc, stated, reporting.shown, watches) else {
         return Err(Stop::without_memory());
     };
     let blank = Blank::new(1);
-    let each = shown.each_batch;
+    let each = reporting.each_batch;
     match form {
-        Form::Text => check_text::<R, G, Brand, S, O>(blank, means, check, each, workers, log, out),
-        Form::Clocks => check_records::<R, G, Brand, S, O>(blank, means, check, workers, log, out),
-        Form::Merged => check_logs::<R, G, Brand, S, O>(blank, means, check, workers, log, out),
+        Form::Text => check_text::<R, G, Brand, S, O>(blank, means, check, each, log, out),
+        Form::Clocks => check_records::<R, G, Brand, S, O>(blank, means, check, log, out),
+        Form::Merged => check_logs::<R, G, Brand, S, O>(blank, means, check, log, out),
     }
 }
 
@@ -165,26 +150,22 @@ pub fn answer_inquiry<R: Threads + Sync, G: Gate, S: Source, O: Sink>(
     means: &Means<'_, R, G>,
     stated: Stated,
     inquiry: Inquiry,
-    workers: u32,
     watches: Vec<Handed>,
     log: &mut S,
     out: &mut O,
 ) -> Result<Verdict, Stop>
-    requires some { 1 ≤ workers }
-    requires few { workers ≤ 16 }
     requires watches { AreWatches watches.items }
     requires stated { (text : ListOf ℕ) × IsStated text stated }
     ensures ran { (words : ListOf (ListOf ℕ)) (text : ListOf ℕ) → IsStated text stated
         → AsksFor words (Read inquiry) stated.formula.tree
-        → Ran (S.left log.old) (S.left log.new) (O.held out.old) (O.held out.new) (S.faults log.old)
-        (S.faults log.new) (O.faults out.old) (O.faults out.new)
+        → RanOn (of_source S.Source log.old log.new) (of_sink O.Sink out.old out.new)
         (handing_of (said_by answers) watches.items) words (outcome_of result) }
     ensures calm { IsCalmUnlessRead (S.faults log.old) (S.faults log.new) result }
 {
     let form = inquiry.form;
     match inquiry.product {
-        Product::Reports(shown) => {
-            answer_reports(means, stated, form, shown, workers, watches, log, out)
+        Product::Reports(reporting) => {
+            answer_reports(means, stated, form, reporting, watches, log, out)
         }
         Product::Certificate => answer_certificate(means, stated, log, out),
     }

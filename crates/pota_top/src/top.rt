@@ -2,13 +2,14 @@
 ghost use Rattle.std.specs.Prelude.{◌≡◌, ◌≢◌, ℕ, List, map, string_bytes};
 ghost use Rattle.pota_base.specs.Outside.{Rose};
 ghost use Rattle.pota_base.specs.declared.status.Status.TheVariants.{ReadFault, WriteFault};
+ghost use Rattle.input_reading.specs.Changes.{of_source, of_sink};
 ghost use Rattle.run_request.specs.Questions.{IsQuestion};
 ghost use Rattle.certificate_answers.specs.PassedOn.{AreWatches, said_by};
 ghost use Rattle.log_answers.specs.Calm.{IsCalmUnlessRead};
 ghost use Rattle.fault_line.specs.Lines.{Told};
 ghost use Rattle.run_promise.specs.Asking.{handing_of};
-ghost use Rattle.run_promise.specs.Run.{IsBenchAnswered, IsCalm, IsDecided, IsRefusedAsAsked};
-ghost use Rattle.run_promise.specs.Run.{IsRefusedAsDue, Ran};
+ghost use Rattle.run_promise.specs.Run.{RanOn, IsDecidedOn, IsRefusedOn, IsMisaskedOn};
+ghost use Rattle.run_promise.specs.Run.{IsBenchedOn};
 ghost use Rattle.run_promise.specs.Questions.{fault_of_question};
 ghost use Rattle.certificate_answers.specs.PassedOn.{outcome_of};
 ghost use Rattle.pota_top.specs.Telling.{line_of};
@@ -28,7 +29,9 @@ use watch::{Handed, Watch};
 
 // Answers a question, of the input that the source has or of a log that is made.
 fn answer_question<R: Threads + Sync, G: Gate, S: Source, O: Sink>(
-    means: &Means<'_, R, G>,
+    rt: &R,
+    alloc: Global,
+    gate: &G,
     question: Question,
     watches: Vec<Handed>,
     log: &mut S,
@@ -37,8 +40,7 @@ fn answer_question<R: Threads + Sync, G: Gate, S: Source, O: Sink>(
     requires watches { AreWatches watches.items }
     requires asks { (words : List (List ℕ)) × IsQuestion words question }
     ensures ran { (words : List (List ℕ)) → IsQuestion words question
-        → Ran (S.left log.old) (S.left log.new) (O.held out.old) (O.held out.new) (S.faults log.old)
-        (S.faults log.new) (O.faults out.old) (O.faults out.new)
+        → RanOn (of_source S.Source log.old log.new) (of_sink O.Sink out.old out.new)
         (handing_of (said_by answers) watches.items) words (outcome_of result) }
     ensures calm { IsCalmUnlessRead (S.faults log.old) (S.faults log.new) result }
 {
@@ -47,9 +49,15 @@ fn answer_question<R: Threads + Sync, G: Gate, S: Source, O: Sink>(
         workers,
         stated,
     } = question;
+    let means = Means {
+        rt,
+        alloc,
+        workers,
+        gate,
+    };
     match task {
-        Task::Read(inquiry) => answer_inquiry(means, stated, inquiry, workers, watches, log, out),
-        Task::Bench(sizes) => answer_bench(means, stated, sizes, workers, watches, out),
+        Task::Read(inquiry) => answer_inquiry(&means, stated, inquiry, watches, log, out),
+        Task::Bench(sizes) => answer_bench(&means, stated, sizes, watches, out),
     }
 }
 
@@ -65,20 +73,23 @@ fn fault_of_question(fault: QuestionFault) -> Fault
 
 // Answers the words on the input that the source has, and says how that ended.
 fn answer_words<R: Threads + Sync, G: Gate, S: Source, O: Sink>(
-    means: &Means<'_, R, G>,
+    rt: &R,
+    alloc: Global,
+    gate: &G,
     words: &[String],
     watches: Vec<Handed>,
     log: &mut S,
     out: &mut O,
 ) -> Outcome
     requires watches { AreWatches watches.items }
-    ensures ran { Ran (S.left log.old) (S.left log.new) (O.held out.old) (O.held out.new)
-        (S.faults log.old) (S.faults log.new) (O.faults out.old) (O.faults out.new)
+    ensures ran { RanOn (of_source S.Source log.old log.new) (of_sink O.Sink out.old out.new)
         (handing_of (said_by answers) watches.items) (map string_bytes words.now) result }
     ensures calm { result.status ≢ ReadFault → S.faults log.new ≡ S.faults log.old }
 {
-    match read_question(means.alloc, words) {
-        Ok(question) => outcome_of(answer_question(means, question, watches, log, out)),
+    match read_question(alloc, words) {
+        Ok(question) => {
+            outcome_of(answer_question(rt, alloc, gate, question, watches, log, out))
+        }
         Err(Refused::Fault(fault)) => faulty(0, fault_of_question(fault)),
         Err(Refused::NoMemory) => outcome_of(Err(Stop::without_memory())),
     }
@@ -101,8 +112,7 @@ pub fn pota<R: Threads + Sync, S: Source, O: Sink, D: Sink, G: Gate>(
     gate: &G,
 ) -> Outcome
     requires watches { AreWatches watches.items }
-    ensures ran { Ran (S.left log.old) (S.left log.new) (O.held out.old) (O.held out.new)
-        (S.faults log.old) (S.faults log.new) (O.faults out.old) (O.faults out.new)
+    ensures ran { RanOn (of_source S.Source log.old log.new) (of_sink O.Sink out.old out.new)
         (handing_of (said_by answers) watches.items) (map string_bytes words.now) result }
     ensures told { Told (D.held diag.old) (D.held diag.new) (D.faults diag.old) (D.faults diag.new)
         (line_of result.fault) }
@@ -110,28 +120,19 @@ pub fn pota<R: Threads + Sync, S: Source, O: Sink, D: Sink, G: Gate>(
     ensures calm { result.status ≢ ReadFault → S.faults log.new ≡ S.faults log.old }
     ensures write { result.status ≡ WriteFault → Rose (O.faults out.old) (O.faults out.new) }
     // Where no count rose and there was memory.
-    ensures decided { IsCalm (S.faults log.old) (S.faults log.new) (O.faults out.old)
-        (O.faults out.new) result
-        → IsDecided (S.left log.old) (handing_of (said_by answers) watches.items)
-        (map string_bytes words.now) (O.held out.old) (O.held out.new) result }
-    ensures refused { IsCalm (S.faults log.old) (S.faults log.new) (O.faults out.old)
-        (O.faults out.new) result
-        → IsRefusedAsDue (S.left log.old) (handing_of (said_by answers) watches.items)
-        (map string_bytes words.now) (O.held out.old) (O.held out.new) result }
-    ensures misasked { IsCalm (S.faults log.old) (S.faults log.new) (O.faults out.old)
-        (O.faults out.new) result → IsRefusedAsAsked (map string_bytes words.now) (O.held out.old)
-        (O.held out.new) result }
-    ensures benched { IsCalm (S.faults log.old) (S.faults log.new) (O.faults out.old)
-        (O.faults out.new) result
-        → IsBenchAnswered (handing_of (said_by answers) watches.items) (map string_bytes words.now)
-        (O.held out.old) (O.held out.new) result }
+    ensures decided { IsDecidedOn (of_source S.Source log.old log.new)
+        (of_sink O.Sink out.old out.new) (handing_of (said_by answers) watches.items)
+        (map string_bytes words.now) result }
+    ensures refused { IsRefusedOn (of_source S.Source log.old log.new)
+        (of_sink O.Sink out.old out.new) (handing_of (said_by answers) watches.items)
+        (map string_bytes words.now) result }
+    ensures misasked { IsMisaskedOn (of_source S.Source log.old log.new)
+        (of_sink O.Sink out.old out.new) (map string_bytes words.now) result }
+    ensures benched { IsBenchedOn (of_source S.Source log.old log.new)
+        (of_sink O.Sink out.old out.new) (handing_of (said_by answers) watches.items)
+        (map string_bytes words.now) result }
 {
-    let means = Means {
-        runtime: rt,
-        alloc,
-        gate,
-    };
-    let outcome = answer_words(&means, words, watches, log, out);
+    let outcome = answer_words(rt, alloc, gate, words, watches, log, out);
     tell(diag, b"pota", &outcome.fault);
     outcome
 }

@@ -30,8 +30,8 @@ pub enum Front {
     NoEnd(usize),
 }
 
-// Whether the byte behind a word and blanks makes it the name of a process.
-fn names_process(rest: &[u8]) -> bool
+/// Whether the byte behind a word and blanks makes it the name of a process.
+pub fn names_process(rest: &[u8]) -> bool
     ensures { result ≡ names_process rest.now }
 {
     match rest {

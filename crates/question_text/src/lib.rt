@@ -13,5 +13,6 @@ mod front;
 mod head;
 mod name;
 
-pub use front::Asking;
+pub use bytes::{Class, run_of};
+pub use front::{Asking, behind_word, names_process};
 pub use head::{Head, HeadCode, HeadFault, LONGEST_QUESTION, Span, read_head};

@@ -1,5 +1,6 @@
-//! The picture of a large made log: how many events and receipts it has, and how many marks and
-//! arrows.
+//! Pictures of large made logs: how many events and receipts a log has, and how many marks and arrows
+//! its picture; and how many events of two processes set their counters, of which the last twelve of
+//! each are shown.
 
 use crate::run::{Reader, Setting, run};
 use event_log::write_log;
@@ -31,15 +32,15 @@ fn lines_with(text: &str, piece: &str) -> usize {
     count
 }
 
-// The log of 32 processes and 2,000 events that the seed makes.
-fn log_text(alloc: Global, seed: u64) -> Result<String, NoMemory> {
-    let log = generate(alloc, seed, 32, 2000)?;
+// The log of 32 processes and so many events that the seed makes.
+fn log_text(alloc: Global, seed: u64, events: u32) -> Result<String, NoMemory> {
+    let log = generate(alloc, seed, 32, events)?;
     let text = write_log(alloc, &log)?;
     Ok(String::from_utf8_lossy(alloc, text.as_slice())?)
 }
 
-// A report of the log: that `true` is true of it.
-fn report_text(alloc: Global, log: &str) -> Result<String, AllocError> {
+// A report of the log: that the formula is true of it.
+fn report_text(alloc: Global, log: &str, formula: &str) -> Result<String, AllocError> {
     let names = log.lines().nth(1).unwrap_or("");
     let mut lengths = String::new(alloc);
     for name in names.split(' ').skip(1) {
@@ -51,16 +52,18 @@ fn report_text(alloc: Global, log: &str) -> Result<String, AllocError> {
         lengths.push_str(format!(in alloc; "{count}")?.as_str())?;
     }
     format!(in alloc;
-        "pota-report 1\nbatch 1\n{names}\nlengths {lengths}\nformula true\nverdict true\nend\n"
+        "pota-report 1\nbatch 1\n{names}\nlengths {lengths}\nformula {formula}\nverdict true\nend\n"
     )
 }
 
-// The picture of the log.
-fn picture(alloc: Global, log: &str) -> Result<String, AllocError> {
+// The picture of the log that the words ask for, by a report of the formula.
+fn picture(alloc: Global, log: &str, words: &[&str], formula: &str) -> Result<String, AllocError> {
     let mut case = Case::new(alloc);
-    case.words.push(String::from_str(alloc, "svg")?)?;
+    for word in words {
+        case.words.push(String::from_str(alloc, word)?)?;
+    }
     case.log.extend_from_slice(log.as_bytes())?;
-    let report = report_text(alloc, log)?;
+    let report = report_text(alloc, log, formula)?;
     case.log.extend_from_slice(report.as_str().as_bytes())?;
     case.room = ROOM;
     let setting = Setting::new(&case, usize::MAX)?;
@@ -80,15 +83,36 @@ fn picture(alloc: Global, log: &str) -> Result<String, AllocError> {
 ///
 /// Where there is no memory.
 pub fn large_picture(alloc: Global, seed: u64) -> Result<Shapes, AllocError> {
-    let log = match log_text(alloc, seed) {
+    let log = match log_text(alloc, seed, 2000) {
         Ok(log) => log,
         Err(NoMemory) => return Err(AllocError),
     };
-    let shown = picture(alloc, log.as_str())?;
+    let shown = picture(alloc, log.as_str(), &["svg", "--all"], "true")?;
     Ok(Shapes {
         events: lines_with(log.as_str(), "ev "),
         marks: lines_with(shown.as_str(), "<title>"),
         receipts: lines_with(log.as_str(), " recv "),
+        arrows: lines_with(shown.as_str(), "url(#message)"),
+    })
+}
+
+/// Counts what the picture of a log of 20,000 events shows that is folded to two counters: the events
+/// of their processes, each of which sets its own, and the marks.
+///
+/// # Errors
+///
+/// Where there is no memory.
+pub fn folded_picture(alloc: Global, seed: u64) -> Result<Shapes, AllocError> {
+    let log = match log_text(alloc, seed, 20_000) {
+        Ok(log) => log,
+        Err(NoMemory) => return Err(AllocError),
+    };
+    let shown = picture(alloc, log.as_str(), &["svg"], "EF (P1.n = 3 & P2.n = 3)")?;
+    let first = lines_with(log.as_str(), "ev P1 ");
+    Ok(Shapes {
+        events: lines_with(log.as_str(), "ev P2 ").saturating_add(first),
+        marks: lines_with(shown.as_str(), "<title>"),
+        receipts: 0,
         arrows: lines_with(shown.as_str(), "url(#message)"),
     })
 }

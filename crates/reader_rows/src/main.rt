@@ -1,6 +1,6 @@
 //! Runs the calls of the views and of the verifier on the rows of its input, and prints for each
 //! section how many of its rows came out as they must, and each row that did not; then how many
-//! shapes the picture of a large log has. A line `rows KIND NAME` begins a section, and `Kind` says
+//! shapes the pictures of large logs have. A line `rows KIND NAME` begins a section, and `Kind` says
 //! what its rows are.
 //!
 //! The crate `row_cases` says what the lines of a case mean: its log is the whole input, with the
@@ -22,7 +22,7 @@ mod run;
 mod verdict;
 
 use kind::Kind;
-use large::{Shapes, large_picture};
+use large::{Shapes, folded_picture, large_picture};
 use std::alloc::Global;
 use std::io;
 use std::thread::Threads;
@@ -55,11 +55,21 @@ fn print_large<R: Print>(rt: &R, shapes: Shapes) -> io::Result<()> {
     Ok(())
 }
 
+fn print_folded<R: Print>(rt: &R, shapes: Shapes) -> io::Result<()> {
+    let Shapes { events, marks, .. } = shapes;
+    if events > 60 {
+        println!(rt; "a folded log: {marks} marks of more than 60 events that are named")
+    } else {
+        println!(rt; "a folded log: {marks} marks of {events} events that are named")
+    }
+}
+
 fn main(rt: HostRuntime) -> io::Result<()> {
     let alloc = rt.alloc();
     let text = io::read_to_string(alloc, rt.reader())?;
     for section in text.as_str().split("\nrows ").skip(1) {
         judge_section(&rt, alloc, section)?;
     }
-    print_large(&rt, large_picture(alloc, 35)?)
+    print_large(&rt, large_picture(alloc, 35)?)?;
+    print_folded(&rt, folded_picture(alloc, 35)?)
 }

@@ -21,7 +21,7 @@ use Rattle.part_pulls.specs.Counters.{CountersRise}
 use Rattle.part_pulls.specs.Observing.{Reading, AreAnswers, trace_seen, run_seen}
 use Rattle.answering.specs.PassedOn.{IsAnswer}
 use Rattle.answer_report.specs.PassedOn.{Asked, IsReportOn}
-use Rattle.answer_report.specs.declared.wanted.Wanted.{Wanted}
+use Rattle.run_options.specs.declared.shown.Shown.{Shown}
 use Rattle.answer_report.specs.Asking.{IsAskedOf}
 use Rattle.log_rules.specs.Judgement.{Prefix}
 use Rattle.log_rules.proofs.Rising.{whole_log}
@@ -50,8 +50,8 @@ batches_there growing seen has same = subst (λ (s : Observed). 1 ≤ s.trace.ba
 
 -- ---- it is that of the log
 
-module _ {X : Type 0} {P : X → Type 0} (says : Says X P) (aim : Aim) (text : List ℕ) (log : Prefix) (o : Observation X P) (seen : Observed) (answer : Answer) (report : Report) (wanted : Wanted)
-    (h : IsObservedFor says (taken_for aim) log o) (same : seen ≡ o.growing.seen) (aimed : aim.text ≡ text) (sliced : wanted.slice ≡ aim.slice) (witnessed : wanted.witness ≡ aim.witness)
+module _ {X : Type 0} {P : X → Type 0} (says : Says X P) (aim : Aim) (text : List ℕ) (log : Prefix) (o : Observation X P) (seen : Observed) (answer : Answer) (report : Report) (shown : Shown)
+    (h : IsObservedFor says (taken_for aim) log o) (same : seen ≡ o.growing.seen) (aimed : aim.text ≡ text) (showing : shown ≡ aim.shown)
     (rise : CountersRise o.growing.seen (piece.disjuncts_of o.growing.disjuncts)) (watched : AreAnswers o.growing.seen (reading_of (taken_for aim))) where
   now_seen : (Q : Observed → Type 0) → Q o.growing.seen → Q seen
   now_seen Q q = subst Q (sym same) q
@@ -66,11 +66,11 @@ module _ {X : Type 0} {P : X → Type 0} (says : Says X P) (aim : Aim) (text : L
       rising_kept log.header (formula_of aim.node) (piece.disjuncts_of o.growing.disjuncts) h.means.counters o.growing.seen.trace.states aim.watches whole
       (ap (λ (t : TraceView). t.states.header) h.is.trace) rise
 
-  asked : IsAnswer o.growing.seen (piece.disjuncts_of o.growing.disjuncts) answer → IsAskedOf seen answer wanted text (reading_of (taken_for aim)) (asked_of aim)
+  asked : IsAnswer o.growing.seen (piece.disjuncts_of o.growing.disjuncts) answer → IsAskedOf seen answer shown text (reading_of (taken_for aim)) (asked_of aim)
   asked is = record {
     text_is = aimed;
-    slice = sym sliced;
-    witness = sym witnessed;
+    slice = ap (λ (s : Shown). s.slice) (sym showing);
+    witness = ap (λ (s : Shown). s.witness) (sym showing);
     watches = now_seen (λ s. AreAnswers s (reading_of (taken_for aim))) watched;
     pieces = piece.disjuncts_of o.growing.disjuncts;
     answered = now_seen (λ s. IsAnswer s (piece.disjuncts_of o.growing.disjuncts) answer) is;
@@ -79,7 +79,7 @@ module _ {X : Type 0} {P : X → Type 0} (says : Says X P) (aim : Aim) (text : L
   }
 
   pub reported : IsAnswer o.growing.seen (piece.disjuncts_of o.growing.disjuncts) answer → report.procs ≡ seen.trace.states.header.procs
-      → ((reading : Reading) (q : Asked) → IsAskedOf seen answer wanted text reading q → IsReportOn q seen.trace.batches (trace_seen seen) reading.watches report)
+      → ((reading : Reading) (q : Asked) → IsAskedOf seen answer shown text reading q → IsReportOn q seen.trace.batches (trace_seen seen) reading.watches report)
       → IsReportFor aim log report
   reported is named says_so =
       let on = says_so (reading_of (taken_for aim)) (asked_of aim) (asked is) in

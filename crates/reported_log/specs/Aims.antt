@@ -1,8 +1,9 @@
 -- What a log is checked for: a formula, what its reports show, and the watches that it may name.
-use Rattle.std.specs.Prelude.{ℕ, Bool, List}
+use Rattle.std.specs.Prelude.{ℕ, List}
 use Rattle.run_model.specs.Run.{Name, Watches}
 use Rattle.rctl_class.specs.Nodes.{Node, node_of, formula_of}
 use Rattle.report.specs.declared.report.Report.{Report}
+use Rattle.run_options.specs.declared.shown.Shown.{Shown}
 use Rattle.answer_report.specs.PassedOn.{Asked, IsReportOf}
 use Rattle.stated_formula.specs.declared.formula.Stated.{Stated}
 use Rattle.log_rules.specs.Judgement.{Prefix, Rules}
@@ -15,8 +16,7 @@ pub use Rattle.log_check.specs.Aims.{Says, said_by, names_of, watches_of, AreWat
 pub record Aim : Type 0 where
   pub node : Node
   pub text : List ℕ
-  pub slice : Bool
-  pub witness : Bool
+  pub shown : Shown
   pub names : List Name
   pub watches : Watches
 
@@ -34,8 +34,8 @@ abbrev pub asked_of : Aim → Asked
 asked_of aim = record {
   formula = formula_of aim.node;
   text = aim.text;
-  slice = aim.slice;
-  witness = aim.witness;
+  slice = aim.shown.slice;
+  witness = aim.shown.witness;
 }
 
 -- names are judged by the formula and the watches, and batches by the formula's counters, their
@@ -44,12 +44,11 @@ abbrev pub rules_of : Aim → Rules
 rules_of aim = log_aims.rules_of (taken_for aim)
 
 -- what is asked of a formula that was read and classified
-abbrev pub aim_of : Stated → (slice witness : Bool) → List Name → Watches → Aim
-aim_of s slice witness names watches = record {
+abbrev pub aim_of : Stated → Shown → List Name → Watches → Aim
+aim_of s shown names watches = record {
   node = node_of s.formula.tree;
   text = s.text;
-  slice = slice;
-  witness = witness;
+  shown = shown;
   names = names;
   watches = watches;
 }

@@ -21,8 +21,7 @@ MayAnswer kept (Some o) = answering.GoesOn kept o.growing
 pub record IsCheckOf {X : Type 0} {P : X → Type 0} (says : Says X P) (aim : Aim)
     (check : ReportedLog X P) (j : Judgement) : Type 0 where
   pub log : log_checking.IsCheckOf says (taken_for aim) check.log j
-  pub slice : check.slice ≡ aim.slice
-  pub witness : check.witness ≡ aim.witness
+  pub shown : check.shown ≡ aim.shown
   pub answers : MayAnswer check.answering.kept check.log.intake.observation
 
 -- an item more led from one judgement to the next

@@ -15,5 +15,6 @@
 
 mod reported;
 
+pub use answering::Means;
 pub use log_check::CheckedLog;
 pub use reported::ReportedLog;

@@ -16,26 +16,27 @@ ghost use Rattle.reported_log.specs.Aims.{Aim, AreWatches, IsReportFor, aim_of, 
 ghost use Rattle.reported_log.specs.Aims.{said_by, taken_for, watches_of};
 ghost use Rattle.reported_log.specs.Checking.{GoesOn, HasClosed, IsCheckOf, IsRefusedAs, MayFollow};
 
-use answer_report::{Wanted, report_on};
-use answering::{Answering, what_goes_on_goes_on_later};
+use answer_report::report_on;
+use answering::{Answering, Means, what_goes_on_goes_on_later};
 use event_log::{Item, Log};
 use fault_kinds::Refusal;
 use log_check::{CheckedLog, LogCheck};
 use pota_base::{Gate, NoMemory, Refused, Steps};
 use report::Report;
+use run_options::Shown;
 use stated_formula::Stated;
 use std::alloc::Global;
 use std::sync::ledger::Ledger;
 use std::thread::Threads;
 use watch::{Handed, Watch};
 
-/// A log that is checked against a formula as its items come, and what its reports show.
+/// A log that is checked against a formula as its items come, and its reports.
 #[derive(Drop)]
 pub struct ReportedLog {
     /// The log so far, with the formula.
     pub log: LogCheck,
-    pub slice: bool,
-    pub witness: bool,
+    /// What its reports show.
+    pub shown: Shown,
     /// What the reports so far leave to the next one.
     answering: Answering,
 }
@@ -45,21 +46,19 @@ impl ReportedLog {
     pub fn new(
         alloc: Global,
         stated: Stated,
-        slice: bool,
-        witness: bool,
+        shown: Shown,
         watches: Vec<Handed>,
     ) -> Result<ReportedLog, NoMemory>
         requires stated { (text : ListOf ℕ) × IsStated text stated }
         requires watches { AreWatches watches.items }
         ensures { IfOk result (λ check. IsCheckOf (said_by answers)
-            (aim_of stated slice witness (names_of watches.items)
+            (aim_of stated shown (names_of watches.items)
             (watches_of (said_by answers) watches.items)) check waiting) }
     {
         match LogCheck::new(alloc, stated, watches) {
             Ok(log) => Ok(ReportedLog {
                 log,
-                slice,
-                witness,
+                shown,
                 answering: Answering::new(alloc),
             }),
             Err(_) => Err(NoMemory),
@@ -107,20 +106,15 @@ impl ReportedLog {
         }
     }
 
-    /// The report on the log as far as the last closed batch. Its answer is made by 1 to 16
-    /// workers, and it may wait for the threads that it joins.
+    /// The report on the log as far as the last closed batch. It may wait for the threads that it
+    /// joins.
     pub fn report<R: Threads + Sync, G: Gate, L: Ledger>(
         &mut self,
-        rt: &R,
-        alloc: Global,
-        workers: u32,
-        gate: &G,
+        means: &Means<R, G>,
         steps: &mut Steps<L>,
     ) -> Result<Report, NoMemory>
         requires check { (aim : Aim) × (j : Judgement) × (log : Prefix)
             × IsCheckOf (said_by answers) aim self.old j × HasClosed j log }
-        requires some { 1 ≤ workers }
-        requires few { workers ≤ 16 }
         ensures says { IfOk result (λ report. (aim : Aim) (j : Judgement) (log : Prefix)
             → IsCheckOf (said_by answers) aim self.old j → HasClosed j log
             → IsReportFor aim log report) }
@@ -132,18 +126,11 @@ impl ReportedLog {
     {
         let log = &self.log;
         let observation = log.observation();
-        let Ok(answer) = self
-            .answering
-            .answer(rt, alloc, observation, workers, gate, steps)
-        else {
+        let Ok(answer) = self.answering.answer(means, observation, steps) else {
             return Err(NoMemory);
         };
-        let wanted = Wanted {
-            slice: self.slice,
-            witness: self.witness,
-        };
         let seen = observation.seen();
-        match report_on(alloc, seen, &answer, wanted, &log.stated.text) {
+        match report_on(means.alloc, seen, &answer, self.shown, &log.stated.text) {
             Ok(report) => Ok(report),
             Err(_) => Err(NoMemory),
         }

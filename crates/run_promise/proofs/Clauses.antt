@@ -15,8 +15,8 @@ use Rattle.command_words.specs.declared.request.Form.{Form}
 use Rattle.command_words.specs.declared.request.Form.TheVariants as form
 use Rattle.command_words.specs.declared.request.Inquiry.{Inquiry}
 use Rattle.command_words.specs.declared.request.Product.TheVariants as product
-use Rattle.command_words.specs.declared.request.Shown.{Shown}
-use Rattle.command_words.specs.declared.request.Sizes.{Sizes}
+use Rattle.command_words.specs.declared.request.Reporting.{Reporting}
+use Rattle.run_options.specs.declared.sizes.Sizes.{Sizes}
 use Rattle.run_request.specs.declared.question.QuestionFault.{QuestionFault}
 use Rattle.run_request.specs.declared.question.QuestionFault.TheVariants as question
 use Rattle.run_request.specs.Questions.{IsQuestionFault, AsksFor}
@@ -60,11 +60,11 @@ reads_one words a b t u h k =
     (cc, same.1)
 
 -- words that ask for reports ask for no certificate
-pub not_certified : (words : List (List ℕ)) (f : Form) (shown : Shown) (t u : Tree)
-    → AsksFor words (task.Read (record { form = f; product = product.Reports shown })) t → AsksCertificate words u → ⊥
-not_certified words f shown t u h k =
-    let same = reads_one words (record { form = f; product = product.Reports shown }) certifying t u h k in
-    let products : product.Reports shown ≡ product.Certificate = ap (λ (i : Inquiry). i.product) same.0 in
+pub not_certified : (words : List (List ℕ)) (f : Form) (reporting : Reporting) (t u : Tree)
+    → AsksFor words (task.Read (record { form = f; product = product.Reports reporting })) t → AsksCertificate words u → ⊥
+not_certified words f reporting t u h k =
+    let same = reads_one words (record { form = f; product = product.Reports reporting }) certifying t u h k in
+    let products : product.Reports reporting ≡ product.Certificate = ap (λ (i : Inquiry). i.product) same.0 in
     absurd cc
 
 -- each form is read as a log

@@ -12,7 +12,7 @@ use Rattle.command_words.specs.declared.request.Form.TheVariants as form
 use Rattle.command_words.specs.declared.request.Product.{Product}
 use Rattle.command_words.specs.declared.request.Product.TheVariants as product
 use Rattle.command_words.specs.declared.request.Inquiry.{Inquiry}
-use Rattle.command_words.specs.declared.request.Shown.{Shown}
+use Rattle.command_words.specs.declared.request.Reporting.{Reporting}
 use Rattle.run_report.specs.Reports.{Asked}
 use Rattle.watch.specs.declared.predicate.Handed.{Handed}
 use Rattle.log_rules.specs.Judgement.{Prefix, Rules, with_rules}
@@ -44,9 +44,9 @@ asked t slice witness = record {
   witness = witness;
 }
 
--- what the words show of it
-abbrev pub asked_by : Tree → Shown → Asked
-asked_by t shown = asked t shown.slice shown.witness
+-- what the words ask of its reports
+abbrev pub asked_by : Tree → Reporting → Asked
+asked_by t reporting = asked t reporting.shown.slice reporting.shown.witness
 
 -- ---- how an input is read
 
@@ -66,27 +66,28 @@ rules_for watches t =
 
 -- the watches that the formula may name, and what they say: a certificate's names none
 abbrev pub watch_names : Product → List Name → List Name
-watch_names (product.Reports shown) names = names
+watch_names (product.Reports reporting) names = names
 watch_names product.Certificate names = []
 
 abbrev pub watches_for : Product → Watches → Watches
-watches_for (product.Reports shown) watches = watches
+watches_for (product.Reports reporting) watches = watches
 watches_for product.Certificate watches = no_watches
 
 -- whether each batch has a text of its own, and not the whole log alone
 abbrev pub each_of : Product → Bool
-each_of (product.Reports shown) = shown.each_batch
+each_of (product.Reports reporting) = reporting.each_batch
 each_of product.Certificate = false
 
 -- this is written of a log
 abbrev pub Writes : Watches → Tree → Product → Prefix → List ℕ → Type 0
-Writes watches t (product.Reports shown) log text = IsReportText (asked_by t shown) watches log text
+Writes watches t (product.Reports reporting) log text =
+    IsReportText (asked_by t reporting) watches log text
 Writes watches t product.Certificate log text = IsCertificateText t log text
 
 -- this is the front of what is written of a log
 abbrev pub WritesFront : Watches → Tree → Product → Prefix → List ℕ → Type 0
-WritesFront watches t (product.Reports shown) log part =
-    (whole : List ℕ) × IsReportText (asked_by t shown) watches log whole × IsPrefix part whole
+WritesFront watches t (product.Reports reporting) log part =
+    (whole : List ℕ) × IsReportText (asked_by t reporting) watches log whole × IsPrefix part whole
 WritesFront watches t product.Certificate log part = IsCertificateFront t log part
 
 -- what `certify` asks of an input: the certificate of the text of one log

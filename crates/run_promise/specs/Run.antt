@@ -12,6 +12,7 @@ use Rattle.run_model.specs.Slice.{DenotedBy}
 use Rattle.pota_base.specs.Outside.{Rose, IsPrefix}
 use Rattle.pota_base.specs.declared.status.Status.{Status}
 use Rattle.pota_base.specs.declared.status.Status.TheVariants as status
+use Rattle.input_reading.specs.Changes.{Change}
 use Rattle.event_log.specs.declared.log.Log.{Log}
 use Rattle.rctl_grammar.specs.declared.fault.FormulaFault.{FormulaFault}
 use Rattle.rctl_grammar.specs.declared.tree.Tree.{Tree}
@@ -19,7 +20,7 @@ use Rattle.command_words.specs.declared.request.Task.TheVariants as task
 use Rattle.command_words.specs.declared.request.Inquiry.{Inquiry}
 use Rattle.command_words.specs.declared.request.Product.{Product}
 use Rattle.command_words.specs.declared.request.Product.TheVariants as product
-use Rattle.command_words.specs.declared.request.Sizes.{Sizes}
+use Rattle.run_options.specs.declared.sizes.Sizes.{Sizes}
 use Rattle.run_request.specs.declared.question.QuestionFault.{QuestionFault}
 use Rattle.run_request.specs.declared.question.QuestionFault.TheVariants as question
 use Rattle.run_request.specs.Questions.{IsQuestionFault, AsksFor}
@@ -29,7 +30,6 @@ use Rattle.run_report.specs.Reports.{Asked, text_seen, IsReportOf}
 use Rattle.log_rules.specs.SoFar.{trace_so_far, counted}
 use Rattle.run_report.specs.Witnesses.{IsShownFor}
 use Rattle.run_report.specs.Benches.{IsSummaryOf}
-use Rattle.run_report.specs.Benches as bench
 use Rattle.fault_kinds.specs.declared.refusal.Refusal.{Refusal}
 use Rattle.fault_kinds.specs.declared.refusal.Refusal.TheVariants as refusal
 use Rattle.log_rules.specs.Judgement.{Prefix}
@@ -63,9 +63,9 @@ pub record TellsOfRun (q : Asked) (watches : Watches) (log : Prefix) (report : R
 
 -- each report on the log does; a certificate is of a run whose clocks are an order
 abbrev pub Tells : Watches → Tree → Product → Prefix → Type 0
-Tells watches t (product.Reports shown) log =
-    (report : Report) → IsReportOf (asked_by t shown) log.header log.batches watches report
-    → TellsOfRun (asked_by t shown) watches log report
+Tells watches t (product.Reports reporting) log =
+    (report : Report) → IsReportOf (asked_by t reporting) log.header log.batches watches report
+    → TellsOfRun (asked_by t reporting) watches log report
 Tells watches t product.Certificate log =
     IsOrder (clocks_of (trace_so_far log.header log.batches))
 
@@ -138,9 +138,6 @@ pub record HasPart (left : Option (List ℕ)) (on : Handing) (words : List (List
 
 -- ---- a log that is made
 
-abbrev pub sizes_of : Sizes → bench.Sizes
-sizes_of s = record { seed = s.seed; procs = s.procs; events = s.events }
-
 abbrev pub made_by : Sizes → Log
 made_by s = generated s.seed s.procs s.events
 
@@ -151,7 +148,7 @@ pub record IsBenched (on : Handing) (words : List (List ℕ)) (summary : List �
   pub sizes : Sizes
   pub asks : AsksFor words (task.Bench sizes) tree
   pub named : unknown_name (node_of tree) on.names (made_by sizes).header ≡ None
-  pub says : IsSummaryOf (sizes_of sizes) (asked tree true false) (made_by sizes).header
+  pub says : IsSummaryOf sizes (asked tree true false) (made_by sizes).header
       (made_by sizes).batches on.watches summary
   pub truth : (verdict ≡ true)
       ↔ IsTrueAtStart on.watches tree
@@ -338,3 +335,32 @@ pub record IsBenchAnswered (on : Handing) (words : List (List ℕ)) (held held' 
   pub missing : (t : Tree) (sizes : Sizes) (f : FormulaFault) → AsksFor words (task.Bench sizes) t
       → unknown_name (node_of t) on.names (made_by sizes).header ≡ Some f
       → Appends held held' [] × (o.batches ≡ 0) × TellsFault (fault.Formula f) o
+
+-- ---- of a log and an output, as a call finds and leaves them
+
+abbrev pub RanOn : Change → Change → Handing → List (List ℕ) → Outcome → Type 0
+RanOn log out on words o =
+    Ran log.before log.after out.before out.after log.faults_before log.faults_after
+    out.faults_before out.faults_after on words o
+
+-- neither count rose, and memory was there
+abbrev pub IsCalmOn : Change → Change → Outcome → Type 0
+IsCalmOn log out o =
+    IsCalm log.faults_before log.faults_after out.faults_before out.faults_after o
+
+-- then each of these holds
+abbrev pub IsDecidedOn : Change → Change → Handing → List (List ℕ) → Outcome → Type 0
+IsDecidedOn log out on words o =
+    IsCalmOn log out o → IsDecided log.before on words out.before out.after o
+
+abbrev pub IsRefusedOn : Change → Change → Handing → List (List ℕ) → Outcome → Type 0
+IsRefusedOn log out on words o =
+    IsCalmOn log out o → IsRefusedAsDue log.before on words out.before out.after o
+
+abbrev pub IsMisaskedOn : Change → Change → List (List ℕ) → Outcome → Type 0
+IsMisaskedOn log out words o =
+    IsCalmOn log out o → IsRefusedAsAsked words out.before out.after o
+
+abbrev pub IsBenchedOn : Change → Change → Handing → List (List ℕ) → Outcome → Type 0
+IsBenchedOn log out on words o =
+    IsCalmOn log out o → IsBenchAnswered on words out.before out.after o

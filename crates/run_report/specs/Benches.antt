@@ -8,16 +8,11 @@ use Rattle.event_log.specs.Before.{Line}
 use Rattle.event_log.specs.LogText.{text_of}
 use Rattle.event_log.specs.declared.log.Event.{Event}
 use Rattle.event_log.specs.declared.log.Header.{Header}
+use Rattle.run_options.specs.declared.sizes.Sizes.{Sizes}
 use Rattle.report.specs.PassedOn.{formula_line, verdict_line, slice_line}
 use Rattle.report.specs.declared.report.Report.{Report}
 use Rattle.report.specs.declared.report.SliceText.{SliceText}
 use Rattle.run_report.specs.Reports.{Asked, IsReportOf}
-
--- the seed of a log that is made, and how many processes and events it has
-pub record Sizes : Type 0 where
-  pub seed : ℕ
-  pub procs : ℕ
-  pub events : ℕ
 
 abbrev pub number_line : List ℕ → ℕ → Line
 number_line word n = word ++ decimal n
@@ -28,7 +23,7 @@ slice_lines None = []
 slice_lines (Some s) =
     slice_line s.bounds ∷ number_line (codes "edges ") (length s.edges) ∷ []
 
--- the lines, where an event's row and the bottom's are counted
+-- the lines for a log of these sizes, where an event's row and the bottom's are counted
 abbrev pub summary_lines : Sizes → Report → List Line
 summary_lines sizes r =
     codes "pota-bench 1" ∷ number_line (codes "seed ") sizes.seed

@@ -1,15 +1,14 @@
-ghost use Rattle.std.specs.Prelude.{◌≡◌, ◌≤◌, length, IfOk, IfSome, IsTrue};
+ghost use Rattle.std.specs.Prelude.{◌≡◌, ◌≤◌, length, IfOk, IsTrue};
 ghost use Rattle.std.specs.List.{AllByRecursion};
 ghost use Rattle.vector_clock.specs.Events.{CanBeChecked, EventFits};
 
-use crate::events::a_message;
+use crate::events::{a_message, p_and_q};
 use causal_order::Order;
 use cut_lattice::Cut;
-use event_log::{Event, Header, Log, LogCode, LogFault, Name};
+use event_log::{Event, Header, Log, LogCode, LogFault};
 use pota_base::{EventId, List, NoMemory, Refused};
 use std::alloc::Global;
 use std::process::Abort;
-use std::test::Fail;
 use vector_clock::{Clocks, check};
 
 const SENT: EventId = EventId {
@@ -22,18 +21,14 @@ const RECEIVED: EventId = EventId {
     position: 1,
 };
 
+// The log of two processes with this batch.
 #[tactic(auto, using(crate::proofs::Standing::fits_stand))]
-fn log_of(alloc: Global, batch: List<Event>) -> Result<Option<Log>, NoMemory>
+fn log_of(rt: &impl Abort, alloc: Global, batch: List<Event>) -> Result<Log, NoMemory>
     requires fits { AllByRecursion (EventFits 2) batch }
     requires len { length batch ≤ 2 }
-    ensures { IfOk result (λ o. IfSome o CanBeChecked) }
+    ensures { IfOk result CanBeChecked }
 {
-    let (Some(p), Some(q)) = (Name::new(alloc, b"P")?, Name::new(alloc, b"Q")?) else {
-        return Ok(None);
-    };
-    let mut procs = List::new(alloc);
-    procs.push(p)?;
-    procs.push(q)?;
+    let procs = p_and_q(rt, alloc)?;
     let mut batches = List::new(alloc);
     batches.push(batch)?;
     let header = Header {
@@ -42,25 +37,16 @@ fn log_of(alloc: Global, batch: List<Event>) -> Result<Option<Log>, NoMemory>
         vars: List::new(alloc),
         var_lines: List::new(alloc),
     };
-    Ok(Some(Log { header, batches }))
+    Ok(Log { header, batches })
 }
 
-// The order of the log's events, if it has no fault.
-fn order_of(alloc: Global, log: &Log) -> Result<Option<Order>, NoMemory>
-    requires { CanBeChecked log.now }
-{
-    match check(alloc, log) {
+// The order of a message from P to Q, if its log has no fault.
+fn order_of_a_message(rt: &impl Abort, alloc: Global) -> Result<Option<Order>, NoMemory> {
+    let log = log_of(rt, alloc, a_message(alloc, 1)?)?;
+    match check(alloc, &log) {
         Ok(order) => Ok(Some(order)),
         Err(Refused::Fault(_)) => Ok(None),
         Err(Refused::NoMemory) => Err(NoMemory),
-    }
-}
-
-// The order of a message from P to Q.
-fn order_of_a_message(alloc: Global) -> Result<Option<Order>, NoMemory> {
-    match log_of(alloc, a_message(alloc, 1)?)? {
-        Some(log) => order_of(alloc, &log),
-        None => Ok(None),
     }
 }
 
@@ -72,7 +58,7 @@ fn has_two_processes(order: &Order) -> bool
 
 // That the one event of P happened before that of Q.
 fn has_a_message(rt: &impl Abort, order: &Order) {
-    assert_eq!(rt; order.shape().lens(), [1, 1].as_slice());
+    assert!(rt; order.shape().lens() == [1, 1].as_slice());
     assert!(rt; order.before(SENT, RECEIVED));
     assert!(rt; !order.before(RECEIVED, SENT));
 }
@@ -103,7 +89,7 @@ fn has_cuts(rt: &impl Abort, order: &Order, without: &Cut, lone: &Cut)
 // The least consistent cut that has the receiving.
 fn past_of_receiving(rt: &impl Abort, alloc: Global, order: &Order) -> Result<Cut, NoMemory> {
     assert!(rt; has_two_processes(order));
-    assert_eq!(rt; order.shape().lens(), [1, 1].as_slice());
+    assert!(rt; order.shape().lens() == [1, 1].as_slice());
     let mut cut = Cut::new(alloc, 2)?;
     order.past_into(RECEIVED, &mut cut);
     Ok(cut)
@@ -119,10 +105,9 @@ fn is_of_a_message(rt: &impl Abort, alloc: Global, order: &Order) -> Result<(), 
 }
 
 #[test]
-fn a_log_without_a_fault(rt: HostRuntime) -> Result<(), Fail> {
-    let order = order_of_a_message(rt.alloc())?.ok_or("no fault")?;
-    is_of_a_message(&rt, rt.alloc(), &order)?;
-    Ok(())
+fn a_log_without_a_fault(rt: HostRuntime) -> Result<(), NoMemory> {
+    let order = order_of_a_message(&rt, rt.alloc())?;
+    is_of_a_message(&rt, rt.alloc(), &order.expect(&rt, "no fault"))
 }
 
 // The fault of a receiving whose clock lacks its sending, and how many events are admitted.
@@ -137,7 +122,7 @@ fn refused(alloc: Global) -> Result<(Option<LogFault>, u32), NoMemory> {
 }
 
 #[test]
-fn a_batch_with_a_fault(rt: HostRuntime) -> Result<(), Fail> {
+fn a_batch_with_a_fault(rt: HostRuntime) -> Result<(), NoMemory> {
     let (fault, events) = refused(rt.alloc())?;
     let wanted = LogFault {
         code: LogCode::ReceiveEarly,

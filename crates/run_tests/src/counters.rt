@@ -9,11 +9,11 @@ ghost use Rattle.std.specs.Prelude.{
   length,
   All,
   IfOk,
-  IfSome,
 };
 ghost use Rattle.event_log.specs.States.{AreNamedApart};
 ghost use Rattle.counter_preds.specs.Counters.{AreCounters, IsVariable, IsCounter};
 
+use crate::events::{name, p_and_q};
 use counter_preds::{Variable, a_header_has_counters, diff_at_least, diff_at_most, first_fall};
 use event_log::{
     Assign, Binding, Event, Header, Kind, LogCode, LogFault, Name, States, var_lines_of,
@@ -22,7 +22,6 @@ use pota_base::{List, NoMemory};
 use pull_system::Pull;
 use std::alloc::Global;
 use std::process::Abort;
-use std::test::Fail;
 
 const X: Variable = Variable {
     process: 0,
@@ -51,22 +50,14 @@ fn opening(alloc: Global, name: Name, value: i64) -> Result<List<Binding>, NoMem
 }
 
 // `procs P Q`, `vars P x=3`, `vars Q y=0`
-fn two_counters(alloc: Global) -> Result<Option<States>, NoMemory>
-    ensures there { IfOk result (λ o. IfSome o (λ s. IsVariable s X × IsVariable s Y)) }
-    ensures rise { IfOk result (λ o. IfSome o (λ s. IsCounter s X × IsCounter s Y)) }
+fn two_counters(rt: &impl Abort, alloc: Global) -> Result<States, NoMemory>
+    ensures there { IfOk result (λ s. IsVariable s X × IsVariable s Y) }
+    ensures rise { IfOk result (λ s. IsCounter s X × IsCounter s Y) }
 {
-    let (Some(p), Some(q)) = (Name::new(alloc, b"P")?, Name::new(alloc, b"Q")?) else {
-        return Ok(None);
-    };
-    let (Some(x), Some(y)) = (Name::new(alloc, b"x")?, Name::new(alloc, b"y")?) else {
-        return Ok(None);
-    };
-    let mut procs = List::new(alloc);
-    procs.push(p)?;
-    procs.push(q)?;
+    let procs = p_and_q(rt, alloc)?;
     let mut vars = List::new(alloc);
-    vars.push(opening(alloc, x, 3)?)?;
-    vars.push(opening(alloc, y, 0)?)?;
+    vars.push(opening(alloc, name(rt, alloc, b"x")?, 3)?)?;
+    vars.push(opening(alloc, name(rt, alloc, b"y")?, 0)?)?;
     let var_lines = var_lines_of(alloc, vars.as_slice())?;
     a_header_has_counters();
     let states = States::new(
@@ -78,7 +69,7 @@ fn two_counters(alloc: Global) -> Result<Option<States>, NoMemory>
             var_lines,
         },
     )?;
-    Ok(Some(states))
+    Ok(states)
 }
 
 // Whether there is one pull, from the one process to the other, with this table.
@@ -133,18 +124,18 @@ fn judge_at_least(rt: &impl Abort, alloc: Global, states: &States) -> Result<(),
     Ok(())
 }
 
-#[test]
-fn at_most_at_the_opening(rt: HostRuntime) -> Result<(), Fail> {
-    let states = two_counters(rt.alloc())?.ok_or("names")?;
-    judge_at_most(&rt, rt.alloc(), &states)?;
-    Ok(())
+// That both come out so.
+fn judge_differences(rt: &impl Abort, alloc: Global, states: &States) -> Result<(), NoMemory>
+    requires there { IsVariable states.now X × IsVariable states.now Y }
+    requires rise { IsCounter states.now X × IsCounter states.now Y }
+{
+    judge_at_most(rt, alloc, states)?;
+    judge_at_least(rt, alloc, states)
 }
 
 #[test]
-fn at_least_at_the_opening(rt: HostRuntime) -> Result<(), Fail> {
-    let states = two_counters(rt.alloc())?.ok_or("names")?;
-    judge_at_least(&rt, rt.alloc(), &states)?;
-    Ok(())
+fn differences_at_the_opening(rt: HostRuntime) -> Result<(), NoMemory> {
+    judge_differences(&rt, rt.alloc(), &two_counters(&rt, rt.alloc())?)
 }
 
 // `ev P int x=4` or the like, at its line.
@@ -197,8 +188,6 @@ fn judge_batch(rt: &impl Abort, alloc: Global, states: &States) -> Result<(), No
 }
 
 #[test]
-fn a_counter_falls(rt: HostRuntime) -> Result<(), Fail> {
-    let states = two_counters(rt.alloc())?.ok_or("names")?;
-    judge_batch(&rt, rt.alloc(), &states)?;
-    Ok(())
+fn a_counter_falls(rt: HostRuntime) -> Result<(), NoMemory> {
+    judge_batch(&rt, rt.alloc(), &two_counters(&rt, rt.alloc())?)
 }

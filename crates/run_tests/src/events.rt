@@ -1,14 +1,33 @@
-//! Events that several tests stand on.
-ghost use Rattle.std.specs.Prelude.{◌≡◌, ◌+◌, ◌<◌, ◌≤◌, length, IfOk, OnOk};
+//! Names and events that several tests stand on.
+ghost use Rattle.std.specs.Prelude.{◌≡◌, ◌+◌, ◌<◌, ◌≤◌, ◌∷◌, [], length, IfOk, OnOk};
 ghost use Rattle.std.specs.List.{AllByRecursion};
 ghost use Rattle.event_log.specs.declared.log.Header.{Header};
 ghost use Rattle.event_log.specs.LogText.{KindWithin};
 ghost use Rattle.event_log.specs.States.{IsKnown};
 ghost use Rattle.vector_clock.specs.Events.{EventFits};
 
-use event_log::{Event, Kind};
+use event_log::{Event, Kind, Name};
 use pota_base::{List, NoMemory};
 use std::alloc::Global;
+use std::process::Abort;
+
+/// The name of these bytes, which are one.
+pub fn name(rt: &impl Abort, alloc: Global, bytes: &[u8]) -> Result<Name, NoMemory>
+    ensures { IfOk result (λ name. name ≡ bytes.now) }
+{
+    let name = Name::new(alloc, bytes)?;
+    Ok(name.expect(rt, "a name"))
+}
+
+/// The names `P` and `Q`.
+pub fn p_and_q(rt: &impl Abort, alloc: Global) -> Result<List<Name>, NoMemory>
+    ensures { IfOk result (λ names. names ≡ (80 ∷ []) ∷ (81 ∷ []) ∷ []) }
+{
+    let mut names = List::new(alloc);
+    names.push(name(rt, alloc, b"P")?)?;
+    names.push(name(rt, alloc, b"Q")?)?;
+    Ok(names)
+}
 
 /// Puts an event without assignments behind those of a batch.
 pub fn add(

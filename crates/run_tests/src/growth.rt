@@ -1,16 +1,14 @@
-ghost use Rattle.std.specs.Prelude.{◌≡◌, ◌≤◌, length, IfOk, IfSome};
+ghost use Rattle.std.specs.Prelude.{◌≡◌, ◌≤◌, length, IfOk};
 ghost use Rattle.std.specs.List.{AllByRecursion};
 ghost use Rattle.event_log.specs.declared.log.Header.{Header};
 ghost use Rattle.event_log.specs.States.{IsHeader, IsKnown};
 ghost use Rattle.vector_clock.specs.Events.{EventFits};
-ghost use Rattle.trace_growth.specs.Growing.{FitsTrace};
 
-use crate::events::{a_message, add};
-use event_log::{Event, Header, Kind, LogCode, LogFault, Name, var_lines_of};
+use crate::events::{a_message, add, p_and_q};
+use event_log::{Event, Header, Kind, LogCode, LogFault, var_lines_of};
 use pota_base::{EventId, List, NoMemory, Refused};
 use std::alloc::Global;
 use std::process::Abort;
-use std::test::Fail;
 use trace_growth::Trace;
 
 // So many events of the first of two processes.
@@ -30,63 +28,38 @@ fn many_events(alloc: Global, count: u32) -> Result<List<Event>, NoMemory>
 }
 
 // `procs P Q`
-fn two_processes(alloc: Global) -> Result<Option<Header>, NoMemory>
-    ensures { IfOk result (λ o. IfSome o (λ h. IsHeader h × (length h.procs ≡ 2))) }
+fn two_processes(rt: &impl Abort, alloc: Global) -> Result<Header, NoMemory>
+    ensures { IfOk result (λ h. IsHeader h × (length h.procs ≡ 2)) }
 {
-    let (Some(p), Some(q)) = (Name::new(alloc, b"P")?, Name::new(alloc, b"Q")?) else {
-        return Ok(None);
-    };
-    let mut procs = List::new(alloc);
-    procs.push(p)?;
-    procs.push(q)?;
+    let procs = p_and_q(rt, alloc)?;
     let mut vars = List::new(alloc);
     vars.push(List::new(alloc))?;
     vars.push(List::new(alloc))?;
     let var_lines = var_lines_of(alloc, vars.as_slice())?;
-    Ok(Some(Header {
+    Ok(Header {
         version: 1,
         procs,
         vars,
         var_lines,
-    }))
+    })
 }
 
-// A trace of two processes without events, which the batch fits.
+// A trace of two processes that was given the batch, and the fault of the batch.
 #[tactic(auto, using(crate::proofs::Standing::fits_stand))]
-fn trace_for(alloc: Global, batch: &List<Event>) -> Result<Option<Trace>, NoMemory>
-    requires fits { AllByRecursion (EventFits 2) batch.now }
-    requires known { (h : Header) → length h.procs ≡ 2 → AllByRecursion (IsKnown h) batch.now }
-    requires len { length batch.now ≤ 50000 }
-    ensures { IfOk result (λ o. IfSome o (λ trace. FitsTrace trace batch.now)) }
-{
-    match two_processes(alloc)? {
-        Some(header) => Ok(Some(Trace::new(alloc, header)?)),
-        None => Ok(None),
-    }
-}
-
-/// A trace of two processes, and what came of a batch that it was given.
-type Extended = (Trace, Result<(), Refused<LogFault>>);
-
-fn extended(alloc: Global, batch: List<Event>) -> Result<Option<Extended>, NoMemory>
+fn extended(
+    rt: &impl Abort,
+    alloc: Global,
+    batch: List<Event>,
+) -> Result<(Trace, Option<LogFault>), NoMemory>
     requires fits { AllByRecursion (EventFits 2) batch }
     requires known { (h : Header) → length h.procs ≡ 2 → AllByRecursion (IsKnown h) batch }
     requires len { length batch ≤ 50000 }
 {
-    match trace_for(alloc, &batch)? {
-        Some(mut trace) => {
-            let told = trace.extend(batch);
-            Ok(Some((trace, told)))
-        }
-        None => Ok(None),
-    }
-}
-
-// The fault that a batch has.
-fn fault_of(told: Result<(), Refused<LogFault>>) -> Option<LogFault> {
-    match told {
-        Err(Refused::Fault(fault)) => Some(fault),
-        _ => None,
+    let mut trace = Trace::new(alloc, two_processes(rt, alloc)?)?;
+    match trace.extend(batch) {
+        Ok(()) => Ok((trace, None)),
+        Err(Refused::Fault(fault)) => Ok((trace, Some(fault))),
+        Err(Refused::NoMemory) => Err(NoMemory),
     }
 }
 
@@ -94,7 +67,7 @@ fn fault_of(told: Result<(), Refused<LogFault>>) -> Option<LogFault> {
 fn has_the_message(rt: &impl Abort, trace: &Trace) {
     assert!(rt; !trace.is_spent());
     assert!(rt; trace.batches() == 1);
-    assert_eq!(rt; trace.states().shape().lens(), [1, 1].as_slice());
+    assert!(rt; trace.states().shape().lens() == [1, 1].as_slice());
     let received = EventId {
         process: 1,
         position: 1,
@@ -103,10 +76,9 @@ fn has_the_message(rt: &impl Abort, trace: &Trace) {
 }
 
 #[test]
-fn a_batch_is_taken(rt: HostRuntime) -> Result<(), Fail> {
-    let message = a_message(rt.alloc(), 1)?;
-    let (trace, told) = extended(rt.alloc(), message)?.ok_or("names")?;
-    assert!(rt; told.is_ok());
+fn a_batch_is_taken(rt: HostRuntime) -> Result<(), NoMemory> {
+    let (trace, fault) = extended(&rt, rt.alloc(), a_message(rt.alloc(), 1)?)?;
+    assert!(rt; fault == None);
     has_the_message(&rt, &trace);
     Ok(())
 }
@@ -119,14 +91,13 @@ fn has_nothing(rt: &impl Abort, trace: &Trace) {
 }
 
 #[test]
-fn a_batch_with_a_fault_is_not_taken(rt: HostRuntime) -> Result<(), Fail> {
-    let early = a_message(rt.alloc(), 0)?;
-    let (trace, told) = extended(rt.alloc(), early)?.ok_or("names")?;
+fn a_batch_with_a_fault_is_not_taken(rt: HostRuntime) -> Result<(), NoMemory> {
+    let (trace, fault) = extended(&rt, rt.alloc(), a_message(rt.alloc(), 0)?)?;
     let wanted = LogFault {
         code: LogCode::ReceiveEarly,
         line: 4,
     };
-    assert!(rt; fault_of(told) == Some(wanted));
+    assert!(rt; fault == Some(wanted));
     has_nothing(&rt, &trace);
     Ok(())
 }
@@ -134,7 +105,7 @@ fn a_batch_with_a_fault_is_not_taken(rt: HostRuntime) -> Result<(), Fail> {
 // That the trace has taken 10,000 events of P, and one in their midst.
 fn has_many(rt: &impl Abort, trace: &Trace) {
     assert!(rt; !trace.is_spent());
-    assert_eq!(rt; trace.states().shape().lens(), [10_000, 0].as_slice());
+    assert!(rt; trace.states().shape().lens() == [10_000, 0].as_slice());
     let middle = EventId {
         process: 0,
         position: 4_097,
@@ -144,10 +115,9 @@ fn has_many(rt: &impl Abort, trace: &Trace) {
 
 // Room for all events of a large batch is taken at once, and its memory given back piece by piece.
 #[test]
-fn a_large_batch_is_taken(rt: HostRuntime) -> Result<(), Fail> {
-    let many = many_events(rt.alloc(), 10_000)?;
-    let (trace, told) = extended(rt.alloc(), many)?.ok_or("names")?;
-    assert!(rt; told.is_ok());
+fn a_large_batch_is_taken(rt: HostRuntime) -> Result<(), NoMemory> {
+    let (trace, fault) = extended(&rt, rt.alloc(), many_events(rt.alloc(), 10_000)?)?;
+    assert!(rt; fault == None);
     has_many(&rt, &trace);
     Ok(())
 }

@@ -1,14 +1,13 @@
-ghost use Rattle.std.specs.Prelude.{◌≡◌, [], ◌∷◌, IfOk, IfSome};
+ghost use Rattle.std.specs.Prelude.{◌≡◌, [], ◌∷◌, IfOk};
 ghost use Rattle.event_log.specs.Laws.{IsLog};
 
+use crate::events::name;
 use event_log::{
-    Assign, Binding, Event, Header, Kind, Log, LogCode, LogFault, Name, Reader, count_events,
-    write_log,
+    Assign, Binding, Event, Header, Kind, Log, LogCode, LogFault, Reader, count_events, write_log,
 };
 use pota_base::{Bytes, List, NoMemory};
 use std::alloc::Global;
 use std::process::Abort;
-use std::test::Fail;
 
 const LOG: &[u8] =
     b"pota-log 1\nprocs P Q\nvars P x=0\nvars Q y=0\nev P 1,0 int x=1\nev Q 0,1 int y=1\nend\n";
@@ -43,7 +42,7 @@ fn read(
 }
 
 #[test]
-fn in_pieces(rt: HostRuntime) -> Result<(), Fail> {
+fn in_pieces(rt: HostRuntime) -> Result<(), NoMemory> {
     let (items, fault) = read(&rt, rt.alloc(), LOG)?;
     assert!(rt; items == 4);
     assert!(rt; fault == None);
@@ -81,23 +80,24 @@ fn fault_of(alloc: Global, text: &[u8]) -> Option<LogFault> {
     }
 }
 
-#[test]
-fn faults(rt: HostRuntime) {
-    for (text, code, line) in FAULTY {
-        assert!(rt; fault_of(rt.alloc(), text) == Some(LogFault { code, line }));
+// That the texts have these faults.
+fn have_faults(rt: &impl Abort, alloc: Global, rows: &[Faulty]) {
+    for &(text, code, line) in rows {
+        assert!(rt; fault_of(alloc, text) == Some(LogFault { code, line }));
     }
 }
 
+#[test]
+fn faults(rt: HostRuntime) {
+    have_faults(&rt, rt.alloc(), &FAULTY);
+}
+
 // `procs P`, `vars P x=0`, `ev P 1 int x=1`, `end`
-fn small_log(alloc: Global) -> Result<Option<Log>, NoMemory>
-    ensures { IfOk result (λ o. IfSome o IsLog) }
+fn small_log(rt: &impl Abort, alloc: Global) -> Result<Log, NoMemory>
+    ensures { IfOk result IsLog }
 {
-    let Some(process) = Name::new(alloc, b"P")? else {
-        return Ok(None);
-    };
-    let Some(variable) = Name::new(alloc, b"x")? else {
-        return Ok(None);
-    };
+    let process = name(rt, alloc, b"P")?;
+    let variable = name(rt, alloc, b"x")?;
     let assign = Assign {
         variable: 0,
         value: 1,
@@ -119,10 +119,10 @@ fn small_log(alloc: Global) -> Result<Option<Log>, NoMemory>
         vars: one(alloc, one(alloc, binding)?)?,
         var_lines: one(alloc, 3)?,
     };
-    Ok(Some(Log {
+    Ok(Log {
         header,
         batches: one(alloc, one(alloc, event)?)?,
-    }))
+    })
 }
 
 fn one<T: Drop>(alloc: Global, item: T) -> Result<List<T>, NoMemory>
@@ -133,16 +133,13 @@ fn one<T: Drop>(alloc: Global, item: T) -> Result<List<T>, NoMemory>
     Ok(list)
 }
 
-fn written_small(alloc: Global) -> Result<Option<Bytes>, NoMemory> {
-    match small_log(alloc)? {
-        Some(log) => Ok(Some(write_log(alloc, &log)?)),
-        None => Ok(None),
-    }
+fn written_small(rt: &impl Abort, alloc: Global) -> Result<Bytes, NoMemory> {
+    write_log(alloc, &small_log(rt, alloc)?)
 }
 
 #[test]
-fn written(rt: HostRuntime) -> Result<(), Fail> {
-    let text = written_small(rt.alloc())?.ok_or("names")?;
+fn written(rt: HostRuntime) -> Result<(), NoMemory> {
+    let text = written_small(&rt, rt.alloc())?;
     let wanted = b"pota-log 1\nprocs P\nvars P x=0\nev P 1 int x=1\nend\n";
     assert!(rt; text.as_slice() == wanted.as_slice());
     Ok(())
@@ -162,7 +159,7 @@ fn counted(alloc: Global) -> Result<[u32; 32], NoMemory> {
 }
 
 #[test]
-fn events_are_counted(rt: HostRuntime) -> Result<(), Fail> {
+fn events_are_counted(rt: HostRuntime) -> Result<(), NoMemory> {
     let counts = counted(rt.alloc())?;
     assert!(rt; counts[0] == 0);
     assert!(rt; counts[1] == 1);

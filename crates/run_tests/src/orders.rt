@@ -5,7 +5,6 @@ use cut_lattice::Cut;
 use pota_base::{NoMemory, Shape};
 use std::alloc::Global;
 use std::process::Abort;
-use std::test::Fail;
 
 // An order of two processes to which no events were added.
 fn without_events(rt: &impl Abort, alloc: Global) -> Result<Order, NoMemory>
@@ -35,10 +34,9 @@ fn is_without_events(rt: &impl Abort, alloc: Global, order: &Order) -> Result<()
 }
 
 #[test]
-fn a_run_without_events(rt: HostRuntime) -> Result<(), Fail> {
+fn a_run_without_events(rt: HostRuntime) -> Result<(), NoMemory> {
     let order = without_events(&rt, rt.alloc())?;
-    is_without_events(&rt, rt.alloc(), &order)?;
-    Ok(())
+    is_without_events(&rt, rt.alloc(), &order)
 }
 
 // Two clocks of the second process and one of the first.
@@ -63,7 +61,7 @@ fn has_three_clocks(rt: &impl Abort, table: &ClockTable)
 }
 
 #[test]
-fn clocks_stand_by_their_processes(rt: HostRuntime) -> Result<(), Fail> {
+fn clocks_stand_by_their_processes(rt: HostRuntime) -> Result<(), NoMemory> {
     has_three_clocks(&rt, &three_clocks(rt.alloc())?);
     Ok(())
 }

@@ -10,7 +10,6 @@ use std::alloc::Global;
 use std::marker::Brand;
 use std::process::Abort;
 use std::sync::ledger::{Blank, Ledger};
-use std::test::Fail;
 
 // A row without a cut, and one with all events of two processes.
 fn two_rows(alloc: Global) -> Result<CutTable, NoMemory> {
@@ -30,7 +29,7 @@ fn has_two_rows(rt: &impl Abort, table: &CutTable) {
 }
 
 #[test]
-fn rows_with_and_without_cuts(rt: HostRuntime) -> Result<(), Fail> {
+fn rows_with_and_without_cuts(rt: HostRuntime) -> Result<(), NoMemory> {
     has_two_rows(&rt, &two_rows(rt.alloc())?);
     Ok(())
 }
@@ -47,18 +46,11 @@ fn three_cuts(alloc: Global) -> Result<Slice, NoMemory> {
     Slice::of(alloc, table)
 }
 
-// Whether the rows from which the table of the slice begins have these words.
-fn begins_from(alloc: Global, slice: &Slice, words: &[u64]) -> Result<bool, NoMemory> {
+// Whether the rows from which the table of that slice begins have these words.
+fn begins_from(alloc: Global, words: &[u64]) -> Result<bool, NoMemory> {
+    let slice = three_cuts(alloc)?;
     let rows = slice.rows(alloc)?;
     Ok(rows.as_words() == words)
-}
-
-#[test]
-fn a_table_begins_from_the_rows_of_a_slice(rt: HostRuntime) -> Result<(), Fail> {
-    let slice = three_cuts(rt.alloc())?;
-    let is_so = begins_from(rt.alloc(), &slice, &[0, 0, 1, 0, 3, 2, 1, 1])?;
-    assert!(rt; is_so);
-    Ok(())
 }
 
 fn event(alloc: Global, process: u32, line: u32, clock: &[u32]) -> Result<Event, NoMemory>
@@ -85,18 +77,11 @@ fn three_events(alloc: Global) -> Result<Order, NoMemory>
     Ok(order)
 }
 
-// Whether the rows from which the table of the order begins have these words.
-fn order_begins_from(alloc: Global, order: &Order, words: &[u64]) -> Result<bool, NoMemory> {
-    let rows = order_rows(alloc, order)?;
+// Whether the rows from which the table of that order begins have these words.
+fn order_begins_from(alloc: Global, words: &[u64]) -> Result<bool, NoMemory> {
+    let order = three_events(alloc)?;
+    let rows = order_rows(alloc, &order)?;
     Ok(rows.as_words() == words)
-}
-
-#[test]
-fn a_table_begins_from_the_clocks(rt: HostRuntime) -> Result<(), Fail> {
-    let order = three_events(rt.alloc())?;
-    let is_so = order_begins_from(rt.alloc(), &order, &[0, 0, 1, 0, 2, 0, 1, 1])?;
-    assert!(rt; is_so);
-    Ok(())
 }
 
 /// The rows above a least cut without an event of process 0 and with one of process 1, where there
@@ -108,19 +93,23 @@ fn rows_above(alloc: Global, order: &Order) -> Result<Option<Floor>, NoMemory> {
     Ok(Some(order_rows_above(alloc, order, &[0, 1])?))
 }
 
-// Whether those rows have these words.
-fn begins_above(alloc: Global, order: &Order, words: &[u64]) -> Result<bool, NoMemory> {
-    match rows_above(alloc, order)? {
+// Whether those rows of the three events have these words.
+fn begins_above(alloc: Global, words: &[u64]) -> Result<bool, NoMemory> {
+    let order = three_events(alloc)?;
+    match rows_above(alloc, &order)? {
         Some(rows) => Ok(rows.as_words() == words),
         None => Ok(false),
     }
 }
 
 #[test]
-fn a_table_begins_from_the_clocks_and_the_least_cut(rt: HostRuntime) -> Result<(), Fail> {
-    let order = three_events(rt.alloc())?;
-    let is_so = begins_above(rt.alloc(), &order, &[0, 1, 1, 1, 2, 1, 1, 1])?;
-    assert!(rt; is_so);
+fn tables_begin_from_slices_clocks_and_least_cuts(rt: HostRuntime) -> Result<(), NoMemory> {
+    let of_slice = begins_from(rt.alloc(), &[0, 0, 1, 0, 3, 2, 1, 1])?;
+    assert!(rt; of_slice);
+    let of_clocks = order_begins_from(rt.alloc(), &[0, 0, 1, 0, 2, 0, 1, 1])?;
+    assert!(rt; of_clocks);
+    let above = begins_above(rt.alloc(), &[0, 1, 1, 1, 2, 1, 1, 1])?;
+    assert!(rt; above);
     Ok(())
 }
 
@@ -145,7 +134,7 @@ fn slice_pulls(alloc: Global) -> Result<List<Pull>, NoMemory> {
 }
 
 #[test]
-fn each_process_of_a_slice_pulls_each(rt: HostRuntime) -> Result<(), Fail> {
+fn each_process_of_a_slice_pulls_each(rt: HostRuntime) -> Result<(), NoMemory> {
     let pulls = slice_pulls(rt.alloc())?;
     assert!(rt; pulls.len() == 4);
     have_tables(
@@ -170,7 +159,7 @@ fn order_pulls(alloc: Global) -> Result<(usize, List<Pull>), NoMemory> {
 }
 
 #[test]
-fn each_process_of_an_order_pulls_the_others(rt: HostRuntime) -> Result<(), Fail> {
+fn each_process_of_an_order_pulls_the_others(rt: HostRuntime) -> Result<(), NoMemory> {
     let (fans, pulls) = order_pulls(rt.alloc())?;
     assert!(rt; fans == 2);
     assert!(rt; pulls.len() == 2);
@@ -210,7 +199,7 @@ fn system_of_three(alloc: Global) -> Result<System, NoMemory> {
 }
 
 #[test]
-fn the_cuts_of_an_order_are_closed_under_its_fans(rt: HostRuntime) -> Result<(), Fail> {
+fn the_cuts_of_an_order_are_closed_under_its_fans(rt: HostRuntime) -> Result<(), NoMemory> {
     let system = system_of_three(rt.alloc())?;
     close(
         &rt,

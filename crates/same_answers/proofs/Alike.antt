@@ -31,9 +31,10 @@ use Rattle.log_judgement.specs.Texts.{AreReports, IsDueText}
 use Rattle.log_judgement.proofs.Texts.{one_due}
 use Rattle.log_trace.specs.Judging.{without_formula}
 use Rattle.one_log.specs.declared.asking.Asked.{Asked}
-use Rattle.one_log.specs.declared.asking.Form.{Form}
-use Rattle.one_log.specs.declared.asking.Form.TheVariants as form
-use Rattle.one_log.specs.Logging.{reading_of, HasLog, HasLogBy, IsLogOf}
+use Rattle.log_input.specs.declared.form.Form.{Form}
+use Rattle.log_input.specs.declared.form.Form.TheVariants as form
+use Rattle.log_input.specs.Readings.{reading_of, HasLog}
+use Rattle.one_log.specs.Logging.{HasLogBy, IsLogOf}
 use Rattle.one_log_laws.specs.inside.Lines.{as_read, first_header}
 use Rattle.one_log_laws.proofs.Back.{in_batches, has_given, it_tells_of_the_same_run}
 use Rattle.one_log_laws.proofs.Items.{of_items, small_so}

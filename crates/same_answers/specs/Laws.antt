@@ -13,9 +13,10 @@ use Rattle.log_judgement.specs.Texts.{IsDueText}
 use Rattle.run_report.specs.Reports as report
 use Rattle.equal_runs.specs.Laws.{DifferInTheBatchAlone}
 use Rattle.one_log.specs.declared.asking.Asked.{Asked}
-use Rattle.one_log.specs.declared.asking.Form.{Form}
-use Rattle.one_log.specs.declared.asking.Form.TheVariants as form
-use Rattle.one_log.specs.Logging.{reading_of, IsLogOf}
+use Rattle.log_input.specs.declared.form.Form.{Form}
+use Rattle.log_input.specs.declared.form.Form.TheVariants as form
+use Rattle.log_input.specs.Readings.{reading_of}
+use Rattle.one_log.specs.Logging.{IsLogOf}
 use Rattle.one_log_laws.specs.Laws.{IsAll}
 
 -- the first name of a formula that these processes, with these variables, lack

@@ -1,5 +1,5 @@
 -- A session and its halves go the same way.
-use Rattle.std.proofs.Common.{◌≡◌, ℕ, ℤ, Bool, List, [], length, Option, Some, None, Result, Ok, Err, sym, ap, subst, ◌∙◌}
+use Rattle.std.proofs.Common.{◌≡◌, ℕ, ℤ, Bool, List, length, Option, Result, Ok, Err, sym, ap, subst, ◌∙◌}
 use Rattle.std.proofs.lemmas.Option.{none-some, same_Some}
 use Rattle.event_log.specs.declared.item.LogFault.{LogFault}
 use Rattle.event_log.specs.declared.log.Event.{Event}
@@ -11,7 +11,7 @@ use Rattle.conjunctions.specs.declared.answer.Answer.{Answer}
 use Rattle.conjunctions.specs.Answering.{IsAnswer}
 use Rattle.observation.specs.Growing.{GrowingView, first_fault}
 use Rattle.observation.specs.Fed.{AreFedFrom}
-use Rattle.observation.specs.Taken.{TakesWhole, RefusesBatch}
+use Rattle.observation.specs.Taken.{TakesWhole}
 use Rattle.answering.specs.OneTrace.{IsOneTrace}
 use Rattle.answering.proofs.OneTrace.{same_rows}
 use Rattle.session.specs.Halves.{AreAlike, Goes}

@@ -2,7 +2,7 @@
 use Rattle.std.proofs.Common.{◌≡◌, List, length, Option, Some, None, sym, ap, ◌∙◌, subst}
 use Rattle.std.specs.Prelude.{IsSome}
 use Rattle.std.proofs.lemmas.Bool.{true≢false}
-use Rattle.pull_system.specs.Rows.{RowsView}
+use Rattle.slice_workers.specs.Views.{SettledView}
 use Rattle.rctl_parts.specs.Pieces.{disjuncts_of}
 use Rattle.part_pulls.specs.Later.{IsLater}
 use Rattle.conjunctions.specs.declared.answer.Answer.{Answer}
@@ -14,7 +14,7 @@ use Rattle.answering.proofs.Going.{settled_count}
 use Rattle.session.specs.Standing.{AnsweredView}
 use Rattle.session.specs.inside.Standing.{Stands}
 
-rows_of : (growing : GrowingView) (rows : List RowsView) (answer : Option Answer) → Stands growing rows answer → IsSome answer → length rows ≡ length (all_conjunctions (disjuncts_of growing.disjuncts))
+rows_of : (growing : GrowingView) (rows : List SettledView) (answer : Option Answer) → Stands growing rows answer → IsSome answer → length rows ≡ length (all_conjunctions (disjuncts_of growing.disjuncts))
 rows_of growing rows None stands made = absurd (true≢false (sym made))
 rows_of growing rows (Some told) stands made = settled_count growing.seen (all_conjunctions (disjuncts_of growing.disjuncts)) rows stands.settled
 

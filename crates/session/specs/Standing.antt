@@ -1,13 +1,18 @@
 -- Where a session stands.
-use Rattle.std.specs.Prelude.{◌≡◌, Bool, false, List, Option, IsSome}
-use Rattle.pull_system.specs.Rows.{RowsView}
+use Rattle.std.specs.Prelude.{◌≡◌, ℕ, ◌≤◌, Bool, false, List, Option, IsSome}
+use Rattle.slice_workers.specs.Views.{SettledView}
 use Rattle.conjunctions.specs.declared.answer.Answer.{Answer}
 use Rattle.observation.specs.Growing.{GrowingView, HasTaken}
+
+-- so many workers may work at an answer
+pub record AreWorkers (workers : ℕ) : Type 0 where
+  pub some : 1 ≤ workers
+  pub few : workers ≤ 16
 
 -- what was answered: the answer, the rows of its conjunctions, and what both are of
 pub record AnsweredView : Type 0 where
   pub of : GrowingView
-  pub settled : List RowsView
+  pub settled : List SettledView
   pub answer : Option Answer
 
 -- a batch was taken, memory sufficed so far, and the answer on the trace so far was made

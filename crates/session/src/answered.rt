@@ -6,12 +6,11 @@ ghost use Rattle.part_pulls.specs.Later.{IsLater};
 ghost use Rattle.part_pulls.specs.Observing.{lens_seen};
 ghost use Rattle.conjunctions.specs.Numbering.{all_conjunctions};
 ghost use Rattle.conjunctions.specs.Counting.{bounds};
-ghost use Rattle.conjunctions.specs.Settling.{IsSettled};
+ghost use Rattle.conjunctions.specs.Settling.{AreSettledBySteps, IsSettled};
 ghost use Rattle.conjunctions.specs.Answering.{IsAnswer};
 ghost use Rattle.observation.specs.Growing.{HasTaken};
-ghost use Rattle.answering.specs.Going.{AreWorkers};
 
-use answering::{Answering, what_goes_on_goes_on_later};
+use answering::{Answering, Means, what_goes_on_goes_on_later};
 use conjunctions::Answer;
 use observation::Observation;
 use part_pulls::Observed;
@@ -77,27 +76,23 @@ impl Answered {
     /// Makes the answer on what was observed since. After want of memory there is none.
     pub fn renew<R: Threads + Sync, G: Gate, L: Ledger>(
         &mut self,
-        rt: &R,
-        alloc: Global,
+        means: &Means<R, G>,
         observation: &Observation,
-        workers: u32,
-        gate: &G,
         steps: &mut Steps<L>,
     ) -> Result<(), NoMemory>
         requires taken { HasTaken observation.now.growing }
         requires formula { observation.now.growing.disjuncts ≡ self.old.of.disjuncts }
         requires later { IsLater self.old.of.seen observation.now.growing.seen }
-        requires workers { AreWorkers workers }
         ensures of { self.new.of ≡ observation.now.growing }
         ensures answer { OnOk result (IsSome self.new.answer) }
-        ensures looks { OnOk result (workers ≡ 1 → steps.new ≤ steps.old
+        ensures by_steps { OnOk result (AreSettledBySteps self.old.settled (all_conjunctions
+            (disjuncts_of observation.now.growing.disjuncts)) self.new.settled) }
+        ensures looks { OnOk result (means.now.workers ≡ 1 → steps.new ≤ steps.old
             + bounds (lens_seen observation.now.growing.seen) self.old.settled
             (all_conjunctions (disjuncts_of observation.now.growing.disjuncts)) self.new.settled) }
     {
         what_goes_on_goes_on_later();
-        let answered = self
-            .answering
-            .answer(rt, alloc, observation, workers, gate, steps);
+        let answered = self.answering.answer(means, observation, steps);
         self.seen = Snapshot::of(observation.seen());
         self.disjuncts = Snapshot::of(observation.disjuncts());
         match answered {
@@ -146,7 +141,7 @@ impl Answered {
         requires there { conjunction
             ≤ length (all_conjunctions (disjuncts_of self.now.of.disjuncts)) }
         ensures settled { IsSettled self.now.of.seen (slice_index_or (all_conjunctions
-            (disjuncts_of self.now.of.disjuncts)) (conjunction - 1) []) result.now }
+            (disjuncts_of self.now.of.disjuncts)) (conjunction - 1) []) result.now.rows }
         ensures kept { result.now
             ≡ slice_index_or self.now.settled (conjunction - 1) result.now }
     {

@@ -9,8 +9,8 @@
 //!
 //! `Session::answer` has the truth of the formula, its slice and its parts on the trace so far, and
 //! `Session::settled` the rows of each of the `Session::conjunctions`. The rows of a conjunction of
-//! atoms are kept from answer to answer, and one worker takes at most the steps of their rise
-//! (`looks`).
+//! atoms are kept from answer to answer and settled by steps (`by_steps`), and one worker takes at
+//! most the steps of their rise (`looks`).
 //!
 //! What is asked several formulas, or not behind each batch, goes by an `Observation` and by an
 //! `Answering` for each formula.

@@ -13,16 +13,16 @@ ghost use Rattle.part_pulls.specs.Observing.{Reading, AreAnswers, lens_seen, sco
 ghost use Rattle.part_pulls.specs.Counters.{CountersRise};
 ghost use Rattle.conjunctions.specs.Numbering.{all_conjunctions};
 ghost use Rattle.conjunctions.specs.Counting.{bounds};
-ghost use Rattle.conjunctions.specs.Settling.{IsSettled};
+ghost use Rattle.conjunctions.specs.Settling.{AreSettledBySteps, IsSettled};
 ghost use Rattle.conjunctions.specs.Answering.{IsAnswer};
 ghost use Rattle.watch.specs.Saying.{said_by};
 ghost use Rattle.observation.specs.Growing.{opened_observed, opened_growing};
 ghost use Rattle.observation.specs.Fed.{Feeds, AreFedFrom, AnswersAs};
 ghost use Rattle.observation.specs.Taken.{TakesWhole, RefusesBatch};
-ghost use Rattle.answering.specs.Going.{AreWorkers};
-ghost use Rattle.session.specs.Standing.{HasAnswer};
+ghost use Rattle.session.specs.Standing.{AreWorkers, HasAnswer};
 
 use crate::answered::Answered;
+use answering::Means;
 use conjunctions::Answer;
 use event_log::{Event, Header, LogFault};
 use observation::Observation;
@@ -101,6 +101,9 @@ impl Session {
             self.old.observation.watches.items self.new.observation.watches.items batch) }
         ensures answer { OnOk result
             (HasAnswer self.new.spent self.new.observation.growing self.new.answered.answer) }
+        ensures by_steps { OnOk result (AreSettledBySteps self.old.answered.settled
+            (all_conjunctions (disjuncts_of self.old.observation.growing.disjuncts))
+            self.new.answered.settled) }
         ensures looks { OnOk result (workers ≡ 1 → steps.new ≤ steps.old
             + bounds (lens_seen self.new.observation.growing.seen) self.old.answered.settled
             (all_conjunctions (disjuncts_of self.old.observation.growing.disjuncts))
@@ -129,9 +132,13 @@ impl Session {
                 return Err(Refused::NoMemory);
             }
         }
-        let renewed = self
-            .answered
-            .renew(rt, self.alloc, &self.observation, workers, gate, steps);
+        let means = Means {
+            rt,
+            alloc: self.alloc,
+            workers,
+            gate,
+        };
+        let renewed = self.answered.renew(&means, &self.observation, steps);
         if let Err(NoMemory) = renewed {
             self.spent = true;
             return Err(Refused::NoMemory);
@@ -216,7 +223,7 @@ impl Session {
             (all_conjunctions (disjuncts_of self.now.observation.growing.disjuncts)) }
         ensures settled { IsSettled self.now.observation.growing.seen (slice_index_or
             (all_conjunctions (disjuncts_of self.now.observation.growing.disjuncts))
-            (conjunction - 1) []) result.now }
+            (conjunction - 1) []) result.now.rows }
         ensures kept { result.now ≡ slice_index_or self.now.answered.settled
             (conjunction - 1) result.now }
     {

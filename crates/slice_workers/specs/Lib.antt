@@ -1,3 +1,4 @@
 pub mod Reaching
 pub mod Calls
+pub mod Views
 pub mod inside

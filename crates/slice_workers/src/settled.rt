@@ -6,34 +6,46 @@ ghost use Rattle.slice_workers.specs.Calls.{HasRisen, AreSettledRows, TakesLooks
 use crate::alone::settle_alone;
 use crate::threads::{make_jobs, meet_all, run};
 use crate::workers::{none_handed, settle_rest};
-use bound_table::{BoundTable, Seat};
+use bound_table::{BoundTable, Firm, Seat};
 use pota_base::{Gate, NoMemory, Steps};
 use pull_system::Rows;
 use std::alloc::Global;
 use std::marker::Model;
+use std::snapshot::Snapshot;
 use std::sync::ledger::Ledger;
 use std::thread::Threads;
 
 /// The least closed vectors of all rows of a table. Only `settle_all` makes it.
-/// Contracts see its rows.
+/// Contracts see its rows, and which of them were firm in the table.
 #[derive(Drop)]
 pub struct Settled {
     rows: Rows,
+    /// Which rows were firm, for contracts alone.
+    firm: Snapshot<Firm>,
 }
 
 impl Model for Settled {
-    ghost use Rattle.pull_system.specs.Rows.{RowsView};
+    ghost use Rattle.slice_workers.specs.Views.{SettledView};
 
-    ghost Value = { RowsView };
+    ghost Value = { SettledView };
 
-    ghost view = { λ settled. settled.rows };
+    ghost view = { λ settled. record { rows = settled.rows; firm = settled.firm.value } };
 }
 
 impl Settled {
     pub fn rows(&self) -> &Rows
-        ensures { result.now ≡ self.now }
+        ensures { result.now ≡ self.now.rows }
     {
         &self.rows
+    }
+
+    /// The rows alone.
+    pub fn into_rows(self) -> Rows
+        ensures { result ≡ self.rows }
+    {
+        let Settled { rows, firm } = self;
+        drop(firm);
+        rows
     }
 }
 
@@ -47,8 +59,9 @@ impl Settled {
 /// joins. Where no thread can be made the workers run one after another. After `NoMemory` no floor
 /// of the seat has fallen.
 ///
-/// The table's firm rows are left as they are: they are neither lent to nor looked up, and the
-/// count of one worker doesn't pay for them. Of several workers each looks up the bottom's.
+/// The table's firm rows are left as they are, and contracts see which they were: they are neither
+/// lent to nor looked up, and the count of one worker doesn't pay for them. Of several workers each
+/// looks up the bottom's.
 pub fn settle_all<R: Threads + Sync, G: Gate, L: Ledger>(
     rt: &R,
     alloc: Global,
@@ -62,7 +75,9 @@ pub fn settle_all<R: Threads + Sync, G: Gate, L: Ledger>(
     requires some { 1 ≤ workers }
     requires few { workers ≤ 16 }
     ensures risen { HasRisen seat.old seat.new }
-    ensures settled { IfOk result (AreSettledRows table.now.system seat.new.floor) }
+    ensures settled { IfOk result (λ settled.
+        AreSettledRows table.now.system seat.new.floor settled.rows) }
+    ensures firm { IfOk result (λ settled. settled.firm ≡ table.now.firm) }
     ensures takes { workers ≡ 1 → TakesLooks table.now.system table.now.system.lens
         seat.old seat.new steps.old steps.new }
     ensures behind { workers ≡ 1 → TakesBehind table.now.system table.now.firm seat.old seat.new
@@ -71,13 +86,19 @@ pub fn settle_all<R: Threads + Sync, G: Gate, L: Ledger>(
     let firm = table.firm_rows(seat);
     if workers == 1 {
         let kept = settle_alone(alloc, table, seat, firm, gate, steps)?;
-        return Ok(Settled { rows: kept });
+        return Ok(Settled {
+            rows: kept,
+            firm: Snapshot::of(firm),
+        });
     }
     let firsts = firm.firsts();
     settle_rows(rt, alloc, table, seat, firsts, workers, gate, steps)?;
     seat.bounds();
     let rows = table.floors(alloc, seat)?;
-    Ok(Settled { rows })
+    Ok(Settled {
+        rows,
+        firm: Snapshot::of(firm),
+    })
 }
 
 /// Raises the seat's floor to the least closed vector on every row, by workers on threads.

@@ -9,11 +9,13 @@ mod bounds;
 #[cfg(test)]
 mod claims;
 #[cfg(test)]
-mod least;
+mod fans;
 #[cfg(test)]
 mod machine;
 #[cfg(test)]
 mod pulls;
+#[cfg(test)]
+mod rows;
 #[cfg(test)]
 mod systems;
 #[cfg(test)]

@@ -1,17 +1,16 @@
 ghost use Rattle.std.specs.Prelude.{◌≡◌};
 
-use crate::systems::empty_channel;
+use crate::systems::{EMPTY_CHANNEL, order_and};
 use pota_base::NoMemory;
 use pull_system::Rows;
 use raise_machine::{Machine, Step};
 use std::alloc::Global;
 use std::process::Abort;
-use std::test::Fail;
 
 /// The machine of the order and of an empty channel, whose rows begin at their starts.
 #[tactic(auto, using(raise_machine::proofs::Raising::starts_bounds))]
 fn empty_machine(rt: &impl Abort, alloc: Global) -> Result<Machine, NoMemory> {
-    let system = empty_channel(rt, alloc)?;
+    let system = order_and(rt, alloc, EMPTY_CHANNEL)?;
     let floor = Rows::new(alloc, system.shape())?;
     Machine::new(alloc, system, &floor)
 }
@@ -29,7 +28,7 @@ fn pulled(rt: &impl Abort, machine: &mut Machine, row: u32, k: u32, x: u64) -> (
 }
 
 #[test]
-fn steps_raise_what_their_words_show(rt: HostRuntime) -> Result<(), Fail> {
+fn steps_raise_what_their_words_show(rt: HostRuntime) -> Result<(), NoMemory> {
     let mut machine = empty_machine(&rt, rt.alloc())?;
     for (row, k, x, done, raised) in [
         // past the source's word, at no row, and no pull
@@ -40,20 +39,23 @@ fn steps_raise_what_their_words_show(rt: HostRuntime) -> Result<(), Fail> {
         // no word falls
         (1, 2, 0, true, 1),
     ] {
-        assert_eq!(rt; pulled(&rt, &mut machine, row, k, x), (done, raised));
+        assert!(rt; pulled(&rt, &mut machine, row, k, x) == (done, raised));
     }
     Ok(())
 }
 
-#[test]
-fn rows_lend_to_rows_with_their_events(rt: HostRuntime) -> Result<(), Fail> {
-    let mut machine = empty_machine(&rt, rt.alloc())?;
-    let lend = |to_row, from_row, process, y| Step::Lend {
+fn lend(to_row: u32, from_row: u32, process: u32, y: u64) -> Step {
+    Step::Lend {
         to_row,
         from_row,
         process,
         y,
-    };
+    }
+}
+
+#[test]
+fn rows_lend_to_rows_with_their_events(rt: HostRuntime) -> Result<(), NoMemory> {
+    let mut machine = empty_machine(&rt, rt.alloc())?;
     let steps = [
         Step::Pull { row: 1, k: 2, x: 1 },
         lend(2, 1, 1, 1),
@@ -61,9 +63,9 @@ fn rows_lend_to_rows_with_their_events(rt: HostRuntime) -> Result<(), Fail> {
         lend(2, 1, 1, 2),
         lend(5, 0, 0, 0),
     ];
-    assert_eq!(rt; machine.run(&steps), 3);
-    assert_eq!(rt; word(&rt, &mut machine, 2, 0), 2);
-    assert_eq!(rt; word(&rt, &mut machine, 2, 1), 1);
-    assert_eq!(rt; word(&rt, &mut machine, 4, 0), 0);
+    assert!(rt; machine.run(&steps) == 3);
+    for (row, process, raised) in [(2, 0, 2), (2, 1, 1), (4, 0, 0)] {
+        assert!(rt; word(&rt, &mut machine, row, process) == raised);
+    }
     Ok(())
 }

@@ -1,5 +1,6 @@
 //! The systems of pulls that several tests stand on, and tables of them.
 ghost use Rattle.std.specs.Prelude.{◌≡◌, IfOk, ◌∷◌, []};
+ghost use Rattle.pota_base.specs.Shape.{IsShape};
 
 use bound_table::{BoundTable, Seat};
 use pota_base::{List, NoMemory, Shape};
@@ -8,37 +9,55 @@ use pull_system::{Pull, Rows, all_fit};
 use std::alloc::Global;
 use std::process::Abort;
 
+/// The source, the target and the table of a pull.
+pub type Ends = (u32, u32, &'static [u32]);
+
+/// The channel from process 0 to process 1 is empty.
+pub const EMPTY_CHANNEL: Ends = (0, 1, &[0, 1, 1, 1, 1]);
+
+/// Process 0 asks itself for more events than it has.
+pub const NO_CUT: Ends = (0, 0, &[0, 4, 4, 4, 4]);
+
 pub fn pull(alloc: Global, src: u32, dst: u32, table: &[u32]) -> Result<Pull, NoMemory> {
     let table = List::from_vec(Vec::from_slice(alloc, table)?);
     Ok(Pull { src, dst, table })
 }
 
-/// The pulls of the order of a run of two processes with three and two events, and one more pull.
-pub fn order_and(rt: &impl Abort, alloc: Global, more: Pull) -> Result<System, NoMemory>
-    ensures lens { IfOk result (λ system. system.lens ≡ 3 ∷ 2 ∷ []) }
-{
-    let shape = Shape::new(alloc, &[3, 2])?;
+fn pulls_of(alloc: Global, ends: &[Ends]) -> Result<List<Pull>, NoMemory> {
     let mut pulls = List::new(alloc);
-    pulls.push(pull(alloc, 0, 1, &[0, 0, 0, 2, 2])?)?;
-    pulls.push(pull(alloc, 1, 0, &[0, 1, 1, 1])?)?;
-    pulls.push(more)?;
+    for &(src, dst, table) in ends {
+        pulls.push(pull(alloc, src, dst, table)?)?;
+    }
+    Ok(pulls)
+}
+
+/// The system of these pulls on processes of these lengths.
+pub fn system_of(
+    rt: &impl Abort,
+    alloc: Global,
+    lens: &[u32],
+    ends: &[Ends],
+) -> Result<System, NoMemory>
+    requires { IsShape lens.now }
+    ensures { IfOk result (λ system. system.lens ≡ lens.now) }
+{
+    let shape = Shape::new(alloc, lens)?;
+    let pulls = pulls_of(alloc, ends)?;
     assert!(rt; all_fit(pulls.as_slice(), &shape));
-    assert!(rt; pulls.len() == 3);
+    assert!(rt; pulls.len() <= 3 && pulls.len() == ends.len());
     System::new(alloc, &shape, pulls)
 }
 
-/// The pulls of the order, and of the predicate that the channel from process 0 to 1 is empty.
-pub fn empty_channel(rt: &impl Abort, alloc: Global) -> Result<System, NoMemory>
+/// The pulls of the order of a run of two processes with three and two events, and one more pull.
+pub fn order_and(rt: &impl Abort, alloc: Global, more: Ends) -> Result<System, NoMemory>
     ensures lens { IfOk result (λ system. system.lens ≡ 3 ∷ 2 ∷ []) }
 {
-    order_and(rt, alloc, pull(alloc, 0, 1, &[0, 1, 1, 1, 1])?)
-}
-
-/// The pulls of the order, and one of process 0 on itself.
-pub fn order_and_own(rt: &impl Abort, alloc: Global, table: &[u32]) -> Result<System, NoMemory>
-    ensures lens { IfOk result (λ system. system.lens ≡ 3 ∷ 2 ∷ []) }
-{
-    order_and(rt, alloc, pull(alloc, 0, 0, table)?)
+    let order_and = [
+        (0, 1, [0, 0, 0, 2, 2].as_slice()),
+        (1, 0, &[0, 1, 1, 1]),
+        more,
+    ];
+    system_of(rt, alloc, &[3, 2], &order_and)
 }
 
 /// The table of the system, whose rows begin at their starts.

@@ -1,27 +1,16 @@
 ghost use Rattle.std.specs.Prelude.{◌≡◌, ◌<◌, ◌≤◌};
 
-use crate::systems::{empty_channel, order_and_own, pull, table_of};
-use pota_base::{FreeGate, Gate, List, NoMemory, Shape, Steps};
+use crate::fans::{Asked, system};
+use crate::systems::{EMPTY_CHANNEL, order_and, table_of};
+use pota_base::{FreeGate, Gate, NoMemory, Steps};
 use pull_fans::System;
-use pull_system::all_fit;
 use slice_workers::{Settled, settle_all};
 use std::alloc::Global;
 use std::marker::Brand;
 use std::process::Abort;
 use std::sync::atomic::{AtomicBool, Ordering};
 use std::sync::ledger::{Blank, Ledger};
-use std::test::Fail;
 use std::thread::{Threads, yield_now};
-
-/// The system of one process with two events, of which only the second may end a cut.
-fn one_process(rt: &impl Abort, alloc: Global) -> Result<System, NoMemory> {
-    let shape = Shape::new(alloc, &[2])?;
-    let mut pulls = List::new(alloc);
-    pulls.push(pull(alloc, 0, 0, &[0, 2, 2, 3])?)?;
-    assert!(rt; all_fit(pulls.as_slice(), &shape));
-    assert!(rt; pulls.len() == 1);
-    System::new(alloc, &shape, pulls)
-}
 
 fn settle_counted<R: Threads + Sync, G: Gate, L: Ledger>(
     rt: &R,
@@ -55,43 +44,34 @@ fn settled<R: Threads + Sync, G: Gate>(
     settle_counted::<R, G, Brand>(rt, alloc, Blank::new(1), system, workers, gate)
 }
 
-#[test]
-fn any_number_of_workers_gives_these_rows(rt: HostRuntime) -> Result<(), Fail> {
-    let alloc = rt.alloc();
-    for workers in [1, 2, 3, 16] {
-        assert!(rt; 1 <= workers && workers <= 16);
-        let system = empty_channel(&rt, alloc)?;
-        let rows = settled(&rt, alloc, system, workers, &FreeGate)?;
-        assert_eq!(rt;
-            rows.rows().as_words(),
-            [0, 0, 1, 1, 2, 1, 3, 2, 1, 1, 1, 2].as_slice()
-        );
-    }
+/// That so many workers settle the system to these rows.
+fn settle_to<R: Abort + Threads + Sync>(
+    rt: &R,
+    alloc: Global,
+    asked: Asked,
+    workers: u32,
+    rows: &[u16],
+) -> Result<(), NoMemory> {
+    assert!(rt; 1 <= workers && workers <= 16);
+    let settled = settled(rt, alloc, system(rt, alloc, asked)?, workers, &FreeGate)?;
+    assert!(rt; settled.rows().as_words() == rows);
     Ok(())
 }
 
 #[test]
-fn rows_without_cuts(rt: HostRuntime) -> Result<(), Fail> {
-    let alloc = rt.alloc();
+fn any_number_of_workers_gives_these_rows(rt: HostRuntime) -> Result<(), NoMemory> {
     for workers in [1, 2, 3, 16] {
-        assert!(rt; 1 <= workers && workers <= 16);
-        let system = order_and_own(&rt, alloc, &[0, 4, 4, 4, 4])?;
-        let rows = settled(&rt, alloc, system, workers, &FreeGate)?;
-        assert_eq!(rt;
-            rows.rows().as_words(),
-            [0, 0, 4, 2, 4, 2, 4, 2, 4, 2, 4, 2].as_slice()
-        );
-    }
-    Ok(())
-}
-
-#[test]
-fn more_workers_than_processes(rt: HostRuntime) -> Result<(), Fail> {
-    let alloc = rt.alloc();
-    for workers in [1, 2] {
-        assert!(rt; 1 <= workers && workers <= 16);
-        let rows = settled(&rt, alloc, one_process(&rt, alloc)?, workers, &FreeGate)?;
-        assert_eq!(rt; rows.rows().as_words(), [0, 2, 2].as_slice());
+        for (asked, rows) in [
+            (
+                Asked::EmptyChannel,
+                [0, 0, 1, 1, 2, 1, 3, 2, 1, 1, 1, 2].as_slice(),
+            ),
+            (Asked::NoCut, &[0, 0, 4, 2, 4, 2, 4, 2, 4, 2, 4, 2]),
+            // more workers than processes
+            (Asked::OneProcess, &[0, 2, 2]),
+        ] {
+            settle_to(&rt, rt.alloc(), asked, workers, rows)?;
+        }
     }
     Ok(())
 }
@@ -130,14 +110,14 @@ impl Gate for Meeting {
 }
 
 #[test]
-fn workers_are_there_at_the_same_time(rt: HostRuntime) -> Result<(), Fail> {
-    let alloc = rt.alloc();
+fn workers_are_there_at_the_same_time(rt: HostRuntime) -> Result<(), NoMemory> {
     let gate = Meeting {
         first: AtomicBool::new(false),
         second: AtomicBool::new(false),
         missed: AtomicBool::new(false),
     };
-    let _rows = settled(&rt, alloc, empty_channel(&rt, alloc)?, 2, &gate)?;
+    let system = order_and(&rt, rt.alloc(), EMPTY_CHANNEL)?;
+    let _rows = settled(&rt, rt.alloc(), system, 2, &gate)?;
     let order = Ordering::SeqCst;
     assert!(rt; gate.first.load(order) && gate.second.load(order));
     assert!(rt; !gate.missed.load(order));

@@ -1,1 +1,5 @@
 pub mod Each
+pub mod Tokens
+pub mod Running
+pub mod Steps
+pub mod Faults

@@ -9,7 +9,7 @@ use Rattle.witness_kinds.specs.declared.Witness.TheVariants as witness
 use Rattle.report_lines.specs.declared.kinds.WitnessText.{WitnessText}
 use Rattle.report_lines.specs.Spelling.{WitnessFits, WitnessTextFits}
 use Rattle.view_picture.specs.inside.Drawing.{HasFewProcesses}
-use Rattle.view_picture.specs.Picture.{is_drawn, first_drawn}
+use Rattle.view_picture.specs.Told.{is_drawn, first_drawn}
 
 few_in : (lengths : Cut) (w : Witness) → length lengths ≤ 32 → WitnessFits lengths w → HasFewProcesses w
 few_in lengths witness.Nothing few fits = tt

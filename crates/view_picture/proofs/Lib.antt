@@ -1,9 +1,13 @@
-pub mod Levels
+pub mod Placing
+pub mod Shown
+pub mod Above
+pub mod Places
+pub mod Latest
+pub mod Tied
 pub mod Drawn
 pub mod Once
 pub mod Apart
 pub mod Inside
 pub mod Unique
 pub mod Sides
-pub mod Counted
 pub mod Behind

@@ -1,10 +1,14 @@
--- Each event is once among the events of all processes.
-use Rattle.std.proofs.Common.{◌≡◌, ℕ, zero, suc, ◌+◌, ◌<◌, ◌≤◌, true, false, List, [], ◌∷◌, ◌++◌, length, get_or, refl, sym, subst, eq-eqb, arith, inl, inr}
-use Rattle.std.specs.Prelude.{◌==◌}
-use Rattle.std.proofs.lemmas.Bool.{cases_Bool, cases_eq, eqb-true}
+-- A shown event is once among those that are shown.
+use Rattle.std.proofs.Common.{◌≡◌, ℕ, zero, suc, ◌+◌, ◌<◌, ◌≤◌, true, false, List, [], ◌∷◌, ◌++◌, length, get_or, refl, sym, ap, subst, ◌∙◌, eq-eqb, arith, inl, inr}
+use Rattle.std.specs.Prelude.{Bool, ◌==◌, ◌&&◌}
+use Rattle.std.specs.List.{filter}
+use Rattle.std.proofs.lemmas.Bool.{cases_Bool, cases_eq, eqb-true, false≢true}
 use Rattle.pota_base.specs.declared.shape.EventId.{EventId}
-use Rattle.view_parts.specs.Each.{each_below, own_places}
-use Rattle.view_picture.specs.Laws.{is_place, times, EachEventOnce}
+use Rattle.pota_base.specs.Shape.{HasEvent}
+use Rattle.view_parts.specs.Each.{each_below, own_places, places}
+use Rattle.view_picture.specs.Choice.{is_place}
+use Rattle.view_picture.specs.Shown.{is_shown}
+use Rattle.view_picture.specs.Laws.{times, ShownEventsOnce}
 
 times-append : (e : EventId) (xs ys : List EventId) → times e (xs ++ ys) ≡ times e xs + times e ys
 times-append e [] ys = omega arith
@@ -76,5 +80,45 @@ behind_process lens e (suc n) lt some le =
       | inr other ↦ omega (arith, split, behind_process lens e n (omega (arith, lt, other)) some le, own_others e n (get_or lens n 0) other)
     ]
 
-pub each_event_once : EachEventOnce
+-- each event is once among the events of all processes
+pub each_event_once : (lens : List ℕ) (e : EventId) → HasEvent lens e → times e (places lens) ≡ 1
 each_event_once lens e h = behind_process lens e (length lens) (omega (arith, h.process)) (omega (arith, h.first)) h.last
+
+-- ---- those that pass a test
+
+same_place : (e f : EventId) → is_place e f ≡ true → f ≡ e
+same_place e f h =
+    let both = and_both (f.process == e.process) (f.position == e.position) h in
+    ap (λ (p : ℕ). event p f.position) (eqb-true f.process e.process both.0) ∙ ap (λ (a : ℕ). event e.process a) (eqb-true f.position e.position both.1)
+  where
+    and_both : (a b : Bool) → (a && b) ≡ true → (a ≡ true) × (b ≡ true)
+    and_both true b h = (refl, h)
+    and_both false b h = cc
+
+pub passing_times : (passes : EventId → Bool) (e : EventId) (es : List EventId) → passes e ≡ true → times e (filter passes es) ≡ times e es
+passing_times passes e [] shows = refl
+passing_times passes e (f ∷ es) shows = elim (cases_Bool (is_place e f)) [
+  | inl here ↦
+      let passed : passes f ≡ true = ap passes (same_place e f here) ∙ shows in
+      rw passed (rw here (ap (λ (n : ℕ). n + 1) (passing_times passes e es shows)))
+  | inr other ↦ elim (cases_Bool (passes f)) [
+    | inl in_it ↦ rw in_it (rw other (passing_times passes e es shows))
+    | inr out_of_it ↦ rw out_of_it (rw other (passing_times passes e es shows))
+  ]
+]
+
+pub failing_times : (passes : EventId → Bool) (e : EventId) (es : List EventId) → passes e ≡ false → times e (filter passes es) ≡ 0
+failing_times passes e [] hides = refl
+failing_times passes e (f ∷ es) hides = elim (cases_Bool (passes f)) [
+  | inr out_of_it ↦ rw out_of_it (failing_times passes e es hides)
+  | inl in_it ↦ elim (cases_Bool (is_place e f)) [
+    | inl here ↦ absurd (false≢true (sym hides ∙ sym (ap passes (same_place e f here)) ∙ in_it))
+    | inr other ↦ rw in_it (rw other (failing_times passes e es hides))
+  ]
+]
+
+pub shown_events_once : ShownEventsOnce
+shown_events_once lens rows e h = elim (cases_Bool (is_shown rows e)) [
+  | inl shows ↦ rw shows (passing_times (is_shown rows) e (places lens) shows ∙ each_event_once lens e h)
+  | inr hides ↦ rw hides (failing_times (is_shown rows) e (places lens) hides)
+]

@@ -3,7 +3,7 @@ use Rattle.std.specs.Prelude.{ℕ, pos, ◌+◌, ◌-◌, ◌*◌, ◌/◌, min,
 use Rattle.std.specs.Prelude.{nat_le, List}
 use Rattle.std.specs.Prelude.{[], ◌∷◌, ◌++◌, length, take, get_or, codes, Option, None, Some}
 use Rattle.std.specs.Prelude.{◌&&◌, ◌==◌, map, if◌then◌else◌}
-use Rattle.std.specs.List.{filter, flat_map, list_any}
+use Rattle.std.specs.List.{count_by, flat_map, list_any}
 use Rattle.std.specs.Fmt.{decimal, signed_decimal}
 use Rattle.run_model.specs.Cut.{Cut, count}
 use Rattle.pota_base.specs.declared.shape.EventId.{EventId}
@@ -13,16 +13,17 @@ use Rattle.event_log.specs.declared.log.Kind.TheVariants as kind
 use Rattle.event_log.specs.declared.log.Assign.{Assign}
 use Rattle.event_log.specs.LogText.{name_at}
 use Rattle.event_log.specs.States.{StatesView}
-use Rattle.vector_clock.specs.Messages.{first_send}
 use Rattle.witness_kinds.specs.declared.Witness.{Witness}
 use Rattle.witness_kinds.specs.declared.Witness.TheVariants as witness
 use Rattle.slice_graph.specs.declared.edges.Edge.{Edge}
-use Rattle.view_parts.specs.Each.{each_below, own_places, places}
-use Rattle.view_parts.specs.Parts.{event_at, place, variable_name, place_text, line_text, kind_text}
+use Rattle.view_parts.specs.Each.{each_below, own_places}
+use Rattle.view_parts.specs.Parts.{event_at, variable_name, place_text, line_text, kind_text}
 use Rattle.view_parts.specs.Parts.{assigns_text}
 use Rattle.view_picture.specs.declared.svg.Point.{Point}
 use Rattle.view_picture.specs.declared.frame.Frame.{Frame}
 use Rattle.view_picture.specs.Columns.{Rows}
+use Rattle.view_picture.specs.Shown.{is_shown, shown_events, left_out, has_shown}
+use Rattle.view_picture.specs.Ties.{shown_send}
 use Rattle.view_picture.specs.Svg.{line, circle, text}
 use Rattle.view_picture.specs.Frame.{lane, behind, at}
 
@@ -31,37 +32,72 @@ point x y = record { x = x; y = y }
 
 -- ---- lanes
 
-abbrev pub lane_line : Frame → ℕ → List ℕ
-lane_line f process =
-    line (point f.left (lane process)) (point (f.width - 20) (lane process))
+abbrev pub lane_line : Frame → Rows → ℕ → List ℕ
+lane_line f rows process =
+    line (point f.left (lane rows process)) (point (f.width - 20) (lane rows process))
     (codes " stroke='#bbbbbb' stroke-width='2'")
 
-abbrev pub lane_name : StatesView → ℕ → List ℕ
-lane_name s process =
-    text (point 20 (lane process + 5)) (codes " font-size='15' font-weight='bold'")
+abbrev pub lane_name : StatesView → Rows → ℕ → List ℕ
+lane_name s rows process =
+    text (point 20 (lane rows process + 5)) (codes " font-size='15' font-weight='bold'")
     (name_at s.header.procs process)
 
-abbrev pub lane_drawn : StatesView → Frame → ℕ → List ℕ
-lane_drawn s f process = lane_line f process ++ lane_name s process
+-- a process without a shown event has no lane
+abbrev pub lane_drawn : StatesView → Frame → Rows → ℕ → List ℕ
+lane_drawn s f rows process =
+    if has_shown (get_or rows process [])
+    then lane_line f rows process ++ lane_name s rows process else []
+
+-- ---- events that are left out
+
+-- with a rim of white round the letters, since arrows run behind them
+abbrev pub left_out_look : List ℕ
+left_out_look =
+    codes " font-size='10' text-anchor='middle' fill='#777777' stroke='#ffffff' stroke-width='3'"
+
+-- `.. N ..` above a lane, where some are left out
+abbrev pub left_out_text : Point → ℕ → List ℕ
+left_out_text p n =
+    if n == 0 then []
+    else text (point p.x (p.y - 15)) left_out_look
+    (codes ".. " ++ decimal n ++ codes " ..")
+
+abbrev pub halfway : Point → Point → Point
+halfway from to = point (from.x / 2 + to.x / 2) to.y
+
+-- how many events stand between a shown one and the shown one before it
+abbrev pub left_out_before : Frame → Rows → EventId → List ℕ
+left_out_before f rows e =
+    left_out_text (halfway (behind f rows e.process (e.position - 1)) (at f rows e))
+    (left_out rows e.process (e.position - 1))
+
+abbrev pub right_of : Point → Point
+right_of p = point (p.x + 34) p.y
+
+-- how many stand behind the last shown one of so many of a process
+abbrev pub left_out_behind : Frame → Rows → ℕ → ℕ → List ℕ
+left_out_behind f rows process events =
+    if has_shown (get_or rows process [])
+    then left_out_text (right_of (behind f rows process events)) (left_out rows process events)
+    else []
+
+-- the numbers of all that is left out on the lanes
+abbrev pub left_out_drawn : StatesView → Frame → Rows → List ℕ
+left_out_drawn s f rows =
+    flat_map (left_out_before f rows) (shown_events (map length s.events) rows)
+    ++ each_below (length s.events)
+    (λ process. left_out_behind f rows process (get_or (map length s.events) process 0))
+
+-- ---- ties
+
+abbrev pub tie_look : List ℕ
+tie_look = codes " stroke='#999999' stroke-width='1'"
+
+-- a thin line from what happened before
+abbrev pub tie_drawn : Frame → Rows → Edge → List ℕ
+tie_drawn f rows tie = line (at f rows tie.cause) (at f rows tie.effect) tie_look
 
 -- ---- messages
-
--- an event of a process at a position that may be known
-abbrev pub placed : ℕ → Option ℕ → Option EventId
-placed process None = None
-placed process (Some position) = Some (place process position)
-
--- the event that sends what an event of this kind of a process receives
-abbrev pub send_for : StatesView → ℕ → Kind → Option EventId
-send_for s receiver kind.Internal = None
-send_for s receiver (kind.Send to id) = None
-send_for s receiver (kind.Receive sender id) =
-    placed sender
-    (first_send s.events (record { sender = sender; receiver = receiver; id = id }))
-
--- the event that sends what the event receives, if it receives something
-abbrev pub send_of : StatesView → EventId → Option EventId
-send_of s receipt = send_for s receipt.process (event_at s receipt).kind
 
 -- an arrow from a send to a receipt
 abbrev pub arrow : Frame → Rows → EventId → EventId → List ℕ
@@ -73,9 +109,9 @@ abbrev pub arrow_from : Frame → Rows → EventId → Option EventId → List �
 arrow_from f rows receipt None = []
 arrow_from f rows receipt (Some send) = arrow f rows send receipt
 
--- the arrow of what an event receives, if it receives something
+-- the arrow of what an event receives, if it receives something whose send is shown
 abbrev pub arrow_to : StatesView → Frame → Rows → EventId → List ℕ
-arrow_to s f rows receipt = arrow_from f rows receipt (send_of s receipt)
+arrow_to s f rows receipt = arrow_from f rows receipt (shown_send s rows receipt)
 
 -- ---- the numbers of messages
 
@@ -119,20 +155,20 @@ abbrev pub number_from : Frame → Rows → EventId → ℕ → Option EventId �
 number_from f rows receipt number None = []
 number_from f rows receipt number (Some send) = arrow_number f rows send receipt number
 
--- the number of what an event receives, if it receives something, as the log has it
+-- the number at the arrow to an event, as the log has it
 abbrev pub number_to : StatesView → Frame → Rows → EventId → List ℕ
 number_to s f rows receipt =
-    number_from f rows receipt (number_of (event_at s receipt).kind) (send_of s receipt)
+    number_from f rows receipt (number_of (event_at s receipt).kind) (shown_send s rows receipt)
 
 -- up to so many arrows have numbers
 abbrev pub most_numbers : ℕ
 most_numbers = 30
 
--- the numbers of all messages that are received, where they are not too many
+-- the numbers at all arrows, where not too many of the shown events receive something
 abbrev pub numbers_drawn : StatesView → Frame → Rows → List ℕ
 numbers_drawn s f rows =
-    let events = places (map length s.events) in
-    if nat_le (length (filter (receives s) events)) most_numbers
+    let events = shown_events (map length s.events) rows in
+    if nat_le (count_by (receives s) events) most_numbers
     then flat_map (number_to s f rows) events else []
 
 -- ---- messages that nothing receives
@@ -285,8 +321,8 @@ mark s f rows top e =
 
 -- ---- cuts
 
--- Lines run so far behind the last event that is in. Where cuts are the same on a lane, the goal
--- is between the least and the greatest one.
+-- Lines run so far behind the last shown event that is in. Where cuts are the same on a lane, the
+-- goal is between the least and the greatest one.
 abbrev pub least_shift : ℕ
 least_shift = 18
 
@@ -306,13 +342,18 @@ corner x y = 32 ∷ (decimal x ++ 44 ∷ decimal y)
 
 abbrev pub corners : Frame → Rows → Cut → ℕ → ℕ → List ℕ
 corners f rows cut shift process =
-    corner (crossing f rows cut shift process) (lane process - 32)
-    ++ corner (crossing f rows cut shift process) (lane process + 32)
+    corner (crossing f rows cut shift process) (lane rows process - 32)
+    ++ corner (crossing f rows cut shift process) (lane rows process + 32)
+
+-- the corners on a lane that is drawn
+abbrev pub shown_corners : Frame → Rows → Cut → ℕ → ℕ → List ℕ
+shown_corners f rows cut shift process =
+    if has_shown (get_or rows process []) then corners f rows cut shift process else []
 
 -- the line of a cut
 abbrev pub cut_drawn : Frame → Rows → Cut → ℕ → List ℕ → List ℕ
 cut_drawn f rows cut shift look =
-    codes "<polyline points='" ++ each_below (length cut) (corners f rows cut shift)
+    codes "<polyline points='" ++ each_below (length cut) (shown_corners f rows cut shift)
     ++ codes "' fill='none'" ++ look ++ (codes "/>" ++ 10 ∷ [])
 
 abbrev pub least_look : List ℕ
@@ -338,9 +379,14 @@ numbered p number = text (point (p.x - 14) (p.y + 4)) step_look (decimal number)
 abbrev pub no_place : EventId
 no_place = record { process = 0; position = 0 }
 
+-- the number of a step, where its event is shown
+abbrev pub step_drawn : Frame → Rows → EventId → ℕ → List ℕ
+step_drawn f rows e number =
+    if is_shown rows e then numbered (at f rows e) number else []
+
 abbrev pub steps_drawn : Frame → Rows → List EventId → List ℕ
 steps_drawn f rows steps =
-    each_below (length steps) (λ k. numbered (at f rows (get_or steps k no_place)) (k + 1))
+    each_below (length steps) (λ k. step_drawn f rows (get_or steps k no_place) (k + 1))
 
 abbrev pub ring : Frame → Rows → EventId → List ℕ
 ring f rows e = circle (at f rows e) 16 (codes " fill='none' stroke='#b35900' stroke-width='2.5'")

@@ -8,7 +8,9 @@ use Rattle.report.specs.declared.report.Report.{Report}
 use Rattle.view_picture.specs.declared.svg.Point.{Point}
 use Rattle.view_picture.specs.declared.frame.Frame.{Frame}
 use Rattle.view_picture.specs.Columns.{Rows, column}
+use Rattle.view_picture.specs.Shown.{has_shown, rank}
 use Rattle.std.specs.Prelude.{get_or}
+use Rattle.std.specs.List.{count_by}
 
 -- how many bytes the longest of the names has, at most 64
 abbrev pub longest : List Name → ℕ
@@ -40,16 +42,17 @@ frame_of s rows r = record {
   wide = are_wide rows;
   width =
       max (max (column_at (left_of s) (are_wide rows) (most rows) + 60) (heading_width r)) 560;
-  height = 150 + 96 * length s.header.procs + 100;
+  height = 150 + 96 * count_by has_shown rows + 120;
 }
 
-abbrev pub lane : ℕ → ℕ
-lane process = 150 + 96 * process
+-- processes that have a shown event have their lanes one below the other
+abbrev pub lane : Rows → ℕ → ℕ
+lane rows process = 150 + 96 * rank rows process
 
 -- where the last of so many events of a process stands, and where its lane begins before the first
 abbrev pub behind : Frame → Rows → ℕ → ℕ → Point
 behind f rows process events =
-    record { x = column_at f.left f.wide (column rows process events); y = lane process }
+    record { x = column_at f.left f.wide (column rows process events); y = lane rows process }
 
 -- where an event stands
 abbrev pub at : Frame → Rows → EventId → Point

@@ -1,4 +1,8 @@
+pub mod Told
+pub mod Choice
 pub mod Columns
+pub mod Shown
+pub mod Ties
 pub mod Svg
 pub mod Frame
 pub mod Drawing

@@ -1,26 +1,31 @@
 -- A view of a run as one SVG image.
-use Rattle.std.specs.Prelude.{◌≡◌, ℕ, ◌+◌, ◌-◌, ◌*◌, Bool, true, false, ◌==◌, List, [], ◌∷◌}
+use Rattle.std.specs.Prelude.{◌≡◌, ℕ, ◌+◌, ◌-◌, ◌*◌, Bool, true, false, ◌==◌, ◌&&◌, List, [], ◌∷◌}
 use Rattle.std.specs.Prelude.{◌++◌}
 use Rattle.std.specs.Prelude.{length, map, take, codes, Option, None, Some, if◌then◌else◌}
-use Rattle.std.specs.List.{flat_map, find}
+use Rattle.std.specs.List.{flat_map, count_by}
 use Rattle.std.specs.Fmt.{decimal}
 use Rattle.run_model.specs.Cut.{Cut}
 use Rattle.event_log.specs.States.{StatesView}
 use Rattle.vector_clock.specs.Events.{clocks_of}
 use Rattle.witness_kinds.specs.declared.Witness.{Witness}
 use Rattle.witness_kinds.specs.declared.Witness.TheVariants as witness
-use Rattle.slice_graph.specs.declared.edges.Edge.{Edge}
 use Rattle.report_lines.specs.declared.kinds.WitnessText.{WitnessText}
 use Rattle.report_lines.specs.Spelling.{truth_text}
 use Rattle.report.specs.declared.report.SliceText.{SliceText}
 use Rattle.report.specs.declared.report.Report.{Report}
 use Rattle.view_parts.specs.Each.{each_below, places}
+use Rattle.view_parts.specs.declared.extent.Extent.{Extent}
 use Rattle.view_picture.specs.declared.frame.Frame.{Frame}
+use Rattle.view_picture.specs.Told.{top_of, edges_of, most_edges, first_drawn}
+use Rattle.view_picture.specs.Choice.{is_wanted}
 use Rattle.view_picture.specs.Columns.{Rows, AreColumns}
+use Rattle.view_picture.specs.Shown.{shown_events, has_shown}
+use Rattle.view_picture.specs.Ties.{ties_of}
 use Rattle.view_picture.specs.declared.svg.Point.{Point}
 use Rattle.view_picture.specs.Svg.{attribute, line, circle, text, escaped}
 use Rattle.view_picture.specs.Frame.{frame_of}
-use Rattle.view_picture.specs.Drawing.{point, lane_drawn, arrow_to, numbers_drawn, lost_look}
+use Rattle.view_picture.specs.Drawing.{point, lane_drawn, tie_look, tie_drawn, arrow_to}
+use Rattle.view_picture.specs.Drawing.{numbers_drawn, left_out_drawn, lost_look}
 use Rattle.view_picture.specs.Drawing.{lost_from, edge_drawn, mark_look, mark, cut_drawn}
 use Rattle.view_picture.specs.Drawing.{least_look, greatest_look, goal_look, least_shift}
 use Rattle.view_picture.specs.Drawing.{greatest_shift, witness_drawn}
@@ -80,26 +85,11 @@ abbrev pub heading : Frame → Report → List ℕ
 heading f r =
     opening f ++ arrow_heads ++ verdict_drawn r.verdict ++ formula_drawn r.formula
 
--- ---- the slice
-
-abbrev pub top_of_bounds : Option (Cut × Cut) → Option Cut
-top_of_bounds None = None
-top_of_bounds (Some bounds) = Some bounds.1
-
--- the greatest cut of the slice, where it has one
-abbrev pub top_of : Option SliceText → Option Cut
-top_of None = None
-top_of (Some slice) = top_of_bounds slice.bounds
-
-abbrev pub edges_of : Option SliceText → List Edge
-edges_of None = []
-edges_of (Some slice) = slice.edges
-
 -- ---- what each color and dash means, below the lanes
 
 -- a row below the lanes, so far from the left
 abbrev pub row_at : Frame → ℕ → ℕ → Point
-row_at f x row = point x (f.height - 106 + 20 * row)
+row_at f x row = point x (f.height - 126 + 20 * row)
 
 -- what stands so far right of the beginning of a row
 abbrev pub told : Point → ℕ → List ℕ → List ℕ
@@ -142,10 +132,6 @@ abbrev pub slice_drawn : Frame → Rows → Option SliceText → List ℕ
 slice_drawn f rows None = []
 slice_drawn f rows (Some slice) = bounds_drawn f rows slice.bounds
 
--- so many edges are drawn
-abbrev pub most_edges : ℕ
-most_edges = 40
-
 -- how many edges are not drawn
 abbrev pub edges_note : Frame → ℕ → List ℕ
 edges_note f left_out =
@@ -165,20 +151,35 @@ edges_told f edges =
 abbrev pub edges_legend : Frame → ℕ → List ℕ
 edges_legend f edges = if edges == 0 then [] else edges_told f edges
 
+-- what a thin line means, if there are such
+abbrev pub ties_legend : Frame → ℕ → List ℕ
+ties_legend f ties =
+    if ties == 0 then []
+    else sample (row_at f 20 5) tie_look (codes "happened before, and no arrow shows it")
+
+-- how many of the events are shown, and how many processes have none of these
+abbrev pub note_text : ℕ → ℕ → ℕ → List ℕ
+note_text shown events without =
+    codes "shown: " ++ decimal shown ++ codes " of " ++ decimal events
+    ++ codes " events; .. N .. are N others; processes without a shown event: "
+    ++ decimal without
+
+abbrev pub are_all : ℕ → ℕ → ℕ → Bool
+are_all shown events without = shown == events && without == 0
+
+-- nothing where all are shown
+abbrev pub note_drawn : ℕ → ℕ → ℕ → List ℕ
+note_drawn shown events without =
+    if are_all shown events without then []
+    else text (point 20 84) (codes " font-size='12' fill='#555555'")
+    (note_text shown events without)
+
+abbrev pub note_of : StatesView → Rows → List ℕ
+note_of s rows =
+    note_drawn (length (shown_events (map length s.events) rows))
+    (length (places (map length s.events))) (length rows - count_by has_shown rows)
+
 -- ---- the witness that is drawn
-
-abbrev pub is_drawn : Witness → Bool
-is_drawn witness.Nothing = false
-is_drawn (witness.Reach path) = true
-is_drawn (witness.Against path) = true
-is_drawn (witness.Always path) = true
-is_drawn witness.StuckStart = false
-is_drawn witness.StuckFinish = false
-is_drawn (witness.StuckPair first other) = true
-
--- the first of the witnesses of which something is drawn
-abbrev pub first_drawn : List WitnessText → Option WitnessText
-first_drawn witnesses = find (λ (w : WitnessText). is_drawn w.witness) witnesses
 
 -- what is drawn of a witness, in words
 abbrev pub meaning_of : Witness → List ℕ
@@ -206,27 +207,43 @@ one_drawn f rows (Some w) =
 
 -- ---- the whole
 
--- each lane, then what runs across them, above that the marks, and what they mean
-abbrev pub body : StatesView → Frame → Rows → Report → List ℕ
-body s f rows r =
-    each_below (length s.header.procs) (lane_drawn s f)
-    ++ flat_map (arrow_to s f rows) (places (map length s.events))
-    ++ flat_map (lost_from s f rows) (places (map length s.events))
+-- the lanes and what runs between them
+abbrev pub run_drawn : StatesView → Frame → Rows → List ℕ
+run_drawn s f rows =
+    each_below (length s.header.procs) (lane_drawn s f rows)
+    ++ flat_map (tie_drawn f rows) (ties_of s rows)
+    ++ flat_map (arrow_to s f rows) (shown_events (map length s.events) rows)
+    ++ flat_map (lost_from s f rows) (shown_events (map length s.events) rows)
     ++ numbers_drawn s f rows
-    ++ flat_map (edge_drawn f rows) (take most_edges (edges_of r.slice))
+    ++ left_out_drawn s f rows
+
+-- what a report says of the run, and the marks above that
+abbrev pub report_drawn : StatesView → Frame → Rows → Report → List ℕ
+report_drawn s f rows r =
+    flat_map (edge_drawn f rows) (take most_edges (edges_of r.slice))
     ++ slice_drawn f rows r.slice
     ++ one_drawn f rows (first_drawn r.witnesses)
-    ++ flat_map (mark s f rows (top_of r.slice)) (places (map length s.events))
-    ++ legend f ++ edges_legend f (length (edges_of r.slice))
+    ++ flat_map (mark s f rows (top_of r.slice)) (shown_events (map length s.events) rows)
 
--- the picture of a run by a report of it, where these are the columns of its events
+-- what all that means, and how much is shown
+abbrev pub meaning_drawn : StatesView → Frame → Rows → ℕ → ℕ → List ℕ
+meaning_drawn s f rows edges ties =
+    legend f ++ edges_legend f edges ++ ties_legend f ties ++ note_of s rows
+
+abbrev pub body : StatesView → Frame → Rows → Report → List ℕ
+body s f rows r =
+    run_drawn s f rows ++ report_drawn s f rows r
+    ++ meaning_drawn s f rows (length (edges_of r.slice)) (length (ties_of s rows))
+
+-- the picture of a run by a report of it, where these are the columns of its shown events
 abbrev pub picture : StatesView → Rows → Report → List ℕ
 picture s rows r =
     heading (frame_of s rows r) r ++ body s (frame_of s rows r) rows r
     ++ (codes "</svg>" ++ 10 ∷ [])
 
--- the bytes are the picture, with the columns of the run
-pub record IsPictureOf (s : StatesView) (r : Report) (bytes : List ℕ) : Type 0 where
+-- the bytes are the picture of as much of the run as is asked for
+pub record IsPictureOf (s : StatesView) (x : Extent) (r : Report) (bytes : List ℕ)
+    : Type 0 where
   pub rows : Rows
-  pub columns : AreColumns (clocks_of s.events) rows
+  pub columns : AreColumns (clocks_of s.events) (is_wanted s x r) rows
   pub text_is : bytes ≡ picture s rows r

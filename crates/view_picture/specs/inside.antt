@@ -1,4 +1,4 @@
 -- What only the calls inside say to each other.
 pub mod Drawing
-pub mod Levels
+pub mod Placing
 pub mod Lost

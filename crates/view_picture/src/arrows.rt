@@ -1,45 +1,37 @@
-//! An arrow for each message that was received.
-ghost use Rattle.std.specs.Prelude.{◌≡◌, ◌<◌, ◌≤◌, ◌++◌, false, length, map, get_or, OnOk, []};
-ghost use Rattle.std.specs.Prelude.{IfSome};
-ghost use Rattle.std.specs.List.{flat_map};
+//! An arrow for each message whose send and receipt are shown, and a thin line for each tie.
+ghost use Rattle.std.specs.Prelude.{◌≡◌, ◌++◌, false, length, map, OnOk};
+ghost use Rattle.std.specs.List.{AllByRecursion, flat_map};
 ghost use Rattle.pota_base.specs.Shape.{HasEvent};
-ghost use Rattle.view_parts.specs.Each.{own_places, places};
-ghost use Rattle.view_picture.specs.Drawing.{placed, send_of, arrow, arrow_from, arrow_to};
+ghost use Rattle.view_picture.specs.Drawing.{arrow_from, arrow_to, tie_drawn};
+ghost use Rattle.view_picture.specs.Frame.{at};
+ghost use Rattle.view_picture.specs.Svg.{line};
 
 use crate::columns::Columns;
 use crate::frame::Frame;
 use crate::svg::put_line;
-use event_log::Kind;
+use crate::ties::shown_send;
 use pota_base::{Bytes, EventId, NoMemory};
+use slice_graph::Edge;
 use trace_growth::Trace;
-use view_parts::event_at;
 
-// An event of a process, where its position is known.
-fn placed(process: u32, position: Option<u32>) -> Option<EventId>
-    ensures { result ≡ placed process position }
+// Appends a line from the mark of an event to that of another.
+fn put_between(
+    out: &mut Bytes,
+    columns: &Columns,
+    frame: &Frame,
+    first: EventId,
+    other: EventId,
+    look: &[u8],
+) -> Result<(), NoMemory>
+    ensures { OnOk result (out.new ≡ out.old ++ line (at frame.now columns.now first)
+        (at frame.now columns.now other) look.now) }
 {
-    match position {
-        None => None,
-        Some(position) => Some(EventId { process, position }),
-    }
+    let from = frame.at(columns, first);
+    let to = frame.at(columns, other);
+    put_line(out, from, to, look)
 }
 
-/// The event that sends what an event receives, if it receives something.
-pub fn send_of(trace: &Trace, receipt: EventId) -> Option<EventId>
-    requires here { trace.now.spent ≡ false }
-    requires there { HasEvent (map length trace.now.states.events) receipt }
-    ensures { result ≡ send_of trace.now.states receipt }
-{
-    match event_at(trace.states(), receipt).kind {
-        Kind::Internal => None,
-        Kind::Send { .. } => None,
-        Kind::Receive { sender, id } => {
-            placed(sender, trace.place_sent(sender, receipt.process, id))
-        }
-    }
-}
-
-// Appends an arrow to a receipt, where its send is known.
+// Appends an arrow to a receipt, where its send is known and shown.
 fn put_arrow_from(
     out: &mut Bytes,
     columns: &Columns,
@@ -51,51 +43,50 @@ fn put_arrow_from(
 {
     match send {
         None => Ok(()),
-        Some(send) => put_line(
+        Some(send) => put_between(
             out,
-            frame.at(columns, send),
-            frame.at(columns, receipt),
+            columns,
+            frame,
+            send,
+            receipt,
             b" stroke='#555555' stroke-width='1.5' marker-end='url(#message)'",
         ),
     }
 }
 
-// Appends the arrows to the events of a process.
-fn put_arrows_to(
-    out: &mut Bytes,
-    trace: &Trace,
-    columns: &Columns,
-    frame: &Frame,
-    process: u32,
-) -> Result<(), NoMemory>
-    requires here { trace.now.spent ≡ false }
-    requires process { process < length trace.now.states.events }
-    ensures { OnOk result (out.new ≡ out.old
-        ++ flat_map (arrow_to trace.now.states frame.now columns.now)
-        (own_places process (get_or (map length trace.now.states.events) process 0))) }
-{
-    for before in 0..trace.states().shape().len_of(process) {
-        let position = before + 1;
-        let receipt = EventId { process, position };
-        put_arrow_from(out, columns, frame, receipt, send_of(trace, receipt))?;
-    }
-    Ok(())
-}
-
-/// Appends the arrows of all messages that were received.
+/// Appends the arrows to the shown events.
 pub fn put_arrows(
     out: &mut Bytes,
     trace: &Trace,
     columns: &Columns,
     frame: &Frame,
+    shown: &[EventId],
 ) -> Result<(), NoMemory>
-    requires { trace.now.spent ≡ false }
+    requires here { trace.now.spent ≡ false }
+    requires there { AllByRecursion (HasEvent (map length trace.now.states.events)) shown.now }
     ensures { OnOk result (out.new ≡ out.old
-        ++ flat_map (arrow_to trace.now.states frame.now columns.now)
-        (places (map length trace.now.states.events))) }
+        ++ flat_map (arrow_to trace.now.states frame.now columns.now) shown.now) }
 {
-    for process in 0..trace.states().shape().procs() {
-        put_arrows_to(out, trace, columns, frame, process)?;
+    for k in 0..shown.len() {
+        let send = shown_send(trace, columns, shown[k]);
+        put_arrow_from(out, columns, frame, shown[k], send)?;
+    }
+    Ok(())
+}
+
+/// Appends the ties.
+pub fn put_ties(
+    out: &mut Bytes,
+    columns: &Columns,
+    frame: &Frame,
+    ties: &[Edge],
+) -> Result<(), NoMemory>
+    ensures { OnOk result (out.new
+        ≡ out.old ++ flat_map (tie_drawn frame.now columns.now) ties.now) }
+{
+    for tie in ties {
+        let look = b" stroke='#999999' stroke-width='1'";
+        put_between(out, columns, frame, tie.cause, tie.effect, look)?;
     }
     Ok(())
 }

@@ -2,16 +2,14 @@
 ghost use Rattle.std.specs.Prelude.{◌≡◌, ◌+◌, ◌<◌, ◌^◌, ◌++◌, take, OnOk};
 ghost use Rattle.std.specs.List.{flat_map};
 ghost use Rattle.view_picture.specs.Drawing.{spot, bow, edge_drawn};
-ghost use Rattle.view_picture.specs.Picture.{most_edges};
+ghost use Rattle.view_picture.specs.Told.{most_edges};
 
 use crate::columns::Columns;
 use crate::frame::Frame;
 use crate::svg::Point;
+use crate::told::MOST_EDGES;
 use pota_base::{Bytes, NoMemory, put_u64};
 use slice_graph::Edge;
-
-/// The most edges that are drawn.
-pub const MOST_EDGES: usize = 40;
 
 // Appends ` X Y`.
 fn put_spot(out: &mut Bytes, point: Point) -> Result<(), NoMemory>

@@ -13,7 +13,7 @@ const TOP: u64 = 150;
 /// Lanes are so far from each other.
 const LANE: u64 = 96;
 /// What is told below the lanes is so high.
-const LEGEND: u64 = 100;
+const LEGEND: u64 = 120;
 /// The least width, in which there is room for what is told below the lanes.
 const LEAST_WIDTH: u64 = 560;
 /// Up to so many columns each is wide, with room for long assignments of its events.
@@ -49,12 +49,12 @@ impl Frame {
         most.min(64)
     }
 
-    /// The line of a process.
-    pub fn lane(process: u32) -> u64
-        ensures lane { result ≡ lane process }
+    /// The line of a process. Processes that have a shown event have theirs one below the other.
+    pub fn lane(columns: &Columns, process: u32) -> u64
+        ensures lane { result ≡ lane columns.now process }
         ensures high { result < 2 ^ 40 }
     {
-        TOP + LANE * u64::from(process)
+        TOP + LANE * u64::from(columns.rank(process))
     }
 
     // Where a column is.
@@ -83,7 +83,7 @@ impl Frame {
             width: (Frame::column_at(left, wide, most) + 60)
                 .max(heading)
                 .max(LEAST_WIDTH),
-            height: TOP + LANE * procs.len() as u64 + LEGEND,
+            height: TOP + LANE * columns.count() + LEGEND,
         }
     }
 
@@ -96,7 +96,7 @@ impl Frame {
     {
         Point {
             x: Frame::column_at(self.left, self.wide, columns.at(process, events)),
-            y: Frame::lane(process),
+            y: Frame::lane(columns, process),
         }
     }
 

@@ -1,15 +1,19 @@
 //! Laws of the picture, as contracts of functions that do nothing.
-ghost use Rattle.view_picture.specs.Laws.{EachEventOnce, MarksAreApart, MarksAreInside};
+ghost use Rattle.view_picture.specs.Laws.{ShownEventsOnce, ChosenAreShown, LastIsShown};
+ghost use Rattle.view_picture.specs.Laws.{MarksAreApart, MarksAreInside};
 ghost use Rattle.view_picture.specs.Laws.{ColumnsAreOne, EscapedHasNoTag};
 ghost use Rattle.view_picture.specs.Laws.{GoalsAreBehindTheLeast, GoalsAreBeforeTheGreatest};
 ghost use Rattle.view_picture.specs.Laws.{GoalsBeyondAreBeyond};
 
-/// Each event gets one mark, and one arrow if it receives something.
-pub fn each_event_once()
-    ensures { EachEventOnce }
+/// Each event that is to be shown gets one mark, and no other event gets one. What is told to be
+/// left out on a lane is not shown.
+pub fn shown_events_once()
+    ensures once { ShownEventsOnce }
+    ensures chosen { ChosenAreShown }
+    ensures left_out { LastIsShown }
 {}
 
-/// A run has one assignment of columns.
+/// A run has one assignment of columns to what is shown.
 pub fn columns_are_one()
     ensures { ColumnsAreOne }
 {}

@@ -1,14 +1,20 @@
 //! What each color and dash means, in words below the lanes.
-ghost use Rattle.std.specs.Prelude.{◌≡◌, ◌<◌, ◌≤◌, ◌^◌, ◌++◌, OnOk, IfOk};
+ghost use Rattle.std.specs.Prelude.{◌≡◌, ◌<◌, ◌≤◌, ◌^◌, ◌++◌, length, map, OnOk, IfOk};
+ghost use Rattle.view_parts.specs.Each.{places};
+ghost use Rattle.view_picture.specs.Shown.{shown_events};
 ghost use Rattle.view_picture.specs.Picture.{row_at, told, sample, sample_disc, legend};
 ghost use Rattle.view_picture.specs.Picture.{slice_legend, edges_note, edges_told, edges_legend};
+ghost use Rattle.view_picture.specs.Picture.{ties_legend, note_text, are_all, note_drawn};
+ghost use Rattle.view_picture.specs.Picture.{note_of};
 ghost use Rattle.view_picture.specs.Picture.{meaning_of, witness_meaning};
 
-use crate::edges::MOST_EDGES;
+use crate::columns::Columns;
 use crate::frame::Frame;
 use crate::marks::mark_look;
 use crate::svg::{Point, put_circle, put_line, put_text};
-use pota_base::{Bytes, NoMemory, put_u64};
+use crate::told::MOST_EDGES;
+use event_log::States;
+use pota_base::{Bytes, EventId, NoMemory, put_u64};
 use report::WitnessText;
 use std::alloc::Global;
 use witness_kinds::Witness;
@@ -16,13 +22,13 @@ use witness_kinds::Witness;
 /// A row below the lanes, so far from the left.
 pub fn row_at(frame: &Frame, x: u64, row: u64) -> Point
     requires height { frame.now.height < 2 ^ 40 }
-    requires row { row ≤ 4 }
+    requires row { row ≤ 5 }
     ensures at { result ≡ row_at frame.now x row }
     ensures low { result.y < 2 ^ 50 }
 {
     Point {
         x,
-        y: frame.height.saturating_sub(106) + 20 * row,
+        y: frame.height.saturating_sub(126) + 20 * row,
     }
 }
 
@@ -159,6 +165,82 @@ pub fn put_edges_legend(
         return Ok(());
     }
     put_edges_told(out, alloc, frame, edges)
+}
+
+/// Appends what a thin line means, if there are ties.
+pub fn put_ties_legend(out: &mut Bytes, frame: &Frame, ties: usize) -> Result<(), NoMemory>
+    requires { frame.now.height < 2 ^ 40 }
+    ensures { OnOk result (out.new ≡ out.old ++ ties_legend frame.now ties) }
+{
+    if ties == 0 {
+        return Ok(());
+    }
+    let tie = b" stroke='#999999' stroke-width='1'";
+    put_sample(
+        out,
+        row_at(frame, 20, 5),
+        tie,
+        b"happened before, and no arrow shows it",
+    )
+}
+
+// How many of the events are shown, and how many processes have none of these.
+fn note_text(alloc: Global, shown: usize, events: usize, without: u64) -> Result<Bytes, NoMemory>
+    ensures { IfOk result (λ note. note ≡ note_text shown events without) }
+{
+    let mut note = Bytes::new(alloc);
+    note.extend_from_slice(b"shown: ")?;
+    put_u64(&mut note, shown as u64)?;
+    note.extend_from_slice(b" of ")?;
+    put_u64(&mut note, events as u64)?;
+    note.extend_from_slice(b" events; .. N .. are N others; processes without a shown event: ")?;
+    put_u64(&mut note, without)?;
+    Ok(note)
+}
+
+// Whether all events are shown, and no process is left out.
+fn are_all(shown: usize, events: usize, without: u64) -> bool
+    ensures { result ≡ are_all shown events without }
+{
+    shown == events && without == 0
+}
+
+// Appends that, if not all are shown.
+fn put_note_text(
+    out: &mut Bytes,
+    alloc: Global,
+    shown: usize,
+    events: usize,
+    without: u64,
+) -> Result<(), NoMemory>
+    ensures { OnOk result (out.new ≡ out.old ++ note_drawn shown events without) }
+{
+    if are_all(shown, events, without) {
+        return Ok(());
+    }
+    let note = note_text(alloc, shown, events, without)?;
+    put_text(
+        out,
+        Point { x: 20, y: 84 },
+        b" font-size='12' fill='#555555'",
+        note.as_slice(),
+    )
+}
+
+/// Appends how much of the run is shown, if not all is.
+pub fn put_note(
+    out: &mut Bytes,
+    alloc: Global,
+    states: &States,
+    columns: &Columns,
+    shown: &[EventId],
+    events: &[EventId],
+) -> Result<(), NoMemory>
+    requires shown { shown.now ≡ shown_events (map length states.now.events) columns.now }
+    requires events { events.now ≡ places (map length states.now.events) }
+    ensures { OnOk result (out.new ≡ out.old ++ note_of states.now columns.now) }
+{
+    put_note_text(out, alloc, shown.len(), events.len(), columns.without())
 }
 
 // What is drawn of a witness, in words.

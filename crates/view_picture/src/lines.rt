@@ -1,6 +1,7 @@
 //! Cuts as lines across the lanes, and the witness that is drawn.
 ghost use Rattle.std.specs.Prelude.{◌≡◌, ◌+◌, ◌<◌, ◌≤◌, ◌^◌, ◌++◌, length, OnOk};
-ghost use Rattle.view_picture.specs.Drawing.{corner, corners, cut_drawn, numbered};
+ghost use Rattle.view_picture.specs.Drawing.{corner, shown_corners, cut_drawn, numbered};
+ghost use Rattle.view_picture.specs.Drawing.{step_drawn};
 ghost use Rattle.view_picture.specs.Drawing.{steps_drawn, ring, path_drawn, witness_drawn};
 ghost use Rattle.view_picture.specs.inside.Drawing.{HasFewProcesses};
 
@@ -29,7 +30,7 @@ fn put_corner(out: &mut Bytes, x: u64, y: u64) -> Result<(), NoMemory>
     put_u64(out, y)
 }
 
-// Appends the two corners of the line of a cut on the lane of a process.
+// Appends the two corners of the line of a cut on the lane of a process, if it has one.
 fn put_corners(
     out: &mut Bytes,
     columns: &Columns,
@@ -41,14 +42,17 @@ fn put_corners(
     requires process { process < length cut.now }
     requires shift { shift ≤ 100 }
     ensures { OnOk result (out.new
-        ≡ out.old ++ corners frame.now columns.now cut.now shift process) }
+        ≡ out.old ++ shown_corners frame.now columns.now cut.now shift process) }
 {
+    if !columns.has_shown(process) {
+        return Ok(());
+    }
     let last = frame.behind(columns, process, cut.get(process));
     put_corner(out, last.x + shift, last.y.saturating_sub(32))?;
     put_corner(out, last.x + shift, last.y + 32)
 }
 
-/// Appends the line of a cut: on each lane it runs so far behind the last event that is in.
+/// Appends the line of a cut: on each lane it runs so far behind the last shown event that it has.
 pub fn put_cut(
     out: &mut Bytes,
     columns: &Columns,
@@ -90,7 +94,25 @@ fn put_numbered(out: &mut Bytes, alloc: Global, at: Point, number: u64) -> Resul
     )
 }
 
-// Appends the numbers of the steps of a path.
+// Appends the number of a step, if its event is shown.
+fn put_step(
+    out: &mut Bytes,
+    alloc: Global,
+    columns: &Columns,
+    frame: &Frame,
+    event: EventId,
+    number: u64,
+) -> Result<(), NoMemory>
+    ensures { OnOk result (out.new
+        ≡ out.old ++ step_drawn frame.now columns.now event number) }
+{
+    if !columns.is_shown(event) {
+        return Ok(());
+    }
+    put_numbered(out, alloc, frame.at(columns, event), number)
+}
+
+// Appends the numbers of the steps of a path whose events are shown.
 fn put_steps(
     out: &mut Bytes,
     alloc: Global,
@@ -101,7 +123,7 @@ fn put_steps(
     ensures { OnOk result (out.new ≡ out.old ++ steps_drawn frame.now columns.now steps.now) }
 {
     for k in 0..steps.len() {
-        put_numbered(out, alloc, frame.at(columns, steps[k]), k as u64 + 1)?;
+        put_step(out, alloc, columns, frame, steps[k], k as u64 + 1)?;
     }
     Ok(())
 }

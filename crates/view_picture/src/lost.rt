@@ -1,8 +1,7 @@
 //! A short arrow for each message that is not received.
 ghost use Rattle.std.specs.Prelude.{◌≡◌, ◌+◌, ◌<◌, ◌≤◌, ◌^◌, ◌++◌, length, map, get_or, OnOk};
-ghost use Rattle.std.specs.List.{flat_map, list_any};
+ghost use Rattle.std.specs.List.{AllByRecursion, flat_map, list_any};
 ghost use Rattle.pota_base.specs.Shape.{HasEvent};
-ghost use Rattle.view_parts.specs.Each.{own_places, places};
 ghost use Rattle.view_parts.specs.Parts.{event_at};
 ghost use Rattle.view_picture.specs.Drawing.{is_receipt, is_received, lost_of, short_of};
 ghost use Rattle.view_picture.specs.Drawing.{lost_arrow, lost_to, lost_from};
@@ -150,40 +149,22 @@ fn put_lost_to(
     }
 }
 
-// Appends the short arrows of what a process sends.
-fn put_lost_of(
-    out: &mut Bytes,
-    states: &States,
-    columns: &Columns,
-    frame: &Frame,
-    process: u32,
-) -> Result<(), NoMemory>
-    requires { process < length states.now.events }
-    ensures { OnOk result (out.new ≡ out.old
-        ++ flat_map (lost_from states.now frame.now columns.now)
-        (own_places process (get_or (map length states.now.events) process 0))) }
-{
-    for before in 0..states.shape().len_of(process) {
-        let position = before + 1;
-        let send = EventId { process, position };
-        put_lost_to(out, frame.at(columns, send), process, lost_of(states, send))?;
-    }
-    Ok(())
-}
-
-/// Appends the short arrows of all messages that are not received.
+/// Appends the short arrows of all messages that shown events send and no event receives.
 pub fn put_lost(
     out: &mut Bytes,
     states: &States,
     columns: &Columns,
     frame: &Frame,
+    shown: &[EventId],
 ) -> Result<(), NoMemory>
+    requires { AllByRecursion (HasEvent (map length states.now.events)) shown.now }
     ensures { OnOk result (out.new ≡ out.old
-        ++ flat_map (lost_from states.now frame.now columns.now)
-        (places (map length states.now.events))) }
+        ++ flat_map (lost_from states.now frame.now columns.now) shown.now) }
 {
-    for process in 0..states.shape().procs() {
-        put_lost_of(out, states, columns, frame, process)?;
+    for k in 0..shown.len() {
+        let send = shown[k];
+        let receiver = lost_of(states, send);
+        put_lost_to(out, frame.at(columns, send), send.process, receiver)?;
     }
     Ok(())
 }

@@ -1,10 +1,9 @@
-//! A mark for each event.
-ghost use Rattle.std.specs.Prelude.{◌≡◌, ◌+◌, ◌<◌, ◌≤◌, ◌^◌, ◌++◌, ◌∷◌, [], length, map, get_or};
+//! A mark for each event that is shown.
+ghost use Rattle.std.specs.Prelude.{◌≡◌, ◌+◌, ◌<◌, ◌≤◌, ◌^◌, ◌++◌, ◌∷◌, [], length, map};
 ghost use Rattle.std.specs.Prelude.{OnOk, IfOk, IfSome, nat_lt, Option};
-ghost use Rattle.std.specs.List.{flat_map};
+ghost use Rattle.std.specs.List.{AllByRecursion, flat_map};
 ghost use Rattle.std.specs.Option.{option_copied};
 ghost use Rattle.pota_base.specs.Shape.{HasEvent};
-ghost use Rattle.view_parts.specs.Each.{own_places, places};
 ghost use Rattle.view_parts.specs.Parts.{event_at};
 ghost use Rattle.view_picture.specs.Drawing.{title, is_beyond, mark_look, number_look, disc};
 ghost use Rattle.view_picture.specs.Drawing.{name_within, value_text, room_for, assigned};
@@ -256,32 +255,17 @@ fn put_mark(out: &mut Bytes, marked: &Marked<'_>, event: EventId) -> Result<(), 
     out.extend_from_slice(b"</g>\n")
 }
 
-// Appends the marks of the events of a process.
-fn put_marks_of(out: &mut Bytes, marked: &Marked<'_>, process: u32) -> Result<(), NoMemory>
-    requires process { process < length marked.now.states.now.events }
-    requires top { IfSome (option_copied marked.now.top) (λ cut. process < length cut) }
-    ensures { OnOk result (out.new ≡ out.old
-        ++ flat_map (mark marked.now.states.now marked.now.frame.now marked.now.columns.now
-        (option_copied marked.now.top))
-        (own_places process (get_or (map length marked.now.states.now.events) process 0))) }
-{
-    for before in 0..marked.states.shape().len_of(process) {
-        let position = before + 1;
-        put_mark(out, marked, EventId { process, position })?;
-    }
-    Ok(())
-}
-
-/// Appends the marks of all events.
-pub fn put_marks(out: &mut Bytes, marked: &Marked<'_>) -> Result<(), NoMemory>
-    requires { IfSome (option_copied marked.now.top)
+/// Appends the marks of these events.
+pub fn put_marks(out: &mut Bytes, marked: &Marked<'_>, shown: &[EventId]) -> Result<(), NoMemory>
+    requires top { IfSome (option_copied marked.now.top)
         (λ cut. length cut ≡ length marked.now.states.now.events) }
+    requires there { AllByRecursion (HasEvent (map length marked.now.states.now.events)) shown.now }
     ensures { OnOk result (out.new ≡ out.old
         ++ flat_map (mark marked.now.states.now marked.now.frame.now marked.now.columns.now
-        (option_copied marked.now.top)) (places (map length marked.now.states.now.events))) }
+        (option_copied marked.now.top)) shown.now) }
 {
-    for process in 0..marked.states.shape().procs() {
-        put_marks_of(out, marked, process)?;
+    for k in 0..shown.len() {
+        put_mark(out, marked, shown[k])?;
     }
     Ok(())
 }

@@ -1,17 +1,16 @@
 //! The numbers of messages at their arrows, where they are not too many.
-ghost use Rattle.std.specs.Prelude.{◌≡◌, ◌<◌, ◌≤◌, ◌^◌, ◌++◌, false, length, map, min, get_or};
-ghost use Rattle.std.specs.Prelude.{nat_le, OnOk};
-ghost use Rattle.std.specs.List.{filter, flat_map};
+ghost use Rattle.std.specs.Prelude.{◌≡◌, ◌<◌, ◌≤◌, ◌^◌, ◌++◌, false, length, map, OnOk};
+ghost use Rattle.std.specs.List.{AllByRecursion, count_by, flat_map};
 ghost use Rattle.pota_base.specs.Shape.{HasEvent};
-ghost use Rattle.view_parts.specs.Each.{own_places, places};
+ghost use Rattle.view_picture.specs.Shown.{shown_events};
 ghost use Rattle.view_picture.specs.Drawing.{is_receive, receives, number_of, lanes_apart};
 ghost use Rattle.view_picture.specs.Drawing.{on_arrow, arrow_number, number_from, number_to};
-ghost use Rattle.view_picture.specs.Drawing.{most_numbers, numbers_drawn};
+ghost use Rattle.view_picture.specs.Drawing.{numbers_drawn};
 
-use crate::arrows::send_of;
 use crate::columns::Columns;
 use crate::frame::Frame;
 use crate::svg::{Point, put_text};
+use crate::ties::shown_send;
 use event_log::{Kind, States};
 use pota_base::{Bytes, EventId, NoMemory, put_u64};
 use std::alloc::Global;
@@ -19,7 +18,7 @@ use trace_growth::Trace;
 use view_parts::event_at;
 
 /// Up to so many arrows have numbers.
-const MOST_NUMBERS: u64 = 30;
+const MOST_NUMBERS: usize = 30;
 
 // Whether an event of this kind receives something.
 fn is_receive(kind: Kind) -> bool
@@ -43,34 +42,18 @@ fn number_of(kind: Kind) -> u64
     }
 }
 
-// How many events of a process receive something.
-fn receipts_of(states: &States, process: u32) -> u64
-    requires process { process < length states.now.events }
-    ensures count { result ≡ length (filter (receives states.now)
-        (own_places process (get_or (map length states.now.events) process 0))) }
-    ensures few { result < 2 ^ 32 }
+// How many of these events receive something.
+fn receipts_among(states: &States, shown: &[EventId]) -> usize
+    requires { AllByRecursion (HasEvent (map length states.now.events)) shown.now }
+    ensures { result ≡ count_by (receives states.now) shown.now }
 {
-    let mut count = 0u64;
-    for before in 0..states.shape().len_of(process) {
-        let position = before + 1;
-        if is_receive(event_at(states, EventId { process, position }).kind) {
+    let mut count = 0usize;
+    for k in 0..shown.len() {
+        if is_receive(event_at(states, shown[k]).kind) {
             count += 1;
         }
     }
     count
-}
-
-// Whether there are so few events that receive something that their arrows have numbers.
-fn few_receipts(states: &States) -> bool
-    ensures { result ≡ nat_le
-        (length (filter (receives states.now) (places (map length states.now.events))))
-        most_numbers }
-{
-    let mut count = 0u64;
-    for process in 0..states.shape().procs() {
-        count = (count + receipts_of(states, process)).min(MOST_NUMBERS + 1);
-    }
-    count <= MOST_NUMBERS
 }
 
 // How many lanes further a process is, at least one.
@@ -147,64 +130,46 @@ fn put_number_from(
     }
 }
 
-// Appends the numbers at the arrows to the events of a process.
-fn put_numbers_of(
-    out: &mut Bytes,
-    alloc: Global,
-    trace: &Trace,
-    columns: &Columns,
-    frame: &Frame,
-    process: u32,
-) -> Result<(), NoMemory>
-    requires here { trace.now.spent ≡ false }
-    requires process { process < length trace.now.states.events }
-    ensures { OnOk result (out.new ≡ out.old
-        ++ flat_map (number_to trace.now.states frame.now columns.now)
-        (own_places process (get_or (map length trace.now.states.events) process 0))) }
-{
-    for before in 0..trace.states().shape().len_of(process) {
-        let position = before + 1;
-        let receipt = EventId { process, position };
-        let number = number_of(event_at(trace.states(), receipt).kind);
-        let send = send_of(trace, receipt);
-        put_number_from(out, alloc, columns, frame, receipt, number, send)?;
-    }
-    Ok(())
-}
-
-// Appends the numbers at all arrows.
+// Appends the numbers at the arrows to these events.
 fn put_all_numbers(
     out: &mut Bytes,
     alloc: Global,
     trace: &Trace,
     columns: &Columns,
     frame: &Frame,
+    shown: &[EventId],
 ) -> Result<(), NoMemory>
-    requires { trace.now.spent ≡ false }
+    requires here { trace.now.spent ≡ false }
+    requires there { AllByRecursion (HasEvent (map length trace.now.states.events)) shown.now }
     ensures { OnOk result (out.new ≡ out.old
-        ++ flat_map (number_to trace.now.states frame.now columns.now)
-        (places (map length trace.now.states.events))) }
+        ++ flat_map (number_to trace.now.states frame.now columns.now) shown.now) }
 {
-    for process in 0..trace.states().shape().procs() {
-        put_numbers_of(out, alloc, trace, columns, frame, process)?;
+    for k in 0..shown.len() {
+        let receipt = shown[k];
+        let number = number_of(event_at(trace.states(), receipt).kind);
+        let send = shown_send(trace, columns, receipt);
+        put_number_from(out, alloc, columns, frame, receipt, number, send)?;
     }
     Ok(())
 }
 
-/// Appends the numbers of all messages that are received, where they are not too many.
+/// Appends the numbers at all arrows, where not too many of the shown events receive something.
 pub fn put_numbers(
     out: &mut Bytes,
     alloc: Global,
     trace: &Trace,
     columns: &Columns,
     frame: &Frame,
+    shown: &[EventId],
 ) -> Result<(), NoMemory>
-    requires { trace.now.spent ≡ false }
+    requires here { trace.now.spent ≡ false }
+    requires there { AllByRecursion (HasEvent (map length trace.now.states.events)) shown.now }
+    requires shown { shown.now ≡ shown_events (map length trace.now.states.events) columns.now }
     ensures { OnOk result (out.new
         ≡ out.old ++ numbers_drawn trace.now.states frame.now columns.now) }
 {
-    if few_receipts(trace.states()) {
-        return put_all_numbers(out, alloc, trace, columns, frame);
+    if receipts_among(trace.states(), shown) <= MOST_NUMBERS {
+        return put_all_numbers(out, alloc, trace, columns, frame, shown);
     }
     Ok(())
 }

@@ -2,6 +2,8 @@
 -- disjunct begins with.
 use Rattle.std.specs.Prelude.{ℕ, ◌+◌, ◌-◌, Bool, true, false, ◌&&◌, ◌||◌, not, ◌==◌, List, [], ◌∷◌}
 use Rattle.std.specs.Prelude.{◌++◌, codes, if◌then◌else◌}
+use Rattle.std.specs.List.{list_any}
+use Rattle.std.specs.Str.{bytes_eq}
 use Rattle.rctl_grammar.specs.declared.token.Kind.{Kind}
 use Rattle.rctl_grammar.specs.declared.token.Kind.TheVariants as kind
 use Rattle.rctl_grammar.specs.declared.token.Word.{Word}
@@ -44,10 +46,9 @@ phrase claim.Globally = codes "in some order the operand of EG holds at each cut
 phrase claim.Next = codes "the operand of EX holds right behind the next event of its process"
 phrase claim.Plain = codes "what stands under no operator holds where nothing has happened yet"
 
--- what joins a member with those before it
+-- what joins a member with those before it in its disjunct
 abbrev pub joint : Stand → List ℕ
 joint stand.First = []
-joint stand.Alternative = codes "; or "
 joint stand.Further = codes ", and "
 joint stand.Within = []
 
@@ -86,11 +87,15 @@ is_amp k = false
 abbrev pub stand_behind : ℕ → Kind → Stand
 stand_behind depth k =
     if not (depth == 0) then stand.Within
-    else if is_bar k then stand.Alternative else if is_amp k then stand.Further else stand.Within
+    else if is_bar k then stand.First else if is_amp k then stand.Further else stand.Within
+
+-- whether the token is a bar that is in no brackets: a disjunct ends before it
+abbrev pub is_outer_bar : ℕ → Kind → Bool
+is_outer_bar depth k = depth == 0 && is_bar k
 
 abbrev pub plain_behind : Walk → Kind → Claim → Bool
 plain_behind w k c =
-    not (w.depth == 0 && is_bar k) && (w.plain || (not (is_within w.stand) && is_plain c))
+    not (is_outer_bar w.depth k) && (w.plain || (not (is_within w.stand) && is_plain c))
 
 abbrev pub walked : Walk → Kind → List Token → Walk
 walked w k rest = record {
@@ -102,10 +107,31 @@ walked w k rest = record {
 abbrev pub start : Walk
 start = record { depth = 0; stand = stand.First; plain = false }
 
--- the claims of a formula, by its tokens
-unfoldable pub claims_from : Walk → List Token → List ℕ
-claims_from w [] = []
-claims_from w (t ∷ ts) = said w (claim_of t.kind ts) ++ claims_from (walked w t.kind ts) ts
+-- the claims of each disjunct, by the tokens; those of the first one begin with this text
+unfoldable pub disjunct_claims : Walk → List ℕ → List Token → List (List ℕ)
+disjunct_claims w text [] = text ∷ []
+disjunct_claims w text (t ∷ ts) =
+    if is_outer_bar w.depth t.kind then text ∷ disjunct_claims (walked w t.kind ts) [] ts
+    else disjunct_claims (walked w t.kind ts) (text ++ said w (claim_of t.kind ts)) ts
 
+-- ---- what several disjuncts say is said once
+
+abbrev pub is_among : List ℕ → List (List ℕ) → Bool
+is_among text texts = list_any (λ (other : List ℕ). bytes_eq other text) texts
+
+abbrev pub or_word : List (List ℕ) → List ℕ
+or_word [] = []
+or_word (text ∷ texts) = codes "; or "
+
+-- nothing is told of a text that is one of the earlier ones
+abbrev pub told_new : List (List ℕ) → List ℕ → List ℕ
+told_new earlier text = if is_among text earlier then [] else or_word earlier ++ text
+
+-- the texts behind these earlier ones, each once
+unfoldable pub told_once : List (List ℕ) → List (List ℕ) → List ℕ
+told_once earlier [] = []
+told_once earlier (text ∷ texts) = told_new earlier text ++ told_once (earlier ++ text ∷ []) texts
+
+-- the claims of a formula, by its tokens
 abbrev pub claims : List Token → List ℕ
-claims tokens = claims_from start tokens
+claims tokens = told_once [] (disjunct_claims start [] tokens)

@@ -1,5 +1,9 @@
 pub mod Folding
 pub mod Claims
+pub mod Alternatives
 pub mod Latest
 pub mod Shown
+pub mod Ties
+pub mod Transit
 pub mod Text
+pub mod Laws

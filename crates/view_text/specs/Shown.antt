@@ -9,10 +9,10 @@ use Rattle.rctl_grammar.specs.declared.token.Token.{Token}
 use Rattle.witness_kinds.specs.declared.Path.{Path}
 use Rattle.view_parts.specs.Each.{each_below}
 use Rattle.view_parts.specs.Parts.{place}
-use Rattle.named_events.specs.Naming.{begin_with_next, names}
-use Rattle.named_events.specs.About.{is_about}
-use Rattle.view_text.specs.declared.extent.Extent.{Extent}
-use Rattle.view_text.specs.declared.extent.Extent.TheVariants as extent
+use Rattle.view_parts.specs.Naming.{begin_with_next, names}
+use Rattle.view_parts.specs.About.{is_about}
+use Rattle.view_parts.specs.declared.extent.Extent.{Extent}
+use Rattle.view_parts.specs.declared.extent.Extent.TheVariants as extent
 
 -- the formula is about the event; with `EX` it is about each
 abbrev pub keeps : StatesView → List Token → EventId → Bool

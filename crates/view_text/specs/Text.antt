@@ -24,11 +24,14 @@ use Rattle.view_parts.specs.Each.{each_below}
 use Rattle.view_parts.specs.Parts.{place, variable_name, place_text, line_text, kind_text}
 use Rattle.view_parts.specs.Parts.{assigns_text}
 use Rattle.view_text.specs.Folding.{folded}
-use Rattle.named_events.specs.Naming.{begin_with_variable, names}
-use Rattle.view_text.specs.declared.extent.Extent.{Extent}
+use Rattle.view_parts.specs.Naming.{begin_with_variable, begin_with_channel, names}
+use Rattle.view_parts.specs.declared.extent.Extent.{Extent}
 use Rattle.view_text.specs.Shown.{bounds_of, is_whole, is_shown}
 use Rattle.view_text.specs.Latest.{last_setting, next_setting}
+use Rattle.view_text.specs.Ties.{untied}
+use Rattle.view_text.specs.Transit.{in_transit}
 use Rattle.view_text.specs.Claims.{claims}
+use Rattle.view_text.specs.Alternatives.{told_alternatives}
 
 -- ---- columns
 
@@ -102,35 +105,78 @@ abbrev pub value_text : StatesView → ℕ → ℕ → ℕ → List ℕ
 value_text s process variable events =
     signed_decimal (value_of (process_at (trace_of s) process) events variable)
 
--- that value, the event that last set it, and the one that sets it next
-abbrev pub value_row : StatesView → ℕ → ℕ → ℕ → List ℕ
-value_row s process variable events =
-    codes "       there  " ++ owned s process variable ++ value_text s process variable events
-    ++ codes ", since "
+-- an event that doesn't count the one that ends a value, where there is one
+abbrev pub untied_text : StatesView → Option EventId → List ℕ
+untied_text s None = []
+untied_text s (Some e) = codes ", which " ++ place_text s.header.procs e ++ codes " doesn't count"
+
+-- the same of the event at this position of a process, where there is one
+abbrev pub tie_text : StatesView → List Token → Cut → ℕ → Option ℕ → List ℕ
+tie_text s tokens cut process None = []
+tie_text s tokens cut process (Some position) =
+    untied_text s (untied s tokens cut (place process position))
+
+-- the value of a variable at the cut, and the event that last set it
+abbrev pub value_since : StatesView → Cut → ℕ → ℕ → List ℕ
+value_since s cut process variable =
+    codes "       there  " ++ owned s process variable
+    ++ value_text s process variable (count cut process) ++ codes ", since "
     ++ set_by s process (codes "the start")
-    (last_setting (get_or s.events process []) variable events)
-    ++ codes ", until "
-    ++ set_by s process (codes "the end")
-    (next_setting (get_or s.events process []) variable events) ++ 10 ∷ []
+    (last_setting (get_or s.events process []) variable (count cut process))
+
+-- the event at this position that ends a value, where there is one, and an event at the cut that
+-- doesn't wait for it
+abbrev pub ending : StatesView → List Token → Cut → ℕ → Option ℕ → List ℕ
+ending s tokens cut process setting =
+    codes ", until " ++ set_by s process (codes "the end") setting
+    ++ tie_text s tokens cut process setting ++ 10 ∷ []
+
+-- the value, the event that last set it, and the first one behind the cut that sets it
+abbrev pub value_row : StatesView → List Token → Cut → ℕ → ℕ → List ℕ
+value_row s tokens cut process variable =
+    value_since s cut process variable
+    ++ ending s tokens cut process
+    (next_setting (get_or s.events process []) variable (count cut process))
 
 -- nothing is told of a variable that the formula doesn't name
-abbrev pub named_row : StatesView → List Token → ℕ → ℕ → ℕ → List ℕ
-named_row s tokens process variable events =
+abbrev pub named_row : StatesView → List Token → Cut → ℕ → ℕ → List ℕ
+named_row s tokens cut process variable =
     if names (begin_with_variable (name_at s.header.procs process)
     (variable_name s process variable)) tokens
-    then value_row s process variable events else []
+    then value_row s tokens cut process variable else []
 
 -- a process has at most 16 variables
-abbrev pub process_rows : StatesView → List Token → ℕ → ℕ → List ℕ
-process_rows s tokens process events =
+abbrev pub process_rows : StatesView → List Token → Cut → ℕ → List ℕ
+process_rows s tokens cut process =
     each_below (min (length (get_or s.header.vars process [])) 16)
-    (λ variable. named_row s tokens process variable events)
+    (named_row s tokens cut process)
 
--- the values of all variables that the formula names after the events of a cut
+-- the messages in transit at the cut
+abbrev pub channel_row : StatesView → Cut → ℕ → ℕ → List ℕ
+channel_row s cut sender receiver =
+    codes "       there  intransit(" ++ name_at s.header.procs sender ++ codes ","
+    ++ name_at s.header.procs receiver ++ codes ") = "
+    ++ decimal (in_transit s cut sender receiver) ++ 10 ∷ []
+
+-- nothing is told of a channel that the formula doesn't name
+abbrev pub named_channel : StatesView → List Token → Cut → ℕ → ℕ → List ℕ
+named_channel s tokens cut sender receiver =
+    if names (begin_with_channel (name_at s.header.procs sender)
+    (name_at s.header.procs receiver)) tokens
+    then channel_row s cut sender receiver else []
+
+abbrev pub channels_from : StatesView → List Token → Cut → ℕ → List ℕ
+channels_from s tokens cut sender =
+    each_below (length s.header.procs) (named_channel s tokens cut sender)
+
+-- the messages in transit at a cut on all channels that the formula names
+abbrev pub channel_rows : StatesView → List Token → Cut → List ℕ
+channel_rows s tokens cut = each_below (length s.header.procs) (channels_from s tokens cut)
+
+-- the values of all variables that the formula names after the events of a cut, and its channels
 abbrev pub value_rows : StatesView → List Token → Cut → List ℕ
 value_rows s tokens cut =
-    each_below (length s.header.procs)
-    (λ process. process_rows s tokens process (count cut process))
+    each_below (length s.header.procs) (process_rows s tokens cut) ++ channel_rows s tokens cut
 
 -- ---- witnesses
 
@@ -163,13 +209,20 @@ witness_told s tokens e witness.StuckFinish =
     codes "the operand does not hold at the end" ++ 10 ∷ []
 witness_told s tokens e (witness.StuckPair first other) = pair_rows s first other
 
--- an empty line, and the numbers of a witness
-abbrev pub witness_head : WitnessText → List ℕ
-witness_head w =
-    10 ∷ codes "witness " ++ decimal w.disjunct ++ codes "." ++ decimal w.part ++ codes ": "
+-- the text of an alternative behind ` of `, and nothing where none is told of
+abbrev pub of_alternative : List ℕ → List ℕ
+of_alternative [] = []
+of_alternative (b ∷ text) = codes " of " ++ b ∷ text
 
-abbrev pub witness_rows : StatesView → List Token → Extent → WitnessText → List ℕ
-witness_rows s tokens e w = witness_head w ++ witness_told s tokens e w.witness
+-- an empty line, the numbers of a witness, and its alternative, where the formula has several
+abbrev pub witness_head : List (List ℕ) → WitnessText → List ℕ
+witness_head alternatives w =
+    10 ∷ codes "witness " ++ decimal w.disjunct ++ codes "." ++ decimal w.part
+    ++ of_alternative (get_or alternatives (w.disjunct - 1) []) ++ codes ": "
+
+abbrev pub witness_rows : StatesView → List Token → Extent → List (List ℕ) → WitnessText → List ℕ
+witness_rows s tokens e alternatives w =
+    witness_head alternatives w ++ witness_told s tokens e w.witness
 
 -- ---- the slice
 
@@ -234,7 +287,9 @@ formula_tokens r = (lex r.formula).tokens
 -- before long lines are broken
 abbrev pub plain_text : StatesView → Extent → Report → List ℕ
 plain_text s e r =
-    head_rows r (formula_tokens r) ++ flat_map (witness_rows s (formula_tokens r) e) r.witnesses
+    head_rows r (formula_tokens r)
+    ++ flat_map (witness_rows s (formula_tokens r) e
+    (told_alternatives r.formula (formula_tokens r))) r.witnesses
     ++ slice_rows s r.slice
 
 -- the view of a run by a report of it

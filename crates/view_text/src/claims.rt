@@ -1,12 +1,14 @@
 //! What a formula says of the initial cut, in words.
-ghost use Rattle.std.specs.Prelude.{◌≡◌, ◌+◌, ◌<◌, ◌^◌, ◌++◌, OnOk};
+ghost use Rattle.std.specs.Prelude.{◌≡◌, ◌+◌, ◌<◌, ◌^◌, ◌++◌, [], IfOk, OnOk};
 ghost use Rattle.view_text.specs.Claims.{is_name_sign, follow_a_name, claim_of_word, claim_of};
 ghost use Rattle.view_text.specs.Claims.{phrase, joint, is_within, is_plain, said, depth_behind};
-ghost use Rattle.view_text.specs.Claims.{is_bar, is_amp, stand_behind, plain_behind, walked};
-ghost use Rattle.view_text.specs.Claims.{claims};
+ghost use Rattle.view_text.specs.Claims.{is_bar, is_amp, stand_behind, is_outer_bar, plain_behind};
+ghost use Rattle.view_text.specs.Claims.{walked, start, disjunct_claims, is_among, told_new};
+ghost use Rattle.view_text.specs.Claims.{told_once, claims};
 
-use pota_base::{Bytes, NoMemory};
+use pota_base::{Bytes, List, NoMemory};
 use rctl_grammar::{Kind, Token, Word};
+use std::alloc::Global;
 
 /// What a member of a disjunct says, by the operator that it begins with.
 #[derive(Clone, Copy, Debug, PartialEq, Eq)]
@@ -26,10 +28,8 @@ pub enum Claim {
 /// Where a token stands among the members of the formula.
 #[derive(Clone, Copy, Debug, PartialEq, Eq)]
 pub enum Stand {
-    /// It begins the first member.
+    /// It begins the first member of a disjunct.
     First,
-    /// It begins the first member of a later disjunct.
-    Alternative,
     /// It begins a later member of a disjunct.
     Further,
     /// It begins none.
@@ -77,8 +77,8 @@ fn claim_of_word(word: Word) -> Claim
     }
 }
 
-// What a member says that begins with this token.
-fn claim_of(kind: &Kind, rest: &[Token]) -> Claim
+/// What a member says that begins with this token.
+pub fn claim_of(kind: &Kind, rest: &[Token]) -> Claim
     ensures { result ≡ claim_of kind.now rest.now }
 {
     match kind {
@@ -99,13 +99,12 @@ fn phrase(claim: Claim) -> &'static [u8]
     }
 }
 
-// What joins a member with those before it.
+// What joins a member with those before it in its disjunct.
 fn joint(stand: Stand) -> &'static [u8]
     ensures { result.now ≡ joint stand }
 {
     match stand {
         Stand::First | Stand::Within => b"",
-        Stand::Alternative => b"; or ",
         Stand::Further => b", and ",
     }
 }
@@ -116,7 +115,8 @@ fn is_within(stand: Stand) -> bool
     matches!(stand, Stand::Within)
 }
 
-fn is_plain(claim: Claim) -> bool
+/// Whether it is what a member says without an operator.
+pub fn is_plain(claim: Claim) -> bool
     ensures { result ≡ is_plain claim }
 {
     matches!(claim, Claim::Plain)
@@ -133,7 +133,8 @@ fn put_said(out: &mut Bytes, walk: Walk, claim: Claim) -> Result<(), NoMemory>
     out.extend_from_slice(phrase(claim))
 }
 
-fn depth_behind(depth: usize, kind: &Kind) -> usize
+/// How many brackets are open behind a token.
+pub fn depth_behind(depth: usize, kind: &Kind) -> usize
     requires { depth < 2 ^ 63 }
     ensures { result ≡ depth_behind depth kind.now }
 {
@@ -162,7 +163,7 @@ fn stand_behind(depth: usize, kind: &Kind) -> Stand
     if depth != 0 {
         Stand::Within
     } else if is_bar(kind) {
-        Stand::Alternative
+        Stand::First
     } else if is_amp(kind) {
         Stand::Further
     } else {
@@ -170,17 +171,35 @@ fn stand_behind(depth: usize, kind: &Kind) -> Stand
     }
 }
 
+/// Whether the token is a bar behind so many open brackets that is in none.
+pub fn is_outer_bar(depth: usize, kind: &Kind) -> bool
+    ensures { result ≡ is_outer_bar depth kind.now }
+{
+    depth == 0 && is_bar(kind)
+}
+
 fn plain_behind(walk: Walk, kind: &Kind, claim: Claim) -> bool
     ensures { result ≡ plain_behind walk kind.now claim }
 {
-    if walk.depth == 0 && is_bar(kind) {
+    if is_outer_bar(walk.depth, kind) {
         return false;
     }
     walk.plain || (!is_within(walk.stand) && is_plain(claim))
 }
 
-// What is known behind a token.
-fn walked(walk: Walk, kind: &Kind, rest: &[Token]) -> Walk
+/// What is known before the first token.
+pub fn start() -> Walk
+    ensures { result ≡ start }
+{
+    Walk {
+        depth: 0,
+        stand: Stand::First,
+        plain: false,
+    }
+}
+
+/// What is known behind a token.
+pub fn walked(walk: Walk, kind: &Kind, rest: &[Token]) -> Walk
     requires { walk.depth < 2 ^ 63 }
     ensures { result ≡ walked walk kind.now rest.now }
 {
@@ -191,20 +210,62 @@ fn walked(walk: Walk, kind: &Kind, rest: &[Token]) -> Walk
     }
 }
 
-/// Appends the claims of the formula of these tokens.
-pub fn put_claims(out: &mut Bytes, tokens: &[Token]) -> Result<(), NoMemory>
-    ensures { OnOk result (out.new ≡ out.old ++ claims tokens.now) }
+// The claims of each disjunct of the formula of these tokens.
+fn disjunct_claims(alloc: Global, tokens: &[Token]) -> Result<List<Bytes>, NoMemory>
+    ensures { IfOk result (λ texts. texts ≡ disjunct_claims start [] tokens.now) }
 {
-    let mut walk = Walk {
-        depth: 0,
-        stand: Stand::First,
-        plain: false,
-    };
+    let mut texts = List::new(alloc);
+    let mut text = Bytes::new(alloc);
+    let mut walk = start();
     for i in 0..tokens.len() {
         let kind = &tokens[i].kind;
         let rest = &tokens[i + 1..];
-        put_said(out, walk, claim_of(kind, rest))?;
+        if is_outer_bar(walk.depth, kind) {
+            texts.push(text)?;
+            text = Bytes::new(alloc);
+        } else {
+            put_said(&mut text, walk, claim_of(kind, rest))?;
+        }
         walk = walked(walk, kind, rest);
     }
+    texts.push(text)?;
+    Ok(texts)
+}
+
+fn is_among(text: &[u8], texts: &[Bytes]) -> bool
+    ensures { result ≡ is_among text.now texts.now }
+{
+    texts.iter().any(|other| other.as_slice() == text)
+}
+
+// Appends the text unless it is one of the earlier ones.
+fn put_new(out: &mut Bytes, earlier: &[Bytes], text: &[u8]) -> Result<(), NoMemory>
+    ensures { OnOk result (out.new ≡ out.old ++ told_new earlier.now text.now) }
+{
+    if is_among(text, earlier) {
+        return Ok(());
+    }
+    match earlier {
+        [] => {}
+        [_, ..] => out.extend_from_slice(b"; or ")?,
+    }
+    out.extend_from_slice(text)
+}
+
+// Appends the texts, each once.
+fn put_once(out: &mut Bytes, texts: &[Bytes]) -> Result<(), NoMemory>
+    ensures { OnOk result (out.new ≡ out.old ++ told_once [] texts.now) }
+{
+    for i in 0..texts.len() {
+        put_new(out, &texts[..i], texts[i].as_slice())?;
+    }
     Ok(())
+}
+
+/// Appends the claims of the formula of these tokens.
+pub fn put_claims(out: &mut Bytes, alloc: Global, tokens: &[Token]) -> Result<(), NoMemory>
+    ensures { OnOk result (out.new ≡ out.old ++ claims tokens.now) }
+{
+    let texts = disjunct_claims(alloc, tokens)?;
+    put_once(out, texts.as_slice())
 }

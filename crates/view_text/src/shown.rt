@@ -6,10 +6,9 @@ ghost use Rattle.report_lines.specs.Spelling.{PathFits};
 ghost use Rattle.view_text.specs.Shown.{keeps, kept_at, kept_among, shown_above, limit_of, bounds_of};
 ghost use Rattle.view_text.specs.Shown.{is_whole, is_shown};
 
-use crate::extent::Extent;
 use crate::witnesses::Told;
-use named_events::{Sought, is_about, names};
 use pota_base::{EventId, List, NoMemory};
+use view_parts::{Extent, Sought, is_about, names};
 use witness_kinds::Path;
 
 /// A path of at most so many steps is short enough to be shown whole.

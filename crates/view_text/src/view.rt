@@ -6,8 +6,8 @@ ghost use Rattle.view_text.specs.Folding.{AreShort};
 ghost use Rattle.view_text.specs.Text.{verdict_word, head_rows, plain_text, view_text};
 ghost use Rattle.view_text.specs.Text.{formula_tokens};
 
+use crate::alternatives::told_alternatives;
 use crate::claims::put_claims;
-use crate::extent::Extent;
 use crate::folding::folded;
 use crate::slices::put_slice_rows;
 use crate::witnesses::{Told, put_witnesses};
@@ -17,6 +17,7 @@ use rctl_grammar::Token;
 use rctl_lexer::lex;
 use report::Report;
 use std::alloc::Global;
+use view_parts::Extent;
 
 fn verdict_word(verdict: bool) -> &'static [u8]
     ensures { result.now ≡ verdict_word verdict }
@@ -28,13 +29,18 @@ fn verdict_word(verdict: bool) -> &'static [u8]
 }
 
 // Appends the formula, and what the verdict says of it.
-fn put_head_rows(out: &mut Bytes, report: &Report, tokens: &[Token]) -> Result<(), NoMemory>
+fn put_head_rows(
+    out: &mut Bytes,
+    alloc: Global,
+    report: &Report,
+    tokens: &[Token],
+) -> Result<(), NoMemory>
     ensures { OnOk result (out.new ≡ out.old ++ head_rows report.now tokens.now) }
 {
     out.extend_from_slice(report.formula.as_slice())?;
     out.push(b'\n')?;
     out.extend_from_slice(verdict_word(report.verdict))?;
-    put_claims(out, tokens)?;
+    put_claims(out, alloc, tokens)?;
     out.extend_from_slice(b".\n")
 }
 
@@ -58,8 +64,14 @@ fn plain_text(
         extent,
     };
     let mut out = Bytes::new(alloc);
-    put_head_rows(&mut out, report, tokens)?;
-    put_witnesses(&mut out, &told, report.witnesses.as_slice())?;
+    put_head_rows(&mut out, alloc, report, tokens)?;
+    let alternatives = told_alternatives(alloc, report.formula.as_slice(), tokens)?;
+    put_witnesses(
+        &mut out,
+        &told,
+        alternatives.as_slice(),
+        report.witnesses.as_slice(),
+    )?;
     put_slice_rows(&mut out, states, &report.slice)?;
     Ok(out)
 }

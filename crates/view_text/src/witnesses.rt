@@ -1,14 +1,13 @@
 //! The rows of witnesses.
-ghost use Rattle.std.specs.Prelude.{◌≡◌, ◌++◌, ◌∷◌, [], length, map, codes, OnOk};
+ghost use Rattle.std.specs.Prelude.{◌≡◌, ◌-◌, ◌++◌, ◌∷◌, [], length, map, get_or, codes, OnOk};
 ghost use Rattle.std.specs.List.{AllByRecursion, flat_map};
 ghost use Rattle.pota_base.specs.Shape.{HasEvent};
 ghost use Rattle.report_lines.specs.Spelling.{PathFits, WitnessFits, WitnessTextFits};
 ghost use Rattle.view_text.specs.Text.{goal_row, step_rows, path_rows, pair_rows, witness_told, witness_rows};
-ghost use Rattle.view_text.specs.Text.{witness_head};
+ghost use Rattle.view_text.specs.Text.{of_alternative, witness_head};
 
 use crate::columns::put_spaces;
 use crate::events::{put_event_row, put_left_out, put_step_row};
-use crate::extent::Extent;
 use crate::shown::{bounds_of, is_shown, is_whole};
 use crate::values::put_value_rows;
 use event_log::{States, put_clock};
@@ -16,14 +15,15 @@ use pota_base::{Bytes, EventId, NoMemory, put_u64};
 use rctl_grammar::Token;
 use report::WitnessText;
 use std::alloc::Global;
+use view_parts::Extent;
 use witness_kinds::{Path, Witness};
 
-// What the rows of a view are told from.
+/// What the rows of a view are told from.
 #[derive(Clone, Copy)]
 pub struct Told<'a> {
     pub alloc: Global,
     pub states: &'a States,
-    /// The tokens of the report's formula.
+    /// The tokens of the formula.
     pub tokens: &'a [Token],
     pub extent: Extent,
 }
@@ -39,8 +39,8 @@ fn put_goal_row(out: &mut Bytes, shown: &[u8], path: &Path) -> Result<(), NoMemo
     out.push(b'\n')
 }
 
-// Appends the rows of the steps of a path that are shown, and how many are not.
-fn put_step_rows(out: &mut Bytes, told: &Told<'_>, path: &Path) -> Result<(), NoMemory>
+/// Appends the rows of the steps of a path that are shown, and how many are not.
+pub fn put_step_rows(out: &mut Bytes, told: &Told<'_>, path: &Path) -> Result<(), NoMemory>
     requires { PathFits (map length told.now.states.now.events) path.now }
     ensures { OnOk result (out.new ≡ out.old
         ++ step_rows told.now.states.now told.now.tokens.now told.now.extent path.now) }
@@ -120,41 +120,71 @@ fn put_witness(out: &mut Bytes, told: &Told<'_>, witness: &Witness) -> Result<()
     }
 }
 
-// Appends an empty line, and the numbers of a witness.
-fn put_head(out: &mut Bytes, witness: &WitnessText) -> Result<(), NoMemory>
-    ensures { OnOk result (out.new ≡ out.old ++ witness_head witness.now) }
+// The alternative of this number, from 1, and nothing where none is told of.
+fn alternative(alternatives: &[Bytes], number: u32) -> &[u8]
+    ensures { result.now ≡ get_or alternatives.now (number - 1) [] }
+{
+    match alternatives.get((number as usize).saturating_sub(1)) {
+        Some(text) => text.as_slice(),
+        None => &[],
+    }
+}
+
+// Appends the text of an alternative behind ` of `, and nothing where none is told of.
+fn put_of_alternative(out: &mut Bytes, text: &[u8]) -> Result<(), NoMemory>
+    ensures { OnOk result (out.new ≡ out.old ++ of_alternative text.now) }
+{
+    match text {
+        [] => Ok(()),
+        [_, ..] => {
+            out.extend_from_slice(b" of ")?;
+            out.extend_from_slice(text)
+        }
+    }
+}
+
+// Appends an empty line, the numbers of a witness, and its alternative.
+fn put_head(out: &mut Bytes, alternatives: &[Bytes], witness: &WitnessText) -> Result<(), NoMemory>
+    ensures { OnOk result (out.new ≡ out.old ++ witness_head alternatives.now witness.now) }
 {
     out.extend_from_slice(b"\nwitness ")?;
     put_u64(out, u64::from(witness.disjunct))?;
     out.push(b'.')?;
     put_u64(out, u64::from(witness.part))?;
+    put_of_alternative(out, alternative(alternatives, witness.disjunct))?;
     out.extend_from_slice(b": ")
 }
 
-fn put_witness_rows(out: &mut Bytes, told: &Told<'_>, witness: &WitnessText) -> Result<(), NoMemory>
+fn put_witness_rows(
+    out: &mut Bytes,
+    told: &Told<'_>,
+    alternatives: &[Bytes],
+    witness: &WitnessText,
+) -> Result<(), NoMemory>
     requires { WitnessTextFits (map length told.now.states.now.events) witness.now }
     ensures { OnOk result (out.new
         ≡ out.old ++ witness_rows told.now.states.now told.now.tokens.now told.now.extent
-        witness.now) }
+        alternatives.now witness.now) }
 {
-    put_head(out, witness)?;
+    put_head(out, alternatives, witness)?;
     put_witness(out, told, &witness.witness)
 }
 
-/// Appends what each of the witnesses shows.
+/// Appends what each of the witnesses shows, with its alternative of these.
 pub fn put_witnesses(
     out: &mut Bytes,
     told: &Told<'_>,
+    alternatives: &[Bytes],
     witnesses: &[WitnessText],
 ) -> Result<(), NoMemory>
     requires { AllByRecursion (WitnessTextFits (map length told.now.states.now.events))
         witnesses.now }
     ensures { OnOk result (out.new ≡ out.old
-        ++ flat_map (witness_rows told.now.states.now told.now.tokens.now told.now.extent)
-        witnesses.now) }
+        ++ flat_map (witness_rows told.now.states.now told.now.tokens.now told.now.extent
+        alternatives.now) witnesses.now) }
 {
     for witness in witnesses {
-        put_witness_rows(out, told, witness)?;
+        put_witness_rows(out, told, alternatives, witness)?;
     }
     Ok(())
 }

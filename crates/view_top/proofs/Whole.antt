@@ -27,7 +27,7 @@ use Rattle.view_top.specs.declared.fault.Fault.{Fault}
 use Rattle.view_top.specs.declared.fault.Fault.TheVariants as fault
 use Rattle.input_reading.specs.declared.reading.End.{End}
 use Rattle.input_reading.specs.declared.reading.End.TheVariants as end
-use Rattle.last_report.specs.Series.{IsLastOf, IsFaultInAll}
+use Rattle.view_parts.specs.Series.{IsLastOf, IsFaultInAll}
 use Rattle.trace_growth.specs.Growing.{TraceView}
 
 -- ---- the bytes of the log

@@ -24,7 +24,7 @@ exit_status (Some f) = status_of f
 
 -- what is wrong; what may be wrong with `pota` too is said as there
 abbrev pub cause_of : Fault → List ℕ
-cause_of fault.Usage = codes "usage: pota_view text, with --all or --last N, or pota_view svg"
+cause_of fault.Usage = codes "usage: pota_view text or pota_view svg, with --all or --last N"
 cause_of (fault.Log f) = pota.cause_of (shared.Log f)
 cause_of fault.Read = pota.cause_of shared.Read
 cause_of fault.Write = pota.cause_of shared.Write

@@ -11,7 +11,7 @@ use Rattle.log_rules.specs.Judgement.{Prefix, states_of}
 use Rattle.log_rules.specs.Readings.{log_reading}
 use Rattle.log_rules.specs.Due.{Due, due}
 use Rattle.report.specs.declared.report.Report.{Report}
-use Rattle.last_report.specs.Series.{IsLastOf, IsFaultInAll}
+use Rattle.view_parts.specs.Series.{IsLastOf, IsFaultInAll}
 use Rattle.view_parts.specs.Parts.{IsReportOf}
 use Rattle.view_text.specs.Text.{view_text}
 use Rattle.view_picture.specs.Picture.{IsPictureOf}
@@ -46,7 +46,7 @@ pub record HasLog (input : List ℕ) (s : StatesView) : Type 0 where
 -- the view of a run by a report of it
 abbrev pub IsViewOf : View → StatesView → Report → List ℕ → Type 0
 IsViewOf (view.Text e) s r shown = shown ≡ view_text s e r
-IsViewOf view.Svg s r shown = IsPictureOf s r shown
+IsViewOf (view.Svg e) s r shown = IsPictureOf s e r shown
 
 -- the input is a log without a fault and the text of reports, of which the last is one of the log,
 -- and this is the view of log and report

@@ -56,7 +56,7 @@ pub fn tell<D: Sink>(diag: &mut D, fault: &Fault)
     match fault {
         Fault::Usage => put(
             diag,
-            b"pota_view: usage: pota_view text, with --all or --last N, or pota_view svg\n",
+            b"pota_view: usage: pota_view text or pota_view svg, with --all or --last N\n",
         ),
         Fault::Log(fault) => put_shared(diag, Shared::Log(*fault)),
         Fault::NoReport => put(diag, b"pota_view: no report behind the log\n"),

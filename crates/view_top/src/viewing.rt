@@ -11,12 +11,11 @@ use crate::asking::View;
 use crate::fault::Fault;
 use crate::input::Input;
 use input_reading::End;
-use last_report::read_last_report;
 use pota_base::{Bytes, NoMemory, Refused};
 use report::Report;
 use std::alloc::Global;
 use trace_growth::Trace;
-use view_parts::is_report_of;
+use view_parts::{is_report_of, read_last_report};
 use view_picture::view_picture;
 use view_text::view_text;
 
@@ -29,7 +28,7 @@ fn view_of(alloc: Global, asked: View, trace: &Trace, report: &Report) -> Result
 {
     match asked {
         View::Text(extent) => view_text(alloc, trace.states(), extent, report),
-        View::Svg => view_picture(alloc, trace, report),
+        View::Svg(extent) => view_picture(alloc, trace, extent, report),
     }
 }
 

@@ -1,11 +1,11 @@
 //! The witness of each temporal operator.
 
-ghost use Rattle.std.specs.Prelude.{◌≡◌, ◌<◌, ◌↔◌, length, IfOk, IsTrue};
+ghost use Rattle.std.specs.Prelude.{◌≡◌, ◌<◌, ◌↔◌, length, IfOk, IfSome, IsTrue};
 ghost use Rattle.run_model.specs.Cut.{count, initial, lengths};
 ghost use Rattle.run_model.specs.Run.{Run};
 ghost use Rattle.run_model.specs.Consistent.{IsConsistent};
 ghost use Rattle.run_model.specs.Sublattice.{IsSublattice};
-ghost use Rattle.run_model.specs.Slice.{Cuts, StandsFor};
+ghost use Rattle.run_model.specs.Slice.{Cuts, Slice as SliceOf, StandsFor};
 ghost use Rattle.run_model.specs.Formula.{Formula};
 ghost use Rattle.run_model.specs.Meaning.{Family};
 ghost use Rattle.run_model.specs.Witness.{FirstStepsTo, IsFirst, IsPlace, Place, Shares};
@@ -193,6 +193,24 @@ fn next(
     let mut steps = List::new(alloc);
     steps.push(event)?;
     Ok(Witness::Reach(Path { goal, steps }))
+}
+
+/// Why EF of an operand is true or false at the initial cut, by the least cut of the operand, which is
+/// `None` where there is no such cut.
+pub fn reach_to(alloc: Global, order: &Order, least: &Option<Cut>) -> Result<Witness, NoMemory>
+    requires { IfSome least.now (IsConsistent order.now) }
+    // The witness is the one that is given by each slice of which it is the bottom.
+    ensures { (s : SliceOf) → s.bottom ≡ least.now
+        → IfOk result (λ w. IsCanonical order.now s Finally (witness_of w)) }
+{
+    match least {
+        None => Ok(Witness::Nothing),
+        Some(goal) => {
+            let start = Cut::new(alloc, order.shape().procs())?;
+            let path = path_to(alloc, order, start, goal.as_slice())?;
+            Ok(Witness::Reach(path))
+        }
+    }
 }
 
 /// Why the part that the operator makes of an operand is true or false at the initial cut, by the

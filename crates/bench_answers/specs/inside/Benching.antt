@@ -3,7 +3,7 @@ use Rattle.std.specs.Prelude.{◌≡◌, ℕ, ◌≤◌, ◌↔◌, true, List, 
 use Rattle.std.specs.Io.KnownBytes.{Appends}
 use Rattle.pota_base.specs.Outside.{Rose, IsPrefix}
 use Rattle.rctl_grammar.specs.declared.fault.FormulaFault.{FormulaFault}
-use Rattle.command_words.specs.declared.request.Sizes.{Sizes}
+use Rattle.run_options.specs.declared.sizes.Sizes.{Sizes}
 use Rattle.run_report.specs.Benches.{IsSummaryOf}
 use Rattle.fault_kinds.specs.declared.refusal.Refusal.TheVariants as refusal
 use Rattle.log_rules.specs.WholeLogs.{all_of}
@@ -12,12 +12,12 @@ use Rattle.log_answers.specs.declared.stop.StopCause.{StopCause}
 use Rattle.log_answers.specs.declared.stop.StopCause.TheVariants as causes
 use Rattle.log_answers.specs.declared.stop.Stop.{Stop}
 use Rattle.log_answers.specs.declared.stop.Verdict.{Verdict}
-use Rattle.run_promise.specs.Run.{sizes_of, made_by}
+use Rattle.run_promise.specs.Run.{made_by}
 
 -- the summary of a bench of the log that is made
 abbrev pub IsSummary : Aim → Sizes → List ℕ → Type 0
 IsSummary aim sizes text =
-    IsSummaryOf (sizes_of sizes) (asked_of aim) (made_by sizes).header (made_by sizes).batches
+    IsSummaryOf sizes (asked_of aim) (made_by sizes).header (made_by sizes).batches
     aim.watches text
 
 -- the first name that the log lacks, if it lacks one

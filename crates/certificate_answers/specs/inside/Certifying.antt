@@ -33,7 +33,7 @@ use Rattle.run_promise.specs.Certificates.{IsCertificateText, IsCertificateFront
 
 -- what is asked of a log for the certificate of a formula
 abbrev pub aim_for : Stated → Aim
-aim_for s = aim_of s false false [] no_watches
+aim_for s = aim_of s (record { slice = false; witness = false }) [] no_watches
 
 -- ---- behind the whole log
 

@@ -14,6 +14,7 @@ use Rattle.bound_table.specs.Firm.{AreOwnRows, FirmView}
 use Rattle.bound_table.specs.Views.{TableView, SeatView}
 use Rattle.slice_workers.specs.Calls.{TakesBehind}
 use Rattle.conjunctions.specs.Counting.{steps_for}
+use Rattle.conjunctions.specs.Settling.{MayBeFirm}
 
 -- what the parts so far ask of cuts, behind the order's pulls where these come first, the clocks of
 -- that order, where there are some, rows to begin from, and whether one operator's slice alone asks
@@ -102,16 +103,19 @@ pub record FindsBottom (system : SystemView) (keeps : Bool) (before : Option Row
   pub looks : bottom ≡ true → steps_now
       ≤ steps + length system.pulls * (1 + sum (row_at system.lens words 0))
 
--- Which rows may be firm where a conjunction begins: rows that are the system's own, or of its rows
--- of before those that have a cut. Where there are neither no row is, but for the bottom's.
-pub data AreFirmBy (system : SystemView) (keeps : Bool) (before : Option RowsView) (firm : FirmView)
-    (words : List ℕ) : Type 0 where
-  rows_of_slice : AreOwnRows system words → AreFirmBy system keeps before firm words
-  rows_of_before : (rows : RowsView) (finals : List ℕ) → keeps ≡ true → before ≡ Some rows
-      → words ≡ grown_words system.lens rows → HaveCuts rows finals
-      → firm.firsts ≡ take (length system.lens) finals → AreFirmBy system keeps before firm words
+-- which rows may be firm where a conjunction begins that is not one of atoms: those of a slice that
+-- asks alone, which are the system's own, or none
+pub data AreFirmOfSlice (system : SystemView) (firm : FirmView) (words : List ℕ) : Type 0 where
+  own_rows : AreOwnRows system words → AreFirmOfSlice system firm words
   no_rows : ((process : ℕ) → slice_index firm.firsts process ≡ 0)
-      → AreFirmBy system keeps before firm words
+      → AreFirmOfSlice system firm words
+
+-- Which rows may be firm where a conjunction begins: of one of atoms its rows of before that have a
+-- cut, and else those of a slice. Where there are neither no row is, but for the bottom's.
+pub record AreFirmBy (system : SystemView) (keeps : Bool) (before : Option RowsView)
+    (firm : FirmView) (words : List ℕ) : Type 0 where
+  pub atoms : keeps ≡ true → MayBeFirm before firm
+  pub others : keeps ≡ false → AreFirmOfSlice system firm words
 
 -- A table of the system and its first seat, from which a conjunction begins. What settling takes
 -- behind its firm rows, with what finding these took, is within what the conjunction may take.

@@ -20,7 +20,8 @@ use Rattle.conjunctions.specs.Numbering.{within}
 use Rattle.conjunctions.specs.Rounds.{RoundView, HasOrderSystem}
 use Rattle.conjunctions.specs.Counting.{first_of, steps_for}
 use Rattle.conjunctions.specs.inside.Beginning.{BeginsWithOrder, GatheredView, MayBeginFrom}
-use Rattle.conjunctions.specs.Settling.{CanSettle, CutsStay}
+use Rattle.slice_workers.specs.Views.{SettledView}
+use Rattle.conjunctions.specs.Settling.{CanSettle, CutsStay, MayBeFirm}
 
 -- a part can be settled: it is made for what was observed and has few parts, none of its counters
 -- falls, and the conjunctions within it may be settled in the round
@@ -42,18 +43,20 @@ pub record KeepsRows (old new : RoundView) : Type 0 where
   pub settled_is : new.settled ≡ old.settled
 
 -- one conjunction with these pulls was settled: its rows are the least ones of the system, they
--- stand behind the others, the slice has the consistent cuts that are closed under the pulls, and
--- the system that the round has is that of the order, or of an earlier one
+-- stand behind the others, those of atoms were settled by steps, the slice has the consistent cuts
+-- that are closed under the pulls, and the system that the round has is that of the order, or of an
+-- earlier one
 pub record SettlesOne (o : Clocks) (pulls : List Pull) (keeps : Bool) (workers : ℕ)
     (old new : RoundView) (steps_before steps_after : ℕ) (slice : SliceView) : Type 0 where
   pub before : new.before ≡ drop 1 old.before
-  pub rows : RowsView
-  pub settled : new.settled ≡ old.settled ++ rows ∷ []
-  pub lens : rows.lens ≡ lengths o
+  pub one : SettledView
+  pub settled : new.settled ≡ old.settled ++ one ∷ []
+  pub lens : one.rows.lens ≡ lengths o
   pub system : IsSystem (record { lens = lengths o; pulls = pulls })
-  pub least : AreLeastRows (record { lens = lengths o; pulls = pulls }) rows.words
+  pub least : AreLeastRows (record { lens = lengths o; pulls = pulls }) one.rows.words
+  pub by_steps : keeps ≡ true → MayBeFirm (first_of old.before) one.firm
   pub looks : workers ≡ 1 → steps_after
-      ≤ steps_before + steps_for (length pulls) keeps (lengths o) (first_of old.before) rows
+      ≤ steps_before + steps_for (length pulls) keeps (lengths o) (first_of old.before) one.rows
   pub order : HasOrderSystem o new
   pub fits : FitsOrder o slice
   pub cuts : (c : Cut) → IsConsistent o c → Cuts o (slice_of slice) c

@@ -23,14 +23,14 @@ use Rattle.kept_log.specs.Keeping.{CanBeKept}
 use Rattle.torn_log.specs.Items.{events_in, items_upto, left_out}
 use Rattle.torn_log.specs.Torn.{IsKept}
 use Rattle.torn_text.specs.Mending.{mended}
-use Rattle.one_log.specs.declared.asking.Form.{Form}
-use Rattle.one_log.specs.declared.places.Places.{Places}
-use Rattle.one_log.specs.declared.places.Places.TheVariants.{Origins}
+use Rattle.log_input.specs.declared.form.Form.{Form}
+use Rattle.log_input.specs.declared.places.Places.{Places}
+use Rattle.log_input.specs.declared.places.Places.TheVariants.{Origins}
 use Rattle.one_log.specs.declared.torn.Beginning.{Beginning}
 use Rattle.one_log.specs.declared.torn.TornInput.{TornInput}
 use Rattle.one_log.specs.declared.torn.TornInput.TheVariants.{Whole, Faulty, Failed, TooLong}
 use Rattle.one_log.specs.Logging.{HasTornLog, HasTornFault, events_of}
-use Rattle.one_log.specs.inside.Inputs.{place_by}
+use Rattle.log_input.specs.Places.{place_by}
 
 abbrev pub text_refusal : Option LogFault → Option Refusal
 text_refusal fault = option_map (λ f. refusal.Log f) fault

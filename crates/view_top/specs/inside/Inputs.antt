@@ -14,7 +14,7 @@ use Rattle.input_reading.specs.declared.reading.End.TheVariants as end
 use Rattle.fault_kinds.specs.declared.refusal.Refusal.TheVariants as refusal
 use Rattle.log_rules.specs.Judgement.{Judgement, judged, waiting}
 use Rattle.report.specs.declared.report.Report.{Report}
-use Rattle.last_report.specs.Series.{IsLastOf, IsFaultInAll}
+use Rattle.view_parts.specs.Series.{IsLastOf, IsFaultInAll}
 use Rattle.view_parts.specs.Parts.{IsReportOf}
 use Rattle.view_top.specs.declared.asking.View.{View}
 use Rattle.view_top.specs.declared.fault.Fault.{Fault}

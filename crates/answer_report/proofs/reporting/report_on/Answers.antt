@@ -29,12 +29,12 @@ returns-clause-says c =
     let order = c.order-order.ensures.order ∙ sym c.order-order.ensures.trace.clocks in
     let names = c.in_ok-copy_names.ensures.copies ∙ c.as_slice.ensures ∙ ap (λ (h : Header). h.procs) c.header.ensures in
     let spelled = subst (AllByRecursion (λ (n : List ℕ). is_name n ≡ true)) names c.in_ok-copy_names.ensures.names in
-    says seen c.order-order.ensures.trace spelled answer c.args.wanted c.args.text.now _ (record {
+    says seen c.order-order.ensures.trace spelled answer c.args.shown c.args.text.now _ (record {
       number = c.batches.ensures;
       lengths_are = c.in_ok-cut_of.ensures ∙ c.lens.ensures.lens ∙ c.shape.ensures.lens ∙ ap lengths order;
       formula = c.in_ok-copy_text.ensures;
       verdict = refl;
-      slice = subst (λ (o : Clocks). IsSliceTold c.args.wanted.slice o answer.slice c.in_ok-slice.slice) order c.in_ok-slice.ensures.told;
+      slice = subst (λ (o : Clocks). IsSliceTold c.args.shown.slice o answer.slice c.in_ok-slice.slice) order c.in_ok-slice.ensures.told;
       witnesses = λ on. subst (λ (o : Clocks). TellAll o (chosen answer.truth answer.parts) c.in_ok-witnesses.witnesses) order
           (subst (λ (parts : List PartAnswer). TellAll c.order-order.result.now (chosen answer.truth parts) c.in_ok-witnesses.witnesses) c.as_slice-parts.ensures (c.in_ok-witnesses.ensures.wanted on));
       unwanted = c.in_ok-witnesses.ensures.unwanted;
@@ -48,12 +48,12 @@ returns-clause-formed c = λ canonical some.
     let order = c.order-order.ensures.order ∙ sym trace.clocks in
     let small : seen.trace.batches < 2 ^ 32 = omega (arith, c.batches.ensures) in
     let names = c.as_slice.ensures ∙ ap (λ (h : Header). h.procs) c.header.ensures in
-    formed seen trace (subst (λ (o : Clocks). IsShape (lengths o)) order c.shape.ensures.shape) c.requires.answer.0 answer c.requires.answer.1 small some c.args.wanted c.args.text.now _ (record {
+    formed seen trace (subst (λ (o : Clocks). IsShape (lengths o)) order c.shape.ensures.shape) c.requires.answer.0 answer c.requires.answer.1 small some c.args.shown c.args.text.now _ (record {
       number = c.batches.ensures;
       lengths_are = c.in_ok-cut_of.ensures ∙ c.lens.ensures.lens ∙ c.shape.ensures.lens ∙ ap lengths order;
       formula = c.in_ok-copy_text.ensures;
       verdict = refl;
-      slice = subst (λ (o : Clocks). IsSliceTold c.args.wanted.slice o answer.slice c.in_ok-slice.slice) order c.in_ok-slice.ensures.told;
+      slice = subst (λ (o : Clocks). IsSliceTold c.args.shown.slice o answer.slice c.in_ok-slice.slice) order c.in_ok-slice.ensures.told;
       witnesses = λ on. subst (λ (o : Clocks). TellAll o (chosen answer.truth answer.parts) c.in_ok-witnesses.witnesses) order
           (subst (λ (parts : List PartAnswer). TellAll c.order-order.result.now (chosen answer.truth parts) c.in_ok-witnesses.witnesses) c.as_slice-parts.ensures (c.in_ok-witnesses.ensures.wanted on));
       unwanted = c.in_ok-witnesses.ensures.unwanted;

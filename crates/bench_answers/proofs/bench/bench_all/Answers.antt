@@ -2,8 +2,6 @@ use Rattle.std.proofs.Common.{length, ap, subst, sym}
 use Rattle.event_log.specs.declared.log.Log.{Log}
 use Rattle.event_log.specs.FittingItems.{FitFirst}
 use Rattle.event_log.specs.LogText.{log_items}
-use Rattle.run_report.specs.Benches as bench
-use Rattle.log_answers.specs.Checking.{SumsUp}
 use Rattle.log_answers.specs.Whole.{TakingStops}
 use Rattle.log_rules.specs.WholeLogs.{all_of}
 use Rattle.run_promise.specs.Run.{made_by}
@@ -44,6 +42,5 @@ returns g c aim is benches =
     let taken = as_made (λ h. (goal.Watch-dyn g (h.watch.vtable, h.watch.value)).answers h.watch.value) aim c.args.sizes c.requires.sizes c.in-Ok.log c.in-Ok.ensures.log c.take_whole.new.self.check (c.in_default-take_whole.ensures aim is) in
     summed (λ h. (goal.Watch-dyn g (h.watch.vtable, h.watch.value)).answers h.watch.value) aim c.args.sizes c.requires.sizes (made_rises aim c.args.sizes c.requires.sizes) (g.O.Sink.held c.args.out.now) (g.O.Sink.held c.sum_up.new.out) (g.O.Sink.faults c.args.out.now) (g.O.Sink.faults c.sum_up.new.out)
     c.take_whole.new.self.check taken c.sum_up.result
-    (subst (λ (z : bench.Sizes). SumsUp (g.O.Sink.held c.args.out.now) (g.O.Sink.held c.sum_up.new.out) (g.O.Sink.faults c.args.out.now) (g.O.Sink.faults c.sum_up.new.out) aim c.take_whole.new.self.check.log.intake.batches (all_of (made_by c.args.sizes)) z c.sum_up.result) c.summary_sizes.ensures
     (c.sum_up.ensures aim _ (all_of (made_by c.args.sizes)) taken
-    (made_closed (λ h. (goal.Watch-dyn g (h.watch.vtable, h.watch.value)).answers h.watch.value) aim c.args.sizes c.requires.sizes (made_rises aim c.args.sizes c.requires.sizes) c.take_whole.new.self.check taken) benches))
+    (made_closed (λ h. (goal.Watch-dyn g (h.watch.vtable, h.watch.value)).answers h.watch.value) aim c.args.sizes c.requires.sizes (made_rises aim c.args.sizes c.requires.sizes) c.take_whole.new.self.check taken) benches)

@@ -25,9 +25,9 @@ pub disjuncts-init : goal.disjuncts-init
 disjuncts-init g c =
     let seen = c.args.seen.now in
     let shown = so_far (lens_seen seen) None in
-    let none = answered_none seen c.args.workers c.args.round.now c.args.steps.now shown refl c.requires.begins.order in
-    subst (λ (parts : List PartAnswer). Answered seen c.args.workers c.args.round.now c.begin.new.self c.args.steps.now c.args.steps.now parts false shown []) (sym c.new-parts.ensures)
-    (subst (λ (round : RoundView). Answered seen c.args.workers c.args.round.now round c.args.steps.now c.args.steps.now [] false shown []) (sym c.begin.ensures) none)
+    let none = answered_none seen c.args.means.now.workers c.args.round.now c.args.steps.now shown refl c.requires.begins.order in
+    subst (λ (parts : List PartAnswer). Answered seen c.args.means.now.workers c.args.round.now c.begin.new.self c.args.steps.now c.args.steps.now parts false shown []) (sym c.new-parts.ensures)
+    (subst (λ (round : RoundView). Answered seen c.args.means.now.workers c.args.round.now round c.args.steps.now c.args.steps.now [] false shown []) (sym c.begin.ensures) none)
 
 pub settle_conjunction-requires-clause-fits : goal.settle_conjunction-requires-clause-fits
 settle_conjunction-requires-clause-fits g c = λ κs lives.
@@ -51,7 +51,7 @@ pub settle_conjunction-requires-clause-begins : goal.settle_conjunction-requires
 settle_conjunction-requires-clause-begins g c = λ κs lives.
     let seen = c.args.seen.now in
     let splits = disjunct_at c.args.disjuncts.now c.disjuncts.index c.index-disjuncts-index.result c.disjuncts-test.true c.index-disjuncts-index.is in
-    let floors = disjunct_floors seen c.args.workers c.args.round.now c.disjuncts.round c.args.steps.now c.disjuncts.steps (disjuncts_of (take c.disjuncts.index c.args.disjuncts.now)) (pieces_of c.index-disjuncts-index.result) splits.later
+    let floors = disjunct_floors seen c.args.means.now.workers c.args.round.now c.disjuncts.round c.args.steps.now c.disjuncts.steps (disjuncts_of (take c.disjuncts.index c.args.disjuncts.now)) (pieces_of c.index-disjuncts-index.result) splits.later
     (subst (λ (ds : List (List Piece)). AreFloors seen c.args.round.now.before (all_conjunctions ds)) splits.is c.requires.begins.floors) c.disjuncts.invariant.settles in
     record { floors = subst (λ (parts : List Part). AreFloors seen c.disjuncts.round.before (conjunctions_in (pieces_of parts))) (sym c.as_slice-disjunct.ensures) floors; order = c.disjuncts.invariant.settles.order }
 
@@ -72,16 +72,16 @@ disjuncts-preserved g c =
     let there = c.disjuncts-test.true in
     let order = is_order seen c.order.ensures.trace in
     let number : c.disjuncts.index + 1 ≡ 1 + length ds = omega (arith, length-disjuncts all c.disjuncts.index (omega (arith, there))) in
-    let settles = subst (λ (parts : List Part). Settles seen c.args.workers c.disjuncts.round c.settle_conjunction.new.round c.disjuncts.steps c.settle_conjunction.new.steps (conjunctions_in (pieces_of parts)))
+    let settles = subst (λ (parts : List Part). Settles seen c.args.means.now.workers c.disjuncts.round c.settle_conjunction.new.round c.disjuncts.steps c.settle_conjunction.new.steps (conjunctions_in (pieces_of parts)))
     c.as_slice-disjunct.ensures c.in_ok-one.ensures.settles in
     let told = subst (λ (k : ℕ). AddsAnswers seen c.disjuncts.parts c.settle_conjunction.new.answers (places_from k 1 d)) number
     (subst (λ (parts : List Part). AddsAnswers seen c.disjuncts.parts c.settle_conjunction.new.answers (places_from (c.disjuncts.index + 1) 1 (pieces_of parts))) c.as_slice-disjunct.ensures c.in_ok-one.ensures.answers) in
     let is = subst (λ (parts : List Part). IsSliceOf seen c.in_ok-one.one (pieces_of parts)) c.as_slice-disjunct.ensures c.in_ok-one.ensures.slice in
     let joined = joins o order c.disjuncts.joined c.in_ok-one.one c.in_ok-more.more c.disjuncts.invariant.fits is.fits c.in_ok-more.ensures in
     let has = c.in_ok-truth.ensures o is.fits in
-    subst (Answered seen c.args.workers c.args.round.now c.settle_conjunction.new.round c.args.steps.now c.settle_conjunction.new.steps c.settle_conjunction.new.answers (c.disjuncts.truth || c.in_ok-truth.field-0) c.in_ok-more.more)
+    subst (Answered seen c.args.means.now.workers c.args.round.now c.settle_conjunction.new.round c.args.steps.now c.settle_conjunction.new.steps c.settle_conjunction.new.answers (c.disjuncts.truth || c.in_ok-truth.field-0) c.in_ok-more.more)
     (sym (disjuncts_taken all c.disjuncts.index c.index-disjuncts-index.result there c.index-disjuncts-index.is))
-    (answered_more seen order c.args.workers c.args.round.now c.disjuncts.round c.settle_conjunction.new.round c.args.steps.now c.disjuncts.steps c.settle_conjunction.new.steps c.disjuncts.parts c.settle_conjunction.new.answers
+    (answered_more seen order c.args.means.now.workers c.args.round.now c.disjuncts.round c.settle_conjunction.new.round c.args.steps.now c.disjuncts.steps c.settle_conjunction.new.steps c.disjuncts.parts c.settle_conjunction.new.answers
     c.disjuncts.truth c.in_ok-truth.field-0 (so_far (lens_seen seen) c.disjuncts.joined) c.in_ok-one.one c.in_ok-more.more ds d c.disjuncts.invariant settles told is has
     joined.fits joined.stands)
 
@@ -99,13 +99,13 @@ returns-clause-answer g c =
     let seen = c.args.seen.now in
     let lens = c.shape-shape.ensures.lens ∙ ap lengths (c.order.ensures.order ∙ sym c.order.ensures.trace.clocks) in
     let slice : c.in_ok-slice.slice ≡ so_far (lens_seen seen) c.disjuncts.joined = c.in_ok-slice.ensures ∙ ap (λ (l : List ℕ). so_far l c.disjuncts.joined) lens in
-    let all = subst (Answered seen c.args.workers c.args.round.now c.disjuncts.round c.args.steps.now c.disjuncts.steps c.disjuncts.parts c.disjuncts.truth (so_far (lens_seen seen) c.disjuncts.joined))
+    let all = subst (Answered seen c.args.means.now.workers c.args.round.now c.disjuncts.round c.args.steps.now c.disjuncts.steps c.disjuncts.parts c.disjuncts.truth (so_far (lens_seen seen) c.disjuncts.joined))
     (all_taken c.args.disjuncts.now c.disjuncts.index c.disjuncts-test.false) c.disjuncts.invariant in
-    answered_all seen c.args.workers c.args.round.now c.disjuncts.round c.args.steps.now c.disjuncts.steps (record { batch = c.batches.result; truth = c.disjuncts.truth; slice = c.in_ok-slice.slice; parts = c.disjuncts.parts })
+    answered_all seen c.args.means.now.workers c.args.round.now c.disjuncts.round c.args.steps.now c.disjuncts.steps (record { batch = c.batches.result; truth = c.disjuncts.truth; slice = c.in_ok-slice.slice; parts = c.disjuncts.parts })
     (disjuncts_of c.args.disjuncts.now) c.batches.ensures
-    (subst (λ (s : SliceView). Answered seen c.args.workers c.args.round.now c.disjuncts.round c.args.steps.now c.disjuncts.steps c.disjuncts.parts c.disjuncts.truth s (disjuncts_of c.args.disjuncts.now)) (sym slice) all)
+    (subst (λ (s : SliceView). Answered seen c.args.means.now.workers c.args.round.now c.disjuncts.round c.args.steps.now c.disjuncts.steps c.disjuncts.parts c.disjuncts.truth s (disjuncts_of c.args.disjuncts.now)) (sym slice) all)
 
 pub returns-clause-settles : goal.returns-clause-settles
 returns-clause-settles g c =
-    subst (λ (ds : List (List Piece)). Settles c.args.seen.now c.args.workers c.args.round.now c.disjuncts.round c.args.steps.now c.disjuncts.steps (all_conjunctions ds))
+    subst (λ (ds : List (List Piece)). Settles c.args.seen.now c.args.means.now.workers c.args.round.now c.disjuncts.round c.args.steps.now c.disjuncts.steps (all_conjunctions ds))
     (all_taken c.args.disjuncts.now c.disjuncts.index c.disjuncts-test.false) c.disjuncts.invariant.settles

@@ -6,6 +6,7 @@ use Rattle.pull_system.specs.Vector.{IsAtMost}
 use Rattle.pull_system.specs.System.{SystemView, IsPull, IsSystem}
 use Rattle.pull_fans.specs.Fans.{pulls_of_fans}
 use Rattle.pull_system.specs.Rows.{RowsView, AreLeastRows}
+use Rattle.slice_workers.specs.Views.{SettledView}
 use Rattle.raise_machine.specs.Bounds.{AreBounds}
 use Rattle.bound_table.specs.Views.{TableView, SeatView}
 use Rattle.slice_graph.specs.Growing.{IsEarlierSystem}
@@ -17,6 +18,7 @@ use Rattle.conjunctions.specs.inside.Gathering.{first_pulls}
 use Rattle.conjunctions.specs.inside.Settling.{CanBegin, CanBeginTable}
 use Rattle.conjunctions.specs.inside.Beginning.{GatheredView, FloorFits, BeginsTable, BeginsWithOrder}
 use Rattle.bound_table.specs.Firm.{AreOwnRows}
+use Rattle.conjunctions.specs.Settling.{MayBeFirm}
 use Rattle.conjunctions.proofs.settling.settle_gathered.Goals as goal
 
 -- one system by the same lengths and pulls
@@ -88,7 +90,8 @@ returns g c =
     let gathered : GatheredView = c.args.gathered in
     let before = first_of c.args.round.now.before in
     let system : SystemView = record { lens = lens; pulls = gathered.pulls } in
-    let rows = c.in_ok-settled.settled in
+    let one : SettledView = c.in_ok-settled.settled in
+    let rows : RowsView = one.rows in
     let made : c.in_ok-system.system ≡ system = c.in_ok-system.ensures.system ∙ system_by _ _ _ _ refl (gathered_is c.args.order.now c.args.gathered c.into_asked-asked.result.0 c.requires.shared.same c.into_asked-asked.ensures.pulls) in
     let system_is : c.in_ok-table.table.system ≡ system = c.in_ok-table.ensures.system_is ∙ made in
     let is_system : IsSystem system = subst IsSystem made c.in_ok-table.ensures.is in
@@ -96,12 +99,14 @@ returns g c =
     let next_is : c.next-before.result ≡ before = c.next-before.ensures.next ∙ ap first_of c.in_ok-system.ensures.rows.before_is in
     record {
       before = c.in_ok-keep.ensures.before ∙ c.in_ok-give_back.ensures.rows.before_is ∙ c.next-before.ensures.before ∙ ap (drop 1) c.in_ok-system.ensures.rows.before_is;
-      rows = rows;
-      settled = c.in_ok-keep.ensures.settled ∙ ap (λ (list : List RowsView). list ++ rows ∷ []) (c.in_ok-give_back.ensures.rows.settled_is ∙ c.next-before.ensures.settled ∙ c.in_ok-system.ensures.rows.settled_is);
+      one = one;
+      settled = c.in_ok-keep.ensures.settled ∙ ap (λ (list : List SettledView). list ++ one ∷ []) (c.in_ok-give_back.ensures.rows.settled_is ∙ c.next-before.ensures.settled ∙ c.in_ok-system.ensures.rows.settled_is);
       order = record { own = subst (λ (s : Option SystemView). IfSome s (IsEarlierSystem c.args.order.now)) (sym c.in_ok-keep.ensures.system) c.in_ok-give_back.ensures.order.own };
       lens = c.in_ok-settled.ensures.settled.lens ∙ ap (λ (s : SystemView). s.lens) system_is;
       system = is_system;
       least = least;
+      by_steps = λ keeps. subst (λ (b : Option RowsView). MayBeFirm b one.firm) next_is
+          (subst (MayBeFirm c.next-before.result) (sym c.in_ok-settled.ensures.firm) (c.in_ok-table.ensures.firm.atoms keeps));
       looks = λ one. took c.in_ok-system.system c.in_ok-table.table system c.args.keeps c.next-before.result before c.in_ok-table.seat c.settle_all.new.seat rows c.args.steps.now c.table_of.new.steps c.settle_all.new.steps
           made next_is c.in_ok-table.ensures c.in_ok-settled.ensures.settled.floor c.in_ok-settled.ensures.risen.rises
           (subst (λ (s : SystemView). AreBounds s c.settle_all.new.seat.floor) (ap (λ (t : TableView). t.system) (c.in_ok-settled.ensures.risen.table ∙ c.in_ok-table.ensures.seat_is)) c.bounds.ensures) (c.in_ok-settled.ensures.behind one);

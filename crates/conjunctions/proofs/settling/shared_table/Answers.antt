@@ -87,7 +87,7 @@ returns g c =
       seat_is = ap (λ (s : SeatView). s.table) c.in_ok-table.ensures.seat;
       firm = subst (λ (f : FirmView). AreFirmBy system c.args.keeps c.args.before f seat.floor) (sym (c.in_ok-table.ensures.firm ∙ firm_is))
           (subst (AreFirmBy system c.args.keeps c.args.before (record { firsts = take (length system.lens) finals; bottom = bottom })) (sym floor_is)
-          (firm_by system c.args.keeps c.args.before c.args.floor words finals bottom atoms others));
+          (firm_by system c.args.keeps c.args.before c.args.floor words finals bottom c.in_ok-begins.ensures.bottom.anew atoms others));
       looks = λ rows new last new_is rises bounds_now takes.
           let took = subst (λ (f : FirmView). TakesBehind system f seat new c.beginning_of.new.steps last) (c.in_ok-table.ensures.firm ∙ firm_is) takes in
           let risen : sum words ≤ sum rows.words = omega (arith, sum_rises seat.floor new.floor rises.each, ap sum floor_is, ap sum new_is) in

@@ -32,5 +32,5 @@ returns-in_ok-table-in-Some g c =
     let rows : RowsView = c.in-Some.rows in
     let own = are_own system c.args.floor rows c.in-Some.is (c.requires.own (cc)) in
     let bounds : AreBounds system rows.words = within_bounds system rows.words (may_begin system c.args.floor rows c.in-Some.is c.requires.begins.gathered).within in
-    own_begins system c.shape-shape.ensures.system c.args.keeps c.args.before c.in_ok-table-in-Some.table c.in_ok-table-in-Some.seat rows.words c.args.steps.now own bounds.size
+    own_begins system c.shape-shape.ensures.system c.args.keeps c.if-keeps.false c.args.before c.in_ok-table-in-Some.table c.in_ok-table-in-Some.seat rows.words c.args.steps.now own bounds.size
     c.in_ok-table-in-Some.ensures.system c.in_ok-table-in-Some.ensures.firm (ap (λ (s : SeatView). s.table) c.in_ok-table-in-Some.ensures.seat) (ap (λ (s : SeatView). s.floor) c.in_ok-table-in-Some.ensures.seat)

@@ -3,12 +3,18 @@ use Rattle.input_reading.specs.Changes.{of_source}
 use Rattle.log_rules.specs.WholeLogs.{all_of}
 use Rattle.one_log.proofs.Written.{whole, refused, failed, short, calm_so}
 use Rattle.std.proofs.Common.{[]}
+use Rattle.one_log.proofs.Kept.{kept_so}
 use Rattle.one_log.proofs.top.log_whole.Goals as goal
+
+pub put_log-requires : goal.put_log-requires
+put_log-requires g c =
+    let stood = rw c.in-Ok-Whole.field-0-is at c.in-Ok-Whole.ensures.reads in
+    kept_so c.in-Ok-Whole.log stood.to.2.log_is
 
 pub returns-in-Ok-Whole-clause-logged : goal.returns-in-Ok-Whole-clause-logged
 returns-in-Ok-Whole-clause-logged g c =
     whole (map string_bytes c.args.words.now) c.args.asked.now c.requires.asks (of_source g.S.Source c.args.input.now c.read_input.new.source) (g.O.Sink.held c.args.out.now) (g.O.Sink.faults c.args.out.now) c.requires.plain
-    c.in-Ok-Whole.log (rw c.in-Ok-Whole.field-0-is at c.in-Ok-Whole.ensures.reads) (g.O.Sink.held c.put_log.new.out) (g.O.Sink.faults c.put_log.new.out) c.put_log.result c.put_log.ensures
+    c.in-Ok-Whole.log c.in-Ok-Whole.places (rw c.in-Ok-Whole.field-0-is at c.in-Ok-Whole.ensures.reads) (g.O.Sink.held c.put_log.new.out) (g.O.Sink.faults c.put_log.new.out) c.put_log.result c.put_log.ensures
 
 pub returns-in-Ok-Whole-clause-calm : goal.returns-in-Ok-Whole-clause-calm
 returns-in-Ok-Whole-clause-calm g c =

@@ -1,6 +1,6 @@
 use Rattle.std.proofs.Common.{◌≡◌, refl, subst}
 use Rattle.event_log.specs.declared.item.LogFault.{LogFault}
-use Rattle.one_log.specs.inside.Inputs.{place_by}
+use Rattle.log_input.specs.Places.{place_by}
 use Rattle.one_log.proofs.Beginnings.{event_refused, bytes_refused, begun_so, is_beginning}
 use Rattle.one_log.proofs.torn.judge_items.Goals as goal
 

@@ -1,9 +1,9 @@
 use Rattle.std.proofs.Common.{[], sym}
 use Rattle.event_log.specs.LogText.{onto}
-use Rattle.one_log.specs.declared.asking.Form.TheVariants.{OneLog}
-use Rattle.one_log.specs.declared.places.Places.TheVariants.{Lines}
+use Rattle.log_input.specs.declared.form.Form.TheVariants.{OneLog}
+use Rattle.log_input.specs.declared.places.Places.TheVariants.{Lines}
 use Rattle.one_log.specs.inside.Torn.{IsTornJudged, IsTornAt}
-use Rattle.one_log.proofs.Texts.{items_are, items_fit_first}
+use Rattle.log_input.proofs.Texts.{items_are, items_fit_first}
 use Rattle.one_log.proofs.Beginnings.{text_ends, text_torn, torn_so}
 use Rattle.one_log.proofs.torn.judge_log.Goals as goal
 

@@ -3,7 +3,7 @@ use Rattle.event_log.specs.declared.log.Log.{Log}
 use Rattle.log_sources.specs.Sources.{no_sources, after}
 use Rattle.log_sources.specs.declared.reader.SourceReader.{SourceReader}
 use Rattle.log_sources.specs.Reading.{CanMerge, HasReadSources}
-use Rattle.one_log.specs.declared.asking.Form.TheVariants as form
+use Rattle.log_input.specs.declared.form.Form.TheVariants as form
 use Rattle.one_log.specs.inside.Torn.{IsMergedTornOf, IsTornAt}
 use Rattle.one_log.proofs.Beginnings.{merged_torn, merged_refused, torn_so}
 use Rattle.one_log.proofs.torn.judge_sources.Goals as goal

@@ -2,7 +2,7 @@ use Rattle.std.proofs.Common.{◌<◌, ◌≡◌, None, length, refl, subst, ari
 use Rattle.event_log.specs.declared.item.LogFault.{LogFault}
 use Rattle.event_log.specs.LogText.{log_items}
 use Rattle.torn_log.specs.TornLogs.{as_torn}
-use Rattle.one_log.specs.inside.Inputs.{place_by}
+use Rattle.log_input.specs.Places.{place_by}
 use Rattle.one_log.proofs.Beginnings.{are_whole, event_refused, begun_so, is_beginning}
 use Rattle.one_log.proofs.torn.judge_whole.Goals as goal
 

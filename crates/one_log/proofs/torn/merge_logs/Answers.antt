@@ -2,9 +2,9 @@ use Rattle.std.proofs.Common.{None, sym, ap, subst, length}
 use Rattle.event_log.specs.FittingItems.{FitFirst}
 use Rattle.event_log.specs.LogText.{log_items}
 use Rattle.log_merge.specs.declared.merged.Merged.{Merged}
-use Rattle.one_log.specs.declared.places.Places.TheVariants.{Origins}
+use Rattle.log_input.specs.declared.places.Places.TheVariants.{Origins}
 use Rattle.one_log.specs.inside.Torn.{IsTornJudged, IsMergedTornOf}
-use Rattle.one_log.proofs.Stands.{merge_fits}
+use Rattle.log_input.proofs.Stands.{merge_fits}
 use Rattle.one_log.proofs.Beginnings.{torn_so}
 use Rattle.one_log.proofs.torn.merge_logs.Goals as goal
 

@@ -1,7 +1,7 @@
 use Rattle.std.proofs.Common.{[], arith}
 use Rattle.input_reading.specs.Changes.{of_source}
 use Rattle.input_reading.specs.Intakes.{HasReadSome}
-use Rattle.one_log.proofs.Stands.{err_so, read_short}
+use Rattle.log_input.proofs.Stands.{err_so, read_short}
 use Rattle.one_log.proofs.Beginnings.{torn_ended, torn_done, torn_failed}
 use Rattle.one_log.proofs.torn.read_torn.Goals as goal
 

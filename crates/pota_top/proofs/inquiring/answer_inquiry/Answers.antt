@@ -9,7 +9,7 @@ use Rattle.pota_top.proofs.inquiring.answer_inquiry.Goals as goal
 pub returns-in-Reports-clause-ran : goal.returns-in-Reports-clause-ran
 returns-in-Reports-clause-ran g c words text is asks =
     c.answer_reports.ensures.ran words text is
-    (asked_so words c.args.stated.formula.tree c.args.inquiry c.args.inquiry.form (product.Reports c.in-Reports.shown) refl c.in-Reports.is asks)
+    (asked_so words c.args.stated.formula.tree c.args.inquiry c.args.inquiry.form (product.Reports c.in-Reports.reporting) refl c.in-Reports.is asks)
 
 pub returns-in-Certificate-clause-ran : goal.returns-in-Certificate-clause-ran
 returns-in-Certificate-clause-ran g c words text is asks =

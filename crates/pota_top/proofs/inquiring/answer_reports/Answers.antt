@@ -17,23 +17,23 @@ check_logs-requires-clause-check g c κs lives = (_, c.in-Ok.ensures)
 pub returns-in-Text-clause-ran : goal.returns-in-Text-clause-ran
 unfolding reading_of
 returns-in-Text-clause-ran g c words text is asks =
-    ran_checked (λ h. (goal.Watch-dyn g (h.watch.vtable, h.watch.value)).answers h.watch.value) c.args.stated form.Text c.args.shown c.args.watches.items words text is
-    (asked_so words c.args.stated.formula.tree (record { form = c.args.form; product = product.Reports c.args.shown }) form.Text (product.Reports c.args.shown) c.in-Text.is refl asks) _ _ _ _ _ _ _ _ c.check_text.result
+    ran_checked (λ h. (goal.Watch-dyn g (h.watch.vtable, h.watch.value)).answers h.watch.value) c.args.stated form.Text c.args.reporting c.args.watches.items words text is
+    (asked_so words c.args.stated.formula.tree (record { form = c.args.form; product = product.Reports c.args.reporting }) form.Text (product.Reports c.args.reporting) c.in-Text.is refl asks) _ _ _ _ _ _ _ _ c.check_text.result
     (c.check_text.ensures.checks _ c.in-Ok.ensures)
 
 pub returns-in-Clocks-clause-ran : goal.returns-in-Clocks-clause-ran
 unfolding reading_of
 returns-in-Clocks-clause-ran g c words text is asks =
-    ran_checked (λ h. (goal.Watch-dyn g (h.watch.vtable, h.watch.value)).answers h.watch.value) c.args.stated form.Clocks c.args.shown c.args.watches.items words text is
-    (asked_so words c.args.stated.formula.tree (record { form = c.args.form; product = product.Reports c.args.shown }) form.Clocks (product.Reports c.args.shown) c.in-Clocks.is refl asks) _ _ _ _ _ _ _ _ c.check_records.result
-    (c.check_records.ensures.checks _ c.in-Ok.ensures c.args.shown.each_batch)
+    ran_checked (λ h. (goal.Watch-dyn g (h.watch.vtable, h.watch.value)).answers h.watch.value) c.args.stated form.Clocks c.args.reporting c.args.watches.items words text is
+    (asked_so words c.args.stated.formula.tree (record { form = c.args.form; product = product.Reports c.args.reporting }) form.Clocks (product.Reports c.args.reporting) c.in-Clocks.is refl asks) _ _ _ _ _ _ _ _ c.check_records.result
+    (c.check_records.ensures.checks _ c.in-Ok.ensures c.args.reporting.each_batch)
 
 pub returns-in-Merged-clause-ran : goal.returns-in-Merged-clause-ran
 unfolding reading_of
 returns-in-Merged-clause-ran g c words text is asks =
-    ran_checked (λ h. (goal.Watch-dyn g (h.watch.vtable, h.watch.value)).answers h.watch.value) c.args.stated form.Merged c.args.shown c.args.watches.items words text is
-    (asked_so words c.args.stated.formula.tree (record { form = c.args.form; product = product.Reports c.args.shown }) form.Merged (product.Reports c.args.shown) c.in-Merged.is refl asks) _ _ _ _ _ _ _ _ c.check_logs.result
-    (c.check_logs.ensures.checks _ c.in-Ok.ensures c.args.shown.each_batch)
+    ran_checked (λ h. (goal.Watch-dyn g (h.watch.vtable, h.watch.value)).answers h.watch.value) c.args.stated form.Merged c.args.reporting c.args.watches.items words text is
+    (asked_so words c.args.stated.formula.tree (record { form = c.args.form; product = product.Reports c.args.reporting }) form.Merged (product.Reports c.args.reporting) c.in-Merged.is refl asks) _ _ _ _ _ _ _ _ c.check_logs.result
+    (c.check_logs.ensures.checks _ c.in-Ok.ensures c.args.reporting.each_batch)
 
 pub returns-in-Text-clause-calm : goal.returns-in-Text-clause-calm
 returns-in-Text-clause-calm g c = c.check_text.ensures.calm

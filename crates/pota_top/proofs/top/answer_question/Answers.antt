@@ -19,18 +19,6 @@ returns-in-Bench-clause-ran g c words is =
     (question_asks words c.args.question is))
     (g.S.Source.left c.args.log.now) (g.S.Source.faults c.args.log.now)
 
-pub answer_inquiry-requires-clause-some : goal.answer_inquiry-requires-clause-some
-answer_inquiry-requires-clause-some g c κs within = (question_workers c.requires.asks.0 c.args.question c.requires.asks.1).0
-
-pub answer_inquiry-requires-clause-few : goal.answer_inquiry-requires-clause-few
-answer_inquiry-requires-clause-few g c κs within = (question_workers c.requires.asks.0 c.args.question c.requires.asks.1).1
-
-pub answer_bench-requires-clause-some : goal.answer_bench-requires-clause-some
-answer_bench-requires-clause-some g c κs within = (question_workers c.requires.asks.0 c.args.question c.requires.asks.1).0
-
-pub answer_bench-requires-clause-few : goal.answer_bench-requires-clause-few
-answer_bench-requires-clause-few g c κs within = (question_workers c.requires.asks.0 c.args.question c.requires.asks.1).1
-
 pub answer_bench-requires-clause-sizes : goal.answer_bench-requires-clause-sizes
 answer_bench-requires-clause-sizes g c κs within = question_sizes c.requires.asks.0 c.args.question c.requires.asks.1 c.in-Bench.sizes c.in-Bench.is
 
@@ -39,3 +27,13 @@ returns-in-Read-clause-calm g c = c.answer_inquiry.ensures.calm
 
 pub returns-in-Bench-clause-calm : goal.returns-in-Bench-clause-calm
 returns-in-Bench-clause-calm g c = calm_so (g.S.Source.faults c.args.log.now) (g.S.Source.faults c.args.log.now) c.answer_bench.result refl
+
+pub invariant_of-means : goal.invariant_of-means
+invariant_of-means g c =
+    let within = question_workers c.requires.asks.0 c.args.question c.requires.asks.1 in
+    record { some = within.0; few = within.1 }
+
+pub invariant_of-means-in-Bench : goal.invariant_of-means-in-Bench
+invariant_of-means-in-Bench g c =
+    let within = question_workers c.requires.asks.0 c.args.question c.requires.asks.1 in
+    record { some = within.0; few = within.1 }

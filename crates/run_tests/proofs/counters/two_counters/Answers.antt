@@ -11,4 +11,4 @@ counter_at_first : (states : StatesView) (h : Header) (x : Variable) → states 
 counter_at_first states h x is = subst (λ (s : StatesView). IsCounter s x) (sym is) (opened_counter h x)
 
 pub returns-clause-rise : goal.returns-clause-rise
-returns-clause-rise c = (counter_at_first c.in_ok-states.states _ _ c.in_ok-states.ensures, counter_at_first c.in_ok-states.states _ _ c.in_ok-states.ensures)
+returns-clause-rise g c = (counter_at_first c.in_ok-states.states _ _ c.in_ok-states.ensures, counter_at_first c.in_ok-states.states _ _ c.in_ok-states.ensures)

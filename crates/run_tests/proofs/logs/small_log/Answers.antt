@@ -1,6 +1,4 @@
-use Rattle.std.proofs.Common.{◌≡◌, [], ◌∷◌, ◌≤◌, length, List, pos, refl, arith, subst, false, ◌*◌, length-append, Option, Some, inl}
-use Rattle.std.specs.Prelude.{IsTrue, MatchOption}
-use Rattle.log_lines.specs.Names.{Name, is_name}
+use Rattle.std.proofs.Common.{◌≡◌, [], ◌∷◌, ◌≤◌, length, List, pos, refl, arith, ◌*◌, length-append, inl}
 use Rattle.event_log.specs.declared.log.Binding.{Binding}
 use Rattle.event_log.specs.declared.log.Header.{Header}
 use Rattle.event_log.specs.declared.log.Kind.TheVariants as kind
@@ -64,12 +62,7 @@ five_lines = refl
 is_log : IsLog small
 is_log = record { fits = log_fits; small = omega (arith, narrow_text (lines_of small) (log_narrow small log_fits), five_lines) }
 
-name_is : (found : Option Name) (name bytes : Name) → found ≡ Some name → MatchOption found (is_name bytes ≡ false) (λ n. IsTrue (is_name bytes) × (n ≡ bytes)) → name ≡ bytes
-name_is found name bytes is says = (subst (λ (o : Option Name). MatchOption o (is_name bytes ≡ false) (λ n. IsTrue (is_name bytes) × (n ≡ bytes))) is says).1
-
 pub returns : goal.returns
-returns c =
-    let process : c.in-Some.process ≡ 80 ∷ [] = name_is _ _ _ c.in-Some.is c.in_ok-process.ensures in
-    let variable : c.in-Some-2.variable ≡ 120 ∷ [] = name_is _ _ _ c.in-Some-2.is c.in_ok-variable.ensures in
+returns g c =
     rw (c.in_ok-one-3.ensures) (rw (c.in_ok-one-5.ensures) (rw (c.in_ok-one-6.ensures) (rw (c.in_ok-one-8.ensures) (rw (c.in_ok-one-7.ensures) (rw (c.in_ok-one-4.ensures)
-    (rw (c.in_ok-one.ensures) (rw (c.in_ok-one-2.ensures) (rw process (rw variable is_log)))))))))
+    (rw (c.in_ok-one.ensures) (rw (c.in_ok-one-2.ensures) (rw (c.in_ok-process.ensures) (rw (c.in_ok-variable.ensures) is_log)))))))))

@@ -2,7 +2,8 @@ use Rattle.std.proofs.Common.{◌≡◌, ◌++◌, ◌-◌, ℕ, ap, subst, ◌�
 use Rattle.std.specs.Prelude.{OnOk, codes}
 use Rattle.view_parts.proofs.Each.{puts_last}
 use Rattle.view_picture.specs.declared.svg.Point.{Point}
-use Rattle.view_picture.specs.Picture.{row_at, sample, edge_sample_look, edges_note, most_edges}
+use Rattle.view_picture.specs.Picture.{row_at, sample, edge_sample_look, edges_note}
+use Rattle.view_picture.specs.Told.{most_edges}
 use Rattle.view_picture.proofs.legend.put_edges_told.Goals as goal
 
 pub returns : goal.returns

@@ -2,16 +2,16 @@ use Rattle.std.proofs.Common.{◌≡◌, ◌++◌, ◌∷◌, [], ℕ, length, a
 use Rattle.std.specs.Prelude.{codes}
 use Rattle.view_parts.specs.Each.{each_below}
 use Rattle.view_parts.proofs.Each.{puts_each, puts_more, puts_last}
-use Rattle.view_picture.specs.Drawing.{corners}
+use Rattle.view_picture.specs.Drawing.{shown_corners}
 use Rattle.view_picture.proofs.lines.put_cut.Goals as goal
 
 pub loop-process-preserved : goal.loop-process-preserved
-loop-process-preserved c = puts_each (corners c.args.frame.now c.args.columns.now c.args.cut.now c.args.shift) c.extend_from_slice.new.self c.loop-process.out c.put_corners.new.out c.loop-process.process c.loop-process.invariant c.in_ok-put_corners.ensures
+loop-process-preserved c = puts_each (shown_corners c.args.frame.now c.args.columns.now c.args.cut.now c.args.shift) c.extend_from_slice.new.self c.loop-process.out c.put_corners.new.out c.loop-process.process c.loop-process.invariant c.in_ok-put_corners.ensures
 
 pub returns : goal.returns
 returns c =
     let out = c.args.out.now in
-    let made = corners c.args.frame.now c.args.columns.now c.args.cut.now c.args.shift in
+    let made = shown_corners c.args.frame.now c.args.columns.now c.args.cut.now c.args.shift in
     let end : c.loop-process.process ≡ length c.args.cut.now = omega (arith, ap length c.as_slice.ensures) in
     let a0 = codes "<polyline points='" in
     let a1 = each_below (length c.args.cut.now) made in

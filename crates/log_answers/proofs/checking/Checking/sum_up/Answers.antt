@@ -1,11 +1,10 @@
 use Rattle.std.proofs.Common.{◌∙◌}
-use Rattle.bench_summary.specs.Views.{sizes_of}
 use Rattle.log_answers.proofs.Reporting.{summary_whole, summary_part}
 use Rattle.log_answers.proofs.checking.Checking.sum_up.Goals as goal
 
 pub returns-in-Err : goal.returns-in-Err
 returns-in-Err g c aim j log is closed benches =
-    summary_part aim c.args.self.now.check.log.intake.batches log (sizes_of c.args.sizes) (g.O.Sink.held c.args.out.now)
+    summary_part aim c.args.self.now.check.log.intake.batches log c.args.sizes (g.O.Sink.held c.args.out.now)
     (g.O.Sink.held c.put.new.out) (g.O.Sink.faults c.args.out.now) (g.O.Sink.faults c.put.new.out)
     c.in-Ok.report benches (c.in-Ok.ensures.says aim j log is closed) c.in-Err.stop c.as_slice.result.now
     (c.as_slice.ensures ∙ c.in-Ok-write_summary.ensures)
@@ -13,7 +12,7 @@ returns-in-Err g c aim j log is closed benches =
 
 pub returns : goal.returns
 returns g c aim j log is closed benches =
-    summary_whole aim c.args.self.now.check.log.intake.batches log (sizes_of c.args.sizes) (g.O.Sink.held c.args.out.now)
+    summary_whole aim c.args.self.now.check.log.intake.batches log c.args.sizes (g.O.Sink.held c.args.out.now)
     (g.O.Sink.held c.put.new.out) (g.O.Sink.faults c.args.out.now) (g.O.Sink.faults c.put.new.out)
     c.in-Ok.report benches (c.in-Ok.ensures.says aim j log is closed) c.in_default-put.field-0 c.verdict.result
     c.verdict.ensures c.as_slice.result.now

@@ -42,7 +42,7 @@ returns-in-Ok-report_on-clause-says g c aim j log is closed =
     let h = c.observation-observation.ensures.is (taken_for aim) j log is.log closed in
     let taken = has_taken (λ h. (goal.Watch-dyn g (h.watch.vtable, h.watch.value)).answers h.watch.value) (taken_for aim) j log c.observation-observation.result.now closed h in
     reported (λ h. (goal.Watch-dyn g (h.watch.vtable, h.watch.value)).answers h.watch.value) aim c.args.self.now.log.stated.text log c.observation-observation.result.now c.seen-seen.result.now c.in-Ok.answer c.in-Ok-report_on.report _ h
-    c.seen-seen.ensures.seen (ap (λ (a : log_aims.Aim). a.text) is.log.aim_is) is.slice is.witness
+    c.seen-seen.ensures.seen (ap (λ (a : log_aims.Aim). a.text) is.log.aim_is) is.shown
     (c.seen-seen.ensures.rise h.is.unspent) (c.seen-seen.ensures.answers taken h.is.watches.handed (log_aims.reading_of (taken_for aim)) h.is.watches.fed h.is.watches.answers)
     c.in-Ok.ensures.answer c.in-Ok-report_on.ensures.names c.in-Ok-report_on.ensures.says
 
@@ -56,7 +56,6 @@ returns-in-Ok-report_on-clause-fits g c =
 pub returns-in-Ok-report_on-clause-goes_on : goal.returns-in-Ok-report_on-clause-goes_on
 returns-in-Ok-report_on-clause-goes_on g c aim j is = record {
   log = is.log;
-  slice = is.slice;
-  witness = is.witness;
+  shown = is.shown;
   answers = may_then c.answer.new.self.kept c.args.self.now.log.intake.observation c.observation-observation.result.now c.observation-observation.ensures.kept c.in-Ok.ensures.goes_on;
 }

@@ -15,8 +15,7 @@ returns-in-Ok-clause-ok g c aim j is fit =
     record {
       is = record {
         log = on.is;
-        slice = is.slice;
-        witness = is.witness;
+        shown = is.shown;
         answers = may_still c.what_goes_on_goes_on_later.ensures c.args.self.now.answering.kept c.args.self.now.log.intake.observation c.take.new.self.intake.observation c.in-Ok.ensures.later is.answers;
       };
       closes = on.closes;

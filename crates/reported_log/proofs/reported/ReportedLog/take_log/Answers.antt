@@ -10,8 +10,7 @@ take_log-requires-clause-check g c = (taken_for c.requires.check.0, c.requires.c
 pub returns-in-Ok-clause-ok : goal.returns-in-Ok-clause-ok
 returns-in-Ok-clause-ok g c aim is = record {
   log = c.in-Ok.ensures.ok (taken_for aim) is.log;
-  slice = is.slice;
-  witness = is.witness;
+  shown = is.shown;
   answers = may_still c.what_goes_on_goes_on_later.ensures c.args.self.now.answering.kept c.args.self.now.log.intake.observation c.take_log.new.self.intake.observation c.in-Ok.ensures.later is.answers;
 }
 

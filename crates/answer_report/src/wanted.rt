@@ -1,8 +1,0 @@
-/// What a report shows beside the verdict.
-#[derive(Clone, Copy, Debug, PartialEq, Eq)]
-pub struct Wanted {
-    /// The slice of the formula.
-    pub slice: bool,
-    /// The witnesses of the verdict.
-    pub witness: bool,
-}

@@ -1,0 +1,43 @@
+//! Why there is no answer to questions.
+ghost use Rattle.ask_faults.specs.Faults.{status_of};
+ghost use Rattle.std.specs.Prelude.{◌≡◌};
+
+use ask_questions::NumberedFault;
+use asked_observation::UnknownName;
+use fault_kinds::Refusal;
+
+/// Why there is no answer.
+#[derive(Clone, Copy, Debug, PartialEq, Eq)]
+pub enum Fault {
+    /// The words are refused.
+    Usage,
+    /// A question can't be read, or there are too many to be asked together.
+    Question(NumberedFault),
+    /// A question has a name that the log does not have.
+    Unknown(UnknownName),
+    /// The log is faulty, or a counter of a question falls in it.
+    Refused(Refusal),
+    /// The input could not be read.
+    Read,
+    /// The document could not be written.
+    Write,
+    /// There was no memory.
+    Memory,
+}
+
+impl Fault {
+    /// The exit status: that of `pota` where it has the fault too.
+    pub fn status(&self) -> u8
+        ensures { result ≡ status_of self.now }
+    {
+        match self {
+            Fault::Usage => 2,
+            Fault::Question(_) => 3,
+            Fault::Unknown(_) => 3,
+            Fault::Refused(_) => 4,
+            Fault::Read => 5,
+            Fault::Write => 6,
+            Fault::Memory => 7,
+        }
+    }
+}

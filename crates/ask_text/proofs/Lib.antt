@@ -1,0 +1,5 @@
+pub mod OuterLines
+pub mod Steps
+pub mod Evidence
+pub mod DocumentLines
+mod WorkedDocuments

@@ -1,0 +1,6 @@
+mod Observing
+mod Answered
+mod Fits
+mod Told
+mod Views
+mod Passed

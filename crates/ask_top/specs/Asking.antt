@@ -1,0 +1,112 @@
+-- What a call says: which document of which log and questions was written, or why there is none.
+use Rattle.std.specs.Prelude.{◌≡◌, ◌⊎◌, ℕ, Bool, true, false, List, [], drop, Option, None, Some}
+use Rattle.std.specs.Io.KnownBytes.{Appends, Consumes, IsAtEnd}
+use Rattle.pota_base.specs.Outside.{Rose, IsPrefix}
+use Rattle.event_log.specs.declared.item.LogFault.{LogFault}
+use Rattle.event_log.specs.declared.log.Log.{Log}
+use Rattle.fault_kinds.specs.declared.refusal.Refusal.{Refusal}
+use Rattle.rctl_names.specs.Numbers.{known_in}
+use Rattle.part_pulls.specs.Observing.{Reading}
+use Rattle.log_rules.specs.Judgement.{Prefix}
+use Rattle.log_rules.specs.WholeLogs.{all_of}
+use Rattle.log_input.specs.declared.form.Form.{Form}
+use Rattle.log_input.specs.Readings.{HasLog, log_due, reading_of}
+use Rattle.asked_list.specs.declared.list.AskedList.{AskedList}
+use Rattle.asked_log.specs.Logs.{HasFall}
+use Rattle.asked_observation.specs.Observed.{IsUnknownIn}
+use Rattle.asked_observation.specs.declared.unknown.UnknownName.{UnknownName}
+use Rattle.ask_questions.specs.Listing.{AreListed, IsFirstFault}
+use Rattle.ask_words.specs.Asking.{asked_by}
+use Rattle.ask_words.specs.declared.asking.Asked.{Asked}
+use Rattle.ask_top.specs.declared.answer.Answer.{Answer}
+use Rattle.ask_top.specs.declared.answer.Answer.TheVariants as answer
+use Rattle.ask_faults.specs.declared.fault.Fault.TheVariants as fault
+use Rattle.ask_top.specs.Documents.{IsDocument, names_on}
+
+-- ---- an answer
+
+-- the words ask these questions, the input was read to its end and is a log of which no fault is
+-- due, and the text is the document of these
+pub record IsAnswer (watches : Reading) (left : Option (List ℕ)) (words : List (List ℕ))
+    (holds : Bool) (read text : List ℕ) : Type 0 where
+  pub asked : Asked
+  pub asks : asked_by words ≡ Some asked
+  pub ended : IsAtEnd left
+  pub log : Prefix
+  pub has : HasLog asked.form read log
+  pub document : IsDocument watches asked.steps (drop asked.questions_from words) log holds text
+
+-- ---- why there is none
+
+-- the words ask questions, which are in this list, and this is so
+pub record HasAsked (words : List (List ℕ)) (P : Asked → AskedList → Type 0) : Type 0 where
+  pub asked : Asked
+  pub asks : asked_by words ≡ Some asked
+  pub list : AskedList
+  pub listed : AreListed (drop asked.questions_from words) list
+  pub holds : P asked list
+
+-- this fault is due of what was read, by itself
+abbrev pub IsRefusedBy : Form → (left : Option (List ℕ)) → (read : List ℕ) → Refusal → Type 0
+IsRefusedBy form left read why =
+    (ended : Bool) × (ended ≡ true → IsAtEnd left) × ((log_due form ended read).fault ≡ Some why)
+
+-- the log of the input has the names of the questions, and this is the fault of its first event
+-- that leaves a counter of theirs lower than it was
+pub record FallsIn (watches : Reading) (form : Form) (list : AskedList) (read : List ℕ)
+    (why : Refusal) : Type 0 where
+  pub log : Log
+  pub has : HasLog form read (all_of log)
+  pub fall : LogFault
+  pub falls : HasFall watches.watch_names list log fall
+  pub placed : why ≡ (reading_of form).place true read fall
+
+-- the log of the input does not have this name, the first such of the questions
+pub record LacksName (watches : Reading) (form : Form) (list : AskedList) (read : List ℕ)
+    (unknown : UnknownName) : Type 0 where
+  pub log : Prefix
+  pub has : HasLog form read log
+  pub first : IsUnknownIn (known_in (names_on watches log)) list unknown
+
+-- ---- what is said of a call
+
+-- What an answer says of the bytes that were read and written, by what the source has left, the
+-- counts of faults before and after, and the words. Only a document is written, or where that
+-- failed its front. A read fault comes behind the faults of the bytes before it.
+abbrev pub Says : Answer → Reading → Option (List ℕ) → (lf lf' of of' : ℕ) → List (List ℕ)
+    → (read written : List ℕ) → Type 0
+Says answer.Holds watches left lf lf' of of' words read written =
+    IsAnswer watches left words true read written
+Says answer.Fails watches left lf lf' of of' words read written =
+    IsAnswer watches left words false read written
+Says (answer.Without fault.Usage) watches left lf lf' of of' words read written =
+    (written ≡ []) × (read ≡ []) × (asked_by words ≡ None)
+Says (answer.Without (fault.Question f)) watches left lf lf' of of' words read written =
+    (written ≡ []) × (read ≡ [])
+    × (asked : Asked) × (asked_by words ≡ Some asked)
+    × IsFirstFault (drop asked.questions_from words) f
+Says (answer.Without (fault.Unknown u)) watches left lf lf' of of' words read written =
+    (written ≡ []) × IsAtEnd left
+    × HasAsked words (λ asked list. LacksName watches asked.form list read u)
+Says (answer.Without (fault.Refused r)) watches left lf lf' of of' words read written =
+    (written ≡ [])
+    × HasAsked words (λ asked list. IsRefusedBy asked.form left read r
+    ⊎ (IsAtEnd left × FallsIn watches asked.form list read r))
+Says (answer.Without fault.Read) watches left lf lf' of of' words read written =
+    (written ≡ []) × Rose lf lf'
+    × HasAsked words (λ asked list. (log_due asked.form false read).fault ≡ None)
+Says (answer.Without fault.Write) watches left lf lf' of of' words read written =
+    (holds : Bool) × (text : List ℕ) × IsAnswer watches left words holds read text
+    × IsPrefix written text × Rose of of'
+Says (answer.Without fault.Memory) watches left lf lf' of of' words read written = written ≡ []
+
+-- By the watches that were handed in, the words, what the source has left, what the sink holds and
+-- their counts of faults, before and after: these bytes were read and written, and the answer says
+-- this of them.
+pub record HasAnswered (watches : Reading) (left left' held held' : Option (List ℕ))
+    (lf lf' of of' : ℕ) (words : List (List ℕ)) (a : Answer) : Type 0 where
+  pub read : List ℕ
+  pub written : List ℕ
+  pub consumed : Consumes left left' read
+  pub wrote : Appends held held' written
+  pub says : Says a watches left' lf lf' of of' words read written

@@ -1,0 +1,5 @@
+pub mod Answers
+pub mod Asking
+pub mod Calm
+pub mod Documents
+pub mod inside

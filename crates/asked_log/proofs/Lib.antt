@@ -1,0 +1,3 @@
+pub mod Observed
+pub mod Headers
+pub mod Logged

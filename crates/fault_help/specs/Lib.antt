@@ -1,0 +1,2 @@
+pub mod LogHelp
+pub mod QuestionHelp

@@ -1,3 +1,0 @@
-pub mod Running
-pub mod Faults
-pub mod Steps

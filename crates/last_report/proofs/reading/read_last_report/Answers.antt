@@ -1,5 +1,0 @@
-use Rattle.last_report.proofs.Steps.{only_last}
-use Rattle.last_report.proofs.reading.read_last_report.Goals as goal
-
-pub returns-clause-only : goal.returns-clause-only
-returns-clause-only c = only_last c.args.text.now c.read_lines.result c.read_lines.ensures

@@ -1,2 +1,0 @@
-pub mod Series
-pub mod inside

@@ -1,0 +1,18 @@
+use Rattle.std.proofs.Common.{[], arith}
+use Rattle.input_reading.specs.Changes.{of_source}
+use Rattle.input_reading.specs.Intakes.{HasReadSome}
+use Rattle.log_input.proofs.Stands.{err_so, read_short, log_stood}
+use Rattle.log_input.proofs.reading.read_log.Goals as goal
+
+pub read_all-requires : goal.read_all-requires
+read_all-requires g c = ([], (c.new-kept.ensures, omega arith))
+
+pub returns-clause-reads : goal.returns-clause-reads
+returns-clause-reads g c =
+    log_stood (of_source g.S.Source c.args.source.now c.read_all.new.source) c.read_all.new.intake c.in_ok-end.end (c.in_ok-end.ensures.reads [] (c.new-kept.ensures, omega arith))
+    (λ other. c.in_ok-end.ensures.calm (λ e. other cc)) c.as_slice.result.now c.as_slice.ensures c.judge.result c.judge.ensures
+
+pub returns-clause-short : goal.returns-clause-short
+returns-clause-short g c =
+    err_so c.judge.result (HasReadSome (of_source g.S.Source c.args.source.now c.read_all.new.source))
+    (read_short (of_source g.S.Source c.args.source.now c.read_all.new.source) c.read_all.new.intake c.in_ok-end.end (c.in_ok-end.ensures.reads [] (c.new-kept.ensures, omega arith)))

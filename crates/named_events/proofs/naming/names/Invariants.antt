@@ -1,6 +1,0 @@
-use Rattle.std.proofs.Common.{◌≡◌, drop}
-use Rattle.named_events.specs.Naming.{beginning, names}
-use Rattle.named_events.proofs.naming.names.Given as goal
-
-abbrev pub invariant-loop-i : goal.invariant-loop-i
-invariant-loop-i l = names (beginning l.sought) l.tokens ≡ names (beginning l.sought) (drop l.i l.tokens)

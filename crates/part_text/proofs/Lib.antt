@@ -1,0 +1,2 @@
+pub mod Shapes
+mod WorkedTexts

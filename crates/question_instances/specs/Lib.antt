@@ -1,0 +1,3 @@
+pub mod Over
+pub mod Instances
+pub mod Worked

@@ -1,0 +1,4 @@
+mod Runs
+mod FormulaLines
+mod HeadLines
+pub mod QuestionLines

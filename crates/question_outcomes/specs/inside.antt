@@ -1,0 +1,3 @@
+-- What only the calls inside say to each other.
+pub mod Telling
+pub mod Nowhere

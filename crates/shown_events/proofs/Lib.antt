@@ -1,0 +1,11 @@
+pub mod Patterns
+pub mod Passing
+pub mod Variables
+pub mod Channels
+pub mod Watches
+pub mod Named
+pub mod Tests
+pub mod Kept
+pub mod Next
+pub mod Counts
+pub mod Logs

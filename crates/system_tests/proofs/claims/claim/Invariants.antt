@@ -1,0 +1,5 @@
+use Rattle.std.proofs.Common.{◌≡◌}
+use Rattle.system_tests.proofs.claims.claim.Given as goal
+
+abbrev pub invariant-claims : goal.invariant-claims
+invariant-claims g l = l.claimer.table ≡ l.claims

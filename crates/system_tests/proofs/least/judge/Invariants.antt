@@ -1,4 +1,0 @@
-use Rattle.system_tests.proofs.least.judge.Given as goal
-
-abbrev pub ghosts-least_from : goal.ghosts-least_from
-ghosts-least_from g a = record { name = a.blank.name; parts = a.blank.parts }
