@@ -3,8 +3,8 @@
 //! section, and `Kind` says what its rows are. The crate `row_cases` says what the lines of a case
 //! mean.
 //!
-//! The last lines tell of a log of as many bytes as a log may have, of a large log that the program
-//! makes, and of whether reports are written between reads.
+//! The last lines tell of a log of as many bytes as a log may have, and of a large log that the
+//! program makes.
 #![tactic(auto)]
 
 mod asking;
@@ -20,7 +20,6 @@ mod verdict;
 use generated::large_log;
 use kind::Kind;
 use reading::{judge_large, judge_longest};
-use row_cases::comes_in_turn;
 use std::alloc::Global;
 use std::io;
 use std::thread::Threads;
@@ -49,11 +48,5 @@ fn main(rt: HostRuntime) -> io::Result<()> {
     let log = large_log(alloc)?;
     let said = judge_large(alloc, log.as_slice())?;
     println!(rt; "a large log: {}", said.as_str())?;
-    let said = if comes_in_turn(&rt, alloc)? {
-        "ok"
-    } else {
-        "not in turn"
-    };
-    println!(rt; "reports and reads: {said}")?;
     Ok(())
 }

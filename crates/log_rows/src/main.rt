@@ -7,9 +7,9 @@
 //! hexadecimal digits stand for one byte. Each row is run over pieces of 1, 7 and 65,536 bytes, and
 //! what was written is read and written once more, which must give the same bytes. A row with a line
 //! `cut A B` is run on each beginning of its input that has A bytes or more and less than B, with
-//! the lines `rest TEXT` behind it. A row with a line `program pota_ask` is one of that program, whose
-//! document is not read again. With a line `fails read` the first read fails, and with `fails write` the first
-//! write.
+//! the lines `rest TEXT` behind it. A row with a line `program pota_ask` is one of that program,
+//! whose document is not read again. With a line `fails read` the first read fails, and with
+//! `fails write` the first write. Rows that are wrong on purpose show that a difference is told.
 #![tactic(auto)]
 
 mod row;

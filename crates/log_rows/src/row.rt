@@ -1,6 +1,6 @@
 //! A row: an input, and what must come out of it.
 
-use row_text::put_piece;
+use row_text::{put_piece, word_of};
 use std::alloc::{AllocError, Global};
 
 /// A row as far as its lines came.
@@ -69,7 +69,10 @@ impl Row {
             "row" => self.name = String::from_str(alloc, text)?,
             "program" => self.asked = text == "pota_ask",
             "fails" => self.fails = (text == "read", text == "write"),
-            "word" => self.words.push(String::from_str(alloc, text)?)?,
+            "word" => match word_of(alloc, text)? {
+                Some(word) => self.words.push(word)?,
+                None => self.unread = Some(String::from_str(alloc, line)?),
+            },
             "in" => put_line(&mut self.input, text)?,
             "cut" => self.cut = two_numbers(text),
             "rest" => put_line(&mut self.rest, text)?,

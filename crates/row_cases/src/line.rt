@@ -2,20 +2,13 @@
 
 use crate::Case;
 use crate::generated::{put_alone, put_events, put_letters, put_names};
-use row_text::put_piece;
+use row_text::{put_piece, word_of};
 use std::alloc::{AllocError, Global};
 
 fn put_line(to: &mut Vec<u8>, text: &str) -> Result<(), AllocError> {
     put_piece(to, text)?;
     to.push(b'\n')?;
     Ok(())
-}
-
-// The word that the piece stands for, if it is text.
-fn word_of(alloc: Global, piece: &str) -> Result<Option<String>, AllocError> {
-    let mut bytes = Vec::new(alloc);
-    put_piece(&mut bytes, piece)?;
-    Ok(String::from_utf8(bytes).ok())
 }
 
 // Adds a word, if the piece stands for one.

@@ -2,7 +2,7 @@
 
 ghost use Rattle.std.specs.Prelude.{◌<◌, length, IfSome};
 
-use std::alloc::AllocError;
+use std::alloc::{AllocError, Global};
 
 // The value of a hexadecimal digit, 0 of another byte.
 fn hexadecimal(digit: u8) -> u8
@@ -40,6 +40,17 @@ pub fn put_piece(to: &mut Vec<u8>, piece: &str) -> Result<(), AllocError> {
         rest = behind;
     }
     Ok(())
+}
+
+/// The word that the piece stands for, if it is text.
+///
+/// # Errors
+///
+/// Where there is no memory.
+pub fn word_of(alloc: Global, piece: &str) -> Result<Option<String>, AllocError> {
+    let mut bytes = Vec::new(alloc);
+    put_piece(&mut bytes, piece)?;
+    Ok(String::from_utf8(bytes).ok())
 }
 
 /// Appends them as many times as `count` says, and gives false where that is no number.
