@@ -27,6 +27,7 @@ named_nowhere begin ts i h = ap (names begin) (drop_all i ts (omega arith))
 -- nothing is named where there is no token
 pub begins_nothing : (s : Sought) → beginning s [] ≡ false
 begins_nothing (sought.Variable process variable) = refl
+begins_nothing (sought.Owner process) = refl
 begins_nothing (sought.Channel sender receiver) = refl
 begins_nothing (sought.Watch process) = refl
 begins_nothing sought.Next = refl

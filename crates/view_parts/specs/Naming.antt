@@ -52,6 +52,12 @@ begin_with_variable process variable (t ∷ u ∷ []) = false
 begin_with_variable process variable (t ∷ u ∷ v ∷ ts) =
     is_dot u.kind && (is_word process t.kind && is_word variable v.kind)
 
+-- whether they begin with `PROCESS.`
+abbrev pub begin_with_owner : Name → List Token → Bool
+begin_with_owner process [] = false
+begin_with_owner process (t ∷ []) = false
+begin_with_owner process (t ∷ u ∷ ts) = is_dot u.kind && is_word process t.kind
+
 -- whether they begin with `intransit(SENDER,RECEIVER` or `empty(SENDER,RECEIVER`
 abbrev pub begin_with_channel : Name → Name → List Token → Bool
 begin_with_channel sender receiver [] = false
@@ -79,6 +85,7 @@ begin_with_next (t ∷ u ∷ ts) = is_next t.kind && is_some_word u.kind
 -- what the tokens begin with
 abbrev pub beginning : Sought → List Token → Bool
 beginning (sought.Variable process variable) ts = begin_with_variable process.now variable.now ts
+beginning (sought.Owner process) ts = begin_with_owner process.now ts
 beginning (sought.Channel sender receiver) ts = begin_with_channel sender.now receiver.now ts
 beginning (sought.Watch process) ts = begin_with_watch process.now ts
 beginning sought.Next ts = begin_with_next ts

@@ -1,7 +1,7 @@
 //! What the tokens of a formula name.
 ghost use Rattle.std.specs.Prelude.{◌≡◌};
 ghost use Rattle.view_parts.specs.Naming.{is_word, is_transit, is_opening, is_comma};
-ghost use Rattle.view_parts.specs.Naming.{begin_with_variable, begin_with_channel};
+ghost use Rattle.view_parts.specs.Naming.{begin_with_variable, begin_with_owner, begin_with_channel};
 ghost use Rattle.view_parts.specs.Naming.{begin_with_watch, begin_with_next, beginning, names};
 
 use rctl_grammar::{Kind, Token, Word};
@@ -11,6 +11,8 @@ use rctl_grammar::{Kind, Token, Word};
 pub enum Sought<'a> {
     /// A variable, by the names of its process and its own.
     Variable(&'a [u8], &'a [u8]),
+    /// Some variable of the process of this name.
+    Owner(&'a [u8]),
     /// A channel, by the names of its sender and its receiver.
     Channel(&'a [u8], &'a [u8]),
     /// A watch of the process of this name.
@@ -57,6 +59,19 @@ fn begin_with_variable(process: &[u8], variable: &[u8], tokens: &[Token]) -> boo
     match tokens {
         [first, dot, last, ..] => match &dot.kind {
             Kind::Dot => is_word(process, &first.kind) && is_word(variable, &last.kind),
+            _ => false,
+        },
+        _ => false,
+    }
+}
+
+// Whether the tokens begin with `PROCESS.`.
+fn begin_with_owner(process: &[u8], tokens: &[Token]) -> bool
+    ensures { result ≡ begin_with_owner process.now tokens.now }
+{
+    match tokens {
+        [first, dot, ..] => match &dot.kind {
+            Kind::Dot => is_word(process, &first.kind),
             _ => false,
         },
         _ => false,
@@ -111,6 +126,7 @@ fn begin_with(sought: Sought<'_>, tokens: &[Token]) -> bool
 {
     match sought {
         Sought::Variable(process, variable) => begin_with_variable(process, variable, tokens),
+        Sought::Owner(process) => begin_with_owner(process, tokens),
         Sought::Channel(sender, receiver) => begin_with_channel(sender, receiver, tokens),
         Sought::Watch(process) => begin_with_watch(process, tokens),
         Sought::Next => begin_with_next(tokens),

@@ -1,7 +1,7 @@
 -- What is said of a goal, by the run.
 use Rattle.std.proofs.Common.{◌≡◌, ℕ, zero, suc, ◌+◌, ◌-◌, ◌<◌, ◌≤◌, Bool, true, false, List, [], ◌∷◌, length, map, take, get_or, refl, sym, ap, subst, ◌⊎◌, inl, inr, ◌∙◌, arith, true≢false}
-use Rattle.std.specs.Prelude.{Some, None, Option, ◌||◌, ◌==◌, nat_le, count_by, if◌then◌else◌}
-use Rattle.std.specs.List.{sum_by}
+use Rattle.std.specs.Prelude.{Some, None, Option, ◌&&◌, ◌||◌, ◌==◌, nat_le, count_by, if◌then◌else◌}
+use Rattle.std.specs.List.{list_any, sum_by}
 use Rattle.std.proofs.lemmas.Bool.{cases_Bool, eq-eqb, ne_eqb}
 use Rattle.std.proofs.lemmas.Option.{none-some, same_Some}
 use Rattle.std.proofs.lemmas.List.{length-map, take-map}
@@ -12,12 +12,16 @@ use Rattle.run_model.specs.Run.{Trace, Watches, process_at, clocks_of, run_of, i
 use Rattle.run_model.specs.Consistent.{clock, IsEvent}
 use Rattle.run_model.specs.Meaning as meaning
 use Rattle.pota_base.specs.declared.shape.EventId.{EventId}
+use Rattle.log_lines.specs.Names.{Name}
+use Rattle.event_log.specs.LogText.{name_at}
+use Rattle.event_log.specs.declared.log.Assign.{Assign}
 use Rattle.event_log.specs.declared.log.Binding.{Binding}
 use Rattle.event_log.specs.declared.log.Event.{Event}
 use Rattle.event_log.specs.States.{StatesView, AreWhole, trace_of, processes_of, event_of, kind_of}
 use Rattle.rctl_grammar.specs.declared.token.Token.{Token}
-use Rattle.view_parts.specs.Parts.{event_at, place, no_event}
-use Rattle.view_parts.specs.About.{sets_some}
+use Rattle.view_parts.specs.Parts.{event_at, place, no_event, variable_name}
+use Rattle.view_parts.specs.About.{sets_named, sets_some}
+use Rattle.view_parts.specs.Naming.{begin_with_owner, begin_with_variable, is_dot, is_word, names}
 use Rattle.view_text.specs.Ties.{last_named, counts, unless_tied, untied_in, or_else, first_below}
 use Rattle.view_text.specs.Transit.{sends, receipts}
 use Rattle.view_text.specs.Laws.{DoesNotWait, UntiedAreTold, TransitIsOfTheRun}
@@ -148,6 +152,63 @@ named_within s tokens p (suc n) position h = elim (cases_Bool (sets_some s token
       (w.0, omega (arith, w.1))
 ]
 
+-- ---- a variable that is named has a process that is
+
+owner_here : (p v : Name) (ts : List Token) → begin_with_variable p v ts ≡ true → begin_with_owner p ts ≡ true
+owner_here p v [] h = h
+owner_here p v (t ∷ []) h = h
+owner_here p v (t ∷ u ∷ []) h = absurd (true≢false (sym h))
+owner_here p v (t ∷ u ∷ w ∷ ts) h = first_two (is_dot u.kind) (is_word p t.kind) (is_word v w.kind) h
+  where
+    first_two : (a b c : Bool) → (a && (b && c)) ≡ true → (a && b) ≡ true
+    first_two true true c h = refl
+    first_two true false c h = h
+    first_two false b c h = h
+
+or_right : (a b : Bool) → b ≡ true → (a || b) ≡ true
+or_right true b h = refl
+or_right false b h = h
+
+owner_named : (p v : Name) (ts : List Token) → names (begin_with_variable p v) ts ≡ true → names (begin_with_owner p) ts ≡ true
+unfolding names
+owner_named p v [] h = h
+owner_named p v (t ∷ ts) h = elim (cases_Bool (begin_with_variable p v (t ∷ ts))) [
+  | inl is ↦ rw (owner_here p v (t ∷ ts) is) refl
+  | inr isnt ↦ or_right (begin_with_owner p (t ∷ ts)) (names (begin_with_owner p) ts)
+      (owner_named p v ts (or_true (begin_with_variable p v (t ∷ ts)) (names (begin_with_variable p v) ts) h isnt))
+]
+
+any_some : (f : Assign → Bool) (assigns : List Assign) (b : Bool) → ((a : Assign) → f a ≡ true → b ≡ true) → list_any f assigns ≡ true → b ≡ true
+any_some f [] b each h = absurd (true≢false (sym h))
+any_some f (a ∷ as) b each h = elim (cases_Bool (f a)) [
+  | inl is ↦ each a is
+  | inr isnt ↦ any_some f as b each (or_true (f a) (list_any f as) h isnt)
+]
+
+-- the formula names a variable of the process
+abbrev names_owner : StatesView → List Token → ℕ → Bool
+names_owner s tokens p = names (begin_with_owner (name_at s.header.procs p)) tokens
+
+sets_owner : (s : StatesView) (tokens : List Token) (e : EventId) → sets_some s tokens e ≡ true → names_owner s tokens e.process ≡ true
+sets_owner s tokens e h = any_some (sets_named s tokens e.process) (event_at s e).assigns (names_owner s tokens e.process)
+    (λ a is. owner_named (name_at s.header.procs e.process) (variable_name s e.process a.variable) tokens is) h
+
+named_owner : (s : StatesView) (tokens : List Token) (p n position : ℕ) → last_named s tokens p n ≡ Some position → names_owner s tokens p ≡ true
+unfolding last_named
+named_owner s tokens p zero position h = absurd (none-some position h)
+named_owner s tokens p (suc n) position h = elim (cases_Bool (sets_some s tokens (place p (suc n)))) [
+  | inl is ↦ sets_owner s tokens (place p (suc n)) is
+  | inr isnt ↦ named_owner s tokens p n position (subst (λ (b : Bool). (if b then Some (suc n) else last_named s tokens p n) ≡ Some position) isnt h)
+]
+
+where_some : (b : Bool) (o : Option EventId) (e : EventId) → (if b then o else None) ≡ Some e → o ≡ Some e
+where_some true o e h = h
+where_some false o e h = absurd (none-some e h)
+
+where_none : (b : Bool) (o : Option EventId) → b ≡ true → (if b then o else None) ≡ None → o ≡ None
+where_none true o is h = h
+where_none false o is h = absurd (true≢false (sym is))
+
 is_process : (lens : List ℕ) (p n : ℕ) → 0 < n → n ≤ get_or lens p 0 → p < length lens
 is_process [] p n some within = absurd (omega arith)
 is_process (l ∷ ls) zero n some within = omega arith
@@ -158,7 +219,8 @@ untied_told s tokens cut ended whole fits has = record {
   told = λ e found.
       let at = found_at (length s.header.procs) (untied_in s tokens cut ended) e found in
       let k = at.0 in
-      let is = unless_some s ended e k (last_named s tokens k (count cut k)) at.1 in
+      let looked = last_named s tokens k (count cut k) in
+      let is = unless_some s ended e k looked (where_some (names_owner s tokens k) (unless_tied s ended k looked) e at.1) in
       let position = is.0 in
       let within = named_within s tokens k (count cut k) position is.1 in
       subst (DoesNotWait s tokens cut ended) is.2 record {
@@ -173,7 +235,10 @@ untied_told s tokens cut ended whole fits has = record {
       let there : process < length (map length s.events) = is_process (map length s.events) process position within.0 fit in
       let size : length (map length s.events) ≡ length s.header.procs = length-map s.events length ∙ whole.events in
       let here : untied_in s tokens cut ended process ≡ None = none_at (length s.header.procs) (untied_in s tokens cut ended) none process (omega (arith, there, size)) in
-      let counted = unless_none s ended process position (subst (λ (o : Option ℕ). unless_tied s ended process o ≡ None) last here) other in
+      let looked = last_named s tokens process (count cut process) in
+      let tied = where_none (names_owner s tokens process) (unless_tied s ended process looked)
+          (named_owner s tokens process (count cut process) position last) here in
+      let counted = unless_none s ended process position (subst (λ (o : Option ℕ). unless_tied s ended process o ≡ None) last tied) other in
       record {
         first = is_event s whole ended.process ended.position (omega (arith, has.first)) has.last;
         second = is_event s whole process position within.0 fit;

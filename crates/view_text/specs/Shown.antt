@@ -62,4 +62,4 @@ is_whole extent.Whole steps = true
 -- whether a step is shown, of a path that is shown whole or above these positions
 abbrev pub is_shown : StatesView → List Token → Bool → List ℕ → EventId → Bool
 is_shown s tokens whole bounds e =
-    whole || (keeps s tokens e && nat_lt (get_or bounds e.process 0) e.position)
+    whole || (nat_lt (get_or bounds e.process 0) e.position && keeps s tokens e)

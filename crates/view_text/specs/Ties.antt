@@ -3,10 +3,12 @@ use Rattle.std.specs.Prelude.{ℕ, zero, suc, Bool, ◌||◌, ◌==◌, nat_le, 
 use Rattle.std.specs.Prelude.{if◌then◌else◌}
 use Rattle.run_model.specs.Cut.{Cut, count}
 use Rattle.pota_base.specs.declared.shape.EventId.{EventId}
+use Rattle.event_log.specs.LogText.{name_at}
 use Rattle.event_log.specs.States.{StatesView}
 use Rattle.rctl_grammar.specs.declared.token.Token.{Token}
 use Rattle.view_parts.specs.Parts.{event_at, place}
 use Rattle.view_parts.specs.About.{sets_some}
+use Rattle.view_parts.specs.Naming.{begin_with_owner, names}
 
 -- the position of the last of the first n events of a process that sets a variable which the
 -- formula names, where there is one
@@ -28,10 +30,13 @@ unless_tied s ended process (Some position) =
     if process == ended.process || counts s (place process position) ended then None
     else Some (place process position)
 
--- the same of the event that last set a named variable of the process within the cut
+-- the same of the event that last set a named variable of the process within the cut, where the
+-- formula names a variable of the process
 abbrev pub untied_in : StatesView → List Token → Cut → EventId → ℕ → Option EventId
 untied_in s tokens cut ended process =
-    unless_tied s ended process (last_named s tokens process (count cut process))
+    if names (begin_with_owner (name_at s.header.procs process)) tokens
+    then unless_tied s ended process (last_named s tokens process (count cut process))
+    else None
 
 abbrev pub or_else : Option EventId → Option EventId → Option EventId
 or_else None other = other

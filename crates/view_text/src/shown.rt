@@ -99,11 +99,12 @@ pub fn is_whole(extent: Extent, steps: usize) -> bool
     }
 }
 
-/// Whether the step is shown, of a path that is shown whole or has these bounds.
+/// Whether the step is shown, of a path that is shown whole or has these bounds. Most steps are not
+/// above them, and of those the formula is not looked at.
 pub fn is_shown(told: &Told<'_>, whole: bool, bounds: &List<u32>, step: EventId) -> bool
     requires step { HasEvent (map length told.now.states.now.events) step }
     requires bounds { length bounds.now ≡ length told.now.states.now.events }
     ensures { result ≡ is_shown told.now.states.now told.now.tokens.now whole bounds.now step }
 {
-    whole || keeps(told, step) && *bounds.get(step.process as usize) < step.position
+    whole || *bounds.get(step.process as usize) < step.position && keeps(told, step)
 }

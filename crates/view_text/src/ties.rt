@@ -10,7 +10,7 @@ use cut_lattice::Cut;
 use event_log::States;
 use pota_base::EventId;
 use rctl_grammar::Token;
-use view_parts::{event_at, sets_some};
+use view_parts::{Sought, event_at, name_at, names, sets_some};
 
 // The position of the last of so many events of a process that sets a variable which the formula of
 // these tokens names.
@@ -62,6 +62,10 @@ fn untied_in(
     requires cut { CutFits (map length states.now.events) cut.now }
     ensures { result ≡ untied_in states.now tokens.now cut.now ended process }
 {
+    let owner = name_at(states.header().procs.as_slice(), process);
+    if !names(Sought::Owner(owner), tokens) {
+        return None;
+    }
     match last_named(states, tokens, process, cut.get(process)) {
         None => None,
         Some(position) => {
