@@ -15,7 +15,7 @@ abbrev pub log_expected : LogCode → List ℕ
 log_expected log.BadHeader = codes "`pota-log 1` or `pota-log 2` as the first bytes"
 log_expected log.BadProcs = codes "`procs` and 1 to 32 different names, one space between them"
 log_expected log.BadLine =
-    codes "a line that begins with `vars`, `ev`, `batch` or `end`, at its place"
+    codes "`vars`, `ev`, `batch` or `end` at its place, single spaces, whole numbers"
 log_expected log.UnknownProcess = codes "a name from line 2"
 log_expected log.UnknownVariable = codes "a variable of the process's own `vars` line"
 log_expected log.ClockWidth = codes "one number for each process"

@@ -18,7 +18,8 @@ pub fn formula_expected(code: FormulaCode) -> &'static [u8]
         FormulaCode::TooLong => b"at most 4,096 bytes",
         FormulaCode::TooDeep => b"at most 16 nested parentheses, signs and operators",
         FormulaCode::TooManyNodes => b"at most 64 comparisons, signs and operators",
-        FormulaCode::NotRegular => b"`!` before no operator, and a comparison that is supported",
+        FormulaCode::NotRegular =>
+            b"variables of one process compared, or a difference; `!` before no operator",
         FormulaCode::DisjunctionInside => b"`|` between several processes at the top only",
         FormulaCode::OutsideClass(_) => b"`EF`, `AG`, `EG` or `EX a`",
         FormulaCode::UnknownProcess => b"a name of the `procs` line",
@@ -40,7 +41,7 @@ pub fn formula_example(code: FormulaCode) -> &'static [u8]
         FormulaCode::TooLong => b"one question for each half of it",
         FormulaCode::TooDeep => b"a.x = 1 & b.x = 1 & c.x = 1",
         FormulaCode::TooManyNodes => b"a.x >= 1 & a.x <= 20",
-        FormulaCode::NotRegular => b"never client.sent = 1 & store.kept = 1",
+        FormulaCode::NotRegular => b"never client.sent - store.kept > 0",
         FormulaCode::DisjunctionInside => b"always client.sent = 1 | store.kept = 0",
         FormulaCode::OutsideClass(_) => b"surely client.sent = 1",
         FormulaCode::UnknownProcess => b"EF client.sent = 1",

@@ -12,7 +12,8 @@ pub fn log_expected(code: LogCode) -> &'static [u8]
     match code {
         LogCode::BadHeader => b"`pota-log 1` or `pota-log 2` as the first bytes",
         LogCode::BadProcs => b"`procs` and 1 to 32 different names, one space between them",
-        LogCode::BadLine => b"a line that begins with `vars`, `ev`, `batch` or `end`, at its place",
+        LogCode::BadLine =>
+            b"`vars`, `ev`, `batch` or `end` at its place, single spaces, whole numbers",
         LogCode::UnknownProcess => b"a name from line 2",
         LogCode::UnknownVariable => b"a variable of the process's own `vars` line",
         LogCode::ClockWidth => b"one number for each process",
