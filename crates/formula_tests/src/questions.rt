@@ -35,7 +35,7 @@ fn asks_of(question: &Question) -> Outcome {
 
 #[test]
 fn questions_are_read(rt: HostRuntime) -> Result<(), Fail> {
-    let rows: [(&[u8], Outcome); 8] = [
+    let rows: [(&[u8], Outcome); 6] = [
         (
             b"never a.cs = 1 & b.cs = 1".as_slice(),
             Outcome::Asks(Form::Never, 6, 1),
@@ -46,14 +46,6 @@ fn questions_are_read(rt: HostRuntime) -> Result<(), Fail> {
         ),
         (b"can can.x = 1".as_slice(), Outcome::Asks(Form::Can, 4, 1)),
         (
-            b"always a.x <= 3".as_slice(),
-            Outcome::Asks(Form::Always, 7, 1),
-        ),
-        (
-            b"always !(a.x = 1 & b.x = 1)".as_slice(),
-            Outcome::Asks(Form::AlwaysByNegation, 7, 1),
-        ),
-        (
             b"surely a.x = 1 | b.x = 1".as_slice(),
             Outcome::Asks(Form::Surely, 7, 1),
         ),
@@ -62,6 +54,37 @@ fn questions_are_read(rt: HostRuntime) -> Result<(), Fail> {
             Outcome::Asks(Form::AtEnd, 7, 1),
         ),
         (b"EF a.x = 1".as_slice(), Outcome::Asks(Form::Plain, 0, 1)),
+    ];
+    for (text, wanted) in rows {
+        let found = told(rt.alloc(), text)?;
+        assert!(rt; found == wanted);
+    }
+    Ok(())
+}
+
+#[test]
+fn always_asks_the_negation_where_it_can(rt: HostRuntime) -> Result<(), Fail> {
+    let rows: [(&[u8], Outcome); 5] = [
+        (
+            b"always a.x <= 3".as_slice(),
+            Outcome::Asks(Form::AlwaysByNegation, 7, 1),
+        ),
+        (
+            b"always a.x = 1 & b.x = 1".as_slice(),
+            Outcome::Asks(Form::AlwaysByNegation, 7, 2),
+        ),
+        (
+            b"always !(a.x = 1 & b.x = 1)".as_slice(),
+            Outcome::Asks(Form::AlwaysByNegation, 7, 1),
+        ),
+        (
+            b"always EF a.x = 1".as_slice(),
+            Outcome::Asks(Form::Always, 7, 1),
+        ),
+        (
+            b"always a.x = 1 | EF b.x = 1".as_slice(),
+            Outcome::Faulty(15),
+        ),
     ];
     for (text, wanted) in rows {
         let found = told(rt.alloc(), text)?;

@@ -20,7 +20,7 @@ use Rattle.rctl_class.specs.Classed.{IsClassed, disjunct_formulas}
 use Rattle.rctl_class.proofs.Meaning.{classed_means, one_is_regular}
 use Rattle.rctl_class.proofs.Derived.{within_limits, nodes_spell}
 use Rattle.question_forms.specs.Questions.{IsQuestion}
-use Rattle.question_forms.specs.Taking.{negated, regular_fault, size_fault, form_fault, form_of, asked_node}
+use Rattle.question_forms.specs.Taking.{negated, regular_fault, size_fault, negation_fault, form_fault, form_of, asked_node}
 use Rattle.question_forms.specs.declared.question.Question.{Question}
 use Rattle.question_forms.proofs.Regular.{earlier_first, earlier_second, regular, none_small, negated_limits}
 
@@ -31,11 +31,11 @@ are_for : (word : Asking) (n : Node) (ds : List (List NamedPiece)) → IsWithinL
     → AreFor (form_of word n) (disjunct_formulas ds)
 are_for asking.Never n ds limits free classed = tt
 are_for asking.Can n ds limits free classed = tt
-are_for asking.Always n ds limits free classed = always (regular_fault n) refl classed where
-  always : (fault : Option FormulaFault) → regular_fault n ≡ fault → IsClassed (asked_node (if is_some fault then form.AlwaysByNegation else form.Always) n) ds
-      → AreFor (if is_some fault then form.AlwaysByNegation else form.Always) (disjunct_formulas ds)
-  always None is it = one_of n ds limits it is
-  always (Some f) is it = tt
+are_for asking.Always n ds limits free classed = always (negation_fault n) free classed where
+  always : (fault : Option FormulaFault) → (if is_some fault then regular_fault n else None) ≡ None → IsClassed (asked_node (if is_some fault then form.Always else form.AlwaysByNegation) n) ds
+      → AreFor (if is_some fault then form.Always else form.AlwaysByNegation) (disjunct_formulas ds)
+  always None free is = tt
+  always (Some f) free is = one_of n ds limits is free
 are_for asking.Surely n ds limits free classed =
     one_of (negated n) ds (negated_limits n limits (none_small n (earlier_first (size_fault n) (regular_fault (negated n)) free))) classed (earlier_second (size_fault n) (regular_fault (negated n)) free)
 are_for asking.AtEnd n ds limits free classed = one_of n ds limits classed free

@@ -51,11 +51,13 @@ form_fault asking.Surely n = regular_negation_fault n
 form_fault asking.AtEnd n = regular_fault n
 form_fault asking.Plain n = class_fault n
 
--- the form in which it is asked
+-- the form in which it is asked. `always` asks the negation where that is analysed, also of a regular
+-- formula: neither has an operator then, and each disjunct of the negation is answered by one least
+-- cut, where AG of the formula settles all rows
 abbrev pub form_of : Asking → Node → Form
 form_of asking.Never n = form.Never
 form_of asking.Can n = form.Can
-form_of asking.Always n = if is_some (regular_fault n) then form.AlwaysByNegation else form.Always
+form_of asking.Always n = if is_some (negation_fault n) then form.Always else form.AlwaysByNegation
 form_of asking.Surely n = form.Surely
 form_of asking.AtEnd n = form.AtEnd
 form_of asking.Plain n = form.Plain

@@ -33,10 +33,13 @@ both = conjunction (two (is_1 (codes "a") 0) (is_1 (codes "b") 10)) 8
 abbrev either : Node
 either = disjunction (two (is_1 (codes "a") 0) (is_1 (codes "b") 10)) 8
 
+-- `EF a.x = 1`
+abbrev reached : Node
+reached = under operator.Ef (is_1 (codes "a") 3) 0
+
 -- `EF a.x = 1 | b.x = 1`
 abbrev reached_or : Node
-reached_or =
-    disjunction (two (under operator.Ef (is_1 (codes "a") 3) 0) (is_1 (codes "b") 13)) 11
+reached_or = disjunction (two reached (is_1 (codes "b") 13)) 11
 
 -- ---- never and can take what is analysed
 
@@ -86,9 +89,9 @@ always_both : form_fault asking.Always both ≡ None
 unfolding is_plain all_plain processes all_processes
 always_both = refl
 
-always_asks_both : form_of asking.Always both ≡ form.Always
+always_asks_not_both : form_of asking.Always both ≡ form.AlwaysByNegation
 unfolding is_plain all_plain processes all_processes
-always_asks_both = refl
+always_asks_not_both = refl
 
 always_either : form_fault asking.Always either ≡ None
 unfolding is_plain all_plain processes all_processes
@@ -105,6 +108,15 @@ always_not_both = refl
 always_asks_both_again : form_of asking.Always (negation both 0) ≡ form.AlwaysByNegation
 unfolding is_plain all_plain processes all_processes
 always_asks_both_again = refl
+
+-- its negation negates EF, so the formula itself is asked
+always_reached : form_fault asking.Always reached ≡ None
+unfolding is_plain all_plain processes all_processes
+always_reached = refl
+
+always_asks_reached : form_of asking.Always reached ≡ form.Always
+unfolding is_plain all_plain processes all_processes
+always_asks_reached = refl
 
 -- neither: it is a disjunction, and its negation negates EF
 always_reached_or : form_fault asking.Always reached_or ≡ fault_at code.DisjunctionInside 11

@@ -33,32 +33,27 @@ fn with_form(form: Form, classed: Result<Classed, Stop>) -> Result<Asked, Stop>
     }
 }
 
-// `always`: of the formula where it is regular, and else of its negation.
+// `always`: of the formula's negation where that is analysed, and else of the formula. That one is
+// read first, since the negation is made of it.
 fn always(alloc: Global, formula: Formula) -> Result<Asked, Stop>
     requires { IsWithinLimits (node_of formula.tree) }
     ensures { MatchResult result (IsAsked asking_is.Always (node_of formula.tree))
         (λ stop. Faults stop (λ f. form_fault asking_is.Always (node_of formula.tree) ≡ Some f)) }
 {
-    match one_disjunct(alloc, &formula) {
+    let regular = one_disjunct(alloc, &formula);
+    match negation(alloc, formula) {
         Ok(classed) => {
-            drop(formula);
+            drop(regular);
             Ok(Asked {
-                form: Form::Always,
+                form: Form::AlwaysByNegation,
                 classed,
             })
         }
         Err(Refused::NoMemory) => {
-            drop(formula);
+            drop(regular);
             Err(Refused::NoMemory)
         }
-        Err(Refused::Fault(first)) => match negation(alloc, formula) {
-            Ok(classed) => Ok(Asked {
-                form: Form::AlwaysByNegation,
-                classed,
-            }),
-            Err(Refused::NoMemory) => Err(Refused::NoMemory),
-            Err(Refused::Fault(_)) => Err(Refused::Fault(first)),
-        },
+        Err(Refused::Fault(_)) => with_form(Form::Always, regular),
     }
 }
 
