@@ -180,9 +180,9 @@ owner_named p v (t ∷ ts) h = elim (cases_Bool (begin_with_variable p v (t ∷ 
 
 any_some : (f : Assign → Bool) (assigns : List Assign) (b : Bool) → ((a : Assign) → f a ≡ true → b ≡ true) → list_any f assigns ≡ true → b ≡ true
 any_some f [] b each h = absurd (true≢false (sym h))
-any_some f (a ∷ as) b each h = elim (cases_Bool (f a)) [
+any_some f (a ∷ others) b each h = elim (cases_Bool (f a)) [
   | inl is ↦ each a is
-  | inr isnt ↦ any_some f as b each (or_true (f a) (list_any f as) h isnt)
+  | inr isnt ↦ any_some f others b each (or_true (f a) (list_any f others) h isnt)
 ]
 
 -- the formula names a variable of the process
