@@ -1,0 +1,4 @@
+mod Few
+mod Seen
+mod Read
+mod Said

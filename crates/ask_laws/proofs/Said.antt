@@ -1,0 +1,198 @@
+-- What a call says that was answered.
+use Rattle.std.proofs.Common.{◌≡◌, ◌↔◌, ◌⊎◌, ℕ, suc, ◌+◌, ◌≤◌, Bool, true, false, IsTrue, List, [], ◌∷◌, ◌++◌, length, drop, Option, None, Some, refl, sym, ap, subst, ◌∙◌, arith, inl, inr}
+use Rattle.std.specs.Prelude.{is_some, slice_get, if◌then◌else◌}
+use Rattle.std.specs.List.{AllZip}
+use Rattle.std.proofs.lemmas.Option.{same_Some}
+use Rattle.run_model.specs.Run.{Run}
+use Rattle.run_model.specs.Formula.{Formula}
+use Rattle.question_meaning.specs.Asking.{question}
+use Rattle.question_meaning.specs.Question as questions
+use Rattle.question_meaning.specs.Question.{Holds, Never, Can, Always, Surely, AtEnd, Plain}
+use Rattle.question_meaning.specs.declared.form.Form.{Form}
+use Rattle.question_meaning.specs.declared.form.Form.TheVariants as form
+use Rattle.rctl_grammar.specs.declared.tree.Tree.{Tree}
+use Rattle.rctl_grammar.specs.Shape.{meaning}
+use Rattle.rctl_class.specs.Nodes.{Node, node_of}
+use Rattle.question_text.specs.declared.front.Asking.{Asking}
+use Rattle.question_text.specs.declared.front.Asking.TheVariants as asking
+use Rattle.question_text.specs.declared.head.Head.{Head}
+use Rattle.question_forms.specs.Questions.{IsAsking}
+use Rattle.question_forms.specs.Taking.{form_of, regular_fault}
+use Rattle.question_lines.specs.Lines.{IsOneLine}
+use Rattle.question_lines.proofs.QuestionLines.{question-free}
+use Rattle.part_pulls.specs.Observing.{Reading}
+use Rattle.log_rules.specs.Judgement.{Prefix, states_of}
+use Rattle.log_input.specs.Readings.{HasLog}
+use Rattle.ask_questions.specs.Listing.{IsAt}
+use Rattle.ask_words.specs.Asking.{asked_by}
+use Rattle.ask_words.specs.declared.asking.Asked.{Asked}
+use Rattle.ask_text.specs.Text.{QuestionView, document}
+use Rattle.ask_top.specs.Asking.{IsAnswer, Says}
+use Rattle.ask_top.specs.Documents.{IsTold, run_on}
+use Rattle.ask_top.specs.declared.answer.Answer.{Answer}
+use Rattle.ask_top.specs.declared.answer.Answer.TheVariants as answer
+use Rattle.ask_laws.specs.Lines.{HasLines, SaysNotOk, SaysOk, not_ok_line, ok_line, seen_lines}
+use Rattle.ask_laws.specs.Laws.{AreLogOf, Asks, EachQuestionHasItsLine, HasWritten, IsAsked, IsGiven, ItSaysNotBoth, ItSaysOkOrNotOk, questions_by, questions_of}
+use Rattle.ask_laws.specs.Laws.{AlwaysHoldsWhereEachCutSatisfies, AtEndHoldsWhereTheFinalCutSatisfies, CanHoldsWhereSomeCutSatisfies, NeverHoldsWhereNoCutSatisfies, PlainHoldsWhereTheInitialCutSatisfies, SurelyHoldsWhereEachPathMeets}
+use Rattle.ask_laws.proofs.Few.{few_questions}
+use Rattle.ask_laws.proofs.Read.{one_asking}
+use Rattle.ask_laws.proofs.Seen.{as_many_lines, are_lines, are_results, at_place, holds_ok, line_of, line_with, lines_of, not_both, ok_holds, ok_or_not, plan, seen, version}
+
+-- ---- the question of some words
+
+abbrev asked_question : Asking → Formula → questions.Question
+asked_question asking.Never f = Never f
+asked_question asking.Can f = Can f
+asked_question asking.Always f = Always f
+asked_question asking.Surely f = Surely f
+asked_question asking.AtEnd f = AtEnd f
+asked_question asking.Plain f = Plain f
+
+-- one of two forms, of which each asks the same
+either_form : (by : Bool) (x y : Form) (f : Formula) (q : questions.Question) → question x f ≡ q → question y f ≡ q → question (if by then x else y) f ≡ q
+either_form true x y f q first second = first
+either_form false x y f q first second = second
+
+question_is : (words : Asking) (n : Node) (f : Formula) → question (form_of words n) f ≡ asked_question words f
+question_is asking.Never n f = refl
+question_is asking.Can n f = refl
+question_is asking.Always n f = either_form (is_some (regular_fault n)) form.AlwaysByNegation form.Always f (Always f) refl refl
+question_is asking.Surely n f = refl
+question_is asking.AtEnd n f = refl
+question_is asking.Plain n f = refl
+
+-- ---- an answer
+
+answer_is : (watches : Reading) (left : Option (List ℕ)) (lf lf' of of' : ℕ) (words : List (List ℕ)) (read written : List ℕ) (a : Answer) → IsGiven a
+    → Says a watches left lf lf' of of' words read written → (holds : Bool) × IsAnswer watches left words holds read written
+answer_is watches left lf lf' of of' words read written answer.Holds given says = (true, says)
+answer_is watches left lf lf' of of' words read written answer.Fails given says = (false, says)
+answer_is watches left lf lf' of of' words read written (answer.Without f) given says = absurd given
+
+-- an answer with this document
+record IsAnswered (watches : Reading) (words : List (List ℕ)) (read text : List ℕ) : Type 0 where
+  left : Option (List ℕ)
+  holds : Bool
+  is : IsAnswer watches left words holds read text
+
+answered : (watches : Reading) (words : List (List ℕ)) (read text : List ℕ) → HasWritten watches words read text → IsAnswered watches words read text
+answered watches words read text w =
+    let found = answer_is watches w.left_after w.read_faults_before w.read_faults_after w.write_faults_before w.write_faults_after words w.said.read w.said.written w.answer w.given w.said.says in
+    subst (IsAnswered watches words read) w.document_is (subst (λ (bytes : List ℕ). IsAnswered watches words bytes w.said.written) w.read_is (record { left = w.left_after; holds = found.0; is = found.1 }))
+
+module _ (watches : Reading) (left : Option (List ℕ)) (words : List (List ℕ)) (holds : Bool) (read text : List ℕ) (a : IsAnswer watches left words holds read text) where
+  abbrev qs : List (List ℕ)
+  qs = drop a.asked.questions_from words
+
+  abbrev vs : List QuestionView
+  vs = a.document.views
+
+  questions_are : questions_of words ≡ drop a.asked.questions_from words
+  questions_are = ap (λ (o : Option Asked). questions_by o words) a.asks
+
+  as_many : length qs ≡ length vs
+  as_many = as_many_lines (IsTold watches a.log) qs vs a.document.each
+
+  told_free : (q : List ℕ) (v : QuestionView) → IsTold watches a.log q v → IsOneLine v.text
+  told_free q v told = subst IsOneLine (sym told.as_asked) (question-free q told.read.0 told.read.1 told.q told.read.2)
+
+  all_seen : seen_lines text ≡ version ∷ plan (length vs) ∷ lines_of 1 vs
+  all_seen =
+      let few : length vs ≤ 64 = omega (arith, as_many, few_questions words a.asked a.asks) in
+      ap seen_lines a.document.text_is ∙ seen (states_of a.log) a.asked.steps vs few (are_lines (IsTold watches a.log) told_free qs vs a.document.each)
+
+  has_lines : HasLines text (questions_of words)
+  has_lines = subst (HasLines text) (sym questions_are) (record {
+    results = lines_of 1 vs;
+    seen = all_seen ∙ ap (λ (n : ℕ). version ∷ plan n ∷ lines_of 1 vs) (sym as_many);
+    each = are_results (IsTold watches a.log) (λ q v told. told.as_asked) 1 qs vs a.document.each;
+  })
+
+  module _ (number : ℕ) (before : List (List ℕ)) (q : List ℕ) (at : IsAt number (questions_of words) before q) where
+    told_at : (v : QuestionView) × IsTold watches a.log q v × (slice_get (lines_of 1 vs) (length before) ≡ Some (line_of (1 + length before) v))
+    told_at =
+        at_place (IsTold watches a.log) before q at.behind vs 1
+        (subst (λ (l : List (List ℕ)). AllZip (IsTold watches a.log) l vs) (sym questions_are ∙ at.among) a.document.each)
+
+    abbrev view : QuestionView
+    view = told_at.0
+
+    line_is : slice_get (seen_lines text) (number + 1) ≡ Some (line_with view.outcome.holds number q)
+    line_is =
+        let place : number + 1 ≡ suc (suc (length before)) = omega (arith, at.numbered) in
+        let same : 1 + length before ≡ number = omega (arith, at.numbered) in
+        ap (λ (ls : List (List ℕ)). slice_get ls (number + 1)) all_seen ∙ ap (slice_get (version ∷ plan (length vs) ∷ lines_of 1 vs)) place
+        ∙ told_at.2 ∙ ap (λ (n : ℕ). Some (line_of n view)) same ∙ ap (λ (l : List ℕ). Some (line_with view.outcome.holds number l)) told_at.1.as_asked
+
+    says_so : SaysOk text number q ↔ IsTrue view.outcome.holds
+    says_so = (
+      λ h. ok_holds view.outcome.holds number q (same_Some (line_with view.outcome.holds number q) (ok_line number q) (sym line_is ∙ h)),
+      λ h. line_is ∙ ap (λ (l : List ℕ). Some l) (holds_ok view.outcome.holds number q h),
+    )
+
+    says_either : SaysOk text number q ⊎ SaysNotOk text number q
+    says_either = elim (ok_or_not view.outcome.holds number q) [
+      | inl so ↦ inl (line_is ∙ ap (λ (l : List ℕ). Some l) so)
+      | inr isnt ↦ inr (line_is ∙ ap (λ (l : List ℕ). Some l) isnt)
+    ]
+
+    says_where : (words_are : Asking) (f : Formula) → Asks q words_are f → SaysOk text number q ↔ Holds (run_on watches a.log) (asked_question words_are f)
+    says_where words_are f asks =
+        let told = told_at.1 in
+        let head = told.read.0 in
+        let tree = told.read.1 in
+        let same = one_asking q head asks.head tree asks.tree told.read.2.asking asks.is in
+        let words_same : head.asking ≡ words_are = ap (λ (h : Head). h.asking) same.0 ∙ asks.words_are in
+        let formula_same : meaning tree ≡ f = ap meaning same.1 ∙ asks.formula_is in
+        let form_same : told.q.form ≡ form_of words_are (node_of tree) = told.read.2.form ∙ ap (λ (w : Asking). form_of w (node_of tree)) words_same in
+        let question_same : question told.q.form (meaning tree) ≡ asked_question words_are f =
+        ap (λ (g : Formula). question told.q.form g) formula_same ∙ ap (λ (x : Form). question x f) form_same ∙ question_is words_are (node_of tree) f in
+        let by = told.holds head tree told.read.2 in
+        let to : SaysOk text number q ↔ Holds (run_on watches a.log) (question told.q.form (meaning tree)) = (λ h. by.0 (says_so.0 h), λ h. says_so.1 (by.1 h)) in
+        subst (λ (x : questions.Question). SaysOk text number q ↔ Holds (run_on watches a.log) x) question_same to
+
+  -- the run of the log that was read is one
+  run_is : (r : Run) → AreLogOf watches words read r → run_on watches a.log ≡ r
+  run_is r is =
+      let asked_same : is.asked ≡ a.asked = same_Some is.asked a.asked (sym is.asks ∙ a.asks) in
+      let has : HasLog a.asked.form read is.log = subst (λ (x : Asked). HasLog x.form read is.log) asked_same is.has in
+      ap (run_on watches) (same_Some a.log is.log (sym a.has.whole ∙ has.whole)) ∙ is.run_is
+
+-- ---- the laws
+
+holds_where : (r : Run) (text : List ℕ) (number : ℕ) (q : List ℕ) (words_are : Asking) (f : Formula) → IsAsked r text number q words_are f → SaysOk text number q ↔ Holds r (asked_question words_are f)
+holds_where r text number q words_are f k =
+    let is = answered k.watches k.words k.read text k.wrote in
+    subst (λ (x : Run). SaysOk text number q ↔ Holds x (asked_question words_are f)) (run_is k.watches is.left k.words is.holds k.read text is.is r k.run)
+    (says_where k.watches is.left k.words is.holds k.read text is.is number k.before q k.at words_are f k.asks)
+
+pub never_holds : NeverHoldsWhereNoCutSatisfies
+never_holds r text number q f k = holds_where r text number q asking.Never f k
+
+pub can_holds : CanHoldsWhereSomeCutSatisfies
+can_holds r text number q f k = holds_where r text number q asking.Can f k
+
+pub always_holds : AlwaysHoldsWhereEachCutSatisfies
+always_holds r text number q f k = holds_where r text number q asking.Always f k
+
+pub surely_holds : SurelyHoldsWhereEachPathMeets
+surely_holds r text number q f k = holds_where r text number q asking.Surely f k
+
+pub at_end_holds : AtEndHoldsWhereTheFinalCutSatisfies
+at_end_holds r text number q f k = holds_where r text number q asking.AtEnd f k
+
+pub plain_holds : PlainHoldsWhereTheInitialCutSatisfies
+plain_holds r text number q f k = holds_where r text number q asking.Plain f k
+
+pub each_has_its_line : EachQuestionHasItsLine
+each_has_its_line watches words read text wrote =
+    let is = answered watches words read text wrote in
+    has_lines watches is.left words is.holds read text is.is
+
+pub ok_or_not_ok : ItSaysOkOrNotOk
+ok_or_not_ok r text number q words_are f k =
+    let is = answered k.watches k.words k.read text k.wrote in
+    says_either k.watches is.left k.words is.holds k.read text is.is number k.before q k.at
+
+pub not_ok_and_ok : ItSaysNotBoth
+not_ok_and_ok text number q says denies = not_both number q (same_Some (ok_line number q) (not_ok_line number q) (sym says ∙ denies))
