@@ -17,7 +17,7 @@ use Rattle.question_text.specs.declared.front.Asking.{Asking}
 use Rattle.question_text.specs.declared.front.Asking.TheVariants as asking
 use Rattle.question_text.specs.declared.head.Head.{Head}
 use Rattle.question_forms.specs.Questions.{IsAsking}
-use Rattle.question_forms.specs.Taking.{form_of, regular_fault}
+use Rattle.question_forms.specs.Taking.{form_of, negation_fault}
 use Rattle.question_lines.specs.Lines.{IsOneLine}
 use Rattle.question_lines.proofs.QuestionLines.{question-free}
 use Rattle.part_pulls.specs.Observing.{Reading}
@@ -56,7 +56,7 @@ either_form false x y f q first second = second
 question_is : (words : Asking) (n : Node) (f : Formula) → question (form_of words n) f ≡ asked_question words f
 question_is asking.Never n f = refl
 question_is asking.Can n f = refl
-question_is asking.Always n f = either_form (is_some (regular_fault n)) form.AlwaysByNegation form.Always f (Always f) refl refl
+question_is asking.Always n f = either_form (is_some (negation_fault n)) form.Always form.AlwaysByNegation f (Always f) refl refl
 question_is asking.Surely n f = refl
 question_is asking.AtEnd n f = refl
 question_is asking.Plain n f = refl
