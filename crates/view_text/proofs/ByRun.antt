@@ -237,7 +237,7 @@ untied_told s tokens cut ended whole fits has = record {
       let here : untied_in s tokens cut ended process ≡ None = none_at (length s.header.procs) (untied_in s tokens cut ended) none process (omega (arith, there, size)) in
       let looked = last_named s tokens process (count cut process) in
       let tied = where_none (names_owner s tokens process) (unless_tied s ended process looked)
-          (named_owner s tokens process (count cut process) position last) here in
+      (named_owner s tokens process (count cut process) position last) here in
       let counted = unless_none s ended process position (subst (λ (o : Option ℕ). unless_tied s ended process o ≡ None) last tied) other in
       record {
         first = is_event s whole ended.process ended.position (omega (arith, has.first)) has.last;
