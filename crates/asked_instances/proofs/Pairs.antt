@@ -61,7 +61,7 @@ one_more s ps before after p all (inr none) = subst (AreInstances s (ps ++ p ∷
 -- ---- the first fault
 
 behind_instance : (s : Source) (p : Pair) (i : Instance) → IsInstance s p i → IsReadable (text_for s p)
-behind_instance s p i is = (is.known.0, is.known.1)
+behind_instance s p i is = (i.question, is.known.read)
 
 behind_none : (s : Source) (p : Pair) → HasNone s p → IsReadable (text_for s p)
 behind_none s p none = (none.0, none.1)

@@ -40,11 +40,13 @@ LacksName header watches q = (f : FormulaFault) × (unknown_in header watches q 
 abbrev pub IsReadAs : List ℕ → Question → Type 0
 IsReadAs text q = (head : Head) × (t : Tree) × IsQuestion text head t q
 
--- the text is a question of which each name is known
-abbrev pub IsKnown : Header → List Name → List ℕ → Type 0
-IsKnown header watches text = (q : Question) × IsReadAs text q × KnowsNames header watches q
+-- the text is this question, of which each name is known
+pub record IsKnownAs (header : Header) (watches : List Name) (text : List ℕ) (q : Question)
+    : Type 0 where
+  pub read : IsReadAs text q
+  pub known : KnowsNames header watches q
 
--- or a question of which one isn't
+-- the text is a question of which some name isn't
 abbrev pub IsLacking : Header → List Name → List ℕ → Type 0
 IsLacking header watches text = (q : Question) × IsReadAs text q × LacksName header watches q
 
@@ -108,11 +110,11 @@ text_for s pair =
     instance_text s.text s.over
     (renaming_for s s.over.first pair.first ∷ second_renaming s s.over.second pair.second)
 
--- the text for these processes, of which each name is known
+-- the question for these processes, of which each name is known
 pub record IsInstance (s : Source) (pair : Pair) (i : Instance) : Type 0 where
   pub pair_is : i.pair ≡ pair
   pub text : i.text ≡ text_for s pair
-  pub known : IsKnown s.header s.watches (text_for s pair)
+  pub known : IsKnownAs s.header s.watches (text_for s pair) i.question
 
 -- some name is not known of the text for these processes
 abbrev pub HasNone : Source → Pair → Type 0

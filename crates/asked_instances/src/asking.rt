@@ -10,11 +10,11 @@ ghost use Rattle.rctl_names.specs.Resolving.{CanResolve};
 ghost use Rattle.std.specs.List.{AllByRecursion};
 ghost use Rattle.std.specs.Prelude.{◌≡◌, ◌++◌, ◌<◌, length, IfErr, IfOk, OnOk};
 
-use crate::known::is_known;
+use crate::known::known_question;
 use event_log::Header;
 use pota_base::{Bytes, List, NoMemory, Refused};
 use pota_names::Name;
-use question_forms::QuestionFault;
+use question_forms::{Question, QuestionFault};
 use question_instances::{Naming, Over, instance_of};
 use question_text::Span;
 use std::alloc::Global;
@@ -26,11 +26,13 @@ pub struct Pair {
     pub second: Option<u32>,
 }
 
-/// The text of a question for some processes.
+/// The question for some processes.
 #[derive(Debug, Drop)]
 pub struct Instance {
     pub pair: Pair,
     pub text: Bytes,
+    /// The question that the text is.
+    pub question: Question,
 }
 
 /// A question over processes, and a log's header with the names of watches.
@@ -140,9 +142,13 @@ impl Asked<'_> {
             (λ stop. Refuses stop (IsQuestionFault (text_for (source_of self.now) pair))) }
     {
         let text = self.text_for(alloc, pair)?;
-        match is_known(alloc, text.as_slice(), self.header, self.watches) {
-            Ok(true) => Ok(instances.push(Instance { pair, text })?),
-            Ok(false) => Ok(()),
+        match known_question(alloc, text.as_slice(), self.header, self.watches) {
+            Ok(Some(question)) => Ok(instances.push(Instance {
+                pair,
+                text,
+                question,
+            })?),
+            Ok(None) => Ok(()),
             Err(stop) => Err(stop),
         }
     }

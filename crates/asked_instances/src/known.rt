@@ -1,9 +1,9 @@
 //! Whether a log has the names of a question.
-ghost use Rattle.asked_instances.specs.Instances.{IsKnown, IsLacking, KnowsNames, LacksName};
+ghost use Rattle.asked_instances.specs.Instances.{IsKnownAs, IsLacking, KnowsNames, LacksName};
 ghost use Rattle.question_forms.specs.Questions.{IsQuestionFault, Refuses};
 ghost use Rattle.rctl_class.specs.NamedParts.{AreDisjuncts, disjuncts_of};
 ghost use Rattle.rctl_names.specs.Resolving.{CanResolve};
-ghost use Rattle.std.specs.Prelude.{IfErr, IfOk, MatchBool};
+ghost use Rattle.std.specs.Prelude.{IfErr, IfNone, IfOk, IfSome, MatchBool};
 
 use event_log::Header;
 use pota_base::{List, NoMemory, Refused};
@@ -35,26 +35,33 @@ fn has_names(
     }
 }
 
-/// Whether the header and the watches have all names of the question that the text is.
-pub fn is_known(
+/// The question that the text is, if the header and the watches have all its names.
+pub fn known_question(
     alloc: Global,
     text: &[u8],
     header: &Header,
     watches: &List<Name>,
-) -> Result<bool, Refused<QuestionFault>>
+) -> Result<Option<Question>, Refused<QuestionFault>>
     requires header { CanResolve header.now watches.now }
-    ensures known { IfOk result (λ known. MatchBool known
-        (IsKnown header.now watches.now text.now) (IsLacking header.now watches.now text.now)) }
+    ensures known { IfOk result
+        (λ found. IfSome found (IsKnownAs header.now watches.now text.now)) }
+    ensures lacking { IfOk result
+        (λ found. IfNone found (IsLacking header.now watches.now text.now)) }
     ensures fault { IfErr result (λ stop. Refuses stop (IsQuestionFault text.now)) }
 {
     let question = match read_question(alloc, text) {
         Ok(question) => question,
         Err(stop) => return Err(stop),
     };
-    let known = has_names(alloc, &question, header, watches);
-    drop(question);
-    match known {
-        Ok(known) => Ok(known),
-        Err(NoMemory) => Err(Refused::NoMemory),
+    match has_names(alloc, &question, header, watches) {
+        Ok(true) => Ok(Some(question)),
+        Ok(false) => {
+            drop(question);
+            Ok(None)
+        }
+        Err(NoMemory) => {
+            drop(question);
+            Err(Refused::NoMemory)
+        }
     }
 }

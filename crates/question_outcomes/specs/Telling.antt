@@ -1,5 +1,8 @@
 -- When outcomes are those of the questions of a list, on what was observed for it.
-use Rattle.std.specs.Prelude.{◌≡◌, ⊤, List, [], ◌∷◌}
+use Rattle.std.specs.Prelude.{◌≡◌, ⊤, IfSome, Option, List, [], ◌∷◌}
+use Rattle.run_model.specs.Cut.{Clocks}
+use Rattle.pull_system.specs.System.{SystemView}
+use Rattle.slice_graph.specs.Growing.{system_of_order}
 use Rattle.question_meaning.specs.declared.form.Form.{Form}
 use Rattle.rctl_parts.specs.Pieces.{Piece}
 use Rattle.asked_parts.specs.Asked.{asked_disjuncts}
@@ -32,3 +35,9 @@ AreOutcomes seen ds [] [] = ⊤
 AreOutcomes seen ds [] (o ∷ os) = ⊥
 AreOutcomes seen ds (q ∷ qs) [] = ⊥
 AreOutcomes seen ds (q ∷ qs) (o ∷ os) = IsOutcomeIn seen ds q.range o × AreOutcomes seen ds qs os
+
+-- ---- from one question to the next
+
+-- the system that is at hand, if any, is that of the order's pulls alone
+pub record HasSystem (o : Clocks) (system : Option SystemView) : Type 0 where
+  pub own : IfSome system (λ s. s ≡ system_of_order o)

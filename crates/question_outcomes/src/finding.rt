@@ -1,7 +1,8 @@
 //! The least cut of a conjunction, with the system that goes from one to the next.
 ghost use Rattle.least_holding.specs.Least.{IsBottomHolding, IsLeastHolding, are_atoms};
 ghost use Rattle.part_pulls.specs.Observing.{IsReady, clocks_seen};
-ghost use Rattle.question_outcomes.specs.inside.Telling.{CanTell, HasSystem};
+ghost use Rattle.question_outcomes.specs.Telling.{HasSystem};
+ghost use Rattle.question_outcomes.specs.inside.Telling.{CanTell};
 ghost use Rattle.rctl_parts.specs.Pieces.{pieces_of};
 ghost use Rattle.slice_graph.specs.Growing.{system_of_order};
 ghost use Rattle.std.specs.Prelude.{◌≡◌, true, IfOk, None};

@@ -2,7 +2,8 @@
 //!
 //! `outcomes` gives for each question its outcome: whether it holds, the canonical witnesses against
 //! it where it doesn't, and the parts that hold nowhere where the answer alone says nothing of the run
-//! (`outcomes`; `IsOutcome` of `question_outcome`).
+//! (`outcomes`; `IsOutcome` of `question_outcome`). `outcome_of` gives that of one question by the
+//! disjuncts that it asks (`outcome`).
 //!
 //! Disjuncts that are EF over atoms, as `never`, `can` and an `always` by its negation ask, need no
 //! row: the least consistent cut at which the atoms are true tells whether there is one, and the path
@@ -22,3 +23,4 @@ mod telling;
 mod told;
 
 pub use listed::outcomes;
+pub use telling::outcome_of;

@@ -2,9 +2,10 @@
 ghost use Rattle.conjunctions.specs.Settling.{CanAnswer};
 ghost use Rattle.part_pulls.specs.Counters.{CountersRise};
 ghost use Rattle.part_pulls.specs.Observing.{IsReady, clocks_seen};
+ghost use Rattle.question_outcomes.specs.Telling.{HasSystem};
 ghost use Rattle.question_outcomes.specs.inside.Nowhere.{AddsNowhere, AreNowhereIn, TellsNowhere};
 ghost use Rattle.question_outcomes.specs.inside.Nowhere.{operand_of};
-ghost use Rattle.question_outcomes.specs.inside.Telling.{CanTell, HasSystem};
+ghost use Rattle.question_outcomes.specs.inside.Telling.{CanTell};
 ghost use Rattle.rctl_parts.specs.Pieces.{disjuncts_of, piece_of, pieces_of};
 ghost use Rattle.std.specs.Prelude.{◌≡◌, ◌∷◌, [], IfNone, IfOk, IfSome, OnOk};
 

@@ -2,7 +2,8 @@
 ghost use Rattle.part_pulls.specs.Counters.{CountersRise};
 ghost use Rattle.part_pulls.specs.Observing.{IsReady, clocks_seen};
 ghost use Rattle.conjunctions.specs.Settling.{CanAnswer};
-ghost use Rattle.question_outcomes.specs.inside.Telling.{CanTell, HasSystem, IsReached, IsTold};
+ghost use Rattle.question_outcomes.specs.Telling.{HasSystem};
+ghost use Rattle.question_outcomes.specs.inside.Telling.{CanTell, IsReached, IsTold};
 ghost use Rattle.question_outcomes.specs.inside.Telling.{ReachesAtoms};
 ghost use Rattle.rctl_grammar.specs.declared.tree.Operator.TheVariants as operator_is;
 ghost use Rattle.rctl_parts.specs.Pieces.{disjuncts_of, pieces_of};

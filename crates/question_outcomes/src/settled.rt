@@ -3,7 +3,8 @@ ghost use Rattle.conjunctions.specs.Answering.{IsAnswer};
 ghost use Rattle.conjunctions.specs.Settling.{CanAnswer};
 ghost use Rattle.part_pulls.specs.Counters.{CountersRise};
 ghost use Rattle.part_pulls.specs.Observing.{IsReady, clocks_seen};
-ghost use Rattle.question_outcomes.specs.inside.Telling.{HasSystem, IsTold};
+ghost use Rattle.question_outcomes.specs.Telling.{HasSystem};
+ghost use Rattle.question_outcomes.specs.inside.Telling.{IsTold};
 ghost use Rattle.rctl_parts.specs.Pieces.{disjuncts_of};
 ghost use Rattle.std.specs.Prelude.{◌≡◌, [], IfOk};
 

@@ -3,9 +3,9 @@ ghost use Rattle.conjunctions.specs.Settling.{CanAnswer};
 ghost use Rattle.part_pulls.specs.Counters.{CountersRise};
 ghost use Rattle.part_pulls.specs.Observing.{IsReady, clocks_seen};
 ghost use Rattle.question_outcome.specs.Outcomes.{tells_nothing};
-ghost use Rattle.question_outcomes.specs.Telling.{IsOutcomeOf};
+ghost use Rattle.question_outcomes.specs.Telling.{HasSystem, IsOutcomeOf};
 ghost use Rattle.question_outcomes.specs.inside.Nowhere.{AreNowhereIn};
-ghost use Rattle.question_outcomes.specs.inside.Telling.{HasSystem, IsTold};
+ghost use Rattle.question_outcomes.specs.inside.Telling.{IsTold};
 ghost use Rattle.rctl_parts.specs.Pieces.{disjuncts_of};
 ghost use Rattle.std.specs.Prelude.{◌≡◌, [], false, not, true, IfOk};
 

@@ -1,10 +1,8 @@
 -- What is told of disjuncts.
-use Rattle.std.specs.Prelude.{◌≡◌, ℕ, ◌≤◌, ◌↔◌, ⊤, Bool, true, IsTrue, IfSome, Option, List, [], ◌∷◌, map}
-use Rattle.run_model.specs.Cut.{Clocks, initial}
+use Rattle.std.specs.Prelude.{◌≡◌, ℕ, ◌≤◌, ◌↔◌, ⊤, Bool, true, IsTrue, List, [], ◌∷◌, map}
+use Rattle.run_model.specs.Cut.{initial}
 use Rattle.run_model.specs.Meaning.{Sat}
 use Rattle.run_model.specs.Class.{SatParts}
-use Rattle.pull_system.specs.System.{SystemView}
-use Rattle.slice_graph.specs.Growing.{system_of_order}
 use Rattle.rctl_grammar.specs.declared.tree.Operator.TheVariants as operator
 use Rattle.rctl_parts.specs.Pieces.{Piece}
 use Rattle.rctl_parts.specs.Spelled.{disjunction_of, formula_of, part_formulas}
@@ -20,10 +18,6 @@ use Rattle.run_report.specs.Witnesses.{ArePartTexts, IsTextOfFalse}
 use Rattle.answer_report.specs.Told.{AreWitnessesOf}
 use Rattle.question_outcomes.specs.declared.told.Reached.{Reached}
 use Rattle.question_outcomes.specs.declared.told.Reached.TheVariants.{Somewhere, Nowhere, Other}
-
--- the system that is at hand, if any, is that of the order's pulls alone
-pub record HasSystem (o : Clocks) (system : Option SystemView) : Type 0 where
-  pub own : IfSome system (λ s. s ≡ system_of_order o)
 
 -- something may be told of these parts: they are made for what was observed, few, and none of their
 -- counters falls

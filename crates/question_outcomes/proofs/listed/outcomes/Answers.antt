@@ -9,8 +9,7 @@ use Rattle.part_pulls.specs.declared.observed.Observed.{Observed}
 use Rattle.part_pulls.specs.Observing.{clocks_seen}
 use Rattle.part_pulls.specs.Counters.{CountersRise}
 use Rattle.conjunctions.specs.Settling.{CanAnswer}
-use Rattle.question_outcomes.specs.Telling.{AreOutcomes, IsOutcomeOf}
-use Rattle.question_outcomes.specs.inside.Telling.{HasSystem}
+use Rattle.question_outcomes.specs.Telling.{AreOutcomes, IsOutcomeOf, HasSystem}
 use Rattle.question_outcomes.proofs.Ranges.{range_answers, range_rises, range_pieces, outcome_in, outcomes_more, questions_taken}
 use Rattle.question_outcomes.proofs.listed.outcomes.Goals as goal
 

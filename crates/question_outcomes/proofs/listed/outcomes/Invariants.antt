@@ -1,8 +1,7 @@
 use Rattle.std.proofs.Common.{take}
 use Rattle.part_pulls.specs.Observing.{clocks_seen}
 use Rattle.rctl_parts.specs.Pieces.{disjuncts_of}
-use Rattle.question_outcomes.specs.Telling.{AreOutcomes}
-use Rattle.question_outcomes.specs.inside.Telling.{HasSystem}
+use Rattle.question_outcomes.specs.Telling.{AreOutcomes, HasSystem}
 use Rattle.question_outcomes.proofs.listed.outcomes.Given as goal
 
 abbrev pub invariant-listed : goal.invariant-listed

@@ -6,11 +6,12 @@ use Rattle.part_pulls.specs.Counters.{CountersRise}
 use Rattle.part_pulls.proofs.Taken.{disjunct_at, disjuncts_taken, length-disjuncts}
 use Rattle.conjunctions.specs.Settling.{CanAnswer}
 use Rattle.question_outcomes.specs.inside.Nowhere.{AreNowhereIn, operand_of}
-use Rattle.question_outcomes.specs.inside.Telling.{CanTell, HasSystem}
+use Rattle.question_outcomes.specs.inside.Telling.{CanTell}
 use Rattle.question_outcomes.proofs.Taking.{disjunct_tells, operand_tells}
 use Rattle.question_outcomes.proofs.Placing.{nowhere_under, nowhere_as_before}
 use Rattle.question_outcomes.proofs.nowhere.nowhere_in.Goals as goal
 use Rattle.question_outcomes.proofs.nowhere.nowhere_in.Goals.{in-Some+in_ok-push_nowhere, in_default}
+use Rattle.question_outcomes.specs.Telling.{HasSystem}
 
 pub push_nowhere-requires-clause-can : goal.push_nowhere-requires-clause-can
 push_nowhere-requires-clause-can g c =

@@ -2,8 +2,8 @@ use Rattle.std.proofs.Common.{take}
 use Rattle.part_pulls.specs.Observing.{clocks_seen}
 use Rattle.rctl_parts.specs.Pieces.{pieces_of}
 use Rattle.question_outcomes.specs.inside.Nowhere.{AddsNowhere}
-use Rattle.question_outcomes.specs.inside.Telling.{HasSystem}
 use Rattle.question_outcomes.proofs.nowhere.push_nowhere.Given as goal
+use Rattle.question_outcomes.specs.Telling.{HasSystem}
 
 abbrev pub invariant-parts : goal.invariant-parts
 invariant-parts g l = record {

@@ -1,0 +1,4 @@
+mod Alone
+mod Counts
+mod Instances
+mod Tallying

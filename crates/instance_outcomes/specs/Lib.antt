@@ -1,0 +1,4 @@
+pub mod Tallies
+pub mod Answers
+pub mod Over
+pub mod inside
