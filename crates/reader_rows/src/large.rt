@@ -1,6 +1,7 @@
 //! Pictures of large made logs: how many events and receipts a log has, and how many marks and arrows
 //! its picture; and how many events of two processes set their counters, of which the last twelve of
 //! each are shown.
+ghost use Rattle.std.specs.Prelude.{◌≤◌};
 
 use crate::run::{Reader, Setting, run};
 use event_log::write_log;
@@ -33,7 +34,9 @@ fn lines_with(text: &str, piece: &str) -> usize {
 }
 
 // The log of 32 processes and so many events that the seed makes.
-fn log_text(alloc: Global, seed: u64, events: u32) -> Result<String, NoMemory> {
+fn log_text(alloc: Global, seed: u64, events: u32) -> Result<String, NoMemory>
+    requires { events ≤ 50000 }
+{
     let log = generate(alloc, seed, 32, events)?;
     let text = write_log(alloc, &log)?;
     Ok(String::from_utf8_lossy(alloc, text.as_slice())?)
