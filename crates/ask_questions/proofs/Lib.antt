@@ -1,3 +1,4 @@
 mod Lists
 mod Entries
 mod Texts
+mod BothTexts
