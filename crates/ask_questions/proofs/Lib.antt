@@ -1,4 +1,3 @@
 mod Lists
 mod Entries
 mod Texts
-mod BothTexts

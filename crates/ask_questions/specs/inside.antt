@@ -1,4 +1,3 @@
 -- What only the calls inside say to each other.
 pub mod Listed
 pub mod Reading
-pub mod Added

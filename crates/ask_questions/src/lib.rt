@@ -5,18 +5,12 @@
 //! (`IsFirstFault`) with the question's number: first come the questions, each by itself and in
 //! their order, then that the disjuncts or parts up to some question are too many.
 //!
-//! `read_entries` reads questions of both kinds: those of the log into one list, and of those over
-//! processes the names that stand for these (`AreAsked`); or it gives exactly the first fault in the
-//! same order (`IsFirstEntryFault`).
-//!
 //! Not said here: whether a log has the names of the questions, and that memory suffices.
 #![tactic(auto)]
 
-mod both;
 mod fault;
 mod listing;
 mod reading;
 
-pub use both::{AskedEntries, EntriesFault, NumberedEntryFault, read_entries};
 pub use fault::{NumberedFault, QuestionsFault};
 pub use reading::read_questions;

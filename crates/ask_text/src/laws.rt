@@ -1,6 +1,5 @@
 // Laws of documents.
 ghost use Rattle.ask_text.specs.Lines.{outer_lines};
-ghost use Rattle.ask_text.specs.OverText.{EntryView, entries_document, entry_lines, text_of};
 ghost use Rattle.ask_text.specs.Text.{QuestionView, document, head_lines, result_lines};
 ghost use Rattle.event_log.specs.States.{StatesView};
 ghost use Rattle.question_lines.specs.Lines.{IsOneLine};
@@ -14,11 +13,4 @@ pub fn a_line_for_each_question()
     ensures { (s : StatesView) (steps : ℕ) (qs : List QuestionView)
         → length qs ≤ 64 → AllByRecursion (λ (q : QuestionView). IsOneLine q.text) qs
         → outer_lines (document s steps qs) ≡ head_lines (length qs) ++ result_lines 1 qs }
-{}
-
-/// The same of a document in which some questions are asked of processes.
-pub fn a_line_for_each_entry()
-    ensures { (s : StatesView) (steps : ℕ) (es : List EntryView)
-        → length es ≤ 64 → AllByRecursion (λ (e : EntryView). IsOneLine (text_of e)) es
-        → outer_lines (entries_document s steps es) ≡ head_lines (length es) ++ entry_lines 1 es }
 {}
