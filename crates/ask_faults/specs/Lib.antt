@@ -1,4 +1,3 @@
 pub mod Faults
-pub mod Helps
 pub mod Lines
 pub mod Telling

@@ -5,11 +5,9 @@ ghost use Rattle.std.specs.Prelude.{◌≡◌};
 use ask_questions::NumberedFault;
 use asked_observation::UnknownName;
 use fault_kinds::Refusal;
-use over_answers::NumberedStop;
-use pota_base::Bytes;
 
 /// Why there is no answer.
-#[derive(Debug, Drop)]
+#[derive(Clone, Copy, Debug, PartialEq, Eq)]
 pub enum Fault {
     /// The words are refused.
     Usage,
@@ -17,11 +15,8 @@ pub enum Fault {
     Question(NumberedFault),
     /// A question has a name that the log does not have.
     Unknown(UnknownName),
-    /// A question over processes has no answer on the log.
-    Over(NumberedStop),
-    /// The log is faulty, or a counter of a question falls in it; and the text of the log's line, as
-    /// far as it is shown.
-    Refused(Refusal, Bytes),
+    /// The log is faulty, or a counter of a question falls in it.
+    Refused(Refusal),
     /// The input could not be read.
     Read,
     /// The document could not be written.
@@ -39,8 +34,7 @@ impl Fault {
             Fault::Usage => 2,
             Fault::Question(_) => 3,
             Fault::Unknown(_) => 3,
-            Fault::Over(_) => 3,
-            Fault::Refused(_, _) => 4,
+            Fault::Refused(_) => 4,
             Fault::Read => 5,
             Fault::Write => 6,
             Fault::Memory => 7,

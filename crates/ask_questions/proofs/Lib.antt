@@ -1,4 +1,3 @@
-pub mod Lists
-pub mod Words
+mod Lists
+mod Entries
 mod Texts
-mod Observed

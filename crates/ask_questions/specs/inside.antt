@@ -1,2 +1,3 @@
 -- What only the calls inside say to each other.
-pub mod Added
+pub mod Listed
+pub mod Reading

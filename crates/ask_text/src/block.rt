@@ -19,12 +19,6 @@ use view_parts::put_place;
 use view_text::{Told, folded, put_step_rows, put_value_rows};
 use witness_kinds::{Path, Witness};
 
-/// The line with which a block begins.
-pub const BLOCK_FRONT: &[u8] = b"---\n";
-
-/// The line with which it ends.
-pub const BLOCK_END: &[u8] = b"...\n";
-
 // The path of a witness that has one.
 fn path_of(witness: &Witness) -> Option<&Path>
     ensures { option_copied result ≡ path_of witness.now }
@@ -147,45 +141,41 @@ fn found(told: &Told<'_>, form: Form, witness: &Witness, path: &Path) -> Result<
     Ok(rows)
 }
 
-// Appends the block of a path, with this front.
+// Appends the block of a path.
 fn put_block(
     out: &mut Bytes,
-    front: &[u8],
     told: &Told<'_>,
     form: Form,
     witness: &Witness,
     path: &Path,
 ) -> Result<(), NoMemory>
     requires { PathFits (map length told.now.states.now.events) path.now }
-    ensures { OnOk result (out.new ≡ out.old ++ block front.now told.now.states.now
-        told.now.tokens.now told.now.extent form witness.now path.now) }
+    ensures { OnOk result (out.new ≡ out.old ++ block told.now.states.now told.now.tokens.now
+        told.now.extent form witness.now path.now) }
 {
     let found = found(told, form, witness, path)?;
     let lines = folded(told.alloc, found.as_slice())?;
-    out.extend_from_slice(front)?;
+    out.extend_from_slice(b"---\n")?;
     out.extend_from_slice(lines.as_slice())?;
-    out.extend_from_slice(BLOCK_END)
+    out.extend_from_slice(b"...\n")
 }
 
-/// Appends the block of the first of the witnesses that has a path, with this front, and where none
-/// has, other bytes.
+/// Appends the block of the first of the witnesses that has a path.
 pub fn put_evidence(
     out: &mut Bytes,
-    front: &[u8],
-    none: &[u8],
     told: &Told<'_>,
     form: Form,
     witnesses: &[WitnessText],
 ) -> Result<(), NoMemory>
     requires { AllByRecursion (IsOfRun (map length told.now.states.now.events))
         witnesses.now }
-    ensures { OnOk result (out.new ≡ out.old ++ evidence front.now none.now told.now.states.now
-        told.now.tokens.now told.now.extent form witnesses.now) }
+    ensures { OnOk result (out.new ≡ out.old ++ evidence told.now.states.now told.now.tokens.now
+        told.now.extent form witnesses.now) }
 {
     for witness in witnesses {
         if let Some(path) = path_of(&witness.witness) {
-            return put_block(out, front, told, form, &witness.witness, path);
+            return put_block(out, told, form, &witness.witness, path);
         }
     }
-    out.extend_from_slice(none)
+    Ok(())
 }

@@ -2,4 +2,5 @@ mod Observing
 mod Answered
 mod Fits
 mod Told
+mod Views
 mod Passed

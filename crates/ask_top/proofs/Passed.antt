@@ -3,8 +3,8 @@ use Rattle.std.proofs.Common.{◌≡◌, ℕ, true, inl, inr, Option, Some, List
 use Rattle.std.proofs.lemmas.Bool.{false≢true}
 use Rattle.std.proofs.KnownBytes.{Appends-nil, Consumes-nil}
 use Rattle.part_pulls.specs.Observing.{Reading}
-use Rattle.ask_questions.specs.Entries.{IsFirstFault}
-use Rattle.ask_questions.specs.declared.reading.NumberedFault.{NumberedFault}
+use Rattle.ask_questions.specs.Listing.{IsFirstFault}
+use Rattle.ask_questions.specs.declared.fault.NumberedFault.{NumberedFault}
 use Rattle.ask_words.specs.Asking.{asked_by}
 use Rattle.ask_words.specs.declared.asking.Asked.{Asked}
 use Rattle.ask_faults.specs.Faults.{is_long}
@@ -36,8 +36,7 @@ module _ (watches : Reading) (left left' held held' : Option (List ℕ)) (lf lf'
   as_memory fault.Usage long h = absurd (false≢true long)
   as_memory (fault.Question f) long h = record { read = h.read; written = h.written; consumed = h.consumed; wrote = h.wrote; says = h.says.0 }
   as_memory (fault.Unknown u) long h = record { read = h.read; written = h.written; consumed = h.consumed; wrote = h.wrote; says = h.says.0 }
-  as_memory (fault.Over f) long h = record { read = h.read; written = h.written; consumed = h.consumed; wrote = h.wrote; says = h.says.0 }
-  as_memory (fault.Refused r line) long h = record { read = h.read; written = h.written; consumed = h.consumed; wrote = h.wrote; says = h.says.0 }
+  as_memory (fault.Refused r) long h = record { read = h.read; written = h.written; consumed = h.consumed; wrote = h.wrote; says = h.says.0 }
   as_memory fault.Read long h = absurd (false≢true long)
   as_memory fault.Write long h = absurd (false≢true long)
   as_memory fault.Memory long h = absurd (false≢true long)

@@ -1,4 +1,5 @@
 -- What only the calls inside say to each other.
+pub mod Documents
 pub mod Observing
 pub mod Telling
 pub mod Writing

@@ -16,7 +16,7 @@
 #![tactic(auto)]
 
 mod answer;
-mod observed;
+mod documents;
 mod top;
 
 pub use answer::Answer;

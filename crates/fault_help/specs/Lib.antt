@@ -1,3 +1,2 @@
 pub mod LogHelp
-pub mod OverHelp
 pub mod QuestionHelp

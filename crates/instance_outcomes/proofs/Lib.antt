@@ -1,4 +1,4 @@
 mod Alone
 mod Counts
 mod Instances
-pub mod Tallying
+mod Tallying

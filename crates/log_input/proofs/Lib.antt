@@ -1,4 +1,3 @@
-pub mod Lines
 pub mod Wholes
 pub mod Texts
 pub mod Stands

@@ -31,8 +31,8 @@ use Rattle.filled_log.specs.declared.filling.FilledLog.{FilledLog}
 use Rattle.filled_log.specs.Filling.{HasBegun, Keeps}
 use Rattle.log_input.specs.declared.form.Form.TheVariants as form
 use Rattle.log_input.specs.declared.places.Places.TheVariants.{Lines}
-use Rattle.log_input.specs.declared.judged.Judged.{Judged}
-use Rattle.log_input.specs.declared.judged.Judged.TheVariants.{Whole, Faulty, Failed}
+use Rattle.log_input.specs.declared.reading.Input.{Input}
+use Rattle.log_input.specs.declared.reading.Input.TheVariants.{Whole, Faulty, Failed}
 use Rattle.log_input.proofs.Wholes.{IsTakenOf, faultless_so}
 use Rattle.log_input.specs.Readings.{log_due}
 use Rattle.log_input.specs.Inputs.{IsFilled}
@@ -127,7 +127,7 @@ module _ (reader : Reader) (kept : FilledLog) (text : List ℕ) (h : HasTaken re
     )
 
   -- by why no more is read
-  pub not_failed : (e : End) → (e ≡ end.Failed → ⊥) → (j : Judged) → StandsAt form.OneLog text j → IsTextJudged text e j
+  pub not_failed : (e : End) → (e ≡ end.Failed → ⊥) → (input : Input) → StandsAt form.OneLog text input → IsTextJudged text e input
   not_failed e other (Whole log places) at = (other, at.0, at.1)
   not_failed e other (Faulty r) at = (true, λ _. other, at)
   not_failed e other Failed at = absurd at

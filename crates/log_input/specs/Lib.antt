@@ -1,4 +1,3 @@
-pub mod FaultyLine
 pub mod Inputs
 pub mod Places
 pub mod Readings

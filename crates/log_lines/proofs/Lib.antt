@@ -1,3 +1,4 @@
+pub mod FewDigits
 pub mod Steps
 pub mod NumberLaws
 pub mod WordLaws

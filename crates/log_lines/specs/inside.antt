@@ -1,3 +1,4 @@
 -- What only the calls inside say to each other.
+pub mod Counts
 pub mod Drafts
 pub mod Frames

@@ -123,10 +123,10 @@ module _ (words : List (List ℕ)) (asked : Asked) (asks : asked_by words ≡ So
         logged stood.read stood.consumed stood.to.0 (all_of log) (as_plain (λ t. HasLogBy t asked.flags.form stood.read (all_of log)) stood.to.2.has) held' of' [] f puts
         (λ none. as_plain (λ t. IsToldOf t asked.flags.form stood.read []) refl)
 
-    pub refused : (r : Refusal) (line : List ℕ) → HasStood asked.flags.form s (Faulty r line) → HasLogged s.before s.after held held s.faults_before s.faults_after of of words (Some (fault.Refused r)) []
-    refused r line stood =
+    pub refused : (r : Refusal) → HasStood asked.flags.form s (Faulty r) → HasLogged s.before s.after held held s.faults_before s.faults_after of of words (Some (fault.Refused r)) []
+    refused r stood =
         unwritten stood.read stood.consumed (Some (fault.Refused r)) []
-        (refl, asking (λ a. IsRefusedBy a.flags.torn a.flags.form s.after stood.read r) (as_plain (λ t. IsRefusedBy t asked.flags.form s.after stood.read r) stood.to.0))
+        (refl, asking (λ a. IsRefusedBy a.flags.torn a.flags.form s.after stood.read r) (as_plain (λ t. IsRefusedBy t asked.flags.form s.after stood.read r) (stood.to.0, stood.to.1, stood.to.2)))
 
     pub failed : HasStood asked.flags.form s Failed → HasLogged s.before s.after held held s.faults_before s.faults_after of of words (Some fault.Read) []
     failed stood =

@@ -225,10 +225,7 @@ fn log_whole<S: Source, O: Sink>(
             drop(places);
             put_log(alloc, words, asked, log, out)
         }
-        Ok(Input::Faulty(refusal, line)) => {
-            drop(line);
-            Some(Fault::Refused(refusal))
-        }
+        Ok(Input::Faulty(refusal)) => Some(Fault::Refused(refusal)),
         Ok(Input::Failed) => Some(Fault::Read),
         Err(NoMemory) => Some(Fault::Memory),
     }

@@ -1,4 +1,5 @@
 pub mod Words
+pub mod Pieces
 pub mod Events
 pub mod Building
 pub mod Lasts

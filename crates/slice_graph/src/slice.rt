@@ -7,7 +7,7 @@ ghost use Rattle.run_model.specs.Cut.{Cut as CutOfRun, Clocks, count, max_cut, l
 ghost use Rattle.run_model.specs.Consistent.{IsOrder};
 ghost use Rattle.run_model.specs.Sublattice.{IsGreatest, Having};
 ghost use Rattle.run_model.specs.Slice.{Cuts, IsLeastOf};
-ghost use Rattle.slice_graph.specs.Words.{past_ends, filled};
+ghost use Rattle.slice_graph.specs.Words.{past_ends};
 ghost use Rattle.slice_graph.specs.Views.{AreCuts, joined_onto, joined_rows, slice_of, no_row};
 
 use crate::cuts::{is_within, set_words};
@@ -41,6 +41,7 @@ impl Model for Slice {
 impl Slice {
     ghost use Rattle.slice_graph.specs.Views.{HasAllRows, IsCut, IsRow, HasLasts};
     ghost use Rattle.slice_graph.specs.Words.{row_words};
+    ghost use Rattle.slice_graph.specs.inside.Words.{AreAllWords};
     ghost use Rattle.slice_graph.specs.Fitting.{FitsOrder};
 
     /// The slice of these rows.
@@ -149,13 +150,11 @@ impl Slice {
         self.table.words(row as usize)
     }
 
-    /// The words of a row. Row 0 is the bottom's.
-    pub(crate) fn words_of_row(&self, row: u32) -> &[u32]
-        requires { row ≤ sum self.now.lens }
-        ensures words { result.now ≡ filled self.now.lens (get_or self.now.rows row no_row) }
-        ensures width { length result.now ≡ length self.now.lens }
+    /// The words of all rows, one row behind the other. The bottom's row comes first.
+    pub(crate) fn all_words(&self) -> &[u32]
+        ensures { AreAllWords self.now result.now }
     {
-        self.table.words(row as usize)
+        self.table.all_words()
     }
 
     /// The words of a row without a cut: each is one more than the process's length.

@@ -20,6 +20,9 @@ use pota_base::NoMemory;
 use pull_system::Floor;
 use std::alloc::Global;
 
+/// How many words are made wide before they are appended.
+const PIECE: usize = 128;
+
 impl Slice {
     /// The rows of the slice, as a table of a system may begin from them. A row without a cut has
     /// one more than each length.
@@ -31,16 +34,8 @@ impl Slice {
         ensures begins { (o : Clocks) → FitsOrder o self.now → IfOk result (λ rows.
             AreWithinClosed self.now.lens (pulls_of_slice self.now) rows.words) }
     {
-        let shape = self.shape();
-        let procs = shape.procs() as usize;
-        let mut room = [0; 32];
-        let room = &mut room[..procs];
-        let mut words = Vec::with_capacity(alloc, (shape.events() as usize + 1) * procs)?;
-        for row in 0..shape.events() + 1 {
-            widen(self.words_of_row(row), room);
-            words.extend_from_slice(room)?;
-        }
-        Floor::from_words(alloc, shape, words)
+        let words = wide_words(alloc, self.all_words())?;
+        Floor::from_words(alloc, self.shape(), words)
     }
 }
 
@@ -106,6 +101,22 @@ fn clock_of<'a>(order: &'a Order, row: u32, none: &'a [u32]) -> &'a [u32]
         Some(event) => order.clock(event),
         None => none,
     }
+}
+
+/// The same numbers in 64 bits each, in memory of their own.
+fn wide_words(alloc: Global, from: &[u32]) -> Result<Vec<u64>, NoMemory>
+    ensures { IfOk result (λ words. words.items ≡ from.now) }
+{
+    let mut words = Vec::with_capacity(alloc, from.len())?;
+    let mut piece = [0; PIECE];
+    while words.len() < from.len() {
+        let first = words.len();
+        let size = (from.len() - first).min(PIECE);
+        let piece = &mut piece[..size];
+        widen(&from[first..first + size], piece);
+        words.extend_from_slice(piece)?;
+    }
+    Ok(words)
 }
 
 /// Makes `into` the numbers of the row.

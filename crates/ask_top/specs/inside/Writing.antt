@@ -12,8 +12,7 @@ abbrev pub Fails : List ℕ → (held held' : Option (List ℕ)) → (of of' : �
 Fails text held held' of of' fault.Usage = ⊥
 Fails text held held' of of' (fault.Question f) = ⊥
 Fails text held held' of of' (fault.Unknown u) = ⊥
-Fails text held held' of of' (fault.Over f) = ⊥
-Fails text held held' of of' (fault.Refused r line) = ⊥
+Fails text held held' of of' (fault.Refused r) = ⊥
 Fails text held held' of of' fault.Read = ⊥
 Fails text held held' of of' fault.Write = AppendsPrefix held held' text × Rose of of'
 Fails text held held' of of' fault.Memory = ⊥

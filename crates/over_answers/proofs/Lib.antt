@@ -1,2 +1,0 @@
-mod Tallying
-pub mod Shown

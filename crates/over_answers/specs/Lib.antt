@@ -1,3 +1,0 @@
-pub mod Tallies
-pub mod PassedOn
-pub mod inside

@@ -1,2 +1,0 @@
--- What only the calls inside say to each other.
-pub mod Answering
