@@ -10,6 +10,7 @@ pub mod RowByRow
 pub mod OrderPulls
 pub mod SlicePulls
 pub mod Fans
+pub mod EventWords
 pub mod EdgeSteps
 pub mod OrderGrowing
 pub mod StartingRows

@@ -41,7 +41,7 @@ impl Model for Slice {
 impl Slice {
     ghost use Rattle.slice_graph.specs.Views.{HasAllRows, IsCut, IsRow, HasLasts};
     ghost use Rattle.slice_graph.specs.Words.{row_words};
-    ghost use Rattle.slice_graph.specs.inside.Words.{AreAllWords};
+    ghost use Rattle.slice_graph.specs.inside.Words.{AreAllWords, AreEventWords};
     ghost use Rattle.slice_graph.specs.Fitting.{FitsOrder};
 
     /// The slice of these rows.
@@ -155,6 +155,24 @@ impl Slice {
         ensures { AreAllWords self.now result.now }
     {
         self.table.all_words()
+    }
+
+    /// The words of the rows of all events of a process, one row behind the other.
+    pub(crate) fn words_of_events(&self, process: u32) -> &[u32]
+        requires { process < length self.now.lens }
+        ensures { AreEventWords self.now process result.now }
+    {
+        let shape = self.shape();
+        let len = shape.len_of(process);
+        if len == 0 {
+            return &[];
+        }
+        let width = shape.procs() as usize;
+        let first = shape.row_of(EventId {
+            process,
+            position: 1,
+        }) as usize;
+        &self.all_words()[first * width..(first + len as usize) * width]
     }
 
     /// The words of a row without a cut: each is one more than the process's length.

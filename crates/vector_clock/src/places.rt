@@ -1,11 +1,8 @@
 //! Where each message was met first.
-ghost use Rattle.std.specs.Prelude.{◌≡◌, ◌⊎◌, ◌↔◌, ◌<◌, [], Some, None, length, IsTrue, OnOk, OnErr};
-ghost use Rattle.std.specs.Prelude.{if◌then◌else◌, IfSome};
+ghost use Rattle.std.specs.Prelude.{◌≡◌, ◌↔◌, Some, None, IsTrue, OnOk, OnErr};
 ghost use Rattle.std.specs.Option.{option_or};
-ghost use Rattle.vector_clock.specs.Messages.{is_same};
-ghost use Rattle.vector_clock.specs.Met.{nowhere, mapped_at, turn_place, is_in_turn, met_at};
-ghost use Rattle.vector_clock.specs.inside.Met.{without, IsRising, IsNext, HasPlaces, IsNoted, IsForgotten};
-ghost use Rattle.vector_clock.specs.declared.message.Message.{Message as MessageOf};
+ghost use Rattle.vector_clock.specs.Met.{nowhere, met_at};
+ghost use Rattle.vector_clock.specs.inside.Met.{without, HasPlaces, IsNoted, IsForgotten};
 
 use crate::message::Message;
 use pota_base::NoMemory;
@@ -91,32 +88,25 @@ fn place_without(place: Option<u32>, other: Option<u32>) -> Option<u32>
     }
 }
 
-/// A message, and where it was met first.
-#[derive(Clone, Copy, Debug)]
-struct Kept {
-    message: Message,
-    met: Met,
-}
-
-/// The first places of messages, whatever their numbers are.
+/// The first places of each message.
 #[derive(Debug, Drop)]
-struct Mapped {
+pub struct Places {
     met: BTreeMap<Message, Met>,
 }
 
-impl Mapped {
-    // No places. It takes no memory.
-    fn new(alloc: Global) -> Mapped
-        ensures { (m : MessageOf) → mapped_at result m ≡ nowhere }
+impl Places {
+    /// No places. It takes no memory.
+    pub fn new(alloc: Global) -> Places
+        ensures { HasPlaces result (λ m. nowhere) }
     {
-        Mapped {
+        Places {
             met: BTreeMap::new(alloc),
         }
     }
 
-    // The places that are kept for the message.
-    fn met(&self, message: &Message) -> Met
-        ensures { result ≡ mapped_at self.now message.now }
+    /// The places that are kept for the message.
+    pub fn met(&self, message: &Message) -> Met
+        ensures { result ≡ met_at self.now message.now }
     {
         match self.met.get(message) {
             Some(met) => *met,
@@ -124,12 +114,10 @@ impl Mapped {
         }
     }
 
-    // Keeps these places for the message, where it has none. Without memory all is as before.
-    fn note(&mut self, message: Message, met: Met) -> Result<(), NoMemory>
-        ensures ok { OnOk result
-            (IsNoted (mapped_at self.old) (mapped_at self.new) message met) }
-        ensures err { OnErr result
-            ((m : MessageOf) → mapped_at self.new m ≡ mapped_at self.old m) }
+    /// Keeps these places for the message, where it has none. Without memory all is as before.
+    pub fn note(&mut self, message: Message, met: Met) -> Result<(), NoMemory>
+        ensures ok { OnOk result (IsNoted self.old self.new message met) }
+        ensures err { OnErr result (HasPlaces self.new (met_at self.old)) }
     {
         if let Some(kept) = self.met.get_mut(&message) {
             *kept = kept.or(met);
@@ -139,9 +127,9 @@ impl Mapped {
         Ok(())
     }
 
-    // Keeps these places no more for the message.
-    fn forget(&mut self, message: &Message, met: Met)
-        ensures { IsForgotten (mapped_at self.old) (mapped_at self.new) message.now met }
+    /// Keeps these places no more for the message.
+    pub fn forget(&mut self, message: &Message, met: Met)
+        ensures { IsForgotten self.old self.new message.now met }
     {
         let left = self.met(message).without(met);
         if left.is_nowhere() {
@@ -149,118 +137,5 @@ impl Mapped {
         } else if let Some(kept) = self.met.get_mut(message) {
             *kept = left;
         }
-    }
-}
-
-// Whether both are one message.
-fn is_same(first: &Message, second: &Message) -> bool
-    ensures { result ≡ is_same first.now second.now }
-{
-    first.sender == second.sender && (first.receiver == second.receiver && first.id == second.id)
-}
-
-// How many of these have a smaller number. They come first, and the last of them is found by halves.
-fn turn_place(kept: &[Kept], id: u64) -> usize
-    requires { IsRising kept.now }
-    ensures { result ≡ turn_place kept.now id }
-{
-    let (mut low, mut high) = (0, kept.len());
-    'halves: while low < high {
-        let middle = low + (high - low) / 2;
-        if kept[middle].message.id < id {
-            low = middle + 1;
-        } else {
-            high = middle;
-        }
-    }
-    low
-}
-
-// Where the message stands among these.
-fn place_in_turn(kept: &[Kept], message: &Message) -> Option<usize>
-    requires { IsRising kept.now }
-    ensures place { result ≡ (if is_in_turn kept.now message.now
-        then Some (turn_place kept.now message.now.id) else None) }
-    ensures within { IfSome result (λ place. place < length kept.now) }
-{
-    let place = turn_place(kept, message.id);
-    if place < kept.len() && is_same(&kept[place].message, message) {
-        Some(place)
-    } else {
-        None
-    }
-}
-
-/// The first places of each message. Most logs number their messages as they are sent: these stand
-/// in a list, in which the numbers rise. The others are in a map.
-#[derive(Debug, Drop)]
-pub struct Places {
-    turn: Vec<Kept>,
-    others: Mapped,
-    ghost rising: { IsRising turn.items },
-}
-
-impl Places {
-    /// No places. It takes no memory.
-    pub fn new(alloc: Global) -> Places
-        ensures { HasPlaces result (λ m. nowhere) }
-    {
-        Places {
-            turn: Vec::new(alloc),
-            others: Mapped::new(alloc),
-        }
-    }
-
-    /// The places that are kept for the message.
-    pub fn met(&self, message: &Message) -> Met
-        ensures { result ≡ met_at self.now message.now }
-    {
-        match place_in_turn(&self.turn, message) {
-            Some(place) => self.turn[place].met,
-            None => self.others.met(message),
-        }
-    }
-
-    // Whether the message has a greater number than all in turn, and nothing is kept for it.
-    fn is_next(&self, message: &Message) -> bool
-        ensures next { IsTrue result → IsNext self.now.turn.items message.now }
-        ensures nothing { IsTrue result → mapped_at self.now.others message.now ≡ nowhere }
-    {
-        if let Some(last) = self.turn.last() {
-            if last.message.id >= message.id {
-                return false;
-            }
-        }
-        self.others.met(message).is_nowhere()
-    }
-
-    /// Keeps these places for the message, where it has none. Without memory all is as before.
-    pub fn note(&mut self, message: Message, met: Met) -> Result<(), NoMemory>
-        ensures ok { OnOk result (IsNoted (met_at self.old) (met_at self.new) message met) }
-        ensures err { OnErr result (HasPlaces self.new (met_at self.old)) }
-    {
-        if let Some(place) = place_in_turn(&self.turn, &message) {
-            let met = self.turn[place].met.or(met);
-            self.turn[place] = Kept { message, met };
-            return Ok(());
-        }
-        if self.is_next(&message) {
-            self.turn.push(Kept { message, met })?;
-            return Ok(());
-        }
-        self.others.note(message, met)
-    }
-
-    /// Keeps these places no more for the message.
-    pub fn forget(&mut self, message: &Message, met: Met)
-        ensures { IsForgotten (met_at self.old) (met_at self.new) message.now met }
-    {
-        if let Some(place) = place_in_turn(&self.turn, message) {
-            let met = self.turn[place].met.without(met);
-            let message = *message;
-            self.turn[place] = Kept { message, met };
-            return;
-        }
-        self.others.forget(message, met);
     }
 }
