@@ -10,6 +10,8 @@ use Rattle.question_meaning.specs.Question as questions
 use Rattle.question_meaning.specs.Question.{Holds, Never, Can, Always, Surely, AtEnd, Plain}
 use Rattle.question_meaning.specs.declared.form.Form.{Form}
 use Rattle.question_meaning.specs.declared.form.Form.TheVariants as form
+use Rattle.pota_base.specs.Limits.{most_questions}
+use Rattle.pota_base.specs.Changes.{behind_of}
 use Rattle.rctl_grammar.specs.declared.tree.Tree.{Tree}
 use Rattle.rctl_grammar.specs.Shape.{meaning}
 use Rattle.rctl_class.specs.Nodes.{Node, node_of}
@@ -64,7 +66,7 @@ question_is asking.Plain n f = refl
 -- ---- an answer
 
 answer_is : (watches : Reading) (left : Option (List ℕ)) (lf lf' of of' : ℕ) (words : List (List ℕ)) (read written : List ℕ) (a : Answer) → IsGiven a
-    → Says a watches left lf lf' of of' words read written → (holds : Bool) × IsAnswer watches left words holds read written
+    → Says a watches (behind_of left lf lf' of of') words read written → (holds : Bool) × IsAnswer watches left words holds read written
 answer_is watches left lf lf' of of' words read written answer.Holds given says = (true, says)
 answer_is watches left lf lf' of of' words read written answer.Fails given says = (false, says)
 answer_is watches left lf lf' of of' words read written (answer.Without f) given says = absurd given
@@ -98,7 +100,7 @@ module _ (watches : Reading) (left : Option (List ℕ)) (words : List (List ℕ)
 
   all_seen : seen_lines text ≡ version ∷ plan (length vs) ∷ lines_of 1 vs
   all_seen =
-      let few : length vs ≤ 64 = omega (arith, as_many, few_questions words a.asked a.asks) in
+      let few : length vs ≤ most_questions = omega (arith, as_many, few_questions words a.asked a.asks) in
       ap seen_lines a.document.text_is ∙ seen (states_of a.log) a.asked.steps vs few (are_lines (IsTold watches a.log) told_free qs vs a.document.each)
 
   has_lines : HasLines text (questions_of words)

@@ -7,6 +7,7 @@ use Rattle.asked_list.specs.declared.list.AskedList.{AskedList}
 use Rattle.asked_list.specs.declared.list.Listed.{Listed}
 use Rattle.pota_base.specs.declared.fault.Refused.{Refused}
 use Rattle.pota_base.specs.declared.fault.Refused.TheVariants as refused
+use Rattle.pota_base.specs.Limits.{most_questions}
 use Rattle.question_forms.specs.Questions as forms
 use Rattle.question_forms.specs.Questions.{IsQuestion, IsQuestionFault}
 use Rattle.question_forms.specs.declared.question.Question.{Question}
@@ -74,7 +75,7 @@ module _ {S : Type 0} (f : S → List ℕ) (items : List S) (i : ℕ) (qs : List
 pub all_read : {S : Type 0} (f : S → List ℕ) (items : List S) (i : ℕ) (qs : List Question) → AreReadAs (map f (take i items)) qs → length items ≤ i → AreReadAs (map f items) qs
 all_read f items i qs are past = subst (λ (xs : List _). AreReadAs (map f xs) qs) (take_all i items past) are
 
-pub few : {S : Type 0} (f : S → List ℕ) (items : List S) (qs : List Question) → AreReadAs (map f items) qs → length items ≤ 64 → length qs ≤ 64
+pub few : {S : Type 0} (f : S → List ℕ) (items : List S) (qs : List Question) → AreReadAs (map f items) qs → length items ≤ most_questions → length qs ≤ most_questions
 few f items qs are within = omega (arith, paired-length IsReadAs (map f items) qs are, length-map items f)
 
 -- the entries of the questions are those of their texts

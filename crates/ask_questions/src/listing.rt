@@ -1,6 +1,7 @@
 //! Questions that were read, put into one list.
 ghost use Rattle.ask_questions.specs.inside.Listed.{AreEntries, AreSized, IsTooMany};
 ghost use Rattle.std.specs.Prelude.{◌≡◌, ◌≤◌, length, IfErr, IfOk};
+ghost use Rattle.pota_base.specs.Limits.{most_questions};
 ghost use Rattle.ask_questions.specs.inside.Reading.{Refuses, many_at};
 
 use crate::fault::{NumberedFault, QuestionsFault};
@@ -27,7 +28,7 @@ pub fn list_all(
     alloc: Global,
     questions: List<Question>,
 ) -> Result<AskedList, Refused<NumberedFault>>
-    requires few { length questions ≤ 64 }
+    requires few { length questions ≤ most_questions }
     requires sized { AreSized questions }
     ensures entries { IfOk result (AreEntries questions) }
     ensures fault { IfErr result (λ stop. Refuses stop (IsTooMany questions)) }

@@ -3,6 +3,7 @@ ghost use Rattle.ask_questions.specs.Listing.{AreListed, IsFirstFault};
 ghost use Rattle.ask_questions.specs.inside.Reading.{AreReadAs, numbered_fault, Refuses};
 ghost use Rattle.std.specs.Prelude.{◌≡◌, ◌≤◌, ◌<◌, length, map, string_bytes, MatchResult, IfErr};
 ghost use Rattle.std.specs.Prelude.{IfOk};
+ghost use Rattle.pota_base.specs.Limits.{most_questions};
 
 use crate::fault::{NumberedFault, QuestionsFault};
 use crate::listing::list_all;
@@ -13,7 +14,7 @@ use std::alloc::Global;
 
 // Why the question at this index is not read.
 fn refused(index: usize, stop: Refused<QuestionFault>) -> Refused<NumberedFault>
-    requires { index < 64 }
+    requires { index < most_questions }
     ensures { result ≡ numbered_fault index stop }
 {
     match stop {
@@ -27,7 +28,7 @@ fn refused(index: usize, stop: Refused<QuestionFault>) -> Refused<NumberedFault>
 
 // Reads each text.
 fn read_all(alloc: Global, texts: &[String]) -> Result<List<Question>, Refused<NumberedFault>>
-    requires { length texts.now ≤ 64 }
+    requires { length texts.now ≤ most_questions }
     ensures read { IfOk result (AreReadAs (map string_bytes texts.now)) }
     ensures fault { IfErr result
         (λ stop. Refuses stop (IsFirstFault (map string_bytes texts.now))) }
@@ -45,7 +46,7 @@ fn read_all(alloc: Global, texts: &[String]) -> Result<List<Question>, Refused<N
 /// Reads at most 64 questions into one list. `Fault` is the first one: that of the first text that
 /// is no question, or else the first question for which there is no room.
 pub fn read_questions(alloc: Global, texts: &[String]) -> Result<AskedList, Refused<NumberedFault>>
-    requires { length texts.now ≤ 64 }
+    requires { length texts.now ≤ most_questions }
     ensures listed { IfOk result (AreListed (map string_bytes texts.now)) }
     ensures fault { IfErr result
         (λ stop. Refuses stop (IsFirstFault (map string_bytes texts.now))) }

@@ -4,6 +4,7 @@ use Rattle.std.specs.Prelude.{Option, None, Some, codes}
 use Rattle.std.specs.List.{AllByRecursion}
 use Rattle.std.specs.Fmt.{decimal}
 use Rattle.question_meaning.specs.declared.form.Form.{Form}
+use Rattle.pota_base.specs.Limits.{most_questions}
 use Rattle.event_log.specs.States.{StatesView}
 use Rattle.rctl_grammar.specs.declared.token.Token.{Token}
 use Rattle.rctl_class.specs.NamedParts.{NamedPiece}
@@ -91,7 +92,7 @@ all_kept s steps number (q ∷ qs) fits h =
     ap outer_lines (append_assoc line inside rest) ∙ result_kept q.outcome.holds number q.text (inside ++ rest) first h.0
     ∙ ap (λ x. line ++ x) (indented_left_out (below s steps q) rest (below_whole s steps q) ∙ all_kept s steps (number + 1) qs more h.1)
 
-pub lines_of_document : (s : StatesView) (steps : ℕ) (qs : List QuestionView) → length qs ≤ 64 → AllByRecursion (λ (q : QuestionView). IsOneLine q.text) qs → outer_lines (document s steps qs) ≡ head_lines (length qs) ++ result_lines 1 qs
+pub lines_of_document : (s : StatesView) (steps : ℕ) (qs : List QuestionView) → length qs ≤ most_questions → AllByRecursion (λ (q : QuestionView). IsOneLine q.text) qs → outer_lines (document s steps qs) ≡ head_lines (length qs) ++ result_lines 1 qs
 lines_of_document s steps qs few h =
     let fits : length qs < 2 ^ 64 = omega arith in
     let all : 1 + length qs < 2 ^ 64 = omega arith in

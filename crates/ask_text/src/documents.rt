@@ -1,9 +1,10 @@
 //! The whole document.
-ghost use Rattle.ask_text.specs.Text.{IsOnRun, all_rows, below, document, formula_tokens, head_lines};
-ghost use Rattle.ask_text.specs.Text.{question_rows, result_line, result_word, view_of};
+ghost use Rattle.ask_text.specs.Text.{IsOnRun, all_rows, below, document, formula_tokens};
+ghost use Rattle.ask_text.specs.Text.{head_lines, question_rows, result_line, result_word, view_of};
 ghost use Rattle.rctl_lexer.specs.Lexing.{lex};
 ghost use Rattle.std.specs.List.{AllByRecursion};
 ghost use Rattle.std.specs.Prelude.{◌≡◌, ◌++◌, ◌≤◌, length, map, drop, IfOk, OnOk};
+ghost use Rattle.pota_base.specs.Limits.{longest_lexed};
 
 use crate::block::put_evidence;
 use crate::indented::put_indented;
@@ -43,7 +44,7 @@ fn put_result(out: &mut Bytes, number: u64, question: &AskedQuestion<'_>) -> Res
 
 // The tokens of a question's formula, which begins at this byte.
 fn lexed(alloc: Global, text: &[u8], formula: u32) -> Result<Lexed, NoMemory>
-    requires { length text.now ≤ 65536 }
+    requires { length text.now ≤ longest_lexed }
     ensures { IfOk result (λ lexed. lexed ≡ lex (drop formula text.now)) }
 {
     let from = text.len().min(formula as usize);

@@ -2,6 +2,7 @@
 use Rattle.std.specs.Prelude.{◌≡◌, ◌⊎◌, ℕ, Bool, true, false, List, [], drop, Option, None, Some}
 use Rattle.std.specs.Io.KnownBytes.{Appends, Consumes, IsAtEnd}
 use Rattle.pota_base.specs.Outside.{Rose, IsPrefix}
+use Rattle.pota_base.specs.Changes.{Behind, Change, behind_both}
 use Rattle.event_log.specs.declared.item.LogFault.{LogFault}
 use Rattle.event_log.specs.declared.log.Log.{Log}
 use Rattle.fault_kinds.specs.declared.refusal.Refusal.{Refusal}
@@ -73,40 +74,38 @@ pub record LacksName (watches : Reading) (form : Form) (list : AskedList) (read 
 -- What an answer says of the bytes that were read and written, by what the source has left, the
 -- counts of faults before and after, and the words. Only a document is written, or where that
 -- failed its front. A read fault comes behind the faults of the bytes before it.
-abbrev pub Says : Answer → Reading → Option (List ℕ) → (lf lf' of of' : ℕ) → List (List ℕ)
-    → (read written : List ℕ) → Type 0
-Says answer.Holds watches left lf lf' of of' words read written =
-    IsAnswer watches left words true read written
-Says answer.Fails watches left lf lf' of of' words read written =
-    IsAnswer watches left words false read written
-Says (answer.Without fault.Usage) watches left lf lf' of of' words read written =
+abbrev pub Says : Answer → Reading → (behind : Behind) → List (List ℕ) → (read written : List ℕ)
+    → Type 0
+Says answer.Holds watches behind words read written =
+    IsAnswer watches behind.rest words true read written
+Says answer.Fails watches behind words read written =
+    IsAnswer watches behind.rest words false read written
+Says (answer.Without fault.Usage) watches behind words read written =
     (written ≡ []) × (read ≡ []) × (asked_by words ≡ None)
-Says (answer.Without (fault.Question f)) watches left lf lf' of of' words read written =
-    (written ≡ []) × (read ≡ [])
-    × (asked : Asked) × (asked_by words ≡ Some asked)
-    × IsFirstFault (drop asked.questions_from words) f
-Says (answer.Without (fault.Unknown u)) watches left lf lf' of of' words read written =
-    (written ≡ []) × IsAtEnd left
-    × HasAsked words (λ asked list. LacksName watches asked.form list read u)
-Says (answer.Without (fault.Refused r)) watches left lf lf' of of' words read written =
-    (written ≡ [])
-    × HasAsked words (λ asked list. IsRefusedBy asked.form left read r
-    ⊎ (IsAtEnd left × FallsIn watches asked.form list read r))
-Says (answer.Without fault.Read) watches left lf lf' of of' words read written =
-    (written ≡ []) × Rose lf lf'
-    × HasAsked words (λ asked list. (log_due asked.form false read).fault ≡ None)
-Says (answer.Without fault.Write) watches left lf lf' of of' words read written =
-    (holds : Bool) × (text : List ℕ) × IsAnswer watches left words holds read text
-    × IsPrefix written text × Rose of of'
-Says (answer.Without fault.Memory) watches left lf lf' of of' words read written = written ≡ []
+Says (answer.Without (fault.Question f)) watches behind words read written =
+    (written ≡ []) × (read ≡ []) × (asked : Asked) × (asked_by words ≡ Some asked) × IsFirstFault
+    (drop asked.questions_from words) f
+Says (answer.Without (fault.Unknown u)) watches behind words read written =
+    (written ≡ []) × IsAtEnd behind.rest × HasAsked words
+    (λ asked list. LacksName watches asked.form list read u)
+Says (answer.Without (fault.Refused r)) watches behind words read written =
+    (written ≡ []) × HasAsked words (λ asked list. IsRefusedBy asked.form behind.rest read r
+    ⊎ (IsAtEnd behind.rest × FallsIn watches asked.form list read r))
+Says (answer.Without fault.Read) watches behind words read written =
+    (written ≡ []) × Rose behind.source.before behind.source.after × HasAsked words
+    (λ asked list. (log_due asked.form false read).fault ≡ None)
+Says (answer.Without fault.Write) watches behind words read written =
+    (holds : Bool) × (text : List ℕ) × IsAnswer watches behind.rest words holds read text × IsPrefix
+    written text × Rose behind.sink.before behind.sink.after
+Says (answer.Without fault.Memory) watches behind words read written = written ≡ []
 
 -- By the watches that were handed in, the words, what the source has left, what the sink holds and
 -- their counts of faults, before and after: these bytes were read and written, and the answer says
 -- this of them.
-pub record HasAnswered (watches : Reading) (left left' held held' : Option (List ℕ))
-    (lf lf' of of' : ℕ) (words : List (List ℕ)) (a : Answer) : Type 0 where
+pub record HasAnswered (watches : Reading) (source sink : Change) (words : List (List ℕ))
+    (a : Answer) : Type 0 where
   pub read : List ℕ
   pub written : List ℕ
-  pub consumed : Consumes left left' read
-  pub wrote : Appends held held' written
-  pub says : Says a watches left' lf lf' of of' words read written
+  pub consumed : Consumes source.before source.after read
+  pub wrote : Appends sink.before sink.after written
+  pub says : Says a watches (behind_both source sink) words read written

@@ -14,6 +14,7 @@ ghost use Rattle.event_log.specs.declared.log.Log.{Log as LogIs};
 ghost use Rattle.fault_line.specs.Lines.{Told as IsTold};
 ghost use Rattle.log_rules.specs.WholeLogs.{all_of};
 ghost use Rattle.std.specs.Prelude.{◌≡◌, ◌<◌, drop, length, map, string_bytes, IfErr, IfOk, Some};
+ghost use Rattle.pota_base.specs.Changes.{of_sink, of_source};
 
 use crate::answer::Answer;
 use crate::documents::{all_hold, document};
@@ -123,8 +124,7 @@ fn tell_log<R: Threads + Sync>(
 
 // Writes what the questions come to.
 fn put_told<O: Sink>(told: Told, out: &mut O) -> Answer
-    ensures { Puts told.text told.holds (O.held out.old) (O.held out.new) (O.faults out.old)
-        (O.faults out.new) result }
+    ensures { Puts told.text told.holds (of_sink O.Sink out.old out.new) result }
 {
     if write_all(out, told.text.as_slice()).is_err() {
         return Answer::Without(Fault::Write);
@@ -152,8 +152,7 @@ fn answer_list<R: Threads + Sync, S: Source, O: Sink>(
     requires listed { AreListed (map string_bytes (drop asked.questions_from words.now)) list }
     requires watches { AreWatches watches.items }
     ensures answered { HasAnswered (handed_watches (said_by answers) watches.items)
-        (S.left input.old) (S.left input.new) (O.held out.old) (O.held out.new)
-        (S.faults input.old) (S.faults input.new) (O.faults out.old) (O.faults out.new)
+        (of_source S.Source input.old input.new) (of_sink O.Sink out.old out.new)
         (map string_bytes words.now) result }
     ensures calm { IsCalm (S.faults input.old) (S.faults input.new) result }
 {
@@ -192,8 +191,7 @@ fn answer<R: Threads + Sync, S: Source, O: Sink>(
 ) -> Answer
     requires watches { AreWatches watches.items }
     ensures answered { HasAnswered (handed_watches (said_by answers) watches.items)
-        (S.left input.old) (S.left input.new) (O.held out.old) (O.held out.new)
-        (S.faults input.old) (S.faults input.new) (O.faults out.old) (O.faults out.new)
+        (of_source S.Source input.old input.new) (of_sink O.Sink out.old out.new)
         (map string_bytes words.now) result }
     ensures calm { IsCalm (S.faults input.old) (S.faults input.new) result }
 {
@@ -209,8 +207,8 @@ fn answer<R: Threads + Sync, S: Source, O: Sink>(
 
 // Tells of an answer, which is another where there is no memory to tell of it.
 fn tell_answer<D: Sink>(alloc: Global, diag: &mut D, words: &[String], answer: Answer) -> Answer
-    ensures told { IsTold (D.held diag.old) (D.held diag.new) (D.faults diag.old)
-        (D.faults diag.new) (told_of (map string_bytes words.now) result) }
+    ensures told { IsTold (of_sink D.Sink diag.old diag.new)
+        (told_of (map string_bytes words.now) result) }
     ensures same { IsAnswerTold answer result }
 {
     match answer {
@@ -236,12 +234,11 @@ pub fn ask<R: Threads + Sync, S: Source, O: Sink, D: Sink>(
 ) -> Answer
     requires watches { AreWatches watches.items }
     ensures answered { HasAnswered (handed_watches (said_by answers) watches.items)
-        (S.left input.old) (S.left input.new) (O.held out.old) (O.held out.new)
-        (S.faults input.old) (S.faults input.new) (O.faults out.old) (O.faults out.new)
+        (of_source S.Source input.old input.new) (of_sink O.Sink out.old out.new)
         (map string_bytes words.now) result }
     ensures calm { IsCalm (S.faults input.old) (S.faults input.new) result }
-    ensures told { IsTold (D.held diag.old) (D.held diag.new) (D.faults diag.old)
-        (D.faults diag.new) (told_of (map string_bytes words.now) result) }
+    ensures told { IsTold (of_sink D.Sink diag.old diag.new)
+        (told_of (map string_bytes words.now) result) }
 {
     let answer = answer(rt, alloc, words, watches, input, out);
     tell_answer(alloc, diag, words, answer)

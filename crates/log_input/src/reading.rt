@@ -6,10 +6,11 @@ ghost use Rattle.filled_log.specs.Filling.{Keeps};
 ghost use Rattle.log_rules.specs.Judgement.{waiting};
 ghost use Rattle.event_log.specs.FittingItems.{FitFirst};
 ghost use Rattle.event_log.specs.LogText.{log_items};
-ghost use Rattle.input_reading.specs.Changes.{of_source};
-ghost use Rattle.input_reading.specs.Intakes.{HasReadSome};
+ghost use Rattle.pota_base.specs.Changes.{of_source};
+ghost use Rattle.input_reading.specs.Intakes.{ReadsShort};
 ghost use Rattle.log_sources.specs.Reading.{CanMerge};
-ghost use Rattle.log_input.specs.declared.form.Form.TheVariants.{OneLog, Merged as MergedForm, Clocks};
+ghost use Rattle.log_input.specs.declared.form.Form.TheVariants.{OneLog, Merged as MergedForm};
+ghost use Rattle.log_input.specs.declared.form.Form.TheVariants.{Clocks};
 ghost use Rattle.log_input.specs.Inputs.{HasStood};
 ghost use Rattle.log_input.specs.inside.Judging.{IsJudged, IsMergedOf, IsTextJudged};
 ghost use Rattle.log_input.specs.inside.Judging.{StandsAt, HasTaken, HasTextFault};
@@ -29,8 +30,8 @@ use vclog_import::import;
 /// What an input is once it was read.
 #[derive(Debug, Drop)]
 pub enum Input {
-    /// Bytes of which no fault is due, which are this log, all its clocks filled in, and how a fault
-    /// at a line of it is told.
+    /// Bytes of which no fault is due, which are this log, all its clocks filled in, and how a
+    /// fault at a line of it is told.
     Whole(Log, Places),
     /// Bytes of which this fault is due.
     Faulty(Refusal),
@@ -118,7 +119,7 @@ fn judge(alloc: Global, text: &[u8], end: End) -> Result<Input, NoMemory>
 // Reads the text of one log.
 fn read_log<S: Source>(alloc: Global, source: &mut S) -> Result<Input, NoMemory>
     ensures reads { IfOk result (HasStood OneLog (of_source S.Source source.old source.new)) }
-    ensures short { OnErr result (HasReadSome (of_source S.Source source.old source.new)) }
+    ensures short { OnErr result (ReadsShort (of_source S.Source source.old source.new)) }
 {
     let mut kept = Kept::new(alloc);
     let end = read_all(alloc, source, &mut kept)?;
@@ -139,7 +140,7 @@ fn import_all(alloc: Global, text: &[u8]) -> Result<Input, NoMemory>
 // Reads records of two lines.
 fn read_records<S: Source>(alloc: Global, source: &mut S) -> Result<Input, NoMemory>
     ensures reads { IfOk result (HasStood Clocks (of_source S.Source source.old source.new)) }
-    ensures short { OnErr result (HasReadSome (of_source S.Source source.old source.new)) }
+    ensures short { OnErr result (ReadsShort (of_source S.Source source.old source.new)) }
 {
     let mut kept = Kept::new(alloc);
     match read_all(alloc, source, &mut kept)? {
@@ -167,7 +168,7 @@ fn merge_all(alloc: Global, logs: &[Log]) -> Result<Input, NoMemory>
 // Reads several logs one behind another.
 fn read_sources<S: Source>(alloc: Global, source: &mut S) -> Result<Input, NoMemory>
     ensures reads { IfOk result (HasStood MergedForm (of_source S.Source source.old source.new)) }
-    ensures short { OnErr result (HasReadSome (of_source S.Source source.old source.new)) }
+    ensures short { OnErr result (ReadsShort (of_source S.Source source.old source.new)) }
 {
     match gather(alloc, source)? {
         Gathered::Logs(logs) => merge_all(alloc, logs.as_slice()),
@@ -179,7 +180,7 @@ fn read_sources<S: Source>(alloc: Global, source: &mut S) -> Result<Input, NoMem
 /// Reads an input in this form to its end, or until its log is refused.
 pub fn read_input<S: Source>(alloc: Global, form: Form, source: &mut S) -> Result<Input, NoMemory>
     ensures reads { IfOk result (HasStood form (of_source S.Source source.old source.new)) }
-    ensures short { OnErr result (HasReadSome (of_source S.Source source.old source.new)) }
+    ensures short { OnErr result (ReadsShort (of_source S.Source source.old source.new)) }
 {
     match form {
         Form::OneLog => read_log(alloc, source),

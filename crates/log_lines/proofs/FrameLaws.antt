@@ -82,17 +82,6 @@ one_digit n few = ap length (decimal_digit n few)
 pub digit_more : (n : ℕ) → 10 ≤ n → n < 2 ^ 64 → length (decimal n) ≡ length (decimal (n / 10)) + 1
 digit_more n many small = ap length (decimal_step n many small) ∙ length-append (decimal (n / 10)) ((48 + n % 10) ∷ [])
 
--- ---- numbers of few digits
-
-pub two_digits : (n : ℕ) → 10 ≤ n → n < 100 → length (decimal n) ≡ 2
-two_digits n many few = omega (arith, digit_more n many (omega (arith, few)), one_digit (n / 10) (omega (arith, few)))
-
-pub three_digits : (n : ℕ) → 100 ≤ n → n < 1000 → length (decimal n) ≡ 3
-three_digits n many few = omega (arith, digit_more n (omega (arith, many)) (omega (arith, few)), two_digits (n / 10) (omega (arith, many)) (omega (arith, few)))
-
-pub four_digits : (n : ℕ) → 1000 ≤ n → n < 10000 → length (decimal n) ≡ 4
-four_digits n many few = omega (arith, digit_more n (omega (arith, many)) (omega (arith, few)), three_digits (n / 10) (omega (arith, many)) (omega (arith, few)))
-
 -- ---- what stands before the rest
 
 pub record StandsBefore (bytes text rest : List ℕ) : Type 0 where

@@ -1,4 +1,3 @@
-pub mod FewDigits
 pub mod Steps
 pub mod NumberLaws
 pub mod WordLaws

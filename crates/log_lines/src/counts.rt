@@ -1,14 +1,13 @@
 //! The counts of clocks.
 
-ghost use Rattle.std.specs.Prelude.{◌≡◌, ◌-◌, ◌^◌, ◌<◌, ◌≤◌, length};
-ghost use Rattle.pota_base.specs.Number.{number_at, seen};
+ghost use Rattle.std.specs.Prelude.{◌≡◌, ◌-◌, ◌^◌, ◌<◌, ◌≤◌, false, length, drop, IsTrue};
+ghost use Rattle.pota_base.specs.Number.{number_at, seen, digits_end, is_leading_zero};
 ghost use Rattle.pota_base.specs.Number.{is_digit as is_digit_byte};
-ghost use Rattle.log_lines.specs.inside.Counts.{few_end};
 
 use pota_base::number_at;
 
-/// So many digits are a number of 32 bits, whatever they are.
-const FEW_DIGITS: usize = 9;
+/// A count below this has room for one digit more.
+const ROOMY: u32 = 429_496_729;
 
 fn is_digit(byte: u8) -> bool
     ensures { result ≡ is_digit_byte byte }
@@ -16,23 +15,23 @@ fn is_digit(byte: u8) -> bool
     byte >= b'0' && byte <= b'9'
 }
 
-// The number that the digits at the front are, up to nine of them, and how many they are.
-fn few_digits(bytes: &[u8]) -> (u32, usize)
-    ensures number { result.1 < 9 → number_at (2 ^ 32 - 1) bytes.now
-        ≡ few_end bytes.now result.0 result.1 }
-    ensures within { result.1 ≤ length bytes.now }
-    ensures most { result.1 ≤ 9 }
+// Whether one digit more may follow, and makes no number of more than 32 bits.
+fn has_room(count: u32, len: usize) -> bool
+    ensures { IsTrue result → (is_leading_zero count len ≡ false) × (count < 429496729) }
 {
-    let mut count = 0_u32;
-    let most = bytes.len().min(FEW_DIGITS);
-    'digits: for i in 0..most {
-        let digit = bytes[i];
-        if !is_digit(digit) {
-            return (count, i);
-        }
-        count = count * 10 + u32::from(digit - b'0');
+    count < ROOMY && (count > 0 || len == 0)
+}
+
+// The count of the first `len` bytes, and the bytes after them.
+fn count_end(bytes: &[u8], len: usize, count: u32) -> Option<(u32, &[u8])>
+    requires { len ≤ length bytes.now }
+    ensures { seen result ≡ digits_end count len (drop len bytes.now) }
+{
+    if len == 0 {
+        None
+    } else {
+        Some((count, &bytes[len..]))
     }
-    (count, most)
 }
 
 // The same as `count_at`, with a test of the size at each digit.
@@ -48,15 +47,16 @@ fn any_count_at(bytes: &[u8]) -> Option<(u32, &[u8])>
 pub fn count_at(bytes: &[u8]) -> Option<(u32, &[u8])>
     ensures { seen result ≡ number_at (2 ^ 32 - 1) bytes.now }
 {
-    let (count, len) = few_digits(bytes);
-    if len == FEW_DIGITS {
-        return any_count_at(bytes);
+    let mut count = 0_u32;
+    'digits: for i in 0..bytes.len() {
+        let digit = bytes[i];
+        if !is_digit(digit) {
+            return count_end(bytes, i, count);
+        }
+        if !has_room(count, i) {
+            return any_count_at(bytes);
+        }
+        count = count * 10 + u32::from(digit - b'0');
     }
-    if len == 0 {
-        return None;
-    }
-    if len > 1 && bytes[0] == b'0' {
-        return None;
-    }
-    Some((count, &bytes[len..]))
+    any_count_at(bytes)
 }

@@ -35,27 +35,8 @@ pub struct Frames {
     frames: Vec<Option<Frame>>,
 }
 
-// How many digits the number has. Most counts have few, and take no division.
+// How many digits the number has.
 fn width_of(number: u32) -> usize
-    ensures { result ≡ length (decimal number) }
-{
-    if number < 10 {
-        return 1;
-    }
-    if number < 100 {
-        return 2;
-    }
-    if number < 1_000 {
-        return 3;
-    }
-    if number < 10_000 {
-        return 4;
-    }
-    any_width_of(number)
-}
-
-// The same, digit by digit.
-fn any_width_of(number: u32) -> usize
     ensures { result ≡ length (decimal number) }
 {
     let mut width = 1;

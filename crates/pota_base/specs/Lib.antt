@@ -1,4 +1,5 @@
 pub mod formers
+pub mod Changes
 pub mod Limits
 pub mod Memory
 pub mod Number

@@ -1,5 +1,4 @@
 pub mod Words
-pub mod Pieces
 pub mod Events
 pub mod Building
 pub mod Lasts
@@ -10,7 +9,6 @@ pub mod RowByRow
 pub mod OrderPulls
 pub mod SlicePulls
 pub mod Fans
-pub mod EventWords
 pub mod EdgeSteps
 pub mod OrderGrowing
 pub mod StartingRows

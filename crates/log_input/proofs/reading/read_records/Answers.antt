@@ -1,6 +1,6 @@
 use Rattle.std.proofs.Common.{[], arith}
-use Rattle.input_reading.specs.Changes.{of_source}
-use Rattle.input_reading.specs.Intakes.{HasReadSome}
+use Rattle.pota_base.specs.Changes.{of_source}
+use Rattle.input_reading.specs.Intakes.{ReadsShort}
 use Rattle.log_input.proofs.Stands.{err_so, read_short, records_ended, records_done, records_failed}
 use Rattle.log_input.proofs.reading.read_records.Goals as goal
 
@@ -14,7 +14,7 @@ returns-in-Ended-clause-reads g c =
 
 pub returns-in-Ended-clause-short : goal.returns-in-Ended-clause-short
 returns-in-Ended-clause-short g c =
-    err_so c.import_all.result (HasReadSome (of_source g.S.Source c.args.source.now c.read_all.new.source))
+    err_so c.import_all.result (ReadsShort (of_source g.S.Source c.args.source.now c.read_all.new.source))
     (read_short (of_source g.S.Source c.args.source.now c.read_all.new.source) c.read_all.new.intake c.in_ok-read_all.field-0 (c.in_ok-read_all.ensures.reads [] (c.new-kept.ensures, omega arith)))
 
 pub returns-in-Done-clause-reads : goal.returns-in-Done-clause-reads
@@ -24,7 +24,7 @@ returns-in-Done-clause-reads g c =
 
 pub returns-in-Done-clause-short : goal.returns-in-Done-clause-short
 returns-in-Done-clause-short g c =
-    err_so c.import_all-in-Done.result (HasReadSome (of_source g.S.Source c.args.source.now c.read_all.new.source))
+    err_so c.import_all-in-Done.result (ReadsShort (of_source g.S.Source c.args.source.now c.read_all.new.source))
     (read_short (of_source g.S.Source c.args.source.now c.read_all.new.source) c.read_all.new.intake c.in_ok-read_all.field-0 (c.in_ok-read_all.ensures.reads [] (c.new-kept.ensures, omega arith)))
 
 pub returns-clause-reads : goal.returns-clause-reads

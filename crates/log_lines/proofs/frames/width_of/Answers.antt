@@ -1,15 +1,21 @@
-use Rattle.std.proofs.Common.{arith, sym}
-use Rattle.log_lines.proofs.FrameLaws.{one_digit, two_digits, three_digits, four_digits}
+use Rattle.std.proofs.Common.{◌≤◌, length, arith}
+use Rattle.std.specs.Fmt.{decimal}
+use Rattle.std.proofs.lemmas.Fmt.{decimal_nonempty, length-decimal-le}
+use Rattle.log_lines.proofs.FrameLaws.{one_digit, digit_more}
 use Rattle.log_lines.proofs.frames.width_of.Goals as goal
 
-pub returns-then-number-lt10 : goal.returns-then-number-lt10
-returns-then-number-lt10 c = sym (one_digit c.args.number (omega (arith, c.if-number-lt10.true)))
+pub overflow_add-width : goal.overflow_add-width
+overflow_add-width c =
+    let most : length (decimal c.args.number) ≤ 10 = length-decimal-le 10 c.args.number (omega arith) (omega (arith, c.ranges.number.fits)) (omega (arith, c.ranges.number.fits)) in
+    let some = decimal_nonempty c.loop-rest.rest (omega (arith, c.ranges.number.fits, c.loop-rest.invariant.1)) in
+    omega (arith, c.loop-rest.invariant.0)
 
-pub returns-then-number-lt100 : goal.returns-then-number-lt100
-returns-then-number-lt100 c = sym (two_digits c.args.number (omega (arith, c.if-number-lt10.false)) (omega (arith, c.if-number-lt100.true)))
+pub loop-rest-preserved : goal.loop-rest-preserved
+loop-rest-preserved c =
+    let step = digit_more c.loop-rest.rest (omega (arith, c.loop-rest-test.true)) (omega (arith, c.ranges.number.fits, c.loop-rest.invariant.1)) in
+    (omega (arith, c.loop-rest.invariant.0, step), omega (arith, c.loop-rest.invariant.1))
 
-pub returns-then-number-lt1000 : goal.returns-then-number-lt1000
-returns-then-number-lt1000 c = sym (three_digits c.args.number (omega (arith, c.if-number-lt100.false)) (omega (arith, c.if-number-lt1000.true)))
-
-pub returns-then-number-lt10000 : goal.returns-then-number-lt10000
-returns-then-number-lt10000 c = sym (four_digits c.args.number (omega (arith, c.if-number-lt1000.false)) (omega (arith, c.if-number-lt10000.true)))
+pub returns : goal.returns
+returns c =
+    let last = one_digit c.loop-rest.rest (omega (arith, c.loop-rest-test.false)) in
+    omega (arith, c.loop-rest.invariant.0, last)
