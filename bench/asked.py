@@ -8,166 +8,34 @@ questions are asked in one call of `pota_ask`, and each by `pota check`: `never 
 by EF of the opposite, and so on as docs/ASKING.md has it. A question that `pota` refuses must be refused by `pota_ask` too, and another
 one comes in its place. Where a log has less than 3,000 consistent cuts, they are listed, and the question is answered by its definition
 as well; the state that is shown for a `never` or an `always` is one of them and must show what it says. Of a part that holds at no
-state, as a comment says, EF must be false. A line for each answer that differs is printed, and behind them one line with the counts; of
-each form it says how many questions hold. The exit status is 1 where an answer differs. It takes about half a minute, and writes no
-file.
+state, as a comment says, EF must be false.
+
+Two questions over processes stand among these five. With the names of each two processes in it, or of each one, such a question is
+asked of `pota` by the same table, by its definition, and alone of `pota_ask`: it holds where all of these do, and what is below its line
+must be how many there are, or what is below the first of them that fails, with its processes and how many fail. One that no processes
+have the variables for must be refused.
+
+A line for each answer that differs is printed, and behind them one line with the counts; of each form it says how many questions hold.
+The exit status is 1 where an answer differs. It takes about two minutes, and writes no file.
 """
 import collections
+import itertools
 import operator
 import random
 import re
 import subprocess
 import sys
 
+from random_log import LOG_FORMS, Log
+
 LOGS = 300
 QUESTIONS = 5
-CUTS = 3000
+OVERS = 2
 SECONDS = 60
 FORMS = ["never", "can", "always", "surely", "at end", "plain"]
-LOG_FORMS = {"one log without clocks": [], "merged logs": ["--merged"], "two-line log": ["--vclog"]}
 # `empty(a,b)` is a comparison too, of the messages in transit with 0.
 TRUE_OF = {"<": operator.lt, "<=": operator.le, ">": operator.gt, ">=": operator.ge, "=": operator.eq, "!=": operator.ne}
 OPPOSITE = {"<": ">=", ">=": "<", ">": "<=", "<=": ">", "=": "!=", "!=": "="}
-
-
-class Log:
-    """A random run: processes with counters `c` that never fall and levels `x` and `y`, and messages between them."""
-
-    def __init__(self, rng):
-        self.rng = rng
-        self.form = "one log" if rng.random() < 0.75 else rng.choice(list(LOG_FORMS))
-        self.procs = [f"p{place + 1}" for place in range(rng.randint(2, 5))]
-        self.first = {name: self.first_values(name) for name in self.procs}
-        self.clocks = {name: [] for name in self.procs}
-        self.lines = {name: [] for name in self.procs}
-        self.after = {name: [{f"{name}.{v}": k for v, k in self.first[name].items()}] for name in self.procs}
-        self.order = []
-        self.sent = []
-        # A host of a two-line log is one that has a record.
-        for name in self.procs if self.form == "two-line log" else []:
-            self.event(name)
-        for _ in range(rng.randint(0, 25 - len(self.order))):
-            self.event(rng.choice(self.procs))
-
-    def first_values(self, name):
-        if self.form == "two-line log":
-            return {"n": 0}
-        names = ["c", "x", "y"][: self.rng.randint(1 if name == "p1" else 0, 3)]
-        return {variable: self.rng.randint(0, 2) for variable in names}
-
-    def event(self, name):
-        place = self.procs.index(name)
-        clock = list(self.clocks[name][-1]) if self.clocks[name] else [0] * len(self.procs)
-        after = dict(self.after[name][-1])
-        action = "int"
-        waiting = [message for message in self.sent if message[1] == name]
-        kind = self.rng.random()
-        if kind < 0.4 and waiting:
-            message = self.rng.choice(waiting)
-            self.sent.remove(message)
-            sender, _, number, then = message
-            clock = [max(pair) for pair in zip(clock, then)]
-            action = f"recv {sender} {number}"
-            self.pass_on(after, f"{sender}>{name}", -1)
-        clock[place] += 1
-        if kind > 0.6:
-            to = self.rng.choice([other for other in self.procs if other != name])
-            self.sent.append((name, to, len(self.order), list(clock)))
-            action = f"send {to} {len(self.order)}"
-            self.pass_on(after, f"{name}>{to}", 1)
-        words = [f"{variable}={self.assign(after, name, variable)}" for variable in self.first[name] if self.rng.random() < 0.4]
-        if self.form == "two-line log":
-            after[f"{name}.n"] = clock[place]
-        self.order.append(name)
-        self.clocks[name].append(tuple(clock))
-        self.lines[name].append((action, words))
-        self.after[name].append(after)
-
-    def pass_on(self, after, channel, count):
-        """A two-line log has clocks alone, and nothing in transit."""
-        if self.form != "two-line log":
-            after[channel] = after.get(channel, 0) + count
-
-    def assign(self, after, name, variable):
-        old = after[f"{name}.{variable}"]
-        after[f"{name}.{variable}"] = new = old + self.rng.randint(0, 2) if variable == "c" else self.rng.randint(-1, 3)
-        return new
-
-    def rising(self):
-        """The variables that never fall."""
-        for name in self.procs:
-            for variable in self.first[name]:
-                values = [after[f"{name}.{variable}"] for after in self.after[name]]
-                if values == sorted(values):
-                    yield name, f"{name}.{variable}"
-
-    def line(self, name, place):
-        action, words = self.lines[name][place]
-        clock = "~" if self.form == "one log without clocks" else ",".join(map(str, self.clocks[name][place]))
-        return " ".join(["ev", name, clock, action, *words])
-
-    def text(self):
-        header = [f"pota-log {2 if self.form == 'one log without clocks' else 1}", "procs " + " ".join(self.procs)]
-        if self.form == "two-line log":
-            return "".join(self.records())
-        if self.form == "merged logs":
-            parts = [[*header, *self.vars_line(name), *self.lines_of(name), "end"] for name in self.procs]
-            self.rng.shuffle(parts)
-            return "".join("\n".join(part) + "\n" for part in parts)
-        variables = [line for name in self.procs for line in self.vars_line(name)]
-        return "\n".join([*header, *variables, *self.in_some_order(), "end"]) + "\n"
-
-    def vars_line(self, name):
-        """A process without variables has none."""
-        values = [f"{variable}={value}" for variable, value in self.first[name].items()]
-        return [" ".join(["vars", name, *values])] if values else []
-
-    def lines_of(self, name):
-        return [self.line(name, place) for place in range(len(self.lines[name]))]
-
-    def in_some_order(self):
-        """The lines of all processes in any order, or in that of the run, perhaps with a batch."""
-        order = list(self.order)
-        any_order = self.rng.random() < 0.5
-        if any_order:
-            self.rng.shuffle(order)
-        lines = [self.line(name, order[:at].count(name)) for at, name in enumerate(order)]
-        if not any_order and lines and self.rng.random() < 0.4:
-            lines.insert(self.rng.randint(1, len(lines)), "batch")
-        return lines
-
-    def records(self):
-        for at, name in enumerate(self.order):
-            clock = self.clocks[name][self.order[:at].count(name)]
-            counts = ",".join(f'"{other}":{count}' for other, count in zip(self.procs, clock) if count)
-            yield f"{name} {{{counts}}}\nevent\n"
-
-    def next_cuts(self, cut):
-        """The consistent cuts with one event more."""
-        for place, name in enumerate(self.procs):
-            if cut[place] < len(self.clocks[name]):
-                more = (*cut[:place], cut[place] + 1, *cut[place + 1:])
-                if all(count <= there for count, there in zip(self.clocks[name][cut[place]], more)):
-                    yield more
-
-    def states(self):
-        """The states at all consistent cuts, those of less events first; none where there are CUTS or more."""
-        found = {(0,) * len(self.procs): None}
-        for cut in (waiting := list(found)):
-            for more in self.next_cuts(cut):
-                if more not in found:
-                    found[more] = None
-                    waiting.append(more)
-            if len(found) >= CUTS:
-                return {}
-        return {cut: self.state(cut) for cut in found}
-
-    def state(self, cut):
-        """The values of the variables, and the numbers of messages in transit: those sent without those received."""
-        state = collections.Counter()
-        for name, count in zip(self.procs, cut):
-            state.update(self.after[name][count])
-        return state
 
 
 class Atom:
@@ -191,12 +59,30 @@ class Atom:
         return TRUE_OF[self.relation](self.measure(state), 0)
 
 
+def compared(process, variable, relation, other):
+    """A variable with a number, or with another one of the process."""
+    left = f"{process}.{variable}"
+    if isinstance(other, int):
+        return Atom(left, relation, str(other), lambda state: state[left] - other)
+    right = f"{process}.{other}"
+    return Atom(left, relation, right, lambda state: state[left] - state[right])
+
+
+def is_empty(sender, receiver):
+    return Atom(f"empty({sender},{receiver})", "=", "", lambda state: state[f"{sender}>{receiver}"])
+
+
+def in_transit(sender, receiver, relation, number):
+    return Atom(f"intransit({sender},{receiver})", relation, str(number), lambda state: state[f"{sender}>{receiver}"] - number)
+
+
 class Formulas:
     """Random formulas about a log: atoms, ("!", formula), and ("&", formula, formula), ("|", formula, formula)."""
 
     def __init__(self, rng, log):
         self.rng = rng
         self.log = log
+        self.procs = log.procs
         self.with_variables = [name for name in log.procs if log.first[name]]
         self.rising = list(log.rising())
 
@@ -225,19 +111,22 @@ class Formulas:
 
     def comparison(self, process):
         relation = self.rng.choice(list(TRUE_OF))
-        left, other = [f"{process}.{self.rng.choice(list(self.log.first[process]))}" for _ in range(2)]
-        if self.rng.random() < 0.15:
-            return Atom(left, relation, other, lambda state: state[left] - state[other])
-        number = self.rng.randint(-1, 4)
-        return Atom(left, relation, str(number), lambda state: state[left] - number)
+        variable, other = [self.rng.choice(self.variables(process)) for _ in range(2)]
+        if self.rng.random() >= 0.15:
+            other = self.rng.randint(-1, 4)
+        return self.made(compared, (process,), variable, relation, other)
+
+    def variables(self, process):
+        return list(self.log.first[process])
 
     def channel(self):
-        sender, receiver = self.rng.sample(self.log.procs, 2)
-        channel = f"{sender}>{receiver}"
+        ends = self.rng.sample(self.procs, 2)
         if self.rng.random() < 0.4:
-            return Atom(f"empty({sender},{receiver})", "=", "", lambda state: state[channel])
-        number = self.rng.randint(0, 2)
-        return Atom(f"intransit({sender},{receiver})", self.relation(), str(number), lambda state: state[channel] - number)
+            return self.made(is_empty, ends)
+        return self.made(in_transit, ends, self.relation(), self.rng.randint(0, 2))
+
+    def made(self, maker, processes, *others):
+        return maker(*processes, *others)
 
     def difference(self):
         one, left = self.rng.choice(self.rising)
@@ -248,6 +137,53 @@ class Formulas:
     def relation(self):
         """`!=` is refused in most places, and comes less often."""
         return self.rng.choice([*list(OPPOSITE)[:5] * 3, "!="])
+
+
+class Template:
+    """An atom with names in the place of processes."""
+
+    def __init__(self, maker, processes, others):
+        self.maker = maker
+        self.processes = processes
+        self.others = others
+
+    def put_in(self, processes):
+        """The atom with these processes for their names."""
+        return self.maker(*(processes.get(name, name) for name in self.processes), *self.others)
+
+
+class OverFormulas(Formulas):
+    """The same with names that processes are put in for, and with no difference."""
+
+    def __init__(self, rng, log, names):
+        super().__init__(rng, log)
+        others = [name for name in log.procs if name not in names]
+        self.names = names
+        self.procs = [*names * 3, *others] if len(names) > 1 or others else log.procs
+        self.with_variables = [*names * 4, *(name for name in others if log.first[name])]
+        self.rising = []
+
+    def variables(self, process):
+        """Of a name those of some process."""
+        return super().variables(process) if process not in self.names else super().variables(self.rng.choice(
+            [name for name in self.log.procs if self.log.first[name]]))
+
+    def made(self, maker, processes, *others):
+        return Template(maker, processes, others)
+
+
+def put_in(formula, processes):
+    """The formula with these processes for their names."""
+    if isinstance(formula, Template):
+        return formula.put_in(processes)
+    return (formula[0], *(put_in(part, processes) for part in formula[1:]))
+
+
+def variables_of(formula):
+    """The variables that the formula names."""
+    if isinstance(formula, Atom):
+        return {word for word in (formula.left, formula.right) if "." in word}
+    return {variable for part in formula[1:] for variable in variables_of(part)}
 
 
 def text(formula, inside=""):
@@ -293,14 +229,13 @@ def somewhere(formula, opposite=False):
 class Question:
     """A form, which for a plain formula is its operator if it has one, and a formula."""
 
-    def __init__(self, rng, formulas):
-        self.kind = rng.choice(FORMS)
-        self.form = rng.choice(["", "EF", "AG", "EG"]) if self.kind == "plain" else self.kind
-        local = self.form in ("surely", "EG") and rng.random() < 0.7
-        self.formula = formulas.formula(rng.randint(1, 4), formulas.some_process() if local else None)
+    def __init__(self, kind, form, formula, name=""):
+        self.kind = kind
+        self.form = form
+        self.formula = formula
         asked = text(self.formula)
         self.asked = f"{self.form} ({asked})" if self.form.isupper() else f"{self.form} {asked}".strip()
-        self.text = rng.choice(["", "", "a name: "]) + self.asked
+        self.text = name + self.asked
 
     def by_table(self, verdict):
         """Whether it holds, by the verdict of the formula that it is asked by; None if `pota` refuses that."""
@@ -329,6 +264,60 @@ class Question:
         if self.form == "EG":
             return path_in(log, {cut for cut in true if true[cut]}, list(true))
         return list(true.values())[-1 if self.form == "at end" else 0]
+
+
+def some_form(rng, formulas):
+    """A kind of question, its form, and a formula."""
+    kind = rng.choice(FORMS)
+    form = rng.choice(["", "EF", "AG", "EG"]) if kind == "plain" else kind
+    local = form in ("surely", "EG") and rng.random() < 0.7
+    return kind, form, formulas.formula(rng.randint(1, 4), formulas.some_process() if local else None)
+
+
+class Over:
+    """A question over processes, and its instances."""
+
+    def __init__(self, rng, log):
+        self.names = rng.choice([["p", "q"], ["p", "q"], ["p2", "p1"], ["p"], ["p3"]])
+        self.kind, self.form, self.formula = some_form(rng, OverFormulas(rng, log, self.names))
+        plain = self.put_in(dict(zip(self.names, self.names)))
+        self.plain = plain
+        self.text = rng.choice(["", "a name: "]) + f"for {' '.join(self.names)}: {plain.text}"
+        several = list(itertools.permutations(log.procs, len(self.names)))
+        self.processes = [processes for processes in several if self.has_variables(log, processes)]
+        self.instances = [self.put_in(dict(zip(self.names, processes))) for processes in self.processes]
+
+    def put_in(self, processes):
+        return Question(self.kind, self.form, put_in(self.formula, processes))
+
+    def has_variables(self, log, processes):
+        there = {f"{name}.{variable}" for name in log.procs for variable in log.first[name]}
+        return variables_of(put_in(self.formula, dict(zip(self.names, processes)))) <= there
+
+    def below(self, blocks, answers):
+        """What is below its line, by what is below those of its instances."""
+        many = "" if len(answers) == 1 else "s" if len(self.names) > 1 else "es"
+        what = f"pair{many} of processes" if len(self.names) > 1 else f"process{many}"
+        first = answers.index(False) if False in answers else 0
+        block, comments = parts_of(blocks[first])
+        if all(answers):
+            block = f"  # asked of {len(answers)} {what}\n"
+        else:
+            chosen = ", ".join(f"{name} = {process}" for name, process in zip(self.names, self.processes[first]))
+            front = f"  ---\n  for: {chosen}\n  fails: {answers.count(False)} of {len(answers)}\n"
+            block = front + (block.removeprefix("  ---\n") or "  ...\n")
+        return block + (comments if all(parts_of(block)[1] for block in blocks) else "")
+
+
+def parts_of(below):
+    """The block below a line, and the comments."""
+    at = below.find("  # ")
+    return (below, "") if at < 0 else (below[:at], below[at:])
+
+
+def blocks_of(out):
+    """What is below each line of a question."""
+    return re.split(r"^(?:not )?ok .*\n", out, flags=re.M)[1:]
 
 
 def turned(answer):
@@ -367,6 +356,11 @@ class Comparison:
             self.differences.append(f"pota {status}: {told.strip()}: {formula}")
         return {0: True, 1: False}.get(status)
 
+    def accepts(self, formula):
+        """True where `pota` takes the formula, whatever names the log has, and else None."""
+        _, _, told = run([self.pota, "check", formula, *self.options], self.text)
+        return None if re.match(r"pota: formula byte \d+: F[1-9] ", told) else True
+
     def ask(self, questions):
         return run([self.pota_ask, *self.options, *questions], self.text)
 
@@ -375,39 +369,85 @@ class Comparison:
         formulas = Formulas(self.rng, self.log)
         taken = []
         while len(taken) < QUESTIONS:
-            question = Question(self.rng, formulas)
+            name = self.rng.choice(["", "", "a name: "])
+            question = Question(*some_form(self.rng, formulas), name)
             answer = question.by_table(self.verdict)
             if answer is not None:
                 taken.append((question, answer))
                 continue
+            self.refuse(question.text, "pota_ask: question 1: byte ")
             self.counts["refused"] += 1
-            status, out, told = self.ask([question.text])
-            if status != 3 or out or not told.startswith("pota_ask: question 1: "):
-                self.differences.append(f"pota refuses what pota_ask answers with {status}: {question.text}")
         return taken
+
+    def refuse(self, question, must):
+        """The question must be refused, and so be told of."""
+        status, out, told = self.ask([question])
+        if status != 3 or out or not told.startswith(must):
+            self.differences.append(f"must be refused, and is answered with {status}: {told} {question}")
+
+    def overs(self):
+        """Questions over processes that are answered, each with the answers to its instances."""
+        taken = []
+        while len(taken) < OVERS:
+            over = Over(self.rng, self.log)
+            if over.plain.by_table(self.accepts) is None:
+                self.refuse(over.text, "pota_ask: question 1: byte ")
+                self.counts["refused"] += 1
+            elif not over.instances:
+                self.refuse(over.text, "pota_ask: question 1: Q12 ")
+                self.counts["none"] += 1
+            else:
+                taken.append((over, [one.by_table(self.verdict) for one in over.instances]))
+        return taken
+
+    def define_over(self, over, answers, block, states):
+        """What is below the line of a question over processes, by its instances alone."""
+        self.counts["over"] += 1
+        self.counts["over holds"] += all(answers)
+        self.counts["instances"] += len(answers)
+        blocks = []
+        for one, answer in zip(over.instances, answers):
+            status, out, _ = self.ask([one.text])
+            blocks += blocks_of(out) or [""]
+            if status != int(not answer):
+                self.differences.append(f"of {one.text} by pota {answer}, by pota_ask {status}")
+            if states and one.by_definition(self.log, states) != answer:
+                self.differences.append(f"by definition {not answer}, answered {answer}: {one.text} of {over.text}")
+        if block != over.below(blocks, answers):
+            self.differences.append(f"of {over.text} must be below\n{over.below(blocks, answers)}is\n{block}")
 
     def compare(self):
         taken = self.questions()
+        for one in self.overs():
+            taken.insert(self.rng.randint(0, len(taken)), one)
         status, out, told = self.ask([question.text for question, _ in taken])
-        if status != int(not all(answer for _, answer in taken)) or told:
+        hold = [all(answer) if isinstance(answer, list) else answer for _, answer in taken]
+        if status != int(not all(hold)) or told:
             self.differences.append(f"exit status {status} {told.strip()}: {[question.text for question, _ in taken]}")
-        lines = [f"{'ok' if answer else 'not ok'} {place} - {question.text}" for place, (question, answer) in enumerate(taken, 1)]
-        if [line for line in out.split("\n") if not line.startswith("  ")] != ["TAP version 14", f"1..{QUESTIONS}", *lines, ""]:
+        lines = [f"{'ok' if held else 'not ok'} {place} - {question.text}" for place, ((question, _), held) in enumerate(zip(taken, hold), 1)]
+        if [line for line in out.split("\n") if not line.startswith("  ")] != ["TAP version 14", f"1..{len(taken)}", *lines, ""]:
             self.differences.append(f"must be {lines}, is {out}")
         states = self.log.states()
         self.counts["small"] += bool(states)
-        for (question, answer), block in zip(taken, re.split(r"^(?:not )?ok .*\n", out, flags=re.M)[1:]):
-            self.counts[question.kind] += 1
-            self.counts[f"{question.kind} holds"] += answer
-            for part in re.findall(r"^  # (.*) holds at no state of this log$", block, re.M):
-                self.counts["parts"] += 1
-                if self.verdict(f"EF ({part})") is not False:
-                    self.differences.append(f"{part} holds at some state: {question.text}")
-            if states:
-                self.counts["by definition"] += 1
+        for (question, answer), block in zip(taken, blocks_of(out)):
+            if isinstance(question, Over):
+                self.define_over(question, answer, block, states)
+            else:
                 self.define(question, answer, block, states)
 
     def define(self, question, answer, block, states):
+        """What is below the line of a question of the log."""
+        self.counts[question.kind] += 1
+        self.counts[f"{question.kind} holds"] += answer
+        for part in re.findall(r"^  # (.*) holds at no state of this log$", block, re.M):
+            self.counts["parts"] += 1
+            if self.verdict(f"EF ({part})") is not False:
+                self.differences.append(f"{part} holds at some state: {question.text}")
+        if states:
+            self.counts["by definition"] += 1
+            self.by_states(question, answer, block, states)
+
+    def by_states(self, question, answer, block, states):
         if question.by_definition(self.log, states) != answer:
             self.differences.append(f"by definition {not answer}, answered {answer}: {question.text}")
         if not answer and question.form in ("never", "always"):
@@ -435,6 +475,7 @@ def main():
     others = ", ".join(f"{counts[form]} {form}" for form in LOG_FORMS)
     print(
         f"{LOGS} logs ({others}) with {counts['events']} events; {sum(counts[form] for form in FORMS)} questions: {forms}; "
+        f"{counts['over']} over processes ({counts['over holds']} hold) with {counts['instances']} instances, and {counts['none']} without one; "
         f"{counts['refused']} refused by both; {counts['by definition']} compared by definition in {counts['small']} logs, "
         f"{counts['shown']} shown states and {counts['parts']} comments looked at; {counts['differ']} differ"
     )

@@ -1,7 +1,6 @@
 //! Copies of what a report tells as it stands elsewhere.
 ghost use Rattle.std.specs.Prelude.{◌≡◌, ◌≤◌, true, length, IfOk};
 ghost use Rattle.std.specs.List.{AllByRecursion};
-ghost use Rattle.pota_base.specs.Limits.{most_processes};
 ghost use Rattle.pota_names.specs.Names.{is_name};
 
 use cut_lattice::Cut;
@@ -12,7 +11,7 @@ use std::alloc::Global;
 
 /// The cut that has these counts.
 pub fn cut_of(alloc: Global, counts: &[u32]) -> Result<Cut, NoMemory>
-    requires { length counts.now ≤ most_processes }
+    requires { length counts.now ≤ 32 }
     ensures { IfOk result (λ cut. cut ≡ counts.now) }
 {
     let mut cut = Cut::new(alloc, counts.len() as u32)?;

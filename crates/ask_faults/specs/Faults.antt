@@ -5,14 +5,16 @@ use Rattle.log_lines.specs.Reading.{choose}
 use Rattle.ask_words.specs.Asking.{asked_by}
 use Rattle.ask_faults.specs.declared.fault.Fault.{Fault}
 use Rattle.ask_faults.specs.declared.fault.Fault.TheVariants as fault
-use Rattle.ask_faults.specs.Lines.{help, numbered_lines, refusal_lines, unknown_lines}
+use Rattle.ask_faults.specs.Lines.{help, numbered_lines, refusal_lines, stop_lines}
+use Rattle.ask_faults.specs.Lines.{unknown_lines}
 
 -- the exit status of a fault
 abbrev pub status_of : Fault → ℕ
 status_of fault.Usage = 2
 status_of (fault.Question f) = 3
 status_of (fault.Unknown u) = 3
-status_of (fault.Refused r) = 4
+status_of (fault.Over f) = 3
+status_of (fault.Refused r line) = 4
 status_of fault.Read = 5
 status_of fault.Write = 6
 status_of fault.Memory = 7
@@ -38,7 +40,8 @@ abbrev pub short_line : Fault → List ℕ
 short_line fault.Usage = usage_text
 short_line (fault.Question f) = []
 short_line (fault.Unknown u) = []
-short_line (fault.Refused r) = []
+short_line (fault.Over f) = []
+short_line (fault.Refused r line) = []
 short_line fault.Read = codes "pota_ask: read fault\n"
 short_line fault.Write = codes "pota_ask: write fault\n"
 short_line fault.Memory = codes "pota_ask: out of memory\n"
@@ -50,7 +53,8 @@ long_lines words (fault.Question f) =
     numbered_lines (text_at (question_texts words) f.question) f
 long_lines words (fault.Unknown u) =
     unknown_lines (text_at (question_texts words) u.question) u
-long_lines words (fault.Refused r) = refusal_lines r
+long_lines words (fault.Over f) = stop_lines f
+long_lines words (fault.Refused r line) = refusal_lines r line
 long_lines words fault.Read = []
 long_lines words fault.Write = []
 long_lines words fault.Memory = []
@@ -59,7 +63,8 @@ abbrev pub is_long : Fault → Bool
 is_long fault.Usage = false
 is_long (fault.Question f) = true
 is_long (fault.Unknown u) = true
-is_long (fault.Refused r) = true
+is_long (fault.Over f) = true
+is_long (fault.Refused r line) = true
 is_long fault.Read = false
 is_long fault.Write = false
 is_long fault.Memory = false

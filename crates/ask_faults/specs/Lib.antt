@@ -1,3 +1,4 @@
 pub mod Faults
+pub mod Helps
 pub mod Lines
 pub mod Telling

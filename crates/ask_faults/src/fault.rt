@@ -5,9 +5,11 @@ ghost use Rattle.std.specs.Prelude.{◌≡◌};
 use ask_questions::NumberedFault;
 use asked_observation::UnknownName;
 use fault_kinds::Refusal;
+use over_answers::NumberedStop;
+use pota_base::Bytes;
 
 /// Why there is no answer.
-#[derive(Clone, Copy, Debug, PartialEq, Eq)]
+#[derive(Debug, Drop)]
 pub enum Fault {
     /// The words are refused.
     Usage,
@@ -15,8 +17,11 @@ pub enum Fault {
     Question(NumberedFault),
     /// A question has a name that the log does not have.
     Unknown(UnknownName),
-    /// The log is faulty, or a counter of a question falls in it.
-    Refused(Refusal),
+    /// A question over processes has no answer on the log.
+    Over(NumberedStop),
+    /// The log is faulty, or a counter of a question falls in it; and the text of the log's line, as
+    /// far as it is shown.
+    Refused(Refusal, Bytes),
     /// The input could not be read.
     Read,
     /// The document could not be written.
@@ -34,7 +39,8 @@ impl Fault {
             Fault::Usage => 2,
             Fault::Question(_) => 3,
             Fault::Unknown(_) => 3,
-            Fault::Refused(_) => 4,
+            Fault::Over(_) => 3,
+            Fault::Refused(_, _) => 4,
             Fault::Read => 5,
             Fault::Write => 6,
             Fault::Memory => 7,

@@ -1,5 +1,5 @@
 -- A text asks one thing.
-use Rattle.std.proofs.Common.{◌≡◌, ℕ, List, drop, Option, Some, Result, Ok, sym, ap, subst, ◌∙◌}
+use Rattle.std.proofs.Common.{◌≡◌, ℕ, List, drop, Some, Result, Ok, sym, ap, subst, ◌∙◌}
 use Rattle.rctl_grammar.specs.declared.tree.Tree.{Tree}
 use Rattle.rctl_grammar.specs.Grammar.{tree_disjunction}
 use Rattle.rctl_laws.specs.PassedOn.{lex}

@@ -1,7 +1,7 @@
 -- What a call says that was answered.
-use Rattle.std.proofs.Common.{◌≡◌, ◌↔◌, ◌⊎◌, ℕ, suc, ◌+◌, ◌≤◌, Bool, true, false, IsTrue, List, [], ◌∷◌, ◌++◌, length, drop, Option, None, Some, refl, sym, ap, subst, ◌∙◌, arith, inl, inr}
-use Rattle.std.specs.Prelude.{is_some, slice_get, if◌then◌else◌}
-use Rattle.std.specs.List.{AllZip}
+use Rattle.std.proofs.Common.{◌≡◌, ◌↔◌, ◌⊎◌, ℕ, suc, ◌+◌, ◌≤◌, Bool, true, false, IsTrue, List, [], ◌∷◌, length, drop, Option, None, Some, refl, sym, ap, subst, ◌∙◌, arith, inl, inr}
+use Rattle.std.specs.Prelude.{Ok, is_some, slice_get, if◌then◌else◌}
+use Rattle.std.specs.List.{AllByRecursion, AllZip}
 use Rattle.std.proofs.lemmas.Option.{same_Some}
 use Rattle.run_model.specs.Run.{Run}
 use Rattle.run_model.specs.Formula.{Formula}
@@ -10,31 +10,30 @@ use Rattle.question_meaning.specs.Question as questions
 use Rattle.question_meaning.specs.Question.{Holds, Never, Can, Always, Surely, AtEnd, Plain}
 use Rattle.question_meaning.specs.declared.form.Form.{Form}
 use Rattle.question_meaning.specs.declared.form.Form.TheVariants as form
-use Rattle.pota_base.specs.Limits.{most_questions}
-use Rattle.pota_base.specs.Changes.{behind_of}
-use Rattle.rctl_grammar.specs.declared.tree.Tree.{Tree}
 use Rattle.rctl_grammar.specs.Shape.{meaning}
 use Rattle.rctl_class.specs.Nodes.{Node, node_of}
 use Rattle.question_text.specs.declared.front.Asking.{Asking}
 use Rattle.question_text.specs.declared.front.Asking.TheVariants as asking
 use Rattle.question_text.specs.declared.head.Head.{Head}
-use Rattle.question_forms.specs.Questions.{IsAsking}
 use Rattle.question_forms.specs.Taking.{form_of, negation_fault}
 use Rattle.question_lines.specs.Lines.{IsOneLine}
 use Rattle.question_lines.proofs.QuestionLines.{question-free}
 use Rattle.part_pulls.specs.Observing.{Reading}
-use Rattle.log_rules.specs.Judgement.{Prefix, states_of}
+use Rattle.log_rules.specs.Judgement.{states_of}
 use Rattle.log_input.specs.Readings.{HasLog}
 use Rattle.ask_questions.specs.Listing.{IsAt}
-use Rattle.ask_words.specs.Asking.{asked_by}
 use Rattle.ask_words.specs.declared.asking.Asked.{Asked}
-use Rattle.ask_text.specs.Text.{QuestionView, document}
+use Rattle.ask_text.specs.Documents.{EntryView, one, over, text_of}
+use Rattle.ask_text.specs.OverText.{OverView}
+use Rattle.ask_text.specs.Text.{QuestionView}
+use Rattle.ask_top.specs.Documents.{view_holds}
+use Rattle.question_instances.specs.Over.{over_of}
 use Rattle.ask_top.specs.Asking.{IsAnswer, Says}
-use Rattle.ask_top.specs.Documents.{IsTold, run_on}
+use Rattle.ask_top.specs.Documents.{IsEntryTold, IsTold, run_on}
 use Rattle.ask_top.specs.declared.answer.Answer.{Answer}
 use Rattle.ask_top.specs.declared.answer.Answer.TheVariants as answer
 use Rattle.ask_laws.specs.Lines.{HasLines, SaysNotOk, SaysOk, not_ok_line, ok_line, seen_lines}
-use Rattle.ask_laws.specs.Laws.{AreLogOf, Asks, EachQuestionHasItsLine, HasWritten, IsAsked, IsGiven, ItSaysNotBoth, ItSaysOkOrNotOk, questions_by, questions_of}
+use Rattle.ask_laws.specs.Laws.{AreLogOf, Asks, EachQuestionHasItsLine, HasWritten, IsAsked, IsGiven, IsLineOver, ItSaysNotBoth, ItSaysOkOrNotOk, questions_by, questions_of}
 use Rattle.ask_laws.specs.Laws.{AlwaysHoldsWhereEachCutSatisfies, AtEndHoldsWhereTheFinalCutSatisfies, CanHoldsWhereSomeCutSatisfies, NeverHoldsWhereNoCutSatisfies, PlainHoldsWhereTheInitialCutSatisfies, SurelyHoldsWhereEachPathMeets}
 use Rattle.ask_laws.proofs.Few.{few_questions}
 use Rattle.ask_laws.proofs.Read.{one_asking}
@@ -66,7 +65,7 @@ question_is asking.Plain n f = refl
 -- ---- an answer
 
 answer_is : (watches : Reading) (left : Option (List ℕ)) (lf lf' of of' : ℕ) (words : List (List ℕ)) (read written : List ℕ) (a : Answer) → IsGiven a
-    → Says a watches (behind_of left lf lf' of of') words read written → (holds : Bool) × IsAnswer watches left words holds read written
+    → Says a watches left lf lf' of of' words read written → (holds : Bool) × IsAnswer watches left words holds read written
 answer_is watches left lf lf' of of' words read written answer.Holds given says = (true, says)
 answer_is watches left lf lf' of of' words read written answer.Fails given says = (false, says)
 answer_is watches left lf lf' of of' words read written (answer.Without f) given says = absurd given
@@ -82,65 +81,87 @@ answered watches words read text w =
     let found = answer_is watches w.left_after w.read_faults_before w.read_faults_after w.write_faults_before w.write_faults_after words w.said.read w.said.written w.answer w.given w.said.says in
     subst (IsAnswered watches words read) w.document_is (subst (λ (bytes : List ℕ). IsAnswered watches words bytes w.said.written) w.read_is (record { left = w.left_after; holds = found.0; is = found.1 }))
 
-module _ (watches : Reading) (left : Option (List ℕ)) (words : List (List ℕ)) (holds : Bool) (read text : List ℕ) (a : IsAnswer watches left words holds read text) where
+module _ (watches : Reading) (left : Option (List ℕ)) (words : List (List ℕ)) (holds : Bool) (read text : List ℕ) (a : IsAnswer watches left words holds read text) (lines : AllByRecursion IsLineOver (questions_of words)) where
   abbrev qs : List (List ℕ)
   qs = drop a.asked.questions_from words
 
-  abbrev vs : List QuestionView
+  abbrev vs : List EntryView
   vs = a.document.views
 
   questions_are : questions_of words ≡ drop a.asked.questions_from words
   questions_are = ap (λ (o : Option Asked). questions_by o words) a.asks
 
-  as_many : length qs ≡ length vs
-  as_many = as_many_lines (IsTold watches a.log) qs vs a.document.each
+  -- what is told of a question, which is one line if it is one over processes
+  abbrev T : List ℕ → EntryView → Type 0
+  T q v = IsEntryTold watches a.log q v × IsLineOver q
 
-  told_free : (q : List ℕ) (v : QuestionView) → IsTold watches a.log q v → IsOneLine v.text
-  told_free q v told = subst IsOneLine (sym told.as_asked) (question-free q told.read.0 told.read.1 told.q told.read.2)
+  both_so : (questions : List (List ℕ)) (views : List EntryView) → AllZip (IsEntryTold watches a.log) questions views → AllByRecursion IsLineOver questions → AllZip T questions views
+  both_so [] [] each over_lines = tt
+  both_so [] (v ∷ views) each over_lines = absurd each
+  both_so (q ∷ questions) [] each over_lines = absurd each
+  both_so (q ∷ questions) (v ∷ views) each over_lines = ((each.0, over_lines.0), both_so questions views each.1 over_lines.1)
+
+  each_told : AllZip T qs vs
+  each_told = both_so qs vs a.document.each (subst (AllByRecursion IsLineOver) questions_are lines)
+
+  as_many : length qs ≡ length vs
+  as_many = as_many_lines T qs vs each_told
+
+  text_as : (q : List ℕ) (v : EntryView) → T q v → text_of v ≡ q
+  text_as q (one v) told = told.0.1.as_asked
+  text_as q (over o) told = ap (λ (x : OverView). x.text) told.0.view_is
+
+  told_free : (q : List ℕ) (v : EntryView) → T q v → IsOneLine (text_of v)
+  told_free q (one v) told = subst IsOneLine (sym told.0.1.as_asked) (question-free q told.0.1.read.0 told.0.1.read.1 told.0.1.q told.0.1.read.2)
+  told_free q (over o) told = subst IsOneLine (sym (ap (λ (x : OverView). x.text) told.0.view_is)) (told.1 told.0.tallied.over told.0.tally.names)
 
   all_seen : seen_lines text ≡ version ∷ plan (length vs) ∷ lines_of 1 vs
   all_seen =
-      let few : length vs ≤ most_questions = omega (arith, as_many, few_questions words a.asked a.asks) in
-      ap seen_lines a.document.text_is ∙ seen (states_of a.log) a.asked.steps vs few (are_lines (IsTold watches a.log) told_free qs vs a.document.each)
+      let few : length vs ≤ 64 = omega (arith, as_many, few_questions words a.asked a.asks) in
+      ap seen_lines a.document.text_is ∙ seen (states_of a.log) a.asked.steps vs few (are_lines T told_free qs vs each_told)
 
   has_lines : HasLines text (questions_of words)
   has_lines = subst (HasLines text) (sym questions_are) (record {
     results = lines_of 1 vs;
     seen = all_seen ∙ ap (λ (n : ℕ). version ∷ plan n ∷ lines_of 1 vs) (sym as_many);
-    each = are_results (IsTold watches a.log) (λ q v told. told.as_asked) 1 qs vs a.document.each;
+    each = are_results T text_as 1 qs vs each_told;
   })
 
   module _ (number : ℕ) (before : List (List ℕ)) (q : List ℕ) (at : IsAt number (questions_of words) before q) where
-    told_at : (v : QuestionView) × IsTold watches a.log q v × (slice_get (lines_of 1 vs) (length before) ≡ Some (line_of (1 + length before) v))
-    told_at =
-        at_place (IsTold watches a.log) before q at.behind vs 1
-        (subst (λ (l : List (List ℕ)). AllZip (IsTold watches a.log) l vs) (sym questions_are ∙ at.among) a.document.each)
+    told_at : (v : EntryView) × T q v × (slice_get (lines_of 1 vs) (length before) ≡ Some (line_of (1 + length before) v))
+    told_at = at_place T before q at.behind vs 1 (subst (λ (l : List (List ℕ)). AllZip T l vs) (sym questions_are ∙ at.among) each_told)
 
-    abbrev view : QuestionView
+    abbrev view : EntryView
     view = told_at.0
 
-    line_is : slice_get (seen_lines text) (number + 1) ≡ Some (line_with view.outcome.holds number q)
+    -- a question that is asked of the log is told as one
+    one_of : (v : EntryView) → T q v → over_of q ≡ Ok None → (u : QuestionView) × (v ≡ one u) × IsTold watches a.log q u
+    one_of (one u) told of_log = (u, refl, told.0.1)
+    one_of (over o) told of_log = let names = told.0.tally.names in absurd cc
+
+    line_is : slice_get (seen_lines text) (number + 1) ≡ Some (line_with (view_holds view) number q)
     line_is =
         let place : number + 1 ≡ suc (suc (length before)) = omega (arith, at.numbered) in
         let same : 1 + length before ≡ number = omega (arith, at.numbered) in
         ap (λ (ls : List (List ℕ)). slice_get ls (number + 1)) all_seen ∙ ap (slice_get (version ∷ plan (length vs) ∷ lines_of 1 vs)) place
-        ∙ told_at.2 ∙ ap (λ (n : ℕ). Some (line_of n view)) same ∙ ap (λ (l : List ℕ). Some (line_with view.outcome.holds number l)) told_at.1.as_asked
+        ∙ told_at.2 ∙ ap (λ (n : ℕ). Some (line_of n view)) same ∙ ap (λ (l : List ℕ). Some (line_with (view_holds view) number l)) (text_as q view told_at.1)
 
-    says_so : SaysOk text number q ↔ IsTrue view.outcome.holds
+    says_so : SaysOk text number q ↔ IsTrue (view_holds view)
     says_so = (
-      λ h. ok_holds view.outcome.holds number q (same_Some (line_with view.outcome.holds number q) (ok_line number q) (sym line_is ∙ h)),
-      λ h. line_is ∙ ap (λ (l : List ℕ). Some l) (holds_ok view.outcome.holds number q h),
+      λ h. ok_holds (view_holds view) number q (same_Some (line_with (view_holds view) number q) (ok_line number q) (sym line_is ∙ h)),
+      λ h. line_is ∙ ap (λ (l : List ℕ). Some l) (holds_ok (view_holds view) number q h),
     )
 
     says_either : SaysOk text number q ⊎ SaysNotOk text number q
-    says_either = elim (ok_or_not view.outcome.holds number q) [
+    says_either = elim (ok_or_not (view_holds view) number q) [
       | inl so ↦ inl (line_is ∙ ap (λ (l : List ℕ). Some l) so)
       | inr isnt ↦ inr (line_is ∙ ap (λ (l : List ℕ). Some l) isnt)
     ]
 
     says_where : (words_are : Asking) (f : Formula) → Asks q words_are f → SaysOk text number q ↔ Holds (run_on watches a.log) (asked_question words_are f)
     says_where words_are f asks =
-        let told = told_at.1 in
+        let of = one_of view told_at.1 asks.of_log in
+        let told = of.2 in
         let head = told.read.0 in
         let tree = told.read.1 in
         let same = one_asking q head asks.head tree asks.tree told.read.2.asking asks.is in
@@ -150,7 +171,9 @@ module _ (watches : Reading) (left : Option (List ℕ)) (words : List (List ℕ)
         let question_same : question told.q.form (meaning tree) ≡ asked_question words_are f =
         ap (λ (g : Formula). question told.q.form g) formula_same ∙ ap (λ (x : Form). question x f) form_same ∙ question_is words_are (node_of tree) f in
         let by = told.holds head tree told.read.2 in
-        let to : SaysOk text number q ↔ Holds (run_on watches a.log) (question told.q.form (meaning tree)) = (λ h. by.0 (says_so.0 h), λ h. says_so.1 (by.1 h)) in
+        let same_view : view_holds view ≡ of.0.outcome.holds = ap view_holds of.1 in
+        let to : SaysOk text number q ↔ Holds (run_on watches a.log) (question told.q.form (meaning tree)) =
+        (λ h. by.0 (subst IsTrue same_view (says_so.0 h)), λ h. says_so.1 (subst IsTrue (sym same_view) (by.1 h))) in
         subst (λ (x : questions.Question). SaysOk text number q ↔ Holds (run_on watches a.log) x) question_same to
 
   -- the run of the log that was read is one
@@ -165,8 +188,8 @@ module _ (watches : Reading) (left : Option (List ℕ)) (words : List (List ℕ)
 holds_where : (r : Run) (text : List ℕ) (number : ℕ) (q : List ℕ) (words_are : Asking) (f : Formula) → IsAsked r text number q words_are f → SaysOk text number q ↔ Holds r (asked_question words_are f)
 holds_where r text number q words_are f k =
     let is = answered k.watches k.words k.read text k.wrote in
-    subst (λ (x : Run). SaysOk text number q ↔ Holds x (asked_question words_are f)) (run_is k.watches is.left k.words is.holds k.read text is.is r k.run)
-    (says_where k.watches is.left k.words is.holds k.read text is.is number k.before q k.at words_are f k.asks)
+    subst (λ (x : Run). SaysOk text number q ↔ Holds x (asked_question words_are f)) (run_is k.watches is.left k.words is.holds k.read text is.is k.lines r k.run)
+    (says_where k.watches is.left k.words is.holds k.read text is.is k.lines number k.before q k.at words_are f k.asks)
 
 pub never_holds : NeverHoldsWhereNoCutSatisfies
 never_holds r text number q f k = holds_where r text number q asking.Never f k
@@ -187,14 +210,14 @@ pub plain_holds : PlainHoldsWhereTheInitialCutSatisfies
 plain_holds r text number q f k = holds_where r text number q asking.Plain f k
 
 pub each_has_its_line : EachQuestionHasItsLine
-each_has_its_line watches words read text wrote =
+each_has_its_line watches words read text wrote lines =
     let is = answered watches words read text wrote in
-    has_lines watches is.left words is.holds read text is.is
+    has_lines watches is.left words is.holds read text is.is lines
 
 pub ok_or_not_ok : ItSaysOkOrNotOk
 ok_or_not_ok r text number q words_are f k =
     let is = answered k.watches k.words k.read text k.wrote in
-    says_either k.watches is.left k.words is.holds k.read text is.is number k.before q k.at
+    says_either k.watches is.left k.words is.holds k.read text is.is k.lines number k.before q k.at
 
 pub not_ok_and_ok : ItSaysNotBoth
 not_ok_and_ok text number q says denies = not_both number q (same_Some (ok_line number q) (not_ok_line number q) (sym says ∙ denies))

@@ -1,18 +1,21 @@
 -- Laws of a call that asks questions, as statements: where the line of a question says `ok`.
-use Rattle.std.specs.Prelude.{◌≡◌, ◌↔◌, ◌⊎◌, ⊤, ℕ, List, [], drop, Option, None, Some}
+use Rattle.std.specs.Prelude.{◌≡◌, ◌↔◌, ◌⊎◌, ⊤, ℕ, List, [], drop, Option, None, Some, Ok}
+use Rattle.std.specs.List.{AllByRecursion}
 use Rattle.run_model.specs.Cut.{Cut, lengths, initial}
 use Rattle.run_model.specs.Run.{Run}
 use Rattle.run_model.specs.Consistent.{IsConsistent}
 use Rattle.run_model.specs.Formula.{Formula}
 use Rattle.run_model.specs.Meaning.{Sat}
 use Rattle.question_meaning.specs.Question.{EachPathMeets}
-use Rattle.pota_base.specs.Changes.{change_of}
 use Rattle.rctl_grammar.specs.declared.tree.Tree.{Tree}
 use Rattle.rctl_grammar.specs.Shape.{meaning}
 use Rattle.question_text.specs.declared.front.Asking.{Asking}
 use Rattle.question_text.specs.declared.front.Asking.TheVariants as asking
 use Rattle.question_text.specs.declared.head.Head.{Head}
+use Rattle.question_instances.specs.Over.{over_of}
+use Rattle.question_instances.specs.declared.over.Over.{Over}
 use Rattle.question_forms.specs.Questions.{IsAsking}
+use Rattle.question_lines.specs.Lines.{IsOneLine}
 use Rattle.part_pulls.specs.Observing.{Reading}
 use Rattle.log_rules.specs.Judgement.{Prefix}
 use Rattle.log_input.specs.Readings.{HasLog}
@@ -55,9 +58,8 @@ pub record HasWritten (watches : Reading) (words : List (List ℕ)) (read docume
   pub write_faults_after : ℕ
   pub answer : Answer
   pub given : IsGiven answer
-  pub said : HasAnswered watches
-      (change_of left_before left_after read_faults_before read_faults_after) (change_of held_before
-      held_after write_faults_before write_faults_after) words answer
+  pub said : HasAnswered watches left_before left_after held_before held_after read_faults_before
+      read_faults_after write_faults_before write_faults_after words answer
   pub read_is : said.read ≡ read
   pub document_is : said.written ≡ document
 
@@ -70,16 +72,23 @@ pub record AreLogOf (watches : Reading) (words : List (List ℕ)) (read : List �
   pub has : HasLog asked.form read log
   pub run_is : run_on watches log ≡ r
 
--- a question's text has the words of this form, and this formula
+-- a question is asked of the log, and its text has the words of this form, and this formula
 pub record Asks (question : List ℕ) (words : Asking) (f : Formula) : Type 0 where
+  pub of_log : over_of question ≡ Ok None
   pub head : Head
   pub tree : Tree
   pub is : IsAsking question head tree
   pub words_are : head.asking ≡ words
   pub formula_is : meaning tree ≡ f
 
--- A call was answered that read a log of this run and wrote this document, and its question of that
--- number, from 1, has this text, the words of this form, and this formula.
+-- a question over processes is one line; one of the log that was read always is
+abbrev pub IsLineOver : List ℕ → Type 0
+IsLineOver question =
+    (over : Over) → over_of question ≡ Ok (Some over) → IsOneLine question
+
+-- A call was answered that read a log of this run and wrote this document, its questions over
+-- processes are one line each, and its question of that number, from 1, has this text, the words of
+-- this form, and this formula.
 pub record IsAsked (r : Run) (document : List ℕ) (number : ℕ) (question : List ℕ) (form : Asking)
     (f : Formula) : Type 0 where
   pub watches : Reading
@@ -89,6 +98,7 @@ pub record IsAsked (r : Run) (document : List ℕ) (number : ℕ) (question : Li
   pub run : AreLogOf watches words read r
   pub before : List (List ℕ)
   pub at : IsAt number (questions_of words) before question
+  pub lines : AllByRecursion IsLineOver (questions_of words)
   pub asks : Asks question form f
 
 -- ---- where it holds
@@ -139,11 +149,13 @@ PlainHoldsWhereTheInitialCutSatisfies =
 
 -- ---- the lines
 
--- the document of a call that was answered has a line for each question, and no other result
+-- the document of a call that was answered, whose questions over processes are one line each, has a
+-- line for each question, and no other result
 abbrev pub EachQuestionHasItsLine : Type 0
 EachQuestionHasItsLine =
     (watches : Reading) (words : List (List ℕ)) (read document : List ℕ)
-    → HasWritten watches words read document → HasLines document (questions_of words)
+    → HasWritten watches words read document → AllByRecursion IsLineOver (questions_of words)
+    → HasLines document (questions_of words)
 
 -- the line of a question says `ok` or `not ok`
 abbrev pub ItSaysOkOrNotOk : Type 0

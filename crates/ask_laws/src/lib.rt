@@ -10,8 +10,12 @@
 //! sees the version, the plan and one result for each question, in order, with its number and its
 //! text, and nothing else (`each_question_has_its_line`).
 //!
-//! Not said: that a call is answered, and what stands below the line of a question. `ask_top` and
-//! `ask_text` say so.
+//! Each law is of questions that are asked of the log, in a call whose questions over processes, if it
+//! has any, are one line each.
+//!
+//! Not said: that a call is answered, what stands below the line of a question, and when the line of a
+//! question over processes says `ok`: `ask_top` and `ask_text` say so. Nor that a question over
+//! processes that was read is one line.
 #![tactic(auto)]
 
 ghost use Rattle.ask_laws.specs.Laws.{NeverHoldsWhereNoCutSatisfies};

@@ -1,3 +1,4 @@
-mod Lists
-mod Entries
+pub mod Lists
+pub mod Words
 mod Texts
+mod Observed

@@ -1,70 +1,66 @@
--- Texts and their questions.
-use Rattle.std.proofs.Common.{◌≡◌, ℕ, ◌+◌, ◌≤◌, ◌<◌, List, [], ◌∷◌, ◌++◌, length, map, take, drop, ap, ap₂, refl, sym, subst, ◌∙◌, arith, add-one, drop-cons}
-use Rattle.std.specs.Prelude.{Result, Ok, Err, IfErr, IfOk}
-use Rattle.std.specs.List.{AllZip, slice_index_or}
-use Rattle.std.proofs.lemmas.List.{length-map, length-take-le, map-append, take-append-drop, take_all, take_more}
+-- Texts and their questions of both kinds.
+use Rattle.std.proofs.Common.{◌≡◌, ℕ, ◌+◌, ◌≤◌, ◌<◌, List, [], ◌∷◌, ◌++◌, length, map, take, Option, None, Some, ap, refl, sym, subst, ◌∙◌, arith, append_assoc, length-append}
+use Rattle.std.specs.List.{slice_index_or}
+use Rattle.std.proofs.lemmas.List.{length-map, take_all}
+use Rattle.asked_list.specs.Lists.{Adds, IsAskedList, listed}
 use Rattle.asked_list.specs.declared.list.AskedList.{AskedList}
 use Rattle.asked_list.specs.declared.list.Listed.{Listed}
+use Rattle.asked_list.specs.declared.list.TooMany.{TooMany}
+use Rattle.asked_list.proofs.Ranges.{added, kept}
 use Rattle.pota_base.specs.declared.fault.Refused.{Refused}
 use Rattle.pota_base.specs.declared.fault.Refused.TheVariants as refused
-use Rattle.pota_base.specs.Limits.{most_questions}
-use Rattle.question_forms.specs.Questions as forms
-use Rattle.question_forms.specs.Questions.{IsQuestion, IsQuestionFault}
 use Rattle.question_forms.specs.declared.question.Question.{Question}
-use Rattle.question_forms.specs.declared.question.QuestionFault.{QuestionFault}
-use Rattle.ask_questions.specs.declared.fault.NumberedFault.{NumberedFault}
-use Rattle.ask_questions.specs.declared.fault.QuestionsFault.{QuestionsFault}
-use Rattle.ask_questions.specs.declared.fault.QuestionsFault.TheVariants as fault
-use Rattle.ask_questions.specs.Listing.{AreListed, AreReadable, IsEntry, IsFirstFault, IsListed, IsReadAs}
-use Rattle.ask_questions.specs.inside.Listed.{AreEntries, AreSized, HasNoRoom, IsTooMany, AreFull}
-use Rattle.ask_questions.specs.inside.Reading.{AreReadAs, Refuses, numbered_fault}
-use Rattle.ask_questions.proofs.Lists.{paired-length, paired-push}
+use Rattle.question_instances.specs.declared.over.Over.{Over}
+use Rattle.over_questions.specs.Entries.{IsEntryFault, IsEntryOf, RefusesEntry}
+use Rattle.over_questions.specs.declared.entry.Entry.{Entry}
+use Rattle.over_questions.specs.declared.entry.Entry.TheVariants as entry
+use Rattle.over_questions.specs.declared.entry.EntryFault.{EntryFault}
+use Rattle.rctl_class.specs.NamedParts.{disjuncts_of}
+use Rattle.ask_questions.specs.Listing.{AreBehind, IsEntry}
+use Rattle.ask_questions.specs.Entries.{AreAsked, AreEach, AreReadable, IsFirstFault, IsOverAs}
+use Rattle.ask_questions.specs.declared.reading.AskedQuestions.{AskedQuestions}
+use Rattle.ask_questions.specs.declared.reading.QuestionsFault.{QuestionsFault}
+use Rattle.ask_questions.specs.declared.reading.QuestionsFault.TheVariants as fault
+use Rattle.ask_questions.specs.declared.reading.NumberedFault.{NumberedFault}
+use Rattle.ask_questions.specs.inside.Added.{AreAdded, AreAddedTo, AreKinds, AreRead, AreSized, HasNoRoomFor, HasNoRoomIn, IsFullAt, IsSized, IsTooMany, RefusesAdding, Refuses, many_at, numbered_fault}
+use Rattle.ask_questions.proofs.Lists.{behind-push, paired-length, paired-push}
+use Rattle.ask_questions.proofs.Words.{at_here, take_here}
 
 -- ---- texts that are questions
 
-pub sized : (texts : List (List ℕ)) (qs : List Question) → AreReadAs texts qs → AreSized qs
-sized [] [] are = _
-sized [] (q ∷ qs) are = absurd are
-sized (text ∷ texts) [] are = absurd are
-sized (text ∷ texts) (q ∷ qs) are = (are.0.2.classed.sized, sized texts qs are.1)
+one_sized : (text : List ℕ) (e : Entry) → IsEntryOf text e → IsSized e
+one_sized text (entry.One q) is = is.1.2.classed.sized
+one_sized text (entry.Over over) is = tt
 
-pub readable : (texts : List (List ℕ)) (qs : List Question) → AreReadAs texts qs → AreReadable texts
-readable [] [] are = _
-readable [] (q ∷ qs) are = absurd are
+pub sized : (texts : List (List ℕ)) (es : List Entry) → AreRead texts es → AreSized es
+sized [] [] are = tt
+sized [] (e ∷ es) are = absurd are
+sized (text ∷ texts) [] are = absurd are
+sized (text ∷ texts) (e ∷ es) are = (one_sized text e are.0, sized texts es are.1)
+
+pub readable : (texts : List (List ℕ)) (es : List Entry) → AreRead texts es → AreReadable texts
+readable [] [] are = tt
+readable [] (e ∷ es) are = absurd are
 readable (text ∷ texts) [] are = absurd are
-readable (text ∷ texts) (q ∷ qs) are = ((are.0.0, are.0.1, are.0.2.asking), readable texts qs are.1)
+readable (text ∷ texts) (e ∷ es) are = ((e, are.0), readable texts es are.1)
 
 -- ---- one text more
 
 -- each text of a list is the text f of an item
-module _ {S : Type 0} (f : S → List ℕ) (items : List S) (i : ℕ) (qs : List Question) (so_far : AreReadAs (map f (take i items)) qs) (d : S) (text : List ℕ) (here : i < length items) (is : d ≡ slice_index_or items i d) (of : text ≡ f d) where
-  take_here : map f (take (i + 1) items) ≡ map f (take i items) ++ text ∷ []
-  take_here =
-      ap (map f) (take_more items i d here ∙ ap (λ (x : S). take i items ++ x ∷ []) (sym is)) ∙ map-append f (take i items) (d ∷ [])
-      ∙ ap (λ (w : List ℕ). map f (take i items) ++ w ∷ []) (sym of)
+module _ {S : Type 0} (f : S → List ℕ) (items : List S) (i : ℕ) (es : List Entry) (so_far : AreRead (map f (take i items)) es) (d : S) (text : List ℕ) (here : i < length items) (is : d ≡ slice_index_or items i d) (of : text ≡ f d) where
+  pub one_more : (e : Entry) (es' : List Entry) → IsEntryOf text e → es' ≡ es ++ e ∷ [] → AreRead (map f (take (i + 1) items)) es'
+  one_more e es' read are =
+      subst (AreRead (map f (take (i + 1) items))) (sym are)
+      (subst (λ (ts : List (List ℕ)). AreRead ts (es ++ e ∷ [])) (sym (take_here f items i d text here is of)) (paired-push IsEntryOf (map f (take i items)) es text e so_far read))
 
-  among : map f items ≡ map f (take i items) ++ text ∷ map f (drop (i + 1) items)
-  among =
-      let behind : drop i items ≡ d ∷ drop (i + 1) items = drop-cons items i d here ∙ ap₂ (λ (x : S) (n : ℕ). x ∷ drop n items) (sym is) (sym (add-one i)) in
-      ap (map f) (sym (take-append-drop i items) ∙ ap (λ (r : List S). take i items ++ r) behind) ∙ map-append f (take i items) (d ∷ drop (i + 1) items)
-      ∙ ap (λ (w : List ℕ). map f (take i items) ++ w ∷ map f (drop (i + 1) items)) (sym of)
-
-  count : i + 1 ≡ length (map f (take i items)) + 1
-  count = omega (arith, length-map (take i items) f, length-take-le i items (omega (arith, here)))
-
-  pub one_more : (q : Question) (qs' : List Question) → IsReadAs text q → qs' ≡ qs ++ q ∷ [] → AreReadAs (map f (take (i + 1) items)) qs'
-  one_more q qs' read are =
-      subst (AreReadAs (map f (take (i + 1) items))) (sym are)
-      (subst (λ (ts : List (List ℕ)). AreReadAs ts (qs ++ q ∷ [])) (sym take_here) (paired-push IsReadAs (map f (take i items)) qs text q so_far read))
-
-  pub unreadable : (stop : Refused QuestionFault) (made : Refused NumberedFault) → made ≡ numbered_fault i stop → forms.Refuses stop (IsQuestionFault text) → Refuses made (IsFirstFault (map f items))
+  pub unreadable : (stop : Refused EntryFault) (made : Refused NumberedFault) → made ≡ numbered_fault i stop → RefusesEntry stop (IsEntryFault text) → Refuses made (IsFirstFault (map f items))
   unreadable (refused.Fault g) made are refuses =
       subst (λ (r : Refused NumberedFault). Refuses r (IsFirstFault (map f items))) (sym are)
       (record {
         before = map f (take i items);
         text = text;
-        at = record { behind = map f (drop (i + 1) items); among = among; numbered = count };
-        readable = readable (map f (take i items)) qs so_far;
+        at = at_here f items i d text here is of;
+        readable = readable (map f (take i items)) es so_far;
         unreadable = refuses;
       })
   unreadable refused.NoMemory made are refuses =
@@ -72,73 +68,172 @@ module _ {S : Type 0} (f : S → List ℕ) (items : List S) (i : ℕ) (qs : List
 
 -- ---- all texts
 
-pub all_read : {S : Type 0} (f : S → List ℕ) (items : List S) (i : ℕ) (qs : List Question) → AreReadAs (map f (take i items)) qs → length items ≤ i → AreReadAs (map f items) qs
-all_read f items i qs are past = subst (λ (xs : List _). AreReadAs (map f xs) qs) (take_all i items past) are
+pub all_read : {S : Type 0} (f : S → List ℕ) (items : List S) (i : ℕ) (es : List Entry) → AreRead (map f (take i items)) es → length items ≤ i → AreRead (map f items) es
+all_read f items i es are past = subst (λ (xs : List _). AreRead (map f xs) es) (take_all i items past) are
 
-pub few : {S : Type 0} (f : S → List ℕ) (items : List S) (qs : List Question) → AreReadAs (map f items) qs → length items ≤ most_questions → length qs ≤ most_questions
-few f items qs are within = omega (arith, paired-length IsReadAs (map f items) qs are, length-map items f)
+pub few : {S : Type 0} (f : S → List ℕ) (items : List S) (es : List Entry) → AreRead (map f items) es → length items ≤ 64 → length es ≤ 64
+few f items es are within = omega (arith, paired-length IsEntryOf (map f items) es are, length-map items f)
 
--- the entries of the questions are those of their texts
-entries_of : (list : AskedList) (texts : List (List ℕ)) (qs : List Question) (entries : List Listed) → AreReadAs texts qs → AllZip (IsEntry list) qs entries → AllZip (IsListed list) texts entries
-entries_of list [] [] [] read are = tt
-entries_of list [] [] (e ∷ es) read are = absurd are
-entries_of list [] (q ∷ qs) es read are = absurd read
-entries_of list (text ∷ texts) [] es read are = absurd read
-entries_of list (text ∷ texts) (q ∷ qs) [] read are = absurd are
-entries_of list (text ∷ texts) (q ∷ qs) (e ∷ es) read are = ((q, read.0, are.0), entries_of list texts qs es read.1 are.1)
+each_of : (list : AskedList) (texts : List (List ℕ)) (es : List Entry) (os : List (Option Over)) (ones : List Listed) → AreRead texts es → AreKinds list es os ones → AreEach list texts os ones
+each_of list [] [] [] [] read are = tt
+each_of list [] [] [] (one ∷ ones) read are = absurd are
+each_of list [] [] (o ∷ os) ones read are = absurd are
+each_of list [] (e ∷ es) os ones read are = absurd read
+each_of list (text ∷ texts) [] os ones read are = absurd read
+each_of list (text ∷ texts) (entry.One q ∷ es) [] ones read are = absurd are
+each_of list (text ∷ texts) (entry.One q ∷ es) (None ∷ os) [] read are = absurd are
+each_of list (text ∷ texts) (entry.One q ∷ es) (None ∷ os) (one ∷ ones) read are =
+    (record { names = read.0.0; listed = (q, read.0.1, are.0) }, each_of list texts es os ones read.1 are.1)
+each_of list (text ∷ texts) (entry.One q ∷ es) (Some over ∷ os) ones read are = absurd are
+each_of list (text ∷ texts) (entry.Over over ∷ es) [] ones read are = absurd are
+each_of list (text ∷ texts) (entry.Over over ∷ es) (None ∷ os) ones read are = absurd are
+each_of list (text ∷ texts) (entry.Over over ∷ es) (Some other ∷ os) ones read are =
+    (subst (IsOverAs text) are.0 (record { names = read.0.0; within = read.0.1; q = read.0.2; question = read.0.3 }), each_of list texts es os ones read.1 are.1)
 
-pub listed : (texts : List (List ℕ)) (qs : List Question) (list : AskedList) → AreReadAs texts qs → AreEntries qs list → AreListed texts list
-listed texts qs list read are = record { fit = are.fit; each = entries_of list texts qs list.listed read are.each; whole = are.whole }
+pub asked_so : (texts : List (List ℕ)) (es : List Entry) (asked : AskedQuestions) → AreRead texts es → AreAdded es asked → AreAsked texts asked
+asked_so texts es asked read are = record { fit = are.fit; each = each_of asked.list texts es asked.overs asked.list.listed read are.each; whole = are.whole }
 
--- ---- no room for one of them
+-- ---- one question more in the list
+
+pub none_added : (list : AskedList) → IsAskedList list → list.listed ≡ [] → list.classed.disjuncts ≡ [] → AreAddedTo list [] []
+none_added list is empty nothing = record {
+  fit = is;
+  each = subst (AreKinds list [] []) (sym empty) tt;
+  whole = subst (λ (ls : List Listed). AreBehind 0 ls (length list.classed.disjuncts)) (sym empty) (sym (ap length nothing));
+}
+
+stays : (before after : AskedList) (new : Question) → Adds before new after → (q : Question) (one : Listed) → IsEntry before q one → IsEntry after q one
+stays before after new adds q one is = record {
+  name = is.name;
+  formula = is.formula;
+  form = is.form;
+  has = kept before after new adds one.range (disjuncts_of q.classed.disjuncts) is.has;
+}
+
+kinds_stay : (before after : AskedList) (new : Question) → Adds before new after → (es : List Entry) (os : List (Option Over)) (ones : List Listed) → AreKinds before es os ones → AreKinds after es os ones
+kinds_stay before after new adds [] [] [] are = tt
+kinds_stay before after new adds [] [] (one ∷ ones) are = absurd are
+kinds_stay before after new adds [] (o ∷ os) ones are = absurd are
+kinds_stay before after new adds (entry.One q ∷ es) [] ones are = absurd are
+kinds_stay before after new adds (entry.One q ∷ es) (None ∷ os) [] are = absurd are
+kinds_stay before after new adds (entry.One q ∷ es) (None ∷ os) (one ∷ ones) are =
+    (stays before after new adds q one are.0, kinds_stay before after new adds es os ones are.1)
+kinds_stay before after new adds (entry.One q ∷ es) (Some over ∷ os) ones are = absurd are
+kinds_stay before after new adds (entry.Over over ∷ es) [] ones are = absurd are
+kinds_stay before after new adds (entry.Over over ∷ es) (None ∷ os) ones are = absurd are
+kinds_stay before after new adds (entry.Over over ∷ es) (Some other ∷ os) ones are = (are.0, kinds_stay before after new adds es os ones are.1)
+
+push_one : (list : AskedList) (es : List Entry) (os : List (Option Over)) (ones : List Listed) (q : Question) (last : Listed) → AreKinds list es os ones → IsEntry list q last
+    → AreKinds list (es ++ entry.One q ∷ []) (os ++ None ∷ []) (ones ++ last ∷ [])
+push_one list [] [] [] q last are is = (is, tt)
+push_one list [] [] (one ∷ ones) q last are is = absurd are
+push_one list [] (o ∷ os) ones q last are is = absurd are
+push_one list (entry.One p ∷ es) [] ones q last are is = absurd are
+push_one list (entry.One p ∷ es) (None ∷ os) [] q last are is = absurd are
+push_one list (entry.One p ∷ es) (None ∷ os) (one ∷ ones) q last are is = (are.0, push_one list es os ones q last are.1 is)
+push_one list (entry.One p ∷ es) (Some over ∷ os) ones q last are is = absurd are
+push_one list (entry.Over over ∷ es) [] ones q last are is = absurd are
+push_one list (entry.Over over ∷ es) (None ∷ os) ones q last are is = absurd are
+push_one list (entry.Over over ∷ es) (Some other ∷ os) ones q last are is = (are.0, push_one list es os ones q last are.1 is)
+
+push_over : (list : AskedList) (es : List Entry) (os : List (Option Over)) (ones : List Listed) (new : Over) → AreKinds list es os ones
+    → AreKinds list (es ++ entry.Over new ∷ []) (os ++ Some new ∷ []) ones
+push_over list [] [] [] new are = (refl, tt)
+push_over list [] [] (one ∷ ones) new are = absurd are
+push_over list [] (o ∷ os) ones new are = absurd are
+push_over list (entry.One p ∷ es) [] ones new are = absurd are
+push_over list (entry.One p ∷ es) (None ∷ os) [] new are = absurd are
+push_over list (entry.One p ∷ es) (None ∷ os) (one ∷ ones) new are = (are.0, push_over list es os ones new are.1)
+push_over list (entry.One p ∷ es) (Some over ∷ os) ones new are = absurd are
+push_over list (entry.Over over ∷ es) [] ones new are = absurd are
+push_over list (entry.Over over ∷ es) (None ∷ os) ones new are = absurd are
+push_over list (entry.Over over ∷ es) (Some other ∷ os) ones new are = (are.0, push_over list es os ones new are.1)
+
+pub one_added : (es : List Entry) (os more : List (Option Over)) (before after : AskedList) (q : Question) → AreAddedTo before es os → Adds before q after → IsAskedList after → more ≡ os ++ None ∷ []
+    → AreAddedTo after (es ++ entry.One q ∷ []) more
+one_added es os more before after q are adds fits is =
+    let from = length before.classed.disjuncts in
+    let last : IsEntry after q (listed from q) = record { name = refl; formula = refl; form = refl; has = added before after q are.fit adds } in
+    let kept_ones = kinds_stay before after q adds es os before.listed are.each in
+    let number : from + length q.classed.disjuncts ≡ length after.classed.disjuncts =
+    sym (length-append before.classed.disjuncts q.classed.disjuncts) ∙ sym (ap length adds.disjuncts) in
+    subst (AreAddedTo after (es ++ entry.One q ∷ [])) (sym is) (record {
+      fit = fits;
+      each = subst (AreKinds after (es ++ entry.One q ∷ []) (os ++ None ∷ [])) (sym adds.listed) (push_one after es os before.listed q (listed from q) kept_ones last);
+      whole = subst (λ (ls : List Listed). AreBehind 0 ls (length after.classed.disjuncts)) (sym adds.listed)
+          (behind-push 0 before.listed from (listed from q) (length after.classed.disjuncts) are.whole refl number);
+    })
+
+pub over_added : (es : List Entry) (os more : List (Option Over)) (list : AskedList) (new : Over) → AreAddedTo list es os → more ≡ os ++ Some new ∷ [] → AreAddedTo list (es ++ entry.Over new ∷ []) more
+over_added es os more list new are is =
+    subst (AreAddedTo list (es ++ entry.Over new ∷ [])) (sym is) (record { fit = are.fit; each = push_over list es os list.listed new are.each; whole = are.whole })
+
+-- ---- one question more of all of them
+
+pub next_of : (all yielded rest : List Entry) (e : Entry) (behind : List Entry) → all ≡ yielded ++ rest → rest ≡ e ∷ behind → all ≡ yielded ++ e ∷ behind
+next_of all yielded rest e behind are is = are ∙ ap (λ (l : List Entry). yielded ++ l) is
+
+sized_behind : (before : List Entry) (e : Entry) (behind : List Entry) → AreSized (before ++ e ∷ behind) → IsSized e
+sized_behind [] e behind are = are.0
+sized_behind (d ∷ before) e behind are = sized_behind before e behind are.1
+
+pub next_sized : (all before : List Entry) (e : Entry) (behind : List Entry) → all ≡ before ++ e ∷ behind → AreSized all → IsSized e
+next_sized all before e behind are sized = sized_behind before e behind (subst AreSized are sized)
+
+pub counted : (k : ℕ) (yielded : List Entry) (e : Entry) → k ≡ length yielded + 1 → k + 1 ≡ length (yielded ++ e ∷ []) + 1
+counted k yielded e is = omega (arith, is, length-append yielded (e ∷ []))
+
+pub joined : (all yielded : List Entry) (e : Entry) (behind : List Entry) → all ≡ yielded ++ e ∷ behind → all ≡ (yielded ++ e ∷ []) ++ behind
+joined all yielded e behind are = are ∙ sym (append_assoc yielded (e ∷ []) behind)
+
+-- there is no room for it
+pub full : (es before : List Entry) (e : Entry) (behind : List Entry) (list : AskedList) (os : List (Option Over)) (number : ℕ) (stop : Refused TooMany) (of : Refused NumberedFault)
+    → of ≡ many_at number stop → es ≡ before ++ e ∷ behind → number ≡ length before + 1 → AreAddedTo list before os → RefusesAdding stop (HasNoRoomIn list e) → Refuses of (IsTooMany es)
+full es before (entry.One q) behind list os number (refused.Fault f) of is all_are numbered are lacks =
+    subst (λ (r : Refused NumberedFault). Refuses r (IsTooMany es)) (sym is)
+    (record { before = before; question = q; behind = behind; among = all_are; numbered = numbered; asked = record { list = list; overs = os }; added = are; full = lacks })
+full es before (entry.Over over) behind list os number (refused.Fault f) of is all_are numbered are lacks = absurd lacks
+full es before e behind list os number refused.NoMemory of is all_are numbered are lacks =
+    subst (λ (r : Refused NumberedFault). Refuses r (IsTooMany es)) (sym is) _
+
+-- ---- no room for one of the texts
 
 -- the texts of questions, of which some are before one
-record Split (texts : List (List ℕ)) (before : List Question) (q : Question) : Type 0 where
+record Split (texts : List (List ℕ)) (before : List Entry) (e : Entry) : Type 0 where
   fronts : List (List ℕ)
   text : List ℕ
   behinds : List (List ℕ)
   are : texts ≡ fronts ++ text ∷ behinds
-  read : AreReadAs fronts before
-  one : IsReadAs text q
+  read : AreRead fronts before
+  one : IsEntryOf text e
 
-split : (texts : List (List ℕ)) (before : List Question) (q : Question) (behind : List Question) → AreReadAs texts (before ++ q ∷ behind) → Split texts before q
-split [] [] q behind read = absurd read
-split [] (p ∷ before) q behind read = absurd read
-split (text ∷ texts) [] q behind read = record { fronts = []; text = text; behinds = texts; are = refl; read = _; one = read.0 }
-split (text ∷ texts) (p ∷ before) q behind read =
-    let rest = split texts before q behind read.1 in
+split : (texts : List (List ℕ)) (before : List Entry) (e : Entry) (behind : List Entry) → AreRead texts (before ++ e ∷ behind) → Split texts before e
+split [] [] e behind read = absurd read
+split [] (d ∷ before) e behind read = absurd read
+split (text ∷ texts) [] e behind read = record { fronts = []; text = text; behinds = texts; are = refl; read = tt; one = read.0 }
+split (text ∷ texts) (d ∷ before) e behind read =
+    let rest = split texts before e behind read.1 in
     record { fronts = text ∷ rest.fronts; text = rest.text; behinds = rest.behinds; are = ap (λ (l : List (List ℕ)). text ∷ l) rest.are; read = (read.0, rest.read); one = rest.one }
 
-no_room : (texts : List (List ℕ)) (qs : List Question) (number : ℕ) → AreReadAs texts qs → HasNoRoom qs number → IsFirstFault texts (record { question = number; fault = fault.TooMany })
-no_room texts qs number read lacks =
-    let s = split texts lacks.before lacks.question lacks.behind (subst (AreReadAs texts) lacks.among read) in
+no_room : (texts : List (List ℕ)) (es : List Entry) (number : ℕ) → AreRead texts es → HasNoRoomFor es number → IsFirstFault texts (record { question = number; fault = fault.TooMany })
+no_room texts es number read lacks =
+    let s = split texts lacks.before (entry.One lacks.question) lacks.behind (subst (AreRead texts) lacks.among read) in
     record {
-      readable = readable texts qs read;
+      readable = readable texts es read;
       before = s.fronts;
       text = s.text;
-      at = record { behind = s.behinds; among = s.are; numbered = lacks.numbered ∙ ap (λ k. k + 1) (sym (paired-length IsReadAs s.fronts lacks.before s.read)) };
-      list = lacks.list;
-      listed = listed s.fronts lacks.before lacks.list s.read lacks.entries;
+      at = record { behind = s.behinds; among = s.are; numbered = lacks.numbered ∙ ap (λ k. k + 1) (sym (paired-length IsEntryOf s.fronts lacks.before s.read)) };
+      asked = lacks.asked;
+      are = asked_so s.fronts lacks.before lacks.asked s.read lacks.added;
       question = lacks.question;
       read = s.one;
       full = lacks.full;
     }
 
-pub too_many : (texts : List (List ℕ)) (qs : List Question) (stop : Refused NumberedFault) → AreReadAs texts qs → Refuses stop (IsTooMany qs) → Refuses stop (IsFirstFault texts)
-too_many texts qs (refused.Fault f) read refuses = at f.fault refuses
+pub too_many : (texts : List (List ℕ)) (es : List Entry) (stop : Refused NumberedFault) → AreRead texts es → Refuses stop (IsTooMany es) → Refuses stop (IsFirstFault texts)
+too_many texts es (refused.Fault f) read refuses = at f.fault refuses
   where
-    at : (g : QuestionsFault) → AreFull qs f.question g → IsFirstFault texts (record { question = f.question; fault = g })
+    at : (g : QuestionsFault) → IsFullAt es f.question g → IsFirstFault texts (record { question = f.question; fault = g })
     at (fault.Question e) is = absurd is
-    at fault.TooMany is = no_room texts qs f.question read is
-too_many texts qs refused.NoMemory read refuses = _
-
--- ---- what comes of all
-
-pub listed_where : (texts : List (List ℕ)) (qs : List Question) (made : Result AskedList (Refused NumberedFault)) → AreReadAs texts qs → IfOk made (AreEntries qs) → IfOk made (AreListed texts)
-listed_where texts qs (Ok list) read are = listed texts qs list read are
-listed_where texts qs (Err stop) read are = _
-
-pub refused_where : (texts : List (List ℕ)) (qs : List Question) (made : Result AskedList (Refused NumberedFault)) → AreReadAs texts qs → IfErr made (λ stop. Refuses stop (IsTooMany qs))
-    → IfErr made (λ stop. Refuses stop (IsFirstFault texts))
-refused_where texts qs (Ok list) read are = _
-refused_where texts qs (Err stop) read are = too_many texts qs stop read are
+    at fault.TooMany is = no_room texts es f.question read is
+too_many texts es refused.NoMemory read refuses = _

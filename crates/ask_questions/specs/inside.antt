@@ -1,3 +1,2 @@
 -- What only the calls inside say to each other.
-pub mod Listed
-pub mod Reading
+pub mod Added

@@ -9,7 +9,8 @@ use Rattle.rctl_class.specs.declared.named.NamedSide.TheVariants.{Number}
 use Rattle.rctl_class.specs.NamedParts.{comparison, NamedPiece, local}
 use Rattle.question_outcome.specs.declared.outcome.PartPlace.{PartPlace}
 use Rattle.ask_text.specs.Indented.{indented_from}
-use Rattle.ask_text.specs.Text.{QuestionView, evidence, document}
+use Rattle.ask_text.specs.Documents.{EntryView, document, one}
+use Rattle.ask_text.specs.Text.{evidence}
 
 abbrev placed : List ℕ → Place
 placed name = record { name = name; at = 0 }
@@ -19,14 +20,14 @@ abbrev x_is : List ℕ → ℕ → NamedPiece
 x_is process k = local (Some (placed process)) (comparison (placed (codes "x")) Eq (Number (pos k)))
 
 -- a question of two disjuncts that nothing is shown against
-abbrev bare : List ℕ → Bool → List PartPlace → QuestionView
-bare text holds places = record {
+abbrev bare : List ℕ → Bool → List PartPlace → EntryView
+bare text holds places = one (record {
   text = text;
   formula = 6;
   form = Never;
   disjuncts = (x_is (codes "p") 1 ∷ x_is (codes "q") 7 ∷ []) ∷ (x_is (codes "q") 8 ∷ []) ∷ [];
   outcome = record { holds = holds; witnesses = []; nowhere = places };
-}
+})
 
 abbrev second_and_third : List PartPlace
 second_and_third = record { disjunct = 1; part = 2 } ∷ record { disjunct = 2; part = 1 } ∷ []

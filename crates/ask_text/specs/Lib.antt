@@ -1,3 +1,5 @@
 pub mod Indented
 pub mod Lines
 pub mod Text
+pub mod OverText
+pub mod Documents

@@ -1,8 +1,8 @@
 -- What is written of questions that were asked of a run: a document of the Test Anything Protocol,
--- version 14, with a test for each question. Below a question that doesn't hold stands what was
--- found against it, as a block in YAML, and below an answer that says nothing of the run a comment
--- on each part that holds nowhere.
-use Rattle.std.specs.Prelude.{ℕ, ◌+◌, ◌-◌, ◌≤◌, ◌==◌, Bool, true, false, List, [], ◌∷◌, ◌++◌}
+-- version 14, with a test for each question. Below a question that doesn't hold stands what was found
+-- against it, as a block in YAML, and below an answer that says nothing of the run a comment on each
+-- part that holds nowhere.
+use Rattle.std.specs.Prelude.{ℕ, ◌-◌, ◌≤◌, ◌==◌, Bool, true, false, List, [], ◌∷◌, ◌++◌}
 use Rattle.std.specs.Prelude.{length, drop, map, codes, Option, None, Some, slice_get}
 use Rattle.std.specs.Prelude.{slice_index_or, if◌then◌else◌}
 use Rattle.std.specs.List.{AllByRecursion, flat_map}
@@ -10,7 +10,6 @@ use Rattle.std.specs.Fmt.{decimal}
 use Rattle.run_model.specs.Cut.{Cut, count}
 use Rattle.question_meaning.specs.declared.form.Form.{Form}
 use Rattle.question_meaning.specs.declared.form.Form.TheVariants as form
-use Rattle.pota_base.specs.Limits.{longest_lexed}
 use Rattle.event_log.specs.States.{StatesView}
 use Rattle.rctl_grammar.specs.declared.token.Token.{Token}
 use Rattle.rctl_lexer.specs.Lexing.{lex}
@@ -62,7 +61,7 @@ IsOfRun lengths w = WitnessFits lengths w.witness
 
 -- a question of at most so many bytes, whose witnesses are of events and cuts of the run
 pub record IsOnRun (s : StatesView) (q : QuestionView) : Type 0 where
-  pub short : length q.text ≤ longest_lexed
+  pub short : length q.text ≤ 65536
   pub fits : AllByRecursion (IsOfRun (map length s.events)) q.outcome.witnesses
 
 -- ---- its line
@@ -72,9 +71,11 @@ result_word true = codes "ok "
 result_word false = codes "not ok "
 
 -- `ok N - TEXT` where question N holds, and `not ok N - TEXT` where it doesn't
+abbrev pub line_of : ℕ → (holds : Bool) → (text : List ℕ) → List ℕ
+line_of number holds text = result_word holds ++ decimal number ++ codes " - " ++ text ++ 10 ∷ []
+
 abbrev pub result_line : ℕ → QuestionView → List ℕ
-result_line number q =
-    result_word q.outcome.holds ++ decimal number ++ codes " - " ++ q.text ++ 10 ∷ []
+result_line number q = line_of number q.outcome.holds q.text
 
 -- ---- what was found against it
 
@@ -131,26 +132,35 @@ found_rows s form w path =
     codes "found: " ++ found_words form w ++ codes "\nat: " ++ at_text s path.goal
     ++ codes "\nsteps: " ++ decimal (length path.steps)
 
--- a block in YAML
-abbrev pub block : StatesView → List Token → Extent → Form → Witness → Path → List ℕ
-block s tokens e form w path =
-    codes "---\n"
+-- the line with which a block in YAML begins, and the one with which it ends
+abbrev pub block_front : List ℕ
+block_front = codes "---\n"
+
+abbrev pub block_end : List ℕ
+block_end = codes "...\n"
+
+-- a block in YAML with this front
+abbrev pub block : (front : List ℕ) → StatesView → List Token → Extent → Form → Witness → Path
+    → List ℕ
+block front s tokens e form w path =
+    front
     ++ folded 0
-    (found_rows s form w path ++ codes "\nlast: |\n" ++ indented
-    (last_head ++ last_rows s tokens e path))
-    ++ codes "...\n"
+    (found_rows s form w path ++ codes "\nlast: |\n" ++ indented (last_head ++ last_rows s tokens e path))
+    ++ block_end
 
 -- the block of a path, where there is one
-abbrev pub block_or : StatesView → List Token → Extent → Form → Witness → List ℕ → Option Path
-    → List ℕ
-block_or s tokens e form w otherwise None = otherwise
-block_or s tokens e form w otherwise (Some path) = block s tokens e form w path
+abbrev pub block_or : (front : List ℕ) → StatesView → List Token → Extent → Form → Witness
+    → List ℕ → Option Path → List ℕ
+block_or front s tokens e form w otherwise None = otherwise
+block_or front s tokens e form w otherwise (Some path) = block front s tokens e form w path
 
--- that of the first of these witnesses that has a path
-unfoldable pub evidence : StatesView → List Token → Extent → Form → List WitnessText → List ℕ
-evidence s tokens e form [] = []
-evidence s tokens e form (w ∷ ws) =
-    block_or s tokens e form w.witness (evidence s tokens e form ws) (path_of w.witness)
+-- that of the first of these witnesses that has a path, and this where none has
+unfoldable pub evidence : (front none : List ℕ) → StatesView → List Token → Extent → Form
+    → List WitnessText → List ℕ
+evidence front none s tokens e form [] = none
+evidence front none s tokens e form (w ∷ ws) =
+    block_or front s tokens e form w.witness (evidence front none s tokens e form ws)
+    (path_of w.witness)
 
 -- ---- parts that hold nowhere
 
@@ -172,30 +182,13 @@ nowhere_lines disjuncts places = flat_map (λ p. nowhere_line (part_at disjuncts
 -- what stands below the line of a question; of the steps of each process so many are shown at most
 abbrev pub below : StatesView → ℕ → QuestionView → List ℕ
 below s steps q =
-    evidence s (formula_tokens q) (extent.Last steps) q.form q.outcome.witnesses
+    evidence block_front [] s (formula_tokens q) (extent.Last steps) q.form q.outcome.witnesses
     ++ nowhere_lines q.disjuncts q.outcome.nowhere
 
 -- the line of question `number`, and what stands below it
 abbrev pub question_rows : StatesView → ℕ → ℕ → QuestionView → List ℕ
 question_rows s steps number q = result_line number q ++ indented (below s steps q)
 
--- the rows of questions, the first of which has this number
-abbrev pub all_rows : StatesView → ℕ → ℕ → List QuestionView → List ℕ
-all_rows s steps number [] = []
-all_rows s steps number (q ∷ qs) =
-    question_rows s steps number q ++ all_rows s steps (number + 1) qs
-
 -- the version, and the plan of so many tests
 abbrev pub head_lines : ℕ → List ℕ
 head_lines questions = codes "TAP version 14\n1.." ++ decimal questions ++ 10 ∷ []
-
--- what is written of questions that were asked of a run, with so many last steps of each process
-abbrev pub document : StatesView → ℕ → List QuestionView → List ℕ
-document s steps qs = head_lines (length qs) ++ all_rows s steps 1 qs
-
--- ---- what a reader of the protocol sees of it
-
--- the lines of the questions alone, the first of which has this number
-abbrev pub result_lines : ℕ → List QuestionView → List ℕ
-result_lines number [] = []
-result_lines number (q ∷ qs) = result_line number q ++ result_lines (number + 1) qs

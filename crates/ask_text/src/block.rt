@@ -1,11 +1,12 @@
 //! What was found against a question.
 ghost use Rattle.ask_text.specs.Indented.{indented};
-ghost use Rattle.ask_text.specs.Text.{IsOfRun, at_text, block, evidence, found_rows, found_words};
-ghost use Rattle.ask_text.specs.Text.{last_head, last_rows, operand_words, path_of};
+ghost use Rattle.ask_text.specs.Text.{IsOfRun, at_text, block, evidence, found_rows, found_words, last_head};
+ghost use Rattle.ask_text.specs.Text.{last_rows};
+ghost use Rattle.ask_text.specs.Text.{operand_words, path_of};
 ghost use Rattle.report_lines.specs.Spelling.{CutFits, PathFits};
 ghost use Rattle.std.specs.List.{AllByRecursion};
-ghost use Rattle.std.specs.Prelude.{◌≡◌, ◌++◌, ◌<◌, [], if◌then◌else◌, ◌==◌, codes, length, map};
-ghost use Rattle.std.specs.Prelude.{OnOk, IfOk, option_copied};
+ghost use Rattle.std.specs.Prelude.{◌≡◌, ◌++◌, ◌<◌, [], if◌then◌else◌, ◌==◌, codes, length, map, OnOk};
+ghost use Rattle.std.specs.Prelude.{IfOk, option_copied};
 ghost use Rattle.view_parts.specs.Parts.{place, place_text};
 
 use crate::indented::put_indented;
@@ -17,6 +18,12 @@ use report_lines::WitnessText;
 use view_parts::put_place;
 use view_text::{Told, folded, put_step_rows, put_value_rows};
 use witness_kinds::{Path, Witness};
+
+/// The line with which a block begins.
+pub const BLOCK_FRONT: &[u8] = b"---\n";
+
+/// The line with which it ends.
+pub const BLOCK_END: &[u8] = b"...\n";
 
 // The path of a witness that has one.
 fn path_of(witness: &Witness) -> Option<&Path>
@@ -112,8 +119,7 @@ fn put_found(
     put_u64(out, path.steps.len() as u64)
 }
 
-// What stands before the last steps, the steps of a path that are shown, and the values at its
-// goal.
+// What stands before the last steps, the steps of a path that are shown, and the values at its goal.
 fn last_rows(told: &Told<'_>, path: &Path) -> Result<Bytes, NoMemory>
     requires { PathFits (map length told.now.states.now.events) path.now }
     ensures { IfOk result (λ rows. rows ≡ last_head ++ last_rows told.now.states.now
@@ -141,41 +147,45 @@ fn found(told: &Told<'_>, form: Form, witness: &Witness, path: &Path) -> Result<
     Ok(rows)
 }
 
-// Appends the block of a path.
+// Appends the block of a path, with this front.
 fn put_block(
     out: &mut Bytes,
+    front: &[u8],
     told: &Told<'_>,
     form: Form,
     witness: &Witness,
     path: &Path,
 ) -> Result<(), NoMemory>
     requires { PathFits (map length told.now.states.now.events) path.now }
-    ensures { OnOk result (out.new ≡ out.old ++ block told.now.states.now told.now.tokens.now
-        told.now.extent form witness.now path.now) }
+    ensures { OnOk result (out.new ≡ out.old ++ block front.now told.now.states.now
+        told.now.tokens.now told.now.extent form witness.now path.now) }
 {
     let found = found(told, form, witness, path)?;
     let lines = folded(told.alloc, found.as_slice())?;
-    out.extend_from_slice(b"---\n")?;
+    out.extend_from_slice(front)?;
     out.extend_from_slice(lines.as_slice())?;
-    out.extend_from_slice(b"...\n")
+    out.extend_from_slice(BLOCK_END)
 }
 
-/// Appends the block of the first of the witnesses that has a path.
+/// Appends the block of the first of the witnesses that has a path, with this front, and where none
+/// has, other bytes.
 pub fn put_evidence(
     out: &mut Bytes,
+    front: &[u8],
+    none: &[u8],
     told: &Told<'_>,
     form: Form,
     witnesses: &[WitnessText],
 ) -> Result<(), NoMemory>
     requires { AllByRecursion (IsOfRun (map length told.now.states.now.events))
         witnesses.now }
-    ensures { OnOk result (out.new ≡ out.old ++ evidence told.now.states.now told.now.tokens.now
-        told.now.extent form witnesses.now) }
+    ensures { OnOk result (out.new ≡ out.old ++ evidence front.now none.now told.now.states.now
+        told.now.tokens.now told.now.extent form witnesses.now) }
 {
     for witness in witnesses {
         if let Some(path) = path_of(&witness.witness) {
-            return put_block(out, told, form, &witness.witness, path);
+            return put_block(out, front, told, form, &witness.witness, path);
         }
     }
-    Ok(())
+    out.extend_from_slice(none)
 }

@@ -1,12 +1,10 @@
-//! The whole document.
-ghost use Rattle.ask_text.specs.Text.{IsOnRun, all_rows, below, document, formula_tokens};
-ghost use Rattle.ask_text.specs.Text.{head_lines, question_rows, result_line, result_word, view_of};
+//! With what a document begins, and the rows of a question.
+ghost use Rattle.ask_text.specs.Text.{IsOnRun, below, head_lines, line_of, question_rows};
+ghost use Rattle.ask_text.specs.Text.{result_word, view_of};
 ghost use Rattle.rctl_lexer.specs.Lexing.{lex};
-ghost use Rattle.std.specs.List.{AllByRecursion};
-ghost use Rattle.std.specs.Prelude.{◌≡◌, ◌++◌, ◌≤◌, length, map, drop, IfOk, OnOk};
-ghost use Rattle.pota_base.specs.Limits.{longest_lexed};
+ghost use Rattle.std.specs.Prelude.{◌≡◌, ◌++◌, ◌≤◌, length, drop, IfOk, OnOk};
 
-use crate::block::put_evidence;
+use crate::block::{BLOCK_FRONT, put_evidence};
 use crate::indented::put_indented;
 use crate::nowhere::put_nowhere;
 use crate::question::{AskedQuestion, AskedRun};
@@ -31,20 +29,20 @@ fn result_word(holds: bool) -> &'static [u8]
     if holds { b"ok " } else { b"not ok " }
 }
 
-// Appends the line of a question with its number.
-fn put_result(out: &mut Bytes, number: u64, question: &AskedQuestion<'_>) -> Result<(), NoMemory>
-    ensures { OnOk result (out.new ≡ out.old ++ result_line number (view_of question.now)) }
+/// Appends the line of a question with its number.
+pub fn put_line(out: &mut Bytes, number: u64, holds: bool, text: &[u8]) -> Result<(), NoMemory>
+    ensures { OnOk result (out.new ≡ out.old ++ line_of number holds text.now) }
 {
-    out.extend_from_slice(result_word(question.outcome.holds))?;
+    out.extend_from_slice(result_word(holds))?;
     put_u64(out, number)?;
     out.extend_from_slice(b" - ")?;
-    out.extend_from_slice(question.text)?;
+    out.extend_from_slice(text)?;
     out.push(b'\n')
 }
 
-// The tokens of a question's formula, which begins at this byte.
-fn lexed(alloc: Global, text: &[u8], formula: u32) -> Result<Lexed, NoMemory>
-    requires { length text.now ≤ longest_lexed }
+/// The tokens of a question's formula, which begins at this byte.
+pub fn lexed(alloc: Global, text: &[u8], formula: u32) -> Result<Lexed, NoMemory>
+    requires { length text.now ≤ 65536 }
     ensures { IfOk result (λ lexed. lexed ≡ lex (drop formula text.now)) }
 {
     let from = text.len().min(formula as usize);
@@ -68,6 +66,8 @@ fn below(run: &AskedRun<'_>, question: &AskedQuestion<'_>) -> Result<Bytes, NoMe
     let mut rows = Bytes::new(run.alloc);
     put_evidence(
         &mut rows,
+        BLOCK_FRONT,
+        b"",
         &told,
         question.form,
         outcome.witnesses.as_slice(),
@@ -87,35 +87,7 @@ pub fn put_question(
     ensures { OnOk result (out.new ≡ out.old
         ++ question_rows run.now.states.now run.now.steps number (view_of question.now)) }
 {
-    put_result(out, number, question)?;
+    put_line(out, number, question.outcome.holds, question.text)?;
     let below = below(run, question)?;
     put_indented(out, below.as_slice())
-}
-
-// Appends the rows of all questions, with their numbers from 1.
-fn put_all(
-    out: &mut Bytes,
-    run: &AskedRun<'_>,
-    questions: &[AskedQuestion<'_>],
-) -> Result<(), NoMemory>
-    requires { AllByRecursion (IsOnRun run.now.states.now) (map view_of questions.now) }
-    ensures { OnOk result (out.new ≡ out.old
-        ++ all_rows run.now.states.now run.now.steps 1 (map view_of questions.now)) }
-{
-    for i in 0..questions.len() {
-        put_question(out, run, i as u64 + 1, &questions[i])?;
-    }
-    Ok(())
-}
-
-/// What is written of these questions, in their order.
-pub fn document(run: &AskedRun<'_>, questions: &[AskedQuestion<'_>]) -> Result<Bytes, NoMemory>
-    requires { AllByRecursion (IsOnRun run.now.states.now) (map view_of questions.now) }
-    ensures { IfOk result (λ text. text
-        ≡ document run.now.states.now run.now.steps (map view_of questions.now)) }
-{
-    let mut out = Bytes::new(run.alloc);
-    put_head(&mut out, questions.len() as u64)?;
-    put_all(&mut out, run, questions)?;
-    Ok(out)
 }

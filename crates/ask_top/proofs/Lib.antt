@@ -2,5 +2,4 @@ mod Observing
 mod Answered
 mod Fits
 mod Told
-mod Views
 mod Passed

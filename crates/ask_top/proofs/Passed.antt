@@ -2,10 +2,9 @@
 use Rattle.std.proofs.Common.{◌≡◌, ℕ, true, inl, inr, Option, Some, List, [], drop, refl, sym, subst}
 use Rattle.std.proofs.lemmas.Bool.{false≢true}
 use Rattle.std.proofs.KnownBytes.{Appends-nil, Consumes-nil}
-use Rattle.pota_base.specs.Changes.{change_of}
 use Rattle.part_pulls.specs.Observing.{Reading}
-use Rattle.ask_questions.specs.Listing.{IsFirstFault}
-use Rattle.ask_questions.specs.declared.fault.NumberedFault.{NumberedFault}
+use Rattle.ask_questions.specs.Entries.{IsFirstFault}
+use Rattle.ask_questions.specs.declared.reading.NumberedFault.{NumberedFault}
 use Rattle.ask_words.specs.Asking.{asked_by}
 use Rattle.ask_words.specs.declared.asking.Asked.{Asked}
 use Rattle.ask_faults.specs.Faults.{is_long}
@@ -20,7 +19,7 @@ use Rattle.ask_top.specs.inside.Telling.{IsAnswerTold}
 
 -- a question has a fault, and nothing is read
 pub faulty : (watches : Reading) (words : List (List ℕ)) (asked : Asked) → asked_by words ≡ Some asked → (texts : List (List ℕ)) → texts ≡ drop asked.questions_from words → (f : NumberedFault) → IsFirstFault texts f
-    → (left held : Option (List ℕ)) (lf of : ℕ) → HasAnswered watches (change_of left left lf lf) (change_of held held of of) words (answer.Without (fault.Question f))
+    → (left held : Option (List ℕ)) (lf of : ℕ) → HasAnswered watches left left held held lf lf of of words (answer.Without (fault.Question f))
 faulty watches words asked asks texts texts_are f is left held lf of = record {
   read = [];
   written = [];
@@ -31,13 +30,14 @@ faulty watches words asked asks texts texts_are f is left held lf of = record {
 
 module _ (watches : Reading) (left left' held held' : Option (List ℕ)) (lf lf' of of' : ℕ) (words : List (List ℕ)) where
   abbrev Answered : Answer → Type 0
-  Answered a = HasAnswered watches (change_of left left' lf lf') (change_of held held' of of') words a
+  Answered a = HasAnswered watches left left' held held' lf lf' of of' words a
 
   as_memory : (f : Fault) → is_long f ≡ true → Answered (answer.Without f) → Answered (answer.Without fault.Memory)
   as_memory fault.Usage long h = absurd (false≢true long)
   as_memory (fault.Question f) long h = record { read = h.read; written = h.written; consumed = h.consumed; wrote = h.wrote; says = h.says.0 }
   as_memory (fault.Unknown u) long h = record { read = h.read; written = h.written; consumed = h.consumed; wrote = h.wrote; says = h.says.0 }
-  as_memory (fault.Refused r) long h = record { read = h.read; written = h.written; consumed = h.consumed; wrote = h.wrote; says = h.says.0 }
+  as_memory (fault.Over f) long h = record { read = h.read; written = h.written; consumed = h.consumed; wrote = h.wrote; says = h.says.0 }
+  as_memory (fault.Refused r line) long h = record { read = h.read; written = h.written; consumed = h.consumed; wrote = h.wrote; says = h.says.0 }
   as_memory fault.Read long h = absurd (false≢true long)
   as_memory fault.Write long h = absurd (false≢true long)
   as_memory fault.Memory long h = absurd (false≢true long)

@@ -1,7 +1,6 @@
 -- What is told of the questions of a list, by what they come to on what was observed for it.
-use Rattle.std.proofs.Common.{◌≡◌, ◌↔◌, ℕ, suc, ◌≤◌, Bool, true, false, nat_lt, IsTrue, List, [], ◌∷◌, length, map, refl, sym, ap, subst, ◌∙◌, arith}
+use Rattle.std.proofs.Common.{◌≡◌, ◌↔◌, ℕ, ◌≤◌, Bool, true, false, nat_lt, IsTrue, List, [], ◌∷◌, ◌++◌, length, map, Option, None, Some, refl, sym, ap, subst, ◌∙◌, arith}
 use Rattle.std.specs.List.{AllByRecursion, AllZip}
-use Rattle.std.proofs.lemmas.List.{length-map}
 use Rattle.std.specs.Prelude.{Result, Ok, Err, if◌then◌else◌}
 use Rattle.run_model.specs.Cut.{Cut, lengths}
 use Rattle.run_model.specs.Run.{Run, run_of, clocks_of}
@@ -14,7 +13,6 @@ use Rattle.event_log.specs.declared.log.Log.{Log}
 use Rattle.question_meaning.specs.Asking.{AreFor, asked_formula, question}
 use Rattle.question_meaning.specs.Question.{Holds}
 use Rattle.question_meaning.specs.declared.form.Form.{Form}
-use Rattle.pota_base.specs.Limits.{longest_lexed, longest_question}
 use Rattle.question_text.specs.declared.head.Head.{Head}
 use Rattle.question_forms.specs.Questions.{IsQuestion}
 use Rattle.question_forms.specs.declared.question.Question.{Question}
@@ -42,54 +40,31 @@ use Rattle.asked_answers.proofs.Listed.{asked, one, range_map, spelled}
 use Rattle.asked_observation.specs.Observed.{IsObservedList}
 use Rattle.observation.specs.Growing.{GrowingView}
 use Rattle.log_intake.specs.Taking.{trace_after}
-use Rattle.ask_questions.specs.Listing.{AreListed, IsEntry, IsListed, IsReadAs}
+use Rattle.ask_questions.specs.Entries.{AreEach}
+use Rattle.ask_questions.specs.Listing.{IsEntry, IsReadAs}
+use Rattle.over_answers.specs.PassedOn.{Answered, run_by}
+use Rattle.over_answers.specs.Tallies.{AreTallies, IsTalliedAs, bare_of}
+use Rattle.over_answers.specs.declared.answering.Tallied.{Tallied}
+use Rattle.over_answers.proofs.Shown.{IsOf, shown_of}
+use Rattle.question_instances.specs.Over.{over_of}
+use Rattle.question_instances.specs.declared.over.Over.{Over}
+use Rattle.question_document.specs.Views.{CanPut, CanShow, CanTellFrom, all_hold, instance_view, over_entries, over_view, view_at, views_from}
 use Rattle.question_outcome.specs.Outcomes.{IsOutcome}
 use Rattle.question_outcome.specs.declared.outcome.Outcome.{Outcome}
 use Rattle.question_outcomes.specs.Telling.{AreOutcomes, IsOutcomeIn}
-use Rattle.ask_text.specs.Text.{IsOfRun, IsOnRun, document}
-use Rattle.ask_top.specs.Documents.{IsDocument, IsTold, all_hold, names_on, outcomes_of, run_on, view_at, views_from, views_of}
-use Rattle.ask_top.specs.inside.Documents.{CanTell, IsThere}
+use Rattle.ask_text.specs.Documents.{EntryView, document, over}
+use Rattle.ask_text.specs.Text.{IsOfRun, IsOnRun}
+use Rattle.ask_top.specs.Documents.{IsDocument, IsEntryTold, IsTold, names_on, run_on}
 use Rattle.ask_top.proofs.Fits.{outcome_fits}
 
--- the outcomes are those that are told
-pub outcomes_told : (ds : List (List NamedPiece)) (texts : List (List ℕ)) (entries : List Listed) (os : List Outcome) → length entries ≡ length texts → length os ≡ length texts → outcomes_of (views_from ds texts entries os) ≡ os
-outcomes_told ds [] entries [] many as_many = refl
-outcomes_told ds [] entries (o ∷ os) many as_many = absurd (omega (arith, as_many))
-outcomes_told ds (t ∷ ts) [] os many as_many = absurd (omega (arith, many))
-outcomes_told ds (t ∷ ts) (e ∷ es) [] many as_many = absurd (omega (arith, as_many))
-outcomes_told ds (t ∷ ts) (e ∷ es) (o ∷ os) many as_many = ap (λ (l : List Outcome). o ∷ l) (outcomes_told ds ts es os (omega (arith, many)) (omega (arith, as_many)))
-
--- ---- as many of each
-
-as_many_entries : (list : AskedList) (texts : List (List ℕ)) (entries : List Listed) → AllZip (IsListed list) texts entries → length entries ≡ length texts
-as_many_entries list [] [] each = refl
-as_many_entries list [] (e ∷ es) each = absurd each
-as_many_entries list (t ∷ ts) [] each = absurd each
-as_many_entries list (t ∷ ts) (e ∷ es) each = ap suc (as_many_entries list ts es each.1)
-
-as_many_outcomes : (seen : Observed) (ds : List (List Piece)) (entries : List Listed) (os : List Outcome) → AreOutcomes seen ds entries os → length os ≡ length entries
-as_many_outcomes seen ds [] [] came = refl
-as_many_outcomes seen ds [] (o ∷ os) came = absurd came
-as_many_outcomes seen ds (e ∷ es) [] came = absurd came
-as_many_outcomes seen ds (e ∷ es) (o ∷ os) came = ap suc (as_many_outcomes seen ds es os came.1)
-
-all_there : (list : AskedList) (texts : List (List ℕ)) (entries : List Listed) → AllZip (IsListed list) texts entries → AllByRecursion (IsThere (length list.classed.disjuncts)) entries
-all_there list [] [] each = tt
-all_there list [] (e ∷ es) each = absurd each
-all_there list (t ∷ ts) [] each = tt
-all_there list (t ∷ ts) (e ∷ es) each = (
-  record { up = each.0.2.has.up; within = let within = each.0.2.has.within in omega (arith, within, length-map list.classed.disjuncts pieces_of) },
-  all_there list ts es each.1,
-)
-
 -- a question has few bytes
-few_bytes : (n : ℕ) (b : Bool) → nat_lt longest_question n ≡ b → (f : HeadFault) (other : Result Head HeadFault) (head : Head) → (if b then Err f else other) ≡ Ok head → n ≤ longest_lexed
+few_bytes : (n : ℕ) (b : Bool) → nat_lt 8192 n ≡ b → (f : HeadFault) (other : Result Head HeadFault) (head : Head) → (if b then Err f else other) ≡ Ok head → n ≤ 65536
 few_bytes n true is f other head e = absurd cc
 few_bytes n false is f other head e = grind (arith, is)
 
-short_so : (text : List ℕ) (q : Question) → IsReadAs text q → length text ≤ longest_lexed
+short_so : (text : List ℕ) (q : Question) → IsReadAs text q → length text ≤ 65536
 unfolding head_of
-short_so text q read = few_bytes (length text) (nat_lt longest_question (length text)) refl _ _ read.0 read.2.asking.of_text
+short_so text q read = few_bytes (length text) (nat_lt 8192 (length text)) refl _ _ read.0 read.2.asking.of_text
 
 module _ (list : AskedList) (watches : Reading) (log : Log) (growing : GrowingView) (observed : IsObservedList list watches.watch_names growing) (trace_is : growing.seen.trace ≡ trace_after (all_of log))
     (whole : IsTrace growing.seen.trace.states) (answers : AreAnswers growing.seen watches) where
@@ -165,13 +140,52 @@ module _ (list : AskedList) (watches : Reading) (log : Log) (growing : GrowingVi
       holds = holds_so;
     }
 
-  pub all_told : (texts : List (List ℕ)) (entries : List Listed) (os : List Outcome) → AllZip (IsListed list) texts entries → AreOutcomes seen (disjuncts_of growing.disjuncts) entries os
-      → AllZip (IsTold watches (all_of log)) texts (views_from (disjuncts_in list) texts entries os)
-  all_told [] [] os each came = tt
-  all_told [] (e ∷ es) os each came = absurd each
-  all_told (t ∷ ts) [] os each came = absurd each
-  all_told (t ∷ ts) (e ∷ es) [] each came = absurd came
-  all_told (t ∷ ts) (e ∷ es) (o ∷ os) each came = (one_told t e each.0.0 each.0.1 each.0.2 o came.0, all_told ts es os each.1 came.1)
+  -- ---- questions over processes
+
+  abbrev bare : Observed
+  bare = bare_of growing.seen.trace
+
+  abbrev IsShown : Answered → Type 0
+  IsShown a = IsOf bare a
+
+  over_told : (text : List ℕ) (t : Tallied) (a : Answered) → t.tally.shown ≡ Some a → IsTalliedAs bare text t → IsEntryTold watches (all_of log) text (over (over_view text header t a))
+  over_told text t a is tallied = record {
+    tallied = t;
+    tally = subst (λ (tr : TraceView). IsTalliedAs (bare_of tr) text t) trace_is tallied;
+    shown = a;
+    is = is;
+    view_is = ap (λ (tr : TraceView). over_view text tr.states.header t a) trace_is;
+  }
+
+  -- ---- all of them
+
+  abbrev ds_all : List (List NamedPiece)
+  ds_all = disjuncts_in list
+
+  abbrev views : List (List ℕ) → List (Option Tallied) → List Listed → List Outcome → List EntryView
+  views texts ts es os = views_from ds_all header texts ts es os
+
+  one_not_over : (text : List ℕ) (t : Over) → over_of text ≡ Ok None → over_of text ≡ Ok (Some t) → ⊥
+  one_not_over text t one_is over_is = cc
+
+  pub all_told : (texts : List (List ℕ)) (overs : List (Option Over)) (ts : List (Option Tallied)) (es : List Listed) (os : List Outcome) → AreEach list texts overs es → AreTallies bare texts ts
+      → AreOutcomes seen (disjuncts_of growing.disjuncts) es os → AllZip (IsEntryTold watches (all_of log)) texts (views texts ts es os)
+  all_told [] overs ts es os each tallied came = tt
+  all_told (text ∷ texts) [] ts es os each tallied came = absurd each
+  all_told (text ∷ texts) (o ∷ overs) [] es os each tallied came = absurd tallied
+  all_told (text ∷ texts) (None ∷ overs) (None ∷ ts) [] os each tallied came = absurd each
+  all_told (text ∷ texts) (None ∷ overs) (None ∷ ts) (e ∷ es) [] each tallied came = absurd came
+  all_told (text ∷ texts) (None ∷ overs) (None ∷ ts) (e ∷ es) (o ∷ os) each tallied came = (
+    (each.0.names, one_told text e each.0.listed.0 each.0.listed.1 each.0.listed.2 o came.0),
+    all_told texts overs ts es os each.1 tallied.1 came.1,
+  )
+  all_told (text ∷ texts) (None ∷ overs) (Some t ∷ ts) [] os each tallied came = absurd each
+  all_told (text ∷ texts) (None ∷ overs) (Some t ∷ ts) (e ∷ es) os each tallied came = absurd (one_not_over text t.over each.0.names tallied.0.names)
+  all_told (text ∷ texts) (Some names ∷ overs) (None ∷ ts) es os each tallied came = absurd (one_not_over text names tallied.0 each.0.names)
+  all_told (text ∷ texts) (Some names ∷ overs) (Some t ∷ ts) es os each tallied came =
+      let shown = shown_of bare text t.over t.tally tallied.0.tally in
+      subst (λ (s : Option Answered). AllZip (IsEntryTold watches (all_of log)) (text ∷ texts) (over_entries text header t s ++ views texts ts es os)) (sym shown.1)
+      (over_told text t shown.0 shown.1 tallied.0, all_told texts overs ts es os each.1 tallied.1 came)
 
   -- ---- what may be told
 
@@ -187,29 +201,46 @@ module _ (list : AskedList) (watches : Reading) (log : Log) (growing : GrowingVi
         (outcome_fits (run_seen seen watches) (names_seen seen watches) entry.range.form (own_of entry.range resolved) o (came text entry q read is o out));
   }
 
-  all_on_run : (texts : List (List ℕ)) (entries : List Listed) (os : List Outcome) → AllZip (IsListed list) texts entries → AreOutcomes seen (disjuncts_of growing.disjuncts) entries os
-      → AllByRecursion (IsOnRun seen.trace.states) (views_from (disjuncts_in list) texts entries os)
-  all_on_run [] [] os each came = tt
-  all_on_run [] (e ∷ es) os each came = absurd each
-  all_on_run (t ∷ ts) [] os each came = absurd each
-  all_on_run (t ∷ ts) (e ∷ es) [] each came = absurd came
-  all_on_run (t ∷ ts) (e ∷ es) (o ∷ os) each came = (one_on_run t e each.0.0 each.0.1 each.0.2 o came.0, all_on_run ts es os each.1 came.1)
+  can_put : (text : List ℕ) (entry : Listed) (q : Question) → IsReadAs text q → IsEntry list q entry → (o : Outcome) → IsOutcomeIn seen (disjuncts_of growing.disjuncts) entry.range o
+      → CanPut seen.trace.states ds_all text entry o
+  can_put text entry q read is o out =
+      record { there = record { up = is.has.up; within = is.has.within }; on_run = one_on_run text entry q read is o out }
 
-  pub can_tell : (texts : List (List ℕ)) → AreListed texts list → (os : List Outcome) → AreOutcomes seen (disjuncts_of growing.disjuncts) list.listed os → CanTell seen.trace.states texts list os
-  can_tell texts listed os came = record {
-    entries = as_many_entries list texts list.listed listed.each;
-    outcomes = as_many_outcomes seen (disjuncts_of growing.disjuncts) list.listed os came ∙ as_many_entries list texts list.listed listed.each;
-    there = all_there list texts list.listed listed.each;
-    on_run = all_on_run texts list.listed os listed.each came;
-  }
-
-  pub document_told : (texts : List (List ℕ)) → AreListed texts list → (os : List Outcome) → AreOutcomes seen (disjuncts_of growing.disjuncts) list.listed os
-      → (steps : ℕ) (text : List ℕ) → text ≡ document seen.trace.states steps (views_of list texts os) → (holds : Bool) → holds ≡ all_hold os → IsDocument watches steps texts (all_of log) holds text
-  document_told texts listed os came steps text text_is holds holds_is =
-      let many = as_many_entries list texts list.listed listed.each in
-      record {
-        views = views_of list texts os;
-        each = all_told texts list.listed os listed.each came;
-        text_is = text_is ∙ ap (λ (t : TraceView). document t.states steps (views_of list texts os)) trace_is;
-        hold = ap all_hold (outcomes_told (disjuncts_in list) texts list.listed os many (as_many_outcomes seen (disjuncts_of growing.disjuncts) list.listed os came ∙ many)) ∙ sym holds_is;
+  instance_on_run : (a : Answered) → IsShown a → IsOnRun seen.trace.states (instance_view a)
+  instance_on_run a is =
+      let i = is.0 in
+      let answered = is.1 in record {
+        short = subst (λ (text : List ℕ). length text ≤ 65536) (sym answered.text) (short_so i.text i.question is.2.read);
+        fits =
+            subst (λ (lens : Cut). AllByRecursion (IsOfRun lens) a.outcome.witnesses) lens_are
+            (outcome_fits (run_by bare watches.watches) (names_of header []) i.question.form (numbered_in header [] (named.disjuncts_of i.question.classed.disjuncts)) a.outcome (answered.outcome watches.watches));
       }
+
+  can_show : (text : List ℕ) (t : Tallied) → IsTalliedAs bare text t → CanShow seen.trace.states text t
+  can_show text t tallied =
+      let shown = shown_of bare text t.over t.tally tallied.tally in
+      record { over = tallied.within; shown = shown.0; is = shown.1; on_run = instance_on_run shown.0 shown.2 }
+
+  pub can_tell : (texts : List (List ℕ)) (overs : List (Option Over)) (ts : List (Option Tallied)) (es : List Listed) (os : List Outcome) → AreEach list texts overs es → AreTallies bare texts ts
+      → AreOutcomes seen (disjuncts_of growing.disjuncts) es os → CanTellFrom seen.trace.states ds_all texts ts es os
+  can_tell [] overs ts es os each tallied came = tt
+  can_tell (text ∷ texts) [] ts es os each tallied came = absurd each
+  can_tell (text ∷ texts) (o ∷ overs) [] es os each tallied came = absurd tallied
+  can_tell (text ∷ texts) (None ∷ overs) (None ∷ ts) [] os each tallied came = absurd each
+  can_tell (text ∷ texts) (None ∷ overs) (None ∷ ts) (e ∷ es) [] each tallied came = absurd came
+  can_tell (text ∷ texts) (None ∷ overs) (None ∷ ts) (e ∷ es) (o ∷ os) each tallied came =
+      (can_put text e each.0.listed.0 each.0.listed.1 each.0.listed.2 o came.0, can_tell texts overs ts es os each.1 tallied.1 came.1)
+  can_tell (text ∷ texts) (None ∷ overs) (Some t ∷ ts) [] os each tallied came = absurd each
+  can_tell (text ∷ texts) (None ∷ overs) (Some t ∷ ts) (e ∷ es) os each tallied came = absurd (one_not_over text t.over each.0.names tallied.0.names)
+  can_tell (text ∷ texts) (Some names ∷ overs) (None ∷ ts) es os each tallied came = absurd (one_not_over text names tallied.0 each.0.names)
+  can_tell (text ∷ texts) (Some names ∷ overs) (Some t ∷ ts) es os each tallied came = (can_show text t tallied.0, can_tell texts overs ts es os each.1 tallied.1 came)
+
+  pub document_told : (texts : List (List ℕ)) (overs : List (Option Over)) (ts : List (Option Tallied)) (os : List Outcome) → AreEach list texts overs list.listed → AreTallies bare texts ts
+      → AreOutcomes seen (disjuncts_of growing.disjuncts) list.listed os
+      → (steps : ℕ) (text : List ℕ) → text ≡ document seen.trace.states steps (views texts ts list.listed os) → (holds : Bool) → holds ≡ all_hold (views texts ts list.listed os) → IsDocument watches steps texts (all_of log) holds text
+  document_told texts overs ts os each tallied came steps text text_is holds holds_is = record {
+    views = views texts ts list.listed os;
+    each = all_told texts overs ts list.listed os each tallied came;
+    text_is = text_is ∙ ap (λ (t : TraceView). document t.states steps (views texts ts list.listed os)) trace_is;
+    hold = sym holds_is;
+  }

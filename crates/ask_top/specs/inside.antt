@@ -1,5 +1,4 @@
 -- What only the calls inside say to each other.
-pub mod Documents
 pub mod Observing
 pub mod Telling
 pub mod Writing

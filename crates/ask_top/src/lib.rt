@@ -16,7 +16,7 @@
 #![tactic(auto)]
 
 mod answer;
-mod documents;
+mod observed;
 mod top;
 
 pub use answer::Answer;

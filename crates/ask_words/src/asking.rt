@@ -1,9 +1,7 @@
 //! What is asked for.
 ghost use Rattle.ask_words.specs.Asking.{are_questions, asked_by, asked_with, is_of_options};
-ghost use Rattle.ask_words.specs.Asking.{is_option, with_form, with_option, with_steps};
-ghost use Rattle.ask_words.specs.Asking.{with_steps_word};
+ghost use Rattle.ask_words.specs.Asking.{is_option, with_form, with_option, with_steps, with_steps_word};
 ghost use Rattle.std.specs.Prelude.{◌≡◌, ◌+◌, ◌<◌, ◌≤◌, drop, length, map, string_bytes, IfSome};
-ghost use Rattle.pota_base.specs.Limits.{most_questions};
 
 use log_input::Form;
 use pota_base::number_at;
@@ -18,7 +16,8 @@ pub struct Asked {
     pub questions_from: usize,
 }
 
-pub use pota_base::MOST_QUESTIONS;
+/// The most questions.
+pub const MOST_QUESTIONS: usize = 64;
 
 /// How many steps are shown where nothing is said of it.
 const USUAL_STEPS: u32 = 5;
@@ -120,7 +119,7 @@ fn asked_with(options: Options, from: usize, words: &[String]) -> Option<Asked>
     requires { from < length words.now }
     ensures asked { result ≡ asked_with options from (map string_bytes (drop from words.now)) }
     ensures from { IfSome result (λ asked. asked.questions_from ≡ from) }
-    ensures few { IfSome result (λ asked. length words.now ≤ from + most_questions) }
+    ensures few { IfSome result (λ asked. length words.now ≤ from + 64) }
 {
     if !are_questions(&words[from..]) {
         return None;
@@ -136,8 +135,7 @@ fn asked_with(options: Options, from: usize, words: &[String]) -> Option<Asked>
 pub fn asked_by(words: &[String]) -> Option<Asked>
     ensures asked { result ≡ asked_by (map string_bytes words.now) }
     ensures some { IfSome result (λ asked. asked.questions_from < length words.now) }
-    ensures few { IfSome result
-        (λ asked. length words.now ≤ asked.questions_from + most_questions) }
+    ensures few { IfSome result (λ asked. length words.now ≤ asked.questions_from + 64) }
 {
     let mut options = Options {
         form: Form::OneLog,

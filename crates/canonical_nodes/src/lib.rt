@@ -4,9 +4,9 @@
 //! raise while a pull fails at the present row, then the next row, then the next node, and at last
 //! the verdict. Behind each line of a node fewer lines are left (`less`), so the verdict comes.
 //!
-//! Which pull fails first is found by doubts (`canonical_rows`), so that a raise doesn't look at
-//! all pulls again. Nothing is said of what stands after want of memory, nor of the time or the
-//! memory that a call takes.
+//! Which pull fails first is found by doubts (`canonical_rows`), so that a raise doesn't look at all
+//! pulls again. Nothing is said of what stands after want of memory, nor of the time or the memory
+//! that a call takes.
 #![tactic(auto)]
 
 mod nodes;

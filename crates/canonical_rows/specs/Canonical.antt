@@ -1,7 +1,6 @@
 -- The one way to begin and raise rows in which each step follows from the rows as they stand.
-use Rattle.std.specs.Prelude.{◌≡◌, ℕ, zero, suc, ◌+◌, ◌-◌, ◌*◌, ◌<◌, ◌==◌, Bool, true, false, List}
-use Rattle.std.specs.Prelude.{[], ◌∷◌, length, sum, Option, None, Some, nat_le, if◌then◌else◌}
-use Rattle.std.specs.Prelude.{slice_index_or}
+use Rattle.std.specs.Prelude.{◌≡◌, ℕ, zero, suc, ◌+◌, ◌-◌, ◌*◌, ◌<◌, ◌==◌, Bool, true, false, List, [], ◌∷◌}
+use Rattle.std.specs.Prelude.{length, sum, Option, None, Some, nat_le, if◌then◌else◌, slice_index_or}
 use Rattle.pull_system.specs.System.{HoldsPull, source_of, target_of, ask}
 use Rattle.pull_fans.specs.Sources.{numbers_from}
 use Rattle.raise_machine.specs.Bounds.{word_at}

@@ -1,6 +1,5 @@
--- The plan of a formula by numbers. Its nodes are the operands of its operators, an inner one
--- before the outer one and else in the order of the parts, and `before` nodes stand before the
--- first.
+-- The plan of a formula by numbers. Its nodes are the operands of its operators, an inner one before
+-- the outer one and else in the order of the parts, and `before` nodes stand before the first.
 use Rattle.std.specs.Prelude.{ℕ, ◌+◌, List, [], ◌∷◌, ◌++◌}
 use Rattle.rctl_parts.specs.Pieces.{Piece, Pieces, atom, temporal, none, more, pieces}
 use Rattle.part_pulls.specs.declared.observed.Observed.{Observed}

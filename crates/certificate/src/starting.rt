@@ -1,6 +1,5 @@
 //! The nodes of a formula, before one is begun.
 ghost use Rattle.std.specs.Prelude.{◌≡◌, ◌≤◌, IfOk};
-ghost use Rattle.pota_base.specs.Limits.{most_parts};
 ghost use Rattle.rctl_parts.specs.Pieces.{disjuncts_of};
 ghost use Rattle.rctl_parts.specs.MadeFor.{AllFit, disjuncts_count};
 ghost use Rattle.part_pulls.specs.Observing.{IsReady, clocks_seen, scope_seen};
@@ -24,7 +23,7 @@ pub fn nodes_for(alloc: Global, seen: Observed, disjuncts: &[List<Part>]) -> Res
     requires ready { IsReady seen }
     requires fits { AllFit (scope_seen seen) (disjuncts_of disjuncts.now) }
     requires counters { CountersRise seen (disjuncts_of disjuncts.now) }
-    requires count { disjuncts_count (disjuncts_of disjuncts.now) ≤ most_parts }
+    requires count { disjuncts_count (disjuncts_of disjuncts.now) ≤ 128 }
     ensures nodes { IfOk result AreNodes }
     ensures fresh { IfOk result (λ nodes. nodes
         ≡ fresh_nodes (clocks_seen seen) (plan_of seen (disjuncts_of disjuncts.now))) }

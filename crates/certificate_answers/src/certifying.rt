@@ -1,6 +1,5 @@
 //! The certificate of a formula on a log that is read.
 ghost use Rattle.std.specs.Prelude.{◌≡◌, ◌<◌, ℕ, false, List as ListOf, IfOk};
-ghost use Rattle.pota_base.specs.Changes.{of_sink, of_source};
 ghost use Rattle.trace_growth.specs.Growing.{IsTrace};
 ghost use Rattle.rctl_grammar.specs.declared.tree.Tree.{Tree};
 ghost use Rattle.rctl_parts.specs.MadeFor.{AreMadeFor};
@@ -69,8 +68,8 @@ fn put_certificate<O: Sink>(
     requires ready { IsReady checked.seen }
     requires made { AreMadeFor (scope_seen checked.seen) (disjuncts_of checked.disjuncts) }
     requires rise { CountersRise checked.seen (disjuncts_of checked.disjuncts) }
-    ensures { PutsCertificate (of_sink O.Sink out.old out.new) checked.seen
-        (disjuncts_of checked.disjuncts) line.now batches result }
+    ensures { PutsCertificate (O.held out.old) (O.held out.new) (O.faults out.old)
+        (O.faults out.new) checked.seen (disjuncts_of checked.disjuncts) line.now batches result }
 {
     let CheckedLog {
         stated,
@@ -97,8 +96,9 @@ fn write_certificate<O: Sink>(
     requires trace { IsTrace checked.seen.trace.states }
     requires made { AreMadeFor (scope_seen checked.seen) (disjuncts_of checked.disjuncts) }
     requires rise { CountersRise checked.seen (disjuncts_of checked.disjuncts) }
-    ensures { (t : Tree) (log : Prefix) → IsLogSeen t log checked → Certifies
-        (of_sink O.Sink out.old out.new) t batches log result }
+    ensures { (t : Tree) (log : Prefix) → IsLogSeen t log checked
+        → Certifies (O.held out.old) (O.held out.new) (O.faults out.old) (O.faults out.new) t
+        batches log result }
 {
     certificates_tell_the_truth();
     let Ok(line) = formula_line(alloc, checked.stated.text.as_slice()) else {
@@ -117,9 +117,9 @@ fn certify_read<L: Ledger, O: Sink>(
     requires { (aim : Aim) × (j : Judgement) × (log : Prefix)
         × IsCheckOf (said_by answers) aim checking.check j × HasClosed j log }
     ensures { (s : StatedIs) (text : ListOf ℕ) → IsStated text s → (j : Judgement) (log : Prefix)
-        → IsCheckOf (said_by answers) (aim_for s) checking.check j → HasClosed j log → Certifies
-        (of_sink O.Sink out.old out.new) s.formula.tree checking.check.log.intake.batches log
-        result }
+        → IsCheckOf (said_by answers) (aim_for s) checking.check j → HasClosed j log
+        → Certifies (O.held out.old) (O.held out.new) (O.faults out.old) (O.faults out.new)
+        s.formula.tree checking.check.log.intake.batches log result }
 {
     let Checking { check, .. } = checking;
     let batches = check.log.intake.batches;
@@ -136,9 +136,10 @@ fn certify_log<R: Threads + Sync, G: Gate, L: Ledger, S: Source, O: Sink>(
     requires last { checking.each_batch ≡ false }
     requires check { (s : StatedIs) × (text : ListOf ℕ) × IsStated text s
         × IsCheckOf (said_by answers) (aim_for s) checking.check waiting }
-    ensures certifies { (s : StatedIs) (text : ListOf ℕ) → IsStated text s → IsCheckOf
-        (said_by answers) (aim_for s) checking.check waiting → HasCertified
-        (of_source S.Source log.old log.new) (of_sink O.Sink out.old out.new) (aim_for s)
+    ensures certifies { (s : StatedIs) (text : ListOf ℕ) → IsStated text s
+        → IsCheckOf (said_by answers) (aim_for s) checking.check waiting
+        → HasCertified (S.left log.old) (S.left log.new) (O.held out.old) (O.held out.new)
+        (S.faults log.old) (S.faults log.new) (O.faults out.old) (O.faults out.new) (aim_for s)
         s.formula.tree result }
     ensures calm { IsCalmUnlessRead (S.faults log.old) (S.faults log.new) result }
 {
@@ -178,9 +179,10 @@ fn certify_text<R: Threads + Sync, G: Gate, L: Ledger, S: Source, O: Sink>(
     requires one { 0 < blank.parts }
     requires check { (s : StatedIs) × (text : ListOf ℕ) × IsStated text s
         × IsCheckOf (said_by answers) (aim_for s) check waiting }
-    ensures certifies { (s : StatedIs) (text : ListOf ℕ) → IsStated text s → IsCheckOf
-        (said_by answers) (aim_for s) check waiting → HasCertified
-        (of_source S.Source log.old log.new) (of_sink O.Sink out.old out.new) (aim_for s)
+    ensures certifies { (s : StatedIs) (text : ListOf ℕ) → IsStated text s
+        → IsCheckOf (said_by answers) (aim_for s) check waiting
+        → HasCertified (S.left log.old) (S.left log.new) (O.held out.old) (O.held out.new)
+        (S.faults log.old) (S.faults log.new) (O.faults out.old) (O.faults out.new) (aim_for s)
         s.formula.tree result }
     ensures calm { IsCalmUnlessRead (S.faults log.old) (S.faults log.new) result }
 {
@@ -200,10 +202,10 @@ pub fn answer_certificate<R: Threads + Sync, G: Gate, S: Source, O: Sink>(
     out: &mut O,
 ) -> Result<Verdict, Stop>
     requires { (text : ListOf ℕ) × IsStated text stated }
-    ensures ran { (words : ListOf (ListOf ℕ)) (text : ListOf ℕ) → IsStated text stated → AsksFor
-        words (Read certifying) stated.formula.tree → (on : Handing) → Ran
-        (of_source S.Source log.old log.new) (of_sink O.Sink out.old out.new) on words
-        (outcome_of result) }
+    ensures ran { (words : ListOf (ListOf ℕ)) (text : ListOf ℕ) → IsStated text stated
+        → AsksFor words (Read certifying) stated.formula.tree → (on : Handing)
+        → Ran (S.left log.old) (S.left log.new) (O.held out.old) (O.held out.new) (S.faults log.old)
+        (S.faults log.new) (O.faults out.old) (O.faults out.new) on words (outcome_of result) }
     ensures calm { IsCalmUnlessRead (S.faults log.old) (S.faults log.new) result }
 {
     let Ok(check) = unwatched_check(means.alloc, stated) else {

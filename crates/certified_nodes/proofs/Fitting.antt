@@ -8,7 +8,6 @@ use Rattle.pota_base.specs.Shape.{IsShape}
 use Rattle.run_model.specs.Cut.{Clocks, lengths}
 use Rattle.run_model.specs.Consistent.{IsOrder}
 use Rattle.run_model.proofs.Counts.{length-lengths}
-use Rattle.pota_base.specs.Limits.{most_processes}
 use Rattle.pull_system.specs.declared.pull.Pull.{Pull}
 use Rattle.pull_system.specs.System.{IsPull, IsSystem}
 use Rattle.slice_graph.specs.Views.{SliceView, HasAllRows}
@@ -28,7 +27,7 @@ use Rattle.certified_nodes.specs.Given.{AreGiven}
 
 -- ---- what a slice gives
 
-square_few : (n : ℕ) → n ≤ most_processes → n * n ≤ 1024
+square_few : (n : ℕ) → n ≤ 32 → n * n ≤ 1024
 square_few n few = omega (arith, few, mul-le-mul_right n few)
 
 own_fits : (o : Clocks) (slice : SliceView) → IsShape (lengths o) → FitsOrder o slice → HasAllRows slice → All (IsPull (lengths o)) (pulls_of_slice slice) × (length (pulls_of_slice slice) ≤ 1024)
@@ -75,7 +74,7 @@ parts_fit o plan slices shape given (part ∷ parts) all =
 
 order_few : (o : Clocks) → IsShape (lengths o) → length (pulls_of_order o) ≤ 1024
 order_few o shape =
-    let few : length o ≤ most_processes = omega (arith, shape.few, length-lengths o) in
+    let few : length o ≤ 32 = omega (arith, shape.few, length-lengths o) in
     omega (arith, few, order_pulls_count o, mul-le-mul_right (length o - 1) few)
 
 pub system_is : (o : Clocks) → IsOrder o → IsShape (lengths o) → (plan : Plan) (slices : List SliceView) → AreGiven o plan slices → (parts : List Asked) → AreParts (lengths o) (length slices) parts

@@ -5,7 +5,6 @@ use Rattle.std.proofs.lemmas.Bool.{false≢true}
 use Rattle.run_model.specs.Cut.{Cut, Clocks, initial, lengths}
 use Rattle.run_model.specs.Consistent.{IsConsistent}
 use Rattle.run_model.proofs.Counts.{count-initial, length-initial, length-lengths}
-use Rattle.pota_base.specs.Limits.{most_processes}
 use Rattle.pull_system.specs.Vector.{IsVector}
 use Rattle.slice_graph.proofs.RowByRow.{zeros_of}
 use Rattle.rctl_grammar.specs.declared.tree.Operator.{Operator}
@@ -34,9 +33,9 @@ sliced_is o operator.Ax A c gives = absurd (false≢true gives)
 
 -- ---- the initial cut, as the code makes it
 
-pub zeros_initial : (o : Clocks) (n : ℕ) → n ≡ length o → n ≤ most_processes → take {A = ℕ} n (replicate most_processes 0) ≡ initial o
+pub zeros_initial : (o : Clocks) (n : ℕ) → n ≡ length o → n ≤ 32 → take {A = ℕ} n (replicate 32 0) ≡ initial o
 unfolding initial
-zeros_initial o n size few = zeros_of most_processes n few ∙ ap (λ (m : ℕ). replicate m 0) size
+zeros_initial o n size few = zeros_of 32 n few ∙ ap (λ (m : ℕ). replicate m 0) size
 
 pub initial_vector : (o : Clocks) → IsVector (lengths o) (initial o)
 initial_vector o = record { size = length-initial o ∙ sym (length-lengths o); within = λ i. omega (arith, count-initial o i) }

@@ -1,6 +1,6 @@
 -- The nodes of a plan as a certificate begins, raises and ends them, one line at a time.
-use Rattle.std.specs.Prelude.{◌≡◌, ◌↔◌, ℕ, ◌+◌, ◌<◌, ◌≤◌, Bool, List, [], length, sum_by, Option}
-use Rattle.std.specs.Prelude.{None, Some, IsTrue, option_map}
+use Rattle.std.specs.Prelude.{◌≡◌, ◌↔◌, ℕ, ◌+◌, ◌<◌, ◌≤◌, Bool, List, [], length, sum_by, Option, None}
+use Rattle.std.specs.Prelude.{Some, IsTrue, option_map}
 use Rattle.pota_base.specs.Shape.{IsShape}
 use Rattle.run_model.specs.Cut.{Clocks, lengths}
 use Rattle.run_model.specs.Consistent.{IsOrder}

@@ -9,7 +9,7 @@ ghost use Rattle.certified_nodes.specs.Nodes.{disjunct_looks, looks_of_disjunct}
 use crate::plan::{Asked, Plan};
 use crate::systems::system_of;
 use causal_order::Order;
-use pota_base::{List, MOST_PROCESSES, NoMemory, Steps};
+use pota_base::{List, NoMemory, Steps};
 use slice_graph::Slice;
 use std::alloc::Global;
 use std::sync::ledger::Ledger;
@@ -56,6 +56,6 @@ fn closes<L: Ledger>(
 {
     let procs = order.shape().procs();
     let system = system_of(alloc, order, plan, slices, parts)?;
-    let zeros = [0; MOST_PROCESSES];
+    let zeros = [0; 32];
     Ok(system.is_closed(&zeros[..procs as usize], steps))
 }

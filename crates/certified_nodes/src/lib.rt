@@ -13,7 +13,7 @@
 //!
 //! The nodes own the trace of their run, and what they see of it is the order of its events. Lines
 //! can be made from what stands: the rows of the present node (`present`), and how many nodes were
-//! begun (`begun`).
+//! begun, and are planned (`begun`, `planned`).
 //!
 //! Look-ups are counted (`looks`); making a system or a slice takes none. Nothing is said of what
 //! stands after want of memory but `AreNodes`, nor of the time or the memory that a call takes.

@@ -1,6 +1,6 @@
 //! Nodes that are begun, raised and ended.
-ghost use Rattle.std.specs.Prelude.{◌≡◌, ◌↔◌, ◌+◌, ◌<◌, ◌≤◌, false, length, IfNone, IfOk, IfSome};
-ghost use Rattle.std.specs.Prelude.{IsSome, IsTrue, MatchOption, OnOk};
+ghost use Rattle.std.specs.Prelude.{◌≡◌, ◌↔◌, ◌+◌, ◌<◌, ◌≤◌, false, length, IfNone, IfOk, IfSome, IsSome};
+ghost use Rattle.std.specs.Prelude.{IsTrue, MatchOption, OnOk};
 ghost use Rattle.std.specs.Bool.{OnFalse, OnTrue};
 ghost use Rattle.run_model.specs.Cut.{lengths};
 ghost use Rattle.part_pulls.specs.PassedOn.{clocks_of};
@@ -8,9 +8,10 @@ ghost use Rattle.certified_rows.specs.Begun.{fresh_rows};
 ghost use Rattle.certified_nodes.specs.Plans.{IsPlan, system_at};
 ghost use Rattle.certified_nodes.specs.Given.{IsEnded};
 ghost use Rattle.certified_nodes.specs.Nodes.{AreNodes, BeginsNode, Concludes, GivesSlice};
-ghost use Rattle.certified_nodes.specs.Nodes.{MayBeginNode, MayBeginRow, MayConclude, MayRaiseRow};
-ghost use Rattle.certified_nodes.specs.Nodes.{disjunct_looks, fresh_nodes, looks_of, nodes_begun};
-ghost use Rattle.certified_nodes.specs.Nodes.{with_begun_row, with_raised_row};
+ghost use Rattle.certified_nodes.specs.Nodes.{MayBeginNode};
+ghost use Rattle.certified_nodes.specs.Nodes.{MayBeginRow, MayConclude, MayRaiseRow, disjunct_looks};
+ghost use Rattle.certified_nodes.specs.Nodes.{fresh_nodes, looks_of, nodes_begun, with_begun_row};
+ghost use Rattle.certified_nodes.specs.Nodes.{with_raised_row};
 
 use crate::conclusion::some_closes;
 use crate::giving::slice_given;
@@ -152,6 +153,13 @@ impl Nodes {
             None => None,
             Some(rows) => Some(rows),
         }
+    }
+
+    /// How many nodes the plan has.
+    pub fn planned(&self) -> usize
+        ensures { result ≡ length self.now.plan.nodes }
+    {
+        self.plan.nodes.len()
     }
 
     /// How many nodes were begun.

@@ -73,8 +73,8 @@ impl CertifiedRows {
         self.begun += 1;
     }
 
-    /// Raises the present row by what pull `k` asks for at `x`, and says whether it may. It looks
-    /// up one pull at most.
+    /// Raises the present row by what pull `k` asks for at `x`, and says whether it may. It looks up
+    /// one pull at most.
     pub fn raise<L: Ledger>(&mut self, k: u32, x: u32, steps: &mut Steps<L>) -> bool
         ensures allowed { IsTrue result ↔ MayRaise self.old k x }
         ensures raised { IsTrue result → self.new ≡ with_raise self.old k x }

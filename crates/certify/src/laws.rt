@@ -2,7 +2,6 @@
 ghost use Rattle.std.specs.Prelude.{◌≡◌, ◌≤◌, ◌↔◌, ℕ, Bool, List, [], length, IsTrue};
 ghost use Rattle.run_model.specs.Cut.{initial};
 ghost use Rattle.run_model.specs.Meaning.{Sat};
-ghost use Rattle.pota_base.specs.Limits.{longest_formula};
 ghost use Rattle.rctl_grammar.specs.declared.tree.Tree.{Tree};
 ghost use Rattle.rctl_grammar.specs.Shape.{shape_of};
 ghost use Rattle.rctl_parse.specs.Parsing.{IsReadAs};
@@ -45,7 +44,7 @@ pub fn certificates_are_accepted()
 
 /// The line of a formula that was read is short enough: that of a text of at most 4,096 bytes.
 pub fn formula_lines_are_lines()
-    ensures { (text : List ℕ) (t : Tree) → IsReadAs text t → length text ≤ longest_formula
+    ensures { (text : List ℕ) (t : Tree) → IsReadAs text t → length text ≤ 4096
         → IsLine (formula_line (canonical (shape_of t))) }
 {
     printed_is_little_longer();

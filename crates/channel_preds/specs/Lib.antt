@@ -1,4 +1,3 @@
 pub mod Channels
-pub mod Laws
 pub mod Truth
 pub mod inside

@@ -1,4 +1,3 @@
-pub mod Laws
 pub mod Rounds
 pub mod Numbering
 pub mod Counting

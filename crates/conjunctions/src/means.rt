@@ -1,5 +1,4 @@
 ghost use Rattle.std.specs.Prelude.{◌≤◌};
-ghost use Rattle.pota_base.specs.Limits.{most_workers};
 
 use std::alloc::Global;
 
@@ -14,5 +13,5 @@ pub struct Means<'a, R, G> {
     /// What each of them passes before it settles a row.
     pub gate: &'a G,
     ghost some: { 1 ≤ workers },
-    ghost few: { workers ≤ most_workers },
+    ghost few: { workers ≤ 16 },
 }

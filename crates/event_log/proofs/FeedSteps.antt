@@ -5,7 +5,6 @@ use Rattle.std.specs.Option.{option_map}
 use Rattle.std.proofs.lemmas.Bool.{cases_Bool}
 use Rattle.std.proofs.lemmas.List.{append-nil}
 use Rattle.std.proofs.lemmas.Option.{none-some}
-use Rattle.pota_base.specs.Limits.{longest_line, longest_log}
 use Rattle.event_log.specs.declared.item.LogCode.{LogCode}
 use Rattle.event_log.specs.declared.item.LogFault.{LogFault}
 use Rattle.event_log.specs.declared.item.Item.{Item}
@@ -35,7 +34,7 @@ abbrev pub Knows : Feeder → ℕ → ℕ → Option LogCode → Type 0
 Knows f width b o = (past : Past) → CountsLines f past → o ≡ byte_fault (length past) (is_ended (lines past)) width b
 
 -- no fault leaves room
-pub room_none : (total : ℕ) (ended : Bool) (width b : ℕ) (o : Option LogCode) → o ≡ byte_fault total ended width b → o ≡ None → total < longest_log
+pub room_none : (total : ℕ) (ended : Bool) (width b : ℕ) (o : Option LogCode) → o ≡ byte_fault total ended width b → o ≡ None → total < 67108864
 room_none total ended width b o is none = byte_room total ended width b (sym is ∙ none)
 
 fault_placed : (f : Feeder) (past : Past) (c : LogCode) → CountsLines f past → placed_at (f.reader.lines + 1) c ≡ placed past c
@@ -75,7 +74,7 @@ byte_takes f new b plain knows gains past has =
 -- ---- bytes that can have no fault
 
 pub record CanTake (f : Feeder) (len : ℕ) : Type 0 where
-  pub room : (11 ≤ f.total) × (f.total + len ≤ longest_log) × (length f.line.items + len ≤ longest_line)
+  pub room : (11 ≤ f.total) × (f.total + len ≤ 67108864) × (length f.line.items + len ≤ 4096)
   pub open_ : (past : Past) → CountsLines f past → is_ended (lines past) ≡ false
 
 chunk_passes : (f : Feeder) (bytes : List ℕ) (past : Past) → HasFed f past → HasNoFeed bytes → CanTake f (length bytes) → Passed bytes past

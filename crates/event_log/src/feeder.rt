@@ -3,7 +3,6 @@
 ghost use Rattle.std.specs.Prelude.{◌≡◌, ◌+◌, ◌^◌, ◌<◌, ◌≤◌, ◌++◌, ◌∷◌, [], false, length, None};
 ghost use Rattle.std.specs.Prelude.{IfOk, OnOk, IsTrue};
 ghost use Rattle.std.specs.Option.{option_to_list};
-ghost use Rattle.pota_base.specs.Limits.{longest_line, longest_log};
 ghost use Rattle.event_log.specs.inside.Lines.{header_items};
 ghost use Rattle.event_log.specs.Faults.{byte_fault, is_heading_byte};
 
@@ -11,8 +10,14 @@ use crate::item::{Fed, Item, LogCode, LogFault};
 use crate::line_reader::{LineReader, LineTold};
 use crate::log::Header;
 use crate::split::split_line;
-use pota_base::{LONGEST_LINE, LONGEST_LOG, List, NoMemory};
+use pota_base::{List, NoMemory};
 use std::alloc::Global;
+
+/// The most bytes of a log.
+const MOST_BYTES: u32 = 67_108_864;
+
+/// The most bytes of a line, without its line feed.
+const MOST_LINE: usize = 4_096;
 
 /// The first lines of the versions.
 const VERSION_ONE: [u8; 11] = *b"pota-log 1\n";
@@ -29,7 +34,7 @@ pub struct Feeder {
     /// How many items the last piece gave.
     given: usize,
     ghost counted: { reader.lines ≤ total },
-    ghost room: { total ≤ longest_log },
+    ghost room: { total ≤ 67108864 },
 }
 
 /// What one line gave, and its fault.
@@ -54,7 +59,7 @@ fn is_heading_byte(place: u32, byte: u8) -> bool
 fn byte_fault(total: u32, ended: bool, width: usize, byte: u8) -> Option<LogCode>
     ensures { result ≡ byte_fault total ended width byte }
 {
-    if total >= LONGEST_LOG as u32 {
+    if total >= MOST_BYTES {
         return Some(LogCode::LogTooLong);
     }
     if total < 11 {
@@ -65,7 +70,7 @@ fn byte_fault(total: u32, ended: bool, width: usize, byte: u8) -> Option<LogCode
     if ended {
         return Some(LogCode::Trailing);
     }
-    if width >= LONGEST_LINE {
+    if width >= MOST_LINE {
         if byte != b'\n' {
             return Some(LogCode::LineTooLong);
         }
@@ -147,7 +152,7 @@ impl Feeder {
     fn next_fault(&self, width: usize, byte: u8) -> Option<LogCode>
         ensures known { (past : Past) → CountsLines self.now past
             → result ≡ byte_fault (length past) (is_ended (lines past)) width byte }
-        ensures room { result ≡ None → self.now.total < longest_log }
+        ensures room { result ≡ None → self.now.total < 67108864 }
     {
         byte_fault(self.total, self.reader.is_ended(), width, byte)
     }
@@ -164,8 +169,8 @@ impl Feeder {
 
     // Whether as many bytes more, and no line feed among them, can have no fault.
     fn is_quiet(&self, len: usize) -> bool
-        ensures room { IsTrue result → (11 ≤ self.now.total) × (self.now.total + len ≤ longest_log)
-            × (length self.now.line.items + len ≤ longest_line) }
+        ensures room { IsTrue result → (11 ≤ self.now.total) × (self.now.total + len ≤ 67108864)
+            × (length self.now.line.items + len ≤ 4096) }
         ensures open_ { IsTrue result → (past : Past) → CountsLines self.now past
             → is_ended (lines past) ≡ false }
     {
@@ -175,13 +180,13 @@ impl Feeder {
         if self.total < 11 {
             return false;
         }
-        if len > LONGEST_LINE {
+        if len > MOST_LINE {
             return false;
         }
-        if self.total as usize + len > LONGEST_LOG {
+        if self.total as usize + len > MOST_BYTES as usize {
             return false;
         }
-        self.line.len() + len <= LONGEST_LINE
+        self.line.len() + len <= MOST_LINE
     }
 
     // A byte that is no line feed.
@@ -199,7 +204,7 @@ impl Feeder {
 
     // Bytes that can have no fault.
     fn take_quiet(&mut self, chunk: &[u8]) -> Result<(), NoMemory>
-        requires { self.old.total + length chunk.now ≤ longest_log }
+        requires { self.old.total + length chunk.now ≤ 67108864 }
         ensures { OnOk result (Gains self.old self.new chunk.now) }
     {
         self.line.extend_from_slice(chunk)?;

@@ -2,7 +2,6 @@
 
 ghost use Rattle.std.specs.Prelude.{◌≡◌, ◌+◌, ◌-◌, ◌^◌, ◌<◌, ◌≤◌, ◌∷◌, ◌++◌, [], length, All, IfOk};
 ghost use Rattle.std.specs.Prelude.{OnOk, IsOk, IsSomeAnd};
-ghost use Rattle.pota_base.specs.Limits.{most_processes, most_variables};
 ghost use Rattle.event_log.specs.Before.{version_in};
 
 use crate::copies::{bindings_of, copy_of, filled, names_of, var_lines_of};
@@ -39,9 +38,9 @@ pub struct LineReader {
     /// Of the last clocks of the processes.
     frames: Frames,
     ghost counted: { events ≤ lines },
-    ghost few: { length procs ≤ most_processes },
-    ghost narrow: { All (λ bindings. length bindings ≤ most_variables) variables },
-    ghost placed: { length variables ≤ most_processes },
+    ghost few: { length procs ≤ 32 },
+    ghost narrow: { All (λ bindings. length bindings ≤ 16) variables },
+    ghost placed: { length variables ≤ 32 },
 }
 
 /// What one line gives.
@@ -202,7 +201,7 @@ impl LineReader {
         process: usize,
         bindings: List<Binding>,
     ) -> Result<(), NoMemory>
-        requires few { length bindings ≤ most_variables }
+        requires few { length bindings ≤ 16 }
         requires there { process < length self.old.procs }
         requires first { length self.old.variables ≤ process }
         ensures variables { OnOk result (self.new.variables

@@ -1,2 +1,3 @@
 pub mod LogHelp
+pub mod OverHelp
 pub mod QuestionHelp

@@ -1,4 +1,4 @@
 mod Alone
 mod Counts
 mod Instances
-mod Tallying
+pub mod Tallying

@@ -1,3 +1,4 @@
+pub mod Lines
 pub mod Wholes
 pub mod Texts
 pub mod Stands

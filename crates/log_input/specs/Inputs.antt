@@ -6,7 +6,7 @@ use Rattle.pota_base.specs.Outside.{Rose}
 use Rattle.event_log.specs.declared.item.LogFault.{LogFault}
 use Rattle.event_log.specs.declared.log.Log.{Log}
 use Rattle.event_log.specs.LogText.{event_count}
-use Rattle.pota_base.specs.Changes.{Change}
+use Rattle.input_reading.specs.Changes.{Change}
 use Rattle.log_rules.specs.WholeLogs.{all_of}
 use Rattle.log_writing.specs.Spelling.{HasText}
 use Rattle.vector_clock.specs.Events.{AllFit}
@@ -15,6 +15,7 @@ use Rattle.log_input.specs.declared.form.Form.{Form}
 use Rattle.log_input.specs.declared.places.Places.{Places}
 use Rattle.log_input.specs.declared.reading.Input.{Input}
 use Rattle.log_input.specs.declared.reading.Input.TheVariants.{Whole, Faulty, Failed}
+use Rattle.log_input.specs.FaultyLine.{faulty_line}
 use Rattle.log_input.specs.Places.{place_by}
 use Rattle.log_input.specs.Readings.{reading_of, log_due, HasLog}
 
@@ -41,8 +42,9 @@ abbrev pub StandsTo : Form → Change → List ℕ → Input → Type 0
 StandsTo form s bytes (Whole log places) =
     IsAtEnd s.after × (s.faults_after ≡ s.faults_before) × IsFilled form bytes log
     × ArePlacesOf form bytes places
-StandsTo form s bytes (Faulty r) =
-    (ended : Bool) × (ended ≡ true → IsAtEnd s.after) × ((log_due form ended bytes).fault ≡ Some r)
+StandsTo form s bytes (Faulty r line) =
+    ((ended : Bool) × (ended ≡ true → IsAtEnd s.after)
+    × ((log_due form ended bytes).fault ≡ Some r)) × (line ≡ faulty_line form r bytes)
 StandsTo form s bytes Failed =
     ((log_due form false bytes).fault ≡ None) × Rose s.faults_before s.faults_after
 

@@ -1,3 +1,4 @@
+pub mod FaultyLine
 pub mod Inputs
 pub mod Places
 pub mod Readings

@@ -2,7 +2,6 @@
 
 ghost use Rattle.std.specs.Prelude.{◌≡◌, ◌+◌, ◌≤◌, ◌<◌, ◌∷◌, [], length, IfOk, OnOk, None, Some};
 ghost use Rattle.std.specs.Prelude.{slice_get};
-ghost use Rattle.pota_base.specs.Limits.{most_events, most_processes};
 ghost use Rattle.event_log.specs.declared.log.Event.{Event};
 ghost use Rattle.event_log.specs.Numbers.{variables_at};
 ghost use Rattle.log_merge.specs.Sources.{events_of, events_in};
@@ -13,7 +12,7 @@ ghost use Rattle.log_merge.specs.Owners.{AreOwners, IsOwner};
 
 use crate::merged::Origin;
 use event_log::{Binding, Event, Header, Log, copy_of};
-use pota_base::{List, MOST_PROCESSES, NoMemory};
+use pota_base::{List, NoMemory};
 use std::alloc::Global;
 
 /// Events with their numbers as lines, and where each comes from.
@@ -45,7 +44,7 @@ impl Gathered {
 
     // One event more.
     fn add(&mut self, alloc: Global, source: u32, event: &Event) -> Result<(), NoMemory>
-        requires { length self.old.events < most_events }
+        requires { length self.old.events < 50000 }
         ensures { OnOk result (Gathers self.old self.new
             (record { source = source; event = event.now } ∷ [])) }
     {
@@ -61,7 +60,7 @@ impl Gathered {
 
     // These events of a source.
     fn add_batch(&mut self, alloc: Global, number: u32, batch: &[Event]) -> Result<(), NoMemory>
-        requires { length self.old.events + length batch.now ≤ most_events }
+        requires { length self.old.events + length batch.now ≤ 50000 }
         ensures { OnOk result (Gathers self.old self.new (placed_events number batch.now)) }
     {
         for event in batch {
@@ -72,7 +71,7 @@ impl Gathered {
 
     // All events of a source.
     fn add_all(&mut self, alloc: Global, number: u32, source: &Log) -> Result<(), NoMemory>
-        requires { length self.old.events + length (events_of source.now) ≤ most_events }
+        requires { length self.old.events + length (events_of source.now) ≤ 50000 }
         ensures { OnOk result (Gathers self.old self.new (placed_in number source.now)) }
     {
         for batch in source.batches.as_slice() {
@@ -91,7 +90,7 @@ impl Gathered {
     ) -> Result<(), NoMemory>
         requires owner { IsOwner sources.now process owner }
         requires few { length self.old.events
-            + length (of_process process (placed_from 1 sources.now)) ≤ most_events }
+            + length (of_process process (placed_from 1 sources.now)) ≤ 50000 }
         ensures { OnOk result (Gathers self.old self.new
             (of_process process (placed_from 1 sources.now))) }
     {
@@ -105,12 +104,12 @@ impl Gathered {
     pub fn of(
         alloc: Global,
         sources: &[Log],
-        owners: &[Option<u32>; MOST_PROCESSES],
+        owners: &[Option<u32>; 32],
         procs: usize,
     ) -> Result<Gathered, NoMemory>
         requires owners { AreOwners sources.now owners.now }
-        requires procs { procs ≤ most_processes }
-        requires few { events_in sources.now ≤ most_events }
+        requires procs { procs ≤ 32 }
+        requires few { events_in sources.now ≤ 50000 }
         ensures { IfOk result (λ g. g ≡ record {
           events = numbered 1 (by_process 0 procs (placed_from 1 sources.now));
           origins = origins (by_process 0 procs (placed_from 1 sources.now));
@@ -158,11 +157,11 @@ fn variables_of(
 pub fn variables(
     alloc: Global,
     sources: &[Log],
-    owners: &[Option<u32>; MOST_PROCESSES],
+    owners: &[Option<u32>; 32],
     procs: usize,
 ) -> Result<List<List<Binding>>, NoMemory>
     requires owners { AreOwners sources.now owners.now }
-    requires procs { procs ≤ most_processes }
+    requires procs { procs ≤ 32 }
     ensures { IfOk result (λ vars. vars ≡ all_variables 0 procs sources.now) }
 {
     let mut vars = List::new(alloc);

@@ -1,6 +1,5 @@
 pub mod Judgement
 pub mod Counters
-pub mod Laws
 pub mod Readings
 pub mod SoFar
 pub mod Due

@@ -2,7 +2,6 @@
 use Rattle.std.specs.Prelude.{◌≡◌, ℕ, ◌+◌, ◌≤◌, true, false, List, [], length, None, Some}
 use Rattle.std.specs.Prelude.{Option}
 use Rattle.std.specs.List.{AllByRecursion}
-use Rattle.pota_base.specs.Limits.{most_events}
 use Rattle.event_log.specs.declared.item.Item.{Item}
 use Rattle.event_log.specs.declared.item.LogFault.{LogFault}
 use Rattle.event_log.specs.declared.log.Event.{Event}
@@ -47,7 +46,7 @@ pub record HasSince (kept : LogTrace) (log : Prefix) (since : List Event) : Type
   pub since_is : kept.since ≡ since
   pub open_ : kept.ended ≡ false
   pub each : AllByRecursion (EventFits log.header) since
-  pub few : event_count log.batches + length since ≤ most_events
+  pub few : event_count log.batches + length since ≤ 50000
 
 -- no item came yet
 pub record IsNew (kept : LogTrace) : Type 0 where

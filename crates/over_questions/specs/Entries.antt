@@ -1,12 +1,12 @@
 -- What the reading of a question of either kind gives.
-use Rattle.std.specs.Prelude.{◌≡◌, ℕ, ◌+◌, ◌-◌, nat_lt, List, None, Some, Ok, Err}
+use Rattle.std.specs.Prelude.{◌≡◌, ℕ, ◌+◌, ◌-◌, nat_lt, List, length, None, Some, Ok, Err}
 use Rattle.std.specs.Prelude.{if◌then◌else◌}
 use Rattle.pota_base.specs.declared.fault.Refused.{Refused}
 use Rattle.pota_base.specs.declared.fault.Refused.TheVariants as refused
 use Rattle.question_forms.specs.Questions.{IsQuestionFault}
 use Rattle.question_forms.specs.Questions as questions
 use Rattle.question_forms.specs.declared.question.Question.{Question}
-use Rattle.question_instances.specs.Over.{over_of}
+use Rattle.question_instances.specs.Over.{IsOverIn, over_of}
 use Rattle.question_instances.specs.declared.over.Over.{Over}
 use Rattle.over_questions.specs.Reading.{IsOverFault, IsOverQuestion, IsReadAs}
 use Rattle.over_questions.specs.declared.entry.Entry.{Entry}
@@ -16,12 +16,12 @@ use Rattle.over_questions.specs.declared.entry.EntryFault.TheVariants as fault
 use Rattle.over_questions.specs.declared.reading.OverQuestionFault.{OverQuestionFault}
 use Rattle.over_questions.specs.declared.reading.OverQuestionFault.TheVariants as over_fault
 
--- the text is this question: one that names nothing that stands for processes, or one over
--- processes
+-- the text is this question: one that names nothing that stands for processes, or one over processes
 abbrev pub IsEntryOf : List ℕ → Entry → Type 0
 IsEntryOf text (entry.One q) = (over_of text ≡ Ok None) × IsReadAs text q
 IsEntryOf text (entry.Over over) =
-    (over_of text ≡ Ok (Some over)) × (q : Question) × IsOverQuestion text over q
+    (over_of text ≡ Ok (Some over)) × IsOverIn (length text) over
+    × (q : Question) × IsOverQuestion text over q
 
 -- the text has this first fault
 abbrev pub IsEntryFault : List ℕ → EntryFault → Type 0

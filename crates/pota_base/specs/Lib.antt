@@ -1,5 +1,4 @@
 pub mod formers
-pub mod Changes
 pub mod Limits
 pub mod Memory
 pub mod Number

@@ -12,8 +12,8 @@ ghost use Rattle.log_answers.specs.Inputs.{HasCheckedBy};
 ghost use Rattle.form_readings.specs.Clocks.{clocks_reading};
 ghost use Rattle.form_readings.specs.Sources.{merged_reading};
 ghost use Rattle.run_promise.specs.Asking.{handing_of};
-ghost use Rattle.run_promise.specs.Run.{Ran};
-ghost use Rattle.pota_base.specs.Changes.{of_sink, of_source};
+ghost use Rattle.run_promise.specs.Run.{RanOn};
+ghost use Rattle.input_reading.specs.Changes.{of_source, of_sink};
 ghost use Rattle.certificate_answers.specs.PassedOn.{outcome_of};
 ghost use Rattle.certificate_answers.specs.PassedOn.{HasChecked};
 
@@ -41,8 +41,9 @@ fn check_text<R: Threads + Sync, G: Gate, L: Ledger, S: Source, O: Sink>(
     requires parts { blank.parts ≡ L.parts }
     requires one { 0 < blank.parts }
     requires check { (aim : Aim) × IsCheckOf (said_by answers) aim check waiting }
-    ensures checks { (aim : Aim) → IsCheckOf (said_by answers) aim check waiting → HasChecked
-        (of_source S.Source log.old log.new) (of_sink O.Sink out.old out.new) aim each_batch
+    ensures checks { (aim : Aim) → IsCheckOf (said_by answers) aim check waiting
+        → HasChecked (S.left log.old) (S.left log.new) (O.held out.old) (O.held out.new)
+        (S.faults log.old) (S.faults log.new) (O.faults out.old) (O.faults out.new) aim each_batch
         result }
     ensures calm { IsCalmUnlessRead (S.faults log.old) (S.faults log.new) result }
 {
@@ -69,8 +70,9 @@ fn check_records<R: Threads + Sync, G: Gate, L: Ledger, S: Source, O: Sink>(
     requires one { 0 < blank.parts }
     requires check { (aim : Aim) × IsCheckOf (said_by answers) aim check waiting }
     ensures checks { (aim : Aim) → IsCheckOf (said_by answers) aim check waiting → (each : Bool)
-        → HasCheckedBy clocks_reading (of_source S.Source source.old source.new)
-        (of_sink O.Sink out.old out.new) aim each result }
+        → HasCheckedBy clocks_reading (S.left source.old) (S.left source.new) (O.held out.old)
+        (O.held out.new) (S.faults source.old) (S.faults source.new) (O.faults out.old)
+        (O.faults out.new) aim each result }
     ensures calm { IsCalmUnlessRead (S.faults source.old) (S.faults source.new) result }
 {
     let mut checking = Checking {
@@ -96,8 +98,9 @@ fn check_logs<R: Threads + Sync, G: Gate, L: Ledger, S: Source, O: Sink>(
     requires one { 0 < blank.parts }
     requires check { (aim : Aim) × IsCheckOf (said_by answers) aim check waiting }
     ensures checks { (aim : Aim) → IsCheckOf (said_by answers) aim check waiting → (each : Bool)
-        → HasCheckedBy merged_reading (of_source S.Source source.old source.new)
-        (of_sink O.Sink out.old out.new) aim each result }
+        → HasCheckedBy merged_reading (S.left source.old) (S.left source.new) (O.held out.old)
+        (O.held out.new) (S.faults source.old) (S.faults source.new) (O.faults out.old)
+        (O.faults out.new) aim each result }
     ensures calm { IsCalmUnlessRead (S.faults source.old) (S.faults source.new) result }
 {
     let mut checking = Checking {
@@ -122,9 +125,10 @@ fn answer_reports<R: Threads + Sync, G: Gate, S: Source, O: Sink>(
 ) -> Result<Verdict, Stop>
     requires watches { AreWatches watches.items }
     requires stated { (text : ListOf ℕ) × IsStated text stated }
-    ensures ran { (words : ListOf (ListOf ℕ)) (text : ListOf ℕ) → IsStated text stated → AsksFor
-        words (Read (record { form = form; product = Reports reporting })) stated.formula.tree → Ran
-        (of_source S.Source log.old log.new) (of_sink O.Sink out.old out.new)
+    ensures ran { (words : ListOf (ListOf ℕ)) (text : ListOf ℕ) → IsStated text stated
+        → AsksFor words (Read (record { form = form; product = Reports reporting }))
+        stated.formula.tree
+        → RanOn (of_source S.Source log.old log.new) (of_sink O.Sink out.old out.new)
         (handing_of (said_by answers) watches.items) words (outcome_of result) }
     ensures calm { IsCalmUnlessRead (S.faults log.old) (S.faults log.new) result }
 {
@@ -152,10 +156,10 @@ pub fn answer_inquiry<R: Threads + Sync, G: Gate, S: Source, O: Sink>(
 ) -> Result<Verdict, Stop>
     requires watches { AreWatches watches.items }
     requires stated { (text : ListOf ℕ) × IsStated text stated }
-    ensures ran { (words : ListOf (ListOf ℕ)) (text : ListOf ℕ) → IsStated text stated → AsksFor
-        words (Read inquiry) stated.formula.tree → Ran (of_source S.Source log.old log.new)
-        (of_sink O.Sink out.old out.new) (handing_of (said_by answers) watches.items) words
-        (outcome_of result) }
+    ensures ran { (words : ListOf (ListOf ℕ)) (text : ListOf ℕ) → IsStated text stated
+        → AsksFor words (Read inquiry) stated.formula.tree
+        → RanOn (of_source S.Source log.old log.new) (of_sink O.Sink out.old out.new)
+        (handing_of (said_by answers) watches.items) words (outcome_of result) }
     ensures calm { IsCalmUnlessRead (S.faults log.old) (S.faults log.new) result }
 {
     let form = inquiry.form;

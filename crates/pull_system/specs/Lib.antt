@@ -1,4 +1,3 @@
-pub mod Laws
 pub mod Vector
 pub mod System
 pub mod Pulls

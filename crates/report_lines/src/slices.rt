@@ -1,7 +1,6 @@
 //! The lines of a slice.
 
 ghost use Rattle.std.specs.Prelude.{◌≡◌, ◌≤◌, length, IfOk};
-ghost use Rattle.pota_base.specs.Limits.{most_processes};
 ghost use Rattle.report_lines.specs.Reading.{bounds_in, slice_in, edge_in, step_in};
 
 use crate::parts::{event_at, within_at};
@@ -19,7 +18,7 @@ fn bounds_in(
     lengths: &Cut,
     bytes: &[u8],
 ) -> Result<Option<Option<(Cut, Cut)>>, NoMemory>
-    requires { length lengths.now ≤ most_processes }
+    requires { length lengths.now ≤ 32 }
     ensures { IfOk result (λ bounds. bounds ≡ bounds_in lengths.now bytes.now) }
 {
     let Some((low, rest)) = within_at(alloc, lengths, bytes)? else {
@@ -42,7 +41,7 @@ pub fn read_slice(
     lengths: &Cut,
     line: &[u8],
 ) -> Result<Option<Option<(Cut, Cut)>>, NoMemory>
-    requires { length lengths.now ≤ most_processes }
+    requires { length lengths.now ≤ 32 }
     ensures { IfOk result (λ bounds. bounds ≡ slice_in lengths.now line.now) }
 {
     let Some(rest) = text_at(b"slice ", line) else {
@@ -57,7 +56,7 @@ pub fn read_slice(
 /// The edge that the line spells.
 #[tactic(auto, unfolding(crate::specs::Reading::edge_in))]
 pub fn read_edge(procs: &[Name], lengths: &Cut, line: &[u8]) -> Option<Edge>
-    requires few { length procs.now ≤ most_processes }
+    requires few { length procs.now ≤ 32 }
     requires width { length lengths.now ≡ length procs.now }
     ensures { result ≡ edge_in procs.now lengths.now line.now }
 {
@@ -74,7 +73,7 @@ pub fn read_edge(procs: &[Name], lengths: &Cut, line: &[u8]) -> Option<Edge>
 /// The step of a path that the line spells.
 #[tactic(auto, unfolding(crate::specs::Reading::step_in))]
 pub fn read_step(procs: &[Name], lengths: &Cut, line: &[u8]) -> Option<EventId>
-    requires few { length procs.now ≤ most_processes }
+    requires few { length procs.now ≤ 32 }
     requires width { length lengths.now ≡ length procs.now }
     ensures { result ≡ step_in procs.now lengths.now line.now }
 {

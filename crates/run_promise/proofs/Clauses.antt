@@ -7,8 +7,6 @@ use Rattle.std.proofs.lemmas.Option.{none-some, same_Some}
 use Rattle.pota_base.specs.Outside.{Rose}
 use Rattle.pota_base.specs.declared.status.Status.{Status}
 use Rattle.pota_base.specs.declared.status.Status.TheVariants as status
-use Rattle.pota_base.specs.Limits.{longest_log}
-use Rattle.pota_base.specs.Changes.{behind_of, change_of}
 use Rattle.rctl_grammar.specs.declared.fault.FormulaFault.{FormulaFault}
 use Rattle.rctl_grammar.specs.declared.tree.Tree.{Tree}
 use Rattle.rctl_class.specs.Nodes.{node_of}
@@ -70,7 +68,7 @@ not_certified words f reporting t u h k =
     absurd cc
 
 -- each form is read as a log
-pub form_is_read : (f : Form) → IsReading longest_log (reading_of f)
+pub form_is_read : (f : Form) → IsReading 67108864 (reading_of f)
 unfolding reading_of
 form_is_read form.Text = log_is_read
 form_is_read form.Clocks = clocks_are_read
@@ -90,7 +88,7 @@ not_both words a b t u h k =
 
 -- ---- an input that is read
 
-module _ (left left' held held' : Option (List ℕ)) (lf lf' of of' : ℕ) (on : Handing) (words : List (List ℕ)) (o : Outcome) (ran : Ran (change_of left left' lf lf') (change_of held held' of of') on words o) (calm : IsCalm lf lf' of of' o)
+module _ (left left' held held' : Option (List ℕ)) (lf lf' of of' : ℕ) (on : Handing) (words : List (List ℕ)) (o : Outcome) (ran : Ran left left' held held' lf lf' of of' on words o) (calm : IsCalm lf lf' of of' o)
     (bytes : List ℕ) (t : Tree) (i : Inquiry) (tells : left ≡ Some bytes) (asks : AsksFor words (task.Read i) t) where
   abbrev all_due : Due
   all_due = due_of on.names t i true bytes
@@ -120,7 +118,7 @@ module _ (left left' held held' : Option (List ℕ)) (lf lf' of of' : ℕ) (on :
   stays_due u k true r at is = ap (due_of on.names u k true) (read_all left left' bytes ran.read tells ran.consumed (at refl))
   stays_due u k false r at is =
       let rest = rest_of left left' bytes ran.read tells ran.consumed in
-      sym (ap (due_of on.names u k true) rest.1 ∙ due_stays longest_log _ (form_is_read k.form) _ true ran.read rest.0 r is)
+      sym (ap (due_of on.names u k true) rest.1 ∙ due_stays 67108864 _ (form_is_read k.form) _ true ran.read rest.0 r is)
 
   refused_due : (r : Refusal) → (h : IsRefused left' on words ran.read ran.written o r) → all_due.fault ≡ Some r
   refused_due r h =
@@ -171,7 +169,7 @@ module _ (left left' held held' : Option (List ℕ)) (lf lf' of of' : ℕ) (on :
       let whole : all_due.whole ≡ Some h.log = ap (λ (d : Due). d.whole) (sym (verdict_due b h)) ∙ h.whole in
       (h.log, whole, verdict_as_due b h, tells_truth b is h h.log whole)
 
-  decided_as : (st : Status) → o.status ≡ st → Answer st (behind_of left' lf lf' of of') on words ran.read ran.written o → all_due.fault ≡ None → Decided
+  decided_as : (st : Status) → o.status ≡ st → Answer st left' lf lf' of of' on words ran.read ran.written o → all_due.fault ≡ None → Decided
   decided_as status.True is (inl h) free = decided_with true is h
   decided_as status.True is (inr h) free = absurd (no_bench h.summary.tree h.summary.sizes h.summary.asks)
   decided_as status.False is (inl h) free = decided_with false is h
@@ -200,7 +198,7 @@ module _ (left left' held held' : Option (List ℕ)) (lf lf' of of' : ℕ) (on :
       ) in
       subst RefusedAs same mine
 
-  refused_as : (st : Status) → o.status ≡ st → Answer st (behind_of left' lf lf' of of') on words ran.read ran.written o → (r : Refusal) → all_due.fault ≡ Some r → RefusedAs r
+  refused_as : (st : Status) → o.status ≡ st → Answer st left' lf lf' of of' on words ran.read ran.written o → (r : Refusal) → all_due.fault ≡ Some r → RefusedAs r
   refused_as status.True is (inl h) r some = absurd (no_verdict true r h some)
   refused_as status.True is (inr h) r some = absurd (no_bench h.summary.tree h.summary.sizes h.summary.asks)
   refused_as status.False is (inl h) r some = absurd (no_verdict false r h some)
@@ -219,7 +217,7 @@ module _ (left left' held held' : Option (List ℕ)) (lf lf' of of' : ℕ) (on :
 
 -- ---- words and benches
 
-module _ (left left' held held' : Option (List ℕ)) (lf lf' of of' : ℕ) (on : Handing) (words : List (List ℕ)) (o : Outcome) (ran : Ran (change_of left left' lf lf') (change_of held held' of of') on words o) (calm : IsCalm lf lf' of of' o) where
+module _ (left left' held held' : Option (List ℕ)) (lf lf' of of' : ℕ) (on : Handing) (words : List (List ℕ)) (o : Outcome) (ran : Ran left left' held held' lf lf' of of' on words o) (calm : IsCalm lf lf' of of' o) where
   no_text : ran.written ≡ [] → Appends held held' []
   no_text none = subst (Appends held held') none ran.wrote
 
@@ -231,7 +229,7 @@ module _ (left left' held held' : Option (List ℕ)) (lf lf' of of' : ℕ) (on :
       let mine : Misasked g = (no_text a.nothing.1, a.batches, record { status = is; fault = a.fault }) in
       subst Misasked (faults_one words g f a.fault_is h) mine
 
-  misasked_as : (st : Status) → o.status ≡ st → Answer st (behind_of left' lf lf' of of') on words ran.read ran.written o → (f : QuestionFault) → IsQuestionFault words f → Misasked f
+  misasked_as : (st : Status) → o.status ≡ st → Answer st left' lf lf' of of' on words ran.read ran.written o → (f : QuestionFault) → IsQuestionFault words f → Misasked f
   misasked_as status.True is (inl a) f h = absurd (asks_free words (task.Read a.told.inquiry) a.told.tree a.told.asks f h)
   misasked_as status.True is (inr a) f h = absurd (asks_free words (task.Bench a.summary.sizes) a.summary.tree a.summary.asks f h)
   misasked_as status.False is (inl a) f h = absurd (asks_free words (task.Read a.told.inquiry) a.told.tree a.told.asks f h)
@@ -276,7 +274,7 @@ module _ (left left' held held' : Option (List ℕ)) (lf lf' of of' : ℕ) (on :
       fault = h.fault;
     }
 
-    benched_as : (st : Status) → o.status ≡ st → Answer st (behind_of left' lf lf' of of') on words ran.read ran.written o → missing t sizes ≡ None → Benches on words held held' o
+    benched_as : (st : Status) → o.status ≡ st → Answer st left' lf lf' of of' on words ran.read ran.written o → missing t sizes ≡ None → Benches on words held held' o
     benched_as status.True is (inl a) named = absurd (not_read a.told.tree a.told.inquiry a.told.asks)
     benched_as status.True is (inr a) named = benched_with true is a
     benched_as status.False is (inl a) named = absurd (not_read a.told.tree a.told.inquiry a.told.asks)
@@ -302,7 +300,7 @@ module _ (left left' held held' : Option (List ℕ)) (lf lf' of of' : ℕ) (on :
     lacks_verdict : (b : Bool) (f : FormulaFault) → HasBenched on words ran.read ran.written o b → missing t sizes ≡ Some f → ⊥
     lacks_verdict b f a some = none-some f (sym a.summary.named ∙ same_missing a.summary.tree a.summary.sizes a.summary.asks ∙ some)
 
-    lacks_as : (st : Status) → o.status ≡ st → Answer st (behind_of left' lf lf' of of') on words ran.read ran.written o → (f : FormulaFault) → missing t sizes ≡ Some f → Lacks f
+    lacks_as : (st : Status) → o.status ≡ st → Answer st left' lf lf' of of' on words ran.read ran.written o → (f : FormulaFault) → missing t sizes ≡ Some f → Lacks f
     lacks_as status.True is (inl a) f some = absurd (not_read a.told.tree a.told.inquiry a.told.asks)
     lacks_as status.True is (inr a) f some = absurd (lacks_verdict true f a some)
     lacks_as status.False is (inl a) f some = absurd (not_read a.told.tree a.told.inquiry a.told.asks)
@@ -324,15 +322,15 @@ module _ (left left' held held' : Option (List ℕ)) (lf lf' of of' : ℕ) (on :
 
 -- a run led to what is told as this outcome
 pub told_as : (left left' held held' : Option (List ℕ)) (lf lf' of of' : ℕ) (on : Handing) (words : List (List ℕ)) (o ended : Outcome) → o ≡ ended
-    → Ran (change_of left left' lf lf') (change_of held held' of of') on words ended → Ran (change_of left left' lf lf') (change_of held held' of of') on words o
-told_as left left' held held' lf lf' of of' on words o ended same led = subst (Ran (change_of left left' lf lf') (change_of held held' of of') on words) (sym same) led
+    → Ran left left' held held' lf lf' of of' on words ended → Ran left left' held held' lf lf' of of' on words o
+told_as left left' held held' lf lf' of of' on words o ended same led = subst (Ran left left' held held' lf lf' of of' on words) (sym same) led
 
 -- ---- the clauses of a run
 
 module _ (left left' held held' : Option (List ℕ)) (lf lf' of of' : ℕ) (on : Handing) (words : List (List ℕ)) (o : Outcome)
-    (ran : Ran (change_of left left' lf lf') (change_of held held' of of') on words o) where
-  answer_at : (st : Status) → o.status ≡ st → Answer st (behind_of left' lf lf' of of') on words ran.read ran.written o
-  answer_at st is = subst (λ (x : Status). Answer x (behind_of left' lf lf' of of') on words ran.read ran.written o) is ran.answer
+    (ran : Ran left left' held held' lf lf' of of' on words o) where
+  answer_at : (st : Status) → o.status ≡ st → Answer st left' lf lf' of of' on words ran.read ran.written o
+  answer_at st is = subst (λ (x : Status). Answer x left' lf lf' of of' on words ran.read ran.written o) is ran.answer
 
   pub clause_read : o.status ≡ status.ReadFault → Rose lf lf'
   clause_read is = (answer_at status.ReadFault is).1

@@ -12,7 +12,7 @@ use Rattle.run_model.specs.Slice.{DenotedBy}
 use Rattle.pota_base.specs.Outside.{Rose, IsPrefix}
 use Rattle.pota_base.specs.declared.status.Status.{Status}
 use Rattle.pota_base.specs.declared.status.Status.TheVariants as status
-use Rattle.pota_base.specs.Changes.{Behind, Change, behind_both}
+use Rattle.input_reading.specs.Changes.{Change}
 use Rattle.event_log.specs.declared.log.Log.{Log}
 use Rattle.rctl_grammar.specs.declared.fault.FormulaFault.{FormulaFault}
 use Rattle.rctl_grammar.specs.declared.tree.Tree.{Tree}
@@ -212,8 +212,7 @@ AsksCertificate words t = AsksFor words (task.Read certifying) t
 abbrev pub HasCertificateFront : Option (List ℕ) → Handing → Tree → (read written : List ℕ)
     → Type 0
 HasCertificateFront left on t read written = (written ≡ []) ⊎ (IsAtEnd left × (log : Prefix)
-    × ((due_of on.names t certifying true read).whole ≡ Some log) × IsCertificateFront t log
-    written)
+    × ((due_of on.names t certifying true read).whole ≡ Some log) × IsCertificateFront t log written)
 
 -- Memory ran out; what was written is the front of each text that may be due, or of the certificate
 -- of the whole input. Nothing is read for a bench, and nothing is written where the log that is
@@ -233,36 +232,39 @@ pub record IsOutOfMemory (left : Option (List ℕ)) (on : Handing) (words : List
 
 -- What a status says, by what the source has left, the counts of faults before and after, the
 -- watches, the words, and the bytes read and written.
-abbrev pub Answer : Status → Behind → Handing → List (List ℕ) → List ℕ → List ℕ → Outcome → Type 0
-Answer status.True behind on words read written o =
-    HasVerdict behind.rest on words read written o true ⊎ HasBenched on words read written o true
-Answer status.False behind on words read written o =
-    HasVerdict behind.rest on words read written o false ⊎ HasBenched on words read written o false
-Answer status.Usage behind on words read written o = IsMisasked words read written o question.Usage
-Answer status.Formula behind on words read written o =
-    (f : FormulaFault) × (IsMisasked words read written o (question.Formula f) ⊎ (IsRefused
-    behind.rest on words read written o (refusal.Formula f) ⊎ LacksName on words read written o f))
-Answer status.Log behind on words read written o =
-    (r : Refusal) × (status_of (fault_of_refusal r) ≡ status.Log) × IsRefused behind.rest on words
-    read written o r
-Answer status.ReadFault behind on words read written o =
-    IsCutShort on words read written o × Rose behind.source.before behind.source.after
-Answer status.WriteFault behind on words read written o =
-    (HasPart behind.rest on words read written o.batches ⊎ HasSummaryPart on words read written o)
-    × (o.fault ≡ Some fault.Write) × Rose behind.sink.before behind.sink.after
-Answer status.OutOfMemory behind on words read written o =
-    IsOutOfMemory behind.rest on words read written o
+abbrev pub Answer : Status → Option (List ℕ) → ℕ → ℕ → ℕ → ℕ → Handing → List (List ℕ) → List ℕ
+    → List ℕ → Outcome → Type 0
+Answer status.True left lf lf' of of' on words read written o =
+    HasVerdict left on words read written o true ⊎ HasBenched on words read written o true
+Answer status.False left lf lf' of of' on words read written o =
+    HasVerdict left on words read written o false ⊎ HasBenched on words read written o false
+Answer status.Usage left lf lf' of of' on words read written o =
+    IsMisasked words read written o question.Usage
+Answer status.Formula left lf lf' of of' on words read written o =
+    (f : FormulaFault) × (IsMisasked words read written o (question.Formula f)
+    ⊎ (IsRefused left on words read written o (refusal.Formula f)
+    ⊎ LacksName on words read written o f))
+Answer status.Log left lf lf' of of' on words read written o =
+    (r : Refusal) × (status_of (fault_of_refusal r) ≡ status.Log)
+    × IsRefused left on words read written o r
+Answer status.ReadFault left lf lf' of of' on words read written o =
+    IsCutShort on words read written o × Rose lf lf'
+Answer status.WriteFault left lf lf' of of' on words read written o =
+    (HasPart left on words read written o.batches ⊎ HasSummaryPart on words read written o)
+    × (o.fault ≡ Some fault.Write) × Rose of of'
+Answer status.OutOfMemory left lf lf' of of' on words read written o =
+    IsOutOfMemory left on words read written o
 
 -- a whole run: what was read and written in it, that no count fell, and what its status says
-pub record Ran (source sink : Change) (on : Handing) (words : List (List ℕ)) (o : Outcome) : Type 0
-  where
-    pub read : List ℕ
-    pub written : List ℕ
-    pub consumed : Consumes source.before source.after read
-    pub wrote : Appends sink.before sink.after written
-    pub log_later : source.faults_before ≤ source.faults_after
-    pub out_later : sink.faults_before ≤ sink.faults_after
-    pub answer : Answer o.status (behind_both source sink) on words read written o
+pub record Ran (left left' held held' : Option (List ℕ)) (lf lf' of of' : ℕ) (on : Handing)
+    (words : List (List ℕ)) (o : Outcome) : Type 0 where
+  pub read : List ℕ
+  pub written : List ℕ
+  pub consumed : Consumes left left' read
+  pub wrote : Appends held held' written
+  pub log_later : lf ≤ lf'
+  pub out_later : of ≤ of'
+  pub answer : Answer o.status left' lf lf' of of' on words read written o
 
 -- ---- for a source that tells its bytes, where neither count rose and memory was there
 
@@ -335,6 +337,11 @@ pub record IsBenchAnswered (on : Handing) (words : List (List ℕ)) (held held' 
       → Appends held held' [] × (o.batches ≡ 0) × TellsFault (fault.Formula f) o
 
 -- ---- of a log and an output, as a call finds and leaves them
+
+abbrev pub RanOn : Change → Change → Handing → List (List ℕ) → Outcome → Type 0
+RanOn log out on words o =
+    Ran log.before log.after out.before out.after log.faults_before log.faults_after
+    out.faults_before out.faults_after on words o
 
 -- neither count rose, and memory was there
 abbrev pub IsCalmOn : Change → Change → Outcome → Type 0

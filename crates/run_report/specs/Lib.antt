@@ -1,4 +1,3 @@
-pub mod Laws
 pub mod Witnesses
 pub mod Reports
 pub mod Benches

@@ -3,7 +3,6 @@ use Rattle.std.proofs.Common.{◌≡◌, ℕ, ◌<◌, ◌≤◌, ◌⊎◌, Boo
 use Rattle.std.specs.Prelude.{nat_lt}
 use Rattle.std.proofs.lemmas.Bool.{cases_Bool}
 use Rattle.std.proofs.lemmas.Bool.Decides.{nat_tests}
-use Rattle.pota_base.specs.Limits.{longest_formula}
 use Rattle.rctl_grammar.specs.declared.fault.FormulaFault.{FormulaFault}
 use Rattle.rctl_grammar.specs.declared.token.End.{End}
 use Rattle.rctl_grammar.specs.declared.tree.Tree.{Tree}
@@ -43,7 +42,7 @@ read_free text t h =
 
 short_free : (text : List ℕ) (t : Tree) → IsShortText text t → fault_of_text text ≡ None
 short_free text t h =
-    let short : nat_lt longest_formula (length text) ≡ false = grind (arith, nat_tests, h.short) in
+    let short : nat_lt 4096 (length text) ≡ false = grind (arith, nat_tests, h.short) in
     rw short (read_free text t h.read)
 
 class_free : (text : List ℕ) (t : Tree) → IsShortText text t → first_fault false true (node_of t) ≡ None

@@ -1,6 +1,6 @@
 //! Each closed set of cuts whose members can be told has a slice, and so have the sets that EF, AG
-//! and EG make of it: a run has finitely many cuts, and the minimum of those of the set is its
-//! least one. Each function here is a law and does nothing.
+//! and EG make of it: a run has finitely many cuts, and the minimum of those of the set is its least
+//! one. Each function here is a law and does nothing.
 //!
 //! Not said: how a slice is found. `run_model` says what a slice is, and `slice_graph` and
 //! `temporal_slice` make it.

@@ -1,4 +1,3 @@
-pub mod Laws
 pub mod Views
 pub mod Words
 pub mod Fitting

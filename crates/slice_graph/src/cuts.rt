@@ -1,7 +1,6 @@
 //! Cuts and the words of rows.
 ghost use Rattle.std.specs.Prelude.{◌≡◌, ◌≤◌, ◌↔◌, length, IsTrue};
 ghost use Rattle.run_model.specs.Cut.{IsWithin};
-ghost use Rattle.pota_base.specs.Limits.{most_processes};
 
 use cut_lattice::Cut;
 
@@ -21,7 +20,7 @@ pub fn is_within(words: &[u32], counts: &[u32]) -> bool
 /// Gives `into` the words as its counts.
 pub fn set_words(words: &[u32], into: &mut Cut)
     requires width { length words.now ≡ length into.old }
-    requires few { length words.now ≤ most_processes }
+    requires few { length words.now ≤ 32 }
     ensures { into.new ≡ words.now }
 {
     for process in 0..words.len() {

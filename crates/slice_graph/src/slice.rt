@@ -13,7 +13,7 @@ ghost use Rattle.slice_graph.specs.Views.{AreCuts, joined_onto, joined_rows, sli
 use crate::cuts::{is_within, set_words};
 use crate::table::CutTable;
 use cut_lattice::Cut;
-use pota_base::{EventId, MOST_PROCESSES, NoMemory, Shape};
+use pota_base::{EventId, NoMemory, Shape};
 use std::alloc::Global;
 use std::marker::Model;
 
@@ -206,7 +206,7 @@ fn join_rows(alloc: Global, table: &CutTable) -> Result<Cut, NoMemory>
     ensures cuts { AreCuts table.now }
 {
     let procs = table.shape().procs();
-    let mut top = [0; MOST_PROCESSES];
+    let mut top = [0; 32];
     let top = &mut top[..procs as usize];
     for row in 0..table.len() {
         join_row(table, row, top);

@@ -16,7 +16,7 @@ ghost use Rattle.slice_graph.specs.Starting.{AreAbove, AreWithinClosed};
 
 use crate::slice::Slice;
 use causal_order::Order;
-use pota_base::{MOST_PROCESSES, NoMemory};
+use pota_base::NoMemory;
 use pull_system::Floor;
 use std::alloc::Global;
 
@@ -33,7 +33,7 @@ impl Slice {
     {
         let shape = self.shape();
         let procs = shape.procs() as usize;
-        let mut room = [0; MOST_PROCESSES];
+        let mut room = [0; 32];
         let room = &mut room[..procs];
         let mut words = Vec::with_capacity(alloc, (shape.events() as usize + 1) * procs)?;
         for row in 0..shape.events() + 1 {
@@ -56,7 +56,7 @@ pub fn order_rows(alloc: Global, order: &Order) -> Result<Floor, NoMemory>
     ensures begins { IfOk result (λ rows.
         AreWithinClosed (lengths order.now) (pulls_of_order order.now) rows.words) }
 {
-    let zeros = [0; MOST_PROCESSES];
+    let zeros = [0; 32];
     order_rows_above(alloc, order, &zeros[..order.shape().procs() as usize])
 }
 
@@ -75,13 +75,9 @@ pub fn order_rows_above(alloc: Global, order: &Order, vector: &[u64]) -> Result<
 {
     let shape = order.shape();
     let procs = shape.procs() as usize;
-    let none = [0; MOST_PROCESSES];
+    let none = [0; 32];
     let none = &none[..procs];
-    let (mut least, mut room, mut wide) = (
-        [0; MOST_PROCESSES],
-        [0; MOST_PROCESSES],
-        [0; MOST_PROCESSES],
-    );
+    let (mut least, mut room, mut wide) = ([0; 32], [0; 32], [0; 32]);
     let (least, room) = (&mut least[..procs], &mut room[..procs]);
     let wide = &mut wide[..procs];
     narrow(vector, least);

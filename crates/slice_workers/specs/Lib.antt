@@ -1,4 +1,3 @@
-pub mod Laws
 pub mod Reaching
 pub mod Calls
 pub mod Views

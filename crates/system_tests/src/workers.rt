@@ -1,5 +1,4 @@
 ghost use Rattle.std.specs.Prelude.{◌≡◌, ◌<◌, ◌≤◌};
-ghost use Rattle.pota_base.specs.Limits.{most_workers};
 
 use crate::fans::{Asked, system};
 use crate::systems::{EMPTY_CHANNEL, order_and, table_of};
@@ -25,7 +24,7 @@ fn settle_counted<R: Threads + Sync, G: Gate, L: Ledger>(
     requires parts { blank.parts ≡ L.parts }
     requires count { 0 < blank.parts }
     requires some { 1 ≤ workers }
-    requires few { workers ≤ most_workers }
+    requires few { workers ≤ 16 }
 {
     let (table, mut seat) = table_of(alloc, system)?;
     let mut steps = Steps::<L>::new(blank);
@@ -40,7 +39,7 @@ fn settled<R: Threads + Sync, G: Gate>(
     gate: &G,
 ) -> Result<Settled, NoMemory>
     requires some { 1 ≤ workers }
-    requires few { workers ≤ most_workers }
+    requires few { workers ≤ 16 }
 {
     settle_counted::<R, G, Brand>(rt, alloc, Blank::new(1), system, workers, gate)
 }

@@ -5,7 +5,6 @@ ghost use Rattle.run_model.specs.Consistent.{IsConsistent, clock};
 ghost use Rattle.run_model.specs.Sublattice.{IsSublattice, IsLeast};
 ghost use Rattle.run_model.specs.Slice.{Cuts, StandsFor};
 ghost use Rattle.run_model.specs.Operators.{EachTime, HoldsAlways};
-ghost use Rattle.pota_base.specs.Limits.{most_processes};
 ghost use Rattle.slice_graph.specs.Views.{IsCut, slice_of};
 ghost use Rattle.slice_graph.specs.Fitting.{FitsOrder};
 
@@ -60,7 +59,7 @@ fn asked_of_all(alloc: Global, order: &Order, child: &Slice) -> Result<Cut, NoMe
 
 /// Raises the cut so far that it has each event of the words that isn't in the past.
 fn raise_beyond(words: &[u32], past: &[u32], into: &mut Cut)
-    requires few { length words.now ≤ most_processes }
+    requires few { length words.now ≤ 32 }
     requires past { length past.now ≡ length words.now }
     requires width { length into.old ≡ length words.now }
     ensures width { length into.new ≡ length into.old }

@@ -2,7 +2,6 @@
 ghost use Rattle.std.specs.Prelude.{◌≡◌, ◌≤◌, length, sum};
 ghost use Rattle.pota_base.specs.Shape.{HasEvent, row_of};
 ghost use Rattle.run_model.specs.Cut.{max_cut};
-ghost use Rattle.pota_base.specs.Limits.{most_processes};
 
 use cut_lattice::Cut;
 use pota_base::{EventId, Shape};
@@ -20,7 +19,7 @@ pub(crate) fn event_at(shape: &Shape, row: u32) -> EventId
 /// Makes `into` the componentwise maximum of the words and itself.
 pub(crate) fn join_into(words: &[u32], into: &mut Cut)
     requires width { length words.now ≡ length into.old }
-    requires few { length words.now ≤ most_processes }
+    requires few { length words.now ≤ 32 }
     ensures { into.new ≡ max_cut words.now into.old }
 {
     for process in 0..words.len() {

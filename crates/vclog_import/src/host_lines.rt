@@ -1,14 +1,15 @@
 //! The host lines of a text, one after the other.
 
 ghost use Rattle.std.specs.Prelude.{◌≡◌, ◌+◌, ◌≤◌, true, length, option_map, IfSome, IfNone, not};
-ghost use Rattle.pota_base.specs.Limits.{longest_kept};
 ghost use Rattle.vclog_import.specs.Lines.{is_passed, parted, record_in};
 ghost use Rattle.vclog_import.specs.Faults.{is_too_long, judged, judged_lines, last_line};
 ghost use Rattle.vclog_import.specs.Lines.{is_due_behind};
 
 use event_log::split_line;
 use memchr::memchr;
-use pota_base::LONGEST_LOG;
+
+/// The most bytes of a text.
+const MOST_BYTES: usize = 67_108_864;
 
 /// The parts of the first line of a record, and its number, counted from 1.
 #[derive(Clone, Copy, Debug)]
@@ -30,7 +31,7 @@ pub struct HostLines<'a> {
     pub unfinished: bool,
     /// Whether a host line is due, or else a description.
     pub is_due: bool,
-    ghost room: { line + length rest.now ≤ longest_kept },
+    ghost room: { line + length rest.now ≤ 67108865 },
 }
 
 // Whether the line is none where a host line is due.
@@ -83,9 +84,9 @@ impl<'a> HostLines<'a> {
         ensures unfinished { result.unfinished ≡ not (is_too_long text.now) }
     {
         HostLines {
-            rest: &text[..text.len().min(LONGEST_LOG)],
+            rest: &text[..text.len().min(MOST_BYTES)],
             line: 1,
-            unfinished: text.len() <= LONGEST_LOG,
+            unfinished: text.len() <= MOST_BYTES,
             is_due: true,
         }
     }

@@ -2,7 +2,6 @@
 ghost use Rattle.std.specs.Prelude.{◌≡◌, ℕ, ◌+◌, ◌<◌, ◌≤◌, Some, None, length, sum, IfOk, OnOk};
 ghost use Rattle.std.specs.Prelude.{OnErr};
 ghost use Rattle.run_model.specs.Cut.{lengths};
-ghost use Rattle.pota_base.specs.Limits.{most_processes};
 ghost use Rattle.event_log.specs.States.{with_batch};
 ghost use Rattle.vector_clock.specs.Events.{Events, BatchFits, BatchStands, no_events, clocks_of};
 ghost use Rattle.vector_clock.specs.inside.Events.{raised};
@@ -38,7 +37,7 @@ impl Clocks {
     /// The clocks of 1 to 32 processes without events.
     pub fn new(alloc: Global, procs: u32) -> Result<Clocks, NoMemory>
         requires some { 1 ≤ procs }
-        requires few { procs ≤ most_processes }
+        requires few { procs ≤ 32 }
         ensures { IfOk result (λ clocks. HasAdmitted clocks (no_events procs)) }
     {
         Ok(Clocks {

@@ -1,19 +1,20 @@
 ghost use Rattle.std.specs.Prelude.{◌≡◌, ◌≤◌, List, ℤ, [], length, All};
-ghost use Rattle.pota_base.specs.Limits.{most_variables};
 ghost use Rattle.watch.specs.Answering.{AnswerWhere, IsStableAt};
 
 use crate::predicate::Watch;
-use pota_base::MOST_VARIABLES;
+
+/// The most variables of a process.
+const MOST_VARIABLES: usize = 16;
 
 /// True of the first state, and of each state whose values all equal those of the state before.
 ///
 /// A process has at most 16 variables. Of a longer state the first 16 values are looked at.
 #[derive(Debug, Drop)]
 pub struct Stable {
-    values: [i64; MOST_VARIABLES],
+    values: [i64; 16],
     len: usize,
     fed: bool,
-    ghost few: { len ≤ most_variables },
+    ghost few: { len ≤ 16 },
 }
 
 impl Watch for Stable {
@@ -28,7 +29,7 @@ impl Watch for Stable {
         let len = state.len().min(MOST_VARIABLES);
         let kept = &state[..len];
         let unchanged = !self.fed || &self.values[..self.len] == kept;
-        let mut values = [0; MOST_VARIABLES];
+        let mut values = [0; 16];
         values[..len].copy_from_slice(kept);
         self.values = values;
         self.len = len;
@@ -40,11 +41,11 @@ impl Watch for Stable {
 impl Stable {
     /// No state was fed.
     pub fn new() -> Stable
-        ensures { (states : List (List ℤ)) → All (λ state. length state ≤ most_variables) states
+        ensures { (states : List (List ℤ)) → All (λ state. length state ≤ 16) states
             → AnswerWhere states (IsStableAt states) (⟦<Stable as Watch>⟧.answers result states) }
     {
         Stable {
-            values: [0; MOST_VARIABLES],
+            values: [0; 16],
             len: 0,
             fed: false,
         }

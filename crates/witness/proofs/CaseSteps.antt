@@ -18,7 +18,6 @@ use Rattle.meaning_laws.proofs.WitnessLemmas.{canonical_is_of_kind}
 use Rattle.pota_base.specs.declared.shape.EventId.{EventId}
 use Rattle.pota_base.specs.Shape.{HasEvent}
 use Rattle.run_model.proofs.Orders.{has_process}
-use Rattle.pota_base.specs.Limits.{most_events, most_processes}
 use Rattle.event_log.proofs.Keeping.{item_le_sum}
 use Rattle.slice_graph.specs.Views.{SliceView, slice_of, IsCut}
 use Rattle.witness_kinds.specs.declared.Path.{Path}
@@ -35,13 +34,13 @@ initial_is o n start size is = is ∙ ap (λ (k : ℕ). replicate k 0) (size ∙
 pub initial_fits : (o : Clocks) (v : SliceView) (start : Cut) → IsOperand o v → start ≡ initial o → IsCut v.lens start
 initial_fits o v start operand is = subst (IsCut v.lens) (sym is) (record { size = length-initial o ∙ sym (length-lengths o) ∙ sym (ap length operand.fits.shape); within = initial_within o v.lens })
 
-pub initial_few : (o : Clocks) (start : Cut) → IsRunOrder o → start ≡ initial o → length start ≤ most_processes
+pub initial_few : (o : Clocks) (start : Cut) → IsRunOrder o → start ≡ initial o → length start ≤ 32
 initial_few o start run is = omega (arith, ap length is, length-initial o, length-lengths o, run.shape.few)
 
-pub consistent_few : (o : Clocks) (c : Cut) → IsRunOrder o → IsConsistent o c → length c ≤ most_processes
+pub consistent_few : (o : Clocks) (c : Cut) → IsRunOrder o → IsConsistent o c → length c ≤ 32
 consistent_few o c run k = omega (arith, k.shaped, length-lengths o, run.shape.few)
 
-pub consistent_small : (o : Clocks) (c : Cut) → IsRunOrder o → IsConsistent o c → (i : ℕ) → count c i ≤ most_events
+pub consistent_small : (o : Clocks) (c : Cut) → IsRunOrder o → IsConsistent o c → (i : ℕ) → count c i ≤ 50000
 consistent_small o c run k i = omega (arith, k.within i, item_le_sum (lengths o) i, run.shape.events)
 
 -- ---- walks

@@ -195,8 +195,8 @@ fn next(
     Ok(Witness::Reach(Path { goal, steps }))
 }
 
-/// Why EF of an operand is true or false at the initial cut, by the least cut of the operand, which
-/// is `None` where there is no such cut.
+/// Why EF of an operand is true or false at the initial cut, by the least cut of the operand, which is
+/// `None` where there is no such cut.
 pub fn reach_to(alloc: Global, order: &Order, least: &Option<Cut>) -> Result<Witness, NoMemory>
     requires { IfSome least.now (IsConsistent order.now) }
     // The witness is the one that is given by each slice of which it is the bottom.

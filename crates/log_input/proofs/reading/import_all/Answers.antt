@@ -4,7 +4,7 @@ use Rattle.event_log.specs.FittingItems.{FitFirst}
 use Rattle.event_log.specs.LogText.{log_items}
 use Rattle.log_input.specs.declared.form.Form.TheVariants as form
 use Rattle.log_input.specs.declared.places.Places.TheVariants.{Lines}
-use Rattle.log_input.specs.declared.reading.Input.TheVariants.{Faulty}
+use Rattle.log_input.specs.declared.judged.Judged.TheVariants.{Faulty}
 use Rattle.fault_kinds.specs.declared.import.ImportFault.{ImportFault}
 use Rattle.fault_kinds.specs.declared.refusal.Refusal.TheVariants as refusal
 use Rattle.log_input.specs.inside.Judging.{IsJudged, StandsAt}

@@ -1,7 +1,7 @@
 use Rattle.std.proofs.Common.{sym, subst}
 use Rattle.event_log.specs.declared.item.LogFault.{LogFault}
 use Rattle.fault_kinds.specs.declared.refusal.Refusal.TheVariants as refusal
-use Rattle.log_input.specs.declared.reading.Input.TheVariants.{Faulty}
+use Rattle.log_input.specs.declared.judged.Judged.TheVariants.{Faulty}
 use Rattle.log_input.specs.inside.Judging.{IsTextJudged}
 use Rattle.log_input.proofs.Texts.{text_stops}
 use Rattle.log_input.proofs.reading.judge.Goals as goal

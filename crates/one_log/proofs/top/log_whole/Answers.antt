@@ -1,5 +1,5 @@
 use Rattle.std.specs.Prelude.{map, string_bytes}
-use Rattle.pota_base.specs.Changes.{of_source}
+use Rattle.input_reading.specs.Changes.{of_source}
 use Rattle.log_rules.specs.WholeLogs.{all_of}
 use Rattle.one_log.proofs.Written.{whole, refused, failed, short, calm_so}
 use Rattle.std.proofs.Common.{[]}
@@ -24,7 +24,7 @@ returns-in-Ok-Whole-clause-calm g c =
 
 pub returns-in-Ok-Faulty-clause-logged : goal.returns-in-Ok-Faulty-clause-logged
 returns-in-Ok-Faulty-clause-logged g c =
-    refused (map string_bytes c.args.words.now) c.args.asked.now c.requires.asks (of_source g.S.Source c.args.input.now c.read_input.new.source) (g.O.Sink.held c.args.out.now) (g.O.Sink.faults c.args.out.now) c.requires.plain c.in-Ok-Faulty.refusal (rw c.in-Ok-Faulty.field-0-is at c.in-Ok-Faulty.ensures.reads)
+    refused (map string_bytes c.args.words.now) c.args.asked.now c.requires.asks (of_source g.S.Source c.args.input.now c.read_input.new.source) (g.O.Sink.held c.args.out.now) (g.O.Sink.faults c.args.out.now) c.requires.plain c.in-Ok-Faulty.refusal c.in-Ok-Faulty.line (rw c.in-Ok-Faulty.field-0-is at c.in-Ok-Faulty.ensures.reads)
 
 pub returns-in-Ok-Failed-clause-logged : goal.returns-in-Ok-Failed-clause-logged
 returns-in-Ok-Failed-clause-logged g c =

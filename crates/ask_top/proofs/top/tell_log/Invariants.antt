@@ -1,4 +1,0 @@
-use Rattle.ask_top.proofs.top.tell_log.Given as goal
-
-abbrev pub ghosts-answer_observed : goal.ghosts-answer_observed
-ghosts-answer_observed g a = record { name = a.blank.name; parts = a.blank.parts }

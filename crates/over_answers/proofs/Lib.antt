@@ -1,0 +1,2 @@
+mod Tallying
+pub mod Shown

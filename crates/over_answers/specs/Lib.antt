@@ -1,0 +1,3 @@
+pub mod Tallies
+pub mod PassedOn
+pub mod inside

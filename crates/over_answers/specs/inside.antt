@@ -1,0 +1,2 @@
+-- What only the calls inside say to each other.
+pub mod Answering
