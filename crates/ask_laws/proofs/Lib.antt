@@ -1,4 +1,7 @@
 mod Few
 mod Seen
 mod Read
+mod Asked
+mod OverLines
+mod Instances
 mod Said

@@ -15,7 +15,6 @@ use Rattle.question_text.specs.declared.head.Head.{Head}
 use Rattle.question_instances.specs.Over.{over_of}
 use Rattle.question_instances.specs.declared.over.Over.{Over}
 use Rattle.question_forms.specs.Questions.{IsAsking}
-use Rattle.question_lines.specs.Lines.{IsOneLine}
 use Rattle.part_pulls.specs.Observing.{Reading}
 use Rattle.log_rules.specs.Judgement.{Prefix}
 use Rattle.log_input.specs.Readings.{HasLog}
@@ -26,6 +25,8 @@ use Rattle.ask_top.specs.Asking.{HasAnswered}
 use Rattle.ask_top.specs.Documents.{run_on}
 use Rattle.ask_top.specs.declared.answer.Answer.{Answer}
 use Rattle.ask_top.specs.declared.answer.Answer.TheVariants.{Holds, Fails, Without}
+use Rattle.asked_instances.specs.Instances.{Source, pairs_asked}
+use Rattle.ask_laws.specs.Instances.{HoldsWhereKnown}
 use Rattle.ask_laws.specs.Lines.{SaysOk, SaysNotOk, HasLines}
 
 -- ---- a call, and a question of it
@@ -81,16 +82,9 @@ pub record Asks (question : List ℕ) (words : Asking) (f : Formula) : Type 0 wh
   pub words_are : head.asking ≡ words
   pub formula_is : meaning tree ≡ f
 
--- a question over processes is one line; one of the log that was read always is
-abbrev pub IsLineOver : List ℕ → Type 0
-IsLineOver question =
-    (over : Over) → over_of question ≡ Ok (Some over) → IsOneLine question
-
--- A call was answered that read a log of this run and wrote this document, its questions over
--- processes are one line each, and its question of that number, from 1, has this text, the words of
--- this form, and this formula.
-pub record IsAsked (r : Run) (document : List ℕ) (number : ℕ) (question : List ℕ) (form : Asking)
-    (f : Formula) : Type 0 where
+-- A call was answered that read a log of this run and wrote this document, and this is its question
+-- of that number, from 1.
+pub record IsAskedAt (r : Run) (document : List ℕ) (number : ℕ) (question : List ℕ) : Type 0 where
   pub watches : Reading
   pub words : List (List ℕ)
   pub read : List ℕ
@@ -98,8 +92,21 @@ pub record IsAsked (r : Run) (document : List ℕ) (number : ℕ) (question : Li
   pub run : AreLogOf watches words read r
   pub before : List (List ℕ)
   pub at : IsAt number (questions_of words) before question
-  pub lines : AllByRecursion IsLineOver (questions_of words)
+
+-- so it is, and its text has the words of this form, and this formula
+pub record IsAsked (r : Run) (document : List ℕ) (number : ℕ) (question : List ℕ) (form : Asking)
+    (f : Formula) : Type 0 where
+  pub call : IsAskedAt r document number question
   pub asks : Asks question form f
+
+-- so it is, and it is a question over processes: this one, with the names of the log
+pub record IsAskedOver (r : Run) (document : List ℕ) (number : ℕ) (question : List ℕ)
+    (s : Source) : Type 0 where
+  pub call : IsAskedAt r document number question
+  pub over : Over
+  pub names : over_of question ≡ Ok (Some over)
+  pub source_is : s
+      ≡ record { text = question; over = over; header = call.run.log.header; watches = [] }
 
 -- ---- where it holds
 
@@ -147,21 +154,27 @@ PlainHoldsWhereTheInitialCutSatisfies =
     → IsAsked r document number question asking.Plain f
     → SaysOk document number question ↔ Sat r f (initial r.clocks)
 
+-- `for P Q: ..`: where the question with the names of two different processes in it holds, for each
+-- two of which the log has all names that the question then has; with `for P: ..`, for each one
+abbrev pub OverHoldsWhereItHoldsForEach : Type 0
+OverHoldsWhereItHoldsForEach =
+    (r : Run) (document : List ℕ) (number : ℕ) (question : List ℕ) (s : Source)
+    → IsAskedOver r document number question s
+    → SaysOk document number question ↔ AllByRecursion (HoldsWhereKnown r s) (pairs_asked s)
+
 -- ---- the lines
 
--- the document of a call that was answered, whose questions over processes are one line each, has a
--- line for each question, and no other result
+-- the document of a call that was answered has a line for each question, and no other result
 abbrev pub EachQuestionHasItsLine : Type 0
 EachQuestionHasItsLine =
     (watches : Reading) (words : List (List ℕ)) (read document : List ℕ)
-    → HasWritten watches words read document → AllByRecursion IsLineOver (questions_of words)
-    → HasLines document (questions_of words)
+    → HasWritten watches words read document → HasLines document (questions_of words)
 
 -- the line of a question says `ok` or `not ok`
 abbrev pub ItSaysOkOrNotOk : Type 0
 ItSaysOkOrNotOk =
-    (r : Run) (document : List ℕ) (number : ℕ) (question : List ℕ) (form : Asking) (f : Formula)
-    → IsAsked r document number question form f
+    (r : Run) (document : List ℕ) (number : ℕ) (question : List ℕ)
+    → IsAskedAt r document number question
     → SaysOk document number question ⊎ SaysNotOk document number question
 
 -- and not both

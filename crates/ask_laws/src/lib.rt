@@ -10,12 +10,13 @@
 //! sees the version, the plan and one result for each question, in order, with its number and its
 //! text, and nothing else (`each_question_has_its_line`).
 //!
-//! Each law is of questions that are asked of the log, in a call whose questions over processes, if it
-//! has any, are one line each.
+//! These are of questions that are asked of the log. The line of a question over processes says `ok`
+//! exactly where the question with the names of processes in it holds for each two different ones, or
+//! each one, of which the log has all names that it then has
+//! (`over_holds_where_it_holds_for_each`).
 //!
-//! Not said: that a call is answered, what stands below the line of a question, and when the line of a
-//! question over processes says `ok`: `ask_top` and `ask_text` say so. Nor that a question over
-//! processes that was read is one line.
+//! Not said: that a call is answered, and what stands below the line of a question: `ask_top` and
+//! `ask_text` say so.
 #![tactic(auto)]
 
 ghost use Rattle.ask_laws.specs.Laws.{NeverHoldsWhereNoCutSatisfies};
@@ -24,6 +25,7 @@ ghost use Rattle.ask_laws.specs.Laws.{AlwaysHoldsWhereEachCutSatisfies};
 ghost use Rattle.ask_laws.specs.Laws.{SurelyHoldsWhereEachPathMeets};
 ghost use Rattle.ask_laws.specs.Laws.{AtEndHoldsWhereTheFinalCutSatisfies};
 ghost use Rattle.ask_laws.specs.Laws.{PlainHoldsWhereTheInitialCutSatisfies};
+ghost use Rattle.ask_laws.specs.Laws.{OverHoldsWhereItHoldsForEach};
 ghost use Rattle.ask_laws.specs.Laws.{EachQuestionHasItsLine, ItSaysOkOrNotOk, ItSaysNotBoth};
 
 /// The line of `never F` says `ok` exactly where no consistent cut of the log's run satisfies F.
@@ -55,6 +57,13 @@ pub fn at_end_holds_where_the_final_cut_satisfies()
 /// The line of a formula without words says `ok` exactly where the initial cut satisfies it.
 pub fn plain_holds_where_the_initial_cut_satisfies()
     ensures { PlainHoldsWhereTheInitialCutSatisfies }
+{}
+
+/// The line of `for P Q: ..` says `ok` exactly where the question, with the names of two different
+/// processes for P and Q, holds of the log's run for each two of which the log has all names that the
+/// question then has; that of `for P: ..` where it does for each one.
+pub fn over_holds_where_it_holds_for_each()
+    ensures { OverHoldsWhereItHoldsForEach }
 {}
 
 /// A reader of the protocol sees the version, the plan of so many tests as there are questions, and
