@@ -1,12 +1,14 @@
 //! A log that comes in pieces, up to its first fault.
 
-ghost use Rattle.std.specs.Prelude.{◌≡◌, ◌+◌, ◌^◌, ◌<◌, ◌≤◌, ◌∷◌, [], false, length, None};
+ghost use Rattle.std.specs.Prelude.{◌≡◌, ◌+◌, ◌^◌, ◌<◌, ◌≤◌, ◌++◌, ◌∷◌, [], false, length, None};
 ghost use Rattle.std.specs.Prelude.{IfOk, OnOk, IsTrue};
+ghost use Rattle.std.specs.Option.{option_to_list};
+ghost use Rattle.event_log.specs.inside.Lines.{header_items};
 ghost use Rattle.event_log.specs.Faults.{byte_fault, is_heading_byte};
 
 use crate::item::{Fed, Item, LogCode, LogFault};
-use crate::line_reader::LineReader;
-use crate::refusals::fault_at;
+use crate::line_reader::{LineReader, LineTold};
+use crate::log::Header;
 use crate::split::split_line;
 use pota_base::{List, NoMemory};
 use std::alloc::Global;
@@ -33,6 +35,14 @@ pub struct Feeder {
     given: usize,
     ghost counted: { reader.lines ≤ total },
     ghost room: { total ≤ 67108864 },
+}
+
+/// What one line gave, and its fault.
+#[derive(Debug, Drop)]
+pub struct LineGiven {
+    header: Option<Header>,
+    item: Option<Item>,
+    fault: Option<LogFault>,
 }
 
 // Whether the byte may stand at this place of the first line.
@@ -66,6 +76,54 @@ fn byte_fault(total: u32, ended: bool, width: usize, byte: u8) -> Option<LogCode
         }
     }
     None
+}
+
+impl LineGiven {
+    ghost use Rattle.std.specs.Option.{option_map};
+    ghost use Rattle.event_log.specs.inside.Feeding.{placed_at};
+
+    fn fault(fault: LogFault) -> LineGiven
+        ensures { result ≡ record { header = None; item = None; fault = Some fault } }
+    {
+        LineGiven {
+            header: None,
+            item: None,
+            fault: Some(fault),
+        }
+    }
+
+    // What the line of this number was told to give.
+    #[inline(always)]
+    fn of(told: LineTold, line: u32) -> LineGiven
+        ensures { result ≡ record {
+          header = told.header;
+          item = told.item;
+          fault = option_map (placed_at line) told.fault;
+        } }
+    {
+        LineGiven {
+            header: told.header,
+            item: told.item,
+            fault: told.fault.map(|code| LogFault { code, line }),
+        }
+    }
+}
+
+#[inline(always)]
+fn with_given(
+    mut items: List<Item>,
+    header: Option<Header>,
+    item: Option<Item>,
+) -> Result<List<Item>, NoMemory>
+    ensures { IfOk result (λ all. all ≡ items ++ (header_items header ++ option_to_list item)) }
+{
+    if let Some(header) = header {
+        items.push(Item::Header(header))?;
+    }
+    if let Some(item) = item {
+        items.push(item)?;
+    }
+    Ok(items)
 }
 
 impl Feeder {
@@ -171,46 +229,41 @@ impl Feeder {
         Ok(None)
     }
 
-    // The line feed of this line, which puts what the line gives behind the items.
-    fn close(&mut self, line: &[u8], items: &mut List<Item>) -> Result<Option<LogFault>, NoMemory>
-        ensures closes { IfOk result (λ fault.
-            ClosesLine self.old line.now items.old fault items.new self.new) }
+    // The line feed of this line.
+    #[inline(always)]
+    fn close(&mut self, line: &[u8]) -> Result<LineGiven, NoMemory>
+        ensures closes { IfOk result (λ given. ClosesLine self.old line.now given self.new) }
         ensures line { self.new.line.items ≡ self.old.line.items }
     {
         if let Some(code) = self.next_fault(line.len(), b'\n') {
-            return Ok(Some(self.placed(code)));
+            return Ok(LineGiven::fault(self.placed(code)));
         }
         let number = self.reader.line_count() + 1;
         self.total += 1;
-        let fault = self.reader.take(self.alloc, line, items)?;
-        Ok(fault_at(number, fault))
+        let told = self.reader.take(self.alloc, line)?;
+        Ok(LineGiven::of(told, number))
     }
 
     // The rest of a line, and its line feed. A line that lies whole in the piece is judged where it
     // lies.
-    fn take_line(
-        &mut self,
-        chunk: &[u8],
-        items: &mut List<Item>,
-    ) -> Result<Option<LogFault>, NoMemory>
+    fn take_line(&mut self, chunk: &[u8]) -> Result<LineGiven, NoMemory>
         requires { HasNoFeed chunk.now }
-        ensures { IfOk result (λ fault.
-            TakesFedLine self.old chunk.now items.old fault items.new self.new) }
+        ensures { IfOk result (λ given. TakesFedLine self.old chunk.now given self.new) }
     {
         if self.line.is_empty() {
             if self.is_quiet(chunk.len()) {
                 self.total += chunk.len() as u32;
-                return self.close(chunk, items);
+                return self.close(chunk);
             }
         }
         if let Some(fault) = self.take_plain(chunk)? {
-            return Ok(Some(fault));
+            return Ok(LineGiven::fault(fault));
         }
         let mut line = std::mem::replace(&mut self.line, Vec::new(self.alloc));
-        let fault = self.close(&line, items)?;
+        let given = self.close(&line)?;
         line.clear();
         self.line = line;
-        Ok(fault)
+        Ok(given)
     }
 
     /// Reads one piece more, up to the end of the log. Gives what it completes, and the bytes that
@@ -227,7 +280,12 @@ impl Feeder {
                 self.given = items.len();
                 return Ok((Fed { items, fault }, &[]));
             };
-            let fault = self.take_line(line, &mut items)?;
+            let LineGiven {
+                header,
+                item,
+                fault,
+            } = self.take_line(line)?;
+            items = with_given(items, header, item)?;
             if fault.is_some() {
                 return Ok((Fed { items, fault }, after));
             }

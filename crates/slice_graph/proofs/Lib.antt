@@ -1,17 +1,14 @@
 pub mod Words
-pub mod Pieces
 pub mod Events
 pub mod Building
 pub mod Lasts
 pub mod Tops
 pub mod Kept
-pub mod Pushing
 pub mod Pairs
 pub mod RowByRow
 pub mod OrderPulls
 pub mod SlicePulls
 pub mod Fans
-pub mod EventWords
 pub mod EdgeSteps
 pub mod OrderGrowing
 pub mod StartingRows

@@ -1,6 +1,6 @@
 //! Cuts and the words of rows.
 ghost use Rattle.std.specs.Prelude.{◌≡◌, ◌≤◌, ◌↔◌, length, IsTrue};
-ghost use Rattle.run_model.specs.Cut.{IsWithin, max_cut};
+ghost use Rattle.run_model.specs.Cut.{IsWithin};
 
 use cut_lattice::Cut;
 
@@ -15,16 +15,6 @@ pub fn is_within(words: &[u32], counts: &[u32]) -> bool
         }
     }
     true
-}
-
-/// Makes `into` the componentwise maximum of the words and itself.
-pub fn join_words(words: &[u32], into: &mut [u32])
-    requires { length words.now ≡ length into.old }
-    ensures { into.new ≡ max_cut words.now into.old }
-{
-    for process in 0..words.len() {
-        into[process] = into[process].max(words[process]);
-    }
 }
 
 /// Gives `into` the words as its counts.

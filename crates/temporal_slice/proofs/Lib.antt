@@ -5,4 +5,3 @@ pub mod Shared
 pub mod Sets
 pub mod NextPulls
 pub mod PassedOn
-pub mod Tops

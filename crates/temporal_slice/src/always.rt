@@ -8,7 +8,7 @@ ghost use Rattle.run_model.specs.Operators.{EachTime, HoldsAlways};
 ghost use Rattle.slice_graph.specs.Views.{IsCut, slice_of};
 ghost use Rattle.slice_graph.specs.Fitting.{FitsOrder};
 
-use crate::cuts::{before_all, event_behind, join_into};
+use crate::cuts::{event_at, join_into};
 use crate::raised::cuts_from;
 use cut_lattice::Cut;
 use pota_base::{EventId, NoMemory};
@@ -47,24 +47,19 @@ fn asked_of_all(alloc: Global, order: &Order, child: &Slice) -> Result<Cut, NoMe
         → IsWithin asked c ↔ HoldsAlways order.now (slice_of child.now) c) }
 {
     let shape = order.shape();
-    let procs = child.shape().procs();
-    let mut room = [0; 32];
-    let room = &mut room[..procs as usize];
-    room.copy_from_slice(child.words(0, 0));
-    let mut before = before_all();
+    let mut asked = Cut::new(alloc, child.shape().procs())?;
+    set_words(child.words(0, 0), &mut asked);
     for row in 1..shape.events() + 1 {
-        let event = event_behind(shape, before, row);
+        let event = event_at(shape, row);
         let words = child.words(event.process, event.position);
-        raise_beyond(words, order.clock(event), room);
-        before = event;
+        raise_beyond(words, order.clock(event), &mut asked);
     }
-    let mut asked = Cut::new(alloc, procs)?;
-    set_words(room, &mut asked);
     Ok(asked)
 }
 
-/// Raises the counts so far that they have each event of the words that isn't in the past.
-fn raise_beyond(words: &[u32], past: &[u32], into: &mut [u32])
+/// Raises the cut so far that it has each event of the words that isn't in the past.
+fn raise_beyond(words: &[u32], past: &[u32], into: &mut Cut)
+    requires few { length words.now ≤ 32 }
     requires past { length past.now ≡ length words.now }
     requires width { length into.old ≡ length words.now }
     ensures width { length into.new ≡ length into.old }
@@ -72,7 +67,8 @@ fn raise_beyond(words: &[u32], past: &[u32], into: &mut [u32])
         ↔ (IsWithin into.old c × IsWithin words.now (max_cut c past.now)) }
 {
     for process in 0..words.len() {
-        into[process] = beyond(words[process], past[process], into[process]);
+        let count = into.get(process as u32);
+        into.set(process as u32, beyond(words[process], past[process], count));
     }
 }
 

@@ -9,10 +9,10 @@ ghost use Rattle.run_model.specs.Operators.{SomeTime, whole, lowered};
 ghost use Rattle.slice_graph.specs.Views.{slice_of};
 ghost use Rattle.slice_graph.specs.Fitting.{FitsOrder, Agrees};
 
-use crate::cuts::{before_all, event_behind};
+use crate::cuts::event_at;
 use cut_lattice::Cut;
 use pota_base::{EventId, NoMemory};
-use slice_graph::{CutTable, Order, Slice, set_words};
+use slice_graph::{CutTable, Order, Slice};
 use std::alloc::Global;
 
 /// The slice of the consistent cuts from which some path ends in a cut of the child.
@@ -35,25 +35,19 @@ pub fn ef(alloc: Global, order: &Order, child: &Slice) -> Result<Slice, NoMemory
     }
 }
 
-/// The slice of the consistent cuts within a cut, which is the greatest of them.
+/// The slice of the consistent cuts within a cut.
 fn cuts_within(alloc: Global, order: &Order, top: &[u32]) -> Result<Slice, NoMemory>
-    requires { IsConsistent order.now top.now }
+    requires { length top.now ≡ length order.now }
     ensures { IfOk result (Agrees order.now (lowered (whole order.now) top.now)) }
 {
     let shape = order.shape();
     let mut table = CutTable::new(alloc, shape)?;
-    let procs = shape.procs();
-    let initial = Cut::new(alloc, procs)?;
+    let initial = Cut::new(alloc, shape.procs())?;
     table.push_cut(initial.as_slice())?;
-    let mut before = before_all();
     for row in 1..shape.events() + 1 {
-        let event = event_behind(shape, before, row);
-        push_past(&mut table, order, event, top)?;
-        before = event;
+        push_past(&mut table, order, event_at(shape, row), top)?;
     }
-    let mut greatest = Cut::new(alloc, procs)?;
-    set_words(top, &mut greatest);
-    Ok(Slice::with_top(table, greatest))
+    Slice::of(alloc, table)
 }
 
 /// Puts the past of the event behind the other rows where the cut has the event, and else a row

@@ -11,7 +11,7 @@ ghost use Rattle.slice_graph.specs.Words.{row_words};
 ghost use Rattle.slice_graph.specs.Fitting.{FitsOrder};
 ghost use Rattle.temporal_slice.specs.inside.Operands.{IsInRow, Shares};
 
-use crate::cuts::{before_all, event_behind, join_into};
+use crate::cuts::{event_at, join_into};
 use crate::raised::cuts_from;
 use cut_lattice::Cut;
 use pota_base::{EventId, NoMemory};
@@ -51,11 +51,8 @@ fn least_with_pairs(alloc: Global, order: &Order, child: &Slice) -> Result<Cut, 
     let shape = child.shape();
     let mut least = Cut::new(alloc, shape.procs())?;
     set_words(child.words(0, 0), &mut least);
-    let mut before = before_all();
     for row in 1..shape.events() + 1 {
-        let event = event_behind(shape, before, row);
-        join_shared(child, event, &mut least);
-        before = event;
+        join_shared(child, event_at(shape, row), &mut least);
     }
     Ok(least)
 }

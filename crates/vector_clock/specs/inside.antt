@@ -4,5 +4,4 @@ pub mod BatchPlaces
 pub mod Events
 pub mod Met
 pub mod Nodes
-pub mod Rising
 pub mod Sound

@@ -56,8 +56,8 @@ impl Clocks {
     /// count of a process is the greatest count of the written clocks that it looks back on, or
     /// the place of an event of that process without one. Written clocks stay. It copies the batch.
     ///
-    /// It takes time as its clocks have counts, whatever the order of its events, and a look-up by
-    /// halves for each message.
+    /// It takes time as its clocks have counts, whatever the order of its events, and a look-up in
+    /// an ordered map for each message.
     pub fn fill(&self, alloc: Global, batch: &[Event]) -> Result<List<Event>, NoMemory>
         requires { BatchStands (length self.now.order) (sum (lengths self.now.order)) batch.now }
         ensures { IfOk result (λ filled. (events : Events) → HasAdmitted self.now events
@@ -80,7 +80,7 @@ impl Clocks {
     /// other clock is compared with that of the last event of each process that the event newly
     /// names: one that its clock counts and that of the event before doesn't. So an event costs two
     /// or three rows of counts where its clock is as most are, and else about one for each event
-    /// that it newly names. A message costs look-ups by halves.
+    /// that it newly names. A message costs look-ups in an ordered map.
     pub fn admit(&mut self, batch: &[Event]) -> Result<(), Refused<LogFault>>
         requires { BatchFits (length self.old.order) (sum (lengths self.old.order)) batch.now }
         ensures ok { OnOk result ((events : Events) → HasAdmitted self.old events

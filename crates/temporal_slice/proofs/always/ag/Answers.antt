@@ -7,9 +7,7 @@ use Rattle.run_model.specs.Operators.{EachTime}
 use Rattle.slice_graph.specs.Views.{SliceView, slice_of, no_row}
 use Rattle.slice_graph.proofs.Building.{empty_agrees}
 use Rattle.temporal_slice.proofs.Results.{IsMade, ag_closed, ag_from, ag_none}
-use Rattle.run_model.proofs.Orders.{final_consistent}
 use Rattle.temporal_slice.proofs.Asked.{asked_least}
-use Rattle.temporal_slice.proofs.Tops.{whole_cuts}
 use Rattle.temporal_slice.proofs.always.ag.Goals as goal
 
 pub returns-then-not-has_final : goal.returns-then-not-has_final
@@ -21,12 +19,6 @@ returns-then-not-has_final c =
       closed = ag_closed c.args.order.now c.shape-shape.ensures.order c.args.child.now;
       cuts = IfOk-weaker c.empty.result _ _ (λ w m. m.cuts) all;
     }
-
-pub cuts_from-requires-clause-bottom : goal.cuts_from-requires-clause-bottom
-cuts_from-requires-clause-bottom c = whole_cuts c.args.order.now c.shape-shape.ensures.order c.in_ok-bottom.bottom c.in_ok-bottom.ensures.member.0
-
-pub cuts_from-requires-clause-last : goal.cuts_from-requires-clause-last
-cuts_from-requires-clause-last c = whole_cuts c.args.order.now c.shape-shape.ensures.order (lengths c.args.order.now) (final_consistent c.args.order.now c.shape-shape.ensures.order)
 
 pub returns-in_err-asked-clause-closed : goal.returns-in_err-asked-clause-closed
 returns-in_err-asked-clause-closed c = ag_closed c.args.order.now c.shape-shape.ensures.order c.args.child.now

@@ -9,9 +9,6 @@ use Rattle.slice_graph.proofs.Building.{empty_agrees}
 use Rattle.temporal_slice.proofs.Results.{IsMade, ef_closed, ef_within, ef_none}
 use Rattle.temporal_slice.proofs.possible.ef.Goals as goal
 
-pub cuts_within-requires : goal.cuts_within-requires
-cuts_within-requires c = (c.in-Some.ensures.greatest c.args.order.now c.shape-shape.ensures.order c.requires).member.consistent
-
 pub returns-in-Some : goal.returns-in-Some
 returns-in-Some c =
     let all = IfOk-weaker c.cuts_within.result _ (IsMade c.args.order.now (SomeTime c.args.order.now (Cuts c.args.order.now (slice_of c.args.child.now)))) (λ w agrees. ef_within c.args.order.now c.shape-shape.ensures.order c.args.child.now c.in-Some.top.now (c.in-Some.ensures.greatest c.args.order.now c.shape-shape.ensures.order c.requires) w agrees) c.cuts_within.ensures in

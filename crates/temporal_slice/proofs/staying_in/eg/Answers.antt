@@ -22,12 +22,6 @@ returns-then-not-has_final c =
 pub returns-in_err-bottom-clause-closed : goal.returns-in_err-bottom-clause-closed
 returns-in_err-bottom-clause-closed c = eg_closed c.args.order.now c.shape-shape.ensures.order c.args.child.now
 
-pub cuts_from-requires-clause-bottom : goal.cuts_from-requires-clause-bottom
-cuts_from-requires-clause-bottom c = c.in_ok-bottom.ensures.member.0
-
-pub cuts_from-requires-clause-last : goal.cuts_from-requires-clause-last
-cuts_from-requires-clause-last c = (c.if-not-has_final.ensures.cuts c.args.order.now c.requires).0 refl
-
 pub returns : goal.returns
 returns c =
     let all = IfOk-weaker c.cuts_from.result _ (IsMade c.args.order.now (Staying c.args.order.now (Cuts c.args.order.now (slice_of c.args.child.now)))) (λ w agrees. eg_from c.args.order.now c.shape-shape.ensures.order c.args.child.now c.requires ((c.if-not-has_final.ensures.cuts c.args.order.now c.requires).0 refl) c.in_ok-bottom.bottom c.in_ok-bottom.ensures w agrees) c.cuts_from.ensures in
