@@ -6,6 +6,7 @@ use Rattle.std.proofs.lemmas.Bool.{cases_Bool}
 use Rattle.run_model.specs.Cut.{Clocks, lengths}
 use Rattle.run_model.proofs.Counts.{length-lengths}
 use Rattle.pota_base.specs.Shape.{IsShape}
+use Rattle.pota_base.specs.Limits.{most_events, most_processes}
 use Rattle.pota_names.specs.Names.{is_name}
 use Rattle.log_lines.specs.Names.{are_distinct}
 use Rattle.trace_growth.specs.Growing.{IsTrace}
@@ -21,7 +22,7 @@ use Rattle.conjunctions.specs.declared.answer.PartAnswer.{PartAnswer}
 use Rattle.conjunctions.specs.declared.answer.Answer.{Answer}
 use Rattle.part_pulls.specs.Observing.{clocks_seen}
 use Rattle.conjunctions.specs.Answering.{IsAnswer, places_from, all_places, ArePartAnswers}
-use Rattle.run_options.specs.declared.shown.Shown.{Shown}
+use Rattle.call_options.specs.declared.shown.Shown.{Shown}
 use Rattle.answer_report.specs.inside.Choosing.{of_disjunct, first_true, first_false, chosen}
 use Rattle.answer_report.specs.inside.Showing.{IsNumbered, TellAll}
 use Rattle.answer_report.proofs.Parts.{part_answers}
@@ -88,13 +89,13 @@ formed seen trace shape ds answer is small some shown text report made names spe
   run = record {
     procs = record {
       some = subst (λ (procs : List (List ℕ)). 0 < length procs) (sym names) (omega (arith, trace.whole.header.some));
-      few = subst (λ (procs : List (List ℕ)). length procs ≤ 32) (sym names) trace.whole.header.few;
+      few = subst (λ (procs : List (List ℕ)). length procs ≤ most_processes) (sym names) trace.whole.header.few;
       each = subst (AllByRecursion (λ n. is_name n ≡ true)) (sym names) spelled;
       distinct = subst (λ (procs : List (List ℕ)). are_distinct procs ≡ true) (sym names) trace.whole.header.distinct;
     };
     lengths = record {
       width = ap length made.lengths_are ∙ length-lengths (clocks_seen seen) ∙ ap length trace.clocks ∙ length-clocks_of seen.trace.states.events ∙ trace.whole.events ∙ ap length (sym names);
-      few = subst (λ lens. sum lens ≤ 50000) (sym made.lengths_are) shape.events;
+      few = subst (λ lens. sum lens ≤ most_events) (sym made.lengths_are) shape.events;
     };
   };
   formula = subst IsCanonical (sym made.formula) canonical;

@@ -17,7 +17,7 @@ use Rattle.run_report.specs.Witnesses.{AreWitnesses}
 use Rattle.part_pulls.specs.declared.observed.Observed.{Observed}
 use Rattle.conjunctions.specs.declared.answer.Answer.{Answer}
 use Rattle.part_pulls.specs.Observing.{Reading, clocks_seen, run_seen, trace_seen}
-use Rattle.run_options.specs.declared.shown.Shown.{Shown}
+use Rattle.call_options.specs.declared.shown.Shown.{Shown}
 use Rattle.answer_report.specs.Asking.{IsAskedOf}
 use Rattle.answer_report.specs.inside.Choosing.{chosen}
 use Rattle.answer_report.specs.inside.Showing.{IsSliceTold, TellAll}

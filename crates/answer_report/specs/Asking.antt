@@ -9,7 +9,7 @@ use Rattle.conjunctions.specs.declared.answer.Answer.{Answer}
 use Rattle.part_pulls.specs.Observing.{Reading, AreAnswers, names_seen, run_seen}
 use Rattle.conjunctions.specs.Answering.{IsAnswer}
 use Rattle.run_report.specs.Reports.{Asked}
-use Rattle.run_options.specs.declared.shown.Shown.{Shown}
+use Rattle.call_options.specs.declared.shown.Shown.{Shown}
 
 -- the question is for this text and for what is shown, and the answer is that of parts which mean,
 -- one by one, what the parts of the formula do, under the names and the watches of the reading. No

@@ -1,6 +1,7 @@
 //! Copies of what a report tells as it stands elsewhere.
 ghost use Rattle.std.specs.Prelude.{◌≡◌, ◌≤◌, true, length, IfOk};
 ghost use Rattle.std.specs.List.{AllByRecursion};
+ghost use Rattle.pota_base.specs.Limits.{most_processes};
 ghost use Rattle.pota_names.specs.Names.{is_name};
 
 use cut_lattice::Cut;
@@ -11,7 +12,7 @@ use std::alloc::Global;
 
 /// The cut that has these counts.
 pub fn cut_of(alloc: Global, counts: &[u32]) -> Result<Cut, NoMemory>
-    requires { length counts.now ≤ 32 }
+    requires { length counts.now ≤ most_processes }
     ensures { IfOk result (λ cut. cut ≡ counts.now) }
 {
     let mut cut = Cut::new(alloc, counts.len() as u32)?;

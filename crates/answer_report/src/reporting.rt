@@ -11,11 +11,11 @@ ghost use Rattle.answer_report.specs.Asking.{IsAskedOf};
 use crate::copies::{copy_names, copy_text, cut_of};
 use crate::shown_slice::slice_told;
 use crate::witnesses::witnesses_told;
+use call_options::Shown;
 use conjunctions::Answer;
 use part_pulls::Observed;
 use pota_base::{Bytes, NoMemory};
 use report::Report;
-use run_options::Shown;
 use std::alloc::Global;
 
 /// The report on what was observed, by the answer of the formula that has this text. It can be

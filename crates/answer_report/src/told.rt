@@ -25,8 +25,8 @@ fn read_names(names: &[Name])
     }
 }
 
-/// The witnesses that go with an answer: those of all parts of the first true disjunct, or where none
-/// is true that of the first false part of each.
+/// The witnesses that go with an answer: those of all parts of the first true disjunct, or where
+/// none is true that of the first false part of each.
 pub fn witnesses_of(
     alloc: Global,
     seen: &Observed,

@@ -29,9 +29,9 @@ fn witness_of(alloc: Global, order: &Order, part: &PartAnswer) -> Result<Witness
         return Ok(Witness::Nothing);
     };
     match operator {
-        Operator::Ef => explain(alloc, order, Explained::ExistsFinally, operand),
-        Operator::Ag => explain(alloc, order, Explained::AlwaysGlobally, operand),
-        Operator::Eg => explain(alloc, order, Explained::ExistsGlobally, operand),
+        Operator::Ef => explain(alloc, order, Explained::ForEf, operand),
+        Operator::Ag => explain(alloc, order, Explained::ForAg, operand),
+        Operator::Eg => explain(alloc, order, Explained::ForEg, operand),
         Operator::Ex(process) => explain(alloc, order, Explained::ExistsNext(process), operand),
         Operator::Af | Operator::Ax => Ok(Witness::Nothing),
     }

@@ -19,8 +19,8 @@ pub enum Fault {
     Unknown(UnknownName),
     /// A question over processes has no answer on the log.
     Over(NumberedStop),
-    /// The log is faulty, or a counter of a question falls in it; and the text of the log's line, as
-    /// far as it is shown.
+    /// The log is faulty, or a counter of a question falls in it; and the text of the log's line,
+    /// as far as it is shown.
     Refused(Refusal, Bytes),
     /// The input could not be read.
     Read,

@@ -1,10 +1,11 @@
 //! What is told of a fault.
-ghost use Rattle.ask_faults.specs.Faults.{is_long, lines_of, long_lines, question_texts, short_line};
-ghost use Rattle.ask_faults.specs.Faults.{text_at};
+ghost use Rattle.ask_faults.specs.Faults.{is_long, lines_of, long_lines, question_texts};
+ghost use Rattle.ask_faults.specs.Faults.{short_line, text_at};
 ghost use Rattle.ask_faults.specs.Lines as lines;
 ghost use Rattle.ask_faults.specs.Telling.{IsToldAs};
 ghost use Rattle.fault_line.specs.Lines.{Told};
 ghost use Rattle.std.specs.Prelude.{◌≡◌, ◌++◌, true, map, string_bytes, IfOk, OnOk};
+ghost use Rattle.pota_base.specs.Changes.{of_sink};
 
 use crate::fault::Fault;
 use crate::help::{TOO_MANY, stop_help};
@@ -96,8 +97,7 @@ fn long_lines(alloc: Global, words: &[String], fault: &Fault) -> Result<Bytes, N
 
 // Writes the text, as far as that succeeds.
 fn put<D: Sink>(diag: &mut D, text: &[u8])
-    ensures { Told (D.held diag.old) (D.held diag.new) (D.faults diag.old) (D.faults diag.new)
-        text.now }
+    ensures { Told (of_sink D.Sink diag.old diag.new) text.now }
 {
     let _ = write_all(diag, text);
 }
@@ -106,7 +106,7 @@ fn put<D: Sink>(diag: &mut D, text: &[u8])
 // told of.
 fn tell_long<D: Sink>(alloc: Global, diag: &mut D, words: &[String], fault: Fault) -> Fault
     requires { is_long fault ≡ true }
-    ensures told { Told (D.held diag.old) (D.held diag.new) (D.faults diag.old) (D.faults diag.new)
+    ensures told { Told (of_sink D.Sink diag.old diag.new)
         (lines_of (map string_bytes words.now) result) }
     ensures same { IsToldAs fault result }
 {
@@ -136,7 +136,7 @@ fn is_long(fault: &Fault) -> bool
 /// Tells `diag` of a fault, and says which one it told of: another only where the lines of this one
 /// take memory that isn't there. Whether that succeeds changes nothing else.
 pub fn tell<D: Sink>(alloc: Global, diag: &mut D, words: &[String], fault: Fault) -> Fault
-    ensures told { Told (D.held diag.old) (D.held diag.new) (D.faults diag.old) (D.faults diag.new)
+    ensures told { Told (of_sink D.Sink diag.old diag.new)
         (lines_of (map string_bytes words.now) result) }
     ensures same { IsToldAs fault result }
 {

@@ -4,6 +4,7 @@ use Rattle.std.specs.Prelude.{nat_le, if◌then◌else◌}
 use Rattle.std.proofs.lemmas.Bool.{cases_Bool, and_parts, leb-true}
 use Rattle.std.proofs.lemmas.Option.{none-some, same_Some}
 use Rattle.pota_base.specs.Number.{◌>>=◌}
+use Rattle.pota_base.specs.Limits.{most_questions}
 use Rattle.ask_words.specs.Asking.{are_no_options, are_questions, asked_by, asked_from, asked_with, is_of_options, options_at_first, steps_of, with_option}
 use Rattle.ask_words.specs.declared.asking.Asked.{Asked}
 use Rattle.ask_words.specs.declared.asking.Options.{Options}
@@ -28,18 +29,18 @@ unfolding asked_from
 first_word options at word words = refl
 
 -- the questions are these words, and few
-few_with : (options : Options) (at : ℕ) (words : List (List ℕ)) (asked : Asked) → asked_with options at words ≡ Some asked → (at ≡ asked.questions_from) × (length words ≤ 64)
+few_with : (options : Options) (at : ℕ) (words : List (List ℕ)) (asked : Asked) → asked_with options at words ≡ Some asked → (at ≡ asked.questions_from) × (length words ≤ most_questions)
 few_with options at words asked h =
     let these : Bool → Option Asked = λ b. if b then Some (record { form = options.form; steps = steps_of options.steps; questions_from = at }) else None in
     elim (cases_Bool (are_questions words)) [
       | inl are ↦
           let same = same_Some (record { form = options.form; steps = steps_of options.steps; questions_from = at }) asked (sym (ap these are) ∙ h) in
-          (ap (λ (a : Asked). a.questions_from) same, leb-true (length words) 64 (and_parts (are_no_options words) (nat_le (length words) 64) are).1)
+          (ap (λ (a : Asked). a.questions_from) same, leb-true (length words) most_questions (and_parts (are_no_options words) (nat_le (length words) most_questions) are).1)
       | inr lacks ↦ absurd (none-some asked (sym (ap these lacks) ∙ h))
     ]
 
 module _ (all : List (List ℕ)) (asked : Asked) where
-  few_from : (options : Options) (at : ℕ) (words : List (List ℕ)) → drop at all ≡ words → asked_from options at words ≡ Some asked → length (drop asked.questions_from all) ≤ 64
+  few_from : (options : Options) (at : ℕ) (words : List (List ℕ)) → drop at all ≡ words → asked_from options at words ≡ Some asked → length (drop asked.questions_from all) ≤ most_questions
   few_from options at [] is h = absurd (no_words options at asked h)
   few_from options at (word ∷ words) is h =
       let next_words : Options → Option Asked = λ next. asked_from next (at + 1) words in
@@ -50,8 +51,8 @@ module _ (all : List (List ℕ)) (asked : Asked) where
             few_from some.0 (at + 1) words (ap (λ (k : ℕ). drop k all) (add-one at) ∙ drop_next at all word words is) some.1
         | inr last ↦
             let few = few_with options at (word ∷ words) asked (sym (ap go_on last) ∙ sym (first_word options at word words) ∙ h) in
-            subst (λ (k : ℕ). length (drop k all) ≤ 64) few.0 (subst (λ (l : List (List ℕ)). length l ≤ 64) (sym is) few.1)
+            subst (λ (k : ℕ). length (drop k all) ≤ most_questions) few.0 (subst (λ (l : List (List ℕ)). length l ≤ most_questions) (sym is) few.1)
       ]
 
-pub few_questions : (words : List (List ℕ)) (asked : Asked) → asked_by words ≡ Some asked → length (drop asked.questions_from words) ≤ 64
+pub few_questions : (words : List (List ℕ)) (asked : Asked) → asked_by words ≡ Some asked → length (drop asked.questions_from words) ≤ most_questions
 few_questions words asked h = few_from words asked options_at_first 0 words refl h

@@ -10,6 +10,8 @@ use Rattle.question_meaning.specs.Asking.{question}
 use Rattle.question_meaning.specs.Question as questions
 use Rattle.question_meaning.specs.Question.{Holds}
 use Rattle.question_meaning.specs.declared.form.Form.{Form}
+use Rattle.pota_base.specs.Limits.{most_questions}
+use Rattle.pota_base.specs.Changes.{behind_of}
 use Rattle.event_log.specs.declared.log.Header.{Header}
 use Rattle.rctl_grammar.specs.Shape.{meaning}
 use Rattle.rctl_class.specs.Nodes.{node_of}
@@ -54,7 +56,7 @@ one_over : {t u : Over} {o : Result (Option Over) OverFault} → o ≡ Ok (Some 
 one_over a b = cc
 
 answer_is : (watches : Reading) (left : Option (List ℕ)) (lf lf' of of' : ℕ) (words : List (List ℕ)) (read written : List ℕ) (a : Answer) → IsGiven a
-    → Says a watches left lf lf' of of' words read written → (holds : Bool) × IsAnswer watches left words holds read written
+    → Says a watches (behind_of left lf lf' of of') words read written → (holds : Bool) × IsAnswer watches left words holds read written
 answer_is watches left lf lf' of of' words read written answer.Holds given says = (true, says)
 answer_is watches left lf lf' of of' words read written answer.Fails given says = (false, says)
 answer_is watches left lf lf' of of' words read written (answer.Without f) given says = absurd given
@@ -108,7 +110,7 @@ module _ (watches : Reading) (left : Option (List ℕ)) (words : List (List ℕ)
 
   all_seen : seen_lines text ≡ version ∷ plan (length vs) ∷ lines_of 1 vs
   all_seen =
-      let few : length vs ≤ 64 = omega (arith, as_many, few_questions words a.asked a.asks) in
+      let few : length vs ≤ most_questions = omega (arith, as_many, few_questions words a.asked a.asks) in
       ap seen_lines a.document.text_is ∙ seen (states_of a.log) a.asked.steps vs few (are_lines T told_free qs vs each_told)
 
   has_lines : HasLines text (questions_of words)

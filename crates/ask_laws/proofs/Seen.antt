@@ -3,6 +3,7 @@ use Rattle.std.proofs.Common.{◌≡◌, ℕ, suc, ◌+◌, ◌≤◌, ◌<◌, 
 use Rattle.std.specs.Prelude.{◌⊎◌, ◌==◌, Some, codes, slice_get, if◌then◌else◌}
 use Rattle.std.specs.List.{AllByRecursion, AllZip}
 use Rattle.std.specs.Fmt.{decimal}
+use Rattle.pota_base.specs.Limits.{most_questions}
 use Rattle.event_log.specs.States.{StatesView}
 use Rattle.question_lines.specs.Lines.{IsOneLine}
 use Rattle.ask_text.specs.Documents.{EntryView, document, one, over, result_lines, text_of}
@@ -80,7 +81,7 @@ head n rest fits =
     line_first [] version ((plan n ++ 10 ∷ []) ++ rest) (free (codes "TAP version 14") refl)
     ∙ ap (λ (ls : List (List ℕ)). version ∷ ls) (line_first [] (plan n) rest (plan_free n fits))
 
-pub seen : (s : StatesView) (steps : ℕ) (vs : List EntryView) → length vs ≤ 64 → AreLines vs → seen_lines (document s steps vs) ≡ version ∷ plan (length vs) ∷ lines_of 1 vs
+pub seen : (s : StatesView) (steps : ℕ) (vs : List EntryView) → length vs ≤ most_questions → AreLines vs → seen_lines (document s steps vs) ≡ version ∷ plan (length vs) ∷ lines_of 1 vs
 seen s steps vs few all =
     let fits : length vs < 2 ^ 64 = omega arith in
     let more : 1 + length vs < 2 ^ 64 = omega arith in

@@ -7,6 +7,7 @@ use Rattle.run_model.specs.Consistent.{IsConsistent}
 use Rattle.run_model.specs.Formula.{Formula}
 use Rattle.run_model.specs.Meaning.{Sat}
 use Rattle.question_meaning.specs.Question.{EachPathMeets}
+use Rattle.pota_base.specs.Changes.{change_of}
 use Rattle.rctl_grammar.specs.declared.tree.Tree.{Tree}
 use Rattle.rctl_grammar.specs.Shape.{meaning}
 use Rattle.question_text.specs.declared.front.Asking.{Asking}
@@ -59,8 +60,9 @@ pub record HasWritten (watches : Reading) (words : List (List ℕ)) (read docume
   pub write_faults_after : ℕ
   pub answer : Answer
   pub given : IsGiven answer
-  pub said : HasAnswered watches left_before left_after held_before held_after read_faults_before
-      read_faults_after write_faults_before write_faults_after words answer
+  pub said : HasAnswered watches
+      (change_of left_before left_after read_faults_before read_faults_after) (change_of held_before
+      held_after write_faults_before write_faults_after) words answer
   pub read_is : said.read ≡ read
   pub document_is : said.written ≡ document
 

@@ -10,9 +10,9 @@
 //! sees the version, the plan and one result for each question, in order, with its number and its
 //! text, and nothing else (`each_question_has_its_line`).
 //!
-//! These are of questions that are asked of the log. The line of a question over processes says `ok`
-//! exactly where the question with the names of processes in it holds for each two different ones, or
-//! each one, of which the log has all names that it then has
+//! These are of questions that are asked of the log. The line of a question over processes says
+//! `ok` exactly where the question with the names of processes in it holds for each two different
+//! ones, or each one, of which the log has all names that it then has
 //! (`over_holds_where_it_holds_for_each`).
 //!
 //! Not said: that a call is answered, and what stands below the line of a question: `ask_top` and
@@ -60,8 +60,8 @@ pub fn plain_holds_where_the_initial_cut_satisfies()
 {}
 
 /// The line of `for P Q: ..` says `ok` exactly where the question, with the names of two different
-/// processes for P and Q, holds of the log's run for each two of which the log has all names that the
-/// question then has; that of `for P: ..` where it does for each one.
+/// processes for P and Q, holds of the log's run for each two of which the log has all names that
+/// the question then has; that of `for P: ..` where it does for each one.
 pub fn over_holds_where_it_holds_for_each()
     ensures { OverHoldsWhereItHoldsForEach }
 {}

@@ -9,6 +9,7 @@ use Rattle.asked_list.specs.declared.list.TooMany.{TooMany}
 use Rattle.asked_list.proofs.Ranges.{added, kept}
 use Rattle.pota_base.specs.declared.fault.Refused.{Refused}
 use Rattle.pota_base.specs.declared.fault.Refused.TheVariants as refused
+use Rattle.pota_base.specs.Limits.{most_questions}
 use Rattle.question_forms.specs.declared.question.Question.{Question}
 use Rattle.question_instances.specs.declared.over.Over.{Over}
 use Rattle.over_questions.specs.Entries.{IsEntryFault, IsEntryOf, RefusesEntry}
@@ -71,7 +72,7 @@ module _ {S : Type 0} (f : S → List ℕ) (items : List S) (i : ℕ) (es : List
 pub all_read : {S : Type 0} (f : S → List ℕ) (items : List S) (i : ℕ) (es : List Entry) → AreRead (map f (take i items)) es → length items ≤ i → AreRead (map f items) es
 all_read f items i es are past = subst (λ (xs : List _). AreRead (map f xs) es) (take_all i items past) are
 
-pub few : {S : Type 0} (f : S → List ℕ) (items : List S) (es : List Entry) → AreRead (map f items) es → length items ≤ 64 → length es ≤ 64
+pub few : {S : Type 0} (f : S → List ℕ) (items : List S) (es : List Entry) → AreRead (map f items) es → length items ≤ most_questions → length es ≤ most_questions
 few f items es are within = omega (arith, paired-length IsEntryOf (map f items) es are, length-map items f)
 
 each_of : (list : AskedList) (texts : List (List ℕ)) (es : List Entry) (os : List (Option Over)) (ones : List Listed) → AreRead texts es → AreKinds list es os ones → AreEach list texts os ones

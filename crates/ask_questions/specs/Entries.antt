@@ -1,5 +1,5 @@
--- Questions of both kinds: those that are asked of the log in one list, and the names that stand for
--- processes of the others; and the first fault of texts that have none.
+-- Questions of both kinds: those that are asked of the log in one list, and the names that stand
+-- for processes of the others; and the first fault of texts that have none.
 use Rattle.std.specs.Prelude.{◌≡◌, ℕ, ◌≤◌, ◌⊎◌, ⊤, true, List, [], ◌∷◌, length, Option, None, Some}
 use Rattle.std.specs.Prelude.{Ok}
 use Rattle.asked_list.specs.Lists.{HasRoom, IsAskedList, disjuncts_in}

@@ -7,6 +7,7 @@ ghost use Rattle.asked_list.specs.Lists.{IsAskedList};
 ghost use Rattle.over_questions.specs.declared.entry.Entry.{Entry as EntryIs};
 ghost use Rattle.std.specs.Prelude.{◌≡◌, ◌≤◌, ◌<◌, ◌++◌, ◌∷◌, [], length, map, string_bytes};
 ghost use Rattle.std.specs.Prelude.{IfErr, IfOk, List as ListOf};
+ghost use Rattle.pota_base.specs.Limits.{most_questions};
 
 use crate::observable::observable;
 use asked_list::{AskedList, TooMany};
@@ -42,7 +43,7 @@ pub struct NumberedFault {
 
 // Why the question at this index is not read.
 fn refused(index: usize, stop: Refused<EntryFault>) -> Refused<NumberedFault>
-    requires { index < 64 }
+    requires { index < most_questions }
     ensures { result ≡ numbered_fault index stop }
 {
     match stop {
@@ -56,7 +57,7 @@ fn refused(index: usize, stop: Refused<EntryFault>) -> Refused<NumberedFault>
 
 // Reads each text.
 fn read_all(alloc: Global, texts: &[String]) -> Result<List<Entry>, Refused<NumberedFault>>
-    requires { length texts.now ≤ 64 }
+    requires { length texts.now ≤ most_questions }
     ensures read { IfOk result (AreRead (map string_bytes texts.now)) }
     ensures fault { IfErr result
         (λ stop. Refuses stop (IsFirstFault (map string_bytes texts.now))) }
@@ -84,8 +85,8 @@ fn too_many(question: u32, stop: Refused<TooMany>) -> Refused<NumberedFault>
     }
 }
 
-// The list with the question, if it is asked of the log, and the names that stand for processes behind
-// the others. `Fault` is where there is no room for it.
+// The list with the question, if it is asked of the log, and the names that stand for processes
+// behind the others. `Fault` is where there is no room for it.
 #[tactic(auto, using(crate::proofs::Texts::over_added))]
 fn add_entry(
     list: AskedList,
@@ -122,7 +123,7 @@ fn add_entry(
 
 // The list of these questions. `Fault` is the first one for which there is no room.
 fn list_all(alloc: Global, entries: List<Entry>) -> Result<AskedQuestions, Refused<NumberedFault>>
-    requires few { length entries ≤ 64 }
+    requires few { length entries ≤ most_questions }
     requires sized { AreSized entries }
     ensures added { IfOk result (AreAdded entries) }
     ensures fault { IfErr result (λ stop. Refuses stop (IsTooMany entries)) }
@@ -140,13 +141,14 @@ fn list_all(alloc: Global, entries: List<Entry>) -> Result<AskedQuestions, Refus
     Ok(AskedQuestions { list, overs })
 }
 
-/// Reads at most 64 questions of both kinds, for which a log can be observed. `Fault` is the first one:
-/// that of the first text that is no question, or else the first question for which there is no room.
+/// Reads at most 64 questions of both kinds, for which a log can be observed. `Fault` is the first
+/// one: that of the first text that is no question, or else the first question for which there is
+/// no room.
 pub fn read_questions(
     alloc: Global,
     texts: &[String],
 ) -> Result<AskedQuestions, Refused<NumberedFault>>
-    requires { length texts.now ≤ 64 }
+    requires { length texts.now ≤ most_questions }
     ensures asked { IfOk result (CanBeObserved (map string_bytes texts.now)) }
     ensures fault { IfErr result
         (λ stop. Refuses stop (IsFirstFault (map string_bytes texts.now))) }

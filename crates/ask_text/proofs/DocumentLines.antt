@@ -4,6 +4,7 @@ use Rattle.std.specs.Prelude.{Option, None, Some, codes, ◌==◌, if◌then◌e
 use Rattle.std.specs.List.{AllByRecursion}
 use Rattle.std.specs.Fmt.{decimal}
 use Rattle.question_meaning.specs.declared.form.Form.{Form}
+use Rattle.pota_base.specs.Limits.{most_questions}
 use Rattle.event_log.specs.States.{StatesView}
 use Rattle.rctl_grammar.specs.declared.token.Token.{Token}
 use Rattle.rctl_class.specs.NamedParts.{NamedPiece}
@@ -128,7 +129,7 @@ all_kept s steps number (e ∷ es) fits h =
     let more : (number + 1) + length es < 2 ^ 64 = omega arith in
     entry_kept s steps number e (all_rows s steps (number + 1) es) first h.0 ∙ ap (λ x. entry_line number e ++ x) (all_kept s steps (number + 1) es more h.1)
 
-pub lines_of_document : (s : StatesView) (steps : ℕ) (es : List EntryView) → length es ≤ 64 → AllByRecursion (λ (e : EntryView). IsOneLine (text_of e)) es
+pub lines_of_document : (s : StatesView) (steps : ℕ) (es : List EntryView) → length es ≤ most_questions → AllByRecursion (λ (e : EntryView). IsOneLine (text_of e)) es
     → outer_lines (document s steps es) ≡ head_lines (length es) ++ result_lines 1 es
 lines_of_document s steps es few h =
     let fits : length es < 2 ^ 64 = omega arith in

@@ -16,8 +16,8 @@ use Rattle.ask_text.specs.Text.{line_of, nowhere_lines, view_of}
 -- ---- questions over processes
 
 -- a question over processes as it was asked, of how many instances it was asked, how many of these
--- fail, in how many some part holds nowhere, and the instance that is shown, with the processes that
--- its names stand for
+-- fail, in how many some part holds nowhere, and the instance that is shown, with the processes
+-- that its names stand for
 pub record OverView : Type 0 where
   pub text : List ℕ
   pub asked : ℕ

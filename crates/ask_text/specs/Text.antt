@@ -1,7 +1,7 @@
 -- What is written of questions that were asked of a run: a document of the Test Anything Protocol,
--- version 14, with a test for each question. Below a question that doesn't hold stands what was found
--- against it, as a block in YAML, and below an answer that says nothing of the run a comment on each
--- part that holds nowhere.
+-- version 14, with a test for each question. Below a question that doesn't hold stands what was
+-- found against it, as a block in YAML, and below an answer that says nothing of the run a comment
+-- on each part that holds nowhere.
 use Rattle.std.specs.Prelude.{ℕ, ◌-◌, ◌≤◌, ◌==◌, Bool, true, false, List, [], ◌∷◌, ◌++◌}
 use Rattle.std.specs.Prelude.{length, drop, map, codes, Option, None, Some, slice_get}
 use Rattle.std.specs.Prelude.{slice_index_or, if◌then◌else◌}
@@ -10,6 +10,7 @@ use Rattle.std.specs.Fmt.{decimal}
 use Rattle.run_model.specs.Cut.{Cut, count}
 use Rattle.question_meaning.specs.declared.form.Form.{Form}
 use Rattle.question_meaning.specs.declared.form.Form.TheVariants as form
+use Rattle.pota_base.specs.Limits.{longest_lexed}
 use Rattle.event_log.specs.States.{StatesView}
 use Rattle.rctl_grammar.specs.declared.token.Token.{Token}
 use Rattle.rctl_lexer.specs.Lexing.{lex}
@@ -61,7 +62,7 @@ IsOfRun lengths w = WitnessFits lengths w.witness
 
 -- a question of at most so many bytes, whose witnesses are of events and cuts of the run
 pub record IsOnRun (s : StatesView) (q : QuestionView) : Type 0 where
-  pub short : length q.text ≤ 65536
+  pub short : length q.text ≤ longest_lexed
   pub fits : AllByRecursion (IsOfRun (map length s.events)) q.outcome.witnesses
 
 -- ---- its line
@@ -145,7 +146,8 @@ abbrev pub block : (front : List ℕ) → StatesView → List Token → Extent �
 block front s tokens e form w path =
     front
     ++ folded 0
-    (found_rows s form w path ++ codes "\nlast: |\n" ++ indented (last_head ++ last_rows s tokens e path))
+    (found_rows s form w path ++ codes "\nlast: |\n" ++ indented
+    (last_head ++ last_rows s tokens e path))
     ++ block_end
 
 -- the block of a path, where there is one

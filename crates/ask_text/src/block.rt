@@ -1,12 +1,11 @@
 //! What was found against a question.
 ghost use Rattle.ask_text.specs.Indented.{indented};
-ghost use Rattle.ask_text.specs.Text.{IsOfRun, at_text, block, evidence, found_rows, found_words, last_head};
-ghost use Rattle.ask_text.specs.Text.{last_rows};
-ghost use Rattle.ask_text.specs.Text.{operand_words, path_of};
+ghost use Rattle.ask_text.specs.Text.{IsOfRun, at_text, block, evidence, found_rows, found_words};
+ghost use Rattle.ask_text.specs.Text.{last_head, last_rows, operand_words, path_of};
 ghost use Rattle.report_lines.specs.Spelling.{CutFits, PathFits};
 ghost use Rattle.std.specs.List.{AllByRecursion};
-ghost use Rattle.std.specs.Prelude.{◌≡◌, ◌++◌, ◌<◌, [], if◌then◌else◌, ◌==◌, codes, length, map, OnOk};
-ghost use Rattle.std.specs.Prelude.{IfOk, option_copied};
+ghost use Rattle.std.specs.Prelude.{◌≡◌, ◌++◌, ◌<◌, [], if◌then◌else◌, ◌==◌, codes, length, map};
+ghost use Rattle.std.specs.Prelude.{OnOk, IfOk, option_copied};
 ghost use Rattle.view_parts.specs.Parts.{place, place_text};
 
 use crate::indented::put_indented;
@@ -119,7 +118,8 @@ fn put_found(
     put_u64(out, path.steps.len() as u64)
 }
 
-// What stands before the last steps, the steps of a path that are shown, and the values at its goal.
+// What stands before the last steps, the steps of a path that are shown, and the values at its
+// goal.
 fn last_rows(told: &Told<'_>, path: &Path) -> Result<Bytes, NoMemory>
     requires { PathFits (map length told.now.states.now.events) path.now }
     ensures { IfOk result (λ rows. rows ≡ last_head ++ last_rows told.now.states.now

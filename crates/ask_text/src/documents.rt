@@ -3,6 +3,7 @@ ghost use Rattle.ask_text.specs.Text.{IsOnRun, below, head_lines, line_of, quest
 ghost use Rattle.ask_text.specs.Text.{result_word, view_of};
 ghost use Rattle.rctl_lexer.specs.Lexing.{lex};
 ghost use Rattle.std.specs.Prelude.{◌≡◌, ◌++◌, ◌≤◌, length, drop, IfOk, OnOk};
+ghost use Rattle.pota_base.specs.Limits.{longest_lexed};
 
 use crate::block::{BLOCK_FRONT, put_evidence};
 use crate::indented::put_indented;
@@ -42,7 +43,7 @@ pub fn put_line(out: &mut Bytes, number: u64, holds: bool, text: &[u8]) -> Resul
 
 /// The tokens of a question's formula, which begins at this byte.
 pub fn lexed(alloc: Global, text: &[u8], formula: u32) -> Result<Lexed, NoMemory>
-    requires { length text.now ≤ 65536 }
+    requires { length text.now ≤ longest_lexed }
     ensures { IfOk result (λ lexed. lexed ≡ lex (drop formula text.now)) }
 {
     let from = text.len().min(formula as usize);

@@ -1,7 +1,7 @@
 //! What is written of a question that was asked of processes.
-ghost use Rattle.ask_text.specs.OverText.{asked_line, fails_text, kinds_text, naming_text, over_below};
-ghost use Rattle.ask_text.specs.OverText.{over_block, over_front, over_nowhere, over_of, over_rows};
-ghost use Rattle.ask_text.specs.OverText.{second_of, second_text};
+ghost use Rattle.ask_text.specs.OverText.{asked_line, fails_text, kinds_text, naming_text};
+ghost use Rattle.ask_text.specs.OverText.{over_below, over_block, over_front, over_nowhere};
+ghost use Rattle.ask_text.specs.OverText.{over_of, over_rows, second_of, second_text};
 ghost use Rattle.ask_text.specs.Text.{IsOnRun, view_of};
 ghost use Rattle.question_instances.specs.Instances.{renaming_of};
 ghost use Rattle.std.specs.Prelude.{◌≡◌, ◌++◌, IfOk, OnOk};

@@ -6,8 +6,8 @@ use Rattle.std.specs.Io.KnownBytes.{Consumes, IsAtEnd}
 use Rattle.std.proofs.KnownBytes.{Appends-nil}
 use Rattle.event_log.specs.declared.log.Log.{Log}
 use Rattle.fault_kinds.specs.declared.refusal.Refusal.{Refusal}
-use Rattle.input_reading.specs.Changes.{Change}
-use Rattle.input_reading.specs.Intakes.{HasReadSome}
+use Rattle.pota_base.specs.Changes.{Change, behind_of, change_of}
+use Rattle.input_reading.specs.Intakes.{ReadsShort}
 use Rattle.log_rules.specs.WholeLogs.{all_of}
 use Rattle.log_input.specs.Inputs.{HasStood}
 use Rattle.log_input.specs.Readings.{log_due}
@@ -44,14 +44,14 @@ rest_is k xs = take_all (length xs - k) (drop k xs) (omega (arith, length-drop k
 module _ (watches : Reading) (words : List (List ℕ)) (asked : Asked) (asks : asked_by words ≡ Some asked) (questions : AskedQuestions) (texts : List (List ℕ)) (texts_are : texts ≡ drop asked.questions_from words) (can : CanBeObserved texts questions)
     (s : Change) (held : Option (List ℕ)) (of : ℕ) where
   abbrev Answered : (held' : Option (List ℕ)) → (of' : ℕ) → Answer → Type 0
-  Answered held' of' a = HasAnswered watches s.before s.after held held' s.faults_before s.faults_after of of' words a
+  Answered held' of' a = HasAnswered watches s (change_of held held' of of') words a
 
   asking : (P : Asked → AskedQuestions → Type 0) → P asked questions → HasAsked words P
   asking P holds =
       record { asked = asked; asks = asks; questions = questions; read = subst (λ (ts : List (List ℕ)). CanBeObserved ts questions) texts_are can; holds = holds }
 
   -- nothing was written
-  unwritten : (read : List ℕ) → Consumes s.before s.after read → (a : Answer) → Says a watches s.after s.faults_before s.faults_after of of words read [] → Answered held of a
+  unwritten : (read : List ℕ) → Consumes s.before s.after read → (a : Answer) → Says a watches (behind_of s.after s.faults_before s.faults_after of of) words read [] → Answered held of a
   unwritten read consumed a says = record { read = read; written = []; consumed = consumed; wrote = Appends-nil held; says = says }
 
   module _ (log : Log) (places : Places) (stood : HasStood asked.form s (Whole log places)) where
@@ -68,7 +68,7 @@ module _ (watches : Reading) (words : List (List ℕ)) (asked : Asked) (asks : a
     told_as : (holds other : Bool) (text : List ℕ) → holds ≡ other → IsDocument watches asked.steps texts (all_of log) holds text → IsDocument watches asked.steps texts (all_of log) other text
     told_as holds other text is told = subst (λ (b : Bool). IsDocument watches asked.steps texts (all_of log) b text) is told
 
-    failed_to : (holds : Bool) (text : List ℕ) (held' : Option (List ℕ)) (of' : ℕ) (f : Fault) → IsDocument watches asked.steps texts (all_of log) holds text → Fails text held held' of of' f → Answered held' of' (answer.Without f)
+    failed_to : (holds : Bool) (text : List ℕ) (held' : Option (List ℕ)) (of' : ℕ) (f : Fault) → IsDocument watches asked.steps texts (all_of log) holds text → Fails text (change_of held held' of of') f → Answered held' of' (answer.Without f)
     failed_to holds text held' of' fault.Usage told puts = absurd puts
     failed_to holds text held' of' (fault.Question f) told puts = absurd puts
     failed_to holds text held' of' (fault.Unknown u) told puts = absurd puts
@@ -84,7 +84,7 @@ module _ (watches : Reading) (words : List (List ℕ)) (asked : Asked) (asks : a
     }
     failed_to holds text held' of' fault.Memory told puts = absurd puts
 
-    pub put_so : (holds : Bool) (text : List ℕ) (held' : Option (List ℕ)) (of' : ℕ) (a : Answer) → IsDocument watches asked.steps texts (all_of log) holds text → Puts text holds held held' of of' a → Answered held' of' a
+    pub put_so : (holds : Bool) (text : List ℕ) (held' : Option (List ℕ)) (of' : ℕ) (a : Answer) → IsDocument watches asked.steps texts (all_of log) holds text → Puts text holds (change_of held held' of of') a → Answered held' of' a
     put_so holds text held' of' answer.Holds told puts =
         record { read = stood.read; written = text; consumed = stood.consumed; wrote = puts.1; says = is_answer true text (told_as holds true text puts.0 told) }
     put_so holds text held' of' answer.Fails told puts =
@@ -126,7 +126,7 @@ module _ (watches : Reading) (words : List (List ℕ)) (asked : Asked) (asks : a
     calm_stopped f (inl is) = subst (λ (x : Fault). IsCalm s.faults_before s.faults_after (answer.Without x)) (sym is.is) (calm_by is.stop)
     calm_stopped f (inr is) = subst (λ (x : Fault). IsCalm s.faults_before s.faults_after (answer.Without x)) (sym is.is) stood.to.1
 
-    pub calm_put : (holds : Bool) (text : List ℕ) (held' : Option (List ℕ)) (of' : ℕ) (a : Answer) → Puts text holds held held' of of' a → IsCalm s.faults_before s.faults_after a
+    pub calm_put : (holds : Bool) (text : List ℕ) (held' : Option (List ℕ)) (of' : ℕ) (a : Answer) → Puts text holds (change_of held held' of of') a → IsCalm s.faults_before s.faults_after a
     calm_put holds text held' of' answer.Holds puts = stood.to.1
     calm_put holds text held' of' answer.Fails puts = stood.to.1
     calm_put holds text held' of' (answer.Without fault.Usage) puts = stood.to.1
@@ -150,5 +150,5 @@ module _ (watches : Reading) (words : List (List ℕ)) (asked : Asked) (asks : a
   unread stood =
       unwritten stood.read stood.consumed (answer.Without fault.Read) (refl, stood.to.1, asking (λ a l. (log_due a.form false stood.read).fault ≡ None) stood.to.0)
 
-  pub wanting : HasReadSome s → Answered held of (answer.Without fault.Memory)
+  pub wanting : ReadsShort s → Answered held of (answer.Without fault.Memory)
   wanting some = unwritten some.read some.consumed (answer.Without fault.Memory) refl

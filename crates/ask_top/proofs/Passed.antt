@@ -2,6 +2,7 @@
 use Rattle.std.proofs.Common.{◌≡◌, ℕ, true, inl, inr, Option, Some, List, [], drop, refl, sym, subst}
 use Rattle.std.proofs.lemmas.Bool.{false≢true}
 use Rattle.std.proofs.KnownBytes.{Appends-nil, Consumes-nil}
+use Rattle.pota_base.specs.Changes.{change_of}
 use Rattle.part_pulls.specs.Observing.{Reading}
 use Rattle.ask_questions.specs.Entries.{IsFirstFault}
 use Rattle.ask_questions.specs.declared.reading.NumberedFault.{NumberedFault}
@@ -19,7 +20,7 @@ use Rattle.ask_top.specs.inside.Telling.{IsAnswerTold}
 
 -- a question has a fault, and nothing is read
 pub faulty : (watches : Reading) (words : List (List ℕ)) (asked : Asked) → asked_by words ≡ Some asked → (texts : List (List ℕ)) → texts ≡ drop asked.questions_from words → (f : NumberedFault) → IsFirstFault texts f
-    → (left held : Option (List ℕ)) (lf of : ℕ) → HasAnswered watches left left held held lf lf of of words (answer.Without (fault.Question f))
+    → (left held : Option (List ℕ)) (lf of : ℕ) → HasAnswered watches (change_of left left lf lf) (change_of held held of of) words (answer.Without (fault.Question f))
 faulty watches words asked asks texts texts_are f is left held lf of = record {
   read = [];
   written = [];
@@ -30,7 +31,7 @@ faulty watches words asked asks texts texts_are f is left held lf of = record {
 
 module _ (watches : Reading) (left left' held held' : Option (List ℕ)) (lf lf' of of' : ℕ) (words : List (List ℕ)) where
   abbrev Answered : Answer → Type 0
-  Answered a = HasAnswered watches left left' held held' lf lf' of of' words a
+  Answered a = HasAnswered watches (change_of left left' lf lf') (change_of held held' of of') words a
 
   as_memory : (f : Fault) → is_long f ≡ true → Answered (answer.Without f) → Answered (answer.Without fault.Memory)
   as_memory fault.Usage long h = absurd (false≢true long)

@@ -13,6 +13,7 @@ use Rattle.event_log.specs.declared.log.Log.{Log}
 use Rattle.question_meaning.specs.Asking.{AreFor, asked_formula, question}
 use Rattle.question_meaning.specs.Question.{Holds}
 use Rattle.question_meaning.specs.declared.form.Form.{Form}
+use Rattle.pota_base.specs.Limits.{longest_lexed, longest_question}
 use Rattle.question_text.specs.declared.head.Head.{Head}
 use Rattle.question_forms.specs.Questions.{IsQuestion}
 use Rattle.question_forms.specs.declared.question.Question.{Question}
@@ -58,13 +59,13 @@ use Rattle.ask_top.specs.Documents.{IsDocument, IsEntryTold, IsTold, names_on, r
 use Rattle.ask_top.proofs.Fits.{outcome_fits}
 
 -- a question has few bytes
-few_bytes : (n : ℕ) (b : Bool) → nat_lt 8192 n ≡ b → (f : HeadFault) (other : Result Head HeadFault) (head : Head) → (if b then Err f else other) ≡ Ok head → n ≤ 65536
+few_bytes : (n : ℕ) (b : Bool) → nat_lt longest_question n ≡ b → (f : HeadFault) (other : Result Head HeadFault) (head : Head) → (if b then Err f else other) ≡ Ok head → n ≤ longest_lexed
 few_bytes n true is f other head e = absurd cc
 few_bytes n false is f other head e = grind (arith, is)
 
-short_so : (text : List ℕ) (q : Question) → IsReadAs text q → length text ≤ 65536
+short_so : (text : List ℕ) (q : Question) → IsReadAs text q → length text ≤ longest_lexed
 unfolding head_of
-short_so text q read = few_bytes (length text) (nat_lt 8192 (length text)) refl _ _ read.0 read.2.asking.of_text
+short_so text q read = few_bytes (length text) (nat_lt longest_question (length text)) refl _ _ read.0 read.2.asking.of_text
 
 module _ (list : AskedList) (watches : Reading) (log : Log) (growing : GrowingView) (observed : IsObservedList list watches.watch_names growing) (trace_is : growing.seen.trace ≡ trace_after (all_of log))
     (whole : IsTrace growing.seen.trace.states) (answers : AreAnswers growing.seen watches) where
@@ -210,7 +211,7 @@ module _ (list : AskedList) (watches : Reading) (log : Log) (growing : GrowingVi
   instance_on_run a is =
       let i = is.0 in
       let answered = is.1 in record {
-        short = subst (λ (text : List ℕ). length text ≤ 65536) (sym answered.text) (short_so i.text i.question is.2.read);
+        short = subst (λ (text : List ℕ). length text ≤ longest_lexed) (sym answered.text) (short_so i.text i.question is.2.read);
         fits =
             subst (λ (lens : Cut). AllByRecursion (IsOfRun lens) a.outcome.witnesses) lens_are
             (outcome_fits (run_by bare watches.watches) (names_of header []) i.question.form (numbered_in header [] (named.disjuncts_of i.question.classed.disjuncts)) a.outcome (answered.outcome watches.watches));

@@ -4,6 +4,7 @@ use Rattle.std.specs.Prelude.{Option, None, Some, if◌then◌else◌}
 use Rattle.std.specs.Io.KnownBytes.{Appends, Consumes, IsAtEnd}
 use Rattle.pota_base.specs.Outside.{Rose, IsPrefix}
 use Rattle.run_model.specs.Run.{Name}
+use Rattle.pota_base.specs.Changes.{Behind, Change, behind_both}
 use Rattle.event_log.specs.declared.item.LogFault.{LogFault}
 use Rattle.event_log.specs.declared.log.Header.{Header}
 use Rattle.event_log.specs.declared.log.Log.{Log}
@@ -116,44 +117,41 @@ pub record LacksAnswer (watches : Reading) (form : Form) (questions : List (List
 -- What an answer says of the bytes that were read and written, by what the source has left, the
 -- counts of faults before and after, and the words. Only a document is written, or where that
 -- failed its front. A read fault comes behind the faults of the bytes before it.
-abbrev pub Says : Answer → Reading → Option (List ℕ) → (lf lf' of of' : ℕ) → List (List ℕ)
-    → (read written : List ℕ) → Type 0
-Says answer.Holds watches left lf lf' of of' words read written =
-    IsAnswer watches left words true read written
-Says answer.Fails watches left lf lf' of of' words read written =
-    IsAnswer watches left words false read written
-Says (answer.Without fault.Usage) watches left lf lf' of of' words read written =
+abbrev pub Says : Answer → Reading → (behind : Behind) → List (List ℕ) → (read written : List ℕ)
+    → Type 0
+Says answer.Holds watches behind words read written =
+    IsAnswer watches behind.rest words true read written
+Says answer.Fails watches behind words read written =
+    IsAnswer watches behind.rest words false read written
+Says (answer.Without fault.Usage) watches behind words read written =
     (written ≡ []) × (read ≡ []) × (asked_by words ≡ None)
-Says (answer.Without (fault.Question f)) watches left lf lf' of of' words read written =
-    (written ≡ []) × (read ≡ [])
-    × (asked : Asked) × (asked_by words ≡ Some asked)
-    × IsFirstFault (drop asked.questions_from words) f
-Says (answer.Without (fault.Unknown u)) watches left lf lf' of of' words read written =
-    (written ≡ []) × IsAtEnd left
-    × HasAsked words (λ asked questions. LacksName watches asked.form questions read u)
-Says (answer.Without (fault.Over f)) watches left lf lf' of of' words read written =
-    (written ≡ []) × IsAtEnd left
-    × HasAsked words (λ asked questions. LacksAnswer watches asked.form
-    (drop asked.questions_from words) questions.list read f)
-Says (answer.Without (fault.Refused r line)) watches left lf lf' of of' words read written =
-    (written ≡ [])
-    × HasAsked words (λ asked questions. IsRefusedBy asked.form left read r line
-    ⊎ (IsAtEnd left × (line ≡ []) × FallsIn watches asked.form questions.list read r))
-Says (answer.Without fault.Read) watches left lf lf' of of' words read written =
-    (written ≡ []) × Rose lf lf'
-    × HasAsked words (λ asked questions. (log_due asked.form false read).fault ≡ None)
-Says (answer.Without fault.Write) watches left lf lf' of of' words read written =
-    (holds : Bool) × (text : List ℕ) × IsAnswer watches left words holds read text
-    × IsPrefix written text × Rose of of'
-Says (answer.Without fault.Memory) watches left lf lf' of of' words read written = written ≡ []
+Says (answer.Without (fault.Question f)) watches behind words read written =
+    (written ≡ []) × (read ≡ []) × (asked : Asked) × (asked_by words ≡ Some asked) × IsFirstFault
+    (drop asked.questions_from words) f
+Says (answer.Without (fault.Unknown u)) watches behind words read written =
+    (written ≡ []) × IsAtEnd behind.rest × HasAsked words
+    (λ asked questions. LacksName watches asked.form questions read u)
+Says (answer.Without (fault.Over f)) watches behind words read written =
+    (written ≡ []) × IsAtEnd behind.rest × HasAsked words (λ asked questions. LacksAnswer watches
+    asked.form (drop asked.questions_from words) questions.list read f)
+Says (answer.Without (fault.Refused r line)) watches behind words read written =
+    (written ≡ []) × HasAsked words (λ asked questions. IsRefusedBy asked.form behind.rest read r
+    line ⊎ (IsAtEnd behind.rest × (line ≡ []) × FallsIn watches asked.form questions.list read r))
+Says (answer.Without fault.Read) watches behind words read written =
+    (written ≡ []) × Rose behind.source.before behind.source.after × HasAsked words
+    (λ asked questions. (log_due asked.form false read).fault ≡ None)
+Says (answer.Without fault.Write) watches behind words read written =
+    (holds : Bool) × (text : List ℕ) × IsAnswer watches behind.rest words holds read text × IsPrefix
+    written text × Rose behind.sink.before behind.sink.after
+Says (answer.Without fault.Memory) watches behind words read written = written ≡ []
 
 -- By the watches that were handed in, the words, what the source has left, what the sink holds and
 -- their counts of faults, before and after: these bytes were read and written, and the answer says
 -- this of them.
-pub record HasAnswered (watches : Reading) (left left' held held' : Option (List ℕ))
-    (lf lf' of of' : ℕ) (words : List (List ℕ)) (a : Answer) : Type 0 where
+pub record HasAnswered (watches : Reading) (source sink : Change) (words : List (List ℕ))
+    (a : Answer) : Type 0 where
   pub read : List ℕ
   pub written : List ℕ
-  pub consumed : Consumes left left' read
-  pub wrote : Appends held held' written
-  pub says : Says a watches left' lf lf' of of' words read written
+  pub consumed : Consumes source.before source.after read
+  pub wrote : Appends sink.before sink.after written
+  pub says : Says a watches (behind_both source sink) words read written

@@ -37,8 +37,8 @@ run_on watches log = run_of (trace_so_far log.header log.batches) watches.watche
 abbrev pub names_on : Reading → Prefix → Names
 names_on watches log = names_of log.header watches.watch_names
 
--- what is told of the question of the log of a text: its own form and disjuncts, what it comes to on the log's
--- run, and so whether it holds of that run
+-- what is told of the question of the log of a text: its own form and disjuncts, what it comes to
+-- on the log's run, and so whether it holds of that run
 pub record IsTold (watches : Reading) (log : Prefix) (text : List ℕ) (view : QuestionView)
     : Type 0 where
   pub q : Question

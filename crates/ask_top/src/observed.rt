@@ -1,4 +1,5 @@
 //! What questions come to on a log that was observed for them.
+ghost use Rattle.pota_base.specs.Blanks.{IsBlankOf};
 ghost use Rattle.ask_top.specs.Asking.{among, number_among};
 ghost use Rattle.ask_top.specs.Documents.{IsDocument, bare_on};
 ghost use Rattle.ask_top.specs.inside.Observing.{IsObservedFor, StopsAs, fault_of};
@@ -9,6 +10,7 @@ ghost use Rattle.event_log.specs.declared.log.Log.{Log as LogIs};
 ghost use Rattle.log_rules.specs.WholeLogs.{all_of};
 ghost use Rattle.over_answers.specs.Tallies.{AreNamedBy, IsFirstStop, Refuses};
 ghost use Rattle.std.specs.Prelude.{◌≡◌, ◌<◌, ◌≤◌, length, map, string_bytes, IfErr, IfOk};
+ghost use Rattle.pota_base.specs.Limits.{most_questions};
 
 use ask_faults::Fault;
 use ask_questions::AskedQuestions;
@@ -78,10 +80,8 @@ fn answer_observed<R: Threads + Sync, L: Ledger>(
     steps: u32,
     observed: ObservedList,
 ) -> Result<Document, Refused<NumberedStop>>
-    requires name { blank.name ≡ L.name }
-    requires parts { blank.parts ≡ L.parts }
-    requires one { 0 < blank.parts }
-    requires few { length texts.now ≤ 64 }
+    requires blank { IsBlankOf L.name L.parts blank }
+    requires few { length texts.now ≤ most_questions }
     requires observed { (handed : _) × (log : LogIs) × IsObservedFor (said_by answers) handed
         (map string_bytes texts.now) overs.now log observed }
     ensures told { IfOk result (λ made. (handed : _) (log : LogIs)
@@ -125,7 +125,7 @@ pub fn answer_log<R: Threads + Sync>(
     log: Log,
     places: Places,
 ) -> Result<Document, Fault>
-    requires few { length texts.now ≤ 64 }
+    requires few { length texts.now ≤ most_questions }
     requires asked { CanBeObserved (map string_bytes texts.now) asked }
     requires watches { AreWatches watches.items }
     requires log { CanObserve log }

@@ -9,6 +9,7 @@ ghost use Rattle.ask_words.specs.Asking.{asked_by};
 ghost use Rattle.asked_log.specs.Watches.{AreWatches, handed_watches, said_by};
 ghost use Rattle.fault_line.specs.Lines.{Told as IsTold};
 ghost use Rattle.std.specs.Prelude.{◌≡◌, ◌<◌, ◌+◌, ◌≤◌, drop, length, map, string_bytes, Some};
+ghost use Rattle.pota_base.specs.Changes.{of_sink, of_source};
 
 use crate::answer::Answer;
 use crate::observed::answer_log;
@@ -25,8 +26,7 @@ use watch::{Handed, Watch};
 
 // Writes what the questions come to.
 fn put_document<O: Sink>(made: Document, out: &mut O) -> Answer
-    ensures { Puts made.text made.holds (O.held out.old) (O.held out.new) (O.faults out.old)
-        (O.faults out.new) result }
+    ensures { Puts made.text made.holds (of_sink O.Sink out.old out.new) result }
 {
     if write_all(out, made.text.as_slice()).is_err() {
         return Answer::Without(Fault::Write);
@@ -52,11 +52,11 @@ fn answer_questions<R: Threads + Sync, S: Source, O: Sink>(
     requires asks { asked_by (map string_bytes words.now) ≡ Some asked }
     requires some { asked.questions_from < length words.now }
     requires few { length words.now ≤ asked.questions_from + 64 }
-    requires read { CanBeObserved (map string_bytes (drop asked.questions_from words.now)) questions }
+    requires read { CanBeObserved (map string_bytes (drop asked.questions_from words.now))
+        questions }
     requires watches { AreWatches watches.items }
     ensures answered { HasAnswered (handed_watches (said_by answers) watches.items)
-        (S.left input.old) (S.left input.new) (O.held out.old) (O.held out.new)
-        (S.faults input.old) (S.faults input.new) (O.faults out.old) (O.faults out.new)
+        (of_source S.Source input.old input.new) (of_sink O.Sink out.old out.new)
         (map string_bytes words.now) result }
     ensures calm { IsCalm (S.faults input.old) (S.faults input.new) result }
 {
@@ -104,8 +104,7 @@ fn answer<R: Threads + Sync, S: Source, O: Sink>(
 ) -> Answer
     requires watches { AreWatches watches.items }
     ensures answered { HasAnswered (handed_watches (said_by answers) watches.items)
-        (S.left input.old) (S.left input.new) (O.held out.old) (O.held out.new)
-        (S.faults input.old) (S.faults input.new) (O.faults out.old) (O.faults out.new)
+        (of_source S.Source input.old input.new) (of_sink O.Sink out.old out.new)
         (map string_bytes words.now) result }
     ensures calm { IsCalm (S.faults input.old) (S.faults input.new) result }
 {
@@ -123,8 +122,8 @@ fn answer<R: Threads + Sync, S: Source, O: Sink>(
 
 // Tells of an answer, which is another where there is no memory to tell of it.
 fn tell_answer<D: Sink>(alloc: Global, diag: &mut D, words: &[String], answer: Answer) -> Answer
-    ensures told { IsTold (D.held diag.old) (D.held diag.new) (D.faults diag.old)
-        (D.faults diag.new) (told_of (map string_bytes words.now) result) }
+    ensures told { IsTold (of_sink D.Sink diag.old diag.new)
+        (told_of (map string_bytes words.now) result) }
     ensures same { IsAnswerTold answer result }
 {
     match answer {
@@ -150,12 +149,11 @@ pub fn ask<R: Threads + Sync, S: Source, O: Sink, D: Sink>(
 ) -> Answer
     requires watches { AreWatches watches.items }
     ensures answered { HasAnswered (handed_watches (said_by answers) watches.items)
-        (S.left input.old) (S.left input.new) (O.held out.old) (O.held out.new)
-        (S.faults input.old) (S.faults input.new) (O.faults out.old) (O.faults out.new)
+        (of_source S.Source input.old input.new) (of_sink O.Sink out.old out.new)
         (map string_bytes words.now) result }
     ensures calm { IsCalm (S.faults input.old) (S.faults input.new) result }
-    ensures told { IsTold (D.held diag.old) (D.held diag.new) (D.faults diag.old)
-        (D.faults diag.new) (told_of (map string_bytes words.now) result) }
+    ensures told { IsTold (of_sink D.Sink diag.old diag.new)
+        (told_of (map string_bytes words.now) result) }
 {
     let answer = answer(rt, alloc, words, watches, input, out);
     tell_answer(alloc, diag, words, answer)

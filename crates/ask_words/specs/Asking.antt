@@ -6,6 +6,7 @@ use Rattle.std.specs.Prelude.{ℕ, ◌+◌, Bool, true, false, not, ◌&&◌, �
 use Rattle.std.specs.Prelude.{◌∷◌, length, codes, Option, None, Some, if◌then◌else◌}
 use Rattle.std.specs.Str.{bytes_eq}
 use Rattle.pota_base.specs.Number.{◌>>=◌, number_at, whole}
+use Rattle.pota_base.specs.Limits.{most_questions}
 use Rattle.log_input.specs.declared.form.Form.{Form}
 use Rattle.log_input.specs.declared.form.Form.TheVariants as form
 use Rattle.ask_words.specs.declared.asking.Asked.{Asked}
@@ -68,7 +69,7 @@ are_no_options (word ∷ words) = not (is_option word) && are_no_options words
 
 -- words that are questions: 64 at most, and none of them an option
 abbrev pub are_questions : List (List ℕ) → Bool
-are_questions words = are_no_options words && nat_le (length words) 64
+are_questions words = are_no_options words && nat_le (length words) most_questions
 
 -- how many steps are shown: 5 where nothing is said of it
 abbrev pub steps_of : Option ℕ → ℕ
@@ -79,7 +80,11 @@ steps_of (Some n) = n
 abbrev pub asked_with : Options → ℕ → List (List ℕ) → Option Asked
 asked_with options from words =
     if are_questions words
-    then Some (record { form = options.form; steps = steps_of options.steps; questions_from = from })
+    then Some (record {
+      form = options.form;
+      steps = steps_of options.steps;
+      questions_from = from;
+    })
     else None
 
 -- ---- the whole

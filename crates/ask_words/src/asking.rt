@@ -1,7 +1,9 @@
 //! What is asked for.
 ghost use Rattle.ask_words.specs.Asking.{are_questions, asked_by, asked_with, is_of_options};
-ghost use Rattle.ask_words.specs.Asking.{is_option, with_form, with_option, with_steps, with_steps_word};
+ghost use Rattle.ask_words.specs.Asking.{is_option, with_form, with_option, with_steps};
+ghost use Rattle.ask_words.specs.Asking.{with_steps_word};
 ghost use Rattle.std.specs.Prelude.{◌≡◌, ◌+◌, ◌<◌, ◌≤◌, drop, length, map, string_bytes, IfSome};
+ghost use Rattle.pota_base.specs.Limits.{most_questions};
 
 use log_input::Form;
 use pota_base::number_at;
@@ -16,8 +18,7 @@ pub struct Asked {
     pub questions_from: usize,
 }
 
-/// The most questions.
-pub const MOST_QUESTIONS: usize = 64;
+pub use pota_base::MOST_QUESTIONS;
 
 /// How many steps are shown where nothing is said of it.
 const USUAL_STEPS: u32 = 5;
@@ -119,7 +120,7 @@ fn asked_with(options: Options, from: usize, words: &[String]) -> Option<Asked>
     requires { from < length words.now }
     ensures asked { result ≡ asked_with options from (map string_bytes (drop from words.now)) }
     ensures from { IfSome result (λ asked. asked.questions_from ≡ from) }
-    ensures few { IfSome result (λ asked. length words.now ≤ from + 64) }
+    ensures few { IfSome result (λ asked. length words.now ≤ from + most_questions) }
 {
     if !are_questions(&words[from..]) {
         return None;
@@ -135,7 +136,8 @@ fn asked_with(options: Options, from: usize, words: &[String]) -> Option<Asked>
 pub fn asked_by(words: &[String]) -> Option<Asked>
     ensures asked { result ≡ asked_by (map string_bytes words.now) }
     ensures some { IfSome result (λ asked. asked.questions_from < length words.now) }
-    ensures few { IfSome result (λ asked. length words.now ≤ asked.questions_from + 64) }
+    ensures few { IfSome result
+        (λ asked. length words.now ≤ asked.questions_from + most_questions) }
 {
     let mut options = Options {
         form: Form::OneLog,

@@ -1,6 +1,6 @@
 -- Which of the parts of an answer are those of a question.
-use Rattle.std.specs.Prelude.{◌≡◌, ℕ, zero, suc, ◌+◌, ◌==◌, Bool, true, false, not, ◌||◌, ◌&&◌, List}
-use Rattle.std.specs.Prelude.{[], ◌∷◌}
+use Rattle.std.specs.Prelude.{◌≡◌, ℕ, zero, suc, ◌+◌, ◌==◌, Bool, true, false, not, ◌||◌, ◌&&◌}
+use Rattle.std.specs.Prelude.{List, [], ◌∷◌}
 use Rattle.asked_list.specs.Lists.{HasRange, asked_each, disjuncts_in, range_of}
 use Rattle.asked_list.specs.declared.list.AskedList.{AskedList}
 use Rattle.asked_list.specs.declared.list.AskedRange.{AskedRange}

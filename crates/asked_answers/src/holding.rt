@@ -61,13 +61,12 @@ fn some_true(parts: &[PartAnswer], from: u32, to: u32) -> bool
 /// Whether the question holds, by the answer to the disjuncts that all questions ask.
 pub fn holds(answer: &Answer, asked: AskedRange) -> bool
     requires range { asked.from ≤ asked.to }
-    ensures holds { (seen : Observed) (ds own : List (List Piece)) (reading : Reading)
-        → IsTrace seen.trace.states → IsAnswer seen ds answer.now → AreAnswers seen reading
-        → IsAskedIn ds asked own → (f : Formula)
-        → SpellAt (run_seen seen reading) (names_seen seen reading) own
-        (asked_formula asked.form f)
-        → AreFor asked.form (part_formulas (names_seen seen reading) own)
-        → IsTrue result ↔ Holds (run_seen seen reading) (question asked.form f) }
+    ensures holds { (seen : Observed) (ds own : List (List Piece)) (reading : Reading) → IsTrace
+        seen.trace.states → IsAnswer seen ds answer.now → AreAnswers seen reading → IsAskedIn ds
+        asked own → (f : Formula) → SpellAt (run_seen seen reading) (names_seen seen reading) own
+        (asked_formula asked.form f) → AreFor asked.form
+        (part_formulas (names_seen seen reading) own) → IsTrue result ↔ Holds
+        (run_seen seen reading) (question asked.form f) }
     ensures listed { (text : List ℕ) (head : HeadIs) (t : TreeOf) (q : QuestionIs)
         → IsQuestion text head t q → (list : ListIs) → IsListedAs list asked q
         → (seen : Observed) (reading : Reading) → AnswersList list seen reading answer.now

@@ -1,7 +1,7 @@
 //! The texts of a question over processes.
-ghost use Rattle.asked_instances.specs.Instances.{AreInstances, IsFaultFor, pairs_asked, pairs_below};
-ghost use Rattle.asked_instances.specs.Instances.{pairs_of, pairs_with, renaming_for, singles_below};
-ghost use Rattle.asked_instances.specs.Instances.{source_of, text_for};
+ghost use Rattle.asked_instances.specs.Instances.{AreInstances, IsFaultFor, pairs_asked};
+ghost use Rattle.asked_instances.specs.Instances.{pairs_below, pairs_of, pairs_with, renaming_for};
+ghost use Rattle.asked_instances.specs.Instances.{singles_below, source_of, text_for};
 ghost use Rattle.asked_instances.specs.inside.Adding.{AddsFor, CanName};
 ghost use Rattle.question_forms.specs.Questions.{IsQuestionFault, Refuses};
 ghost use Rattle.question_instances.specs.Instances.{renaming_of};

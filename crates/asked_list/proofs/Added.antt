@@ -6,6 +6,7 @@ use Rattle.asked_list.specs.inside.Counts.{are_few}
 use Rattle.question_forms.specs.declared.question.Question.{Question}
 use Rattle.rctl_class.specs.NamedParts.{NamedPiece, AllFit, AreDisjuncts, disjuncts_count, pieces_of, disjuncts_of}
 use Rattle.question_meaning.specs.declared.form.Form.{Form}
+use Rattle.pota_base.specs.Limits.{most_disjuncts, most_parts}
 use Rattle.asked_list.specs.declared.list.AskedList.{AskedList}
 use Rattle.asked_list.specs.Lists.{IsAskedList, Adds, disjuncts_in, asked_count, each_count}
 use Rattle.asked_list.proofs.Counts.{each_joined, each_of_one}
@@ -16,7 +17,7 @@ all_fit_joined [] es a b = b
 all_fit_joined (d ∷ ds) es a b = (a.0, all_fit_joined ds es a.1 b)
 
 pub with_one : (before after : AskedList) (q : Question) → IsAskedList before → AreDisjuncts (disjuncts_of q.classed.disjuncts) → Adds before q after
-    → length before.classed.disjuncts + length q.classed.disjuncts ≤ 64 → after.parts ≡ before.parts + asked_count q.form (disjuncts_of q.classed.disjuncts) → after.parts ≤ 128
+    → length before.classed.disjuncts + length q.classed.disjuncts ≤ most_disjuncts → after.parts ≡ before.parts + asked_count q.form (disjuncts_of q.classed.disjuncts) → after.parts ≤ most_parts
     → IsAskedList after
 with_one before after q is are adds few parts within =
     let own = disjuncts_of q.classed.disjuncts in
@@ -53,7 +54,7 @@ some list is one = record {
 }
 
 -- few enough for both
-pub both_few : (disjuncts parts : ℕ) → are_few disjuncts parts ≡ true → (disjuncts ≤ 64) × (parts ≤ 128)
+pub both_few : (disjuncts parts : ℕ) → are_few disjuncts parts ≡ true → (disjuncts ≤ most_disjuncts) × (parts ≤ most_parts)
 both_few disjuncts parts h =
-    let both = and_parts (nat_le disjuncts 64) (nat_le parts 128) h in
-    (leb-true disjuncts 64 both.0, leb-true parts 128 both.1)
+    let both = and_parts (nat_le disjuncts most_disjuncts) (nat_le parts most_parts) h in
+    (leb-true disjuncts most_disjuncts both.0, leb-true parts most_parts both.1)

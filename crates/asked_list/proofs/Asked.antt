@@ -3,6 +3,7 @@ use Rattle.std.proofs.Common.{◌≡◌, ℕ, zero, suc, ◌-◌, ◌≤◌, Lis
 use Rattle.question_meaning.specs.declared.form.Form.{Form}
 use Rattle.question_meaning.specs.declared.form.Form.TheVariants as form
 use Rattle.std.proofs.lemmas.List.{length-map, map-append}
+use Rattle.pota_base.specs.Limits.{most_parts}
 use Rattle.rctl_parts.specs.declared.part.Part.{Part}
 use Rattle.rctl_parts.specs.Pieces.{Piece, pieces_of, disjuncts_of}
 use Rattle.rctl_parts.specs.MadeFor.{Scope, AllFit, AreMadeFor, disjuncts_count, disjuncts_name_watch}
@@ -61,7 +62,7 @@ each-watch w fs [] = refl
 each-watch w [] (d ∷ ds) = rw (each-watch w [] ds) refl
 each-watch w (f ∷ fs) (d ∷ ds) = rw (asked-watch w f d, each-watch w fs ds) refl
 
-pub made_alike : (scope : Scope) (forms : List Form) (ds : List (List Piece)) → AreMadeFor scope ds → disjuncts_count (asked_each forms ds) ≤ 128 → AreMadeFor scope (asked_each forms ds)
+pub made_alike : (scope : Scope) (forms : List Form) (ds : List (List Piece)) → AreMadeFor scope ds → disjuncts_count (asked_each forms ds) ≤ most_parts → AreMadeFor scope (asked_each forms ds)
 made_alike scope forms ds made fits = record {
   fit = each-fits scope forms ds made.fit;
   some = omega (arith, each-length forms ds, made.some);

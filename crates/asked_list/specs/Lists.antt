@@ -2,6 +2,7 @@
 use Rattle.std.specs.Prelude.{◌≡◌, ℕ, ◌+◌, ◌*◌, ◌-◌, ◌≤◌, List, [], ◌∷◌, ◌++◌, length, take, drop}
 use Rattle.std.specs.Prelude.{replicate}
 use Rattle.question_meaning.specs.declared.form.Form.{Form}
+use Rattle.pota_base.specs.Limits.{most_disjuncts, most_parts}
 use Rattle.question_forms.specs.declared.question.Question.{Question}
 use Rattle.asked_parts.specs.Asked.{asked_pieces, asked_disjuncts, parts_added}
 use Rattle.rctl_class.specs.NamedParts as named
@@ -29,15 +30,15 @@ disjuncts_in list = named.disjuncts_of list.classed.disjuncts
 -- asked, and each such as a formula that was read can have
 pub record IsAskedList (list : AskedList) : Type 0 where
   pub fit : named.AllFit (disjuncts_in list)
-  pub few : length list.classed.disjuncts ≤ 64
+  pub few : length list.classed.disjuncts ≤ most_disjuncts
   pub counted : list.parts ≡ each_count list.forms (disjuncts_in list)
-  pub parts : list.parts ≤ 128
+  pub parts : list.parts ≤ most_parts
   pub paired : length list.forms ≡ length list.classed.disjuncts
 
 -- there is room for one question more
 pub record HasRoom (list : AskedList) (q : Question) : Type 0 where
-  pub few : length list.classed.disjuncts + length q.classed.disjuncts ≤ 64
-  pub parts : list.parts + asked_count q.form (named.disjuncts_of q.classed.disjuncts) ≤ 128
+  pub few : length list.classed.disjuncts + length q.classed.disjuncts ≤ most_disjuncts
+  pub parts : list.parts + asked_count q.form (named.disjuncts_of q.classed.disjuncts) ≤ most_parts
 
 -- the question behind so many disjuncts
 abbrev pub listed : ℕ → Question → Listed

@@ -2,11 +2,11 @@
 //! of each question in it.
 //!
 //! `AskedList::add` puts the disjuncts of a question behind those of the others (`adds`), or
-//! answers that they would be too many (`fault`): all disjuncts of the list are observed as those of
-//! one formula. `ask_each` puts the operators of its form over each disjunct, once
-//! they have numbers (`asked_each`). Laws: a question keeps its range (`ranges_stay`), in it stands
-//! what its form asks of its own disjuncts, and the asked disjuncts are made for what the given ones
-//! are made for (`ranges_are_asked`).
+//! answers that they would be too many (`fault`): all disjuncts of the list are observed as those
+//! of one formula. `ask_each` puts the operators of its form over each disjunct, once they have
+//! numbers (`asked_each`). Laws: a question keeps its range (`ranges_stay`), in it stands what its
+//! form asks of its own disjuncts, and the asked disjuncts are made for what the given ones are
+//! made for (`ranges_are_asked`).
 //!
 //! Not said here: that memory suffices.
 #![tactic(auto)]

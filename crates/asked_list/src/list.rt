@@ -4,20 +4,15 @@ ghost use Rattle.asked_list.specs.inside.Counts.{Refuses, are_few, capped};
 ghost use Rattle.rctl_class.specs.NamedParts.{AreDisjuncts, disjuncts_of};
 ghost use Rattle.std.specs.Prelude.{◌≡◌, ◌+◌, ◌++◌, ◌≤◌, [], length, replicate, IfErr, IfOk};
 ghost use Rattle.std.specs.Prelude.{OnOk};
+ghost use Rattle.pota_base.specs.Limits.{most_disjuncts, most_parts};
 
 use crate::count::asked_count;
-use pota_base::{List, NoMemory, Refused};
+use pota_base::{List, MOST_DISJUNCTS, MOST_PARTS, NoMemory, Refused};
 use question_forms::Question;
 use question_meaning::Form;
 use question_text::Span;
 use rctl_class::{Classed, NamedPart};
 use std::alloc::Global;
-
-/// The most disjuncts that are observed together.
-const MOST_DISJUNCTS: usize = 64;
-
-/// The most parts that are observed together, inner ones and those that forms add counted.
-const MOST_PARTS: u32 = 128;
 
 /// A form, and which of all disjuncts are those of its question: from this number on, from 0, up to
 /// the one before `to`.
@@ -78,9 +73,9 @@ fn push_form(forms: &mut List<Form>, form: Form, count: usize) -> Result<(), NoM
 
 // Whether so many disjuncts and parts may be observed together, and as many more.
 fn are_few(disjuncts: usize, more: usize, parts: u32, count: u32) -> bool
-    requires few { disjuncts ≤ 64 }
-    requires some { more ≤ 64 }
-    requires parts { parts ≤ 128 }
+    requires few { disjuncts ≤ most_disjuncts }
+    requires some { more ≤ most_disjuncts }
+    requires parts { parts ≤ most_parts }
     ensures { result ≡ are_few (disjuncts + more) (parts + count) }
 {
     disjuncts + more <= MOST_DISJUNCTS && parts.saturating_add(count) <= MOST_PARTS
@@ -106,8 +101,9 @@ impl AskedList {
 
     // The list with a question for which there is room.
     fn with(self, question: Question, count: u32) -> Result<AskedList, NoMemory>
-        requires few { length self.classed.disjuncts + length question.classed.disjuncts ≤ 64 }
-        requires parts { self.parts + count ≤ 128 }
+        requires few { length self.classed.disjuncts + length question.classed.disjuncts
+            ≤ most_disjuncts }
+        requires parts { self.parts + count ≤ most_parts }
         ensures adds { IfOk result (Adds self question) }
         ensures parts { IfOk result (λ made. made.parts ≡ self.parts + count) }
     {

@@ -38,6 +38,7 @@ use Rattle.observation.specs.Fed.{AreFedFrom}
 use Rattle.observation.specs.Taken.{TakesWhole, RefusesBatch}
 use Rattle.pota_base.specs.declared.fault.Refused.{Refused}
 use Rattle.pota_base.specs.declared.fault.Refused.TheVariants as refused
+use Rattle.pota_base.specs.Limits.{most_events}
 use Rattle.vector_clock.specs.Admitted.{IfFault}
 use Rattle.asked_log.specs.inside.Observing.{Refuses, CanTake, IsOpened, IsObservedLog, FallsIn}
 
@@ -141,7 +142,7 @@ module _ (h : Header) (bs : List (List Event)) (can : CanTake h bs) (done : List
     follows = record {
       known = events_known h b (next_so (CanBeSpelled h) done b rest (there (BatchesCanBeSpelled h) can.log_is.text.events));
       few =
-          let all : event_count (done ++ b ∷ rest) ≤ 50000 = there (λ xs. event_count xs ≤ 50000) can.log_is.events in
+          let all : event_count (done ++ b ∷ rest) ≤ most_events = there (λ xs. event_count xs ≤ most_events) can.log_is.events in
           omega (arith, all, next_few done b rest, batches_sum (no_events (length h.procs)) done, no_sum (length h.procs));
     };
     each = subst (λ (n : ℕ). AllByRecursion (EventStands n) b) (sym procs) (events_stand (length h.procs) b here_fits);

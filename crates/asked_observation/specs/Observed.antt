@@ -1,4 +1,5 @@
--- What is observed for a list of questions, or the first of their names that a header does not have.
+-- What is observed for a list of questions, or the first of their names that a header does not
+-- have.
 use Rattle.std.specs.Prelude.{◌≡◌, ℕ, ◌+◌, nat_lt, List, [], ◌∷◌, take, None, Some}
 use Rattle.std.specs.Prelude.{if◌then◌else◌}
 use Rattle.run_model.specs.Run.{Name}

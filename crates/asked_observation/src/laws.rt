@@ -1,16 +1,11 @@
 // Laws of lists of questions that are observed.
-ghost use Rattle.asked_answers.specs.Holding.{AnswersList};
 ghost use Rattle.asked_list.specs.declared.list.AskedList.{AskedList as ListIs};
 ghost use Rattle.asked_observation.specs.Observed.{IsObservedList};
-ghost use Rattle.conjunctions.specs.Answering.{IsAnswer};
-ghost use Rattle.conjunctions.specs.declared.answer.Answer.{Answer};
 ghost use Rattle.event_log.specs.declared.log.Event.{Event};
 ghost use Rattle.observation.specs.Growing.{GrowingView, TakesBatch};
-ghost use Rattle.part_pulls.specs.Observing.{AreAnswers, Reading};
-ghost use Rattle.rctl_parts.specs.Pieces.{disjuncts_of};
 ghost use Rattle.run_model.specs.Run.{Name};
-ghost use Rattle.std.specs.Prelude.{◌≡◌, List};
-ghost use Rattle.trace_growth.specs.Growing.{IsTrace};
+ghost use Rattle.std.specs.Prelude.{List};
+ghost use Rattle.asked_observation.specs.Laws.{AnswersAreTheLists};
 
 /// What is observed for a list of questions stays so as batches are taken.
 pub fn a_list_stays_observed()
@@ -21,10 +16,5 @@ pub fn a_list_stays_observed()
 
 /// The answer on what is observed for a list of questions is one by which each of them is told.
 pub fn an_answer_is_the_lists()
-    ensures { (list : ListIs) (names : List Name) (growing : GrowingView)
-        → IsObservedList list names growing → (answer : Answer)
-        → IsAnswer growing.seen (disjuncts_of growing.disjuncts) answer
-        → IsTrace growing.seen.trace.states
-        → (reading : Reading) → AreAnswers growing.seen reading → reading.watch_names ≡ names
-        → AnswersList list growing.seen reading answer }
+    ensures { AnswersAreTheLists }
 {}

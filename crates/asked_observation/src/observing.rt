@@ -75,8 +75,8 @@ fn observe_asked(
 }
 
 /// An observation without batches for all questions of the list, with the names of a header and of
-/// watches. `Fault` is the first name of the questions, one after the other, that is unknown or is a
-/// watch on a second process.
+/// watches. `Fault` is the first name of the questions, one after the other, that is unknown or is
+/// a watch on a second process.
 pub fn observe_list(
     alloc: Global,
     list: AskedList,

@@ -5,6 +5,7 @@ use Rattle.run_model.specs.Formula.{Formula}
 use Rattle.question_meaning.specs.declared.form.Form.{Form}
 use Rattle.question_meaning.specs.declared.form.Form.TheVariants as form
 use Rattle.question_meaning.specs.Asking.{members, asked, asked_parts}
+use Rattle.pota_base.specs.Limits.{most_parts}
 use Rattle.rctl_class.specs.Counters.{counters_of, all_counters, parts_counters, disjuncts_counters}
 use Rattle.rctl_parts.specs.Pieces.{Piece, pieces}
 use Rattle.rctl_parts.specs.Spelled.{Names, part_formulas}
@@ -121,7 +122,7 @@ all-asked-watch : (w : ℕ) (form : Form) (ds : List (List Piece)) → disjuncts
 all-asked-watch w form [] = refl
 all-asked-watch w form (d ∷ ds) = rw (asked-watch w form d, all-asked-watch w form ds) refl
 
-pub made_alike : (scope : Scope) (form : Form) (ds : List (List Piece)) → AreMadeFor scope ds → disjuncts_count (asked_disjuncts form ds) ≤ 128 → AreMadeFor scope (asked_disjuncts form ds)
+pub made_alike : (scope : Scope) (form : Form) (ds : List (List Piece)) → AreMadeFor scope ds → disjuncts_count (asked_disjuncts form ds) ≤ most_parts → AreMadeFor scope (asked_disjuncts form ds)
 made_alike scope form ds made fits =
     let as_many = length-map ds (asked_pieces form) in
     record {

@@ -11,6 +11,7 @@ ghost use Rattle.run_model.specs.Consistent.{IsOrder};
 ghost use Rattle.run_model.specs.Formula.{Formula};
 ghost use Rattle.run_model.specs.Run.{Run};
 ghost use Rattle.std.specs.Prelude.{◌≡◌, ◌↔◌, ◌+◌, ◌*◌, ◌≤◌, List, length};
+ghost use Rattle.pota_base.specs.Limits.{most_parts};
 
 /// The asked parts spell what the form asks of the formulas of the parts. Where the parts spell the
 /// formula that the form asks of, and are one disjunct if it asks of one, the question holds
@@ -34,6 +35,6 @@ pub fn asked_parts_are_made_alike()
         → disjuncts_count (asked_disjuncts form ds)
         ≡ disjuncts_count ds + parts_added form * length ds }
     ensures made { (scope : Scope) (form : FormIs) (ds : List (List Piece)) → AreMadeFor scope ds
-        → disjuncts_count (asked_disjuncts form ds) ≤ 128
+        → disjuncts_count (asked_disjuncts form ds) ≤ most_parts
         → AreMadeFor scope (asked_disjuncts form ds) }
 {}

@@ -1,4 +1,5 @@
-ghost use Rattle.std.specs.Prelude.{◌≡◌, ◌+◌, ◌<◌};
+ghost use Rattle.pota_base.specs.Blanks.{IsBlankOf};
+ghost use Rattle.std.specs.Prelude.{◌+◌, ◌<◌};
 
 use pota_base::{
     Bytes, EventId, Failed, List, MemSink, MemSource, NoMemory, Shape, Sink, Source, Status, Steps,
@@ -107,9 +108,7 @@ fn statuses_have_their_codes(rt: HostRuntime) {
 }
 
 fn two_ticks<L: Ledger>(blank: Blank)
-    requires name { blank.name ≡ L.name }
-    requires parts { blank.parts ≡ L.parts }
-    requires some { 0 < blank.parts }
+    requires blank { IsBlankOf L.name L.parts blank }
 {
     let mut steps = Steps::<L>::new(blank);
     steps.tick();

@@ -1,3 +1,4 @@
+ghost use Rattle.pota_base.specs.Blanks.{IsBlankOf};
 ghost use Rattle.std.specs.Prelude.{◌≡◌, ◌⊎◌, ◌+◌, ◌<◌, None, true};
 ghost use Rattle.certificate_lines.specs.declared.line.Line.TheVariants as line;
 
@@ -53,9 +54,7 @@ fn told_by<L: Ledger>(
     front: &[u8],
     source: &mut MemSource,
 ) -> Result<Told, NoMemory>
-    requires name { blank.name ≡ L.name }
-    requires parts { blank.parts ≡ L.parts }
-    requires some { 0 < blank.parts }
+    requires blank { IsBlankOf L.name L.parts blank }
 {
     let mut formula = List::new(alloc);
     formula.extend_from_slice(b"formula true")?;
@@ -72,9 +71,7 @@ fn told_of<L: Ledger>(
     first: usize,
     most: usize,
 ) -> Result<Told, NoMemory>
-    requires name { blank.name ≡ L.name }
-    requires parts { blank.parts ≡ L.parts }
-    requires some { 0 < blank.parts }
+    requires blank { IsBlankOf L.name L.parts blank }
 {
     let (front, rest) = bytes.split_at(first.min(bytes.len()));
     let mut source = MemSource::new(alloc, rest, most.max(1), &[])?;
@@ -87,9 +84,7 @@ fn told_and_next<L: Ledger>(
     alloc: Global,
     bytes: &[u8],
 ) -> Result<(Told, Option<u8>), NoMemory>
-    requires name { blank.name ≡ L.name }
-    requires parts { blank.parts ≡ L.parts }
-    requires some { 0 < blank.parts }
+    requires blank { IsBlankOf L.name L.parts blank }
 {
     let mut source = MemSource::new(alloc, bytes, 1, &[])?;
     let told = told_by::<L>(blank, alloc, b"", &mut source)?;

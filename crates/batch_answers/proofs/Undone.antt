@@ -3,18 +3,19 @@ use Rattle.std.proofs.Common.{◌≡◌, ℕ, List, [], Option, Err, refl, sym, 
 use Rattle.std.proofs.KnownBytes.{Appends-nil, Consumes-nil}
 use Rattle.pota_base.specs.Outside.{IsPrefix}
 use Rattle.run_model.specs.Run.{Name, Watches}
+use Rattle.pota_base.specs.Changes.{behind_of, change_of}
 use Rattle.rctl_class.specs.Nodes.{node_of, formula_of}
 use Rattle.stated_formula.specs.declared.formula.Stated.{Stated}
 use Rattle.stated_formula.specs.Stating.{IsStated}
-use Rattle.run_options.specs.declared.shown.Shown.{Shown}
+use Rattle.call_options.specs.declared.shown.Shown.{Shown}
 use Rattle.log_answers.specs.PassedOn.{Asked}
 use Rattle.log_answers.specs.PassedOn.{asked_of, aim_of}
 use Rattle.log_answers.specs.declared.stop.StopCause.TheVariants as causes
 use Rattle.log_answers.specs.declared.stop.Stop.{Stop}
-use Rattle.run_promise.specs.declared.outcome.Outcome.{Outcome}
+use Rattle.call_promise.specs.declared.outcome.Outcome.{Outcome}
 use Rattle.batch_answers.specs.Outcome.{outcome_of}
-use Rattle.run_promise.specs.Asking.{Handing, asked}
-use Rattle.run_promise.specs.Run.{Answer, Ran}
+use Rattle.call_promise.specs.Asking.{Handing, asked}
+use Rattle.call_promise.specs.Run.{Answer, Ran}
 
 -- ---- a formula that is stated is asked
 
@@ -28,8 +29,8 @@ stated_asked s shown names watches text is =
 pub nothing_front : (text : List ℕ) → IsPrefix [] text
 nothing_front text = (text, refl)
 
-pub ran_nothing : (left held : Option (List ℕ)) (lf of : ℕ) (on : Handing) (words : List (List ℕ)) (o : Outcome) → Answer o.status left lf lf of of on words [] [] o
-    → Ran left left held held lf lf of of on words o
+pub ran_nothing : (left held : Option (List ℕ)) (lf of : ℕ) (on : Handing) (words : List (List ℕ)) (o : Outcome) → Answer o.status (behind_of left lf lf of of) on words [] [] o
+    → Ran (change_of left left lf lf) (change_of held held of of) on words o
 ran_nothing left held lf of on words o answer = record {
   read = [];
   written = [];
@@ -41,9 +42,9 @@ ran_nothing left held lf of on words o answer = record {
 }
 
 pub ran_short : (left held : Option (List ℕ)) (lf of : ℕ) (on : Handing) (words : List (List ℕ)) (stop : Stop) → stop ≡ record { batches = 0; cause = causes.Memory }
-    → Ran left left held held lf lf of of on words (outcome_of (Err stop))
+    → Ran (change_of left left lf lf) (change_of held held of of) on words (outcome_of (Err stop))
 ran_short left held lf of on words stop is =
-    subst (λ (x : Stop). Ran left left held held lf lf of of on words (outcome_of (Err x))) (sym is)
+    subst (λ (x : Stop). Ran (change_of left left lf lf) (change_of held held of of) on words (outcome_of (Err x))) (sym is)
     (ran_nothing left held lf of on words (outcome_of (Err (record { batches = 0; cause = causes.Memory }))) (record {
       front = λ other text batches w. (nothing_front text, omega arith);
       certified = λ t k. (inl refl, refl);

@@ -9,7 +9,7 @@ use Rattle.log_answers.specs.declared.stop.Stop.{Stop}
 use Rattle.log_answers.specs.declared.stop.StopCause.{StopCause}
 use Rattle.log_answers.specs.declared.stop.StopCause.TheVariants as causes
 use Rattle.log_answers.specs.declared.stop.Verdict.{Verdict}
-use Rattle.run_promise.specs.declared.outcome.Outcome.{Outcome}
+use Rattle.call_promise.specs.declared.outcome.Outcome.{Outcome}
 
 -- why a log has no verdict, as it is told
 abbrev pub fault_of : StopCause → Fault

@@ -1,8 +1,9 @@
 -- A log that is checked as it is read: what is known between two reads, and what they lead to.
-use Rattle.std.specs.Prelude.{◌≡◌, ℕ, ◌≤◌, Bool, false, List, [], Option, None}
+use Rattle.std.specs.Prelude.{◌≡◌, ℕ, ◌≤◌, Bool, false, List, [], None}
 use Rattle.std.specs.Prelude.{Result, Ok, Err}
 use Rattle.std.specs.Io.KnownBytes.{Appends, Consumes, IsAtEnd}
 use Rattle.pota_base.specs.Outside.{Rose}
+use Rattle.pota_base.specs.Changes.{Behind, Change, behind_both}
 use Rattle.event_log.specs.Faults.{end_fault}
 use Rattle.event_log.specs.LogText.{onto}
 use Rattle.log_rules.specs.Judgement.{Judgement}
@@ -34,16 +35,16 @@ pub record IsWhole {X : Type 0} {P : X → Type 0} (says : Says X P) (aim : Aim)
   pub free : end_fault (onto bytes []) ≡ None
   pub stands : Stands says aim each check (judgement_in aim bytes) text
 
-abbrev pub StopsAt : StopCause → ℕ → Option (List ℕ) → ℕ → ℕ → ℕ → ℕ → Aim → Bool → List ℕ
-    → List ℕ → Type 0
-StopsAt (causes.Refused r) n left lf lf' of of' aim each bytes text =
-    StopsBy log_reading (causes.Refused r) n left lf lf' of of' aim each bytes text
-StopsAt causes.Read n left lf lf' of of' aim each bytes text =
-    StopsBy log_reading causes.Read n left lf lf' of of' aim each bytes text
-StopsAt causes.Write n left lf lf' of of' aim each bytes text =
-    HasPartOf aim (reported each (due_in aim false bytes)) text n × Rose of of'
-StopsAt causes.Memory n left lf lf' of of' aim each bytes text =
-    StopsBy log_reading causes.Memory n left lf lf' of of' aim each bytes text
+abbrev pub StopsAt : StopCause → ℕ → Behind → Aim → Bool → List ℕ → List ℕ → Type 0
+StopsAt (causes.Refused r) n behind aim each bytes text =
+    StopsBy log_reading (causes.Refused r) n behind aim each bytes text
+StopsAt causes.Read n behind aim each bytes text =
+    StopsBy log_reading causes.Read n behind aim each bytes text
+StopsAt causes.Write n behind aim each bytes text =
+    HasPartOf aim (reported each (due_in aim false bytes)) text n × Rose behind.sink.before
+    behind.sink.after
+StopsAt causes.Memory n behind aim each bytes text =
+    StopsBy log_reading causes.Memory n behind aim each bytes text
 
 -- ---- one piece and the end
 
@@ -51,32 +52,26 @@ StopsAt causes.Memory n left lf lf' of of' aim each bytes text =
 
 -- ---- the whole log
 
-abbrev pub ReadsTo : {T X : Type 0} {P : X → Type 0} → Option (List ℕ) → ℕ → ℕ → ℕ → ℕ → Says X P
-    → Aim → Bool → ReportedLog X P
-    → List ℕ → List ℕ → Result T Stop → Type 0
-ReadsTo left lf lf' of of' says aim each check read text (Ok x) =
-    IsAtEnd left × IsWhole says aim each check read text
-ReadsTo left lf lf' of of' says aim each check read text (Err stop) =
-    StopsAt stop.cause stop.batches left lf lf' of of' aim each read text
+abbrev pub ReadsTo : {T X : Type 0} {P : X → Type 0} → Behind → Says X P → Aim → Bool → ReportedLog
+    X P → List ℕ → List ℕ → Result T Stop → Type 0
+ReadsTo behind says aim each check read text (Ok x) =
+    IsAtEnd behind.rest × IsWhole says aim each check read text
+ReadsTo behind says aim each check read text (Err stop) =
+    StopsAt stop.cause stop.batches behind aim each read text
 
 -- the log was read, but for the report on the whole of it
-pub record HasReadLog {T X : Type 0} {P : X → Type 0} (left left' held held' : Option (List ℕ))
-    (lf lf' of of' : ℕ)
-    (says : Says X P) (aim : Aim) (each : Bool) (check : ReportedLog X P)
-    (result : Result T Stop) : Type 0
-  where
-    pub read : List ℕ
-    pub written : List ℕ
-    pub consumed : Consumes left left' read
-    pub wrote : Appends held held' written
-    pub log_later : lf ≤ lf'
-    pub out_later : of ≤ of'
-    pub to : ReadsTo left' lf lf' of of' says aim each check read written result
+pub record HasReadLog {T X : Type 0} {P : X → Type 0} (source sink : Change) (says : Says X P)
+    (aim : Aim) (each : Bool) (check : ReportedLog X P) (result : Result T Stop) : Type 0 where
+  pub read : List ℕ
+  pub written : List ℕ
+  pub consumed : Consumes source.before source.after read
+  pub wrote : Appends sink.before sink.after written
+  pub log_later : source.faults_before ≤ source.faults_after
+  pub out_later : sink.faults_before ≤ sink.faults_after
+  pub to : ReadsTo (behind_both source sink) says aim each check read written result
 
 -- ---- the text and its report
 
 -- the text of a log was read and checked
-abbrev pub HasChecked : (left left' held held' : Option (List ℕ)) → (lf lf' of of' : ℕ) → Aim
-    → (each : Bool) → Result Verdict Stop → Type 0
-HasChecked left left' held held' lf lf' of of' aim each result =
-    HasCheckedBy log_reading left left' held held' lf lf' of of' aim each result
+abbrev pub HasChecked : (source sink : Change) → Aim → (each : Bool) → Result Verdict Stop → Type 0
+HasChecked source sink aim each result = HasCheckedBy log_reading source sink aim each result

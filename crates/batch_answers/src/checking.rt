@@ -1,5 +1,6 @@
 //! Reading a log to its end, and reporting on it.
 ghost use Rattle.std.specs.Prelude.{◌≡◌};
+ghost use Rattle.pota_base.specs.Changes.{of_sink, of_source};
 ghost use Rattle.log_rules.specs.Judgement.{waiting};
 ghost use Rattle.log_answers.specs.PassedOn.{Aim, said_by};
 ghost use Rattle.log_answers.specs.PassedOn.{IsCheckOf};
@@ -22,8 +23,7 @@ pub fn check_all<R: Threads + Sync, G: Gate, L: Ledger, S: Source, O: Sink>(
 ) -> Result<Verdict, Stop>
     requires { (aim : Aim) × IsCheckOf (said_by answers) aim checking.old.check waiting }
     ensures checks { (aim : Aim) → IsCheckOf (said_by answers) aim checking.old.check waiting
-        → HasChecked (S.left log.old) (S.left log.new) (O.held out.old) (O.held out.new)
-        (S.faults log.old) (S.faults log.new) (O.faults out.old) (O.faults out.new) aim
+        → HasChecked (of_source S.Source log.old log.new) (of_sink O.Sink out.old out.new) aim
         checking.old.each_batch result }
     ensures calm { IsCalmUnlessRead (S.faults log.old) (S.faults log.new) result }
 {

@@ -2,10 +2,10 @@
 ghost use Rattle.std.specs.Prelude.{◌≡◌};
 ghost use Rattle.batch_answers.specs.Outcome.{fault_of, faulty_outcome, outcome_of};
 
+use call_promise::Outcome;
 use fault_line::Fault;
 use log_answers::{Stop, StopCause, Verdict};
 use pota_base::Status;
-use run_promise::Outcome;
 
 // Why a log has no verdict, as it is told.
 fn fault_of(cause: StopCause) -> Fault

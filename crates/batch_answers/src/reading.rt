@@ -1,5 +1,6 @@
 //! Reading a log to its end, and checking it as it comes.
 ghost use Rattle.std.specs.Prelude.{◌≡◌, ◌<◌, ◌++◌, [], ℕ, List, length};
+ghost use Rattle.pota_base.specs.Changes.{of_sink, of_source};
 ghost use Rattle.log_rules.specs.Judgement.{waiting};
 ghost use Rattle.log_answers.specs.PassedOn.{Aim, said_by};
 ghost use Rattle.log_answers.specs.PassedOn.{IsCheckOf};
@@ -10,13 +11,10 @@ ghost use Rattle.batch_answers.specs.inside.Reading.{Finishes, HasJudged, TakesP
 use event_log::{Fed, Reader};
 use fault_kinds::Refusal;
 use log_answers::{Checking, Means, Stop, StopCause};
-use pota_base::{Gate, Sink, Source};
+use pota_base::{Gate, LONGEST_READ, Sink, Source};
 use std::sync::ledger::Ledger;
 use std::thread::Threads;
 use watch::{Handed, Watch};
-
-/// The most bytes that one read takes.
-const PIECE: usize = 65_536;
 
 /// What one read led to.
 #[derive(Clone, Copy, Debug)]
@@ -36,12 +34,10 @@ fn take_piece<R: Threads + Sync, G: Gate, L: Ledger, O: Sink>(
     requires { (aim : Aim) × (bytes : List ℕ) × (text : List ℕ)
         × HasJudged (said_by answers) aim checking.old.each_batch reader.old checking.old.check
         bytes text }
-    ensures piece { (aim : Aim) (bytes text : List ℕ)
-        → HasJudged (said_by answers) aim checking.old.each_batch reader.old checking.old.check
-        bytes text
-        → TakesPiece (O.held out.old) (O.held out.new) (O.faults out.old) (O.faults out.new)
-        (said_by answers) aim checking.old.each_batch reader.new checking.new.check
-        (bytes ++ piece.now) text result }
+    ensures piece { (aim : Aim) (bytes text : List ℕ) → HasJudged (said_by answers) aim
+        checking.old.each_batch reader.old checking.old.check bytes text → TakesPiece
+        (of_sink O.Sink out.old out.new) (said_by answers) aim checking.old.each_batch reader.new
+        checking.new.check (bytes ++ piece.now) text result }
     ensures each { checking.new.each_batch ≡ checking.old.each_batch }
 {
     let Ok(fed) = reader.feed(piece) else {
@@ -87,13 +83,10 @@ fn take_turn<R: Threads + Sync, G: Gate, L: Ledger, S: Source, O: Sink>(
     requires judged { (aim : Aim) × (bytes : List ℕ) × (text : List ℕ)
         × HasJudged (said_by answers) aim checking.old.each_batch reader.old checking.old.check
         bytes text }
-    ensures turn { (aim : Aim) (bytes text : List ℕ)
-        → HasJudged (said_by answers) aim checking.old.each_batch reader.old checking.old.check
-        bytes text
-        → Turns (S.left log.old) (S.left log.new) (O.held out.old) (O.held out.new)
-        (S.faults log.old) (S.faults log.new) (O.faults out.old) (O.faults out.new)
-        (said_by answers) aim checking.old.each_batch reader.new checking.new.check bytes text
-        result }
+    ensures turn { (aim : Aim) (bytes text : List ℕ) → HasJudged (said_by answers) aim
+        checking.old.each_batch reader.old checking.old.check bytes text → Turns
+        (of_source S.Source log.old log.new) (of_sink O.Sink out.old out.new) (said_by answers) aim
+        checking.old.each_batch reader.new checking.new.check bytes text result }
     ensures each { checking.new.each_batch ≡ checking.old.each_batch }
     ensures calm { IsCalmUnlessRead (S.faults log.old) (S.faults log.new) result }
 {
@@ -113,13 +106,12 @@ pub fn read_log<R: Threads + Sync, G: Gate, L: Ledger, S: Source, O: Sink>(
 ) -> Result<(), Stop>
     requires { (aim : Aim) × IsCheckOf (said_by answers) aim checking.old.check waiting }
     ensures log { (aim : Aim) → IsCheckOf (said_by answers) aim checking.old.check waiting
-        → HasReadLog (S.left log.old) (S.left log.new) (O.held out.old) (O.held out.new)
-        (S.faults log.old) (S.faults log.new) (O.faults out.old) (O.faults out.new)
+        → HasReadLog (of_source S.Source log.old log.new) (of_sink O.Sink out.old out.new)
         (said_by answers) aim checking.old.each_batch checking.new.check result }
     ensures each { checking.new.each_batch ≡ checking.old.each_batch }
     ensures calm { IsCalmUnlessRead (S.faults log.old) (S.faults log.new) result }
 {
-    let Ok(mut buffer) = vec![in means.alloc; 0u8; PIECE] else {
+    let Ok(mut buffer) = vec![in means.alloc; 0u8; LONGEST_READ] else {
         return Err(Stop::without_memory());
     };
     let room = buffer.as_mut_slice();

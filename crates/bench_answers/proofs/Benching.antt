@@ -3,9 +3,10 @@ use Rattle.std.proofs.Common.{◌≡◌, ℕ, true, false, Option, Some, None, R
 use Rattle.std.proofs.KnownBytes.{Appends-nil}
 use Rattle.std.proofs.lemmas.List.{length-replicate}
 use Rattle.std.proofs.lemmas.Option.{none-some}
+use Rattle.pota_base.specs.Changes.{change_of, counts_of}
 use Rattle.log_lines.specs.Reading.{choose}
 use Rattle.rctl_grammar.specs.declared.fault.FormulaFault.{FormulaFault}
-use Rattle.run_options.specs.declared.sizes.Sizes.{Sizes}
+use Rattle.call_options.specs.declared.sizes.Sizes.{Sizes}
 use Rattle.event_log.specs.declared.log.Event.{Event}
 use Rattle.event_log.specs.declared.item.LogFault.{LogFault}
 use Rattle.event_log.specs.declared.log.Header.{Header}
@@ -44,7 +45,7 @@ use Rattle.log_answers.specs.declared.stop.StopCause.{StopCause}
 use Rattle.log_answers.specs.declared.stop.StopCause.TheVariants as causes
 use Rattle.log_answers.specs.declared.stop.Stop.{Stop}
 use Rattle.log_answers.specs.declared.stop.Verdict.{Verdict}
-use Rattle.run_promise.specs.Run.{made_by}
+use Rattle.call_promise.specs.Run.{made_by}
 use Rattle.log_answers.specs.Checking.{SummaryStops, SumsUpTo, SumsUp}
 use Rattle.bench_answers.specs.Benching.{CanBeMade}
 use Rattle.bench_answers.specs.inside.Benching.{BenchStops, BenchesTo, HasMade}
@@ -160,8 +161,8 @@ module _ {X : Type 0} {P : X → Type 0} (says : Says X P) (aim : Aim) (sizes : 
     count_is : check.log.intake.batches ≡ 1
     count_is = taken.log.intake.batches ∙ (made_whole rises (has_names check taken)).count
 
-    sum_stops : (f : StopCause) (n : ℕ) (text : List ℕ) → SummaryStops f n of of' aim check.log.intake.batches (all_of (made_by sizes)) sizes text
-        → BenchStops f n of of' aim sizes text
+    sum_stops : (f : StopCause) (n : ℕ) (text : List ℕ) → SummaryStops f n (counts_of of of') aim check.log.intake.batches (all_of (made_by sizes)) sizes text
+        → BenchStops f n (counts_of of of') aim sizes text
     sum_stops causes.Write n text h = (
       record {
         named = has_names check taken;
@@ -176,8 +177,8 @@ module _ {X : Type 0} {P : X → Type 0} (says : Says X P) (aim : Aim) (sizes : 
     sum_stops (causes.Refused r) n text h = absurd h
     sum_stops causes.Read n text h = absurd h
 
-    sum_to : (result : Result Verdict Stop) (text : List ℕ) → SumsUpTo of of' aim check.log.intake.batches (all_of (made_by sizes)) sizes text result
-        → BenchesTo of of' aim sizes text result
+    sum_to : (result : Result Verdict Stop) (text : List ℕ) → SumsUpTo (counts_of of of') aim check.log.intake.batches (all_of (made_by sizes)) sizes text result
+        → BenchesTo (counts_of of of') aim sizes text result
     sum_to (Ok v) text h = record {
       named = has_names check taken;
       summary = h.0;
@@ -186,8 +187,8 @@ module _ {X : Type 0} {P : X → Type 0} (says : Says X P) (aim : Aim) (sizes : 
     }
     sum_to (Err stop) text h = sum_stops stop.cause stop.batches text h
 
-    pub summed : (result : Result Verdict Stop) → SumsUp held held' of of' aim check.log.intake.batches (all_of (made_by sizes)) sizes result
-        → HasMade held held' of of' aim sizes result
+    pub summed : (result : Result Verdict Stop) → SumsUp (change_of held held' of of') aim check.log.intake.batches (all_of (made_by sizes)) sizes result
+        → HasMade (change_of held held' of of') aim sizes result
     summed result s = record { written = s.written; wrote = s.wrote; later = s.later; to = sum_to result s.written s.to }
 
   -- ---- a stop before its end
@@ -202,7 +203,7 @@ module _ {X : Type 0} {P : X → Type 0} (says : Says X P) (aim : Aim) (sizes : 
           let both : refused at why ≡ refused None (refusal.Formula f) = sym is ∙ made_refused f e in
           (f, refl, cc)
 
-  stop_of : MadeRises aim sizes → (f : StopCause) (n of of' : ℕ) → TakingStops f n aim (made_by sizes) → BenchStops f n of of' aim sizes []
+  stop_of : MadeRises aim sizes → (f : StopCause) (n of of' : ℕ) → TakingStops f n aim (made_by sizes) → BenchStops f n (counts_of of of') aim sizes []
   stop_of rises (causes.Refused (refusal.Formula x)) n of of' h =
       let found = not_refused rises (refusal.Formula x) h.log h.is in
       let same : refusal.Formula x ≡ refusal.Formula found.0 = found.2 in
@@ -224,7 +225,7 @@ module _ {X : Type 0} {P : X → Type 0} (says : Says X P) (aim : Aim) (sizes : 
   stop_of rises causes.Memory n of of' h = (refl, h)
   stop_of rises causes.Read n of of' h = absurd h
 
-  pub made_stops : MadeRises aim sizes → (held : Option (List ℕ)) (of : ℕ) (stop : Stop) → TakingStops stop.cause stop.batches aim (made_by sizes) → HasMade held held of of aim sizes (Err stop)
+  pub made_stops : MadeRises aim sizes → (held : Option (List ℕ)) (of : ℕ) (stop : Stop) → TakingStops stop.cause stop.batches aim (made_by sizes) → HasMade (change_of held held of of) aim sizes (Err stop)
   made_stops rises held of stop t = record {
     written = [];
     wrote = Appends-nil held;
@@ -233,8 +234,8 @@ module _ {X : Type 0} {P : X → Type 0} (says : Says X P) (aim : Aim) (sizes : 
   }
 
   pub made_short : (held : Option (List ℕ)) (of : ℕ) (stop : Stop) → stop ≡ record { batches = 0; cause = causes.Memory }
-      → HasMade held held of of aim sizes (Err stop)
-  made_short held of stop is = subst (λ (s : Stop). HasMade held held of of aim sizes (Err s)) (sym is) (record {
+      → HasMade (change_of held held of of) aim sizes (Err stop)
+  made_short held of stop is = subst (λ (s : Stop). HasMade (change_of held held of of) aim sizes (Err s)) (sym is) (record {
     written = [];
     wrote = Appends-nil held;
     later = omega arith;

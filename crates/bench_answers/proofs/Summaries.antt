@@ -4,10 +4,11 @@ use Rattle.std.specs.Prelude.{Bool, true, false, if◌then◌else◌, ◌↔◌}
 use Rattle.std.proofs.KnownBytes.{Consumes-nil}
 use Rattle.pota_base.specs.Outside.{IsPrefix}
 use Rattle.pota_base.specs.declared.status.Status.TheVariants as status
+use Rattle.pota_base.specs.Changes.{behind_of, change_of, counts_of}
 use Rattle.command_words.specs.declared.request.Task.TheVariants as task
-use Rattle.run_options.specs.declared.sizes.Sizes.{Sizes}
+use Rattle.call_options.specs.declared.sizes.Sizes.{Sizes}
 use Rattle.stated_formula.specs.declared.formula.Stated.{Stated}
-use Rattle.run_request.specs.Questions.{AsksFor}
+use Rattle.call_request.specs.Questions.{AsksFor}
 use Rattle.stated_formula.specs.Stating.{IsStated}
 use Rattle.run_report.specs.Reports.{Asked}
 use Rattle.run_report.specs.Benches.{IsSummaryOf}
@@ -21,12 +22,12 @@ use Rattle.log_answers.specs.declared.stop.StopCause.TheVariants as causes
 use Rattle.log_answers.specs.declared.stop.Stop.{Stop}
 use Rattle.log_answers.specs.declared.stop.Verdict.{Verdict}
 use Rattle.batch_answers.specs.Outcome.{fault_of, faulty_outcome, outcome_of}
-use Rattle.run_promise.specs.Asking.{Handing, handing_of, asked, certifying}
+use Rattle.call_promise.specs.Asking.{Handing, handing_of, asked, certifying}
 use Rattle.bench_answers.specs.inside.Benching.{IsSummary, missing_name, IsBenchOf, BenchStops}
 use Rattle.bench_answers.specs.inside.Benching.{BenchesTo, HasMade}
-use Rattle.run_promise.proofs.Clauses.{not_both}
-use Rattle.run_promise.specs.Certificates.{IsTrueAtStart}
-use Rattle.run_promise.specs.Run.{IsBenched, HasBenched, made_by, Answer, Ran}
+use Rattle.call_promise.proofs.Clauses.{not_both}
+use Rattle.call_promise.specs.Certificates.{IsTrueAtStart}
+use Rattle.call_promise.specs.Run.{IsBenched, HasBenched, made_by, Answer, Ran}
 use Rattle.batch_answers.proofs.Undone.{stated_asked, nothing_front}
 
 module _ {X : Type 0} {P : X → Type 0} (says : Says X P) (s : Stated) (sizes : Sizes) (handed : List (Handed X P)) (words : List (List ℕ)) (formula : List ℕ) (is : IsStated formula s) (asks : AsksFor words (task.Bench sizes) s.formula.tree) where
@@ -54,8 +55,8 @@ module _ {X : Type 0} {P : X → Type 0} (says : Says X P) (s : Stated) (sizes :
   }
 
   module _ (left : Option (List ℕ)) (lf of of' : ℕ) (written : List ℕ) where
-    bench_stop : (why : StopCause) (n : ℕ) → BenchStops why n of of' bench_aim sizes written
-        → Answer (status_of (fault_of why)) left lf lf of of' bench_on words [] written (faulty_outcome n (fault_of why))
+    bench_stop : (why : StopCause) (n : ℕ) → BenchStops why n (counts_of of of') bench_aim sizes written
+        → Answer (status_of (fault_of why)) (behind_of left lf lf of of') bench_on words [] written (faulty_outcome n (fault_of why))
     bench_stop (causes.Refused (refusal.Formula x)) n h = (
       x,
       inr (inr (record {
@@ -102,17 +103,17 @@ module _ {X : Type 0} {P : X → Type 0} (says : Says X P) (s : Stated) (sizes :
     }
 
     bench_verdict : (b : Bool) (v : Verdict) → v.truth ≡ b → IsBenchOf bench_aim sizes written v
-        → Answer (if b then status.True else status.False) left lf lf of of' bench_on words [] written (record { status = if b then status.True else status.False; batches = v.batches; fault = None })
+        → Answer (if b then status.True else status.False) (behind_of left lf lf of of') bench_on words [] written (record { status = if b then status.True else status.False; batches = v.batches; fault = None })
     bench_verdict true v e h = inr (bench_of true v e h)
     bench_verdict false v e h = inr (bench_of false v e h)
 
-    bench_answer : (result : Result Verdict Stop) → BenchesTo of of' bench_aim sizes written result
-        → Answer (outcome_of result).status left lf lf of of' bench_on words [] written (outcome_of result)
+    bench_answer : (result : Result Verdict Stop) → BenchesTo (counts_of of of') bench_aim sizes written result
+        → Answer (outcome_of result).status (behind_of left lf lf of of') bench_on words [] written (outcome_of result)
     bench_answer (Ok v) h = bench_verdict v.truth v refl h
     bench_answer (Err stop) h = bench_stop stop.cause stop.batches h
 
-  pub ran_made : (left held held' : Option (List ℕ)) (lf of of' : ℕ) (result : Result Verdict Stop) → HasMade held held' of of' bench_aim sizes result
-      → Ran left left held held' lf lf of of' bench_on words (outcome_of result)
+  pub ran_made : (left held held' : Option (List ℕ)) (lf of of' : ℕ) (result : Result Verdict Stop) → HasMade (change_of held held' of of') bench_aim sizes result
+      → Ran (change_of left left lf lf) (change_of held held' of of') bench_on words (outcome_of result)
   ran_made left held held' lf of of' result h = record {
     read = [];
     written = h.written;

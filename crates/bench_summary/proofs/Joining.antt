@@ -7,7 +7,7 @@ use Rattle.event_log.specs.LogText.{text_of}
 use Rattle.event_log.proofs.Appends.{text_of-append}
 use Rattle.report_lines.specs.Spelling.{formula_line, verdict_line}
 use Rattle.report.specs.declared.report.Report.{Report}
-use Rattle.run_options.specs.declared.sizes.Sizes.{Sizes}
+use Rattle.call_options.specs.declared.sizes.Sizes.{Sizes}
 use Rattle.run_report.specs.Benches.{number_line, slice_lines, summary_lines, summary_text}
 
 -- one line more behind others

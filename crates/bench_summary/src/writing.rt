@@ -4,10 +4,10 @@ ghost use Rattle.event_log.specs.LogText.{text_of};
 ghost use Rattle.report_lines.specs.Spelling.{formula_line, verdict_line};
 ghost use Rattle.run_report.specs.Benches.{number_line, slice_lines, summary_text};
 
+use call_options::Sizes;
 use pota_base::{Bytes, NoMemory, put_u64};
 use report::{Report, SliceText};
 use report_lines::put_slice;
-use run_options::Sizes;
 use std::alloc::Global;
 
 // The line of a word and a number.

@@ -20,7 +20,7 @@ ghost use Rattle.bound_table.specs.Views.{KeepsClaims};
 use crate::narrow::widen;
 use crate::seat::Seat;
 use crate::table::BoundTable;
-use pota_base::Steps;
+use pota_base::{MOST_PROCESSES, Steps};
 use std::sync::ledger::Ledger;
 
 impl BoundTable {
@@ -48,7 +48,7 @@ impl BoundTable {
             let before = sum (row_at self.now.system.lens seat.old.floor row) in
             steps.new + pulls * before ≤ steps.old + pulls * (1 + sum into.new) }
     {
-        let mut words = [0; 32];
+        let mut words = [0; MOST_PROCESSES];
         let words = &mut words[..self.system().shape().procs() as usize];
         self.settle_narrow(seat, row, words, steps);
         widen(words, into);
@@ -73,7 +73,7 @@ impl BoundTable {
             steps.new + pulls * before ≤ steps.old + pulls * (1 + sum into.new) }
     {
         seat.bounds();
-        let mut seen = [0; 32];
+        let mut seen = [0; MOST_PROCESSES];
         let seen = &mut seen[..self.system().shape().procs() as usize];
         self.look_narrow(seat, row, into);
         self.ask_all(seat, row, into, seen, steps);

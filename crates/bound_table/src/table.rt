@@ -18,7 +18,7 @@ use crate::firm::Firm;
 use crate::narrow::{narrowed, widen, widened};
 use crate::seat::{Begins, Bounded, Key, Lifts, Looks, Meets, Seat, SeenBounds, Twins};
 use atomic_table::Table;
-use pota_base::NoMemory;
+use pota_base::{MOST_PROCESSES, NoMemory};
 use process_claims::Claims;
 use pull_fans::System;
 use pull_system::{Floor, Rows};
@@ -265,7 +265,7 @@ impl BoundTable {
         ensures keeps { KeepsClaims seat.old seat.new }
         ensures follows { Follows self.now.system row seat.old.floor seat.new.floor into.new }
     {
-        let mut words = [0; 32];
+        let mut words = [0; MOST_PROCESSES];
         let words = &mut words[..self.system().shape().procs() as usize];
         self.look_narrow(seat, row, words);
         widen(words, into);

@@ -6,6 +6,7 @@ use Rattle.std.proofs.lemmas.List.{length-set, length-map, get_or-set_same, get_
 use Rattle.std.proofs.lemmas.List.Sums.{sum_by-cons}
 use Rattle.event_log.specs.declared.log.Event.{Event}
 use Rattle.run_model.specs.Cut.{Cut, Clocks, lengths}
+use Rattle.pota_base.specs.Limits.{most_processes}
 use Rattle.causal_order.specs.Growth.{HasClock, HasGrown, with_row, with_clocks}
 
 pub length-lengths : (o : Clocks) → length (lengths o) ≡ length o
@@ -133,6 +134,6 @@ event_fits procs [] i e all lt at = absurd (omega arith)
 event_fits procs (x ∷ events) zero e all lt at = subst (HasClock procs) (sym at) all.0
 event_fits procs (x ∷ events) (suc i) e all lt at = event_fits procs events i e all.1 (omega arith) at
 
-pub clocks_within : (procs : ℕ) (events : List Event) → procs ≤ 32 → AllByRecursion (HasClock procs) events → AllByRecursion (λ (e : Event). e.process < 32) events
+pub clocks_within : (procs : ℕ) (events : List Event) → procs ≤ most_processes → AllByRecursion (HasClock procs) events → AllByRecursion (λ (e : Event). e.process < most_processes) events
 clocks_within procs [] few all = tt
 clocks_within procs (e ∷ events) few all = (omega (arith, all.0.process), clocks_within procs events few all.1)

@@ -11,6 +11,7 @@ use Rattle.run_model.specs.Consistent.{IsEvent, IsOrder, IsConsistent, HappenedB
 use Rattle.run_model.specs.Sublattice.{IsLeast, Having}
 use Rattle.run_model.proofs.Counts.{count_past, with_next_same, with_next_other, with_next_above, within_trans, length-with_next}
 use Rattle.run_model.proofs.Orders.{past_least}
+use Rattle.pota_base.specs.Limits.{most_events, most_processes}
 use Rattle.cut_lattice.proofs.Steps.{DoneBelow}
 use Rattle.event_log.specs.declared.log.Event.{Event}
 use Rattle.causal_order.specs.Blocks.{AreOrdered}
@@ -145,15 +146,15 @@ no_events_order n = record {
   loopless = λ i a j b ev _ _. absurd (no_event n i a ev);
 }
 
-pub no_events_few : (n : ℕ) (o : Clocks) → o ≡ without_events n → sum (lengths o) ≤ 50000
+pub no_events_few : (n : ℕ) (o : Clocks) → o ≡ without_events n → sum (lengths o) ≤ most_events
 no_events_few n o is = omega (arith, ap (λ (x : Clocks). sum (lengths x)) is, none_in_all n)
 
-pub no_events_shape : (n : ℕ) (o : Clocks) (lens : List ℕ) → o ≡ without_events n → lens ≡ lengths o → 1 ≤ n → n ≤ 32 → IsShape lens
+pub no_events_shape : (n : ℕ) (o : Clocks) (lens : List ℕ) → o ≡ without_events n → lens ≡ lengths o → 1 ≤ n → n ≤ most_processes → IsShape lens
 no_events_shape n o lens is at some few =
     let count : length lens ≡ n = ap length at ∙ length-lengths o ∙ ap length is ∙ length-replicate n [] in
     record { some = omega arith; few = omega arith; events = omega (arith, ap sum at, no_events_few n o is) }
 
-pub no_events_ordered : (n : ℕ) (o : Clocks) (shape lens : List ℕ) → o ≡ without_events n → lens ≡ lengths o → shape ≡ lens → 1 ≤ n → n ≤ 32 → AreOrdered shape o
+pub no_events_ordered : (n : ℕ) (o : Clocks) (shape lens : List ℕ) → o ≡ without_events n → lens ≡ lengths o → shape ≡ lens → 1 ≤ n → n ≤ most_processes → AreOrdered shape o
 no_events_ordered n o shape lens is at same some few = record {
   fits = no_events_shape n o shape is (same ∙ at) some few;
   lens = same ∙ at;
@@ -163,14 +164,14 @@ no_events_ordered n o shape lens is at same some few = record {
 -- ---- more events
 
 -- the lengths of clocks of which there are as many as a shape has
-pub lengths_shape : (o : Clocks) (shape : List ℕ) → IsShape shape → length shape ≡ length o → sum (lengths o) ≤ 50000 → IsShape (lengths o)
+pub lengths_shape : (o : Clocks) (shape : List ℕ) → IsShape shape → length shape ≡ length o → sum (lengths o) ≤ most_events → IsShape (lengths o)
 lengths_shape o shape is same few = record {
   some = omega (arith, length-lengths o, is.some);
   few = omega (arith, length-lengths o, is.few);
   events = few;
 }
 
-pub grown_ordered : (o now : Clocks) (shape shape' : List ℕ) → AreOrdered shape o → length now ≡ length o → sum (lengths now) ≤ 50000 → shape' ≡ lengths now → IsOrder now
+pub grown_ordered : (o now : Clocks) (shape shape' : List ℕ) → AreOrdered shape o → length now ≡ length o → sum (lengths now) ≤ most_events → shape' ≡ lengths now → IsOrder now
     → AreOrdered shape' now
 grown_ordered o now shape shape' h same few is order = record {
   fits = subst IsShape (sym is) (lengths_shape now shape h.fits (ap length h.lens ∙ length-lengths o ∙ sym same) few);
@@ -178,5 +179,5 @@ grown_ordered o now shape shape' h same few is order = record {
   order = order;
 }
 
-pub grown_few : (o : Clocks) (events : List Event) (now : Clocks) → now ≡ with_clocks o events → sum (lengths o) + length events ≤ 50000 → sum (lengths now) ≤ 50000
+pub grown_few : (o : Clocks) (events : List Event) (now : Clocks) → now ≡ with_clocks o events → sum (lengths o) + length events ≤ most_events → sum (lengths now) ≤ most_events
 grown_few o events now is few = omega (arith, ap (λ (x : Clocks). sum (lengths x)) is, sum_grown o events)

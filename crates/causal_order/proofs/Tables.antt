@@ -4,6 +4,7 @@ use Rattle.std.proofs.lemmas.Bool.{cases_eq}
 use Rattle.std.proofs.lemmas.List.{length-set, length-map, map-set, get_or-set_same, get_or-set_other, get_or-replicate, length-replicate, take_all}
 use Rattle.run_model.specs.Cut.{Cut, Clocks, lengths}
 use Rattle.run_model.specs.Consistent.{clock}
+use Rattle.pota_base.specs.Limits.{most_events}
 use Rattle.causal_order.specs.Blocks.{BlockView, AreWide, clocks_in, no_rows}
 use Rattle.causal_order.specs.Growth.{with_row}
 use Rattle.causal_order.proofs.Growing.{count-lengths, item_le_sum}
@@ -104,7 +105,7 @@ fresh_wide w n bs is all p lt =
 
 -- ---- the lengths of the first blocks
 
-pub len_fits : (bs : List BlockView) (o : Clocks) (i : ℕ) (b : BlockView) → clocks_in bs ≡ o → sum (lengths o) ≤ 50000 → i < length bs → b ≡ get_or bs i b → length b.rows ≤ 50000
+pub len_fits : (bs : List BlockView) (o : Clocks) (i : ℕ) (b : BlockView) → clocks_in bs ≡ o → sum (lengths o) ≤ most_events → i < length bs → b ≡ get_or bs i b → length b.rows ≤ most_events
 len_fits bs o i b is few lt at =
     let len : length b.rows ≡ get_or (lengths o) i 0 = ap length (block_rows bs o i b is (omega (arith, count_is bs o is)) at) ∙ sym (count-lengths o i) in
     omega (arith, item_le_sum (lengths o) i)

@@ -3,6 +3,7 @@ use Rattle.std.specs.Prelude.{◌≡◌, ℕ, ◌+◌, ◌<◌, ◌≤◌, List,
 use Rattle.std.specs.List.{AllByRecursion}
 use Rattle.run_model.specs.Cut.{Cut, Clocks, lengths}
 use Rattle.run_model.specs.Consistent.{IsOrder}
+use Rattle.pota_base.specs.Limits.{most_events}
 use Rattle.event_log.specs.declared.log.Event.{Event}
 
 -- the clocks with one more behind those of a process
@@ -23,7 +24,7 @@ pub record HasClock (procs : ℕ) (e : Event) : Type 0 where
 -- and there are at most 50,000
 pub record MayExtend (o : Clocks) (events : List Event) : Type 0 where
   pub each : AllByRecursion (HasClock (length o)) events
-  pub few : sum (lengths o) + length events ≤ 50000
+  pub few : sum (lengths o) + length events ≤ most_events
   pub order : IsOrder (with_clocks o events)
 
 -- the clocks of each process are the old ones with more behind them

@@ -6,6 +6,7 @@ ghost use Rattle.run_model.specs.Cut.{Clocks, count, lengths, with_next};
 ghost use Rattle.run_model.specs.Consistent.{IsOrder, IsConsistent, HappenedBefore, clock};
 ghost use Rattle.run_model.specs.Sublattice.{IsLeast, Having};
 ghost use Rattle.pota_base.specs.Shape.{IsShape, HasEvent};
+ghost use Rattle.pota_base.specs.Limits.{most_events, most_processes};
 ghost use Rattle.causal_order.specs.Growth.{HasClock, HasGrown, MayExtend, with_clocks};
 
 use crate::table::ClockTable;
@@ -50,9 +51,9 @@ fn cut_back(table: &mut ClockTable, shape: &Shape)
 // Takes room at once for the clocks of a batch.
 fn make_room(table: &mut ClockTable, procs: u32, events: &[Event]) -> Result<(), NoMemory>
     requires procs { procs ≡ length table.old }
-    requires most { procs ≤ 32 }
+    requires most { procs ≤ most_processes }
     requires each { AllByRecursion (HasClock (length table.old)) events.now }
-    requires few { length events.now ≤ 50000 }
+    requires few { length events.now ≤ most_events }
     ensures { table.new ≡ table.old }
 {
     let counts = count_events(events);
@@ -65,9 +66,9 @@ fn make_room(table: &mut ClockTable, procs: u32, events: &[Event]) -> Result<(),
 // Puts the clocks of a batch behind those that are there. Without memory some may be there.
 fn add_batch(table: &mut ClockTable, procs: u32, events: &[Event]) -> Result<(), NoMemory>
     requires procs { procs ≡ length table.old }
-    requires most { procs ≤ 32 }
+    requires most { procs ≤ most_processes }
     requires each { AllByRecursion (HasClock (length table.old)) events.now }
-    requires few { length events.now ≤ 50000 }
+    requires few { length events.now ≤ most_events }
     ensures ok { OnOk result (table.new ≡ with_clocks table.old events.now) }
     ensures grown { HasGrown table.old table.new }
 {
@@ -81,7 +82,7 @@ fn add_batch(table: &mut ClockTable, procs: u32, events: &[Event]) -> Result<(),
 fn measure(shape: &mut Shape, table: &ClockTable)
     requires count { length shape.old ≡ length table.now }
     requires fits { (p : ℕ) → get_or shape.old p 0 ≤ length (get_or table.now p []) }
-    requires few { sum (lengths table.now) ≤ 50000 }
+    requires few { sum (lengths table.now) ≤ most_events }
     ensures { shape.new ≡ lengths table.now }
 {
     for process in 0..shape.procs() {
@@ -110,7 +111,7 @@ impl Order {
     /// The order of 1 to 32 processes without events.
     pub fn new(alloc: Global, procs: u32) -> Result<Order, NoMemory>
         requires some { 1 ≤ procs }
-        requires few { procs ≤ 32 }
+        requires few { procs ≤ most_processes }
         ensures { IfOk result (λ o. o ≡ replicate procs []) }
     {
         let table = ClockTable::new(alloc, procs)?;

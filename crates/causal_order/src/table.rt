@@ -4,6 +4,7 @@ ghost use Rattle.std.specs.Prelude.{set, sum, take, IfOk, OnOk, OnErr};
 ghost use Rattle.std.specs.List.{AllByRecursion};
 ghost use Rattle.run_model.specs.Cut.{lengths};
 ghost use Rattle.run_model.specs.Consistent.{clock};
+ghost use Rattle.pota_base.specs.Limits.{most_events};
 ghost use Rattle.event_log.specs.declared.log.Event.{Event};
 ghost use Rattle.causal_order.specs.Growth.{HasClock, HasGrown, with_clocks, with_row};
 
@@ -64,7 +65,7 @@ impl ClockTable {
 
     /// How many clocks each process has.
     pub fn lens(&self, alloc: Global) -> Result<Vec<u32>, NoMemory>
-        requires { sum (lengths self.now) ≤ 50000 }
+        requires { sum (lengths self.now) ≤ most_events }
         ensures { IfOk result (λ lens. lens.items ≡ lengths self.now) }
     {
         let mut lens = Vec::with_capacity(alloc, self.blocks.len())?;

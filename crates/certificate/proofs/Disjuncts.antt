@@ -15,10 +15,10 @@ use Rattle.part_pulls.specs.declared.observed.Observed.{Observed}
 use Rattle.part_pulls.specs.Observing.{Reading, AreAnswers, clocks_seen, run_seen, names_seen, scope_seen}
 use Rattle.part_pulls.specs.Counters.{CountersRise, AllRise, counters_of_parts}
 use Rattle.part_pulls.proofs.Rising.{first_disjunct_rises, other_disjuncts_rise, counters_pieces}
-use Rattle.certified_nodes.specs.declared.plan.Asked.{Asked}
-use Rattle.certified_nodes.specs.declared.plan.Plan.{Plan}
-use Rattle.certified_nodes.specs.Plans.{no_parts, system_of}
-use Rattle.certified_nodes.specs.Given.{AreGiven, SomeCloses}
+use Rattle.certificate_nodes.specs.declared.plan.Asked.{Asked}
+use Rattle.certificate_nodes.specs.declared.plan.Plan.{Plan}
+use Rattle.certificate_nodes.specs.Plans.{no_parts, system_of}
+use Rattle.certificate_nodes.specs.Given.{AreGiven, SomeCloses}
 use Rattle.certificate.specs.Numbering.{asked_by_all, nodes_in_all, disjunct_count, disjunct_nodes, disjuncts_asked, plan_of}
 use Rattle.certificate.proofs.Standing.{Stand, stand_left, stand_right, stand_all, count_all}
 use Rattle.certificate.proofs.Meaning.{Given, closed_parts, all_mean}

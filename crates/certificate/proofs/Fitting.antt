@@ -15,8 +15,8 @@ use Rattle.part_pulls.proofs.Atoms.{few_pulls}
 use Rattle.part_pulls.proofs.Fitting.{atom_fits}
 use Rattle.part_pulls.proofs.Operators.{processes_fit}
 use Rattle.part_pulls.proofs.Rising.{rise_left, rise_right, counters_pieces, first_disjunct_rises, other_disjuncts_rise}
-use Rattle.certified_nodes.specs.declared.plan.Node.{Node}
-use Rattle.certified_nodes.specs.Plans.{no_node, no_parts, FitsPart, AreParts, IsNode, IsPlan}
+use Rattle.certificate_nodes.specs.declared.plan.Node.{Node}
+use Rattle.certificate_nodes.specs.Plans.{no_node, no_parts, FitsPart, AreParts, IsNode, IsPlan}
 use Rattle.certificate.specs.Numbering.{nodes_of, operand_nodes, asked_by, asked_by_all, nodes_in, nodes_in_all, operand_node, disjunct_count, disjunct_nodes, disjuncts_asked, plan_of}
 use Rattle.certificate.proofs.Standing.{count_in, count_all}
 use Rattle.certificate.proofs.Disjuncts.{parts_fit}

@@ -33,12 +33,12 @@ use Rattle.part_pulls.proofs.Operators.{operated_means, processes_fit}
 use Rattle.part_pulls.proofs.Readings.{is_order}
 use Rattle.part_pulls.proofs.Rising.{rise_left, rise_right}
 use Rattle.part_pulls.proofs.Slices.{cut_is}
-use Rattle.certified_nodes.specs.declared.plan.Asked.{Asked}
-use Rattle.certified_nodes.specs.declared.plan.Asked.TheVariants as asked
-use Rattle.certified_nodes.specs.declared.plan.Node.{Node}
-use Rattle.certified_nodes.specs.declared.plan.Plan.{Plan}
-use Rattle.certified_nodes.specs.Plans.{node_at, slice_at, pulls_given, pulls_asked, system_of}
-use Rattle.certified_nodes.specs.Given.{SlicedBy, IsGiven, AreGiven}
+use Rattle.certificate_nodes.specs.declared.plan.Asked.{Asked}
+use Rattle.certificate_nodes.specs.declared.plan.Asked.TheVariants as asked
+use Rattle.certificate_nodes.specs.declared.plan.Node.{Node}
+use Rattle.certificate_nodes.specs.declared.plan.Plan.{Plan}
+use Rattle.certificate_nodes.specs.Plans.{node_at, slice_at, pulls_given, pulls_asked, system_of}
+use Rattle.certificate_nodes.specs.Given.{SlicedBy, IsGiven, AreGiven}
 use Rattle.certificate.specs.Numbering.{nodes_of, operand_nodes, asked_by, asked_by_all, nodes_in, nodes_in_all, operand_node}
 use Rattle.certificate.proofs.Standing.{Stand, stand_left, stand_right, stand_there, stand_at, count_in, count_all}
 

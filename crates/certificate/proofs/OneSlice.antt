@@ -12,12 +12,12 @@ use Rattle.pull_system.specs.System.{SystemView}
 use Rattle.slice_graph.specs.Views.{SliceView, slice_of}
 use Rattle.rctl_grammar.specs.declared.tree.Operator.{Operator}
 use Rattle.part_pulls.proofs.Slices.{one_slice}
-use Rattle.certified_rows.specs.Begun.{BegunView}
+use Rattle.certificate_table.specs.Begun.{BegunView}
 use Rattle.certificate_lines.specs.declared.line.Line.TheVariants as line
 use Rattle.certificate_text.specs.Taking.{NoneFollows}
-use Rattle.certified_nodes.specs.declared.plan.Plan.{Plan}
-use Rattle.certified_nodes.specs.Given.{IsGiven, Gives, SomeCloses}
-use Rattle.certified_nodes.specs.Nodes.{NodesView, MayConclude, Concludes}
+use Rattle.certificate_nodes.specs.declared.plan.Plan.{Plan}
+use Rattle.certificate_nodes.specs.Given.{IsGiven, Gives, SomeCloses}
+use Rattle.certificate_nodes.specs.Nodes.{NodesView, MayConclude, Concludes}
 use Rattle.certificate.specs.Following.{Follows}
 
 one_given : (o : Clocks) (kind : Operator) (system : SystemView) (a b : SliceView) → IsGiven o kind system a → IsGiven o kind system b → a ≡ b

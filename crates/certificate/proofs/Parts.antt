@@ -8,9 +8,10 @@ use Rattle.rctl_parts.specs.MadeFor.{Scope, EachFits, PieceFits, PiecesFit}
 use Rattle.part_pulls.specs.declared.observed.Observed.{Observed}
 use Rattle.part_pulls.specs.Systems.{is_atom, IsAtomOf}
 use Rattle.std.specs.Prelude.{Bool}
-use Rattle.certified_nodes.specs.declared.plan.Asked.{Asked}
-use Rattle.certified_nodes.specs.declared.plan.Asked.TheVariants as asked
-use Rattle.certified_nodes.specs.declared.plan.Node.{Node}
+use Rattle.pota_base.specs.Limits.{most_parts}
+use Rattle.certificate_nodes.specs.declared.plan.Asked.{Asked}
+use Rattle.certificate_nodes.specs.declared.plan.Asked.TheVariants as asked
+use Rattle.certificate_nodes.specs.declared.plan.Node.{Node}
 use Rattle.certificate.specs.Numbering.{nodes_of, operand_nodes, asked_by, asked_by_all, nodes_in, nodes_in_all, disjunct_count}
 use Rattle.certificate.proofs.Standing.{count_all}
 
@@ -34,7 +35,7 @@ operand_fits scope (p ∷ ps) h = (h.0, operand_fits scope ps h.1)
 pub temporal_fits : (scope : Scope) (p : Piece) (o : Operator) (ps : List Piece) → p ≡ temporal o (pieces ps) → PieceFits scope p → EachFits scope ps
 temporal_fits scope p o ps is fits = operand_fits scope ps (subst (PieceFits scope) is fits).1
 
-pub temporal_room : (p : Piece) (o : Operator) (ps : List Piece) (n : ℕ) → p ≡ temporal o (pieces ps) → n + nodes_of p ≤ 128 → n + disjunct_count ps ≤ 127
+pub temporal_room : (p : Piece) (o : Operator) (ps : List Piece) (n : ℕ) → p ≡ temporal o (pieces ps) → n + nodes_of p ≤ most_parts → n + disjunct_count ps ≤ 127
 temporal_room p o ps n is few = omega (arith, ap nodes_of is, few)
 
 pub temporal_count : (seen : Observed) (old inner : List Node) (ps : List Piece) → inner ≡ old ++ nodes_in_all seen (length old) (pieces ps) → length inner ≡ length old + operand_nodes (pieces ps)

@@ -16,10 +16,10 @@ use Rattle.certificate_lines.specs.declared.line.Line.TheVariants as line
 use Rattle.certificate_text.specs.Taking.{AreAccepted, fresh}
 use Rattle.certificate_text.specs.Running.{AllFollow, AreNodesAndVerdict}
 use Rattle.certificate_text.proofs.Accepting.{accepted_run}
-use Rattle.certified_nodes.specs.declared.plan.Plan.{Plan}
-use Rattle.certified_nodes.specs.Given.{AreGiven, SomeCloses}
-use Rattle.certified_nodes.specs.Nodes.{NodesView, AreNodes, MayConclude, Concludes, fresh_nodes}
-use Rattle.certified_nodes.proofs.Keeping.{node_keeps, begun_keeps, raised_keeps, verdict_keeps, given_after}
+use Rattle.certificate_nodes.specs.declared.plan.Plan.{Plan}
+use Rattle.certificate_nodes.specs.Given.{AreGiven, SomeCloses}
+use Rattle.certificate_nodes.specs.Nodes.{NodesView, AreNodes, MayConclude, Concludes, fresh_nodes}
+use Rattle.certificate_nodes.proofs.Keeping.{node_keeps, begun_keeps, raised_keeps, verdict_keeps, given_after}
 use Rattle.certificate.specs.Numbering.{plan_of}
 use Rattle.certificate.specs.Following.{Follows}
 use Rattle.certificate.proofs.Disjuncts.{conclusion_true}

@@ -4,8 +4,8 @@ use Rattle.std.proofs.lemmas.List.{length-append}
 use Rattle.std.proofs.Math.Seq.{get_or-append_seam}
 use Rattle.rctl_parts.specs.Pieces.{Piece, Pieces, atom, temporal, none, more}
 use Rattle.part_pulls.specs.declared.observed.Observed.{Observed}
-use Rattle.certified_nodes.specs.declared.plan.Node.{Node}
-use Rattle.certified_nodes.specs.Plans.{no_node}
+use Rattle.certificate_nodes.specs.declared.plan.Node.{Node}
+use Rattle.certificate_nodes.specs.Plans.{no_node}
 use Rattle.certificate.specs.Numbering.{nodes_of, operand_nodes, nodes_in, nodes_in_all, operand_node}
 
 -- these nodes stand among all, so many before them

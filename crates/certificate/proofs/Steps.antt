@@ -1,12 +1,13 @@
 -- The nodes of parts that are numbered one after the other.
 use Rattle.std.proofs.Common.{◌≡◌, ℕ, ◌+◌, ◌≤◌, List, [], ◌∷◌, ◌++◌, length, refl, sym, ◌∙◌, ap, arith, append_assoc, append-nil}
 use Rattle.std.proofs.lemmas.List.{length-append}
+use Rattle.pota_base.specs.Limits.{most_parts}
 use Rattle.rctl_parts.specs.Pieces.{Piece, pieces}
 use Rattle.rctl_parts.specs.MadeFor.{disjuncts_count}
 use Rattle.part_pulls.specs.declared.observed.Observed.{Observed}
-use Rattle.certified_nodes.specs.declared.plan.Asked.{Asked}
-use Rattle.certified_nodes.specs.declared.plan.Node.{Node}
-use Rattle.certified_nodes.specs.declared.plan.Plan.{Plan}
+use Rattle.certificate_nodes.specs.declared.plan.Asked.{Asked}
+use Rattle.certificate_nodes.specs.declared.plan.Node.{Node}
+use Rattle.certificate_nodes.specs.declared.plan.Plan.{Plan}
 use Rattle.certificate.specs.Numbering.{nodes_of, asked_by, asked_by_all, nodes_in, nodes_in_all, disjunct_count, disjunct_nodes, disjuncts_asked, plan_of}
 use Rattle.certificate.proofs.Standing.{count_all}
 use Rattle.certificate.proofs.Fitting.{few_in}
@@ -41,7 +42,7 @@ numbered_count seen old now asked ps h = ap (λ (list : List Node). length list)
 
 -- the next part has room
 pub room_more : (seen : Observed) (old now : List Node) (asked : List Asked) (all ps : List Piece) (p : Piece) (later : List Piece) → Numbered seen old now asked ps → all ≡ ps ++ p ∷ later
-    → length old + disjunct_count all ≤ 128 → length now + nodes_of p ≤ 128
+    → length old + disjunct_count all ≤ most_parts → length now + nodes_of p ≤ most_parts
 room_more seen old now asked all ps p later h is few = omega (arith, numbered_count seen old now asked ps h, ap disjunct_count is, count_more ps p later, few)
 
 pub numbered_more : (seen : Observed) (old now next : List Node) (asked told : List Asked) (one : Asked) (ps : List Piece) (p : Piece) → Numbered seen old now asked ps
@@ -78,7 +79,7 @@ count_within (e ∷ ds) d later = omega (arith, few_in e, count_within ds d late
 
 -- the next disjunct has room
 pub disjunct_room : (seen : Observed) (now : List Node) (asked : List (List Asked)) (all ds : List (List Piece)) (d : List Piece) (later : List (List Piece)) → Planned seen now asked ds → all ≡ ds ++ d ∷ later
-    → disjuncts_count all ≤ 128 → length now + disjunct_count d ≤ 128
+    → disjuncts_count all ≤ most_parts → length now + disjunct_count d ≤ most_parts
 disjunct_room seen now asked all ds d later h is few =
     omega (arith, ap (λ (list : List Node). length list) h.nodes, length-disjunct_nodes seen 0 ds, ap disjuncts_count is, count_within ds d later, few)
 

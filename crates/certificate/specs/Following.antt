@@ -2,9 +2,9 @@
 use Rattle.std.specs.Prelude.{◌≡◌, ℕ, ◌+◌}
 use Rattle.certificate_lines.specs.declared.line.Line.{Line}
 use Rattle.certificate_lines.specs.declared.line.Line.TheVariants as line
-use Rattle.certified_nodes.specs.Nodes.{NodesView, MayBeginNode, BeginsNode, MayBeginRow}
-use Rattle.certified_nodes.specs.Nodes.{with_begun_row, MayRaiseRow, with_raised_row, MayConclude}
-use Rattle.certified_nodes.specs.Nodes.{Concludes, looks_of, disjunct_looks}
+use Rattle.certificate_nodes.specs.Nodes.{NodesView, MayBeginNode, BeginsNode, MayBeginRow}
+use Rattle.certificate_nodes.specs.Nodes.{with_begun_row, MayRaiseRow, with_raised_row, MayConclude}
+use Rattle.certificate_nodes.specs.Nodes.{Concludes, looks_of, disjunct_looks}
 
 -- the line is justified, and leaves these nodes
 abbrev pub Follows : NodesView → Line → NodesView → Type 0

@@ -1,13 +1,14 @@
--- The plan of a formula by numbers. Its nodes are the operands of its operators, an inner one before
--- the outer one and else in the order of the parts, and `before` nodes stand before the first.
+-- The plan of a formula by numbers. Its nodes are the operands of its operators, an inner one
+-- before the outer one and else in the order of the parts, and `before` nodes stand before the
+-- first.
 use Rattle.std.specs.Prelude.{ℕ, ◌+◌, List, [], ◌∷◌, ◌++◌}
 use Rattle.rctl_parts.specs.Pieces.{Piece, Pieces, atom, temporal, none, more, pieces}
 use Rattle.part_pulls.specs.declared.observed.Observed.{Observed}
 use Rattle.part_pulls.specs.Systems.{pulls_of_atom}
-use Rattle.certified_nodes.specs.declared.plan.Asked.{Asked}
-use Rattle.certified_nodes.specs.declared.plan.Asked.TheVariants as asked
-use Rattle.certified_nodes.specs.declared.plan.Node.{Node}
-use Rattle.certified_nodes.specs.declared.plan.Plan.{Plan}
+use Rattle.certificate_nodes.specs.declared.plan.Asked.{Asked}
+use Rattle.certificate_nodes.specs.declared.plan.Asked.TheVariants as asked
+use Rattle.certificate_nodes.specs.declared.plan.Node.{Node}
+use Rattle.certificate_nodes.specs.declared.plan.Plan.{Plan}
 
 abbrev mutual
   -- how many operators a part has, and so how many nodes

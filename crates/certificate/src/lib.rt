@@ -17,14 +17,14 @@
 //! the memory that a call takes.
 #![tactic(auto)]
 
-mod certificate_nodes;
 mod laws;
 mod plan;
 mod starting;
 mod taking;
+mod verified_nodes;
 
-pub use certificate_nodes::CertificateNodes;
 pub use laws::{a_conclusion_is_the_truth, an_accepted_certificate_tells_the_truth};
 pub use plan::plan_of;
 pub use starting::nodes_for;
 pub use taking::take_line;
+pub use verified_nodes::CertificateNodes;

@@ -1,15 +1,16 @@
 //! The plan of a formula.
 ghost use Rattle.std.specs.Prelude.{◌≡◌, ◌+◌, ◌≤◌, ◌++◌, length, IfOk, OnOk};
+ghost use Rattle.pota_base.specs.Limits.{most_parts};
 ghost use Rattle.rctl_parts.specs.Pieces.{piece_of, pieces_of, pieces, disjuncts_of};
 ghost use Rattle.rctl_parts.specs.MadeFor.{PieceFits, EachFits, AllFit, disjuncts_count};
 ghost use Rattle.part_pulls.specs.Observing.{IsReady, scope_seen, lens_seen};
 ghost use Rattle.part_pulls.specs.Counters.{AllRise, CountersRise, counters_of_part};
 ghost use Rattle.part_pulls.specs.Counters.{counters_of_parts};
-ghost use Rattle.certified_nodes.specs.Plans.{IsPlan};
+ghost use Rattle.certificate_nodes.specs.Plans.{IsPlan};
 ghost use Rattle.certificate.specs.Numbering.{nodes_of, disjunct_count, asked_by, asked_by_all};
 ghost use Rattle.certificate.specs.Numbering.{nodes_in, nodes_in_all, plan_of};
 
-use certified_nodes::{Asked, Node, Plan};
+use certificate_nodes::{Asked, Node, Plan};
 use part_pulls::{Observed, pulls_of_atom};
 use pota_base::{List, NoMemory};
 use rctl_parts::Part;
@@ -26,7 +27,7 @@ fn number_parts(
     requires ready { IsReady seen.now }
     requires fits { EachFits (scope_seen seen.now) (pieces_of parts.now) }
     requires counters { AllRise seen.now (counters_of_parts (pieces_of parts.now)) }
-    requires count { length nodes.old + disjunct_count (pieces_of parts.now) ≤ 128 }
+    requires count { length nodes.old + disjunct_count (pieces_of parts.now) ≤ most_parts }
     ensures nodes { OnOk result (nodes.new ≡ nodes.old
         ++ nodes_in_all seen.now (length nodes.old) (pieces (pieces_of parts.now))) }
     ensures asked { IfOk result (λ asked. asked
@@ -51,7 +52,7 @@ fn number_part(
     requires ready { IsReady seen.now }
     requires fits { PieceFits (scope_seen seen.now) (piece_of part.now) }
     requires counters { AllRise seen.now (counters_of_part (piece_of part.now)) }
-    requires count { length nodes.old + nodes_of (piece_of part.now) ≤ 128 }
+    requires count { length nodes.old + nodes_of (piece_of part.now) ≤ most_parts }
     ensures nodes { OnOk result (nodes.new ≡ nodes.old
         ++ nodes_in seen.now (length nodes.old) (piece_of part.now)) }
     ensures asked { IfOk result (λ asked. asked
@@ -82,7 +83,7 @@ pub fn plan_of(alloc: Global, seen: &Observed, disjuncts: &[List<Part>]) -> Resu
     requires ready { IsReady seen.now }
     requires fits { AllFit (scope_seen seen.now) (disjuncts_of disjuncts.now) }
     requires counters { CountersRise seen.now (disjuncts_of disjuncts.now) }
-    requires count { disjuncts_count (disjuncts_of disjuncts.now) ≤ 128 }
+    requires count { disjuncts_count (disjuncts_of disjuncts.now) ≤ most_parts }
     ensures plan { IfOk result (λ plan. plan ≡ plan_of seen.now (disjuncts_of disjuncts.now)) }
     ensures fits { IfOk result (IsPlan (lens_seen seen.now)) }
 {

@@ -1,14 +1,15 @@
 //! The nodes of a formula, before one is begun.
 ghost use Rattle.std.specs.Prelude.{◌≡◌, ◌≤◌, IfOk};
+ghost use Rattle.pota_base.specs.Limits.{most_parts};
 ghost use Rattle.rctl_parts.specs.Pieces.{disjuncts_of};
 ghost use Rattle.rctl_parts.specs.MadeFor.{AllFit, disjuncts_count};
 ghost use Rattle.part_pulls.specs.Observing.{IsReady, clocks_seen, scope_seen};
 ghost use Rattle.part_pulls.specs.Counters.{CountersRise};
-ghost use Rattle.certified_nodes.specs.Nodes.{AreNodes, fresh_nodes};
+ghost use Rattle.certificate_nodes.specs.Nodes.{AreNodes, fresh_nodes};
 ghost use Rattle.certificate.specs.Numbering.{plan_of};
 
 use crate::plan::plan_of;
-use certified_nodes::Nodes;
+use certificate_nodes::Nodes;
 use part_pulls::Observed;
 use pota_base::{List, NoMemory};
 use rctl_parts::Part;
@@ -23,7 +24,7 @@ pub fn nodes_for(alloc: Global, seen: Observed, disjuncts: &[List<Part>]) -> Res
     requires ready { IsReady seen }
     requires fits { AllFit (scope_seen seen) (disjuncts_of disjuncts.now) }
     requires counters { CountersRise seen (disjuncts_of disjuncts.now) }
-    requires count { disjuncts_count (disjuncts_of disjuncts.now) ≤ 128 }
+    requires count { disjuncts_count (disjuncts_of disjuncts.now) ≤ most_parts }
     ensures nodes { IfOk result AreNodes }
     ensures fresh { IfOk result (λ nodes. nodes
         ≡ fresh_nodes (clocks_seen seen) (plan_of seen (disjuncts_of disjuncts.now))) }

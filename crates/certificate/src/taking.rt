@@ -5,7 +5,7 @@ ghost use Rattle.certificate_text.specs.Taking.{NoneFollows};
 ghost use Rattle.certificate.specs.Following.{Follows, looks_for};
 
 use certificate_lines::Line;
-use certified_nodes::Nodes;
+use certificate_nodes::Nodes;
 use pota_base::{NoMemory, Steps};
 use std::alloc::Global;
 use std::sync::ledger::Ledger;

@@ -6,6 +6,8 @@ use Rattle.std.proofs.KnownBytes.{Appends-nil, Appends-trans}
 use Rattle.std.proofs.lemmas.Option.{none-some}
 use Rattle.pota_base.specs.declared.fault.Failed.{Failed}
 use Rattle.pota_base.specs.declared.status.Status.TheVariants as status
+use Rattle.pota_base.specs.Limits.{longest_log}
+use Rattle.pota_base.specs.Changes.{behind_of, change_of, counts_of}
 use Rattle.event_log.specs.declared.item.LogFault.{LogFault}
 use Rattle.rctl_grammar.specs.declared.tree.Tree.{Tree}
 use Rattle.rctl_parts.specs.Pieces.{Piece, disjuncts_of}
@@ -13,9 +15,9 @@ use Rattle.rctl_class.specs.Nodes.{formula_of}
 use Rattle.command_words.specs.declared.request.Product.TheVariants as product
 use Rattle.command_words.specs.declared.request.Task.TheVariants as task
 use Rattle.stated_formula.specs.declared.formula.Stated.{Stated}
-use Rattle.run_request.specs.Questions.{AsksFor}
+use Rattle.call_request.specs.Questions.{AsksFor}
 use Rattle.stated_formula.specs.Stating.{IsStated}
-use Rattle.run_request.proofs.OneQuestion.{asks_one}
+use Rattle.call_request.proofs.OneQuestion.{asks_one}
 use Rattle.log_rules.specs.SoFar.{counted}
 use Rattle.fault_kinds.specs.declared.refusal.Refusal.{Refusal}
 use Rattle.fault_kinds.specs.declared.refusal.Refusal.TheVariants as refusal
@@ -39,14 +41,14 @@ use Rattle.log_answers.specs.declared.stop.Verdict.{Verdict}
 use Rattle.log_answers.specs.Checking.{AreReportsFor}
 use Rattle.log_answers.specs.Inputs.{due_by, TellsDueBy}
 use Rattle.fault_line.specs.Faults.{status_of, fault_of_refusal}
-use Rattle.run_promise.specs.Asking.{Handing, Writes, certifying, reading_of, due_of}
+use Rattle.call_promise.specs.Asking.{Handing, Writes, certifying, reading_of, due_of}
 use Rattle.certificate_lines.specs.Spelling.{formula_line}
 use Rattle.certify.specs.Certifying.{IsCertificateOf, IsFrontOfCertificate, HasFront, IsCertifying}
 use Rattle.rctl_parts.specs.declared.part.Part.{Part}
 use Rattle.part_pulls.specs.declared.observed.Observed.{Observed}
-use Rattle.run_promise.specs.Certificates.{IsTrueAtStart, no_watches, disjuncts_on, line_of, IsCertificateFront}
-use Rattle.run_promise.specs.Run.{AllTell, IsTold, HasVerdict, IsRefused, HasPart, HasCertificateFront, AsksCertificate, Answer, Ran}
-use Rattle.run_promise.proofs.Clauses.{not_both}
+use Rattle.call_promise.specs.Certificates.{IsTrueAtStart, no_watches, disjuncts_on, line_of, IsCertificateFront}
+use Rattle.call_promise.specs.Run.{AllTell, IsTold, HasVerdict, IsRefused, HasPart, HasCertificateFront, AsksCertificate, Answer, Ran}
+use Rattle.call_promise.proofs.Clauses.{not_both}
 use Rattle.batch_answers.specs.Outcome.{fault_of, faulty_outcome, outcome_of}
 use Rattle.batch_answers.specs.Reading.{judgement_in, StopsAt, HasReadLog}
 use Rattle.certificate_answers.specs.inside.Certifying.{aim_for, HoldsOn, IsLogSeen, verdict_of}
@@ -84,8 +86,8 @@ module _ (t : Tree) (log : Prefix) (checked : CheckedLog) (sees : IsLogSeen t lo
         (subst (λ (d : List (List Piece)). Is (observed_alone log) d line) (ap disjuncts_of parts_are ∙ sees.split) (subst (λ (o : Observed). Is o (disjuncts_of parts) line) sees.seen h))
 
   -- nothing was written yet
-  pub unwritten : (held : Option (List ℕ)) (of batches : ℕ) (stop : Stop) → stop ≡ record { batches = 0; cause = causes.Memory } → Certifies held held of of t batches log (Err stop)
-  unwritten held of batches stop is = subst (λ (x : Stop). Certifies held held of of t batches log (Err x)) (sym is) (record {
+  pub unwritten : (held : Option (List ℕ)) (of batches : ℕ) (stop : Stop) → stop ≡ record { batches = 0; cause = causes.Memory } → Certifies (change_of held held of of) t batches log (Err stop)
+  unwritten held of batches stop is = subst (λ (x : Stop). Certifies (change_of held held of of) t batches log (Err x)) (sym is) (record {
     written = [];
     wrote = Appends-nil held;
     later = omega arith;
@@ -96,7 +98,7 @@ module _ (t : Tree) (log : Prefix) (checked : CheckedLog) (sees : IsLogSeen t lo
     front_of : (h : HasFront held held' checked.seen (disjuncts_of parts) line) → IsCertificateFront t log h.part
     front_of h = record { front = of_log parts parts_are (λ o d l. IsFrontOfCertificate o d l h.part) line line_is h.front }
 
-    short : of' ≡ of → HasFront held held' checked.seen (disjuncts_of parts) line → Certifies held held' of of' t batches log (Err (record { batches = 0; cause = causes.Memory }))
+    short : of' ≡ of → HasFront held held' checked.seen (disjuncts_of parts) line → Certifies (change_of held held' of of') t batches log (Err (record { batches = 0; cause = causes.Memory }))
     short calm h = record {
       written = h.part;
       wrote = h.written;
@@ -107,7 +109,7 @@ module _ (t : Tree) (log : Prefix) (checked : CheckedLog) (sees : IsLogSeen t lo
     abbrev Means : Type 0
     Means = (text : List ℕ) (told : Bool) → IsCertificateOf checked.seen (disjuncts_of parts) line text told → (told ≡ true) ↔ HoldsOn checked.seen (disjuncts_of checked.disjuncts)
 
-    ended_so : Means → (ended : Result Bool Failed) → IsCertifying ended held held' of of' checked.seen (disjuncts_of parts) line → Certifies held held' of of' t batches log (verdict_of ended batches)
+    ended_so : Means → (ended : Result Bool Failed) → IsCertifying ended (change_of held held' of of') checked.seen (disjuncts_of parts) line → Certifies (change_of held held' of of') t batches log (verdict_of ended batches)
     ended_so means (Ok told) h =
         let holds = means h.text told h.certificate in
         let truth : (told ≡ true) ↔ IsTrueAtStart no_watches t log = (λ e. sees.truth.0 (holds.0 e), λ x. holds.1 (sees.truth.1 x)) in
@@ -120,9 +122,9 @@ module _ (t : Tree) (log : Prefix) (checked : CheckedLog) (sees : IsLogSeen t lo
         }
     ended_so means (Err failed) h = record { written = h.part.part; wrote = h.part.written; later = h.later; to = (front_of h.part, refl, h.rose) }
 
-    pub written_so : Means → (result : Result Verdict Stop) → PutsCertificate held held' of of' checked.seen (disjuncts_of parts) line batches result → Certifies held held' of of' t batches log result
-    written_so means result (inl h) = subst (λ (x : Result Verdict Stop). Certifies held held' of of' t batches log x) (sym h.0) (short h.1 h.2)
-    written_so means result (inr h) = subst (λ (x : Result Verdict Stop). Certifies held held' of of' t batches log x) (sym h.1) (ended_so means h.0 h.2)
+    pub written_so : Means → (result : Result Verdict Stop) → PutsCertificate (change_of held held' of of') checked.seen (disjuncts_of parts) line batches result → Certifies (change_of held held' of of') t batches log result
+    written_so means result (inl h) = subst (λ (x : Result Verdict Stop). Certifies (change_of held held' of of') t batches log x) (sym h.0) (short h.1 h.2)
+    written_so means result (inr h) = subst (λ (x : Result Verdict Stop). Certifies (change_of held held' of of') t batches log x) (sym h.1) (ended_so means h.0 h.2)
 
 -- ---- no text is due where a fault is
 
@@ -167,7 +169,7 @@ module _ {X : Type 0} {P : X → Type 0} (says : Says X P) (s : Stated) (check :
   abbrev t : Tree
   t = s.formula.tree
 
-  module _ {T : Type 0} (x : T) (h : HasReadLog left left' held now lf lf' of of_now says aim false check (Ok x)) where
+  module _ {T : Type 0} (x : T) (h : HasReadLog (change_of left left' lf lf') (change_of held now of of_now) says aim false check (Ok x)) where
     abbrev log_there : Prefix
     log_there = (whole_log says aim false check h.read h.written h.to.1).0
 
@@ -179,7 +181,7 @@ module _ {X : Type 0} {P : X → Type 0} (says : Says X P) (s : Stated) (check :
       front = front;
     }
 
-    stops : (f : StopCause) (n : ℕ) (text : List ℕ) → CertifyStops f n of_now of' t check.log.intake.batches log_there text → CertifyStopsBy f n left' lf lf' of of' aim t h.read text
+    stops : (f : StopCause) (n : ℕ) (text : List ℕ) → CertifyStops f n (counts_of of_now of') t check.log.intake.batches log_there text → CertifyStopsBy f n (behind_of left' lf lf' of of') aim t h.read text
     unfolding has_front
     stops (causes.Refused r) n text k = absurd k
     stops causes.Read n text k = absurd k
@@ -190,7 +192,7 @@ module _ {X : Type 0} {P : X → Type 0} (says : Says X P) (s : Stated) (check :
     )
     stops causes.Memory n text k = (inr (has_front text k.0), k.1)
 
-    made : (result : Result Verdict Stop) (text : List ℕ) → CertifiesTo of_now of' t check.log.intake.batches log_there text result → CertifiesBy left' lf lf' of of' aim t h.read text result
+    made : (result : Result Verdict Stop) (text : List ℕ) → CertifiesTo (counts_of of_now of') t check.log.intake.batches log_there text result → CertifiesBy (behind_of left' lf lf' of of') aim t h.read text result
     made (Ok v) text k = (
       h.to.0,
       record {
@@ -204,7 +206,7 @@ module _ {X : Type 0} {P : X → Type 0} (says : Says X P) (s : Stated) (check :
     )
     made (Err stop) text k = stops stop.cause stop.batches text k
 
-    certified : (result : Result Verdict Stop) → Certifies now held' of_now of' t check.log.intake.batches log_there result → HasCertified left left' held held' lf lf' of of' aim t result
+    certified : (result : Result Verdict Stop) → Certifies (change_of now held' of_now of') t check.log.intake.batches log_there result → HasCertified (change_of left left' lf lf') (change_of held held' of of') aim t result
     certified result r = record {
       read = h.read;
       written = h.written ++ r.written;
@@ -212,36 +214,36 @@ module _ {X : Type 0} {P : X → Type 0} (says : Says X P) (s : Stated) (check :
       wrote = Appends-trans held now held' h.written r.written h.wrote r.wrote;
       log_later = h.log_later;
       out_later = omega (arith, h.out_later, r.later);
-      to = subst (λ (text : List ℕ). CertifiesBy left' lf lf' of of' aim t h.read text result)
+      to = subst (λ (text : List ℕ). CertifiesBy (behind_of left' lf lf' of of') aim t h.read text result)
           (sym (ap (λ (front : List ℕ). front ++ r.written) h.to.1.stands.texts)) (made result r.written r.to);
     }
 
     there : (j : Judgement) × (log : Prefix) × IsCheckOf says aim check j × HasClosed j log
     there = (judgement_in aim h.read, log_there, h.to.1.stands.check_is, closed_log says aim false check h.read h.written h.to.1)
 
-  pub whole_there : {T : Type 0} (x : T) (each : Bool) → each ≡ false → HasReadLog {T = T} left left' held now lf lf' of of_now says aim each check (Ok x) → (j : Judgement) × (log : Prefix) × IsCheckOf says aim check j × HasClosed j log
-  whole_there {T} x each none h = there x (subst (λ (e : Bool). HasReadLog {T = T} left left' held now lf lf' of of_now says aim e check (Ok x)) none h)
+  pub whole_there : {T : Type 0} (x : T) (each : Bool) → each ≡ false → HasReadLog {T = T} (change_of left left' lf lf') (change_of held now of of_now) says aim each check (Ok x) → (j : Judgement) × (log : Prefix) × IsCheckOf says aim check j × HasClosed j log
+  whole_there {T} x each none h = there x (subst (λ (e : Bool). HasReadLog {T = T} (change_of left left' lf lf') (change_of held now of of_now) says aim e check (Ok x)) none h)
 
-  pub certified_log : {T : Type 0} (x : T) (each : Bool) → each ≡ false → HasReadLog {T = T} left left' held now lf lf' of of_now says aim each check (Ok x) → (result : Result Verdict Stop)
-      → ((j : Judgement) (log : Prefix) → IsCheckOf says aim check j → HasClosed j log → Certifies now held' of_now of' t check.log.intake.batches log result)
-      → HasCertified left left' held held' lf lf' of of' aim t result
+  pub certified_log : {T : Type 0} (x : T) (each : Bool) → each ≡ false → HasReadLog {T = T} (change_of left left' lf lf') (change_of held now of of_now) says aim each check (Ok x) → (result : Result Verdict Stop)
+      → ((j : Judgement) (log : Prefix) → IsCheckOf says aim check j → HasClosed j log → Certifies (change_of now held' of_now of') t check.log.intake.batches log result)
+      → HasCertified (change_of left left' lf lf') (change_of held held' of of') aim t result
   unfolding there
   certified_log {T} x each none h result makes =
-      let k = subst (λ (e : Bool). HasReadLog {T = T} left left' held now lf lf' of of_now says aim e check (Ok x)) none h in
+      let k = subst (λ (e : Bool). HasReadLog {T = T} (change_of left left' lf lf') (change_of held now of of_now) says aim e check (Ok x)) none h in
       let w = there x k in
       certified x k result (makes w.0 w.1 w.2 w.3)
 
   -- nothing is written while the log is read
-  read_stops : (f : StopCause) (n : ℕ) (bytes text : List ℕ) → StopsAt f n left' lf lf' of of_now aim false bytes text
-      → CertifyStopsBy f n left' lf lf' of of_now aim t bytes text
+  read_stops : (f : StopCause) (n : ℕ) (bytes text : List ℕ) → StopsAt f n (behind_of left' lf lf' of of_now) aim false bytes text
+      → CertifyStopsBy f n (behind_of left' lf lf' of of_now) aim t bytes text
   read_stops (causes.Refused r) n bytes text k = k
   read_stops causes.Read n bytes text k = k
   read_stops causes.Write n bytes text k = absurd (no_part k.0.before k.0.behind k.0.log k.0.are)
   read_stops causes.Memory n bytes text k =
       (inl (subst (λ (ps : List Prefix). AreReportsFor aim ps text) (no_front k.front k.rest k.are) k.texts), k.count)
 
-  not_read_so : {T : Type 0} (stop : Stop) → HasReadLog {T = T} left left' held now lf lf' of of_now says aim false check (Err stop)
-      → HasCertified left left' held now lf lf' of of_now aim t (Err stop)
+  not_read_so : {T : Type 0} (stop : Stop) → HasReadLog {T = T} (change_of left left' lf lf') (change_of held now of of_now) says aim false check (Err stop)
+      → HasCertified (change_of left left' lf lf') (change_of held now of of_now) aim t (Err stop)
   not_read_so stop h = record {
     read = h.read;
     written = h.written;
@@ -252,10 +254,10 @@ module _ {X : Type 0} {P : X → Type 0} (says : Says X P) (s : Stated) (check :
     to = read_stops stop.cause stop.batches h.read h.written h.to;
   }
 
-  pub not_read : {T : Type 0} (stop : Stop) (each : Bool) → each ≡ false → HasReadLog {T = T} left left' held now lf lf' of of_now says aim each check (Err stop)
-      → HasCertified left left' held now lf lf' of of_now aim t (Err stop)
+  pub not_read : {T : Type 0} (stop : Stop) (each : Bool) → each ≡ false → HasReadLog {T = T} (change_of left left' lf lf') (change_of held now of of_now) says aim each check (Err stop)
+      → HasCertified (change_of left left' lf lf') (change_of held now of of_now) aim t (Err stop)
   not_read {T} stop each none h =
-      not_read_so {T = T} stop (subst (λ (e : Bool). HasReadLog {T = T} left left' held now lf lf' of of_now says aim e check (Err stop)) none h)
+      not_read_so {T = T} stop (subst (λ (e : Bool). HasReadLog {T = T} (change_of left left' lf lf') (change_of held now of of_now) says aim e check (Err stop)) none h)
 
 -- ---- the answer to the words
 
@@ -270,7 +272,7 @@ module _ (s : Stated) (words : List (List ℕ)) (asks : AsksFor words (task.Read
   due_texts ended bytes text = AreTexts (Writes on.watches tree product.Certificate) (reported false (due_by log_reading asked_aim ended bytes)) text
 
   due_tell : (ended : Bool) (bytes : List ℕ) → AllTell on.watches tree product.Certificate (reported false (due_by log_reading asked_aim ended bytes))
-  due_tell ended bytes = all_ordered (unknown_name asked_aim.node []) (counters_in (formula_of asked_aim.node)) 67108864 log_reading log_is_read false ended bytes
+  due_tell ended bytes = all_ordered (unknown_name asked_aim.node []) (counters_in (formula_of asked_aim.node)) longest_log log_reading log_is_read false ended bytes
 
   abbrev told_of : (ended : Bool) (bytes text : List ℕ) (n : ℕ) → n ≡ (due_by log_reading asked_aim ended bytes).batches → due_texts ended bytes text → IsTold on words ended bytes text n
   unfolding due_of reading_of
@@ -327,8 +329,8 @@ module _ (s : Stated) (words : List (List ℕ)) (asks : AsksFor words (task.Read
     front_there (inl none) = inl none
     front_there (inr h) = inr (h.ended, h.log, h.whole, h.front)
 
-    stop_answer : (why : StopCause) (n : ℕ) → CertifyStopsBy why n left lf lf' of of' asked_aim tree read written
-        → Answer (status_of (fault_of why)) left lf lf' of of' on words read written (faulty_outcome n (fault_of why))
+    stop_answer : (why : StopCause) (n : ℕ) → CertifyStopsBy why n (behind_of left lf lf' of of') asked_aim tree read written
+        → Answer (status_of (fault_of why)) (behind_of left lf lf' of of') on words read written (faulty_outcome n (fault_of why))
     unfolding due_of reading_of told_of
     stop_answer (causes.Refused (refusal.Formula x)) n h = (x, inr (inl (refused_by (refusal.Formula x) n h.0 h.1 h.2)))
     stop_answer (causes.Refused (refusal.Log x)) n h = (refusal.Log x, refl, refused_by (refusal.Log x) n h.0 h.1 h.2)
@@ -359,17 +361,17 @@ module _ (s : Stated) (words : List (List ℕ)) (asks : AsksFor words (task.Read
     }
 
     verdict_answer : (b : Bool) (v : Verdict) → v.truth ≡ b → IsAtEnd left → IsCertifiedBy asked_aim tree read written v
-        → Answer (if b then status.True else status.False) left lf lf' of of' on words read written (record { status = if b then status.True else status.False; batches = v.batches; fault = None })
+        → Answer (if b then status.True else status.False) (behind_of left lf lf' of of') on words read written (record { status = if b then status.True else status.False; batches = v.batches; fault = None })
     verdict_answer true v e ended h = inl (verdict_so true v e ended h)
     verdict_answer false v e ended h = inl (verdict_so false v e ended h)
 
-    answer_of : (result : Result Verdict Stop) → CertifiesBy left lf lf' of of' asked_aim tree read written result
-        → Answer (outcome_of result).status left lf lf' of of' on words read written (outcome_of result)
+    answer_of : (result : Result Verdict Stop) → CertifiesBy (behind_of left lf lf' of of') asked_aim tree read written result
+        → Answer (outcome_of result).status (behind_of left lf lf' of of') on words read written (outcome_of result)
     answer_of (Ok v) h = verdict_answer v.truth v refl h.0 h.1
     answer_of (Err stop) h = stop_answer stop.cause stop.batches h
 
-  pub ran_certified : (left left' held held' : Option (List ℕ)) (lf lf' of of' : ℕ) (result : Result Verdict Stop) → HasCertified left left' held held' lf lf' of of' asked_aim tree result
-      → Ran left left' held held' lf lf' of of' on words (outcome_of result)
+  pub ran_certified : (left left' held held' : Option (List ℕ)) (lf lf' of of' : ℕ) (result : Result Verdict Stop) → HasCertified (change_of left left' lf lf') (change_of held held' of of') asked_aim tree result
+      → Ran (change_of left left' lf lf') (change_of held held' of of') on words (outcome_of result)
   ran_certified left left' held held' lf lf' of of' result h = record {
     read = h.read;
     written = h.written;

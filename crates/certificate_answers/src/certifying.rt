@@ -1,5 +1,7 @@
 //! The certificate of a formula on a log that is read.
+ghost use Rattle.pota_base.specs.Blanks.{IsBlankOf};
 ghost use Rattle.std.specs.Prelude.{◌≡◌, ◌<◌, ℕ, false, List as ListOf, IfOk};
+ghost use Rattle.pota_base.specs.Changes.{of_sink, of_source};
 ghost use Rattle.trace_growth.specs.Growing.{IsTrace};
 ghost use Rattle.rctl_grammar.specs.declared.tree.Tree.{Tree};
 ghost use Rattle.rctl_parts.specs.MadeFor.{AreMadeFor};
@@ -7,7 +9,7 @@ ghost use Rattle.rctl_parts.specs.Pieces.{disjuncts_of};
 ghost use Rattle.part_pulls.specs.Counters.{CountersRise};
 ghost use Rattle.part_pulls.specs.Observing.{IsReady, scope_seen};
 ghost use Rattle.command_words.specs.declared.request.Task.TheVariants.{Read};
-ghost use Rattle.run_request.specs.Questions.{AsksFor};
+ghost use Rattle.call_request.specs.Questions.{AsksFor};
 ghost use Rattle.stated_formula.specs.Stating.{IsStated};
 ghost use Rattle.stated_formula.specs.declared.formula.Stated.{Stated as StatedIs};
 ghost use Rattle.log_rules.specs.Judgement.{Judgement, Prefix, waiting};
@@ -15,18 +17,18 @@ ghost use Rattle.batch_answers.specs.PassedOn.{HasClosed, IsCheckOf};
 ghost use Rattle.batch_answers.specs.PassedOn.{Aim, said_by};
 ghost use Rattle.log_answers.specs.Calm.{IsCalmUnlessRead};
 ghost use Rattle.certificate_lines.specs.Spelling.{formula_line};
-ghost use Rattle.run_promise.specs.Asking.{Handing, certifying};
-ghost use Rattle.run_promise.specs.Run.{Ran};
+ghost use Rattle.call_promise.specs.Asking.{Handing, certifying};
+ghost use Rattle.call_promise.specs.Run.{Ran};
 ghost use Rattle.certificate_answers.specs.inside.Certifying.{aim_for, Certifies, HasCertified};
 ghost use Rattle.certificate_answers.specs.inside.Certifying.{IsLogSeen};
 ghost use Rattle.certificate_answers.specs.inside.Certifying.{PutsCertificate, verdict_of};
 ghost use Rattle.batch_answers.specs.Outcome.{outcome_of};
 
 use batch_answers::{CheckedLog, ReportedLog, read_log};
+use call_options::Shown;
 use certify::{certificates_tell_the_truth, certify};
 use log_answers::{Checking, Means, Stop, StopCause, Verdict};
 use pota_base::{Bytes, Failed, Gate, List, NoMemory, Sink, Source, Steps};
-use run_options::Shown;
 use stated_formula::Stated;
 use std::alloc::Global;
 use std::marker::Brand;
@@ -68,8 +70,8 @@ fn put_certificate<O: Sink>(
     requires ready { IsReady checked.seen }
     requires made { AreMadeFor (scope_seen checked.seen) (disjuncts_of checked.disjuncts) }
     requires rise { CountersRise checked.seen (disjuncts_of checked.disjuncts) }
-    ensures { PutsCertificate (O.held out.old) (O.held out.new) (O.faults out.old)
-        (O.faults out.new) checked.seen (disjuncts_of checked.disjuncts) line.now batches result }
+    ensures { PutsCertificate (of_sink O.Sink out.old out.new) checked.seen
+        (disjuncts_of checked.disjuncts) line.now batches result }
 {
     let CheckedLog {
         stated,
@@ -96,9 +98,8 @@ fn write_certificate<O: Sink>(
     requires trace { IsTrace checked.seen.trace.states }
     requires made { AreMadeFor (scope_seen checked.seen) (disjuncts_of checked.disjuncts) }
     requires rise { CountersRise checked.seen (disjuncts_of checked.disjuncts) }
-    ensures { (t : Tree) (log : Prefix) → IsLogSeen t log checked
-        → Certifies (O.held out.old) (O.held out.new) (O.faults out.old) (O.faults out.new) t
-        batches log result }
+    ensures { (t : Tree) (log : Prefix) → IsLogSeen t log checked → Certifies
+        (of_sink O.Sink out.old out.new) t batches log result }
 {
     certificates_tell_the_truth();
     let Ok(line) = formula_line(alloc, checked.stated.text.as_slice()) else {
@@ -117,9 +118,9 @@ fn certify_read<L: Ledger, O: Sink>(
     requires { (aim : Aim) × (j : Judgement) × (log : Prefix)
         × IsCheckOf (said_by answers) aim checking.check j × HasClosed j log }
     ensures { (s : StatedIs) (text : ListOf ℕ) → IsStated text s → (j : Judgement) (log : Prefix)
-        → IsCheckOf (said_by answers) (aim_for s) checking.check j → HasClosed j log
-        → Certifies (O.held out.old) (O.held out.new) (O.faults out.old) (O.faults out.new)
-        s.formula.tree checking.check.log.intake.batches log result }
+        → IsCheckOf (said_by answers) (aim_for s) checking.check j → HasClosed j log → Certifies
+        (of_sink O.Sink out.old out.new) s.formula.tree checking.check.log.intake.batches log
+        result }
 {
     let Checking { check, .. } = checking;
     let batches = check.log.intake.batches;
@@ -136,10 +137,9 @@ fn certify_log<R: Threads + Sync, G: Gate, L: Ledger, S: Source, O: Sink>(
     requires last { checking.each_batch ≡ false }
     requires check { (s : StatedIs) × (text : ListOf ℕ) × IsStated text s
         × IsCheckOf (said_by answers) (aim_for s) checking.check waiting }
-    ensures certifies { (s : StatedIs) (text : ListOf ℕ) → IsStated text s
-        → IsCheckOf (said_by answers) (aim_for s) checking.check waiting
-        → HasCertified (S.left log.old) (S.left log.new) (O.held out.old) (O.held out.new)
-        (S.faults log.old) (S.faults log.new) (O.faults out.old) (O.faults out.new) (aim_for s)
+    ensures certifies { (s : StatedIs) (text : ListOf ℕ) → IsStated text s → IsCheckOf
+        (said_by answers) (aim_for s) checking.check waiting → HasCertified
+        (of_source S.Source log.old log.new) (of_sink O.Sink out.old out.new) (aim_for s)
         s.formula.tree result }
     ensures calm { IsCalmUnlessRead (S.faults log.old) (S.faults log.new) result }
 {
@@ -174,15 +174,12 @@ fn certify_text<R: Threads + Sync, G: Gate, L: Ledger, S: Source, O: Sink>(
     log: &mut S,
     out: &mut O,
 ) -> Result<Verdict, Stop>
-    requires name { blank.name ≡ L.name }
-    requires parts { blank.parts ≡ L.parts }
-    requires one { 0 < blank.parts }
+    requires blank { IsBlankOf L.name L.parts blank }
     requires check { (s : StatedIs) × (text : ListOf ℕ) × IsStated text s
         × IsCheckOf (said_by answers) (aim_for s) check waiting }
-    ensures certifies { (s : StatedIs) (text : ListOf ℕ) → IsStated text s
-        → IsCheckOf (said_by answers) (aim_for s) check waiting
-        → HasCertified (S.left log.old) (S.left log.new) (O.held out.old) (O.held out.new)
-        (S.faults log.old) (S.faults log.new) (O.faults out.old) (O.faults out.new) (aim_for s)
+    ensures certifies { (s : StatedIs) (text : ListOf ℕ) → IsStated text s → IsCheckOf
+        (said_by answers) (aim_for s) check waiting → HasCertified
+        (of_source S.Source log.old log.new) (of_sink O.Sink out.old out.new) (aim_for s)
         s.formula.tree result }
     ensures calm { IsCalmUnlessRead (S.faults log.old) (S.faults log.new) result }
 {
@@ -202,10 +199,10 @@ pub fn answer_certificate<R: Threads + Sync, G: Gate, S: Source, O: Sink>(
     out: &mut O,
 ) -> Result<Verdict, Stop>
     requires { (text : ListOf ℕ) × IsStated text stated }
-    ensures ran { (words : ListOf (ListOf ℕ)) (text : ListOf ℕ) → IsStated text stated
-        → AsksFor words (Read certifying) stated.formula.tree → (on : Handing)
-        → Ran (S.left log.old) (S.left log.new) (O.held out.old) (O.held out.new) (S.faults log.old)
-        (S.faults log.new) (O.faults out.old) (O.faults out.new) on words (outcome_of result) }
+    ensures ran { (words : ListOf (ListOf ℕ)) (text : ListOf ℕ) → IsStated text stated → AsksFor
+        words (Read certifying) stated.formula.tree → (on : Handing) → Ran
+        (of_source S.Source log.old log.new) (of_sink O.Sink out.old out.new) on words
+        (outcome_of result) }
     ensures calm { IsCalmUnlessRead (S.faults log.old) (S.faults log.new) result }
 {
     let Ok(check) = unwatched_check(means.alloc, stated) else {

@@ -14,18 +14,18 @@ use Rattle.certificate_lines.specs.declared.line.Line.{Line}
 use Rattle.certificate_lines.specs.declared.line.Line.TheVariants.{Node, Row, Raise, Verdict}
 use Rattle.certificate_lines.specs.Spelling.{lines_text}
 use Rattle.certificate_text.specs.Running.{IsOfNode, certificate_lines}
-use Rattle.certified_rows.specs.Begun.{BegunView, AreCertified, IsWhole as AreWhole, LastIsClosed, fresh_rows, present, present_row}
-use Rattle.certified_rows.proofs.Keeping.{holds_at}
-use Rattle.canonical_rows.specs.Canonical.{after_of}
-use Rattle.certified_nodes.specs.declared.plan.Plan.{Plan}
-use Rattle.certified_nodes.specs.Plans.{node_at, disjunct_at, system_of, system_at}
-use Rattle.certified_nodes.specs.Given.{Gives, IsEnded, SomeCloses}
-use Rattle.certified_nodes.specs.Nodes.{NodesView, AreNodes, OfPresent, MayBeginNode, BeginsNode, nodes_begun, with_present}
-use Rattle.certified_nodes.proofs.Keeping.{node_keeps, begun_keeps, raised_keeps}
-use Rattle.canonical_text.specs.Canonical.{IsNextRaise, IsNext, IsWhole}
-use Rattle.canonical_nodes.specs.Coming.{lines_left}
-use Rattle.canonical_nodes.specs.inside.Coming.{IsNextOfRows, with_line}
-use Rattle.canonical_nodes.proofs.Steps.{of_rows, may_begin, may_raise, no_node, no_verdict, rows_less, node_less, all_begun}
+use Rattle.certificate_table.specs.Begun.{BegunView, AreCertified, IsWhole as AreWhole, LastIsClosed, fresh_rows, present, present_row}
+use Rattle.certificate_table.proofs.Keeping.{holds_at}
+use Rattle.certificate_raises.specs.Canonical.{after_of}
+use Rattle.certificate_nodes.specs.declared.plan.Plan.{Plan}
+use Rattle.certificate_nodes.specs.Plans.{node_at, disjunct_at, system_of, system_at}
+use Rattle.certificate_nodes.specs.Given.{Gives, IsEnded, SomeCloses}
+use Rattle.certificate_nodes.specs.Nodes.{NodesView, AreNodes, OfPresent, MayBeginNode, BeginsNode, nodes_begun, with_present}
+use Rattle.certificate_nodes.proofs.Keeping.{node_keeps, begun_keeps, raised_keeps}
+use Rattle.certificate_canonical.specs.Canonical.{IsNextRaise, IsNext, IsWhole}
+use Rattle.certificate_next_line.specs.Coming.{lines_left}
+use Rattle.certificate_next_line.specs.inside.Coming.{IsNextOfRows, with_line}
+use Rattle.certificate_next_line.proofs.Steps.{of_rows, may_begin, may_raise, no_node, no_verdict, rows_less, node_less, all_begun}
 use Rattle.certify.specs.Certifying.{IsCertificateOf, nodes_of}
 use Rattle.node_slices.proofs.Giving.{decide_closed, given_there}
 

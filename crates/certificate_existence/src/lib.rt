@@ -11,8 +11,8 @@ ghost use Rattle.std.specs.Prelude.{ℕ, List, Bool};
 ghost use Rattle.rctl_parts.specs.Pieces.{Piece};
 ghost use Rattle.part_pulls.specs.declared.observed.Observed.{Observed};
 ghost use Rattle.certificate_lines.specs.declared.line.Line.{Line};
-ghost use Rattle.certified_nodes.specs.Nodes.{NodesView, AreNodes};
-ghost use Rattle.canonical_text.specs.Canonical.{IsWhole};
+ghost use Rattle.certificate_nodes.specs.Nodes.{NodesView, AreNodes};
+ghost use Rattle.certificate_canonical.specs.Canonical.{IsWhole};
 ghost use Rattle.certify.specs.Certifying.{IsCertificateOf, nodes_of};
 
 /// From nodes as they stand, canonical lines come to a verdict.

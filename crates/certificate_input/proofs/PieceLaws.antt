@@ -4,6 +4,7 @@ use Rattle.std.specs.Prelude.{◌==◌, ◌-◌, not, nat_lt}
 use Rattle.std.specs.Bool.{OnTrue, OnFalse}
 use Rattle.std.proofs.lemmas.Bool.{cases_Bool, OnTrue_from, OnFalse_from, ltb-true, ltb-false}
 use Rattle.std.proofs.lemmas.Bool.Decides.{nat_tests}
+use Rattle.pota_base.specs.Limits.{longest_certificate_line}
 use Rattle.certificate_lines.specs.declared.line.Line.{Line}
 use Rattle.certificate_text.specs.declared.said.Stage.{Stage}
 use Rattle.certificate_text.specs.declared.said.Stage.TheVariants as stage
@@ -88,12 +89,12 @@ module _ {N : Type 0} (follows : N → Line → N → Type 0) where
 
   -- ---- bytes that lead on
 
-  room_left : (v : VerifierView N) (line : List ℕ) → length line ≤ 8192 → (IsFull v line → ⊥) → length line < 8192
+  room_left : (v : VerifierView N) (line : List ℕ) → length line ≤ longest_certificate_line → (IsFull v line → ⊥) → length line < longest_certificate_line
   room_left v line few open_ =
-      let other : length line ≡ 8192 → ⊥ = λ e. open_ (inr e) in
+      let other : length line ≡ longest_certificate_line → ⊥ = λ e. open_ (inr e) in
       omega (arith, few, other)
 
-  one_longer : (v : VerifierView N) (line : List ℕ) (b : ℕ) → length line ≤ 8192 → (IsFull v line → ⊥) → length (line ++ b ∷ []) ≤ 8192
+  one_longer : (v : VerifierView N) (line : List ℕ) (b : ℕ) → length line ≤ longest_certificate_line → (IsFull v line → ⊥) → length (line ++ b ∷ []) ≤ longest_certificate_line
   one_longer v line b few open_ = simp length-append (omega (arith, room_left v line few open_))
 
   pub reach_reach : (bytes more : List ℕ) (v : VerifierView N) (line : List ℕ) (mid : VerifierView N) (part : List ℕ) (after : VerifierView N) (rest : List ℕ)
@@ -135,7 +136,7 @@ module _ {N : Type 0} (follows : N → Line → N → Type 0) where
         pick_other (b == 10) _ _ plain (inr (x.0, reach_refused bytes more v (line ++ b ∷ []) mid part n x.1 g))
   ]
 
-  pub reach_judged : (bytes more : List ℕ) (v : VerifierView N) (line : List ℕ) (mid : VerifierView N) (part : List ℕ) (told : Bool) → length line ≤ 8192
+  pub reach_judged : (bytes more : List ℕ) (v : VerifierView N) (line : List ℕ) (mid : VerifierView N) (part : List ℕ) (told : Bool) → length line ≤ longest_certificate_line
       → Reaches follows bytes v line mid part → Judged follows more mid part told → Judged follows (bytes ++ more) v line told
   reach_judged [] more v line mid part told few h g =
       subst (λ (s : VerifierView N). Judged follows more s line told) h.0 (subst (λ (x : List ℕ). Judged follows more mid x told) h.1 g)
@@ -149,8 +150,8 @@ module _ {N : Type 0} (follows : N → Line → N → Type 0) where
   ]
 
   -- each byte leads further, and a line is not too long
-  pub reach_further : (bytes : List ℕ) (v : VerifierView N) (line : List ℕ) (after : VerifierView N) (rest : List ℕ) → length line ≤ 8192 → Reaches follows bytes v line after rest
-      → v.lines * 8193 + length line + length bytes ≤ after.lines * 8193 + length rest
+  pub reach_further : (bytes : List ℕ) (v : VerifierView N) (line : List ℕ) (after : VerifierView N) (rest : List ℕ) → length line ≤ longest_certificate_line → Reaches follows bytes v line after rest
+      → v.lines * (longest_certificate_line + 1) + length line + length bytes ≤ after.lines * (longest_certificate_line + 1) + length rest
   reach_further [] v line after rest few h = let same = ap (λ (x : VerifierView N). x.lines) h.0 in omega (arith, same, ap length h.1)
   reach_further (b ∷ bytes) v line after rest few h = elim (cases_Bool (b == 10)) [
     | inl feed ↦
@@ -211,11 +212,11 @@ module _ {N : Type 0} (follows : N → Line → N → Type 0) where
 
   -- ---- bytes of a line
 
-  full_not : (v : VerifierView N) (line : List ℕ) → (IsAccepted v.stage → ⊥) → length line < 8192 → IsFull v line → ⊥
+  full_not : (v : VerifierView N) (line : List ℕ) → (IsAccepted v.stage → ⊥) → length line < longest_certificate_line → IsFull v line → ⊥
   full_not v line open_ few (inl accepted) = open_ accepted
   full_not v line open_ few (inr full) = omega (arith, few, full)
 
-  pub bytes_reach : (bytes : List ℕ) (v : VerifierView N) (line : List ℕ) → HasNoFeed bytes → (IsAccepted v.stage → ⊥) → length line + length bytes ≤ 8192
+  pub bytes_reach : (bytes : List ℕ) (v : VerifierView N) (line : List ℕ) → HasNoFeed bytes → (IsAccepted v.stage → ⊥) → length line + length bytes ≤ longest_certificate_line
       → Reaches follows bytes v line v (line ++ bytes)
   bytes_reach [] v line plain open_ few = (refl, append-nil line)
   bytes_reach (b ∷ bytes) v line plain open_ few =
@@ -225,13 +226,13 @@ module _ {N : Type 0} (follows : N → Line → N → Type 0) where
             (bytes_reach bytes v (line ++ b ∷ []) plain.1 open_ (simp length-append (omega (arith, few)))),
       )
 
-  pub bytes_over : (bytes more : List ℕ) (v : VerifierView N) (line : List ℕ) → HasNoFeed bytes → (IsAccepted v.stage → ⊥) → length line ≤ 8192
-      → 8192 < length line + length bytes → RefusedWithin follows (bytes ++ more) v line (v.lines + 1)
+  pub bytes_over : (bytes more : List ℕ) (v : VerifierView N) (line : List ℕ) → HasNoFeed bytes → (IsAccepted v.stage → ⊥) → length line ≤ longest_certificate_line
+      → longest_certificate_line < length line + length bytes → RefusedWithin follows (bytes ++ more) v line (v.lines + 1)
   bytes_over [] more v line plain open_ few over = absurd (omega (arith, few, over))
-  bytes_over (b ∷ bytes) more v line plain open_ few over = elim (cases_Bool (length line == 8192)) [
+  bytes_over (b ∷ bytes) more v line plain open_ few over = elim (cases_Bool (length line == longest_certificate_line)) [
     | inl full ↦ pick_other (b == 10) _ _ plain.0 (inl (refl, inr (grind (arith, nat_tests))))
     | inr short ↦
-        let room : length line < 8192 = grind (arith, nat_tests) in
+        let room : length line < longest_certificate_line = grind (arith, nat_tests) in
         pick_other (b == 10) _ _ plain.0 (inr (
           full_not v line open_ room,
           bytes_over bytes more v (line ++ b ∷ []) plain.1 open_ (simp length-append (omega (arith, room))) (simp length-append (omega (arith, over))),
@@ -251,17 +252,17 @@ module _ {N : Type 0} (follows : N → Line → N → Type 0) where
       λ more. byte_behind bytes more v.text v.line plain some (told, accepted_some v.text.stage v.accepted told ready.accepted truth)
 
   pub long_is_over : (v : InputView N) (bytes : List ℕ) (count : ℕ) → IsReady v → HasNoFeed bytes → v.accepted ≡ None → count ≡ length v.line
-      → OnTrue (nat_lt (8192 - count) (length bytes)) (IsOver follows v bytes)
+      → OnTrue (nat_lt (longest_certificate_line - count) (length bytes)) (IsOver follows v bytes)
   long_is_over v bytes count ready plain open_ is =
-      OnTrue_from (nat_lt (8192 - count) (length bytes)) (IsOver follows v bytes) (λ test.
-      let over : 8192 < length v.line + length bytes = omega (arith, ltb-true (8192 - count) (length bytes) test, is, ready.short) in
+      OnTrue_from (nat_lt (longest_certificate_line - count) (length bytes)) (IsOver follows v bytes) (λ test.
+      let over : longest_certificate_line < length v.line + length bytes = omega (arith, ltb-true (longest_certificate_line - count) (length bytes) test, is, ready.short) in
       λ more. bytes_over bytes more v.text v.line plain (accepted_none v.text.stage v.accepted ready.accepted open_) ready.short over)
 
   pub short_is_within : (v : InputView N) (bytes : List ℕ) (count : ℕ) → IsReady v → HasNoFeed bytes → v.accepted ≡ None → count ≡ length v.line
-      → OnFalse (nat_lt (8192 - count) (length bytes)) (StaysInLine follows v bytes)
+      → OnFalse (nat_lt (longest_certificate_line - count) (length bytes)) (StaysInLine follows v bytes)
   short_is_within v bytes count ready plain open_ is =
-      OnFalse_from (nat_lt (8192 - count) (length bytes)) (StaysInLine follows v bytes) (λ test.
-      let few : length v.line + length bytes ≤ 8192 = omega (arith, ltb-false (8192 - count) (length bytes) test, is, ready.short) in
+      OnFalse_from (nat_lt (longest_certificate_line - count) (length bytes)) (StaysInLine follows v bytes) (λ test.
+      let few : length v.line + length bytes ≤ longest_certificate_line = omega (arith, ltb-false (longest_certificate_line - count) (length bytes) test, is, ready.short) in
       (bytes_reach bytes v.text v.line plain (accepted_none v.text.stage v.accepted ready.accepted open_) few, few))
 
   pub bytes_refused : (v : InputView N) (bytes : List ℕ) (n : ℕ) → IsReady v → n ≡ v.lines + 1 → IsOver follows v bytes → RefusedWithin follows bytes v.text v.line n

@@ -1,6 +1,7 @@
 -- Bytes that come behind those before, and what is told of all.
 use Rattle.std.proofs.Common.{◌≡◌, ℕ, ◌<◌, Option, None, Some, List, [], ◌++◌, length, refl, sym, ap, subst, append-nil, arith, inl}
 use Rattle.std.specs.Io.KnownBytes.{IsAtEnd}
+use Rattle.pota_base.specs.Changes.{change_of, left_of}
 use Rattle.input_reading.specs.Intakes.{ReadsAll}
 use Rattle.input_reading.specs.declared.reading.End.{End}
 use Rattle.input_reading.specs.declared.reading.End.TheVariants as end
@@ -49,7 +50,7 @@ module _ {N : Type 0} (follows : N → Line → N → Type 0) (first : VerifierV
 
   -- at the end of the input
   told_end : (t : Told) (left : Option (List ℕ)) (faults faults' : ℕ) (bytes : List ℕ) (v : InputView N) → IsAtEnd left → LeadsTo follows first bytes v → IsEnd follows v t
-      → IsTold follows left faults faults' first [] bytes t
+      → IsTold follows (left_of left faults faults') first [] bytes t
   told_end (told.Accepted truth) left faults faults' bytes v ended so is =
       (ended, subst (λ (x : List ℕ). Judged follows x first [] truth) (append-nil bytes) (reach_judged follows bytes [] first [] v.text v.line truth (omega arith) so.0 is))
   told_end (told.Refused n) left faults faults' bytes v ended so is =
@@ -59,10 +60,10 @@ module _ {N : Type 0} (follows : N → Line → N → Type 0) (first : VerifierV
   -- by why no more is read, with what is kept of the bytes and the line that is refused within them
   module _ (left left' : Option (List ℕ)) (faults faults' : ℕ) (front : List ℕ) (v : InputView N) (o : Option ℕ) where
     abbrev pub Reads : End → Type 0
-    Reads e = ReadsAll left left' faults faults' (λ bytes. LeadsTo follows first bytes v × (o ≡ None)) (λ bytes. IsRefused follows first bytes o) front e
+    Reads e = ReadsAll (change_of left left' faults faults') (λ bytes. LeadsTo follows first bytes v × (o ≡ None)) (λ bytes. IsRefused follows first bytes o) front e
 
     abbrev pub Told_ : Told → Type 0
-    Told_ t = TellsBehind follows left left' faults faults' first [] front t
+    Told_ t = TellsBehind follows (change_of left left' faults faults') first [] front t
 
     pub tells_end : (e : End) (t : Told) → e ≡ end.Ended → Reads e → IsEnd follows v t → Told_ t
     tells_end e t is all told_ =

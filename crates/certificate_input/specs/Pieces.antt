@@ -11,7 +11,8 @@ abbrev pub Reaches : {N : Type 0} → (N → Line → N → Type 0) → List ℕ
     → List ℕ → VerifierView N → List ℕ → Type 0
 Reaches follows [] v line after rest = (after ≡ v) × (rest ≡ line)
 Reaches follows (b ∷ bytes) v line after rest = pick (b == 10)
-    ((mid : VerifierView _) × Justifies follows v line mid × Reaches follows bytes mid [] after rest)
+    ((mid : VerifierView _) × Justifies follows v line mid × Reaches follows bytes mid [] after
+    rest)
     ((IsFull v line → ⊥) × Reaches follows bytes v (line ++ b ∷ []) after rest)
 
 -- Refused at the line of this number within these bytes, whatever comes behind them: it is not

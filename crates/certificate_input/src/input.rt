@@ -10,14 +10,11 @@ ghost use Rattle.certificate_input.specs.inside.Telling.{IsEnd};
 
 use crate::split::split_line;
 use crate::told::Told;
-use pota_base::{NoMemory, Steps};
+use pota_base::{LONGEST_CERTIFICATE_LINE, NoMemory, Steps};
 use std::alloc::Global;
 use std::marker::Model;
 use std::sync::ledger::Ledger;
 use verifier::{Checked, Takes, Verifier};
-
-/// The most bytes of a line, without its line feed.
-const MOST_LINE: usize = 8_192;
 
 /// The lines of a certificate so far, and the bytes of the next one. Behind a refused line, and
 /// without memory, it is used no more.
@@ -73,7 +70,7 @@ impl<N: Takes> CertificateInput<N> {
     {
         match self.accepted {
             Some(_) => !bytes.is_empty(),
-            None => bytes.len() > MOST_LINE - self.line.len(),
+            None => bytes.len() > LONGEST_CERTIFICATE_LINE - self.line.len(),
         }
     }
 

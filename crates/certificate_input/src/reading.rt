@@ -2,9 +2,9 @@
 
 ghost use Rattle.std.specs.Prelude.{◌≡◌, ◌≢◌, None, IfOk, OnErr};
 ghost use Rattle.certificate_text.specs.Taking.{VerifierView};
-ghost use Rattle.input_reading.specs.Changes.{of_source};
-ghost use Rattle.input_reading.specs.Intakes.{HasReadSome};
-ghost use Rattle.certificate_input.specs.Telling.{HasTold, IsFresh};
+ghost use Rattle.pota_base.specs.Changes.{of_source};
+ghost use Rattle.input_reading.specs.Intakes.{ReadsShort};
+ghost use Rattle.certificate_input.specs.Telling.{Tells, IsFresh};
 ghost use Rattle.certificate_input.specs.inside.Telling.{LeadsTo, IsRefused, bytes_left};
 
 use crate::input::CertificateInput;
@@ -57,9 +57,9 @@ pub fn read_certificate<N: Takes, S: Source, L: Ledger>(
     steps: &mut Steps<L>,
 ) -> Result<Told, NoMemory>
     requires { IsFresh verifier }
-    ensures tells { IfOk result (HasTold N.follows (of_source S.Source source.old source.new)
-        verifier front.now) }
-    ensures short { OnErr result (HasReadSome (of_source S.Source source.old source.new)) }
+    ensures tells { IfOk result (Tells N.follows (of_source S.Source source.old source.new) verifier
+        front.now) }
+    ensures short { OnErr result (ReadsShort (of_source S.Source source.old source.new)) }
     ensures calm { result ≢ Ok Told.Failed → S.faults source.new ≡ S.faults source.old }
 {
     let mut input = CertificateInput::new(alloc, verifier);

@@ -13,8 +13,8 @@ use Rattle.certificate_text.specs.Taking.{fresh}
 use Rattle.certificate_text.specs.Bytes.{Judged}
 use Rattle.certificate.specs.Following.{Follows}
 use Rattle.certify.specs.Certifying.{nodes_of}
-use Rattle.run_promise.specs.Asking.{certifying, due_of, reading_of}
-use Rattle.run_promise.specs.Certificates.{disjuncts_on, line_of}
+use Rattle.call_promise.specs.Asking.{certifying, due_of, reading_of}
+use Rattle.call_promise.specs.Certificates.{disjuncts_on, line_of}
 use Rattle.verify_top.specs.PassedOn.{AsksAbout}
 use Rattle.verify_top.specs.Asking.{aim_for, start_of}
 use Rattle.verify_top.specs.Verifying.{certificate_of}

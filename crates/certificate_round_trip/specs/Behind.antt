@@ -5,8 +5,8 @@ use Rattle.rctl_grammar.specs.declared.tree.Tree.{Tree}
 use Rattle.log_rules.specs.Judgement.{Prefix}
 use Rattle.certificate_text.specs.Bytes.{Judged}
 use Rattle.certificate.specs.Following.{Follows}
-use Rattle.run_promise.specs.Asking.{certifying, due_of}
-use Rattle.run_promise.specs.Certificates.{IsCertificateText}
+use Rattle.call_promise.specs.Asking.{certifying, due_of}
+use Rattle.call_promise.specs.Certificates.{IsCertificateText}
 use Rattle.verify_top.specs.Asking.{start_of}
 use Rattle.verify_top.specs.Verifying.{HasLog, certificate_of}
 

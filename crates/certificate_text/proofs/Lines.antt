@@ -5,6 +5,7 @@ use Rattle.std.proofs.lemmas.Bool.Decides.{nat_tests}
 use Rattle.std.specs.Prelude.{◌==◌, ◌^◌, ◌%◌, codes, None, Some}
 use Rattle.std.specs.Fmt.{decimal}
 use Rattle.std.proofs.lemmas.Fmt.{decimal_by_steps, length-decimal-le}
+use Rattle.pota_base.specs.Limits.{longest_certificate_line}
 use Rattle.certificate_lines.specs.declared.line.Line.{Line}
 use Rattle.certificate_lines.specs.declared.line.Line.TheVariants.{Node, Row, Raise, Verdict}
 use Rattle.certificate_lines.specs.Spelling.{LineFits, line_text, lines_text}
@@ -23,7 +24,7 @@ eq-ten b e = grind (arith, nat_tests)
 
 module _ {N : Type 0} (follows : N → Line → N → Type 0) where
   -- the bytes of a line that is justified, and then those behind it
-  along : (rest : List ℕ) (v after : VerifierView N) (told : Bool) (line done : List ℕ) → HasNoFeed line → length done + length line ≤ 8192
+  along : (rest : List ℕ) (v after : VerifierView N) (told : Bool) (line done : List ℕ) → HasNoFeed line → length done + length line ≤ longest_certificate_line
       → Justifies follows v (done ++ line) after → Judged follows rest after [] told → Judged follows (line ++ 10 ∷ rest) v done told
   along rest v after told [] done h few just behind = (after, subst (λ (x : List ℕ). Justifies follows v x after) (append-nil done) just, behind)
   along rest v after told (b ∷ bs) done h few just behind =
@@ -40,7 +41,7 @@ module _ {N : Type 0} (follows : N → Line → N → Type 0) where
   abbrev HasLines : List ℕ → VerifierView N → Bool → Type 0
   HasLines bytes v told = (lines : List (List ℕ)) × (bytes ≡ lines_text lines) × AreLines lines × AreAccepted follows v lines told
 
-  lines-of : (bytes : List ℕ) (v : VerifierView N) (done : List ℕ) (told : Bool) → Judged follows bytes v done told → HasNoFeed done → length done ≤ 8192 → HasLines (done ++ bytes) v told
+  lines-of : (bytes : List ℕ) (v : VerifierView N) (done : List ℕ) (told : Bool) → Judged follows bytes v done told → HasNoFeed done → length done ≤ longest_certificate_line → HasLines (done ++ bytes) v told
   lines-of [] v done told h free few = ([], append-nil done ∙ h.1, tt, h.0)
   lines-of (b ∷ bytes) v done told h free few = elim (cases_Bool (b == 10)) [
     | inl feed ↦
@@ -94,7 +95,7 @@ free-line (Raise pull value) h =
 free-line (Verdict true) h = (refl, (refl, (refl, (refl, (refl, (refl, (refl, (refl, (refl, (refl, (refl, (refl, tt))))))))))))
 free-line (Verdict false) h = (refl, (refl, (refl, (refl, (refl, (refl, (refl, (refl, (refl, (refl, (refl, (refl, (refl, tt)))))))))))))
 
-short-line : (l : Line) → LineFits l → length (line_text l) ≤ 8192
+short-line : (l : Line) → LineFits l → length (line_text l) ≤ longest_certificate_line
 short-line (Node number) h = simp length-append (omega (arith, short-number number h))
 short-line (Row row None) h = simp length-append (omega (arith, short-number row h))
 short-line (Row row (Some other)) h = simp length-append (omega (arith, short-number row h.0, short-number other h.1))

@@ -3,6 +3,7 @@ use Rattle.std.proofs.Common.{◌≡◌, ℕ, ◌<◌, Bool, List, [], ◌∷◌
 use Rattle.std.specs.Prelude.{◌==◌}
 use Rattle.std.proofs.lemmas.Bool.{cases_Bool}
 use Rattle.std.proofs.lemmas.Option.{same_Some}
+use Rattle.pota_base.specs.Limits.{longest_certificate_line}
 use Rattle.certificate_lines.specs.declared.line.Line.{Line}
 use Rattle.certificate_lines.proofs.LineLaws.{line_again}
 use Rattle.certificate_lines.specs.Spelling.{Spells}
@@ -91,7 +92,7 @@ module _ {N : Type 0} (follows : N → Line → N → Type 0) where
     | inr more ↦ none-behind bytes v (line ++ x ∷ []) b truth told e (picked_other (b == 10) _ _ more h).1
   ]
 
-  full-apart : (bytes : List ℕ) (v : VerifierView N) (line : List ℕ) (b : ℕ) (told : Bool) → length line < 8192 → Judged follows bytes v (line ++ b ∷ []) told → IsFull v line → ⊥
+  full-apart : (bytes : List ℕ) (v : VerifierView N) (line : List ℕ) (b : ℕ) (told : Bool) → length line < longest_certificate_line → Judged follows bytes v (line ++ b ∷ []) told → IsFull v line → ⊥
   full-apart bytes v line b told few h (inl accepted) = none-behind bytes v line b accepted.0 told accepted.1 h
   full-apart bytes v line b told few h (inr full) = omega (arith, few, full)
 

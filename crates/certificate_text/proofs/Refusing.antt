@@ -2,6 +2,7 @@
 use Rattle.std.proofs.Common.{◌≡◌, ℕ, ◌+◌, ◌<◌, ◌≤◌, Bool, true, false, List, [], ◌∷◌, ◌++◌, length, refl, sym, subst, append_assoc, append-nil, length-append, arith, ap, ◌∙◌, inl, inr}
 use Rattle.std.specs.Prelude.{◌==◌, ◌⊎◌}
 use Rattle.std.proofs.lemmas.Bool.{cases_Bool}
+use Rattle.pota_base.specs.Limits.{longest_certificate_line}
 use Rattle.certificate_lines.specs.declared.line.Line.{Line}
 use Rattle.certificate_lines.specs.Spelling.{lines_text}
 use Rattle.certificate_text.specs.declared.said.Stage.{Stage}
@@ -62,9 +63,9 @@ module _ {N : Type 0} (follows : N → Line → N → Type 0) where
   none-behind : (s : Stage) (v after : VerifierView N) (line : List ℕ) → IsAccepted s → JustifiesAt follows s v line after → ⊥
   none-behind s v after line a h = subst (λ (x : Stage). JustifiesAt follows x v line after) a.1 h
 
-  few-left : (v : VerifierView N) (line : List ℕ) → length line ≤ 8192 → (IsFull v line → ⊥) → length line < 8192
+  few-left : (v : VerifierView N) (line : List ℕ) → length line ≤ longest_certificate_line → (IsFull v line → ⊥) → length line < longest_certificate_line
   few-left v line few open_ =
-      let other : length line ≡ 8192 → ⊥ = λ e. open_ (inr e) in
+      let other : length line ≡ longest_certificate_line → ⊥ = λ e. open_ (inr e) in
       omega (arith, few, other)
 
   -- ---- refused bytes are lines
@@ -81,7 +82,7 @@ module _ {N : Type 0} (follows : N → Line → N → Type 0) where
     wrong = wrong;
   }
 
-  cut-here : (v : VerifierView N) (line : List ℕ) (n : ℕ) → n ≡ v.lines + 1 → (IsAccepted v.stage → line ≡ [] → ⊥) → HasNoFeed line → length line ≤ 8192 → IsRefusedBehind follows v line n
+  cut-here : (v : VerifierView N) (line : List ℕ) (n : ℕ) → n ≡ v.lines + 1 → (IsAccepted v.stage → line ≡ [] → ⊥) → HasNoFeed line → length line ≤ longest_certificate_line → IsRefusedBehind follows v line n
   cut-here v line n number open_ free few = elim (or-open v.stage) [
     | inl accepted ↦ here v line n number (inr (inr (inl (record { accepted = accepted; some = open_ accepted }))))
     | inr due ↦ here v line n number (inr (inr (inr (record { due = due; part = record { one = free; short = few } }))))
@@ -112,7 +113,7 @@ module _ {N : Type 0} (follows : N → Line → N → Type 0) where
     wrong = h.wrong;
   }
 
-  pub refused_lines : (bytes : List ℕ) (v : VerifierView N) (line : List ℕ) (n : ℕ) → RefusedAt follows bytes v line n → HasNoFeed line → length line ≤ 8192 → IsRefusedBehind follows v (line ++ bytes) n
+  pub refused_lines : (bytes : List ℕ) (v : VerifierView N) (line : List ℕ) (n : ℕ) → RefusedAt follows bytes v line n → HasNoFeed line → length line ≤ longest_certificate_line → IsRefusedBehind follows v (line ++ bytes) n
   refused_lines [] v line n h free few = subst (λ (x : List ℕ). IsRefusedBehind follows v x n) (sym (append-nil line)) (cut-here v line n h.0 h.1 free few)
   refused_lines (b ∷ bytes) v line n h free few = elim (cases_Bool (b == 10)) [
     | inl feed ↦ elim (picked_first (b == 10) _ _ feed h) [
@@ -137,7 +138,7 @@ module _ {N : Type 0} (follows : N → Line → N → Type 0) where
   -- ---- such bytes are refused
 
   -- a byte of a line, where it isn't one too many, and a refusal behind it
-  onward : (v : VerifierView N) (b : ℕ) (bytes done : List ℕ) (n : ℕ) → n ≡ v.lines + 1 → b == 10 ≡ false → length done < 8192 → RefusedAt follows bytes v (done ++ b ∷ []) n → RefusedAt follows (b ∷ bytes) v done n
+  onward : (v : VerifierView N) (b : ℕ) (bytes done : List ℕ) (n : ℕ) → n ≡ v.lines + 1 → b == 10 ≡ false → length done < longest_certificate_line → RefusedAt follows bytes v (done ++ b ∷ []) n → RefusedAt follows (b ∷ bytes) v done n
   onward v b bytes done n number plain few h = elim (or-open v.stage) [
     | inl accepted ↦ pick_other (b == 10) _ _ plain (inl (number, inl accepted))
     | inr due ↦
@@ -148,21 +149,21 @@ module _ {N : Type 0} (follows : N → Line → N → Type 0) where
         pick_other (b == 10) _ _ plain (inr (open_, h))
   ]
 
-  wrong-line : (more : List ℕ) (v : VerifierView N) (n : ℕ) (line done : List ℕ) → n ≡ v.lines + 1 → HasNoFeed line → length done + length line ≤ 8192 → IsUnjustified follows v (done ++ line)
+  wrong-line : (more : List ℕ) (v : VerifierView N) (n : ℕ) (line done : List ℕ) → n ≡ v.lines + 1 → HasNoFeed line → length done + length line ≤ longest_certificate_line → IsUnjustified follows v (done ++ line)
       → RefusedAt follows (line ++ 10 ∷ more) v done n
   wrong-line more v n [] done number free few wrong = inl (number, subst (λ (x : List ℕ). IsUnjustified follows v x) (append-nil done) wrong)
   wrong-line more v n (b ∷ bs) done number free few wrong =
       onward v b (bs ++ 10 ∷ more) done n number free.0 (omega (arith, few))
       (wrong-line more v n bs (done ++ b ∷ []) number free.1 (simp length-append (omega (arith, few))) (subst (λ (x : List ℕ). IsUnjustified follows v x) (sym (append_assoc done (b ∷ []) bs)) wrong))
 
-  long-line : (more : List ℕ) (v : VerifierView N) (n : ℕ) (line done : List ℕ) → n ≡ v.lines + 1 → HasNoFeed line → length done + length line ≡ 8193 → length done ≤ 8192 → RefusedAt follows (line ++ more) v done n
+  long-line : (more : List ℕ) (v : VerifierView N) (n : ℕ) (line done : List ℕ) → n ≡ v.lines + 1 → HasNoFeed line → length done + length line ≡ longest_certificate_line + 1 → length done ≤ longest_certificate_line → RefusedAt follows (line ++ more) v done n
   long-line more v n [] done number free long few = absurd (omega (arith, long, few))
   long-line more v n (b ∷ []) done number free long few = pick_other (b == 10) _ _ free.0 (inl (number, inr (omega (arith, long))))
   long-line more v n (b ∷ c ∷ bs) done number free long few =
       onward v b (c ∷ bs ++ more) done n number free.0 (omega (arith, long))
       (long-line more v n (c ∷ bs) (done ++ b ∷ []) number free.1 (simp length-append (omega (arith, long))) (simp length-append (omega (arith, long))))
 
-  cut-line : (v : VerifierView N) (n : ℕ) (line done : List ℕ) → n ≡ v.lines + 1 → (IsAccepted v.stage → ⊥) → HasNoFeed line → length done + length line ≤ 8192 → RefusedAt follows line v done n
+  cut-line : (v : VerifierView N) (n : ℕ) (line done : List ℕ) → n ≡ v.lines + 1 → (IsAccepted v.stage → ⊥) → HasNoFeed line → length done + length line ≤ longest_certificate_line → RefusedAt follows line v done n
   cut-line v n [] done number due free few = (number, λ a e. due a)
   cut-line v n (b ∷ bs) done number due free few =
       onward v b bs done n number free.0 (omega (arith, few)) (cut-line v n bs (done ++ b ∷ []) number due free.1 (simp length-append (omega (arith, few))))
@@ -183,7 +184,7 @@ module _ {N : Type 0} (follows : N → Line → N → Type 0) where
   wrong-here v n bytes number (inr (inr (inr x))) = cut-line v n bytes [] number x.due x.part.one (omega (arith, x.part.short))
 
   -- a justified line, and a refusal behind it
-  along : (rest : List ℕ) (v after : VerifierView N) (n : ℕ) (line done : List ℕ) → HasNoFeed line → length done + length line ≤ 8192 → (IsAccepted v.stage → ⊥) → Justifies follows v (done ++ line) after
+  along : (rest : List ℕ) (v after : VerifierView N) (n : ℕ) (line done : List ℕ) → HasNoFeed line → length done + length line ≤ longest_certificate_line → (IsAccepted v.stage → ⊥) → Justifies follows v (done ++ line) after
       → RefusedAt follows rest after [] n → RefusedAt follows (line ++ 10 ∷ rest) v done n
   along rest v after n [] done free few due just h = inr (after, subst (λ (x : List ℕ). Justifies follows v x after) (append-nil done) just, h)
   along rest v after n (b ∷ bs) done free few due just h =

@@ -1,8 +1,9 @@
 -- The bytes of a certificate up to the end of the input: those that are accepted, and the line at
 -- which others are refused.
-use Rattle.std.specs.Prelude.{◌≡◌, ◌⊎◌, ℕ, ◌+◌, ◌<◌, ◌≤◌, ◌==◌, Bool, true, false, List, [], ◌∷◌, ◌++◌}
-use Rattle.std.specs.Prelude.{length}
+use Rattle.std.specs.Prelude.{◌≡◌, ◌⊎◌, ℕ, ◌+◌, ◌<◌, ◌≤◌, ◌==◌, Bool, true, false, List, [], ◌∷◌}
+use Rattle.std.specs.Prelude.{◌++◌, length}
 use Rattle.std.specs.List.{AllByRecursion}
+use Rattle.pota_base.specs.Limits.{longest_certificate_line}
 use Rattle.certificate_lines.specs.declared.line.Line.{Line}
 use Rattle.certificate_lines.specs.Spelling.{lines_text}
 use Rattle.certificate_text.specs.declared.said.Stage.{Stage}
@@ -17,7 +18,7 @@ HasNoFeed bytes = AllByRecursion (λ b. b == 10 ≡ false) bytes
 -- no byte is a line feed, and there are at most 8,192
 pub record IsLine (bytes : List ℕ) : Type 0 where
   pub one : HasNoFeed bytes
-  pub short : length bytes ≤ 8192
+  pub short : length bytes ≤ longest_certificate_line
 
 abbrev pub AreLines : List (List ℕ) → Type 0
 AreLines lines = AllByRecursion IsLine lines
@@ -36,7 +37,7 @@ abbrev pub Judged : {N : Type 0} → (N → Line → N → Type 0) → List ℕ 
 Judged follows [] v line told = (v.stage ≡ stage.Accepted told) × (line ≡ [])
 Judged follows (b ∷ bytes) v line told = pick (b == 10)
     ((after : VerifierView _) × Justifies follows v line after × Judged follows bytes after [] told)
-    ((length line < 8192) × Judged follows bytes v (line ++ b ∷ []) told)
+    ((length line < longest_certificate_line) × Judged follows bytes v (line ++ b ∷ []) told)
 
 -- ---- what is refused
 
@@ -45,7 +46,7 @@ IsAccepted at = (told : Bool) × (at ≡ stage.Accepted told)
 
 -- no line is due any more, or the line is as long as a line may be
 abbrev pub IsFull : {N : Type 0} → VerifierView N → List ℕ → Type 0
-IsFull v line = IsAccepted v.stage ⊎ (length line ≡ 8192)
+IsFull v line = IsAccepted v.stage ⊎ (length line ≡ longest_certificate_line)
 
 -- Refused at the line of this number, from 1: it is not justified, a byte of it is one too many, or
 -- the input ends before the text does.
@@ -89,7 +90,7 @@ pub record HasLongLine (bytes : List ℕ) : Type 0 where
   pub more : List ℕ
   pub parts : bytes ≡ line ++ more
   pub one : HasNoFeed line
-  pub long : length line ≡ 8193
+  pub long : length line ≡ longest_certificate_line + 1
 
 -- a byte stands behind the last line
 pub record GoesOn {N : Type 0} (v : VerifierView N) (bytes : List ℕ) : Type 0 where

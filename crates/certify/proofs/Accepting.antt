@@ -14,9 +14,9 @@ use Rattle.certificate_text.specs.Taking.{fresh}
 use Rattle.certificate_text.specs.Running.{certificate_lines}
 use Rattle.certificate_text.specs.Bytes.{HasNoFeed, IsLine, AreLines, Judged}
 use Rattle.certificate_text.proofs.Lines.{accepted_bytes, line_is}
-use Rattle.canonical_nodes.specs.PassedOn.{Follows}
-use Rattle.canonical_nodes.proofs.PassedOn.{whole_accepted, whole_fits}
-use Rattle.canonical_nodes.proofs.PassedOn.{one_whole, one_verdict}
+use Rattle.certificate_next_line.specs.PassedOn.{Follows}
+use Rattle.certificate_next_line.proofs.PassedOn.{whole_accepted, whole_fits}
+use Rattle.certificate_next_line.proofs.PassedOn.{one_whole, one_verdict}
 use Rattle.certify.specs.Certifying.{nodes_of, IsCertificateOf}
 
 -- ---- lines that are short enough

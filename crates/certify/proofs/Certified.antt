@@ -4,9 +4,10 @@ use Rattle.std.specs.Prelude.{Result, Ok, Err, IfOk, OnErr}
 use Rattle.pota_base.specs.declared.fault.Failed.{Failed}
 use Rattle.pota_base.specs.declared.fault.NoMemory.{NoMemory}
 use Rattle.pota_base.specs.Outside.{IsPrefix}
+use Rattle.pota_base.specs.Changes.{change_of}
 use Rattle.rctl_parts.specs.Pieces.{Piece}
 use Rattle.part_pulls.specs.declared.observed.Observed.{Observed}
-use Rattle.canonical_nodes.specs.PassedOn.{NodesView, AreNodes}
+use Rattle.certificate_next_line.specs.PassedOn.{NodesView, AreNodes}
 use Rattle.certify.specs.Certifying.{nodes_of, HasFront, IsCertifying}
 use Rattle.certify.specs.inside.Written.{text_of, WroteFront, IsWritten}
 
@@ -18,7 +19,7 @@ front-of held held' seen ds formula h = record {
 }
 
 ended-of : (r : Result Bool Failed) (held held' : Option (List ℕ)) (before now : ℕ) (seen : Observed) (ds : List (List Piece)) (formula : List ℕ) → AreNodes (nodes_of seen ds)
-    → IsWritten r held held' before now formula (nodes_of seen ds) → IsCertifying r held held' before now seen ds formula
+    → IsWritten r (change_of held held' before now) formula (nodes_of seen ds) → IsCertifying r (change_of held held' before now) seen ds formula
 ended-of (Ok told) held held' before now seen ds formula nodes h = record {
   text = text_of formula h.lines;
   certificate = record { nodes = nodes; lines = h.lines; whole = h.whole; text_is = refl };
@@ -28,9 +29,9 @@ ended-of (Ok told) held held' before now seen ds formula nodes h = record {
 ended-of (Err failed) held held' before now seen ds formula nodes h = record { later = h.later; rose = h.rose; part = front-of held held' seen ds formula h.part }
 
 pub certified_of : (r : Result (Result Bool Failed) NoMemory) (held held' : Option (List ℕ)) (before now : ℕ) (seen : Observed) (ds : List (List Piece)) (formula : List ℕ) (v : NodesView)
-    → v ≡ nodes_of seen ds → AreNodes v → IfOk r (λ ended. IsWritten ended held held' before now formula v) → IfOk r (λ ended. IsCertifying ended held held' before now seen ds formula)
+    → v ≡ nodes_of seen ds → AreNodes v → IfOk r (λ ended. IsWritten ended (change_of held held' before now) formula v) → IfOk r (λ ended. IsCertifying ended (change_of held held' before now) seen ds formula)
 certified_of (Ok ended) held held' before now seen ds formula v same nodes h =
-    ended-of ended held held' before now seen ds formula (subst AreNodes same nodes) (subst (λ (u : NodesView). IsWritten ended held held' before now formula u) same h)
+    ended-of ended held held' before now seen ds formula (subst AreNodes same nodes) (subst (λ (u : NodesView). IsWritten ended (change_of held held' before now) formula u) same h)
 certified_of (Err e) held held' before now seen ds formula v same nodes h = tt
 
 pub memory_of : (r : Result (Result Bool Failed) NoMemory) (held held' : Option (List ℕ)) (seen : Observed) (ds : List (List Piece)) (formula : List ℕ) (v : NodesView)

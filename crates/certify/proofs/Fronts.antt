@@ -7,13 +7,14 @@ use Rattle.std.proofs.lemmas.List.{map-append}
 use Rattle.std.proofs.lemmas.List.Elements.{All-append, All-cons, All-nil}
 use Rattle.pota_base.specs.declared.fault.Failed.{Failed}
 use Rattle.pota_base.specs.Outside.{AppendsPrefix, HasCause, IsPrefix, Rose}
+use Rattle.pota_base.specs.Changes.{change_of}
 use Rattle.certificate_lines.specs.declared.line.Line.{Line}
 use Rattle.certificate_lines.specs.declared.line.Line.TheVariants.{Node, Row, Raise, Verdict}
 use Rattle.certificate_lines.specs.Spelling.{line_text, lines_text, title, end_line}
 use Rattle.certificate_text.specs.Running.{IsOfNode, certificate_lines}
-use Rattle.canonical_nodes.specs.PassedOn.{NodesView, AreNodes}
-use Rattle.canonical_nodes.specs.PassedOn.{IsNext, AreNext, IsWhole}
-use Rattle.canonical_nodes.proofs.PassedOn.{is_front, one_whole}
+use Rattle.certificate_next_line.specs.PassedOn.{NodesView, AreNodes}
+use Rattle.certificate_next_line.specs.PassedOn.{IsNext, AreNext, IsWhole}
+use Rattle.certificate_next_line.proofs.PassedOn.{is_front, one_whole}
 use Rattle.certify.specs.inside.Written.{text_of, IsFrontOf, WroteAll, WroteFront, WroteUntil}
 use Rattle.certify.specs.inside.Written.{IsWritten}
 
@@ -141,7 +142,7 @@ pub nothing_written : (held : Option (List ℕ)) (formula : List ℕ) (v : Nodes
 nothing_written held formula v = record { part = []; front = λ lines told nodes whole. (text_of formula lines, refl); written = keeps held }
 
 pub stands-cut : (held held' held'' : Option (List ℕ)) (before now now' : ℕ) (formula waits : List ℕ) (v mid : NodesView)
-    → Stands held held' before now formula waits v mid → AppendsPrefix held' held'' waits → now ≤ now' → Rose now now' → WroteUntil held held'' before now' formula v
+    → Stands held held' before now formula waits v mid → AppendsPrefix held' held'' waits → now ≤ now' → Rose now now' → WroteUntil (change_of held held'' before now') formula v
 stands-cut held held' held'' before now now' formula waits v mid h part later rose = record {
   later = omega (arith, later, h.calm);
   rose = rose-later before now now' h.calm rose;
@@ -168,9 +169,9 @@ whole-text formula body told written waits more last h e f =
 pub ended-is : (held held' held'' : Option (List ℕ)) (before now now' : ℕ) (formula waits more last : List ℕ) (v mid after : NodesView) (told : Bool) (r : Result Bool Failed)
     → Stands held held' before now formula waits v mid → IsNext mid (Verdict told) after → more ≡ waits ++ lines_text (line_text (Verdict told) ∷ [])
     → last ≡ more ++ lines_text (end_line ∷ []) → IfOk r (λ truth. truth ≡ told) → OnOk r (Appends held' held'' last) → OnOk r (now' ≡ now) → OnErr r (AppendsPrefix held' held'' last)
-    → HasCause now now' r → IsWritten r held held'' before now' formula v
+    → HasCause now now' r → IsWritten r (change_of held held'' before now') formula v
 ended-is held held' held'' before now now' formula waits more last v mid after told (Ok truth) h verdict e f same whole calm part cause =
-    subst (λ (b : Bool). WroteAll held held'' before now' formula v b) (sym same) (record {
+    subst (λ (b : Bool). WroteAll (change_of held held'' before now') formula v b) (sym same) (record {
       lines = all_lines h.body told;
       whole = whole-here v h.body mid after told h.next h.of_nodes verdict;
       written = subst (λ (t : List ℕ). Appends held held'' t) (sym (whole-text formula h.body told h.written waits more last h.text_is e f)) (Appends-trans held held' held'' h.written last h.grown whole);

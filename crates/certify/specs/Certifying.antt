@@ -3,6 +3,8 @@ use Rattle.std.specs.Prelude.{◌≡◌, ℕ, ◌≤◌, Bool, List, Option, Res
 use Rattle.std.specs.Io.KnownBytes.{Appends}
 use Rattle.pota_base.specs.declared.fault.Failed.{Failed}
 use Rattle.pota_base.specs.Outside.{IsPrefix, Rose}
+use Rattle.pota_base.specs.Limits.{most_parts}
+use Rattle.pota_base.specs.Changes.{Change}
 use Rattle.rctl_parts.specs.Pieces.{Piece}
 use Rattle.rctl_parts.specs.MadeFor.{AllFit, disjuncts_count}
 use Rattle.part_pulls.specs.declared.observed.Observed.{Observed}
@@ -11,9 +13,9 @@ use Rattle.part_pulls.specs.Counters.{CountersRise}
 use Rattle.certificate_lines.specs.declared.line.Line.{Line}
 use Rattle.certificate_lines.specs.Spelling.{lines_text}
 use Rattle.certificate_text.specs.Running.{certificate_lines}
-use Rattle.canonical_nodes.specs.PassedOn.{NodesView, AreNodes, fresh_nodes}
-use Rattle.canonical_nodes.specs.PassedOn.{plan_of}
-use Rattle.canonical_nodes.specs.PassedOn.{IsWhole}
+use Rattle.certificate_next_line.specs.PassedOn.{NodesView, AreNodes, fresh_nodes}
+use Rattle.certificate_next_line.specs.PassedOn.{plan_of}
+use Rattle.certificate_next_line.specs.PassedOn.{IsWhole}
 
 -- the formula of these disjuncts can be certified on what was observed: it may be judged, they are
 -- made for it and have few parts, and none of their counters falls
@@ -21,7 +23,7 @@ pub record CanBeCertified (seen : Observed) (ds : List (List Piece)) : Type 0 wh
   pub ready : IsReady seen
   pub fits : AllFit (scope_seen seen) ds
   pub counters : CountersRise seen ds
-  pub count : disjuncts_count ds ≤ 128
+  pub count : disjuncts_count ds ≤ most_parts
 
 -- the nodes of the formula of these disjuncts on what was observed, before one is begun
 abbrev pub nodes_of : Observed → List (List Piece) → NodesView
@@ -45,12 +47,12 @@ IsFrontOfCertificate seen ds formula part =
 -- ---- what was written
 
 -- all of the canonical certificate was written, without a fault
-pub record IsCertified (held held' : Option (List ℕ)) (before now : ℕ) (seen : Observed)
-    (ds : List (List Piece)) (formula : List ℕ) (told : Bool) : Type 0 where
+pub record IsCertified (sink : Change) (seen : Observed) (ds : List (List Piece)) (formula : List ℕ)
+    (told : Bool) : Type 0 where
   pub text : List ℕ
   pub certificate : IsCertificateOf seen ds formula text told
-  pub written : Appends held held' text
-  pub calm : now ≡ before
+  pub written : Appends sink.before sink.after text
+  pub calm : sink.faults_after ≡ sink.faults_before
 
 -- a front of it was written
 pub record HasFront (held held' : Option (List ℕ)) (seen : Observed) (ds : List (List Piece))
@@ -60,17 +62,15 @@ pub record HasFront (held held' : Option (List ℕ)) (seen : Observed) (ds : Lis
   pub written : Appends held held' part
 
 -- a write failed, and a front of it was written
-pub record IsCut (held held' : Option (List ℕ)) (before now : ℕ) (seen : Observed)
-    (ds : List (List Piece)) (formula : List ℕ) : Type 0 where
-  pub later : before ≤ now
-  pub rose : Rose before now
-  pub part : HasFront held held' seen ds formula
+pub record IsCut (sink : Change) (seen : Observed) (ds : List (List Piece)) (formula : List ℕ)
+    : Type 0 where
+  pub later : sink.faults_before ≤ sink.faults_after
+  pub rose : Rose sink.faults_before sink.faults_after
+  pub part : HasFront sink.before sink.after seen ds formula
 
 -- what was written until the certificate was whole, with the verdict that it tells, or until a
 -- write failed
-abbrev pub IsCertifying : Result Bool Failed → Option (List ℕ) → Option (List ℕ) → ℕ → ℕ
-    → Observed → List (List Piece) → List ℕ → Type 0
-IsCertifying (Ok told) held held' before now seen ds formula =
-    IsCertified held held' before now seen ds formula told
-IsCertifying (Err failed) held held' before now seen ds formula =
-    IsCut held held' before now seen ds formula
+abbrev pub IsCertifying : Result Bool Failed → Change → Observed → List (List Piece) → List ℕ
+    → Type 0
+IsCertifying (Ok told) sink seen ds formula = IsCertified sink seen ds formula told
+IsCertifying (Err failed) sink seen ds formula = IsCut sink seen ds formula

@@ -2,6 +2,7 @@
 ghost use Rattle.std.specs.Prelude.{◌≡◌, ◌≤◌, ◌↔◌, ℕ, Bool, List, [], length, IsTrue};
 ghost use Rattle.run_model.specs.Cut.{initial};
 ghost use Rattle.run_model.specs.Meaning.{Sat};
+ghost use Rattle.pota_base.specs.Limits.{longest_formula};
 ghost use Rattle.rctl_grammar.specs.declared.tree.Tree.{Tree};
 ghost use Rattle.rctl_grammar.specs.Shape.{shape_of};
 ghost use Rattle.rctl_parse.specs.Parsing.{IsReadAs};
@@ -17,10 +18,10 @@ ghost use Rattle.part_pulls.specs.Counters.{CountersRise};
 ghost use Rattle.certificate_lines.specs.Spelling.{formula_line};
 ghost use Rattle.certificate_text.specs.Taking.{fresh};
 ghost use Rattle.certificate_text.specs.Bytes.{IsLine, Judged};
-ghost use Rattle.canonical_nodes.specs.PassedOn.{Follows};
+ghost use Rattle.certificate_next_line.specs.PassedOn.{Follows};
 ghost use Rattle.certify.specs.Certifying.{IsCertificateOf, nodes_of};
 
-use canonical_nodes::an_accepted_certificate_tells_the_truth;
+use certificate_next_line::an_accepted_certificate_tells_the_truth;
 use printed_lengths::{printed_is_little_longer, printed_is_one_line};
 
 /// The verdict of a canonical certificate is the truth of the formula at the initial cut.
@@ -44,7 +45,7 @@ pub fn certificates_are_accepted()
 
 /// The line of a formula that was read is short enough: that of a text of at most 4,096 bytes.
 pub fn formula_lines_are_lines()
-    ensures { (text : List ℕ) (t : Tree) → IsReadAs text t → length text ≤ 4096
+    ensures { (text : List ℕ) (t : Tree) → IsReadAs text t → length text ≤ longest_formula
         → IsLine (formula_line (canonical (shape_of t))) }
 {
     printed_is_little_longer();

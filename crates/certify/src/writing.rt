@@ -1,26 +1,25 @@
 //! The writing of a certificate.
+ghost use Rattle.pota_base.specs.Blanks.{IsBlankOf};
 ghost use Rattle.std.specs.Prelude.{◌≡◌, ◌<◌, ◌++◌, ◌∷◌, [], IfOk, OnErr, OnOk};
 ghost use Rattle.std.specs.Io.KnownBytes.{Appends};
 ghost use Rattle.pota_base.specs.Outside.{AppendsPrefix, HasCause};
+ghost use Rattle.pota_base.specs.Changes.{of_sink};
 ghost use Rattle.rctl_parts.specs.Pieces.{disjuncts_of};
 ghost use Rattle.certificate_lines.specs.Spelling.{line_text, lines_text};
 ghost use Rattle.certificate_text.specs.Running.{IsOfNode};
-ghost use Rattle.canonical_nodes.specs.PassedOn.{IsNext};
-ghost use Rattle.canonical_nodes.specs.Coming.{lines_left};
+ghost use Rattle.certificate_next_line.specs.PassedOn.{IsNext};
+ghost use Rattle.certificate_next_line.specs.Coming.{lines_left};
 ghost use Rattle.certify.specs.Certifying.{CanBeCertified, HasFront, IsCertifying};
 ghost use Rattle.certify.specs.inside.Written.{IsWritten, WroteFront};
 
-use canonical_nodes::{CanonicalNodes, nodes_for};
 use certificate_lines::{Line, put_end, put_head, put_line};
+use certificate_next_line::{CanonicalNodes, nodes_for};
 use part_pulls::Observed;
-use pota_base::{Bytes, Failed, List, NoMemory, Sink, Steps, write_all};
+use pota_base::{Bytes, Failed, LONGEST_READ, List, NoMemory, Sink, Steps, write_all};
 use rctl_parts::Part;
 use std::alloc::Global;
 use std::marker::Brand;
 use std::sync::ledger::{Blank, Ledger};
-
-/// So many bytes wait before they are written.
-const WAITING: usize = 65536;
 
 /// Writes the canonical certificate of the formula of these disjuncts on what was observed, and
 /// gives the verdict that it tells. `formula` is the formula's line, without its line feed. At
@@ -37,8 +36,8 @@ pub fn certify<O: Sink>(
     out: &mut O,
 ) -> Result<Result<bool, Failed>, NoMemory>
     requires can { CanBeCertified seen (disjuncts_of disjuncts.now) }
-    ensures certified { IfOk result (λ ended. IsCertifying ended (O.held out.old) (O.held out.new)
-        (O.faults out.old) (O.faults out.new) seen (disjuncts_of disjuncts.now) formula.now) }
+    ensures certified { IfOk result (λ ended. IsCertifying ended (of_sink O.Sink out.old out.new)
+        seen (disjuncts_of disjuncts.now) formula.now) }
     ensures memory { OnErr result (HasFront (O.held out.old) (O.held out.new) seen
         (disjuncts_of disjuncts.now) formula.now) }
     ensures calm { OnErr result (O.faults out.new ≡ O.faults out.old) }
@@ -55,12 +54,10 @@ fn certify_counted<O: Sink, L: Ledger>(
     formula: &[u8],
     out: &mut O,
 ) -> Result<Result<bool, Failed>, NoMemory>
-    requires name { blank.name ≡ L.name }
-    requires parts { blank.parts ≡ L.parts }
-    requires some { 0 < blank.parts }
+    requires blank { IsBlankOf L.name L.parts blank }
     requires can { CanBeCertified seen (disjuncts_of disjuncts.now) }
-    ensures certified { IfOk result (λ ended. IsCertifying ended (O.held out.old) (O.held out.new)
-        (O.faults out.old) (O.faults out.new) seen (disjuncts_of disjuncts.now) formula.now) }
+    ensures certified { IfOk result (λ ended. IsCertifying ended (of_sink O.Sink out.old out.new)
+        seen (disjuncts_of disjuncts.now) formula.now) }
     ensures memory { OnErr result (HasFront (O.held out.old) (O.held out.new) seen
         (disjuncts_of disjuncts.now) formula.now) }
     ensures calm { OnErr result (O.faults out.new ≡ O.faults out.old) }
@@ -78,8 +75,8 @@ fn write_lines<O: Sink, L: Ledger>(
     out: &mut O,
     steps: &mut Steps<L>,
 ) -> Result<Result<bool, Failed>, NoMemory>
-    ensures written { IfOk result (λ ended. IsWritten ended (O.held out.old) (O.held out.new)
-        (O.faults out.old) (O.faults out.new) formula.now nodes.old) }
+    ensures written { IfOk result (λ ended. IsWritten ended (of_sink O.Sink out.old out.new)
+        formula.now nodes.old) }
     ensures memory { OnErr result
         (WroteFront (O.held out.old) (O.held out.new) formula.now nodes.old) }
     ensures calm { OnErr result (O.faults out.new ≡ O.faults out.old) }
@@ -92,7 +89,7 @@ fn write_lines<O: Sink, L: Ledger>(
             put_end(&mut text)?;
             return Ok(finish(out, text.as_slice(), told));
         }
-        if text.len() >= WAITING {
+        if text.len() >= LONGEST_READ {
             match flush(alloc, out, &mut text) {
                 Ok(()) => {}
                 Err(failed) => return Ok(Err(failed)),

@@ -6,6 +6,7 @@ use Rattle.std.proofs.lemmas.List.Sums.{count_by-le-length, count_by_more_yes, c
 use Rattle.std.proofs.lemmas.List.{take-take, take-append-le, get_or-map, length-map}
 use Rattle.std.proofs.lemmas.List.FromFn.{map-range_with_len_more, length-map-range_with_len, get_or-map-range_with_len}
 use Rattle.pota_base.specs.Shape.{IsShape}
+use Rattle.pota_base.specs.Limits.{most_events}
 use Rattle.event_log.specs.States.{StatesView}
 use Rattle.event_log.specs.declared.log.Event.{Event}
 use Rattle.channel_preds.specs.declared.counted.Counted.{Counted}
@@ -83,7 +84,7 @@ length-events_at states lens process len there shape is =
     sym (is ∙ ap (λ (l : List ℕ). get_or l process 0) shape ∙ get_or-map (λ (es : List Event). length es) states.events process [] 0 there)
 
 pub few_events : (states : StatesView) (lens : List ℕ) (process : ℕ) → process < length states.events → lens ≡ map length states.events → IsShape lens
-    → length (events_at states process) ≤ 50000
+    → length (events_at states process) ≤ most_events
 few_events states lens process there shape is =
     let size : length lens ≡ length states.events = ap (λ (l : List ℕ). length l) shape ∙ length-map states.events (λ (es : List Event). length es) in
     omega (arith, is.events, length-events_at states lens process (get_or lens process 0) there shape refl, get_or-le-sum_by (λ (n : ℕ). n) lens process 0 (omega arith))

@@ -1,3 +1,4 @@
 pub mod Channels
+pub mod Laws
 pub mod Truth
 pub mod inside

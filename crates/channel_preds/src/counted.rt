@@ -1,5 +1,6 @@
 //! What a channel counts along each of its processes.
-ghost use Rattle.std.specs.Prelude.{◌≡◌, [], ◌<◌, ◌≤◌, length, get_or, IfOk};
+ghost use Rattle.std.specs.Prelude.{◌≡◌, ◌+◌, [], ◌<◌, ◌≤◌, length, get_or, IfOk};
+ghost use Rattle.pota_base.specs.Limits.{most_events};
 ghost use Rattle.event_log.specs.States.{kind_of};
 ghost use Rattle.channel_preds.specs.Channels.{is_counted, sends_to, receipts_from};
 ghost use Rattle.channel_preds.specs.Channels.{counts_of, events_at};
@@ -62,7 +63,7 @@ pub fn count_along(
     requires { process < length states.now.events }
     ensures told { IfOk result (λ counts. counts ≡ counts_of which (events_at states.now process)) }
     ensures counts { IfOk result AreCounts }
-    ensures few { IfOk result (λ counts. length counts ≤ 50001) }
+    ensures few { IfOk result (λ counts. length counts ≤ most_events + 1) }
 {
     let len = states.shape().len_of(process);
     let mut counts = Vec::with_capacity(alloc, len as usize + 1)?;

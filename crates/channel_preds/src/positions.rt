@@ -1,5 +1,6 @@
 //! Where one process's counts reach another's.
 ghost use Rattle.std.specs.Prelude.{◌≡◌, ℕ, ◌+◌, ◌^◌, ◌<◌, ◌≤◌, length, slice_index, IfOk};
+ghost use Rattle.pota_base.specs.Limits.{most_events};
 ghost use Rattle.channel_preds.specs.Channels.{first_reaching};
 ghost use Rattle.channel_preds.specs.inside.Channels.{AreCounts};
 ghost use Rattle.channel_preds.specs.Channels.{first_positions as first_positions_of};
@@ -21,8 +22,8 @@ pub fn first_positions(
     extra: u64,
 ) -> Result<List<u32>, NoMemory>
     requires leads { AreCounts leads.now }
-    requires few_leads { length leads.now ≤ 50001 }
-    requires few_follows { length follows.now ≤ 50001 }
+    requires few_leads { length leads.now ≤ most_events + 1 }
+    requires few_follows { length follows.now ≤ most_events + 1 }
     requires more { more ≤ 2 ^ 63 }
     requires extra { extra ≤ 2 ^ 63 }
     ensures { IfOk result (λ t. t ≡ first_positions_of leads.now more follows.now extra) }

@@ -2,8 +2,9 @@
 use Rattle.std.specs.Prelude.{ℕ, ◌-◌, ◌^◌, ◌&&◌, nat_le, Option, None, Some, option_and_then}
 use Rattle.std.specs.Prelude.{if◌then◌else◌}
 use Rattle.pota_base.specs.Number.{number_at, whole}
+use Rattle.pota_base.specs.Limits.{most_events, most_processes, most_workers}
 use Rattle.command_words.specs.Rule.{Text}
-use Rattle.run_options.specs.declared.sizes.Sizes.{Sizes}
+use Rattle.call_options.specs.declared.sizes.Sizes.{Sizes}
 
 -- the number of 64 bits that the whole text spells, in decimal digits without a sign or a leading
 -- zero, where it is in this range
@@ -15,7 +16,7 @@ number low high text =
 -- 1 to 16 workers, and one where the words say nothing of them
 abbrev pub workers_of : Option Text → Option ℕ
 workers_of None = Some 1
-workers_of (Some text) = number 1 16 text
+workers_of (Some text) = number 1 most_workers text
 
 -- the number of a value that must be there
 abbrev pub needed : ℕ → ℕ → Option Text → Option ℕ
@@ -25,4 +26,4 @@ needed low high text = option_and_then (number low high) text
 abbrev pub sizes_of : Option Text → Option Text → Option Text → Option Sizes
 sizes_of seed procs events = option_and_then (λ s. option_and_then (λ p. option_and_then (λ e.
     Some (record { seed = s; procs = p; events = e }))
-    (needed 0 50000 events)) (needed 1 32 procs)) (needed 0 (2 ^ 64 - 1) seed)
+    (needed 0 most_events events)) (needed 1 most_processes procs)) (needed 0 (2 ^ 64 - 1) seed)

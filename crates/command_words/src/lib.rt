@@ -26,6 +26,6 @@ mod reading;
 mod request;
 mod values;
 
+pub use call_options::{Shown, Sizes};
 pub use laws::{clap_gives_the_rule, clap_takes_the_rule};
 pub use request::{Form, Inquiry, Product, Reporting, Request, Task, read_request};
-pub use run_options::{Shown, Sizes};

@@ -4,8 +4,8 @@ ghost use Rattle.pota_base.specs.Number.{number_at, whole};
 ghost use Rattle.command_words.specs.Numbers.{number, workers_of, needed, sizes_of};
 ghost use Rattle.command_words.specs.inside.Seen.{text_seen};
 
-use pota_base::read_u64;
-use run_options::Sizes;
+use call_options::Sizes;
+use pota_base::{MOST_EVENTS, MOST_PROCESSES, MOST_WORKERS, read_u64};
 
 // The number that the text spells.
 fn whole_number(text: &str) -> Option<u64>
@@ -40,7 +40,7 @@ pub fn workers(text: Option<&str>) -> Option<u32>
 {
     match text {
         None => Some(1),
-        Some(text) => small_number(text, 1, 16),
+        Some(text) => small_number(text, 1, MOST_WORKERS),
     }
 }
 
@@ -50,8 +50,8 @@ pub fn sizes(seed: Option<&str>, procs: Option<&str>, events: Option<&str>) -> O
         ≡ sizes_of (text_seen seed.entry) (text_seen procs.entry) (text_seen events.entry) }
 {
     let seed = number(seed?, 0, u64::MAX)?;
-    let procs = small_number(procs?, 1, 32)?;
-    let events = small_number(events?, 0, 50_000)?;
+    let procs = small_number(procs?, 1, MOST_PROCESSES as u32)?;
+    let events = small_number(events?, 0, MOST_EVENTS as u32)?;
     Some(Sizes {
         seed,
         procs,

@@ -13,10 +13,10 @@ use crate::command::command;
 use crate::numbers::{sizes, workers};
 use crate::reading::are_in_form;
 use crate::values::{TextValues, values_in};
+use call_options::{Shown, Sizes};
 use clap::error::ErrorKind;
 use clap::{ArgMatches, Error};
 use pota_base::NoMemory;
-use run_options::{Shown, Sizes};
 use std::alloc::Global;
 
 /// How an input is read as a log.

@@ -3,7 +3,7 @@ use Rattle.std.proofs.Common.{◌≡◌, ℕ, ◌*◌, List, ◌++◌, length, A
 use Rattle.std.specs.Prelude.{◌↔◌}
 use Rattle.run_model.specs.Cut.{Cut, Clocks}
 use Rattle.run_model.specs.Consistent.{IsConsistent}
-use Rattle.run_model.specs.Operators.{NextTime}
+use Rattle.run_model.specs.Operators.{ExHolds}
 use Rattle.run_model.specs.Slice.{Cuts}
 use Rattle.rctl_grammar.specs.declared.tree.Operator.{Operator}
 use Rattle.rctl_grammar.specs.declared.tree.Operator.TheVariants as operator
@@ -35,7 +35,7 @@ operated_adds o operator operand slice old new fits rows cuts is = record {
 
 -- those of EX, over the operand's slice
 pub next_adds : (o : Clocks) (process : ℕ) (operand : SliceView) (old new added : List Pull) → FitsOrder o operand → new ≡ old ++ added → All (IsPull operand.lens) added
-    → length added ≡ length operand.lens * length operand.lens → ((c : Cut) → IsConsistent o c → ClosedUnder added c ↔ NextTime o process (Cuts o (slice_of operand)) c)
+    → length added ≡ length operand.lens * length operand.lens → ((c : Cut) → IsConsistent o c → ClosedUnder added c ↔ ExHolds o process (Cuts o (slice_of operand)) c)
     → AddsOperator o (operator.Ex process) operand old new
 next_adds o process operand old new added fits is fit count closed = record {
   added = added;

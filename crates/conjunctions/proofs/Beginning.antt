@@ -5,6 +5,7 @@ use Rattle.std.proofs.Math.Nat.{mod-add-div', mod-lt, mul-le-mul, mul-le-mul_lef
 use Rattle.std.proofs.lemmas.List.{get_or_past}
 use Rattle.std.proofs.lemmas.Option.{IfSome_then}
 use Rattle.run_model.specs.Cut.{Clocks, lengths}
+use Rattle.pota_base.specs.Limits.{most_processes}
 use Rattle.pull_system.specs.declared.pull.Pull.{Pull}
 use Rattle.pull_system.specs.System.{SystemView, IsSystem, IsClosedFrom}
 use Rattle.pull_system.specs.Pulls.{ClosedUnder}
@@ -63,8 +64,8 @@ slice_floor o slice old new rows fits pulls shape within = record {
 slice_system : (o : Clocks) (slice : SliceView) → FitsOrder o slice → HasAllRows slice → IsSystem (record { lens = slice.lens; pulls = pulls_of_slice slice })
 slice_system o slice fits rows =
     let n : ℕ = length slice.lens in
-    let few : n ≤ 32 = rows.cuts.shape.few in
-    let square : n * n ≤ 32 * 32 = mul-le-mul {n₁ = n} {m₁ = n} {n₂ = 32} {m₂ = 32} few few in
+    let few : n ≤ most_processes = rows.cuts.shape.few in
+    let square : n * n ≤ most_processes * most_processes = mul-le-mul {n₁ = n} {m₁ = n} {n₂ = most_processes} {m₂ = most_processes} few few in
     record { shape = rows.cuts.shape; pulls = slice_pulls_fit o slice fits rows; count = omega (arith, slice_pulls_count slice, square) }
 
 -- the rows of a slice are its pulls' own

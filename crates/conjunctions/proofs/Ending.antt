@@ -5,6 +5,7 @@ use Rattle.std.proofs.lemmas.List.{length-map}
 use Rattle.std.proofs.lemmas.List.Elements.{All-append}
 use Rattle.std.proofs.Math.Nat.{mul-le-mul}
 use Rattle.run_model.specs.Cut.{Clocks, lengths}
+use Rattle.pota_base.specs.Limits.{most_parts, most_processes}
 use Rattle.trace_growth.specs.Growing.{IsTrace}
 use Rattle.pull_system.specs.declared.pull.Pull.{Pull}
 use Rattle.pull_system.specs.System.{IsPull}
@@ -72,21 +73,21 @@ length_count [] = omega arith
 length_count (atom a ∷ ps) = omega (arith, length_count ps)
 length_count (temporal o qs ∷ ps) = omega (arith, length_count ps)
 
-few_rooms : (n : ℕ) (ps : List Piece) → n ≤ 32 → rooms_of n ps ≤ 1024 * length ps
+few_rooms : (n : ℕ) (ps : List Piece) → n ≤ most_processes → rooms_of n ps ≤ 1024 * length ps
 few_rooms n [] h = omega arith
 few_rooms n (atom a ∷ ps) h = omega (arith, few_rooms n ps h)
-few_rooms n (temporal o qs ∷ ps) h = let square : n * n ≤ 32 * 32 = mul-le-mul h h in omega (arith, few_rooms n ps h)
+few_rooms n (temporal o qs ∷ ps) h = let square : n * n ≤ most_processes * most_processes = mul-le-mul h h in omega (arith, few_rooms n ps h)
 
-few_processes : (seen : Observed) → IsTrace seen.trace.states → length (lens_seen seen) ≤ 32
+few_processes : (seen : Observed) → IsTrace seen.trace.states → length (lens_seen seen) ≤ most_processes
 few_processes seen trace = let few = trace.whole.header.few in omega (arith, ap length (lens_same seen trace), length-map seen.trace.states.events (λ (es : List Event). length es), trace.whole.events)
 
 pub pulls_count : (seen : Observed) → IsTrace seen.trace.states → (pulls : List Pull) (ps : List Piece) → AddsPulls seen (first_pulls (clocks_seen seen) (gives_order ps)) pulls ps
-    → parts_count ps ≤ 128 → length pulls < 4294967296
+    → parts_count ps ≤ most_parts → length pulls < 4294967296
 pulls_count seen trace pulls ps adds few =
     let n = length (lens_seen seen) in
     let small = few_processes seen trace in
-    let less : n - 1 ≤ 32 = omega arith in
-    let square : n * (n - 1) ≤ 32 * 32 = mul-le-mul {n₁ = n} {m₁ = n - 1} {n₂ = 32} {m₂ = 32} small less in
+    let less : n - 1 ≤ most_processes = omega arith in
+    let square : n * (n - 1) ≤ most_processes * most_processes = mul-le-mul {n₁ = n} {m₁ = n - 1} {n₂ = most_processes} {m₂ = most_processes} small less in
     let rooms = few_rooms n ps small in
     let bound = few_pulls seen pulls ps (first_pulls_are seen trace (gives_order ps)) adds in
     omega (arith, length_count ps)
@@ -131,7 +132,7 @@ settles_one_by seen pulls ps workers old new s t slice order is keeps keeps_is o
     (subst (λ (o : Clocks). SettlesOne o pulls keeps workers old new s t slice) is one)
 
 -- all parts were taken
-pub few_parts : (parts : List Part) → parts_count (pieces_of parts) ≤ 128 → length parts ≤ 128
+pub few_parts : (parts : List Part) → parts_count (pieces_of parts) ≤ most_parts → length parts ≤ most_parts
 few_parts parts few = omega (arith, length_count (pieces_of parts), length-map parts piece_of)
 
 -- ---- whether all parts are atoms

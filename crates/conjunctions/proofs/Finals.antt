@@ -3,6 +3,7 @@ use Rattle.std.proofs.Common.{◌≡◌, ℕ, zero, suc, ◌<◌, ◌≤◌, inl
 use Rattle.std.proofs.lemmas.Bool.{cases_lt}
 use Rattle.std.proofs.lemmas.List.{get_or-take, get_or_past, length-take-le}
 use Rattle.std.proofs.lemmas.Option.{none-some}
+use Rattle.pota_base.specs.Limits.{most_processes}
 use Rattle.pull_system.specs.declared.pull.Pull.{Pull}
 use Rattle.pull_system.specs.System.{SystemView, IsSystem}
 use Rattle.pull_system.specs.Rows.{RowsView, row_at}
@@ -36,7 +37,7 @@ taken (suc n) [] p = omega arith
 taken (suc n) (x ∷ finals) zero = omega arith
 taken (suc n) (x ∷ finals) (suc p) = taken n finals p
 
-size_of : (system : SystemView) → IsSystem system → (finals : List ℕ) → length finals ≡ 32 → length (take (length system.lens) finals) ≡ length system.lens
+size_of : (system : SystemView) → IsSystem system → (finals : List ℕ) → length finals ≡ most_processes → length (take (length system.lens) finals) ≡ length system.lens
 size_of system is finals size = length-take-le (length system.lens) finals (omega (arith, size, is.shape.few))
 
 none_are : (system : SystemView) → IsSystem system → (words finals : List ℕ) → AreNone finals → AreFinal system words (take (length system.lens) finals)

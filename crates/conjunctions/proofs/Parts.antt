@@ -5,6 +5,7 @@ use Rattle.run_model.specs.Cut.{Cut, initial, IsWithin}
 use Rattle.run_model.specs.Consistent.{IsConsistent}
 use Rattle.run_model.specs.Slice.{Cuts}
 use Rattle.run_model.specs.Meaning.{Sat}
+use Rattle.pota_base.specs.Limits.{most_parts}
 use Rattle.trace_growth.specs.Growing.{IsTrace}
 use Rattle.rctl_grammar.specs.declared.tree.Operator.{Operator}
 use Rattle.pull_system.specs.declared.pull.Pull.{Pull}
@@ -124,7 +125,7 @@ atom_answer seen (temporal o ps) d k answer h of_disjunct of_part operator_is op
 pub temporal_fits : (scope : Scope) (p : Piece) (o : Operator) (ps : List Piece) → p ≡ temporal o (pieces ps) → PieceFits scope p → OperatorFits scope o × EachFits scope ps
 temporal_fits scope p o ps is fits = let both = subst (PieceFits scope) is fits in (both.0, operand_fits scope ps both.1)
 
-pub temporal_count : (p : Piece) (o : Operator) (ps : List Piece) → p ≡ temporal o (pieces ps) → part_count p ≤ 128 → parts_count ps ≤ 128
+pub temporal_count : (p : Piece) (o : Operator) (ps : List Piece) → p ≡ temporal o (pieces ps) → part_count p ≤ most_parts → parts_count ps ≤ most_parts
 temporal_count p o ps is few = omega (arith, ap part_count is, count_pieces ps)
 
 pub temporal_floors : (seen : Observed) (before : List SettledView) (p : Piece) (o : Operator) (ps : List Piece) → p ≡ temporal o (pieces ps) → AreFloors seen before (within p)

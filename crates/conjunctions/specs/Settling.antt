@@ -4,6 +4,7 @@ use Rattle.std.specs.Prelude.{◌≡◌, ℕ, ◌+◌, ◌<◌, ◌≤◌, true,
 use Rattle.std.specs.Prelude.{drop, sum, take, slice_index, Option, Some, None}
 use Rattle.run_model.specs.Cut.{Cut, IsWithin}
 use Rattle.run_model.specs.Sublattice.{IsLeast}
+use Rattle.pota_base.specs.Limits.{most_disjuncts, most_parts}
 use Rattle.pull_system.specs.System.{SystemView, IsSystem}
 use Rattle.pull_system.specs.Rows.{RowsView, AreLeastRows, start_of, row_at}
 use Rattle.pull_system.specs.Growth.{DidNotFall, grown_words}
@@ -104,8 +105,8 @@ AreFloors seen (one ∷ before) (ps ∷ cs) = IsFloor seen ps one.rows × AreFlo
 -- these disjuncts may be answered on what was observed: each part is made for it, and they are few
 pub record CanAnswer (seen : Observed) (ds : List (List Piece)) : Type 0 where
   pub fit : AllFit (scope_seen seen) ds
-  pub few : length ds ≤ 64
-  pub parts : disjuncts_count ds ≤ 128
+  pub few : length ds ≤ most_disjuncts
+  pub parts : disjuncts_count ds ≤ most_parts
 
 -- these conjunctions may be settled in the round: each may begin from its rows of before, and the
 -- system that the round has is that of the order, or of an earlier one

@@ -1,5 +1,6 @@
 //! Conjunctions, each behind those within it.
 ghost use Rattle.std.specs.Prelude.{◌≡◌, ◌∷◌, [], ◌+◌, ◌<◌, ◌≤◌, true, false, length, IfOk, OnOk};
+ghost use Rattle.pota_base.specs.Limits.{most_parts};
 ghost use Rattle.rctl_parts.specs.Pieces.{piece_of, pieces_of};
 ghost use Rattle.rctl_parts.specs.MadeFor.{EachFits, parts_count};
 ghost use Rattle.part_pulls.specs.Observing.{IsReady, scope_seen, clocks_seen, lens_seen};
@@ -42,7 +43,7 @@ pub fn settle_conjunction<R: Threads + Sync, G: Gate, L: Ledger>(
 ) -> Result<Slice, NoMemory>
     requires ready { IsReady seen.now }
     requires fits { EachFits (scope_seen seen.now) (pieces_of parts.now) }
-    requires count { parts_count (pieces_of parts.now) ≤ 128 }
+    requires count { parts_count (pieces_of parts.now) ≤ most_parts }
     requires counters { AllRise seen.now (counters_of_parts (pieces_of parts.now)) }
     requires begins { CanSettle seen.now round.old (conjunctions_in (pieces_of parts.now)) }
     ensures slice { IfOk result (λ slice. IsSliceOf seen.now slice (pieces_of parts.now)) }

@@ -13,7 +13,7 @@ ghost use Rattle.conjunctions.specs.inside.Settling.{IsFloorOf};
 use bound_table::widened;
 use causal_order::Order;
 use least_cut::least;
-use pota_base::{EventId, NoMemory, Steps};
+use pota_base::{EventId, MOST_PROCESSES, NoMemory, Steps};
 use pull_fans::System;
 use pull_system::{Floor, Rows};
 use slice_graph::order_rows_above;
@@ -25,7 +25,7 @@ use std::sync::ledger::Ledger;
 #[derive(Drop)]
 pub struct Beginning {
     pub floor: Floor,
-    pub finals: [u32; 32],
+    pub finals: [u32; MOST_PROCESSES],
     pub bottom: bool,
 }
 
@@ -82,7 +82,7 @@ fn beginning_anew<L: Ledger>(
     ensures bottom { IfOk result (λ begins. FindsBottom system.now true None begins.bottom
         begins.floor.words steps.old steps.new) }
 {
-    let mut vector = [0; 32];
+    let mut vector = [0; MOST_PROCESSES];
     let vector = &mut vector[..system.shape().procs() as usize];
     least(system, vector, steps);
     let floor = order_rows_above(alloc, order, vector)?;
@@ -161,14 +161,14 @@ pub fn beginning_of<L: Ledger>(
 }
 
 /// No row of any process.
-fn no_rows() -> [u32; 32]
+fn no_rows() -> [u32; MOST_PROCESSES]
     ensures { AreNone result }
 {
-    [0; 32]
+    [0; MOST_PROCESSES]
 }
 
 /// How many first rows of each process end with one that lies within the lengths.
-fn rows_with_cuts(rows: &Rows) -> [u32; 32]
+fn rows_with_cuts(rows: &Rows) -> [u32; MOST_PROCESSES]
     ensures { HaveCuts rows.now result }
 {
     let mut finals = no_rows();

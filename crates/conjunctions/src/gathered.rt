@@ -65,9 +65,9 @@ impl Model for Gathered {
 }
 
 impl Gathered {
-    /// What a conjunction of these parts begins with: nothing where a part gives the order, and else
-    /// the pulls of the order. The clocks are the rows to begin from, but where all parts are atoms:
-    /// these have rows of their own.
+    /// What a conjunction of these parts begins with: nothing where a part gives the order, and
+    /// else the pulls of the order. The clocks are the rows to begin from, but where all parts are
+    /// atoms: these have rows of their own.
     pub fn new(alloc: Global, order: &Order, parts: &[Part]) -> Result<Gathered, NoMemory>
         ensures order { IfOk result (λ gathered. gathered.order ≡ order.now) }
         ensures pulls { IfOk result (λ gathered. gathered.pulls
@@ -111,8 +111,8 @@ impl Gathered {
         Ok(())
     }
 
-    /// Puts the pulls of an operator's slice behind the others, and keeps the rows of the first such
-    /// slice. Where nothing was asked before, the slice asks alone.
+    /// Puts the pulls of an operator's slice behind the others, and keeps the rows of the first
+    /// such slice. Where nothing was asked before, the slice asks alone.
     pub fn add_slice(&mut self, alloc: Global, slice: &Slice) -> Result<(), NoMemory>
         ensures order { self.new.order ≡ self.old.order }
         ensures pulls { OnOk result (self.new.pulls ≡ self.old.pulls ++ pulls_of_slice slice.now) }

@@ -1,24 +1,20 @@
 //! Laws on answers and on kept rows. The functions do nothing.
-ghost use Rattle.std.specs.Prelude.{◌≡◌, ℕ, ◌≤◌, true, List, sum, Some};
+ghost use Rattle.std.specs.Prelude.{◌≡◌, List};
 ghost use Rattle.run_model.specs.Class.{IsKeptFor};
 ghost use Rattle.trace_growth.specs.Growing.{IsTrace};
-ghost use Rattle.pull_system.specs.Vector.{IsAtMost};
-ghost use Rattle.pull_system.specs.Rows.{RowsView, IsLeast, row_at};
-ghost use Rattle.pull_system.specs.Growth.{old_row, grown_words};
 ghost use Rattle.slice_workers.specs.Views.{SettledView};
 ghost use Rattle.rctl_parts.specs.Pieces.{Piece};
-ghost use Rattle.rctl_parts.specs.MadeFor.{AllFit, EachFits};
+ghost use Rattle.rctl_parts.specs.MadeFor.{AllFit};
 ghost use Rattle.part_pulls.specs.declared.observed.Observed.{Observed};
 ghost use Rattle.conjunctions.specs.declared.answer.Answer.{Answer};
 ghost use Rattle.rctl_parts.specs.Spelled.{disjunction_of};
-ghost use Rattle.part_pulls.specs.Observing.{AreFull, Reading, scope_seen, lens_seen};
-ghost use Rattle.part_pulls.specs.Observing.{run_seen, names_seen};
-ghost use Rattle.part_pulls.specs.Counters.{AllRise, CountersRise, counters_of_parts};
-ghost use Rattle.conjunctions.specs.Numbering.{all_conjunctions, all_atoms};
-ghost use Rattle.part_pulls.specs.Systems.{system_of};
-ghost use Rattle.conjunctions.specs.Settling.{AreSettled, IsSettled, AreFloors};
+ghost use Rattle.part_pulls.specs.Observing.{AreFull, Reading, scope_seen, run_seen, names_seen};
+ghost use Rattle.part_pulls.specs.Counters.{CountersRise};
+ghost use Rattle.conjunctions.specs.Numbering.{all_conjunctions};
+ghost use Rattle.conjunctions.specs.Settling.{AreSettled, AreFloors};
 ghost use Rattle.part_pulls.specs.Later.{IsLater};
 ghost use Rattle.conjunctions.specs.Answering.{IsAnswer};
+ghost use Rattle.conjunctions.specs.Laws.{RowsWithACutAreFinal, RowsWithACutStay};
 
 /// What was observed has one answer, whatever rows it began from, by however many workers it was
 /// found, and in whichever batches the events came. So it is that of a fresh start, but for the
@@ -42,24 +38,8 @@ pub fn settled_rows_are_kept()
 /// A row of a conjunction of atoms that lies within the lengths is the same row after any later
 /// batch, and so is least where it stands among the grown rows.
 pub fn rows_with_a_cut_are_final()
-    ensures same { (before after : Observed) (ps : List Piece) (old new : RowsView)
-        → IsTrace before.trace.states → IsTrace after.trace.states → AreFull before
-        → IsLater before after → EachFits (scope_seen before) ps
-        → AllRise after (counters_of_parts ps) → all_atoms ps ≡ true
-        → IsSettled before ps old → IsSettled after ps new
-        → (row kept : ℕ) → row ≤ sum new.lens → old_row old.lens new.lens row ≡ Some kept
-        → IsAtMost (row_at old.lens old.words kept) old.lens
-        → row_at new.lens new.words row ≡ row_at old.lens old.words kept }
-    ensures floor { (before after : Observed) (ps : List Piece) (old : RowsView)
-        → IsTrace before.trace.states → IsTrace after.trace.states → AreFull before
-        → IsLater before after → EachFits (scope_seen before) ps
-        → AllRise after (counters_of_parts ps) → all_atoms ps ≡ true
-        → IsSettled before ps old
-        → (row kept : ℕ) → row ≤ sum (lens_seen after)
-        → old_row old.lens (lens_seen after) row ≡ Some kept
-        → IsAtMost (row_at old.lens old.words kept) old.lens
-        → IsLeast (system_of after ps) row
-        (row_at (lens_seen after) (grown_words (lens_seen after) old) row) }
+    ensures same { RowsWithACutStay }
+    ensures floor { RowsWithACutAreFinal }
 {}
 
 /// Where no counter of the disjuncts falls in what was observed, none that their formula names

@@ -16,9 +16,10 @@
 //! answer on it is kept, and the next answer grows it (`Kept`).
 //!
 //! A difference of counters is an atom. Its pulls say what it means where neither counter ever
-//! falls, which the caller has to show (clause `counters`; `counters_are_kept` hands it on). EX asks
-//! by the slice of its operand and has none of its own: a cut that is closed under its pulls need
-//! not be consistent, so a conjunction whose operators are all EX begins with the order's pulls.
+//! falls, which the caller has to show (clause `counters`; `counters_are_kept` hands it on). EX
+//! asks by the slice of its operand and has none of its own: a cut that is closed under its pulls
+//! need not be consistent, so a conjunction whose operators are all EX begins with the order's
+//! pulls.
 //!
 //! Nothing is said of the time or the memory that a call takes, nor of the steps of several
 //! workers.

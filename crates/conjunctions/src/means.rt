@@ -1,4 +1,5 @@
 ghost use Rattle.std.specs.Prelude.{◌≤◌};
+ghost use Rattle.pota_base.specs.Limits.{most_workers};
 
 use std::alloc::Global;
 
@@ -13,5 +14,5 @@ pub struct Means<'a, R, G> {
     /// What each of them passes before it settles a row.
     pub gate: &'a G,
     ghost some: { 1 ≤ workers },
-    ghost few: { workers ≤ 16 },
+    ghost few: { workers ≤ most_workers },
 }

@@ -1,4 +1,5 @@
 pub mod Counters
 pub mod Falls
+pub mod Laws
 pub mod Truth
 pub mod inside

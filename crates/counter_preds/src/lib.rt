@@ -5,9 +5,9 @@
 //! the definition of the least number that passes a test; by `fit` it is a pull of the run's shape,
 //! and by `closed` a vector keeps it exactly where the values say so.
 //! `differences_hold_where_they_are_true` takes that to the formulas of the run, both ways.
-//! `difference_pulls_grow` says that no entry falls when more events come, and `counters_never_fall`
-//! that a formula's differences are regular in the run. Nothing is said of want of memory but that
-//! the call answers it.
+//! `difference_pulls_grow` says that no entry falls when more events come, and
+//! `counters_never_fall` that a formula's differences are regular in the run. Nothing is said of
+//! want of memory but that the call answers it.
 //!
 //! `first_fall` is exactly the fault of the first event of a batch that leaves a counter lower than
 //! it was, and takes no memory. Where there is none, the counters stay counters behind the batch

@@ -1,6 +1,7 @@
 //! Where the values along one process reach those along another.
 ghost use Rattle.std.specs.Prelude.{◌≡◌, ℕ, ◌+◌, ◌^◌, ◌<◌, ◌≤◌, length, IfOk};
 ghost use Rattle.std.specs.Prelude.{pos, ◌+ℤ◌, ◌-ℤ◌, ◌≤ℤ◌, ◌<ℤ◌, neg_ℤ};
+ghost use Rattle.pota_base.specs.Limits.{most_events};
 ghost use Rattle.counter_preds.specs.Counters.{AreRising, value_at, first_reaching};
 ghost use Rattle.counter_preds.specs.Counters.{first_positions as first_positions_of};
 
@@ -21,8 +22,8 @@ pub fn first_positions(
     extra: i128,
 ) -> Result<List<u32>, NoMemory>
     requires leads { AreRising leads.now }
-    requires few_leads { length leads.now ≤ 50001 }
-    requires few_follows { length follows.now ≤ 50001 }
+    requires few_leads { length leads.now ≤ most_events + 1 }
+    requires few_follows { length follows.now ≤ most_events + 1 }
     requires low_more { neg_ℤ (pos (2 ^ 64)) ≤ℤ more }
     requires high_more { more ≤ℤ pos (2 ^ 64) }
     requires low_extra { neg_ℤ (pos (2 ^ 64)) ≤ℤ extra }

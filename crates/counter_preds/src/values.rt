@@ -1,5 +1,6 @@
 //! The values of a variable along its process.
-ghost use Rattle.std.specs.Prelude.{◌≡◌, ◌≤◌, length, IfOk};
+ghost use Rattle.std.specs.Prelude.{◌≡◌, ◌+◌, ◌≤◌, length, IfOk};
+ghost use Rattle.pota_base.specs.Limits.{most_events};
 ghost use Rattle.counter_preds.specs.Counters.{IsVariable, values_of};
 
 use event_log::States;
@@ -21,7 +22,7 @@ pub fn values_along(
 ) -> Result<List<i64>, NoMemory>
     requires { IsVariable states.now variable }
     ensures values { IfOk result (λ values. values ≡ values_of states.now variable) }
-    ensures few { IfOk result (λ values. length values ≤ 50001) }
+    ensures few { IfOk result (λ values. length values ≤ most_events + 1) }
 {
     let len = states.shape().len_of(variable.process);
     let mut values = Vec::with_capacity(alloc, len as usize + 1)?;

@@ -6,6 +6,7 @@ use Rattle.std.proofs.lemmas.Bool.{cases_Bool, cases_lt, true≢false, and_parts
 use Rattle.std.proofs.lemmas.List.{append-nil, length-map, length-append, length_push, map_push}
 use Rattle.std.proofs.lemmas.Option.{none-some}
 use Rattle.std.proofs.lemmas.Slice.Eq.{bytes_eq-Decides}
+use Rattle.pota_base.specs.Limits.{most_events}
 use Rattle.log_lines.specs.Names.{Name}
 use Rattle.log_lines.specs.Spelling.{EventLine, event_line, procs_line, batch_line, end_line}
 use Rattle.log_lines.specs.Reading.{choose, text_at, event_in, begins_vars}
@@ -143,7 +144,7 @@ pub record OpenRead (h : Header) (older : List Line) (given : List Item) : Type 
   pub fit : BatchesFit h (length (header_lines h) + 1) (done ++ current ∷ [])
   pub items_are : given ≡ open_items done current
   pub count_is : events older ≡ event_count (done ++ current ∷ [])
-  pub few : events older ≤ 50000
+  pub few : events older ≤ most_events
 
 module _ (h : Header) (older : List Line) (given : List Item) (r : OpenRead h older given) where
   -- the lines with one more
@@ -166,7 +167,7 @@ module _ (h : Header) (older : List Line) (given : List Item) (r : OpenRead h ol
     few = omega (arith, same, r.few);
   }
 
-  pub event_more : (line : Line) (e : Event) → line ≡ event_line (line_of h e) → EventFits h e → e.line ≡ length older + 1 → events older < 50000 → events (line ∷ older) ≡ events older + 1 → OpenRead h (line ∷ older) (given ++ item.Event e ∷ [])
+  pub event_more : (line : Line) (e : Event) → line ≡ event_line (line_of h e) → EventFits h e → e.line ≡ length older + 1 → events older < most_events → events (line ∷ older) ≡ events older + 1 → OpenRead h (line ∷ older) (given ++ item.Event e ∷ [])
   event_more line e is fits at few more = record {
     done = r.done;
     current = r.current ++ e ∷ [];

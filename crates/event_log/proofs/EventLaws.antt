@@ -5,6 +5,7 @@ use Rattle.std.specs.List.{AllByRecursion}
 use Rattle.std.proofs.Math.Bool.{or-true, or-false}
 use Rattle.std.proofs.lemmas.Bool.{eqb-true, eq-eqb, ne_eqb, not-true, ltb-true, lt-ltb}
 use Rattle.std.proofs.lemmas.List.{length-map}
+use Rattle.pota_base.specs.Limits.{most_events, most_variables}
 use Rattle.log_lines.specs.Names.{Name, is_name, place_of, are_distinct}
 use Rattle.log_lines.specs.Spelling.{NamedValue, Action, ActionFits, EventLine, EventLineFits, names_of}
 use Rattle.event_log.specs.declared.item.LogCode.TheVariants as code
@@ -47,7 +48,7 @@ pub record EventNamed (h : Header) (line count : ℕ) (d : EventLine) (e : Event
   pub line_is : line_of h e ≡ d
   pub fits : EventFits h e
   pub at : e.line ≡ line
-  pub few : count < 50000
+  pub few : count < most_events
 
 line_made : (actor : Name) (clock : List ℕ) (action : Action) (assigns : List NamedValue) (d : EventLine) → actor ≡ d.actor → clock ≡ d.clock → action ≡ d.action → assigns ≡ d.assigns
     → record { actor = actor; clock = clock; action = action; assigns = assigns } ≡ d
@@ -62,13 +63,13 @@ event_takes h vars line count d e same fits judged =
     let w = guarded_ok code.ClockWidth (has_width (length h.procs) d.clock) _ e k.2 in
     let s = guarded_ok code.SelfMessage (not (is_to_itself a.0 k.0)) _ e w.1 in
     let g = bind_ok (assigns_in (binding_names (variables_at vars a.0)) [] d.assigns) _ e s.1 in
-    let t = guarded_ok code.TooManyEvents (nat_lt count 50000) _ e g.2 in
+    let t = guarded_ok code.TooManyEvents (nat_lt count most_events) _ e g.2 in
     let actor = place_some h.procs d.actor a.0 (known_ok _ _ _ a.1) in
     let kinds = kind_takes h.procs a.0 d.action k.0 fits.action k.1 (not-true _ s.0) in
     let sets = assigns_take (variables_at vars a.0) [] d.assigns g.0 fits.assigns.each g.1 in
     let sets_are : map (named (variables_at h.vars a.0)) g.0 ≡ d.assigns = rw (same a.0, sets.all_are) sets.named_are in
     let sets_fit : AllByRecursion (AssignFits (variables_at h.vars a.0)) g.0 = rw (same a.0, sets.all_are) sets.fits in
-    let sets_few : length g.0 ≤ 16 = omega (arith, ap length sets_are, length-map g.0 (named (variables_at h.vars a.0)), fits.assigns.few) in
+    let sets_few : length g.0 ≤ most_variables = omega (arith, ap length sets_are, length-map g.0 (named (variables_at h.vars a.0)), fits.assigns.few) in
     let sets_distinct : are_distinct (names_of (map (named (variables_at h.vars a.0)) g.0)) ≡ true = rw sets_are fits.assigns.distinct in
     subst (EventNamed h line count d) (same_Ok _ _ t.1) (record {
       line_is = line_made (name_at h.procs a.0) d.clock (action_of h.procs k.0) (map (named (variables_at h.vars a.0)) g.0) d actor.1 refl kinds.action_is sets_are;
@@ -89,7 +90,7 @@ name_fits_at [] i fits lt = absurd (omega arith)
 name_fits_at (n ∷ ns) zero fits lt = fits.0
 name_fits_at (n ∷ ns) (suc i) fits lt = name_fits_at ns i fits.1 (omega arith)
 
-pub event_again : (h : Header) (vars : List (List Binding)) (count : ℕ) (e : Event) → HeaderFits h → SameVariables h.vars vars → EventFits h e → count < 50000 → event_named h.version h.procs vars e.line count (line_of h e) ≡ Ok e
+pub event_again : (h : Header) (vars : List (List Binding)) (count : ℕ) (e : Event) → HeaderFits h → SameVariables h.vars vars → EventFits h e → count < most_events → event_named h.version h.procs vars e.line count (line_of h e) ≡ Ok e
 unfolding event_named
 event_again h vars count e header same fits few =
     let kinds = kind_again h.procs e.process e.kind header.procs.distinct fits.kind in

@@ -5,6 +5,7 @@ use Rattle.std.specs.Option.{option_map}
 use Rattle.std.proofs.lemmas.Bool.{cases_Bool, cases_lt, le-leb, lt-leb, le-ltb, true≢false}
 use Rattle.std.proofs.lemmas.List.{append-nil, length_push}
 use Rattle.std.proofs.lemmas.Option.{none-some}
+use Rattle.pota_base.specs.Limits.{longest_line, longest_log}
 use Rattle.log_lines.specs.Reading.{choose}
 use Rattle.event_log.specs.declared.item.LogCode.{LogCode}
 use Rattle.event_log.specs.declared.item.LogCode.TheVariants as code
@@ -20,16 +21,16 @@ use Rattle.event_log.proofs.Texts.{line_now-plain, lines-plain}
 
 -- ---- a byte
 
-pub byte_passes : (total width b : ℕ) → 11 ≤ total → total < 67108864 → width < 4096 → byte_fault total false width b ≡ None
+pub byte_passes : (total width b : ℕ) → 11 ≤ total → total < longest_log → width < longest_line → byte_fault total false width b ≡ None
 unfolding byte_fault
-byte_passes total width b started room narrow = rw (lt-leb 67108864 total room, le-ltb total 11 started, lt-leb 4096 width narrow) refl
+byte_passes total width b started room narrow = rw (lt-leb longest_log total room, le-ltb total 11 started, lt-leb longest_line width narrow) refl
 
 -- no fault leaves room for the byte
-pub byte_room : (total : ℕ) (ended : Bool) (width b : ℕ) → byte_fault total ended width b ≡ None → total < 67108864
+pub byte_room : (total : ℕ) (ended : Bool) (width b : ℕ) → byte_fault total ended width b ≡ None → total < longest_log
 unfolding byte_fault
-byte_room total ended width b h = elim (cases_lt total 67108864) [
+byte_room total ended width b h = elim (cases_lt total longest_log) [
   | inl room ↦ room
-  | inr full ↦ absurd (none-some code.LogTooLong (sym (rw (le-leb 67108864 total full) at h)))
+  | inr full ↦ absurd (none-some code.LogTooLong (sym (rw (le-leb longest_log total full) at h)))
 ]
 
 module _ (b : ℕ) (past : List ℕ) where
@@ -88,7 +89,7 @@ one_faults b past c before some =
     (fault-next b past before ∙ ap (λ (t : Told). option_map (placed past) t.fault) m, items_byte-next b past before ∙ ap (λ (t : Told). items past ++ t.items) m ∙ append-nil (items past))
 
 -- a whole chunk with room for it
-pub quiet_passes : (bytes past : List ℕ) → first_fault past ≡ None → HasNoFeed bytes → 11 ≤ length past → length past + length bytes ≤ 67108864 → is_ended (lines past) ≡ false → length (line_now past) + length bytes ≤ 4096 → Passed bytes past
+pub quiet_passes : (bytes past : List ℕ) → first_fault past ≡ None → HasNoFeed bytes → 11 ≤ length past → length past + length bytes ≤ longest_log → is_ended (lines past) ≡ false → length (line_now past) + length bytes ≤ longest_line → Passed bytes past
 quiet_passes [] past before plain started room open_ narrow = record { fault_is = before; items_are = refl }
 quiet_passes (b ∷ bytes) past before plain started room open_ narrow =
     let none : byte_fault (length past) (is_ended (lines past)) (length (line_now past)) b ≡ None = rw open_ (byte_passes (length past) (length (line_now past)) b started (omega arith) (omega arith)) in
@@ -130,7 +131,7 @@ mapped_none past (Some c) h = absurd (none-some (placed past c) (sym h))
 -- each byte behind the `end` line is a fault
 pub ended_byte : (total width b : ℕ) → byte_fault total true width b ≡ None → ⊥
 unfolding byte_fault
-ended_byte total width b h = elim (cases_Bool (nat_le 67108864 total)) [
+ended_byte total width b h = elim (cases_Bool (nat_le longest_log total)) [
   | inl full ↦ none-some code.LogTooLong (sym (rw full at h))
   | inr room ↦ elim (cases_Bool (nat_lt total 11 && not (is_heading_byte total b))) [
     | inl bad ↦ none-some code.BadHeader (sym (rw (room, bad) at h))
@@ -164,7 +165,7 @@ free_byte b past free before none =
     ]
 
 -- a text without a fault is no longer than a log may be
-pub free_small : (past : List ℕ) → first_fault past ≡ None → length past ≤ 67108864
+pub free_small : (past : List ℕ) → first_fault past ≡ None → length past ≤ longest_log
 free_small [] h = omega arith
 free_small (b ∷ past) h =
     let before = fault_before b past h in

@@ -5,21 +5,20 @@ use Rattle.std.specs.Option.{option_map}
 use Rattle.std.proofs.lemmas.Bool.{cases_Bool}
 use Rattle.std.proofs.lemmas.List.{append-nil}
 use Rattle.std.proofs.lemmas.Option.{none-some}
+use Rattle.pota_base.specs.Limits.{longest_line, longest_log}
 use Rattle.event_log.specs.declared.item.LogCode.{LogCode}
 use Rattle.event_log.specs.declared.item.LogFault.{LogFault}
 use Rattle.event_log.specs.declared.item.Item.{Item}
-use Rattle.event_log.specs.declared.line_reader.LineTold.{LineTold}
 use Rattle.event_log.specs.declared.feeder.Feeder.{Feeder}
-use Rattle.event_log.specs.declared.feeder.LineGiven.{LineGiven}
 use Rattle.event_log.specs.Before.{Line, is_ended, Told, told}
 use Rattle.event_log.specs.LogText.{onto}
 use Rattle.event_log.specs.Lines.{HasReadLines}
-use Rattle.event_log.specs.inside.Lines.{TakesLine, told_of}
+use Rattle.event_log.specs.inside.Lines.{TakesLine}
 use Rattle.event_log.specs.Moments.{IsPlainByte, HasNoFeed, line_now, lines}
 use Rattle.event_log.specs.LogEnd.{is_whole, log_upto, behind_log}
 use Rattle.event_log.specs.Faults.{byte_fault, moment_told, placed, first_fault, items, FedIs}
 use Rattle.event_log.specs.Feeding.{Past, CountsLines, HasFed}
-use Rattle.event_log.specs.inside.Feeding.{Gains, placed_at, PlainTaken, TakesPlain, given_items, ClosesLine, TakesFedLine, TakesLog, JudgesRest}
+use Rattle.event_log.specs.inside.Feeding.{Gains, placed_at, PlainTaken, TakesPlain, ClosesLine, TakesFedLine, TakesLog, JudgesRest}
 use Rattle.event_log.specs.declared.reader.Reader.{Reader}
 use Rattle.event_log.specs.declared.item.Fed.{Fed}
 use Rattle.event_log.specs.Reader.{HasRead, ReadsLog}
@@ -34,7 +33,7 @@ abbrev pub Knows : Feeder → ℕ → ℕ → Option LogCode → Type 0
 Knows f width b o = (past : Past) → CountsLines f past → o ≡ byte_fault (length past) (is_ended (lines past)) width b
 
 -- no fault leaves room
-pub room_none : (total : ℕ) (ended : Bool) (width b : ℕ) (o : Option LogCode) → o ≡ byte_fault total ended width b → o ≡ None → total < 67108864
+pub room_none : (total : ℕ) (ended : Bool) (width b : ℕ) (o : Option LogCode) → o ≡ byte_fault total ended width b → o ≡ None → total < longest_log
 room_none total ended width b o is none = byte_room total ended width b (sym is ∙ none)
 
 fault_placed : (f : Feeder) (past : Past) (c : LogCode) → CountsLines f past → placed_at (f.reader.lines + 1) c ≡ placed past c
@@ -74,7 +73,7 @@ byte_takes f new b plain knows gains past has =
 -- ---- bytes that can have no fault
 
 pub record CanTake (f : Feeder) (len : ℕ) : Type 0 where
-  pub room : (11 ≤ f.total) × (f.total + len ≤ 67108864) × (length f.line.items + len ≤ 4096)
+  pub room : (11 ≤ f.total) × (f.total + len ≤ longest_log) × (length f.line.items + len ≤ longest_line)
   pub open_ : (past : Past) → CountsLines f past → is_ended (lines past) ≡ false
 
 chunk_passes : (f : Feeder) (bytes : List ℕ) (past : Past) → HasFed f past → HasNoFeed bytes → CanTake f (length bytes) → Passed bytes past
@@ -106,38 +105,43 @@ fault_stays a b c xs ys f taken past has =
 
 -- ---- a line feed
 
-pub close_faults : (f new : Feeder) (line : List ℕ) (c : LogCode) → Knows f (length line) 10 (Some c) → ClosesLine f line (record { header = None; item = None; fault = Some (placed_at (f.reader.lines + 1) c) }) new
-close_faults f new line c knows past counts is =
+pub close_faults : (f new : Feeder) (line : List ℕ) (before : List Item) (c : LogCode) → Knows f (length line) 10 (Some c) → ClosesLine f line before (Some (placed_at (f.reader.lines + 1) c)) before new
+close_faults f new line before c knows past counts is =
     let some : byte_fault (length past) (is_ended (lines past)) (length (line_now past)) 10 ≡ Some c = sym (knows past counts ∙ ap (λ (l : Line). byte_fault (length past) (is_ended (lines past)) (length l) 10) is) in
     let one = one_faults 10 past c counts.fault_is some in
-    (record { items_are = one.1 ∙ sym (append-nil (items past)); fault_is = ap (λ (x : LogFault). Some x) (fault_placed f past c counts) ∙ sym one.0 }, λ none. absurd (none-some _ (sym none)))
+    (record { items_are = λ front at. one.1 ∙ at; fault_is = ap (λ (x : LogFault). Some x) (fault_placed f past c counts) ∙ sym one.0 }, λ none. absurd (none-some _ (sym none)))
 
-pub close_takes : (f new : Feeder) (line : List ℕ) (t : LineTold) → Knows f (length line) 10 None → TakesLine f.reader line t new.reader → new.total ≡ f.total + 1
-    → ClosesLine f line (record { header = t.header; item = t.item; fault = option_map (placed_at (f.reader.lines + 1)) t.fault }) new
-close_takes f new line t knows takes more past counts is =
+pub close_takes : (f new : Feeder) (line : List ℕ) (before after : List Item) (o : Option LogCode) → Knows f (length line) 10 None → TakesLine f.reader line before o after new.reader → new.total ≡ f.total + 1
+    → ClosesLine f line before (option_map (placed_at (f.reader.lines + 1)) o) after new
+close_takes f new line before after o knows takes more past counts is =
     let none : byte_fault (length past) (is_ended (lines past)) (length (line_now past)) 10 ≡ None = sym (knows past counts ∙ ap (λ (l : Line). byte_fault (length past) (is_ended (lines past)) (length l) 10) is) in
-    let judged = takes (lines past) counts.knows in
-    let m : moment_told 10 past ≡ told_of t = feed_moment past none ∙ ap (told (lines past)) (sym is) ∙ sym judged.0 in
-    let fault : first_fault (10 ∷ past) ≡ option_map (placed past) t.fault = fault-next 10 past counts.fault_is ∙ ap (λ (x : Told). option_map (placed past) x.fault) m in
-    let at : option_map (placed_at (f.reader.lines + 1)) t.fault ≡ option_map (placed past) t.fault = ap (λ (n : ℕ). option_map (placed_at (n + 1)) t.fault) counts.knows.lines_are in (
-      record { items_are = items_byte-next 10 past counts.fault_is ∙ ap (λ (x : Told). items past ++ x.items) m; fault_is = at ∙ sym fault },
+    let taken = takes (lines past) counts.knows in
+    let given : List Item = (told (lines past) line).items in
+    let m : moment_told 10 past ≡ told (lines past) line = feed_moment past none ∙ ap (told (lines past)) (sym is) in
+    let fault : first_fault (10 ∷ past) ≡ option_map (placed past) o = fault-next 10 past counts.fault_is ∙ ap (λ (x : Told). option_map (placed past) x.fault) m ∙ ap (option_map (placed past)) taken.fault_is in
+    let at : option_map (placed_at (f.reader.lines + 1)) o ≡ option_map (placed past) o = ap (λ (n : ℕ). option_map (placed_at (n + 1)) o) counts.knows.lines_are in (
+      record {
+        items_are = λ front had.
+            items_byte-next 10 past counts.fault_is ∙ ap (λ (x : Told). items past ++ x.items) m ∙ ap (λ (xs : List Item). xs ++ given) had ∙ append_assoc front before given ∙ ap (λ (xs : List Item). front ++ xs) (sym taken.items_are);
+        fault_is = at ∙ sym fault;
+      },
       λ g. record {
         fault_is = fault ∙ sym at ∙ g;
         total_is = omega (arith, more, counts.total_is);
-        knows = subst (HasReadLines new.reader) (ap (λ (l : Line). l ∷ lines past) is ∙ sym (lines-feed past)) (judged.1 (mapped_none t.fault g));
+        knows = subst (HasReadLines new.reader) (ap (λ (l : Line). l ∷ lines past) is ∙ sym (lines-feed past)) (taken.reads (mapped_none o g));
       },
     )
   where
-    mapped_none : (o : Option LogCode) → option_map (placed_at (f.reader.lines + 1)) o ≡ None → o ≡ None
+    mapped_none : (x : Option LogCode) → option_map (placed_at (f.reader.lines + 1)) x ≡ None → x ≡ None
     mapped_none None h = refl
     mapped_none (Some c) h = absurd (none-some (placed_at (f.reader.lines + 1) c) (sym h))
 
 -- ---- a whole line
 
 -- a line that lies whole in the piece
-pub whole_line : (f middle new : Feeder) (line : List ℕ) (g : LineGiven) → HasNoFeed line → CanTake f (length line) → f.line.items ≡ [] → middle.total ≡ f.total + length line → middle.reader ≡ f.reader → middle.line.items ≡ [] → new.line.items ≡ middle.line.items
-    → ClosesLine middle line g new → TakesFedLine f line g new
-whole_line f middle new line g plain can empty total reader line_is same closes past has =
+pub whole_line : (f middle new : Feeder) (line : List ℕ) (before : List Item) (fault : Option LogFault) (after : List Item) → HasNoFeed line → CanTake f (length line) → f.line.items ≡ [] → middle.total ≡ f.total + length line → middle.reader ≡ f.reader → middle.line.items ≡ [] → new.line.items ≡ middle.line.items
+    → ClosesLine middle line before fault after new → TakesFedLine f line before fault after new
+whole_line f middle new line before fault after plain can empty total reader line_is same closes past has =
     let passed = chunk_passes f line past has plain can in
     let now_is : line_now past ≡ [] = sym has.line_is ∙ empty in
     let is : line ≡ line_now (onto line past) = sym (line_now-plain line past plain ∙ ap (λ (l : Line). l ++ line) now_is) in
@@ -147,27 +151,27 @@ whole_line f middle new line g plain can empty total reader line_is same closes 
       knows = rw (reader, lines-plain line past plain) has.counts.knows;
     } in
     let c = closes (onto line past) counts is in (
-      record { items_are = c.0.items_are ∙ ap (λ (xs : List Item). xs ++ given_items g) passed.items_are; fault_is = c.0.fault_is },
+      record { items_are = λ front had. c.0.items_are front (passed.items_are ∙ had); fault_is = c.0.fault_is },
       λ none. record { counts = c.1 none; line_is = same ∙ line_is ∙ sym (line_now-feed (onto line past)) },
     )
 
 -- a fault before the line feed
-pub line_faults : (f new last : Feeder) (line : List ℕ) (x : LogFault) → TakesPlain f line (Some x) new → TakesFedLine f line (record { header = None; item = None; fault = Some x }) last
-line_faults f new last line x taken past has =
+pub line_faults : (f new last : Feeder) (line : List ℕ) (before : List Item) (x : LogFault) → TakesPlain f line (Some x) new → TakesFedLine f line before (Some x) before last
+line_faults f new last line before x taken past has =
     let p = taken past has in (
-      record { items_are = stuck_items-byte 10 (onto line past) x (sym p.fault_is) ∙ p.items_are ∙ sym (append-nil (items past)); fault_is = sym (stuck-byte 10 (onto line past) x (sym p.fault_is)) },
+      record { items_are = λ front had. stuck_items-byte 10 (onto line past) x (sym p.fault_is) ∙ p.items_are ∙ had; fault_is = sym (stuck-byte 10 (onto line past) x (sym p.fault_is)) },
       λ none. absurd (none-some x (sym none)),
     )
 
 -- a line that was kept
-pub kept_line : (f kept bare closed new : Feeder) (chunk line : List ℕ) (g : LineGiven) → TakesPlain f chunk None kept → line ≡ kept.line.items → bare.total ≡ kept.total → bare.reader ≡ kept.reader → ClosesLine bare line g closed
-    → new.total ≡ closed.total → new.reader ≡ closed.reader → new.line.items ≡ [] → TakesFedLine f chunk g new
-kept_line f kept bare closed new chunk line g taken line_is total reader closes new_total new_reader new_line past has =
+pub kept_line : (f kept bare closed new : Feeder) (chunk line : List ℕ) (before : List Item) (fault : Option LogFault) (after : List Item) → TakesPlain f chunk None kept → line ≡ kept.line.items → bare.total ≡ kept.total → bare.reader ≡ kept.reader → ClosesLine bare line before fault after closed
+    → new.total ≡ closed.total → new.reader ≡ closed.reader → new.line.items ≡ [] → TakesFedLine f chunk before fault after new
+kept_line f kept bare closed new chunk line before fault after taken line_is total reader closes new_total new_reader new_line past has =
     let p = taken past has in
     let fed = p.feeds refl in
     let counts : CountsLines bare (onto chunk past) = record { fault_is = fed.counts.fault_is; total_is = total ∙ fed.counts.total_is; knows = rw reader fed.counts.knows } in
     let c = closes (onto chunk past) counts (line_is ∙ fed.line_is) in (
-      record { items_are = c.0.items_are ∙ ap (λ (xs : List Item). xs ++ given_items g) p.items_are; fault_is = c.0.fault_is },
+      record { items_are = λ front had. c.0.items_are front (p.items_are ∙ had); fault_is = c.0.fault_is },
       λ none.
           let k = c.1 none in
           record { counts = record { fault_is = k.fault_is; total_is = new_total ∙ k.total_is; knows = rw new_reader k.knows }; line_is = new_line ∙ sym (line_now-feed (onto chunk past)) },
@@ -200,9 +204,9 @@ pub record LineFound (rest line after : List ℕ) : Type 0 where
   pub plain : HasNoFeed line
   pub split : rest ≡ line ++ 10 ∷ after
 
-pub piece_goes_on : (old now new : Feeder) (piece rest line after : List ℕ) (given more : List Item) (g : LineGiven) → ReadsTo old now piece rest given → KnowsEnd now false → LineFound rest line after → TakesFedLine now line g new → g.fault ≡ None → more ≡ given ++ given_items g
+pub piece_goes_on : (old now new : Feeder) (piece rest line after : List ℕ) (given more : List Item) (fault : Option LogFault) → ReadsTo old now piece rest given → KnowsEnd now false → LineFound rest line after → TakesFedLine now line given fault more new → fault ≡ None
     → ReadsTo old new piece after more
-piece_goes_on old now new piece rest line after given more g reads knows found takes none all past has =
+piece_goes_on old now new piece rest line after given more fault reads knows found takes none past has =
     let r = reads past has in
     let t = takes r.at r.fed in
     let open_ : is_whole r.at ≡ false = sym (knows (lines r.at) r.fed.counts.knows) in
@@ -210,19 +214,19 @@ piece_goes_on old now new piece rest line after given more g reads knows found t
       at = 10 ∷ onto line r.at;
       fed = t.1 none;
       leads = then_leads past piece r.at rest (10 ∷ onto line r.at) after r.leads (line_leads rest line after r.at found.split found.plain open_);
-      items_are = t.0.items_are ∙ ap (λ (xs : List Item). xs ++ given_items g) r.items_are ∙ append_assoc (items past) given (given_items g) ∙ ap (λ (xs : List Item). items past ++ xs) (sym all);
+      items_are = t.0.items_are (items past) r.items_are;
     }
 
-pub piece_faults : (old now new : Feeder) (piece rest line after : List ℕ) (given more : List Item) (g : LineGiven) (x : LogFault) → ReadsTo old now piece rest given → KnowsEnd now false → LineFound rest line after → TakesFedLine now line g new → g.fault ≡ Some x → more ≡ given ++ given_items g
-    → (left : List ℕ) (last : Feeder) → TakesLog old piece (record { items = more; fault = g.fault }) left last
-piece_faults old now new piece rest line after given more g x reads knows found takes some all left last past has =
+pub piece_faults : (old now new : Feeder) (piece rest line after : List ℕ) (given more : List Item) (fault : Option LogFault) (x : LogFault) → ReadsTo old now piece rest given → KnowsEnd now false → LineFound rest line after → TakesFedLine now line given fault more new → fault ≡ Some x
+    → (left : List ℕ) (last : Feeder) → TakesLog old piece (record { items = more; fault = fault }) left last
+piece_faults old now new piece rest line after given more fault x reads knows found takes some left last past has =
     let r = reads past has in
     let t = takes r.at r.fed in
     let open_ : is_whole r.at ≡ false = sym (knows (lines r.at) r.fed.counts.knows) in
     let p = parted after (10 ∷ onto line r.at) in
     let s = stuck p.front (10 ∷ onto line r.at) x (sym t.0.fault_is ∙ some) in
     let text : log_upto past piece ≡ onto p.front (10 ∷ onto line r.at) = r.leads.upto_is ∙ (line_leads rest line after r.at found.split found.plain open_).upto_is ∙ p.upto_is in
-    let items_are : items (log_upto past piece) ≡ items past ++ more = ap items text ∙ s.1 ∙ t.0.items_are ∙ ap (λ (xs : List Item). xs ++ given_items g) r.items_are ∙ append_assoc (items past) given (given_items g) ∙ ap (λ (xs : List Item). items past ++ xs) (sym all) in
+    let items_are : items (log_upto past piece) ≡ items past ++ more = ap items text ∙ s.1 ∙ t.0.items_are (items past) r.items_are in
     record {
       fed_is = record { items_are = items_are; fault_is = some ∙ sym (ap first_fault text ∙ s.0) };
       feeds = λ none. absurd (none-some x (sym none ∙ some));
@@ -295,20 +299,16 @@ rest_is_faulty f (b ∷ rest) o some knows past bytes fed is =
 
 -- ---- as the calls give their answers
 
-abbrev pub only_fault : LogFault → LineGiven
-only_fault x = record { header = None; item = None; fault = Some x }
+pub close_faults_is : (f new : Feeder) (line : List ℕ) (before : List Item) (c : LogCode) (x : LogFault) → Knows f (length line) 10 (Some c) → x ≡ placed_at (f.reader.lines + 1) c → ClosesLine f line before (Some x) before new
+close_faults_is f new line before c x knows x_is = subst (λ (y : LogFault). ClosesLine f line before (Some y) before new) (sym x_is) (close_faults f new line before c knows)
 
-abbrev pub given_of : LineTold → ℕ → LineGiven
-given_of t line = record { header = t.header; item = t.item; fault = option_map (placed_at line) t.fault }
+pub close_takes_is : (f new : Feeder) (line : List ℕ) (before after : List Item) (o : Option LogCode) (n : ℕ) (g : Option LogFault) → Knows f (length line) 10 None → TakesLine f.reader line before o after new.reader → new.total ≡ f.total + 1 → n ≡ f.reader.lines → g ≡ option_map (placed_at (n + 1)) o
+    → ClosesLine f line before g after new
+close_takes_is f new line before after o n g knows takes more n_is g_is =
+    subst (λ (y : Option LogFault). ClosesLine f line before y after new) (sym (g_is ∙ ap (λ (k : ℕ). option_map (placed_at (k + 1)) o) n_is)) (close_takes f new line before after o knows takes more)
 
-pub close_faults_is : (f new : Feeder) (line : List ℕ) (c : LogCode) (x : LogFault) (g : LineGiven) → Knows f (length line) 10 (Some c) → x ≡ placed_at (f.reader.lines + 1) c → g ≡ only_fault x → ClosesLine f line g new
-close_faults_is f new line c x g knows x_is g_is = subst (λ (y : LineGiven). ClosesLine f line y new) (sym (g_is ∙ ap only_fault x_is)) (close_faults f new line c knows)
-
-pub close_takes_is : (f new : Feeder) (line : List ℕ) (t : LineTold) (n : ℕ) (g : LineGiven) → Knows f (length line) 10 None → TakesLine f.reader line t new.reader → new.total ≡ f.total + 1 → n ≡ f.reader.lines → g ≡ given_of t (n + 1) → ClosesLine f line g new
-close_takes_is f new line t n g knows takes more n_is g_is = subst (λ (y : LineGiven). ClosesLine f line y new) (sym (g_is ∙ ap (λ (k : ℕ). given_of t (k + 1)) n_is)) (close_takes f new line t knows takes more)
-
-pub line_faults_is : (f new last : Feeder) (line : List ℕ) (x : LogFault) (o : Option LogFault) (g : LineGiven) → TakesPlain f line o new → o ≡ Some x → g ≡ only_fault x → TakesFedLine f line g last
-line_faults_is f new last line x o g taken o_is g_is = subst (λ (y : LineGiven). TakesFedLine f line y last) (sym g_is) (line_faults f new last line x (subst (λ (z : Option LogFault). TakesPlain f line z new) o_is taken))
+pub line_faults_is : (f new last : Feeder) (line : List ℕ) (before : List Item) (x : LogFault) (o : Option LogFault) → TakesPlain f line o new → o ≡ Some x → TakesFedLine f line before (Some x) before last
+line_faults_is f new last line before x o taken o_is = line_faults f new last line before x (subst (λ (z : Option LogFault). TakesPlain f line z new) o_is taken)
 
 pub none_value : {A : Type 0} (o : Option A) → is_some o ≡ false → o ≡ None
 none_value None h = refl

@@ -5,6 +5,7 @@ use Rattle.std.specs.Str.{bytes_eq}
 use Rattle.std.proofs.lemmas.Bool.{cases_Bool, cases_lt, le-leb}
 use Rattle.std.proofs.lemmas.List.{append-nil}
 use Rattle.std.proofs.lemmas.Option.{none-some}
+use Rattle.pota_base.specs.Limits.{most_events}
 use Rattle.log_lines.specs.Names.{Name, place_of}
 use Rattle.log_lines.specs.Spelling.{batch_line, end_line}
 use Rattle.log_lines.specs.Reading.{choose, text_at, begins_vars, event_in, vars_in}
@@ -46,7 +47,7 @@ front_fits (item.End ∷ xs) ys fit = absurd fit
 
 -- ---- whole logs
 
-events_then : (h : Header) (line n : ℕ) (es : List Event) (rest : List Item) → EventsFit h line es → n + length es ≤ 50000 → FitFrom h (n + length es) rest → FitFrom h n (event_items es ++ rest)
+events_then : (h : Header) (line n : ℕ) (es : List Event) (rest : List Item) → EventsFit h line es → n + length es ≤ most_events → FitFrom h (n + length es) rest → FitFrom h n (event_items es ++ rest)
 events_then h line n [] rest fits few then_fits = let e : n + 0 ≡ n = omega arith in subst (λ (k : ℕ). FitFrom h k rest) e then_fits
 events_then h line n (e ∷ es) rest fits few then_fits =
     let more : n + length (e ∷ es) ≡ n + 1 + length es = omega arith in
@@ -56,7 +57,7 @@ closing_fits : (h : Header) (n : ℕ) (batches : List (List Event)) (rest : List
 closing_fits h n [] rest fits = fits
 closing_fits h n (b ∷ bs) rest fits = fits
 
-batches_then : (h : Header) (line n : ℕ) (bs : List (List Event)) → BatchesFit h line bs → n + event_count bs ≤ 50000 → FitFrom h n (batch_items bs)
+batches_then : (h : Header) (line n : ℕ) (bs : List (List Event)) → BatchesFit h line bs → n + event_count bs ≤ most_events → FitFrom h n (batch_items bs)
 batches_then h line n [] fits few = tt
 batches_then h line n (b ∷ bs) fits few =
     events_then h line n b (closing_item bs ∷ batch_items bs) fits.0 (omega (arith, few))

@@ -9,6 +9,7 @@ use Rattle.event_log.specs.declared.log.Event.{Event}
 use Rattle.event_log.specs.declared.log.Binding.{Binding}
 use Rattle.event_log.specs.declared.log.Header.{Header}
 use Rattle.run_model.specs.Run as run
+use Rattle.pota_base.specs.Limits.{most_events}
 use Rattle.event_log.specs.States.{HistoryView, StatesView, openings_of, states_in, event_of, variable_of, processes_of, AssignsWithin, IsHeader, IsKnown, AreStates, with_event, with_batch}
 use Rattle.event_log.specs.inside.States.{nothing, events_in, fresh, Grown, HasRoom, Added}
 
@@ -50,7 +51,7 @@ unfolding with_batch
 sum_batch ess [] = omega arith
 sum_batch ess (e ∷ batch) = omega (arith, sum_batch (with_event ess e) batch, sum_longer ess e.process e)
 
-pub added_sum : (old now : List HistoryView) (batch : List Event) → Added old batch now → sum (map length (events_in old)) + length batch ≤ 50000 → sum (lens_in now) ≤ 50000
+pub added_sum : (old now : List HistoryView) (batch : List Event) → Added old batch now → sum (map length (events_in old)) + length batch ≤ most_events → sum (lens_in now) ≤ most_events
 added_sum old now batch h few =
     let e = ap sum (lens_in-events now) in
     let f = ap (λ (ess : List (List Event)). sum (map length ess)) h.events in
@@ -62,7 +63,7 @@ count-lens_in (h ∷ hs) zero = refl
 count-lens_in (h ∷ hs) (suc p) = count-lens_in hs p
 
 -- the lengths of histories of which there are as many as a shape has
-pub lens_shape : (hs : List HistoryView) (shape : List ℕ) → IsShape shape → length shape ≡ length hs → sum (lens_in hs) ≤ 50000 → IsShape (lens_in hs)
+pub lens_shape : (hs : List HistoryView) (shape : List ℕ) → IsShape shape → length shape ≡ length hs → sum (lens_in hs) ≤ most_events → IsShape (lens_in hs)
 lens_shape hs shape is same few = record {
   some = omega (arith, length-map hs (λ (x : HistoryView). length x.events), is.some);
   few = omega (arith, length-map hs (λ (x : HistoryView). length x.events), is.few);
@@ -94,7 +95,7 @@ fresh_openings (v ∷ vars) = ap (λ (l : List (List ℤ)). map (λ (b : Binding
 
 -- what holds of histories of these variables
 pub record StartsFresh (header : Header) (histories : List HistoryView) : Type 0 where
-  pub few : sum (lens_in histories) ≤ 50000
+  pub few : sum (lens_in histories) ≤ most_events
   pub shape : (lens : List ℕ) → lens ≡ lens_in histories → IsShape lens
   pub states : (lens : List ℕ) → lens ≡ lens_in histories → AreStates header lens histories
   pub events : events_in histories ≡ replicate (length header.procs) []

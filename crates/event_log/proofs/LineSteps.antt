@@ -1,12 +1,14 @@
 -- How the reader of lines follows the lines before.
-use Rattle.std.proofs.Common.{◌≡◌, ℕ, ◌+◌, ◌≤◌, Bool, true, false, cond, Option, Some, None, Result, Ok, Err, List, [], ◌∷◌, ◌++◌, length, refl, sym, ap, subst, ◌∙◌, arith, inl, inr}
-use Rattle.std.specs.Prelude.{◌==◌, nat_le, not, ◌&&◌, ◌||◌, IfOk, IsOk, OnOk, IsSomeAnd}
+use Rattle.std.proofs.Common.{◌≡◌, ℕ, ◌+◌, ◌≤◌, Bool, true, false, cond, Option, Some, None, Result, Ok, Err, List, [], ◌∷◌, ◌++◌, length, refl, sym, ap, subst, ◌∙◌, arith, append_assoc, inl, inr}
+use Rattle.std.specs.Prelude.{◌==◌, nat_le, not, ◌&&◌, ◌||◌, IfOk, IsOk, OnOk}
 use Rattle.std.specs.Str.{bytes_eq}
 use Rattle.std.proofs.lemmas.Bool.{cases_Bool, eqb-true, ne_eqb, eq-eqb, le-leb, leb-true, and_parts, or_cases}
+use Rattle.std.proofs.lemmas.List.{append-nil}
 use Rattle.std.proofs.lemmas.Option.{none-some}
 use Rattle.std.proofs.lemmas.Slice.Eq.{bytes_eq-Decides}
 use Rattle.pota_base.specs.declared.fault.NoMemory.{NoMemory}
 use Rattle.pota_base.specs.declared.fault.Refused.{Refused}
+use Rattle.pota_base.specs.declared.fault.Refused.TheVariants as refused
 use Rattle.log_lines.specs.Names.{Name}
 use Rattle.log_lines.specs.Spelling.{EventLine, batch_line, end_line}
 use Rattle.log_lines.specs.Reading.{choose, text_at, event_in, begins_vars}
@@ -19,13 +21,12 @@ use Rattle.event_log.specs.declared.log.Binding.{Binding}
 use Rattle.event_log.specs.declared.log.Header.{Header}
 use Rattle.event_log.specs.declared.log.Event.{Event}
 use Rattle.event_log.specs.declared.line_reader.LineReader.{LineReader}
-use Rattle.event_log.specs.declared.line_reader.LineTold.{LineTold}
 use Rattle.event_log.specs.declared.line_reader.Stage.{Stage}
 use Rattle.event_log.specs.declared.line_reader.Stage.TheVariants as stage
 use Rattle.event_log.specs.Numbers.{event_named}
 use Rattle.event_log.specs.Before.{Line, filled, version, names, variables, variables_after, events, begins_event, is_header_over, is_ended, headed, header_of, Told, gives, refuses, heading_told, procs_told, vars_told, event_told, body_told, told}
 use Rattle.event_log.specs.Lines.{StageIs, HasReadLines}
-use Rattle.event_log.specs.inside.Lines.{JudgedAs, told_of, header_items, events_after, stage_after, TakesHeading, TakesProcs, TakesVars, Passes, TakesLine}
+use Rattle.event_log.specs.inside.Lines.{JudgedAs, IsFaultOf, events_after, stage_after, TakesHeading, TakesProcs, TakesVars, Passes, TakesBody, LineTaken, TakesLine}
 
 -- ---- what a line gives, by the stage
 
@@ -65,15 +66,25 @@ module _ (older : List Line) (line : Line) where
 
 -- ---- what a whole answer says
 
-pub judged_takes : (old new : LineReader) (line : Line) (answer : Result LineTold NoMemory) (header : Option Header) (judged : Result (Option Item) (Refused LogCode)) (part : Told)
-    → IfOk answer (λ t. (told : Told) → JudgedAs judged told → told_of t ≡ record { items = header_items header ++ told.items; fault = told.fault })
-    → IfOk answer (λ t. t.fault ≡ None → IsOk judged)
-    → JudgedAs judged part
-    → ((older : List Line) → HasReadLines old older → told older line ≡ record { items = header_items header ++ part.items; fault = part.fault })
-    → ((older : List Line) → HasReadLines old older → IsOk judged → HasReadLines new (line ∷ older))
-    → IfOk answer (λ t. TakesLine old line t new)
-judged_takes old new line (Ok t) header judged part says ok is value next = λ older has. (says part is ∙ sym (value older has), λ none. next older has (ok none))
-judged_takes old new line (Err e) header judged part says ok is value next = tt
+judged_takes : {A : Type 0} (old new : LineReader) (line : Line) (before after : List Item) (answer : Result (Option LogCode) NoMemory) (judged : Result A (Refused LogCode)) → IsFaultOf judged answer
+    → ((o : Option LogCode) → IsFaultOf judged (Ok o) → (older : List Line) → HasReadLines old older → LineTaken older line before o after new) → IfOk answer (λ fault. TakesLine old line before fault after new)
+judged_takes old new line before after (Ok o) judged is taken = taken o is
+judged_takes old new line before after (Err e) judged is taken = tt
+
+-- a line without an item
+none_given : {A : Type 0} (new : LineReader) (line : Line) (before : List Item) (judged : Result A (Refused LogCode)) (o : Option LogCode) (older : List Line) → IsFaultOf judged (Ok o) → JudgedAs judged (told older line)
+    → (IsOk judged → HasReadLines new (line ∷ older)) → LineTaken older line before o before new
+none_given new line before (Ok x) o older is value next =
+    let none : o ≡ None = cc in
+    record { items_are = sym (ap (λ (t : Told). before ++ t.items) value ∙ append-nil before); fault_is = ap (λ (t : Told). t.fault) value ∙ sym none; reads = λ _. next refl }
+none_given new line before (Err (refused.Fault c)) o older is value next =
+    let some : o ≡ Some c = cc in
+    record {
+      items_are = sym (ap (λ (t : Told). before ++ t.items) value ∙ append-nil before);
+      fault_is = ap (λ (t : Told). t.fault) value ∙ sym some;
+      reads = λ none. absurd (none-some c (sym none ∙ some));
+    }
+none_given new line before (Err refused.NoMemory) o older is value next = absurd cc
 
 pub on_ok : {A E : Type 0} (r : Result A E) (P : Type 0) → OnOk r P → IsOk r → P
 on_ok (Ok x) P p ok = p
@@ -251,35 +262,32 @@ body_next old new line older i has long open_ behind gave passes =
 
 -- ---- the calls of the reader
 
-pub heading_takes : (old new : LineReader) (line : Line) (answer : Result LineTold NoMemory) (judged : Result (Option Item) (Refused LogCode)) → old.stage ≡ stage.Header → old.lines ≡ 0
-    → IfOk answer (λ t. (told : Told) → JudgedAs judged told → told_of t ≡ record { items = told.items; fault = told.fault }) → IfOk answer (λ t. t.fault ≡ None → IsOk judged)
-    → JudgedAs judged (heading_told line) → OnOk judged (TakesHeading old new line) → IfOk answer (λ t. TakesLine old line t new)
-heading_takes old new line answer judged at none says ok is counts =
-    judged_takes old new line answer None judged (heading_told line) says ok is
-    (λ older has.
+pub heading_takes : {A : Type 0} (old new : LineReader) (line : Line) (before : List Item) (answer : Result (Option LogCode) NoMemory) (judged : Result A (Refused LogCode)) → old.stage ≡ stage.Header → old.lines ≡ 0
+    → IsFaultOf judged answer → JudgedAs judged (heading_told line) → OnOk judged (TakesHeading old new line) → IfOk answer (λ fault. TakesLine old line before fault before new)
+heading_takes old new line before answer judged at none is value counts =
+    judged_takes old new line before before answer judged is
+    (λ o o_is older has.
     let stage_is = subst (λ (s : Stage). StageIs s older) at has.stage_is in
-    told-heading older line stage_is.1 (omega (arith, has.lines_are)))
-    (λ older has fine. heading_next old new line older has at none (on_ok judged _ counts fine))
+    let same = told-heading older line stage_is.1 (omega (arith, has.lines_are)) in
+    none_given new line before judged o older o_is (subst (JudgedAs judged) (sym same) value) (λ fine. heading_next old new line older has at none (on_ok judged _ counts fine)))
 
-pub procs_takes : (old new : LineReader) (line : Line) (answer : Result LineTold NoMemory) (judged : Result (Option Item) (Refused LogCode)) → old.stage ≡ stage.Header → old.lines ≡ 1
-    → IfOk answer (λ t. (told : Told) → JudgedAs judged told → told_of t ≡ record { items = told.items; fault = told.fault }) → IfOk answer (λ t. t.fault ≡ None → IsOk judged)
-    → JudgedAs judged (procs_told line) → OnOk judged (TakesProcs old new line) → IfOk answer (λ t. TakesLine old line t new)
-procs_takes old new line answer judged at one says ok is takes =
-    judged_takes old new line answer None judged (procs_told line) says ok is
-    (λ older has.
+pub procs_takes : {A : Type 0} (old new : LineReader) (line : Line) (before : List Item) (answer : Result (Option LogCode) NoMemory) (judged : Result A (Refused LogCode)) → old.stage ≡ stage.Header → old.lines ≡ 1
+    → IsFaultOf judged answer → JudgedAs judged (procs_told line) → OnOk judged (TakesProcs old new line) → IfOk answer (λ fault. TakesLine old line before fault before new)
+procs_takes old new line before answer judged at one is value takes =
+    judged_takes old new line before before answer judged is
+    (λ o o_is older has.
     let stage_is = subst (λ (s : Stage). StageIs s older) at has.stage_is in
-    told-procs older line stage_is.1 (omega (arith, has.lines_are)))
-    (λ older has fine. procs_next old new line older has at one (on_ok judged _ takes fine))
+    let same = told-procs older line stage_is.1 (omega (arith, has.lines_are)) in
+    none_given new line before judged o older o_is (subst (JudgedAs judged) (sym same) value) (λ fine. procs_next old new line older has at one (on_ok judged _ takes fine)))
 
-pub vars_takes : (old new : LineReader) (line : Line) (answer : Result LineTold NoMemory) (judged : Result (Option Item) (Refused LogCode)) → old.stage ≡ stage.Header → 2 ≤ old.lines → begins_vars line ≡ true
-    → IfOk answer (λ t. (told : Told) → JudgedAs judged told → told_of t ≡ record { items = told.items; fault = told.fault }) → IfOk answer (λ t. t.fault ≡ None → IsOk judged)
-    → JudgedAs judged (vars_told old.procs old.variables line) → OnOk judged (TakesVars old new line) → IfOk answer (λ t. TakesLine old line t new)
-vars_takes old new line answer judged at long begins says ok is takes =
-    judged_takes old new line answer None judged (vars_told old.procs old.variables line) says ok is
-    (λ older has.
+pub vars_takes : {A : Type 0} (old new : LineReader) (line : Line) (before : List Item) (answer : Result (Option LogCode) NoMemory) (judged : Result A (Refused LogCode)) → old.stage ≡ stage.Header → 2 ≤ old.lines → begins_vars line ≡ true
+    → IsFaultOf judged answer → JudgedAs judged (vars_told old.procs old.variables line) → OnOk judged (TakesVars old new line) → IfOk answer (λ fault. TakesLine old line before fault before new)
+vars_takes old new line before answer judged at long begins is value takes =
+    judged_takes old new line before before answer judged is
+    (λ o o_is older has.
     let stage_is = subst (λ (s : Stage). StageIs s older) at has.stage_is in
-    told-vars older line stage_is.1 (omega (arith, has.lines_are)) stage_is.0 begins ∙ rw (has.procs_are, has.variables_are) refl)
-    (λ older has fine. vars_next old new line older has at long begins (on_ok judged _ takes fine))
+    let same : told older line ≡ vars_told old.procs old.variables line = told-vars older line stage_is.1 (omega (arith, has.lines_are)) stage_is.0 begins ∙ rw (has.procs_are, has.variables_are) refl in
+    none_given new line before judged o older o_is (subst (JudgedAs judged) (sym same) value) (λ fine. vars_next old new line older has at long begins (on_ok judged _ takes fine)))
 
 -- the body of a log as the reader judges it
 abbrev pub own_body : LineReader → Line → Told
@@ -288,42 +296,72 @@ own_body r line = body_told r.version r.procs r.variables (r.lines + 1) r.events
 own_body_is : (r : LineReader) (line : Line) (older : List Line) → HasReadLines r older → body_told (version older) (names older) (variables older) (length older + 1) (events older) line ≡ own_body r line
 own_body_is r line older has = rw (has.version_is, has.procs_are, has.variables_are, has.lines_are, has.events_are) refl
 
-body_passes : (old new : LineReader) (line : Line) (judged : Result (Option Item) (Refused LogCode)) (older : List Line) → HasReadLines old older → 2 ≤ length older → is_ended older ≡ false → (is_header_over older || not (begins_vars line)) ≡ true
-    → JudgedAs judged (own_body old line) → IfOk judged (λ i. IsSomeAnd i (Passes old new)) → IsOk judged → HasReadLines new (line ∷ older)
-body_passes old new line (Ok (Some i)) older has long open_ behind is passes fine = body_next old new line older i has long open_ behind is passes
-body_passes old new line (Ok None) older has long open_ behind is passes fine = absurd passes
-body_passes old new line (Err e) older has long open_ behind is passes fine = absurd cc
+-- what a line behind the header gave stands behind these
+record BodyTaken (older : List Line) (line : Line) (body : Told) (middle : List Item) (o : Option LogCode) (after : List Item) (new : LineReader) : Type 0 where
+  items_are : after ≡ middle ++ body.items
+  fault_is : body.fault ≡ o
+  reads : o ≡ None → HasReadLines new (line ∷ older)
 
-pub first_takes : (old new : LineReader) (line : Line) (answer : Result LineTold NoMemory) (header : Header) (judged : Result (Option Item) (Refused LogCode)) → old.stage ≡ stage.Header → 2 ≤ old.lines → begins_vars line ≡ false
-    → header ≡ headed old.version old.procs (filled old.variables (length old.procs))
-    → IfOk answer (λ t. (told : Told) → JudgedAs judged told → told_of t ≡ record { items = item.Header header ∷ told.items; fault = told.fault }) → IfOk answer (λ t. t.fault ≡ None → IsOk judged)
-    → JudgedAs judged (own_body old line) → IfOk judged (λ i. IsSomeAnd i (Passes old new)) → IfOk answer (λ t. TakesLine old line t new)
-first_takes old new line answer header judged at long begins made says ok is passes =
-    judged_takes old new line answer (Some header) judged (own_body old line) says ok is
-    (λ older has.
+body_given : {A : Type 0} (old new : LineReader) (line : Line) (middle after : List Item) (judged : Result A (Refused LogCode)) (o : Option LogCode) (older : List Line) → HasReadLines old older → 2 ≤ length older → is_ended older ≡ false → (is_header_over older || not (begins_vars line)) ≡ true
+    → IsFaultOf judged (Ok o) → TakesBody (own_body old line) old middle judged after new → BodyTaken older line (own_body old line) middle o after new
+body_given old new line middle after (Ok x) o older has long open_ behind is takes =
+    let none : o ≡ None = cc in
+    let gave = takes.1.0 in
+    record {
+      items_are = takes.1.1 ∙ ap (λ (t : Told). middle ++ t.items) (sym gave);
+      fault_is = ap (λ (t : Told). t.fault) gave ∙ sym none;
+      reads = λ _. body_next old new line older takes.0 has long open_ behind gave takes.1.2;
+    }
+body_given old new line middle after (Err (refused.Fault c)) o older has long open_ behind is takes =
+    let some : o ≡ Some c = cc in
+    record {
+      items_are = takes.1 ∙ sym (append-nil middle) ∙ ap (λ (t : Told). middle ++ t.items) (sym takes.0);
+      fault_is = ap (λ (t : Told). t.fault) takes.0 ∙ sym some;
+      reads = λ none. absurd (none-some c (sym none ∙ some));
+    }
+body_given old new line middle after (Err refused.NoMemory) o older has long open_ behind is takes = absurd cc
+
+pub first_takes : {A : Type 0} (old new : LineReader) (line : Line) (before middle after : List Item) (answer : Result (Option LogCode) NoMemory) (header : Header) (judged : Result A (Refused LogCode)) → old.stage ≡ stage.Header → 2 ≤ old.lines → begins_vars line ≡ false
+    → header ≡ headed old.version old.procs (filled old.variables (length old.procs)) → middle ≡ before ++ item.Header header ∷ []
+    → IsFaultOf judged answer → TakesBody (own_body old line) old middle judged after new → IfOk answer (λ fault. TakesLine old line before fault after new)
+first_takes old new line before middle after answer header judged at long begins made pushed is takes =
+    judged_takes old new line before after answer judged is
+    (λ o o_is older has.
     let stage_is = subst (λ (s : Stage). StageIs s older) at has.stage_is in
     let same : header_of older ≡ header = rw (← has.version_is, ← has.procs_are, ← has.variables_are) (sym made) in
-    told-first older line stage_is.1 (omega (arith, has.lines_are)) stage_is.0 begins (own_body old line) (own_body_is old line older has) ∙ rw same refl)
-    (λ older has fine.
-    let stage_is = subst (λ (s : Stage). StageIs s older) at has.stage_is in
-    body_passes old new line judged older has (omega (arith, has.lines_are)) stage_is.1 (rw (stage_is.0, begins) refl) is passes fine)
+    let says : told older line ≡ record { items = item.Header header ∷ (own_body old line).items; fault = (own_body old line).fault } =
+    told-first older line stage_is.1 (omega (arith, has.lines_are)) stage_is.0 begins (own_body old line) (own_body_is old line older has) ∙ rw same refl in
+    let body = body_given old new line middle after judged o older has (omega (arith, has.lines_are)) stage_is.1 (rw (stage_is.0, begins) refl) o_is takes in
+    record {
+      items_are = body.items_are ∙ ap (λ (xs : List Item). xs ++ (own_body old line).items) pushed ∙ append_assoc before (item.Header header ∷ []) (own_body old line).items ∙ ap (λ (t : Told). before ++ t.items) (sym says);
+      fault_is = ap (λ (t : Told). t.fault) says ∙ body.fault_is;
+      reads = body.reads;
+    })
 
-pub body_takes : (old new : LineReader) (line : Line) (answer : Result LineTold NoMemory) (judged : Result (Option Item) (Refused LogCode)) → old.stage ≡ stage.Body
-    → IfOk answer (λ t. (told : Told) → JudgedAs judged told → told_of t ≡ record { items = told.items; fault = told.fault }) → IfOk answer (λ t. t.fault ≡ None → IsOk judged)
-    → JudgedAs judged (own_body old line) → IfOk judged (λ i. IsSomeAnd i (Passes old new)) → IfOk answer (λ t. TakesLine old line t new)
-body_takes old new line answer judged at says ok is passes =
-    judged_takes old new line answer None judged (own_body old line) says ok is
-    (λ older has.
+pub body_takes : {A : Type 0} (old new : LineReader) (line : Line) (before after : List Item) (answer : Result (Option LogCode) NoMemory) (judged : Result A (Refused LogCode)) → old.stage ≡ stage.Body
+    → IsFaultOf judged answer → TakesBody (own_body old line) old before judged after new → IfOk answer (λ fault. TakesLine old line before fault after new)
+body_takes old new line before after answer judged at is takes =
+    judged_takes old new line before after answer judged is
+    (λ o o_is older has.
     let stage_is = subst (λ (s : Stage). StageIs s older) at has.stage_is in
-    told-body older line stage_is.1 (over_long older stage_is.0) stage_is.0 ∙ own_body_is old line older has)
-    (λ older has fine.
-    let stage_is = subst (λ (s : Stage). StageIs s older) at has.stage_is in
-    body_passes old new line judged older has (over_long older stage_is.0) stage_is.1 (rw stage_is.0 refl) is passes fine)
+    let long = over_long older stage_is.0 in
+    let says : told older line ≡ own_body old line = told-body older line stage_is.1 long stage_is.0 ∙ own_body_is old line older has in
+    let body = body_given old new line before after judged o older has long stage_is.1 (rw stage_is.0 refl) o_is takes in
+    record {
+      items_are = body.items_are ∙ ap (λ (t : Told). before ++ t.items) (sym says);
+      fault_is = ap (λ (t : Told). t.fault) says ∙ body.fault_is;
+      reads = body.reads;
+    })
 
-pub ended_takes : (r : LineReader) (line : Line) (t : LineTold) → r.stage ≡ stage.Ended → t ≡ record { header = None; item = None; fault = Some code.Trailing } → TakesLine r line t r
-ended_takes r line t at is older has =
+pub ended_takes : (r : LineReader) (line : Line) (before : List Item) → r.stage ≡ stage.Ended → TakesLine r line before (Some code.Trailing) before r
+ended_takes r line before at older has =
     let stage_is = subst (λ (s : Stage). StageIs s older) at has.stage_is in
-    (ap told_of is ∙ sym (told-ended older line stage_is), λ none. absurd (none-some code.Trailing (sym none ∙ ap (λ (x : LineTold). x.fault) is)))
+    let says = told-ended older line stage_is in
+    record {
+      items_are = sym (ap (λ (t : Told). before ++ t.items) says ∙ append-nil before);
+      fault_is = ap (λ (t : Told). t.fault) says;
+      reads = λ none. absurd (none-some code.Trailing (sym none));
+    }
 
 -- so the line that ends the header has two before it
 pub over_long_more : (line : Line) (older : List Line) → is_header_over (line ∷ older) ≡ true → 2 ≤ length older

@@ -6,6 +6,7 @@ use Rattle.std.specs.List.{AllByRecursion}
 use Rattle.std.specs.Fmt.{decimal, signed_decimal}
 use Rattle.std.proofs.lemmas.Int.{ints}
 use Rattle.std.proofs.lemmas.Fmt.{length-decimal-le}
+use Rattle.pota_base.specs.Limits.{longest_line, most_processes}
 use Rattle.log_lines.specs.Names.{Name, is_name}
 use Rattle.log_lines.specs.Spelling.{NamedValue, ValueFits, Action, Internal, Send, Receive, ActionFits, EventLine, EventLineFits, VarsLine, VarsLineFits, names_text, values_text, clock_rest, clock_text, event_clock_text, action_text, vars_line, event_line}
 use Rattle.log_lines.proofs.WordLaws.{name_parts}
@@ -20,7 +21,7 @@ use Rattle.event_log.proofs.EventLaws.{line_fits, clock_few}
 use Rattle.event_log.proofs.WriteLaws.{vars_fit}
 
 abbrev pub IsNarrow : Line → Type 0
-IsNarrow l = length l ≤ 4096
+IsNarrow l = length l ≤ longest_line
 
 names_narrow : (ns : List Name) → AllByRecursion (λ n. is_name n ≡ true) ns → length (names_text ns) ≤ 65 * length ns
 names_narrow [] fits = omega arith
@@ -55,7 +56,7 @@ action_narrow Internal fits = omega arith
 action_narrow (Send to id) fits = omega (arith, length-append to (32 ∷ decimal id), (name_parts to fits.0).few, length-decimal-le 20 id (omega arith) (omega (arith, fits.1)) fits.1)
 action_narrow (Receive sender id) fits = omega (arith, length-append sender (32 ∷ decimal id), (name_parts sender fits.0).few, length-decimal-le 20 id (omega arith) (omega (arith, fits.1)) fits.1)
 
-event_narrow : (e : EventLine) → EventLineFits e → length e.clock ≤ 32 → IsNarrow (event_line e)
+event_narrow : (e : EventLine) → EventLineFits e → length e.clock ≤ most_processes → IsNarrow (event_line e)
 event_narrow e fits few =
     let rest = action_text e.action ++ values_text e.assigns in
     omega (

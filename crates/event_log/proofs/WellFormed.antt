@@ -6,6 +6,7 @@ use Rattle.std.specs.List.{AllByRecursion}
 use Rattle.std.proofs.lemmas.Bool.{cases_Bool, cases_lt, lt-leb, lt-ltb, le-ltb}
 use Rattle.std.proofs.lemmas.List.{append-nil, length_push}
 use Rattle.std.proofs.lemmas.Option.{none-some}
+use Rattle.pota_base.specs.Limits.{longest_line, longest_log}
 use Rattle.log_lines.specs.Reading.{choose}
 use Rattle.event_log.specs.declared.item.LogCode.{LogCode}
 use Rattle.event_log.specs.declared.item.LogCode.TheVariants as code
@@ -43,7 +44,7 @@ fault_free_log bytes h =
     let e = ended_fault (onto bytes []) h in
     let f = fault_free (onto bytes []) e.0 in
     let r = text_read bytes (record { fine = f.fine; ended = e.1; whole = f.end_now e.1 }) in
-    let small : length (log_text r.log) ≤ 67108864 = omega (arith, free_small (onto bytes []) e.0, length-onto bytes [], ap length r.text_is) in
+    let small : length (log_text r.log) ≤ longest_log = omega (arith, free_small (onto bytes []) e.0, length-onto bytes [], ap length r.text_is) in
     (r.log, record { log_is = record { fits = r.fits; small = small }; lines_are = r.lined; text_is = r.text_is; items_are = f.items_are ∙ r.items_are })
 
 -- ---- the text of a log has no fault
@@ -71,27 +72,27 @@ heading_fine n versioned rest = heading_later rest (onto (heading_line n) []) (h
 record HasRoom (past : List ℕ) : Type 0 where
   fine : AreFine (lines past)
   end_now : is_ended (lines past) ≡ true → line_now past ≡ []
-  narrow : AllByRecursion (λ (l : Line). length l ≤ 4096) (lines past)
-  narrow_now : length (line_now past) ≤ 4096
-  small : length past ≤ 67108864
+  narrow : AllByRecursion (λ (l : Line). length l ≤ longest_line) (lines past)
+  narrow_now : length (line_now past) ≤ longest_line
+  small : length past ≤ longest_log
   heading : HeadingFine past
 
 record ReadsFree (past : List ℕ) : Type 0 where
   fault_is : first_fault past ≡ None
   items_are : items past ≡ items_of (lines past)
 
-byte_free : (total width b : ℕ) → total < 67108864 → (total < 11 → is_heading_byte total b ≡ true) → (b == 10) ≡ true ⊎ (width < 4096) → byte_fault total false width b ≡ None
+byte_free : (total width b : ℕ) → total < longest_log → (total < 11 → is_heading_byte total b ≡ true) → (b == 10) ≡ true ⊎ (width < longest_line) → byte_fault total false width b ≡ None
 unfolding byte_fault
 byte_free total width b room heading narrow =
     let started : (nat_lt total 11 && not (is_heading_byte total b)) ≡ false = elim (cases_lt total 11) [
       | inl early ↦ rw (lt-ltb total 11 early, heading early) refl
       | inr late ↦ rw (le-ltb total 11 late) refl
     ] in
-    let fits : (nat_le 4096 width && not (b == 10)) ≡ false = elim narrow [
-      | inl feed ↦ rw feed (and_false (nat_le 4096 width))
-      | inr small ↦ rw (lt-leb 4096 width small) refl
+    let fits : (nat_le longest_line width && not (b == 10)) ≡ false = elim narrow [
+      | inl feed ↦ rw feed (and_false (nat_le longest_line width))
+      | inr small ↦ rw (lt-leb longest_line width small) refl
     ] in
-    rw (lt-leb 67108864 total room, started, fits) refl
+    rw (lt-leb longest_log total room, started, fits) refl
   where
     and_false : (x : Bool) → (x && false) ≡ false
     and_false true = refl
@@ -115,7 +116,7 @@ module _ (b : ℕ) (past : List ℕ) (r : HasRoom (b ∷ past)) where
   room_before_plain : (b == 10) ≡ false → HasRoom past
   unfolding lines line_now HeadingFine
   room_before_plain plain =
-      let width : length (line_now past) + 1 ≤ 4096 = rw (length_push (line_now past) b) at (rw plain at r.narrow_now) in
+      let width : length (line_now past) + 1 ≤ longest_line = rw (length_push (line_now past) b) at (rw plain at r.narrow_now) in
       record {
         fine = rw plain at r.fine;
         end_now = λ ended. absurd (not_nil (line_now past) b (rw plain at (r.end_now (rw plain ended))));
@@ -146,11 +147,11 @@ no_end_before b past r = elim (cases_Bool (is_ended (lines past))) [
 byte_quiet : (b : ℕ) (past : List ℕ) → HasRoom (b ∷ past) → byte_fault (length past) (is_ended (lines past)) (length (line_now past)) b ≡ None
 unfolding lines line_now HeadingFine
 byte_quiet b past r =
-    let small : length past < 67108864 = omega (arith, r.small) in
+    let small : length past < longest_log = omega (arith, r.small) in
     rw (no_end_before b past r) (elim (cases_Bool (b == 10)) [
       | inl feed ↦ byte_free (length past) (length (line_now past)) b small r.heading.0 (inl feed)
       | inr plain ↦
-          let width : length (line_now past) + 1 ≤ 4096 = rw (length_push (line_now past) b) at (rw plain at r.narrow_now) in
+          let width : length (line_now past) + 1 ≤ longest_line = rw (length_push (line_now past) b) at (rw plain at r.narrow_now) in
           byte_free (length past) (length (line_now past)) b small r.heading.0 (inr (omega arith))
     ])
 
@@ -189,7 +190,7 @@ reads_free (b ∷ past) r =
 text_heading : (log : Log) → (rest : List ℕ) × (log_text log ≡ heading_line log.header.version ++ rest)
 text_heading log = (_, refl)
 
-pub log_fault_free : (log : Log) → IsLog log → AllByRecursion (λ (l : Line). length l ≤ 4096) (lines (onto (log_text log) [])) → IsWellFormed (log_text log) × (items_in (log_text log) ≡ log_items (lined log))
+pub log_fault_free : (log : Log) → IsLog log → AllByRecursion (λ (l : Line). length l ≤ longest_line) (lines (onto (log_text log) [])) → IsWellFormed (log_text log) × (items_in (log_text log) ≡ log_items (lined log))
 log_fault_free log is narrow =
     let again = text_again log is.fits (log_plain log is.fits) in
     let past = onto (log_text log) [] in

@@ -4,6 +4,7 @@ use Rattle.std.specs.Prelude.{nat_le, not, ◌||◌}
 use Rattle.std.specs.List.{AllByRecursion}
 use Rattle.std.proofs.lemmas.Bool.{cases_Bool, le-leb}
 use Rattle.std.proofs.lemmas.List.{append-nil, length-map, length-append, length_push, get_or_at, replicate_more}
+use Rattle.pota_base.specs.Limits.{most_events}
 use Rattle.log_lines.specs.Names.{Name, is_name, place_of, are_distinct}
 use Rattle.log_lines.specs.Spelling.{NamedValue, ValueFits, EventLine, event_line, VarsLine, vars_line, VarsLineFits, ProcsFit, procs_line, batch_line, end_line, names_of}
 use Rattle.log_lines.specs.Reading.{choose, text_at, event_in, begins_vars}
@@ -212,18 +213,18 @@ module _ (h : Header) (count : ℕ) (given : List Item) (older : List Line) (r :
       }
 
 -- one event more
-event_ready : (h : Header) (count : ℕ) (given : List Item) (older : List Line) (e : Event) → HeaderFits h → BodyReady h count given older → EventFits h e → e.line ≡ length older + 1 → count < 50000
+event_ready : (h : Header) (count : ℕ) (given : List Item) (older : List Line) (e : Event) → HeaderFits h → BodyReady h count given older → EventFits h e → e.line ≡ length older + 1 → count < most_events
     → BodyReady h (count + 1) (given ++ item.Event e ∷ []) (event_line (line_of h e) ∷ older)
 unfolding text_at
 event_ready h count given older e header r fits at few =
     let line = event_line (line_of h e) in
     let read : event_in line ≡ Some (line_of h e) = line_again (line_of h e) (line_fits h e header fits) in
-    let few_now : events older < 50000 = omega (arith, r.events_are, few) in
+    let few_now : events older < most_events = omega (arith, r.events_are, few) in
     let judged : event_named (version older) (names older) (variables older) (length older + 1) (events older) (line_of h e) ≡ Ok e = rw (r.version_is, r.procs_are, ← at) (event_again h (variables older) (events older) e header r.same fits few_now) in
     let gave : body_told (version older) (names older) (variables older) (length older + 1) (events older) line ≡ gives (item.Event e ∷ []) = ap (λ (o : Option EventLine). choose o (λ d. event_told (event_named (version older) (names older) (variables older) (length older + 1) (events older) d)) (refuses code.BadLine)) read ∙ ap event_told judged in
     line_ready h count given older r line (item.Event e) refl gave refl
 
-events_ready : (h : Header) (count : ℕ) (given : List Item) (older : List Line) (es : List Event) → HeaderFits h → BodyReady h count given older → EventsFit h (length older + 1) es → count + length es ≤ 50000
+events_ready : (h : Header) (count : ℕ) (given : List Item) (older : List Line) (es : List Event) → HeaderFits h → BodyReady h count given older → EventsFit h (length older + 1) es → count + length es ≤ most_events
     → BodyReady h (count + length es) (given ++ event_items es) (onto (event_lines h es) older)
 events_ready h count given older [] header r fits few =
     let none : count + 0 ≡ count = omega arith in
@@ -253,7 +254,7 @@ batch_ready : (h : Header) (count : ℕ) (given : List Item) (older : List Line)
 unfolding text_at
 batch_ready h count given older r = line_ready h count given older r batch_line item.BatchEnd refl refl refl
 
-batches_ready : (h : Header) (count : ℕ) (given : List Item) (older : List Line) (b : List Event) (rest : List (List Event)) → HeaderFits h → BodyReady h count given older → BatchesFit h (length older + 1) (b ∷ rest) → count + event_count (b ∷ rest) ≤ 50000
+batches_ready : (h : Header) (count : ℕ) (given : List Item) (older : List Line) (b : List Event) (rest : List (List Event)) → HeaderFits h → BodyReady h count given older → BatchesFit h (length older + 1) (b ∷ rest) → count + event_count (b ∷ rest) ≤ most_events
     → AreLinesOf (item.Header h ∷ (given ++ batch_items (b ∷ rest))) (onto (batch_lines h (b ∷ rest)) older)
 batches_ready h count given older b [] header r fits few =
     let here = events_ready h count given older b header r fits.0 (omega arith) in
@@ -307,7 +308,7 @@ lined_again log lined fits = go log.batches refl
     go [] e = absurd (omega (arith, fits.some, ap length e))
     go (b ∷ rest) e =
         let fit : BatchesFit h (length (header_lines h) + 1) (b ∷ rest) = subst (λ (bs : List (List Event)). BatchesFit h (length (header_lines h) + 1) bs) e fits.batches in
-        let few : event_count (b ∷ rest) ≤ 50000 = subst (λ (bs : List (List Event)). event_count bs ≤ 50000) e fits.few in
+        let few : event_count (b ∷ rest) ≤ most_events = subst (λ (bs : List (List Event)). event_count bs ≤ most_events) e fits.few in
         let read = batches_ready h 0 [] start b rest fits.header ready (subst (λ (n : ℕ). BatchesFit h n (b ∷ rest)) at fit) (omega (arith, few)) in
         subst (λ (ls : List Line). AreLinesOf (log_items log) ls) (sym (onto-append (header_lines h) (batch_lines h log.batches) []))
         (subst (λ (bs : List (List Event)). AreLinesOf (item.Header h ∷ batch_items bs) (onto (batch_lines h bs) start)) (sym e) read)

@@ -1,8 +1,8 @@
 -- What the lines before a line say, and what a line gives after them. The lines are without their
 -- line feeds, the newest first.
 use Rattle.std.specs.Prelude.{◌≡◌, ◌⊎◌, ℕ, ◌+◌, ◌-◌, Bool, true, false, not, ◌&&◌, ◌||◌, ◌==◌}
-use Rattle.std.specs.Prelude.{nat_le, List, [], ◌∷◌, ◌++◌, length, map, replicate, Option, None, Some}
-use Rattle.std.specs.Prelude.{is_some, unwrap_or, Result, Ok, Err, if◌then◌else◌}
+use Rattle.std.specs.Prelude.{nat_le, List, [], ◌∷◌, ◌++◌, length, map, replicate, Option, None}
+use Rattle.std.specs.Prelude.{Some, is_some, unwrap_or, Result, Ok, Err, if◌then◌else◌}
 use Rattle.std.specs.Str.{bytes_eq}
 use Rattle.log_lines.specs.Names.{Name, place_of}
 use Rattle.log_lines.specs.Spelling.{NamedValue, VarsLine, batch_line, end_line}

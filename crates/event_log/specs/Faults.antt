@@ -4,6 +4,7 @@ use Rattle.std.specs.Prelude.{◌≡◌, ℕ, ◌+◌, Bool, not, ◌&&◌, ◌|
 use Rattle.std.specs.Prelude.{◌∷◌, ◌++◌, length, slice_index, Option, None, Some, is_some}
 use Rattle.std.specs.Prelude.{if◌then◌else◌}
 use Rattle.std.specs.Option.{option_map}
+use Rattle.pota_base.specs.Limits.{longest_line, longest_log}
 use Rattle.log_lines.specs.Reading.{choose}
 use Rattle.event_log.specs.declared.item.LogCode.{LogCode}
 use Rattle.event_log.specs.declared.item.LogCode.TheVariants as code
@@ -28,10 +29,10 @@ is_heading_byte place b =
 -- the bytes of its line before it: the first that is there.
 unfoldable pub byte_fault : ℕ → Bool → ℕ → ℕ → Option LogCode
 byte_fault total ended width b =
-    if nat_le 67108864 total then Some code.LogTooLong
+    if nat_le longest_log total then Some code.LogTooLong
     else if nat_lt total 11 && not (is_heading_byte total b) then Some code.BadHeader
     else if ended then Some code.Trailing
-    else if nat_le 4096 width && not (b == 10) then Some code.LineTooLong
+    else if nat_le longest_line width && not (b == 10) then Some code.LineTooLong
     else None
 
 -- what a line feed gives: what its line gives

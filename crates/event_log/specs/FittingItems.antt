@@ -1,5 +1,6 @@
 -- Items that are those of a log, as far as they go.
 use Rattle.std.specs.Prelude.{ℕ, ◌+◌, ◌<◌, List, [], ◌∷◌}
+use Rattle.pota_base.specs.Limits.{most_events}
 use Rattle.event_log.specs.declared.item.Item.{Item}
 use Rattle.event_log.specs.declared.item.Item.TheVariants as item
 use Rattle.event_log.specs.declared.log.Header.{Header}
@@ -11,7 +12,7 @@ abbrev pub FitFrom : Header → ℕ → List Item → Type 0
 FitFrom h events [] = Unit {0}
 FitFrom h events (item.Header other ∷ items) = ⊥
 FitFrom h events (item.Event e ∷ items) =
-    EventFits h e × (events < 50000) × FitFrom h (events + 1) items
+    EventFits h e × (events < most_events) × FitFrom h (events + 1) items
 FitFrom h events (item.BatchEnd ∷ items) = FitFrom h events items
 FitFrom h events (item.End ∷ items) = FitFrom h events items
 

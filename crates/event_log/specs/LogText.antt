@@ -3,6 +3,7 @@ use Rattle.std.specs.Prelude.{◌≡◌, ◌≢◌, ◌⊎◌, ℕ, ◌+◌, ◌
 use Rattle.std.specs.Prelude.{length, map, slice_index_or, FitsSigned}
 use Rattle.std.specs.Int.{w64}
 use Rattle.std.specs.List.{AllByRecursion}
+use Rattle.pota_base.specs.Limits.{most_events, most_variables}
 use Rattle.log_lines.specs.Names.{Name, is_name, are_distinct}
 use Rattle.log_lines.specs.Spelling.{NamedValue, Action, Internal, Send, Receive, EventLine}
 use Rattle.log_lines.specs.Spelling.{ProcsFit, names_of, procs_line, vars_line, event_line}
@@ -107,7 +108,7 @@ pub record BindingFits (b : Binding) : Type 0 where
 
 -- at most 16 variables, each once
 pub record BindingsFit (bindings : List Binding) : Type 0 where
-  pub few : length bindings ≤ 16
+  pub few : length bindings ≤ most_variables
   pub each : AllByRecursion BindingFits bindings
   pub distinct : are_distinct (binding_names bindings) ≡ true
 
@@ -145,7 +146,7 @@ pub record EventFits (h : Header) (e : Event) : Type 0 where
   pub width : ClockStands h.version (length h.procs) e.clock
   pub clock : AllByRecursion (λ n. n < 2 ^ 32) e.clock
   pub kind : KindFits (length h.procs) e.process e.kind
-  pub few : length e.assigns ≤ 16
+  pub few : length e.assigns ≤ most_variables
   pub assigns : AllByRecursion (AssignFits (variables_at h.vars e.process)) e.assigns
   pub distinct : are_distinct (names_of (map (named (variables_at h.vars e.process)) e.assigns))
       ≡ true
@@ -167,7 +168,7 @@ pub record LogFits (log : Log) : Type 0 where
   pub header : HeaderFits log.header
   pub some : 0 < length log.batches
   pub batches : BatchesFit log.header (length (header_lines log.header) + 1) log.batches
-  pub few : event_count log.batches ≤ 50000
+  pub few : event_count log.batches ≤ most_events
 
 -- ---- the lines of the header
 

@@ -1,6 +1,7 @@
 -- The names of an event line as numbers, with the first thing that is wrong with them.
 use Rattle.std.specs.Prelude.{ℕ, Bool, true, false, not, ◌||◌, ◌==◌, nat_lt, List, [], ◌∷◌, ◌++◌}
 use Rattle.std.specs.Prelude.{length, map, slice_index_or, Option, None, Some, Result, Ok, Err}
+use Rattle.pota_base.specs.Limits.{most_events}
 use Rattle.log_lines.specs.Names.{Name, place_of}
 use Rattle.log_lines.specs.Spelling.{NamedValue, Action, Internal, Send, Receive, EventLine}
 use Rattle.event_log.specs.declared.item.LogCode.{LogCode}
@@ -78,6 +79,6 @@ event_named version procs variables line events e =
     guarded code.ClockWidth (has_width (length procs) e.clock)
     (guarded code.SelfMessage (not (is_to_itself process kind))
     (assigns_in (binding_names (variables_at variables process)) [] e.assigns >>= λ assigns.
-    guarded code.TooManyEvents (nat_lt events 50000)
+    guarded code.TooManyEvents (nat_lt events most_events)
     (Ok (record { process = process; line = line; clock = e.clock; kind = kind; assigns = assigns }
     )))))

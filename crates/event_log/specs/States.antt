@@ -12,6 +12,7 @@ use Rattle.event_log.specs.declared.log.Event.{Event}
 use Rattle.event_log.specs.declared.log.Log.{Log}
 use Rattle.event_log.specs.Numbers.{binding_names}
 use Rattle.run_model.specs.Run as run
+use Rattle.pota_base.specs.Limits.{most_events, most_processes}
 
 -- ---- logged values as the run model has them, without their lines
 
@@ -95,7 +96,7 @@ AreNamedApart bindings = are_distinct (binding_names bindings) ≡ true
 -- variables of one process
 pub record IsHeader (header : Header) : Type 0 where
   pub some : 1 ≤ length header.procs
-  pub few : length header.procs ≤ 32
+  pub few : length header.procs ≤ most_processes
   pub vars : length header.vars ≡ length header.procs
   pub distinct : are_distinct header.procs ≡ true
   pub variables : AllByRecursion AreNamedApart header.vars
@@ -114,7 +115,7 @@ pub record IsKnown (header : Header) (e : Event) : Type 0 where
 pub record MayFollow (header : Header) (events : List (List Event)) (batch : List Event)
     : Type 0 where
   pub known : AllByRecursion (IsKnown header) batch
-  pub few : sum (map length events) + length batch ≤ 50000
+  pub few : sum (map length events) + length batch ≤ most_events
 
 -- ---- what the code keeps
 

@@ -2,6 +2,7 @@
 ghost use Rattle.std.specs.Prelude.{◌≡◌, ℕ, ◌+◌, ◌-◌, pos, ◌<◌, ◌≤◌, [], ◌++◌, List, length, map};
 ghost use Rattle.std.specs.Prelude.{take, get_or, slice_index_or, sum, IfOk, OnOk, OnErr};
 ghost use Rattle.std.specs.List.{AllByRecursion};
+ghost use Rattle.pota_base.specs.Limits.{most_events, most_processes};
 ghost use Rattle.event_log.specs.declared.log.Binding.{Binding};
 ghost use Rattle.event_log.specs.declared.log.Event.{Event};
 ghost use Rattle.event_log.specs.States.{HistoryView, states_in};
@@ -43,9 +44,9 @@ impl Model for Histories {
 
 // Takes room at once for the places and the values of a batch's events.
 fn make_room(each: &mut Vec<History>, batch: &[Event]) -> Result<(), NoMemory>
-    requires procs { length each.old.items ≤ 32 }
+    requires procs { length each.old.items ≤ most_processes }
     requires room { AllByRecursion (HasPlace each.old.items) batch.now }
-    requires few { length batch.now ≤ 50000 }
+    requires few { length batch.now ≤ most_events }
     ensures { each.new.items ≡ each.old.items }
 {
     let counts = count_events(batch);
@@ -59,7 +60,7 @@ fn make_room(each: &mut Vec<History>, batch: &[Event]) -> Result<(), NoMemory>
 // The first event stands at the place `start`. Without memory some of it may be there.
 fn note_batch(each: &mut Vec<History>, start: usize, batch: &[Event]) -> Result<(), NoMemory>
     requires room { AllByRecursion (HasPlace each.old.items) batch.now }
-    requires few { start + length batch.now ≤ 50000 }
+    requires few { start + length batch.now ≤ most_events }
     ensures ok { OnOk result (each.new.items ≡ with_places each.old.items start batch.now) }
     ensures longer { AreLonger each.old.items each.new.items }
 {
@@ -124,9 +125,9 @@ fn add_batch(
     each: &mut Vec<History>,
     batch: Vec<Event>,
 ) -> Result<(), NoMemory>
-    requires procs { length each.old.items ≤ 32 }
+    requires procs { length each.old.items ≤ most_processes }
     requires room { AllByRecursion (HasPlace each.old.items) batch.items }
-    requires few { length all.old.items + length batch.items ≤ 50000 }
+    requires few { length all.old.items + length batch.items ≤ most_events }
     ensures all { OnOk result (all.new.items ≡ all.old.items ++ batch.items) }
     ensures each { OnOk result
         (each.new.items ≡ with_places each.old.items (length all.old.items) batch.items) }
@@ -221,9 +222,9 @@ impl Histories {
     /// Puts the events of a batch behind those that are there, where the shape is theirs. Without
     /// memory it is as before.
     pub fn extend(&mut self, batch: Vec<Event>, shape: &Shape) -> Result<(), NoMemory>
-        requires procs { length self.old ≤ 32 }
+        requires procs { length self.old ≤ most_processes }
         requires room { AllByRecursion (HasRoom self.old) batch.items }
-        requires few { sum (map length (events_in self.old)) + length batch.items ≤ 50000 }
+        requires few { sum (map length (events_in self.old)) + length batch.items ≤ most_events }
         requires shape { shape.now ≡ map length (events_in self.old) }
         ensures ok { OnOk result (Added self.old batch.items self.new) }
         ensures err { OnErr result (self.new ≡ self.old) }

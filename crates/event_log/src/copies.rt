@@ -1,6 +1,7 @@
 //! Copies of the parts of a header, in memory of their own.
 
 ghost use Rattle.std.specs.Prelude.{◌≡◌, ◌≤◌, true, length, All, IfOk};
+ghost use Rattle.pota_base.specs.Limits.{most_processes};
 ghost use Rattle.log_lines.specs.PassedOn.{is_name};
 ghost use Rattle.log_lines.specs.Drafts.{texts_of, values_of};
 ghost use Rattle.event_log.specs.Before.{filled, bindings_of, var_lines_of};
@@ -67,7 +68,7 @@ pub fn filled(
 /// The lines of a log that spell these variables: those right behind its second line. A process
 /// without variables has 0.
 pub fn var_lines_of(alloc: Global, variables: &[List<Binding>]) -> Result<List<u32>, NoMemory>
-    requires { length variables.now ≤ 32 }
+    requires { length variables.now ≤ most_processes }
     ensures { IfOk result (λ lines. lines ≡ var_lines_of variables.now) }
 {
     let mut lines = List::new(alloc);

@@ -1,23 +1,16 @@
 //! A log that comes in pieces, up to its first fault.
 
-ghost use Rattle.std.specs.Prelude.{◌≡◌, ◌+◌, ◌^◌, ◌<◌, ◌≤◌, ◌++◌, ◌∷◌, [], false, length, None};
+ghost use Rattle.std.specs.Prelude.{◌≡◌, ◌+◌, ◌^◌, ◌<◌, ◌≤◌, ◌∷◌, [], false, length, None};
 ghost use Rattle.std.specs.Prelude.{IfOk, OnOk, IsTrue};
-ghost use Rattle.std.specs.Option.{option_to_list};
-ghost use Rattle.event_log.specs.inside.Lines.{header_items};
+ghost use Rattle.pota_base.specs.Limits.{longest_line, longest_log};
 ghost use Rattle.event_log.specs.Faults.{byte_fault, is_heading_byte};
 
 use crate::item::{Fed, Item, LogCode, LogFault};
-use crate::line_reader::{LineReader, LineTold};
-use crate::log::Header;
+use crate::line_reader::LineReader;
+use crate::refusals::fault_at;
 use crate::split::split_line;
-use pota_base::{List, NoMemory};
+use pota_base::{LONGEST_LINE, LONGEST_LOG, List, NoMemory};
 use std::alloc::Global;
-
-/// The most bytes of a log.
-const MOST_BYTES: u32 = 67_108_864;
-
-/// The most bytes of a line, without its line feed.
-const MOST_LINE: usize = 4_096;
 
 /// The first lines of the versions.
 const VERSION_ONE: [u8; 11] = *b"pota-log 1\n";
@@ -34,15 +27,7 @@ pub struct Feeder {
     /// How many items the last piece gave.
     given: usize,
     ghost counted: { reader.lines ≤ total },
-    ghost room: { total ≤ 67108864 },
-}
-
-/// What one line gave, and its fault.
-#[derive(Debug, Drop)]
-pub struct LineGiven {
-    header: Option<Header>,
-    item: Option<Item>,
-    fault: Option<LogFault>,
+    ghost room: { total ≤ longest_log },
 }
 
 // Whether the byte may stand at this place of the first line.
@@ -59,7 +44,7 @@ fn is_heading_byte(place: u32, byte: u8) -> bool
 fn byte_fault(total: u32, ended: bool, width: usize, byte: u8) -> Option<LogCode>
     ensures { result ≡ byte_fault total ended width byte }
 {
-    if total >= MOST_BYTES {
+    if total >= LONGEST_LOG as u32 {
         return Some(LogCode::LogTooLong);
     }
     if total < 11 {
@@ -70,60 +55,12 @@ fn byte_fault(total: u32, ended: bool, width: usize, byte: u8) -> Option<LogCode
     if ended {
         return Some(LogCode::Trailing);
     }
-    if width >= MOST_LINE {
+    if width >= LONGEST_LINE {
         if byte != b'\n' {
             return Some(LogCode::LineTooLong);
         }
     }
     None
-}
-
-impl LineGiven {
-    ghost use Rattle.std.specs.Option.{option_map};
-    ghost use Rattle.event_log.specs.inside.Feeding.{placed_at};
-
-    fn fault(fault: LogFault) -> LineGiven
-        ensures { result ≡ record { header = None; item = None; fault = Some fault } }
-    {
-        LineGiven {
-            header: None,
-            item: None,
-            fault: Some(fault),
-        }
-    }
-
-    // What the line of this number was told to give.
-    #[inline(always)]
-    fn of(told: LineTold, line: u32) -> LineGiven
-        ensures { result ≡ record {
-          header = told.header;
-          item = told.item;
-          fault = option_map (placed_at line) told.fault;
-        } }
-    {
-        LineGiven {
-            header: told.header,
-            item: told.item,
-            fault: told.fault.map(|code| LogFault { code, line }),
-        }
-    }
-}
-
-#[inline(always)]
-fn with_given(
-    mut items: List<Item>,
-    header: Option<Header>,
-    item: Option<Item>,
-) -> Result<List<Item>, NoMemory>
-    ensures { IfOk result (λ all. all ≡ items ++ (header_items header ++ option_to_list item)) }
-{
-    if let Some(header) = header {
-        items.push(Item::Header(header))?;
-    }
-    if let Some(item) = item {
-        items.push(item)?;
-    }
-    Ok(items)
 }
 
 impl Feeder {
@@ -152,7 +89,7 @@ impl Feeder {
     fn next_fault(&self, width: usize, byte: u8) -> Option<LogCode>
         ensures known { (past : Past) → CountsLines self.now past
             → result ≡ byte_fault (length past) (is_ended (lines past)) width byte }
-        ensures room { result ≡ None → self.now.total < 67108864 }
+        ensures room { result ≡ None → self.now.total < longest_log }
     {
         byte_fault(self.total, self.reader.is_ended(), width, byte)
     }
@@ -169,8 +106,8 @@ impl Feeder {
 
     // Whether as many bytes more, and no line feed among them, can have no fault.
     fn is_quiet(&self, len: usize) -> bool
-        ensures room { IsTrue result → (11 ≤ self.now.total) × (self.now.total + len ≤ 67108864)
-            × (length self.now.line.items + len ≤ 4096) }
+        ensures room { IsTrue result → (11 ≤ self.now.total) × (self.now.total + len ≤ longest_log)
+            × (length self.now.line.items + len ≤ longest_line) }
         ensures open_ { IsTrue result → (past : Past) → CountsLines self.now past
             → is_ended (lines past) ≡ false }
     {
@@ -180,13 +117,13 @@ impl Feeder {
         if self.total < 11 {
             return false;
         }
-        if len > MOST_LINE {
+        if len > LONGEST_LINE {
             return false;
         }
-        if self.total as usize + len > MOST_BYTES as usize {
+        if self.total as usize + len > LONGEST_LOG {
             return false;
         }
-        self.line.len() + len <= MOST_LINE
+        self.line.len() + len <= LONGEST_LINE
     }
 
     // A byte that is no line feed.
@@ -204,7 +141,7 @@ impl Feeder {
 
     // Bytes that can have no fault.
     fn take_quiet(&mut self, chunk: &[u8]) -> Result<(), NoMemory>
-        requires { self.old.total + length chunk.now ≤ 67108864 }
+        requires { self.old.total + length chunk.now ≤ longest_log }
         ensures { OnOk result (Gains self.old self.new chunk.now) }
     {
         self.line.extend_from_slice(chunk)?;
@@ -229,41 +166,46 @@ impl Feeder {
         Ok(None)
     }
 
-    // The line feed of this line.
-    #[inline(always)]
-    fn close(&mut self, line: &[u8]) -> Result<LineGiven, NoMemory>
-        ensures closes { IfOk result (λ given. ClosesLine self.old line.now given self.new) }
+    // The line feed of this line, which puts what the line gives behind the items.
+    fn close(&mut self, line: &[u8], items: &mut List<Item>) -> Result<Option<LogFault>, NoMemory>
+        ensures closes { IfOk result (λ fault.
+            ClosesLine self.old line.now items.old fault items.new self.new) }
         ensures line { self.new.line.items ≡ self.old.line.items }
     {
         if let Some(code) = self.next_fault(line.len(), b'\n') {
-            return Ok(LineGiven::fault(self.placed(code)));
+            return Ok(Some(self.placed(code)));
         }
         let number = self.reader.line_count() + 1;
         self.total += 1;
-        let told = self.reader.take(self.alloc, line)?;
-        Ok(LineGiven::of(told, number))
+        let fault = self.reader.take(self.alloc, line, items)?;
+        Ok(fault_at(number, fault))
     }
 
     // The rest of a line, and its line feed. A line that lies whole in the piece is judged where it
     // lies.
-    fn take_line(&mut self, chunk: &[u8]) -> Result<LineGiven, NoMemory>
+    fn take_line(
+        &mut self,
+        chunk: &[u8],
+        items: &mut List<Item>,
+    ) -> Result<Option<LogFault>, NoMemory>
         requires { HasNoFeed chunk.now }
-        ensures { IfOk result (λ given. TakesFedLine self.old chunk.now given self.new) }
+        ensures { IfOk result (λ fault.
+            TakesFedLine self.old chunk.now items.old fault items.new self.new) }
     {
         if self.line.is_empty() {
             if self.is_quiet(chunk.len()) {
                 self.total += chunk.len() as u32;
-                return self.close(chunk);
+                return self.close(chunk, items);
             }
         }
         if let Some(fault) = self.take_plain(chunk)? {
-            return Ok(LineGiven::fault(fault));
+            return Ok(Some(fault));
         }
         let mut line = std::mem::replace(&mut self.line, Vec::new(self.alloc));
-        let given = self.close(&line)?;
+        let fault = self.close(&line, items)?;
         line.clear();
         self.line = line;
-        Ok(given)
+        Ok(fault)
     }
 
     /// Reads one piece more, up to the end of the log. Gives what it completes, and the bytes that
@@ -280,12 +222,7 @@ impl Feeder {
                 self.given = items.len();
                 return Ok((Fed { items, fault }, &[]));
             };
-            let LineGiven {
-                header,
-                item,
-                fault,
-            } = self.take_line(line)?;
-            items = with_given(items, header, item)?;
+            let fault = self.take_line(line, &mut items)?;
             if fault.is_some() {
                 return Ok((Fed { items, fault }, after));
             }

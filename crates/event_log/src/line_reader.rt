@@ -1,14 +1,15 @@
 //! The lines of a log in their order, each without its line feed.
 
 ghost use Rattle.std.specs.Prelude.{◌≡◌, ◌+◌, ◌-◌, ◌^◌, ◌<◌, ◌≤◌, ◌∷◌, ◌++◌, [], length, All, IfOk};
-ghost use Rattle.std.specs.Prelude.{OnOk, IsOk, IsSomeAnd};
+ghost use Rattle.std.specs.Prelude.{OnOk};
+ghost use Rattle.pota_base.specs.Limits.{most_processes, most_variables};
 ghost use Rattle.event_log.specs.Before.{version_in};
 
 use crate::copies::{bindings_of, copy_of, filled, names_of, var_lines_of};
 use crate::item::{Item, LogCode};
 use crate::log::{Binding, Header};
 use crate::numbers::event_named;
-use crate::refusals::refused;
+use crate::refusals::{fault_of, refused};
 use log_lines::{
     Frames, Name, begins_vars, is_batch, is_end, place_among, read_event, read_procs, read_vars,
 };
@@ -38,18 +39,9 @@ pub struct LineReader {
     /// Of the last clocks of the processes.
     frames: Frames,
     ghost counted: { events ≤ lines },
-    ghost few: { length procs ≤ 32 },
-    ghost narrow: { All (λ bindings. length bindings ≤ 16) variables },
-    ghost placed: { length variables ≤ 32 },
-}
-
-/// What one line gives.
-#[derive(Debug, Drop)]
-pub struct LineTold {
-    /// The header, where the line is the first one behind it.
-    pub header: Option<Header>,
-    pub item: Option<Item>,
-    pub fault: Option<LogCode>,
+    ghost few: { length procs ≤ most_processes },
+    ghost narrow: { All (λ bindings. length bindings ≤ most_variables) variables },
+    ghost placed: { length variables ≤ most_processes },
 }
 
 // The version that a first line names.
@@ -65,46 +57,6 @@ fn version_in(line: &[u8]) -> Option<u32>
     None
 }
 
-impl LineTold {
-    ghost use Rattle.event_log.specs.inside.Lines.{JudgedAs, told_of, header_items};
-    ghost use Rattle.event_log.specs.Before.{Told};
-
-    fn fault(code: LogCode) -> LineTold
-        ensures { result ≡ record { header = None; item = None; fault = Some code } }
-    {
-        LineTold {
-            header: None,
-            item: None,
-            fault: Some(code),
-        }
-    }
-
-    // What was judged, with the header before it.
-    #[inline(always)]
-    fn of(
-        header: Option<Header>,
-        judged: Result<Option<Item>, Refused<LogCode>>,
-    ) -> Result<LineTold, NoMemory>
-        ensures told { IfOk result (λ t. (told : Told) → JudgedAs judged told → told_of t
-            ≡ record { items = header_items header ++ told.items; fault = told.fault }) }
-        ensures judged { IfOk result (λ t. t.fault ≡ None → IsOk judged) }
-    {
-        match judged {
-            Ok(item) => Ok(LineTold {
-                header,
-                item,
-                fault: None,
-            }),
-            Err(Refused::Fault(code)) => Ok(LineTold {
-                header,
-                item: None,
-                fault: Some(code),
-            }),
-            Err(Refused::NoMemory) => Err(NoMemory),
-        }
-    }
-}
-
 impl LineReader {
     ghost use Rattle.event_log.specs.declared.line_reader.Stage.TheVariants.{Header as InHeader};
     ghost use Rattle.event_log.specs.Before.{is_ended, heading_told, procs_told, vars_told};
@@ -112,7 +64,7 @@ impl LineReader {
     ghost use Rattle.event_log.specs.Before.{body_told, filled, headed};
     ghost use Rattle.event_log.specs.Lines.{HasReadLines};
     ghost use Rattle.event_log.specs.inside.Lines.{JudgedAs, JudgedItem, TakesHeading, TakesProcs};
-    ghost use Rattle.event_log.specs.inside.Lines.{TakesVars, Passes, TakesLine};
+    ghost use Rattle.event_log.specs.inside.Lines.{TakesVars, Passes, TakesBody, TakesLine};
 
     /// A reader that has read no line. It takes no memory.
     #[tactic(auto, unfolding(crate::specs::Before::version, crate::specs::Before::names, crate::specs::Before::variables, crate::specs::Before::events, crate::specs::Before::is_header_over, crate::specs::Before::is_ended))]
@@ -145,7 +97,7 @@ impl LineReader {
     }
 
     // The first line.
-    fn take_heading(&mut self, line: &[u8]) -> Result<Option<Item>, Refused<LogCode>>
+    fn take_heading(&mut self, line: &[u8]) -> Result<(), Refused<LogCode>>
         requires { self.old.lines < 2 ^ 32 - 1 }
         ensures told { JudgedAs result (heading_told line.now) }
         ensures next { OnOk result (TakesHeading self.old self.new line.now) }
@@ -156,11 +108,11 @@ impl LineReader {
         };
         self.version = version;
         self.lines += 1;
-        Ok(None)
+        Ok(())
     }
 
     // The second line.
-    fn take_procs(&mut self, alloc: Global, line: &[u8]) -> Result<Option<Item>, Refused<LogCode>>
+    fn take_procs(&mut self, alloc: Global, line: &[u8]) -> Result<(), Refused<LogCode>>
         requires { self.old.lines < 2 ^ 32 - 1 }
         ensures told { JudgedAs result (procs_told line.now) }
         ensures next { OnOk result (TakesProcs self.old self.new line.now) }
@@ -171,11 +123,11 @@ impl LineReader {
         self.frames = Frames::of(alloc, procs.len())?;
         self.procs = procs;
         self.lines += 1;
-        Ok(None)
+        Ok(())
     }
 
     // A `vars` line in its place.
-    fn take_vars(&mut self, alloc: Global, line: &[u8]) -> Result<Option<Item>, Refused<LogCode>>
+    fn take_vars(&mut self, alloc: Global, line: &[u8]) -> Result<(), Refused<LogCode>>
         requires { self.old.lines < 2 ^ 32 - 1 }
         ensures told { JudgedAs result (vars_told self.old.procs self.old.variables line.now) }
         ensures next { OnOk result (TakesVars self.old self.new line.now) }
@@ -191,7 +143,7 @@ impl LineReader {
         let bindings = bindings_of(alloc, draft.settings.as_slice())?;
         self.add_variables(alloc, process, bindings)?;
         self.lines += 1;
-        Ok(None)
+        Ok(())
     }
 
     // The variables of one process more.
@@ -201,7 +153,7 @@ impl LineReader {
         process: usize,
         bindings: List<Binding>,
     ) -> Result<(), NoMemory>
-        requires few { length bindings ≤ 16 }
+        requires few { length bindings ≤ most_variables }
         requires there { process < length self.old.procs }
         requires first { length self.old.variables ≤ process }
         ensures variables { OnOk result (self.new.variables
@@ -282,52 +234,71 @@ impl LineReader {
         })
     }
 
-    // A line behind the header, which has been read without a fault where it gave an item.
-    fn take_body(&mut self, alloc: Global, line: &[u8]) -> Result<Option<Item>, Refused<LogCode>>
+    // A line behind the header, whose item stands behind those before where it has no fault.
+    fn take_body(
+        &mut self,
+        alloc: Global,
+        line: &[u8],
+        items: &mut List<Item>,
+    ) -> Result<(), Refused<LogCode>>
         requires { self.old.lines < 2 ^ 32 - 1 }
-        ensures told { JudgedAs result (body_told self.old.version self.old.procs self.old.variables
-            (self.old.lines + 1) self.old.events line.now) }
-        ensures next { IfOk result (λ i. IsSomeAnd i (Passes self.old self.new)) }
+        ensures takes { TakesBody (body_told self.old.version self.old.procs self.old.variables
+            (self.old.lines + 1) self.old.events line.now)
+            self.old items.old result items.new self.new }
         ensures counts { self.new.lines ≤ self.old.lines + 1 }
     {
         let mut frames = std::mem::replace(&mut self.frames, Frames::new(alloc));
         let item = self.item_of(alloc, &mut frames, line)?;
         self.frames = frames;
         self.pass(&item);
-        Ok(Some(item))
+        items.push(item)?;
+        Ok(())
     }
 
     // A line before the first one behind the header, or that one.
-    fn take_header(&mut self, alloc: Global, line: &[u8]) -> Result<LineTold, NoMemory>
+    fn take_header(
+        &mut self,
+        alloc: Global,
+        line: &[u8],
+        items: &mut List<Item>,
+    ) -> Result<Option<LogCode>, NoMemory>
         requires room { self.old.lines < 2 ^ 32 - 1 }
         requires stage { self.old.stage ≡ InHeader }
-        ensures takes { IfOk result (λ t. TakesLine self.old line.now t self.new) }
+        ensures takes { IfOk result (λ fault.
+            TakesLine self.old line.now items.old fault items.new self.new) }
         ensures counts { self.new.lines ≤ self.old.lines + 1 }
     {
         if self.lines == 0 {
-            return LineTold::of(None, self.take_heading(line));
+            return fault_of(self.take_heading(line));
         }
         if self.lines == 1 {
-            return LineTold::of(None, self.take_procs(alloc, line));
+            return fault_of(self.take_procs(alloc, line));
         }
         if begins_vars(line) {
-            return LineTold::of(None, self.take_vars(alloc, line));
+            return fault_of(self.take_vars(alloc, line));
         }
         let header = self.header(alloc)?;
-        LineTold::of(Some(header), self.take_body(alloc, line))
+        items.push(Item::Header(header))?;
+        fault_of(self.take_body(alloc, line, items))
     }
 
-    /// Reads one line more. After a fault, and without memory, the reader is of no further use.
-    #[inline(always)]
-    pub fn take(&mut self, alloc: Global, line: &[u8]) -> Result<LineTold, NoMemory>
+    /// Reads one line more, and puts what it gives behind the items. After a fault, and without
+    /// memory, the reader is of no further use.
+    pub fn take(
+        &mut self,
+        alloc: Global,
+        line: &[u8],
+        items: &mut List<Item>,
+    ) -> Result<Option<LogCode>, NoMemory>
         requires { self.old.lines < 2 ^ 32 - 1 }
-        ensures takes { IfOk result (λ t. TakesLine self.old line.now t self.new) }
+        ensures takes { IfOk result (λ fault.
+            TakesLine self.old line.now items.old fault items.new self.new) }
         ensures counts { self.new.lines ≤ self.old.lines + 1 }
     {
         match self.stage {
-            Stage::Header => self.take_header(alloc, line),
-            Stage::Body => LineTold::of(None, self.take_body(alloc, line)),
-            Stage::Ended => Ok(LineTold::fault(LogCode::Trailing)),
+            Stage::Header => self.take_header(alloc, line, items),
+            Stage::Body => fault_of(self.take_body(alloc, line, items)),
+            Stage::Ended => Ok(Some(LogCode::Trailing)),
         }
     }
 }

@@ -5,18 +5,15 @@ ghost use Rattle.log_lines.specs.Names.{place_of};
 ghost use Rattle.log_lines.specs.Drafts.{action_of, event_of, value_of, values_of};
 ghost use Rattle.event_log.specs.Numbers.{known, binding_names, variables_at, kind_in};
 ghost use Rattle.event_log.specs.inside.Numbers.{Agrees};
-ghost use Rattle.event_log.specs.Numbers.{is_to_itself, may_stand, has_width, assign_in, assigns_in};
-ghost use Rattle.event_log.specs.Numbers.{event_named};
+ghost use Rattle.event_log.specs.Numbers.{is_to_itself, may_stand, has_width, assign_in};
+ghost use Rattle.event_log.specs.Numbers.{assigns_in, event_named};
 ghost use Rattle.event_log.specs.declared.item.LogCode.TheVariants.{UnknownProcess as UnknownProcessFault};
 
 use crate::item::LogCode;
 use crate::log::{Assign, Binding, Event, Kind};
 use log_lines::{ActionDraft, EventDraft, Name, Setting, place_among, place_of};
-use pota_base::{List, Refused};
+use pota_base::{List, MOST_EVENTS, Refused};
 use std::alloc::Global;
-
-/// The most events that a log may have.
-const MOST_EVENTS: u32 = 50_000;
 
 // The number of a process by its place among the names.
 fn process_at(place: Option<usize>) -> Result<u32, Refused<LogCode>>
@@ -149,7 +146,7 @@ pub fn event_named(
     }
     let settings = draft.settings.as_slice();
     let assigns = assigns_in(alloc, variables_at(variables, process), settings)?;
-    if events >= MOST_EVENTS {
+    if events >= MOST_EVENTS as u32 {
         return Err(Refused::Fault(LogCode::TooManyEvents));
     }
     Ok(Event {

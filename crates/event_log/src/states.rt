@@ -3,6 +3,7 @@ ghost use Rattle.std.specs.Prelude.{◌≡◌, ℕ, ◌-◌, pos, ◌<◌, ◌�
 ghost use Rattle.std.specs.Prelude.{replicate, slice_index_or, sum, IfOk, OnOk, OnErr};
 ghost use Rattle.run_model.specs.Run.{state_after, states_of, process_at};
 ghost use Rattle.pota_base.specs.Shape.{HasEvent};
+ghost use Rattle.pota_base.specs.Limits.{most_events};
 ghost use Rattle.event_log.specs.declared.log.Event.{Event};
 ghost use Rattle.event_log.specs.States.{HistoryView, StatesView, IsHeader, AreWhole, MayFollow};
 ghost use Rattle.event_log.specs.States.{with_batch, trace_of};
@@ -39,7 +40,7 @@ impl Model for States {
 
 // How many events each process has.
 fn lens_of(alloc: Global, histories: &Histories) -> Result<Vec<u32>, NoMemory>
-    requires { sum (map (λ (h : HistoryView). length h.events) histories.now) ≤ 50000 }
+    requires { sum (map (λ (h : HistoryView). length h.events) histories.now) ≤ most_events }
     ensures { IfOk result (λ lens. lens.items
         ≡ map (λ (h : HistoryView). length h.events) histories.now) }
 {
@@ -55,7 +56,7 @@ fn measure(shape: &mut Shape, histories: &Histories)
     requires count { length shape.old ≡ length histories.now }
     requires fits { (p : ℕ)
         → get_or shape.old p 0 ≤ length (get_or histories.now p nothing).events }
-    requires few { sum (map (λ (h : HistoryView). length h.events) histories.now) ≤ 50000 }
+    requires few { sum (map (λ (h : HistoryView). length h.events) histories.now) ≤ most_events }
     ensures { shape.new ≡ map (λ (h : HistoryView). length h.events) histories.now }
 {
     for process in 0..shape.procs() {

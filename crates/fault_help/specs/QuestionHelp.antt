@@ -1,5 +1,5 @@
--- What was expected where a question has a fault, and an example: a question that is in order there,
--- or what helps.
+-- What was expected where a question has a fault, and an example: a question that is in order
+-- there, or what helps.
 use Rattle.std.specs.Prelude.{ℕ, List, codes}
 use Rattle.question_text.specs.declared.head.HeadCode.{HeadCode}
 use Rattle.question_text.specs.declared.head.HeadCode.TheVariants as head

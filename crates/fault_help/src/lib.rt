@@ -2,8 +2,8 @@
 //!
 //! For each kind of fault of a log, of a text of two-line records, of logs that are merged, of a
 //! formula and of a question there are exactly the texts of `specs/LogHelp.antt`,
-//! `specs/QuestionHelp.antt` and `specs/OverHelp.antt`. What is wrong with a log or a formula itself
-//! is `fault_line`'s to say.
+//! `specs/QuestionHelp.antt` and `specs/OverHelp.antt`. What is wrong with a log or a formula
+//! itself is `fault_line`'s to say.
 #![tactic(auto)]
 
 mod formula;

@@ -3,6 +3,7 @@ use Rattle.std.proofs.Common.{◌≡◌, ℕ, List, [], ◌∷◌, ◌++◌, Opt
 use Rattle.std.specs.Prelude.{Result, Ok, Err, OnOk, OnErr, codes}
 use Rattle.std.specs.Io.KnownBytes.{Appends}
 use Rattle.pota_base.specs.Outside.{HasCause, AppendsPrefix}
+use Rattle.pota_base.specs.Changes.{change_of}
 use Rattle.fault_line.specs.Lines.{Told, cause_of, line_by}
 use Rattle.fault_line.specs.declared.fault.Fault.{Fault}
 
@@ -10,7 +11,7 @@ whole_prefix : (old new : Option (List ℕ)) (text : List ℕ) → Appends old n
 whole_prefix old new text h = (text, ([], sym (append-nil text)), h)
 
 told_text : {T E : Type 0} (r : Result T E) (old new : Option (List ℕ)) (before now : ℕ) (text : List ℕ)
-    → OnOk r (Appends old new text) → OnErr r (AppendsPrefix old new text) → HasCause before now r → Told old new before now text
+    → OnOk r (Appends old new text) → OnErr r (AppendsPrefix old new text) → HasCause before now r → Told (change_of old new before now) text
 told_text (Ok x) old new before now text ok err cause = record { whole = λ calm. ok; part = whole_prefix old new text ok }
 told_text (Err e) old new before now text ok err cause = record { whole = λ calm. absurd (calm cause.failed); part = err }
 
@@ -30,7 +31,7 @@ six_texts a b c d e f g u v w x y z p q r s t last =
 
 pub told_line : {T E : Type 0} (r : Result T E) (old new : Option (List ℕ)) (before now : ℕ) (fault : Fault) (program a b c d text : List ℕ)
     → a ≡ [] ++ program → b ≡ a ++ codes ": " → c ≡ b ++ cause_of fault → d ≡ c ++ 10 ∷ [] → text ≡ d
-    → OnOk r (Appends old new text) → OnErr r (AppendsPrefix old new text) → HasCause before now r → Told old new before now (line_by program (Some fault))
+    → OnOk r (Appends old new text) → OnErr r (AppendsPrefix old new text) → HasCause before now r → Told (change_of old new before now) (line_by program (Some fault))
 told_line r old new before now fault program a b c d text p q s t u ok err cause =
     let line : text ≡ line_by program (Some fault) = u ∙ four_texts [] a b c d program (codes ": ") (cause_of fault) (10 ∷ []) p q s t in
-    subst (Told old new before now) line (told_text r old new before now text ok err cause)
+    subst (Told (change_of old new before now)) line (told_text r old new before now text ok err cause)

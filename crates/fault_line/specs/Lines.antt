@@ -3,6 +3,7 @@ use Rattle.std.specs.Prelude.{ℕ, List, [], ◌∷◌, ◌++◌, codes, Option,
 use Rattle.std.specs.Fmt.{decimal}
 use Rattle.std.specs.Io.KnownBytes.{Appends}
 use Rattle.pota_base.specs.Outside.{Rose, AppendsPrefix}
+use Rattle.pota_base.specs.Changes.{Change}
 use Rattle.event_log.specs.declared.item.LogFault.{LogFault}
 use Rattle.rctl_grammar.specs.declared.fault.FormulaFault.{FormulaFault}
 use Rattle.fault_kinds.specs.declared.merge.MergeFault.{MergeFault}
@@ -54,6 +55,6 @@ line_by program None = []
 line_by program (Some f) = program ++ (codes ": " ++ (cause_of f ++ 10 ∷ []))
 
 -- a sink that didn't fail has got the whole line, and in any case some front of it
-pub record Told (old new : Option (List ℕ)) (before now : ℕ) (line : List ℕ) : Type 0 where
-  pub whole : (Rose before now → ⊥) → Appends old new line
-  pub part : AppendsPrefix old new line
+pub record Told (sink : Change) (line : List ℕ) : Type 0 where
+  pub whole : (Rose sink.faults_before sink.faults_after → ⊥) → Appends sink.before sink.after line
+  pub part : AppendsPrefix sink.before sink.after line

@@ -1,5 +1,6 @@
 //! The one line that tells of a run without a verdict. It takes no memory.
 ghost use Rattle.std.specs.Prelude.{◌≡◌, ◌+◌, ◌≤◌, ◌++◌, [], List, length, take};
+ghost use Rattle.pota_base.specs.Changes.{of_sink};
 ghost use Rattle.fault_line.specs.Lines.{usage_text, formula_text, log_text, import_text};
 ghost use Rattle.fault_line.specs.Lines.{merge_text, line_by, cause_of, Told};
 
@@ -138,8 +139,7 @@ fn put_cause(line: &mut Line, fault: &Fault)
 /// that succeeds changes nothing else.
 pub fn tell<D: Sink>(diag: &mut D, program: &[u8], fault: &Option<Fault>)
     requires { length program.now ≤ 11 }
-    ensures { Told (D.held diag.old) (D.held diag.new) (D.faults diag.old) (D.faults diag.new)
-        (line_by program.now fault.now) }
+    ensures { Told (of_sink D.Sink diag.old diag.new) (line_by program.now fault.now) }
 {
     let Some(fault) = fault else {
         return;

@@ -4,6 +4,7 @@ use Rattle.std.specs.Prelude.{Result, OnOk}
 use Rattle.std.specs.List.{AllByRecursion}
 use Rattle.std.proofs.lemmas.List.{length_push, nil_from_length}
 use Rattle.pota_base.specs.declared.fault.Refused.{Refused}
+use Rattle.pota_base.specs.Limits.{most_events}
 use Rattle.event_log.specs.declared.item.LogFault.{LogFault}
 use Rattle.event_log.specs.declared.log.Log.{Log}
 use Rattle.vector_clock.specs.Admitted.{IfFault}
@@ -25,7 +26,7 @@ first_of h = record { header = h; batches = [] }
 -- its events fit
 record Fit (h : Header) (n : ℕ) (b : List Event) : Type 0 where
   each : AllByRecursion (EventFits h) b
-  few : n ≤ 50000 → n + length b ≤ 50000
+  few : n ≤ most_events → n + length b ≤ most_events
 
 fit_of : (h : Header) (n : ℕ) (b : List Event) → FitFrom h n (event_items b ++ item.End ∷ []) → Fit h n b
 fit_of h n [] fit = record { each = tt; few = λ k. omega (arith, k) }

@@ -14,8 +14,8 @@ use Rattle.log_writing.specs.Spelling.{BatchesCanBeSpelled}
 use Rattle.filled_log.specs.declared.filling.Begun.{Begun}
 use Rattle.filled_log.specs.declared.filling.FilledLog.{FilledLog}
 
--- in these batches of so many processes each clock is written, and none has a fault of its clocks and
--- messages; and they have no more events than a log may have
+-- in these batches of so many processes each clock is written, and none has a fault of its clocks
+-- and messages; and they have no more events than a log may have
 pub record AreFaultless (procs : ℕ) (batches : List (List Event)) : Type 0 where
   pub clocks : AllFit procs batches
   pub faultless : batches_fault (no_events procs) batches ≡ None
@@ -40,7 +40,7 @@ pub record HasSince (kept : FilledLog) (log : Prefix) (since : List Event) : Typ
   pub since_is : kept.since ≡ since
   pub open_ : kept.ended ≡ false
   pub each : AllByRecursion (EventFits log.header) since
-  pub few : event_count log.batches + length since ≤ 50000
+  pub few : event_count log.batches + length since ≤ most_events
 
 -- no item came yet
 pub record IsNew (kept : FilledLog) : Type 0 where

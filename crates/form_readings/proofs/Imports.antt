@@ -3,6 +3,7 @@ use Rattle.std.proofs.Common.{◌≡◌, ℕ, ◌<◌, ◌≤◌, Bool, true, fa
 use Rattle.std.specs.Prelude.{is_some, if◌then◌else◌}
 use Rattle.std.specs.Option.{option_map}
 use Rattle.std.proofs.lemmas.Bool.{ltb-true, ltb-false, lt-ltb}
+use Rattle.pota_base.specs.Limits.{longest_log}
 use Rattle.fault_kinds.specs.declared.import.ImportFault.{ImportFault}
 use Rattle.vclog_import.specs.Faults.{fault_of, is_too_long}
 use Rattle.vclog_import.specs.Imported.{imported}
@@ -30,18 +31,18 @@ abbrev if_long : Bool → List ℕ → Option Refusal
 if_long long bytes = if long then import_refusal bytes else None
 
 abbrev IsLong : List ℕ → Refusal → Type 0
-IsLong bytes f = (67108864 < length bytes) × (import_refusal bytes ≡ Some f)
+IsLong bytes f = (longest_log < length bytes) × (import_refusal bytes ≡ Some f)
 
 is_long : (bytes : List ℕ) (f : Refusal) → clocks_fault false bytes ≡ Some f → IsLong bytes f
 is_long bytes f h = go (is_too_long bytes) refl h
   where
     go : (long : Bool) → is_too_long bytes ≡ long → if_long long bytes ≡ Some f → IsLong bytes f
-    go true is some = (ltb-true 67108864 (length bytes) is, some)
+    go true is some = (ltb-true longest_log (length bytes) is, some)
     go false is some = absurd cc
 
 module _ (bytes more : List ℕ) (f : Refusal) (at : IsLong bytes f) where
   still_long : is_too_long (bytes ++ more) ≡ true
-  still_long = lt-ltb 67108864 (length (bytes ++ more)) (omega (arith, at.0, length-append bytes more))
+  still_long = lt-ltb longest_log (length (bytes ++ more)) (omega (arith, at.0, length-append bytes more))
 
   still_faulty : import_refusal (bytes ++ more) ≡ Some f
   still_faulty = ap as_refusal (long_texts_are_faulty bytes more (omega (arith, at.0))).1 ∙ at.1
@@ -50,16 +51,16 @@ module _ (bytes more : List ℕ) (f : Refusal) (at : IsLong bytes f) where
   stays false = ap (λ (long : Bool). if_long long (bytes ++ more)) still_long ∙ still_faulty
   stays true = still_faulty
 
-bounded : (bytes : List ℕ) → clocks_fault false bytes ≡ None → length bytes ≤ 67108864
+bounded : (bytes : List ℕ) → clocks_fault false bytes ≡ None → length bytes ≤ longest_log
 bounded bytes h = go (is_too_long bytes) refl h
   where
-    go : (long : Bool) → is_too_long bytes ≡ long → if_long long bytes ≡ None → length bytes ≤ 67108864
-    go false is none = ltb-false 67108864 (length bytes) is
+    go : (long : Bool) → is_too_long bytes ≡ long → if_long long bytes ≡ None → length bytes ≤ longest_log
+    go false is none = ltb-false longest_log (length bytes) is
     go true is none =
-        let long : 67108864 < length bytes = ltb-true 67108864 (length bytes) is in
+        let long : longest_log < length bytes = ltb-true longest_log (length bytes) is in
         absurd (none_of_some (fault_of bytes) (long_texts_are_faulty bytes bytes (omega (arith, long))).0 none)
 
-is_whole : IsWhole 67108864 clocks_fault imported
+is_whole : IsWhole longest_log clocks_fault imported
 is_whole = record {
   no_fault = refl;
   fault_stays = λ ended bytes more f h. stays bytes more f (is_long bytes f h) ended;
@@ -67,5 +68,5 @@ is_whole = record {
   fit = λ bytes none. (imported_logs_fit bytes (none_there (fault_of bytes) none)).items;
 }
 
-pub clocks_are_read : IsReading 67108864 clocks_reading
-clocks_are_read = whole_is_read 67108864 clocks_fault imported is_whole clocks_place
+pub clocks_are_read : IsReading longest_log clocks_reading
+clocks_are_read = whole_is_read longest_log clocks_fault imported is_whole clocks_place

@@ -2,6 +2,7 @@
 use Rattle.std.proofs.Common.{◌≡◌, ℕ, ◌+◌, ◌≤◌, Bool, true, false, Option, Some, None, List, [], ◌∷◌, ◌++◌, length, refl, sym, ap, subst, ◌∙◌, arith}
 use Rattle.std.specs.Option.{option_map}
 use Rattle.std.specs.List.{AllByRecursion}
+use Rattle.pota_base.specs.Limits.{longest_log, most_events}
 use Rattle.event_log.specs.declared.item.Item.TheVariants as item
 use Rattle.event_log.specs.declared.log.Event.{Event}
 use Rattle.event_log.specs.declared.log.Header.{Header}
@@ -63,7 +64,7 @@ fault_stays ended bytes more r h = go ended
 -- ---- the merged log fits
 
 -- items of one batch
-fit_from : (h : Header) (n : ℕ) (es : List Event) → AllByRecursion (EventFits h) es → n + length es ≤ 50000 → FitFrom h n (event_items es ++ item.End ∷ [])
+fit_from : (h : Header) (n : ℕ) (es : List Event) → AllByRecursion (EventFits h) es → n + length es ≤ most_events → FitFrom h n (event_items es ++ item.End ∷ [])
 fit_from h n [] all few = tt
 fit_from h n (e ∷ es) all few = (all.0, omega (arith, few), fit_from h (n + 1) es all.1 (omega (arith, few)))
 
@@ -71,7 +72,7 @@ fit_from h n (e ∷ es) all few = (all.0, omega (arith, few), fit_from h (n + 1)
 log_fits : (logs : List Log) → CanMerge logs → FitFirst (log_items (merged_log logs))
 log_fits logs can =
     let fits = merged_logs_fit logs can.some can.each can.faultless in
-    let few : 0 + length (numbered 1 (merged_events logs)) ≤ 50000 = omega (arith, fits.checked.events) in
+    let few : 0 + length (numbered 1 (merged_events logs)) ≤ most_events = omega (arith, fits.checked.events) in
     (fits.header, fit_from (merged_header logs) 0 (numbered 1 (merged_events logs)) fits.events few)
 
 fit : (bytes : List ℕ) → merged_fault true bytes ≡ None → FitFirst (log_items (merged_log_of bytes))
@@ -83,7 +84,7 @@ fit bytes none =
 
 -- ---- the law
 
-is_whole : IsWhole 67108864 merged_fault merged_log_of
+is_whole : IsWhole longest_log merged_fault merged_log_of
 is_whole = record {
   no_fault = no_fault;
   fault_stays = fault_stays;
@@ -91,5 +92,5 @@ is_whole = record {
   fit = fit;
 }
 
-pub sources_are_read : IsReading 67108864 merged_reading
-sources_are_read = whole_is_read 67108864 merged_fault merged_log_of is_whole merged_place
+pub sources_are_read : IsReading longest_log merged_reading
+sources_are_read = whole_is_read longest_log merged_fault merged_log_of is_whole merged_place

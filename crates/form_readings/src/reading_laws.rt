@@ -1,5 +1,6 @@
 // Laws of readings; the functions do nothing.
 ghost use Rattle.std.specs.Prelude.{◌≡◌, ℕ, ◌<◌, ◌≤◌, Bool, List, length, Option};
+ghost use Rattle.pota_base.specs.Limits.{longest_log};
 ghost use Rattle.rctl_grammar.specs.declared.fault.FormulaFault.{FormulaFault};
 ghost use Rattle.event_log.specs.declared.item.LogFault.{LogFault};
 ghost use Rattle.event_log.specs.declared.log.Header.{Header};
@@ -16,12 +17,12 @@ ghost use Rattle.form_readings.specs.Sources.{merged_of, merged_log_of, merged_r
 
 /// Records of two lines are read so that a fault stays, and a text without one has at most 64 MiB.
 pub fn clocks_are_read()
-    ensures { IsReading 67108864 clocks_reading }
+    ensures { IsReading longest_log clocks_reading }
 {}
 
 /// So are several logs one behind another.
 pub fn sources_are_read()
-    ensures { IsReading 67108864 merged_reading }
+    ensures { IsReading longest_log merged_reading }
 {}
 
 /// A fault of a batch of the merged log stands at one of its events, so that it has an origin.

@@ -1,5 +1,5 @@
-//! Tests of formulas and questions as text: the grammar, tokens, reading, printing, and reading back
-//! what was printed.
+//! Tests of formulas and questions as text: the grammar, tokens, reading, printing, and reading
+//! back what was printed.
 //!
 //! They stand apart from what they test, so that each crate is proved once.
 #![tactic(auto)]

@@ -1,4 +1,5 @@
 ghost use Rattle.std.specs.Prelude.{◌≤◌, length};
+ghost use Rattle.pota_base.specs.Limits.{longest_lexed};
 
 use pota_base::{Bytes, NoMemory, Refused};
 use rctl_parse::{Formula, FormulaFault, parse, parse_long, print};
@@ -26,13 +27,13 @@ fn printed(
 }
 
 fn reprinted(alloc: Global, text: &[u8]) -> Result<Option<Bytes>, NoMemory>
-    requires { length text.now ≤ 65536 }
+    requires { length text.now ≤ longest_lexed }
 {
     printed(alloc, parse(alloc, text))
 }
 
 fn long_reprinted(alloc: Global, text: &[u8]) -> Result<Option<Bytes>, NoMemory>
-    requires { length text.now ≤ 65536 }
+    requires { length text.now ≤ longest_lexed }
 {
     printed(alloc, parse_long(alloc, text))
 }

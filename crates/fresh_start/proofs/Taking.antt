@@ -4,6 +4,7 @@ use Rattle.std.specs.Prelude.{None}
 use Rattle.std.specs.List.{AllByRecursion}
 use Rattle.std.proofs.lemmas.List.{length-replicate, length-set, length-map, map-set}
 use Rattle.std.proofs.lemmas.List.Sums.{sum_by-set}
+use Rattle.pota_base.specs.Limits.{most_events}
 use Rattle.event_log.specs.declared.log.Event.{Event}
 use Rattle.event_log.specs.declared.log.Header.{Header}
 use Rattle.event_log.specs.States.{StatesView, IsKnown, with_event, with_batch, with_batches}
@@ -71,7 +72,7 @@ module _ (header : Header) where
     all_known (with_trace_batch trace b) batches (is_later trace b of) takes.2,
   )
 
-  few : (trace : TraceView) (batches : List (List Event)) → IsOf trace → TakesAll trace batches → sum (map length trace.states.events) ≤ 50000 → sum (map length trace.states.events) + length (as_one batches) ≤ 50000
+  few : (trace : TraceView) (batches : List (List Event)) → IsOf trace → TakesAll trace batches → sum (map length trace.states.events) ≤ most_events → sum (map length trace.states.events) + length (as_one batches) ≤ most_events
   few trace [] of takes most = omega (arith, most)
   few trace (b ∷ batches) of takes most =
       let events = trace.states.events in

@@ -6,6 +6,7 @@ ghost use Rattle.run_model.specs.Consistent.{IsOrder};
 ghost use Rattle.run_model.specs.Sublattice.{Smallest, Either};
 ghost use Rattle.run_model.specs.Slice.{Cuts, StandsFor};
 ghost use Rattle.run_model.specs.Operators.{min_row};
+ghost use Rattle.pota_base.specs.Limits.{most_processes};
 ghost use Rattle.slice_graph.specs.Views.{IsRow, slice_of};
 ghost use Rattle.slice_graph.specs.Fitting.{FitsOrder};
 ghost use Rattle.graft.specs.Joined.{joined_views};
@@ -67,7 +68,7 @@ fn push_minimum(
 
 /// Gives `into` the componentwise minimum of two cuts.
 fn set_minimum(left: &[u32], right: &[u32], into: &mut Cut)
-    requires few { length left.now ≤ 32 }
+    requires few { length left.now ≤ most_processes }
     requires right { length right.now ≡ length left.now }
     requires width { length into.old ≡ length left.now }
     ensures { into.new ≡ min_cut left.now right.now }

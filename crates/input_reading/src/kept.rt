@@ -1,19 +1,17 @@
 //! The bytes of an input, kept.
 
 ghost use Rattle.std.specs.Prelude.{◌≡◌, ◌-◌, ◌≤◌, ◌<◌, [], length, take};
+ghost use Rattle.pota_base.specs.Limits.{longest_kept};
 
 use crate::intake::{Intake, Turn};
-use pota_base::{List, NoMemory};
+use pota_base::{LONGEST_KEPT, List, NoMemory};
 use std::alloc::Global;
-
-/// The most bytes that are kept: one more than a text may have.
-const MOST_KEPT: usize = 67_108_865;
 
 /// The first 67,108,865 bytes of an input, or all where it has fewer.
 #[derive(Debug, Drop)]
 pub struct Kept {
     pub bytes: List<u8>,
-    ghost few: { length bytes ≤ 67108865 },
+    ghost few: { length bytes ≤ longest_kept },
 }
 
 impl Kept {
@@ -28,14 +26,14 @@ impl Kept {
 }
 
 impl Intake for Kept {
-    ghost open_ = { λ k bytes. (k.bytes ≡ bytes) × (length bytes < 67108865) };
+    ghost open_ = { λ k bytes. (k.bytes ≡ bytes) × (length bytes < longest_kept) };
 
-    ghost done = { λ k bytes. (k.bytes ≡ take 67108865 bytes) × (67108865 ≤ length bytes) };
+    ghost done = { λ k bytes. (k.bytes ≡ take longest_kept bytes) × (longest_kept ≤ length bytes) };
 
-    ghost room = { λ k. 67108865 - length k.bytes };
+    ghost room = { λ k. longest_kept - length k.bytes };
 
     fn take(&mut self, piece: &[u8]) -> Result<Turn, NoMemory> {
-        let room = MOST_KEPT - self.bytes.len();
+        let room = LONGEST_KEPT - self.bytes.len();
         if piece.len() < room {
             self.bytes.extend_from_slice(piece)?;
             Ok(Turn::More)

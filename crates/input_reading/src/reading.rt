@@ -1,15 +1,12 @@
 //! Reading until no further byte matters.
 
 ghost use Rattle.std.specs.Prelude.{◌≡◌, ◌≢◌, ℕ, ◌<◌, List, length, IfOk, OnErr};
-ghost use Rattle.input_reading.specs.Changes.{of_source};
-ghost use Rattle.input_reading.specs.Intakes.{HasTurned, HasReadAll, HasReadSome};
+ghost use Rattle.pota_base.specs.Changes.{of_source};
+ghost use Rattle.input_reading.specs.Intakes.{Turns, ReadsAll, ReadsShort};
 
 use crate::intake::{Intake, IntakeFor, Turn};
-use pota_base::{NoMemory, Source};
+use pota_base::{LONGEST_READ, NoMemory, Source};
 use std::alloc::Global;
-
-/// The most bytes that one read takes.
-const PIECE: usize = 65_536;
 
 /// Why no more is read.
 #[derive(Clone, Copy, Debug, PartialEq, Eq)]
@@ -30,10 +27,10 @@ fn take_turn<S: Source, I: IntakeFor>(
 ) -> Result<Option<End>, NoMemory>
     requires room { 0 < length room.old }
     requires at { (aim : I.For) × (bytes : List ℕ) × I.open_for aim intake.old bytes }
-    ensures turn { IfOk result (λ end. (aim : I.For) (bytes : List ℕ) → I.open_for aim intake.old bytes
-        → HasTurned (of_source S.Source source.old source.new) (I.open_for aim intake.new)
+    ensures turn { IfOk result (λ end. (aim : I.For) (bytes : List ℕ) → I.open_for aim intake.old
+        bytes → Turns (of_source S.Source source.old source.new) (I.open_for aim intake.new)
         (I.done_for aim intake.new) (I.room_for intake.old) (I.room_for intake.new) bytes end) }
-    ensures short { OnErr result (HasReadSome (of_source S.Source source.old source.new)) }
+    ensures short { OnErr result (ReadsShort (of_source S.Source source.old source.new)) }
     ensures calm { result ≢ Ok (Some End.Failed) → S.faults source.new ≡ S.faults source.old }
 {
     match source.read(room) {
@@ -54,14 +51,13 @@ pub fn read_for<S: Source, I: IntakeFor>(
     intake: &mut I,
 ) -> Result<End, NoMemory>
     requires { (aim : I.For) × (bytes : List ℕ) × I.open_for aim intake.old bytes }
-    ensures reads { IfOk result (λ end. (aim : I.For) (bytes : List ℕ)
-        → I.open_for aim intake.old bytes
-        → HasReadAll (of_source S.Source source.old source.new) (I.open_for aim intake.new)
+    ensures reads { IfOk result (λ end. (aim : I.For) (bytes : List ℕ) → I.open_for aim intake.old
+        bytes → ReadsAll (of_source S.Source source.old source.new) (I.open_for aim intake.new)
         (I.done_for aim intake.new) bytes end) }
-    ensures short { OnErr result (HasReadSome (of_source S.Source source.old source.new)) }
+    ensures short { OnErr result (ReadsShort (of_source S.Source source.old source.new)) }
     ensures calm { result ≢ Ok End.Failed → S.faults source.new ≡ S.faults source.old }
 {
-    let mut buffer = vec![in alloc; 0u8; PIECE]?;
+    let mut buffer = vec![in alloc; 0u8; LONGEST_READ]?;
     let room = buffer.as_mut_slice();
     'turns: loop {
         match take_turn(source, intake, room) {
@@ -79,10 +75,10 @@ pub fn read_all<S: Source, I: Intake>(
     intake: &mut I,
 ) -> Result<End, NoMemory>
     requires { (bytes : List ℕ) × I.open_ intake.old bytes }
-    ensures reads { IfOk result (λ end. (bytes : List ℕ) → I.open_ intake.old bytes
-        → HasReadAll (of_source S.Source source.old source.new) (I.open_ intake.new)
-        (I.done intake.new) bytes end) }
-    ensures short { OnErr result (HasReadSome (of_source S.Source source.old source.new)) }
+    ensures reads { IfOk result (λ end. (bytes : List ℕ) → I.open_ intake.old bytes → ReadsAll
+        (of_source S.Source source.old source.new) (I.open_ intake.new) (I.done intake.new) bytes
+        end) }
+    ensures short { OnErr result (ReadsShort (of_source S.Source source.old source.new)) }
     ensures calm { result ≢ Ok End.Failed → S.faults source.new ≡ S.faults source.old }
 {
     read_for(alloc, source, intake)

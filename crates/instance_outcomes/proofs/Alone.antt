@@ -9,6 +9,7 @@ use Rattle.asked_list.specs.Lists.{Adds, HasRoom, IsAskedList, asked_count, each
 use Rattle.asked_list.specs.declared.list.AskedList.{AskedList}
 use Rattle.asked_parts.specs.Asked.{parts_added}
 use Rattle.question_meaning.specs.declared.form.Form.TheVariants as form
+use Rattle.pota_base.specs.Limits.{most_parts}
 use Rattle.instance_outcomes.specs.inside.Lists.{IsListOf}
 
 -- ---- how many parts a form asks
@@ -49,7 +50,7 @@ none_asked list is empty = is.counted ∙ ap (λ ds. each_count list.forms (disj
 
 -- a question that has no room in it asks too many parts
 pub too_many : (list : AskedList) (q : Question) → IsAskedList list → list.classed.disjuncts ≡ [] → AreDisjuncts (disjuncts_of q.classed.disjuncts) → (HasRoom list q → ⊥)
-    → asked_count q.form (disjuncts_of q.classed.disjuncts) ≤ 128 → ⊥
+    → asked_count q.form (disjuncts_of q.classed.disjuncts) ≤ most_parts → ⊥
 too_many list q is empty sized full fits = full (record {
   few = let nothing = ap length empty in omega (arith, nothing, sized.few, length-map q.classed.disjuncts pieces_of);
   parts = omega (arith, none_asked list is empty, fits);

@@ -5,6 +5,7 @@ use Rattle.run_model.specs.Run.{Watches}
 use Rattle.part_pulls.specs.declared.observed.Observed.{Observed}
 use Rattle.pota_base.specs.declared.fault.Refused.{Refused}
 use Rattle.pota_base.specs.declared.fault.Refused.TheVariants as refused
+use Rattle.pota_base.specs.Limits.{most_instances, most_processes}
 use Rattle.question_text.specs.declared.head.Span.{Span}
 use Rattle.asked_instances.specs.Instances.{AreInstances, IsInstance, IsKnownAs, Source, pairs_asked, pairs_below, pairs_of, pairs_with, singles_below, text_for}
 use Rattle.asked_instances.specs.declared.asking.Instance.{Instance}
@@ -62,7 +63,7 @@ next_known all before i behind P are known = known_behind before i behind P (sub
 pub joined : (all yielded : List Instance) (i : Instance) (behind : List Instance) → all ≡ yielded ++ i ∷ behind → all ≡ (yielded ++ i ∷ []) ++ behind
 joined all yielded i behind are = are ∙ sym (append_assoc yielded (i ∷ []) behind)
 
-pub few_before : (all before : List Instance) (i : Instance) (behind : List Instance) → all ≡ before ++ i ∷ behind → length all ≤ 4096 → length before + 1 ≤ 4096
+pub few_before : (all before : List Instance) (i : Instance) (behind : List Instance) → all ≡ before ++ i ∷ behind → length all ≤ most_instances → length before + 1 ≤ most_instances
 few_before all before i behind are few = omega (arith, ap length are, length-append before (i ∷ behind), few)
 
 pub stops_first : (seen : Observed) (all before : List Instance) (i : Instance) (behind : List Instance) (t : Tally) (stop : Refused InstanceFault) → all ≡ before ++ i ∷ behind → IsTally seen before t
@@ -131,7 +132,7 @@ with_few : (first count : ℕ) → length (pairs_with first count) ≤ count
 with_few first zero = omega arith
 with_few first (suc second) = omega (arith, with_few first second, one_at_most (first == second) first second, length-append {A = Pair} (pairs_with first second) (if first == second then [] else record { first = first; second = Some second } ∷ []))
 
-below_few : (procs count : ℕ) → procs ≤ 32 → length (pairs_below procs count) ≤ 32 * count
+below_few : (procs count : ℕ) → procs ≤ most_processes → length (pairs_below procs count) ≤ most_processes * count
 below_few procs zero few = omega arith
 below_few procs (suc first) few = omega (arith, few, below_few procs first few, with_few first procs, length-append (pairs_below procs first) (pairs_with first procs))
 
@@ -139,9 +140,9 @@ singles_few : (count : ℕ) → length (singles_below count) ≤ count
 singles_few zero = omega arith
 singles_few (suc first) = omega (arith, singles_few first, length-append {A = Pair} (singles_below first) (record { first = first; second = None } ∷ []))
 
-pairs_few : (second : Option Span) (procs : ℕ) → procs ≤ 32 → length (pairs_of second procs) ≤ 4096
+pairs_few : (second : Option Span) (procs : ℕ) → procs ≤ most_processes → length (pairs_of second procs) ≤ most_instances
 pairs_few None procs few = omega (arith, few, singles_few procs)
 pairs_few (Some second) procs few = omega (arith, few, below_few procs procs few)
 
-pub few : (s : Source) (is : List Instance) → length s.header.procs ≤ 32 → AreInstances s (pairs_asked s) is → length is ≤ 4096
+pub few : (s : Source) (is : List Instance) → length s.header.procs ≤ most_processes → AreInstances s (pairs_asked s) is → length is ≤ most_instances
 few s is procs are = omega (arith, no_more s (pairs_asked s) is are, pairs_few s.over.second (length s.header.procs) procs)

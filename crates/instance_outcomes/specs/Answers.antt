@@ -20,6 +20,7 @@ use Rattle.part_pulls.specs.declared.observed.Observed.{Observed}
 use Rattle.trace_growth.specs.Growing.{IsTrace}
 use Rattle.pota_base.specs.declared.fault.Refused.{Refused}
 use Rattle.pota_base.specs.declared.fault.Refused.TheVariants as refused
+use Rattle.pota_base.specs.Limits.{most_parts}
 use Rattle.asked_list.specs.Lists.{asked_count}
 use Rattle.asked_instances.specs.Instances.{IsKnownAs}
 use Rattle.asked_instances.specs.declared.asking.Instance.{Instance}
@@ -61,7 +62,7 @@ AreKnown header is = AllByRecursion (IsKnownIn header) is
 -- the question has no watch and no difference, and asks no more parts than may be observed
 pub record CanAsk (q : Question) : Type 0 where
   pub free : barred_disjuncts (disjuncts_of q.classed.disjuncts) ≡ None
-  pub parts : asked_count q.form (disjuncts_of q.classed.disjuncts) ≤ 128
+  pub parts : asked_count q.form (disjuncts_of q.classed.disjuncts) ≤ most_parts
 
 -- or this is why not
 abbrev pub CannotAsk : Question → AskFault → Type 0
@@ -69,7 +70,7 @@ CannotAsk q (fault.Barred from barred) =
     (from ≡ q.formula) × (barred_disjuncts (disjuncts_of q.classed.disjuncts) ≡ Some barred)
 CannotAsk q fault.TooMany =
     (barred_disjuncts (disjuncts_of q.classed.disjuncts) ≡ None)
-    × (asked_count q.form (disjuncts_of q.classed.disjuncts) ≤ 128 → ⊥)
+    × (asked_count q.form (disjuncts_of q.classed.disjuncts) ≤ most_parts → ⊥)
 
 abbrev pub CanBeAsked : Instance → Type 0
 CanBeAsked i = CanAsk i.question

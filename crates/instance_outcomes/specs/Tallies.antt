@@ -17,8 +17,8 @@ is_some_place (p ∷ ps) = true
 abbrev pub has_nowhere : Answered → Bool
 has_nowhere a = is_some_place a.outcome.nowhere
 
--- how many answered instances there are, how many fail, in how many some part holds nowhere, and the
--- first one that fails, or else the first one
+-- how many answered instances there are, how many fail, in how many some part holds nowhere, and
+-- the first one that fails, or else the first one
 pub record IsTallyOf (answers : List Answered) (t : Tally) : Type 0 where
   pub asked : t.asked ≡ length answers
   pub failing : t.fails ≡ length (filter fails answers)

@@ -12,6 +12,7 @@ ghost use Rattle.rctl_names.specs.Numbers.{known_in};
 ghost use Rattle.rctl_names.specs.Resolving.{CanResolve};
 ghost use Rattle.rctl_names.specs.Seen.{names_of};
 ghost use Rattle.std.specs.Prelude.{◌≡◌, ◌≤◌, [], length, IfErr, IfOk, None};
+ghost use Rattle.pota_base.specs.Limits.{most_instances};
 
 use crate::asking::{AskFault, InstanceFault, list_of};
 use crate::counting::{no_tally, with};
@@ -131,7 +132,8 @@ fn answer_instance<R: Threads + Sync, G: Gate, L: Ledger>(
 }
 
 /// What the instances of a question over processes come to on what was observed, which is without
-/// watches. `Fault` is the first of them that can't be asked. It may wait for threads that it joins.
+/// watches. `Fault` is the first of them that can't be asked. It may wait for threads that it
+/// joins.
 pub fn tally<R: Threads + Sync, G: Gate, L: Ledger>(
     rt: &R,
     alloc: Global,
@@ -142,7 +144,7 @@ pub fn tally<R: Threads + Sync, G: Gate, L: Ledger>(
     steps: &mut Steps<L>,
 ) -> Result<Tally, Refused<InstanceFault>>
     requires seen { IsBare seen.now }
-    requires few { length instances ≤ 4096 }
+    requires few { length instances ≤ most_instances }
     requires known { AreKnown (header_of seen.now) instances }
     requires system { HasSystem (clocks_seen seen.now) system.old }
     ensures tally { IfOk result (IsTally seen.now instances) }

@@ -4,6 +4,7 @@ ghost use Rattle.instance_outcomes.specs.declared.tallied.Answered.{Answered as 
 ghost use Rattle.instance_outcomes.specs.inside.Lists.{shown_of};
 ghost use Rattle.std.specs.Prelude.{◌≡◌, ◌+◌, ◌++◌, ◌∷◌, ◌<◌, ◌≤◌, [], List};
 ghost use Rattle.std.specs.Prelude.{if◌then◌else◌};
+ghost use Rattle.pota_base.specs.Limits.{most_instances};
 
 use crate::tallied::{Answered, Tally};
 
@@ -38,7 +39,7 @@ fn shown_of(shown: Option<Answered>, next: Answered) -> Option<Answered>
 
 // The count, with one more where there is.
 fn counted(count: u32, more: bool) -> u32
-    requires { count < 4096 }
+    requires { count < most_instances }
     ensures { result ≡ (if more then count + 1 else count) }
 {
     if more { count + 1 } else { count }
@@ -58,7 +59,7 @@ pub fn no_tally() -> Tally
 
 // The tally with one instance more.
 pub fn with(tally: Tally, next: Answered) -> Tally
-    requires few { tally.asked < 4096 }
+    requires few { tally.asked < most_instances }
     requires fails { tally.fails ≤ tally.asked }
     requires nowhere { tally.nowhere ≤ tally.asked }
     ensures { (before : List AnsweredIs) → IsTallyOf before tally

@@ -7,6 +7,7 @@ ghost use Rattle.part_pulls.specs.declared.observed.Observed.{Observed};
 ghost use Rattle.run_model.specs.Run.{Watches};
 ghost use Rattle.std.specs.List.{AllByRecursion};
 ghost use Rattle.std.specs.Prelude.{◌≡◌, ◌↔◌, ◌≤◌, [], List, length};
+ghost use Rattle.pota_base.specs.Limits.{most_instances, most_processes};
 
 /// No instance fails exactly where the question holds of the run for each of them.
 pub fn none_fails_where_each_holds()
@@ -19,6 +20,6 @@ pub fn none_fails_where_each_holds()
 pub fn instances_are_known()
     ensures known { (s : Source) (is : List InstanceIs) → s.watches ≡ []
         → AreInstances s (pairs_asked s) is → AreKnown s.header is }
-    ensures few { (s : Source) (is : List InstanceIs) → length s.header.procs ≤ 32
-        → AreInstances s (pairs_asked s) is → length is ≤ 4096 }
+    ensures few { (s : Source) (is : List InstanceIs) → length s.header.procs ≤ most_processes
+        → AreInstances s (pairs_asked s) is → length is ≤ most_instances }
 {}

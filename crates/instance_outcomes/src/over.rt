@@ -6,6 +6,7 @@ ghost use Rattle.part_pulls.specs.Observing.{clocks_seen};
 ghost use Rattle.question_instances.specs.Over.{IsOverIn};
 ghost use Rattle.question_outcomes.specs.Telling.{HasSystem};
 ghost use Rattle.std.specs.Prelude.{◌≤◌, length, IfErr, IfOk};
+ghost use Rattle.pota_base.specs.Limits.{most_processes};
 
 use crate::answering::tally;
 use crate::asking::InstanceFault;
@@ -67,8 +68,8 @@ fn instances_in(
 }
 
 /// What a question over processes comes to on what was observed, which is without watches: for each
-/// pair of different processes, or each process, which have the names that it uses. `Fault` says why
-/// there is no answer. It may wait for threads that it joins.
+/// pair of different processes, or each process, which have the names that it uses. `Fault` says
+/// why there is no answer. It may wait for threads that it joins.
 pub fn answer_over<R: Threads + Sync, G: Gate, L: Ledger>(
     rt: &R,
     alloc: Global,
@@ -80,7 +81,7 @@ pub fn answer_over<R: Threads + Sync, G: Gate, L: Ledger>(
     steps: &mut Steps<L>,
 ) -> Result<Tally, Refused<OverStop>>
     requires seen { IsBare seen.now }
-    requires procs { length (header_of seen.now).procs ≤ 32 }
+    requires procs { length (header_of seen.now).procs ≤ most_processes }
     requires over { IsOverIn (length text.now) over }
     requires system { HasSystem (clocks_seen seen.now) system.old }
     ensures tally { IfOk result (IsTallyFor seen.now text.now over) }

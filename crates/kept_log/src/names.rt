@@ -76,8 +76,8 @@ fn process_numbers(alloc: Global, header: &Header, names: &[Name]) -> Result<Lis
     Ok(numbers)
 }
 
-/// The names by the numbers of a header. A name that the header does not have gets the number behind
-/// the last one, which no event has.
+/// The names by the numbers of a header. A name that the header does not have gets the number
+/// behind the last one, which no event has.
 pub fn numbers_in(alloc: Global, header: &Header, names: &Names) -> Result<Numbers, NoMemory>
     ensures { IfOk result (λ numbers. numbers ≡ numbers_in header.now names.now) }
 {

@@ -116,7 +116,8 @@ impl Numbers {
         self.is_named(process, variable) || self.is_whole(process)
     }
 
-    /// How many variables of the process that are kept stand before this one: its number among them.
+    /// How many variables of the process that are kept stand before this one: its number among
+    /// them.
     #[tactic(auto, using(kept_runs::proofs::Chosen::number_below, kept_runs::proofs::Chosen::number_more, kept_runs::proofs::Chosen::number_stays))]
     pub fn new_number(&self, process: usize, variable: u32) -> u32
         ensures { result ≡ new_number (is_kept_variable self.now process) variable }

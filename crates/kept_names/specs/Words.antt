@@ -59,7 +59,8 @@ or_else (Some x) other = Some x
 abbrev pub named : List ℕ → Option Named
 named word =
     or_else (option_map Variable (pair_in 46 word))
-    (or_else (option_map Channel (pair_in 62 word)) (if is_name word then Some (Process word) else None))
+    (or_else (option_map Channel (pair_in 62 word))
+    (if is_name word then Some (Process word) else None))
 
 -- ---- all words
 

@@ -1,10 +1,10 @@
-//! A run folded to what is named: only the events stay that assign a named variable, send or receive
-//! on a named channel, or are of a named process, in the order that happened before gives them, and
-//! of the values only those of named variables and processes. What is kept is a run
+//! A run folded to what is named: only the events stay that assign a named variable, send or
+//! receive on a named channel, or are of a named process, in the order that happened before gives
+//! them, and of the values only those of named variables and processes. What is kept is a run
 //! (`kept_runs_are_runs`), its consistent cuts are the kept events of those of the whole run
-//! (`cuts_are_kept`), a named variable has the values that it had (`values_are_kept`), and a formula
-//! whose names are kept has the same truth in both (`truth_is_kept`). Each function here is a law
-//! and does nothing.
+//! (`cuts_are_kept`), a named variable has the values that it had (`values_are_kept`), and a
+//! formula whose names are kept has the same truth in both (`truth_is_kept`). Each function here is
+//! a law and does nothing.
 //!
 //! Not said here: EX, which goes by each event, dropped ones among them.
 #![tactic(auto)]
@@ -23,7 +23,8 @@ ghost use Rattle.kept_runs.specs.Laws.{TruthAtTheStartIsKept, FamiliesAreKept};
 ghost use Rattle.kept_runs.specs.Laws.{RegularFormulasStayRegular, LeastCutsAreKept};
 ghost use Rattle.kept_runs.specs.Laws.{GreatestCutsAreKept, LeastCutsComeFromLeastCuts};
 ghost use Rattle.kept_runs.specs.Laws.{LeastCutsAreTheLeastWithTheirKeptEvents};
-ghost use Rattle.kept_runs.specs.Worked.{only_variable, only_process, OnlyX, YAndAnswers, Questions, WholeP, OnlyTheSecond};
+ghost use Rattle.kept_runs.specs.Worked.{only_variable, only_process, OnlyX, YAndAnswers};
+ghost use Rattle.kept_runs.specs.Worked.{Questions, WholeP, OnlyTheSecond};
 
 /// What is kept of a run is a run, and its events stand in the order in which they stood.
 pub fn kept_runs_are_runs()
@@ -77,11 +78,12 @@ pub fn second_variable_kept()
 /// Why EX is left out: with the first event of P dropped, P has no next one.
 pub fn next_goes_by_dropped_events()
     ensures whole { HasVerdict two_events (Next p (Truth true)) true }
-    ensures kept { HasVerdict (kept_trace two_events (only_variable q y)) (Next p (Truth true)) false }
+    ensures kept { HasVerdict (kept_trace two_events (only_variable q y)) (Next p (Truth true))
+        false }
 {}
 
-/// Why the process of a watch is kept as a whole: `EF (P@stable & P.x = 2)` needs the third event of
-/// P, which leaves x as it is.
+/// Why the process of a watch is kept as a whole: `EF (P@stable & P.x = 2)` needs the third event
+/// of P, which leaves x as it is.
 pub fn watches_go_by_each_event()
     ensures whole { HasVerdict five_events (Temporal Ef (both (Watched p p) (x_is 2))) true }
     ensures variable { HasVerdict (kept_trace five_events (only_variable p x))

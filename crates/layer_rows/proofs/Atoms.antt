@@ -3,6 +3,7 @@ use Rattle.std.proofs.Common.{◌≡◌, ℕ, zero, suc, ◌+◌, ◌<◌, ◌�
 use Rattle.std.specs.Prelude.{Bool, sum, replicate}
 use Rattle.std.specs.List.{AllByRecursion}
 use Rattle.std.proofs.lemmas.List.Sums.{sum_by-cons}
+use Rattle.pota_base.specs.Limits.{most_events}
 use Rattle.event_log.specs.declared.log.Binding.{Binding}
 use Rattle.event_log.specs.declared.log.Event.{Event}
 use Rattle.event_log.specs.declared.log.Header.{Header}
@@ -20,7 +21,7 @@ no_events (suc n) = sum_by-cons (λ (k : ℕ). k) 0 (map (length {A = Event}) (r
 
 -- known events may follow on none
 pub may_follow : (states : StatesView) (header : Header) (events : List Event) → states ≡ record { header = header; events = replicate (length header.procs) [] }
-    → AllByRecursion (IsKnown header) events → length events ≤ 50000 → MayFollow states.header states.events events
+    → AllByRecursion (IsKnown header) events → length events ≤ most_events → MayFollow states.header states.events events
 may_follow states header events is known few =
     subst (λ (s : StatesView). MayFollow s.header s.events events) (sym is) (record { known = known; few = omega (arith, no_events (length header.procs)) })
 

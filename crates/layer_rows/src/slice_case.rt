@@ -10,9 +10,9 @@ use witness::Explained;
 /// What is made of a part's slice.
 #[derive(Clone, Copy)]
 pub enum Operator {
-    Possible,
-    Always,
-    Staying,
+    Ef,
+    Ag,
+    Eg,
 }
 
 /// A slice: that of a system, and then what operators make of it, one after the other.

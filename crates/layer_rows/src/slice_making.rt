@@ -124,9 +124,9 @@ fn applied(
     ensures { IfOk result (FitsOrder order.now) }
 {
     match operator {
-        Operator::Possible => ef(alloc, order, slice),
-        Operator::Always => ag(alloc, order, slice),
-        Operator::Staying => eg(alloc, order, slice),
+        Operator::Ef => ef(alloc, order, slice),
+        Operator::Ag => ag(alloc, order, slice),
+        Operator::Eg => eg(alloc, order, slice),
     }
 }
 

@@ -136,9 +136,9 @@ fn add_given(
         }
         "part" => case.parts.push(Part::new(alloc))?,
         "pull" => return add_pull(alloc, case, numbers),
-        "possible" => return add_operator(case, Operator::Possible),
-        "always" => return add_operator(case, Operator::Always),
-        "staying" => return add_operator(case, Operator::Staying),
+        "possible" => return add_operator(case, Operator::Ef),
+        "always" => return add_operator(case, Operator::Ag),
+        "staying" => return add_operator(case, Operator::Eg),
         _ => return Ok(false),
     }
     Ok(true)
@@ -148,9 +148,9 @@ fn add_given(
 fn add_why(alloc: Global, wanted: &mut Wanted, text: &str) -> Result<bool, AllocError> {
     let (word, told) = text.split_once(' ').unwrap_or((text, ""));
     let operator = match word {
-        "possible" => Explained::ExistsFinally,
-        "always" => Explained::AlwaysGlobally,
-        "staying" => Explained::ExistsGlobally,
+        "possible" => Explained::ForEf,
+        "always" => Explained::ForAg,
+        "staying" => Explained::ForEg,
         _ => return Ok(false),
     };
     let told = String::from_str(alloc, told)?;

@@ -23,7 +23,8 @@
 //!                             stuck finish or stuck pair EVENT EVENT, an event as P,A
 //! ```
 
-ghost use Rattle.std.specs.Prelude.{◌≡◌, ◌<◌};
+ghost use Rattle.pota_base.specs.Blanks.{IsBlankOf};
+ghost use Rattle.std.specs.Prelude.{◌<◌};
 
 use crate::slice_case::Case;
 use crate::slice_reading::add_line;
@@ -47,9 +48,7 @@ fn difference_of<L: Ledger>(
     case: &Case,
     blank: Blank,
 ) -> Result<Option<&'static str>, AllocError>
-    requires name { blank.name ≡ L.name }
-    requires parts { blank.parts ≡ L.parts }
-    requires some { 0 < blank.parts }
+    requires blank { IsBlankOf L.name L.parts blank }
 {
     difference(alloc, case, &mut Steps::<L>::new(blank))
 }

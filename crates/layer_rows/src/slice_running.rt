@@ -4,12 +4,9 @@ ghost use Rattle.std.specs.List.{AllByRecursion};
 ghost use Rattle.vector_clock.specs.Events.{EventFits};
 
 use event_log::{Event, Kind};
-use pota_base::{NoMemory, Refused};
+use pota_base::{MOST_EVENTS, NoMemory, Refused};
 use std::alloc::Global;
 use vector_clock::Clocks;
-
-/// The most events of a run.
-const MOST_EVENTS: usize = 50_000;
 
 // Whether each event is local, of one of so many processes, and has a count for each of them.
 fn events_fit(procs: usize, events: &[Event]) -> bool

@@ -2,11 +2,8 @@
 
 use event_log::{Item, Reader, States};
 use log_fitting::{are_known, is_header};
-use pota_base::{List, NoMemory};
+use pota_base::{List, MOST_EVENTS, NoMemory};
 use std::alloc::{AllocError, Global};
-
-/// The most events of a log.
-const MOST_EVENTS: usize = 50_000;
 
 // The states, or want of memory.
 fn read(alloc: Global, text: &[u8]) -> Result<Option<States>, NoMemory> {

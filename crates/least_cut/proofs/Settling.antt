@@ -2,6 +2,7 @@
 use Rattle.std.proofs.Common.{◌≡◌, ◌≢◌, ℕ, ◌*◌, ◌+◌, ◌<◌, ◌≤◌, ◌⊎◌, inl, inr, List, Bool, true, false, length, get_or, set, sum, arith, subst, sym, ap, ◌∙◌, get_or-set_same}
 use Rattle.std.proofs.lemmas.List.{length-set}
 use Rattle.std.proofs.Math.Nat.{mul-le-mul_left}
+use Rattle.pota_base.specs.Limits.{most_processes}
 use Rattle.pull_system.specs.declared.pull.Pull.{Pull}
 use Rattle.least_cut.specs.inside.Climb.{AreHeld, IsLook, IsLooked, AreMarks}
 use Rattle.pull_system.specs.Marks.{marked}
@@ -99,7 +100,7 @@ looked_all system process k there =
       | inr other ↦ inl other
     ]
 
-pub marks_none : (lens : List ℕ) (risen : List Bool) → length risen ≡ 32 → ((process : ℕ) → get_or risen process false ≡ false) → AreMarks lens risen
+pub marks_none : (lens : List ℕ) (risen : List Bool) → length risen ≡ most_processes → ((process : ℕ) → get_or risen process false ≡ false) → AreMarks lens risen
 marks_none lens risen size none = record { size = size; there = λ process is. let e : true ≡ false = sym is ∙ none process in absurd (cc) }
 
 pub marks_more : (lens : List ℕ) (risen : List Bool) (process : ℕ) → AreMarks lens risen → process < length lens → AreMarks lens (set risen process true)

@@ -1,14 +1,16 @@
 ghost use Rattle.std.specs.Prelude.{◌≡◌, ℕ, ◌+◌, ◌<◌, ◌≤◌, true, false, length, slice_index_or};
 ghost use Rattle.std.specs.Prelude.{slice_set, IfSome, IfNone};
+ghost use Rattle.pota_base.specs.Limits.{most_processes};
 ghost use Rattle.pull_system.specs.Marks.{marked};
 
+use pota_base::MOST_PROCESSES;
 use std::marker::Model;
 
 /// A mark for each process: its component has risen since the pulls from it were looked at. It
 /// takes no memory.
 #[derive(Debug, Drop)]
 pub(crate) struct Risen {
-    marks: [bool; 32],
+    marks: [bool; MOST_PROCESSES],
 }
 
 impl Model for Risen {
@@ -24,18 +26,20 @@ impl Risen {
     pub fn new() -> Risen
         ensures none { (process : ℕ) → slice_index_or result process false ≡ false }
         ensures count { marked result ≡ 0 }
-        ensures size { length result ≡ 32 }
+        ensures size { length result ≡ most_processes }
     {
-        Risen { marks: [false; 32] }
+        Risen {
+            marks: [false; MOST_PROCESSES],
+        }
     }
 
     /// Marks a process.
     #[tactic(auto, using(pull_system::proofs::Marks::mark_more))]
     pub fn mark(&mut self, process: u32)
-        requires { process < 32 }
+        requires { process < most_processes }
         ensures mark { self.new ≡ slice_set self.old process true }
         ensures count { marked self.new ≤ marked self.old + 1 }
-        ensures size { length self.new ≡ 32 }
+        ensures size { length self.new ≡ most_processes }
     {
         self.marks[process as usize] = true;
     }
@@ -48,7 +52,7 @@ impl Risen {
         ensures none { IfNone result
             ((process : ℕ) → slice_index_or self.old process false ≡ false) }
         ensures end { IfNone result (self.new ≡ self.old) }
-        ensures size { length self.new ≡ 32 }
+        ensures size { length self.new ≡ most_processes }
     {
         let process = self.marks.iter().position(|&mark| mark)?;
         self.marks[process] = false;

@@ -6,6 +6,7 @@ ghost use Rattle.rctl_parts.specs.MadeFor.{EachFits};
 ghost use Rattle.rctl_parts.specs.Pieces.{pieces_of};
 ghost use Rattle.slice_graph.specs.Growing.{system_of_order};
 ghost use Rattle.std.specs.Prelude.{◌≡◌, ◌≤◌, length, true, IfOk};
+ghost use Rattle.pota_base.specs.Limits.{most_parts};
 
 use crate::asking::fans_of_atoms;
 use crate::finding::least_cut_of;
@@ -34,8 +35,8 @@ pub fn order_system(alloc: Global, order: &Order) -> Result<System, NoMemory>
     System::of_fans(alloc, order.shape(), order_fans(alloc, order)?)
 }
 
-/// The least consistent cut at which all of these parts are true, of which none has an operator. The
-/// system is that of the order's pulls; the parts' own are put behind it and taken off again.
+/// The least consistent cut at which all of these parts are true, of which none has an operator.
+/// The system is that of the order's pulls; the parts' own are put behind it and taken off again.
 pub fn least_holding<L: Ledger>(
     alloc: Global,
     seen: &Observed,
@@ -47,7 +48,7 @@ pub fn least_holding<L: Ledger>(
     requires atoms { are_atoms (pieces_of parts.now) ≡ true }
     requires fits { EachFits (scope_seen seen.now) (pieces_of parts.now) }
     requires counters { AllRise seen.now (counters_of_parts (pieces_of parts.now)) }
-    requires few { length parts.now ≤ 128 }
+    requires few { length parts.now ≤ most_parts }
     requires system { system ≡ system_of_order (clocks_seen seen.now) }
     ensures least { IfOk result
         (λ found. IsLeastHolding seen.now (pieces_of parts.now) found.least) }

@@ -1,34 +1,26 @@
 //! Laws on local expressions and their pulls. The functions do nothing.
-ghost use Rattle.std.specs.Prelude.{◌≡◌, ◌↔◌, ℕ, ℤ, ◌<◌, ◌≤◌, Bool, true, List, length, map};
-ghost use Rattle.std.specs.Prelude.{slice_index, Option, Some, None};
+ghost use Rattle.std.specs.Prelude.{◌≡◌, ◌↔◌, ℕ, ℤ, ◌≤◌, Bool, true, List, slice_index, Option};
+ghost use Rattle.std.specs.Prelude.{None};
 ghost use Rattle.run_model.specs.Cut.{Cut, count};
-ghost use Rattle.run_model.specs.Run.{Name, Run, Watches, clocks_of, run_of};
-ghost use Rattle.run_model.specs.Consistent.{IsConsistent};
+ghost use Rattle.run_model.specs.Run.{Run};
 ghost use Rattle.run_model.specs.Meaning.{Sat};
-ghost use Rattle.event_log.specs.States.{StatesView, AreWhole, trace_of};
+ghost use Rattle.event_log.specs.States.{StatesView};
 ghost use Rattle.pull_system.specs.Pulls.{ClosedUnder};
 ghost use Rattle.pull_system.specs.Growth.{PullGrows};
 ghost use Rattle.rctl_parts.specs.Exprs.{Expr};
 ghost use Rattle.rctl_parts.specs.MadeFor.{is_constant};
 ghost use Rattle.rctl_parts.specs.Spelled.{Names, local_formula};
-ghost use Rattle.local_preds.specs.Rows.{IsReadable, IsReadableAt, is_true, truths_of};
-ghost use Rattle.local_preds.specs.LocalPulls.{local_pull, never_pull, constant_pulls_of};
-ghost use Rattle.local_preds.specs.LocalRuns.{names_of, AreAnswers, AreFull, FitsProcess};
-ghost use Rattle.local_preds.specs.LocalRuns.{local_pulls, constant_truth, HasGrownAt};
+ghost use Rattle.local_preds.specs.Rows.{IsReadable, IsReadableAt, is_true};
+ghost use Rattle.local_preds.specs.LocalPulls.{never_pull, constant_pulls_of};
+ghost use Rattle.local_preds.specs.LocalRuns.{AreFull, FitsProcess, constant_truth};
+ghost use Rattle.local_preds.specs.Laws.{LocalPartsHoldWhereTrue, LocalPullsGrow};
 
 /// At a consistent cut the pull of an expression holds exactly where its formula is true, and the
 /// pulls of a constant exactly where the constant is.
 ///
 /// The names are those of the header, and for watches any whose answers stand in the rows.
 pub fn local_parts_hold_where_they_are_true()
-    ensures local { (states : StatesView) (watches : Watches) (watch_names : List Name)
-        (watch_process : List (Option ℕ)) (watch_rows : List (List Bool)) (p : ℕ) (e : Expr)
-        → AreWhole states → p < length states.events → FitsProcess states watch_process p e
-        → AreAnswers states watches watch_names watch_process watch_rows p
-        → (c : Cut) → IsConsistent (clocks_of (trace_of states)) c
-        → ClosedUnder (local_pulls states p watch_rows e) c
-        ↔ Sat (run_of (trace_of states) watches)
-        (local_formula (names_of states watch_names) (Some p) e) c }
+    ensures local { LocalPartsHoldWhereTrue }
     ensures constant { (r : Run) (names : Names) (lens : List ℕ) (e : Expr) → is_constant e ≡ true
         → (c : Cut) → count c 0 ≤ slice_index lens 0
         → ClosedUnder (constant_pulls_of lens (constant_truth e)) c
@@ -50,13 +42,7 @@ pub fn made_expressions_can_be_read()
 /// When more events come, the pull of an expression asks for no less at each position, past the
 /// last one too, and so does the pull that no cut keeps.
 pub fn local_pulls_grow()
-    ensures local { (before after : StatesView) (watch_process : List (Option ℕ))
-        (old_rows new_rows : List (List Bool)) (p : ℕ) (e : Expr)
-        → HasGrownAt before after watch_process old_rows new_rows p
-        → FitsProcess before watch_process p e
-        → PullGrows (map length before.events) (map length after.events)
-        (local_pull p (truths_of before p old_rows e))
-        (local_pull p (truths_of after p new_rows e)) }
+    ensures local { LocalPullsGrow }
     ensures never { (old lens : List ℕ) → slice_index old 0 ≤ slice_index lens 0
         → PullGrows old lens (never_pull old) (never_pull lens) }
 {}

@@ -2,6 +2,7 @@
 use Rattle.std.proofs.Common.{◌≡◌, ℕ, Bool, false, Option, Some, None, Result, Ok, Err, List, [], ◌∷◌, ◌++◌, length, refl, sym, ap, subst, ◌∙◌, arith, append_assoc, append-nil}
 use Rattle.std.proofs.KnownBytes.{Appends-nil}
 use Rattle.std.proofs.lemmas.Option.{none-some, same_Some}
+use Rattle.pota_base.specs.Changes.{change_of, counts_of}
 use Rattle.log_lines.specs.Reading.{choose}
 use Rattle.rctl_grammar.specs.declared.fault.FormulaFault.{FormulaFault}
 use Rattle.event_log.specs.declared.item.Item.{Item}
@@ -92,7 +93,7 @@ no_text aim text n h = go h.front h.are h.texts
     go [] e texts = texts
     go (p ∷ front) e texts = absurd cc
 
-pub whole_stops : (aim : Aim) (log : Log) (held : Option (List ℕ)) (of : ℕ) (stop : Stop) → TakingStops stop.cause stop.batches aim log → HasWhole held held of of aim log (Err stop)
+pub whole_stops : (aim : Aim) (log : Log) (held : Option (List ℕ)) (of : ℕ) (stop : Stop) → TakingStops stop.cause stop.batches aim log → HasWhole (change_of held held of of) aim log (Err stop)
 whole_stops aim log held of stop t = record {
   written = [];
   wrote = Appends-nil held;
@@ -100,7 +101,7 @@ whole_stops aim log held of stop t = record {
   to = go stop.cause stop.batches t;
 }
   where
-    go : (f : StopCause) (n : ℕ) → TakingStops f n aim log → WholeStops f n of of aim log []
+    go : (f : StopCause) (n : ℕ) → TakingStops f n aim log → WholeStops f n (counts_of of of) aim log []
     go (causes.Refused why) n h = record { before = h.log; is = h.is; nothing = refl; count = h.number }
     go causes.Memory n h = (refl, h)
     go causes.Write n h = absurd h
@@ -118,20 +119,20 @@ module _ {X : Type 0} {P : X → Type 0} (says : Says X P) (aim : Aim) (log : Lo
     some_whole = (judgement_on aim log, whole.0, taken, closed)
 
     module _ (held held' : Option (List ℕ)) (of of' : ℕ) where
-      report_stops : (f : StopCause) (n : ℕ) (text : List ℕ) → ReportStops f n of of' aim [] whole.0 text → WholeStops f n of of' aim log text
+      report_stops : (f : StopCause) (n : ℕ) (text : List ℕ) → ReportStops f n (counts_of of of') aim [] whole.0 text → WholeStops f n (counts_of of of') aim log text
       report_stops causes.Write n text h = (record { whole = whole.0; is = whole.1; part = h.0 }, h.1)
       report_stops causes.Memory n text h = (no_text aim text n h, h.count)
       report_stops (causes.Refused r) n text h = absurd h
       report_stops causes.Read n text h = absurd h
 
-      reported : (result : Result Verdict Stop) (text : List ℕ) → ReportsTo of of' aim check.log.intake.batches [] whole.0 text result → WholeTo of of' aim log text result
+      reported : (result : Result Verdict Stop) (text : List ℕ) → ReportsTo (counts_of of of') aim check.log.intake.batches [] whole.0 text result → WholeTo (counts_of of of') aim log text result
       reported (Ok v) text to = record { whole = whole.0; is = whole.1; texts = to.0; truth = to.1; count = to.2 ∙ taken.log.intake.batches }
       reported (Err stop) text to = report_stops stop.cause stop.batches text to
 
       pub whole_reported : (result : Result Verdict Stop)
           → ((j : Judgement) (p : Prefix) → IsCheckOf says aim check j → HasClosed j p → (before : List Prefix) (text : List ℕ) → AreReportsFor aim before text
-          → Reports held held' of of' aim check.log.intake.batches before p text result)
-          → HasWhole held held' of of' aim log result
+          → Reports (change_of held held' of of') aim check.log.intake.batches before p text result)
+          → HasWhole (change_of held held' of of') aim log result
       whole_reported result reports =
           let r = reports (judgement_on aim log) whole.0 taken closed [] [] refl in
           record { written = r.written; wrote = r.wrote; later = r.later; to = reported result r.written r.to }

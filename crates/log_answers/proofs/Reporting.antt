@@ -4,12 +4,13 @@ use Rattle.std.specs.Prelude.{OnOk, OnErr}
 use Rattle.std.specs.Io.KnownBytes.{Appends}
 use Rattle.std.proofs.KnownBytes.{Appends-nil}
 use Rattle.pota_base.specs.Outside.{Rose, IsPrefix, HasCause, AppendsPrefix}
+use Rattle.pota_base.specs.Changes.{change_of, counts_of}
 use Rattle.report.specs.declared.report.Report.{Report}
 use Rattle.report.specs.Spelling.{report_text}
 use Rattle.run_report.specs.Reports.{Asked, IsReportOf}
 use Rattle.log_rules.specs.SoFar.{counted}
 use Rattle.run_report.specs.Benches.{IsSummaryOf, benched, summary_text}
-use Rattle.run_options.specs.declared.sizes.Sizes.{Sizes}
+use Rattle.call_options.specs.declared.sizes.Sizes.{Sizes}
 use Rattle.fault_kinds.specs.declared.refusal.Refusal.{Refusal}
 use Rattle.log_rules.specs.Judgement.{Prefix, Judgement, waiting, growing, finished, refused}
 use Rattle.log_rules.specs.Due.{batches_of}
@@ -29,7 +30,7 @@ use Rattle.log_answers.proofs.Items.{whole_front}
 
 pub puts_whole : {T E : Type 0} (x : T) (r : Result T E) (held held' : Option (List ℕ)) (of of' : ℕ)
     (text : List ℕ) (n : ℕ) → OnOk r (Appends held held' text) → r ≡ Ok x → HasCause of of' r
-    → Puts held held' of of' text n (Ok x)
+    → Puts (change_of held held' of of') text n (Ok x)
 puts_whole {T} {E} x r held held' of of' text n whole is cause = record {
   written = text;
   wrote = subst (λ (z : Result T E). OnOk z (Appends held held' text)) is whole;
@@ -39,7 +40,7 @@ puts_whole {T} {E} x r held held' of of' text n whole is cause = record {
 
 pub puts_part : {T E : Type 0} (e : E) (r : Result T E) (held held' : Option (List ℕ)) (of of' : ℕ)
     (text : List ℕ) (n : ℕ) → OnErr r (AppendsPrefix held held' text) → r ≡ Err e → HasCause of of' r
-    → Puts {T = T} held held' of of' text n (Err (record { batches = n; cause = causes.Write }))
+    → Puts {T = T} (change_of held held' of of') text n (Err (record { batches = n; cause = causes.Write }))
 puts_part {T} {E} e r held held' of of' text n part is cause =
     let p = subst (λ (z : Result T E). OnErr z (AppendsPrefix held held' text)) is part in
     record {
@@ -65,9 +66,9 @@ module _ (aim : Aim) (n : ℕ) (before : List Prefix) (log : Prefix) (text : Lis
     (texts : AreReportsFor aim before text) where
   pub report_short : (held : Option (List ℕ)) (of : ℕ) (stop : Stop)
       → stop ≡ record { batches = 0; cause = causes.Memory }
-      → Reports held held of of aim n before log text (Err stop)
+      → Reports (change_of held held of of) aim n before log text (Err stop)
   report_short held of stop is =
-      subst (λ (s : Stop). Reports held held of of aim n before log text (Err s)) (sym is) (record {
+      subst (λ (s : Stop). Reports (change_of held held of of) aim n before log text (Err s)) (sym is) (record {
         written = [];
         wrote = Appends-nil held;
         later = omega arith;
@@ -76,10 +77,10 @@ module _ (aim : Aim) (n : ℕ) (before : List Prefix) (log : Prefix) (text : Lis
 
   module _ (held held' : Option (List ℕ)) (of of' : ℕ) (report : Report) (is : IsReportFor aim log report) where
     pub report_whole : {T : Type 0} (x : T) (v : Verdict) → v ≡ record { batches = n; truth = report.verdict }
-        → (t : List ℕ) → t ≡ report_text report → Puts held held' of of' t n (Ok x)
-        → Reports held held' of of' aim n before log text (Ok v)
+        → (t : List ℕ) → t ≡ report_text report → Puts (change_of held held' of of') t n (Ok x)
+        → Reports (change_of held held' of of') aim n before log text (Ok v)
     report_whole x v same t is_text p =
-        subst (λ (w : Verdict). Reports held held' of of' aim n before log text (Ok w)) (sym same) (record {
+        subst (λ (w : Verdict). Reports (change_of held held' of of') aim n before log text (Ok w)) (sym same) (record {
           written = p.written;
           wrote = p.wrote;
           later = p.later;
@@ -92,13 +93,13 @@ module _ (aim : Aim) (n : ℕ) (before : List Prefix) (log : Prefix) (text : Lis
         })
 
     pub report_part : {T : Type 0} (stop : Stop) → n ≡ counted log.batches
-        → (t : List ℕ) → t ≡ report_text report → Puts {T = T} held held' of of' t n (Err stop)
-        → Reports held held' of of' aim n before log text (Err stop)
+        → (t : List ℕ) → t ≡ report_text report → Puts {T = T} (change_of held held' of of') t n (Err stop)
+        → Reports (change_of held held' of of') aim n before log text (Err stop)
     report_part stop count t is_text p = record {
       written = p.written;
       wrote = p.wrote;
       later = p.later;
-      to = subst (λ (s : Stop). ReportStops s.cause s.batches of of' aim before log (text ++ p.written)) (sym p.to.0) (
+      to = subst (λ (s : Stop). ReportStops s.cause s.batches (counts_of of of') aim before log (text ++ p.written)) (sym p.to.0) (
         record {
           before = before;
           log = log;
@@ -137,8 +138,8 @@ bench_asked aim is =
 
 module _ (aim : Aim) (n : ℕ) (log : Prefix) (sizes : Sizes) where
   pub summary_short : (held : Option (List ℕ)) (of : ℕ) (stop : Stop) → stop ≡ record { batches = 0; cause = causes.Memory }
-      → SumsUp held held of of aim n log sizes (Err stop)
-  summary_short held of stop is = subst (λ (s : Stop). SumsUp held held of of aim n log sizes (Err s)) (sym is) (record {
+      → SumsUp (change_of held held of of) aim n log sizes (Err stop)
+  summary_short held of stop is = subst (λ (s : Stop). SumsUp (change_of held held of of) aim n log sizes (Err s)) (sym is) (record {
     written = [];
     wrote = Appends-nil held;
     later = omega arith;
@@ -154,20 +155,20 @@ module _ (aim : Aim) (n : ℕ) (log : Prefix) (sizes : Sizes) where
     }
 
     pub summary_whole : {T : Type 0} (x : T) (v : Verdict) → v ≡ record { batches = n; truth = report.verdict }
-        → (t : List ℕ) → t ≡ summary_text sizes report → Puts held held' of of' t n (Ok x) → SumsUp held held' of of' aim n log sizes (Ok v)
-    summary_whole x v same t is_text p = subst (λ (w : Verdict). SumsUp held held' of of' aim n log sizes (Ok w)) (sym same) (record {
+        → (t : List ℕ) → t ≡ summary_text sizes report → Puts (change_of held held' of of') t n (Ok x) → SumsUp (change_of held held' of of') aim n log sizes (Ok v)
+    summary_whole x v same t is_text p = subst (λ (w : Verdict). SumsUp (change_of held held' of of') aim n log sizes (Ok w)) (sym same) (record {
       written = p.written;
       wrote = p.wrote;
       later = p.later;
       to = (sums p.written (p.to ∙ is_text), is.says.verdict, refl);
     })
 
-    pub summary_part : {T : Type 0} (stop : Stop) → (t : List ℕ) → t ≡ summary_text sizes report → Puts {T = T} held held' of of' t n (Err stop)
-        → SumsUp held held' of of' aim n log sizes (Err stop)
+    pub summary_part : {T : Type 0} (stop : Stop) → (t : List ℕ) → t ≡ summary_text sizes report → Puts {T = T} (change_of held held' of of') t n (Err stop)
+        → SumsUp (change_of held held' of of') aim n log sizes (Err stop)
     summary_part stop t is_text p = record {
       written = p.written;
       wrote = p.wrote;
       later = p.later;
-      to = subst (λ (s : Stop). SummaryStops s.cause s.batches of of' aim n log sizes p.written) (sym p.to.0)
+      to = subst (λ (s : Stop). SummaryStops s.cause s.batches (counts_of of of') aim n log sizes p.written) (sym p.to.0)
           (t, sums t is_text, p.to.1, refl, p.to.2);
     }

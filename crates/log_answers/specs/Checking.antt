@@ -4,10 +4,11 @@ use Rattle.std.specs.Prelude.{◌≡◌, ℕ, ◌≤◌, ◌↔◌, Bool, true, 
 use Rattle.std.specs.Prelude.{Result, Ok, Err}
 use Rattle.std.specs.Io.KnownBytes.{Appends}
 use Rattle.pota_base.specs.Outside.{Rose, IsPrefix}
+use Rattle.pota_base.specs.Changes.{Change, Counts, faults_of}
 use Rattle.report.specs.declared.report.Report.{Report}
 use Rattle.report.specs.Spelling.{report_text}
 use Rattle.log_rules.specs.SoFar.{counted}
-use Rattle.run_options.specs.declared.sizes.Sizes.{Sizes}
+use Rattle.call_options.specs.declared.sizes.Sizes.{Sizes}
 use Rattle.run_report.specs.Benches.{IsSummaryOf}
 use Rattle.fault_kinds.specs.declared.refusal.Refusal.{Refusal}
 use Rattle.log_rules.specs.Judgement.{Prefix, Judgement, refused}
@@ -56,30 +57,29 @@ pub record HasFrontOf (aim : Aim) (logs : List Prefix) (text : List ℕ) (batche
   pub count : batches ≡ 0
 
 -- the report on this log could not be written behind those before, or there was no memory for it
-abbrev pub ReportStops : StopCause → ℕ → ℕ → ℕ → Aim → List Prefix → Prefix → List ℕ → Type 0
-ReportStops causes.Write n of of' aim before log text =
-    HasPartOf aim (before ++ log ∷ []) text n × Rose of of'
-ReportStops causes.Memory n of of' aim before log text = HasFrontOf aim before text n
-ReportStops (causes.Refused r) n of of' aim before log text = ⊥
-ReportStops causes.Read n of of' aim before log text = ⊥
+abbrev pub ReportStops : StopCause → ℕ → Counts → Aim → List Prefix → Prefix → List ℕ → Type 0
+ReportStops causes.Write n faults aim before log text =
+    HasPartOf aim (before ++ log ∷ []) text n × Rose faults.before faults.after
+ReportStops causes.Memory n faults aim before log text = HasFrontOf aim before text n
+ReportStops (causes.Refused r) n faults aim before log text = ⊥
+ReportStops causes.Read n faults aim before log text = ⊥
 
 -- the report on this log was written, with its verdict, or not
-abbrev pub ReportsTo : ℕ → ℕ → Aim → ℕ → List Prefix → Prefix → List ℕ
-    → Result Verdict Stop → Type 0
-ReportsTo of of' aim batches before log text (Ok v) =
-    AreReportsFor aim (before ++ log ∷ []) text
-    × ((v.truth ≡ true) ↔ IsTrueSoFar aim log) × (v.batches ≡ batches)
-ReportsTo of of' aim batches before log text (Err stop) =
-    ReportStops stop.cause stop.batches of of' aim before log text
+abbrev pub ReportsTo : Counts → Aim → ℕ → List Prefix → Prefix → List ℕ → Result Verdict Stop
+    → Type 0
+ReportsTo faults aim batches before log text (Ok v) =
+    AreReportsFor aim (before ++ log ∷ []) text × ((v.truth ≡ true) ↔ IsTrueSoFar aim log)
+    × (v.batches ≡ batches)
+ReportsTo faults aim batches before log text (Err stop) =
+    ReportStops stop.cause stop.batches faults aim before log text
 
 -- behind this text the report on this log was to be written
-pub record Reports (held held' : Option (List ℕ)) (of of' : ℕ) (aim : Aim)
-    (batches : ℕ) (before : List Prefix) (log : Prefix) (text : List ℕ)
-    (result : Result Verdict Stop) : Type 0 where
+pub record Reports (sink : Change) (aim : Aim) (batches : ℕ) (before : List Prefix) (log : Prefix)
+    (text : List ℕ) (result : Result Verdict Stop) : Type 0 where
   pub written : List ℕ
-  pub wrote : Appends held held' written
-  pub later : of ≤ of'
-  pub to : ReportsTo of of' aim batches before log (text ++ written) result
+  pub wrote : Appends sink.before sink.after written
+  pub later : sink.faults_before ≤ sink.faults_after
+  pub to : ReportsTo (faults_of sink) aim batches before log (text ++ written) result
 
 -- ---- items
 
@@ -98,29 +98,27 @@ pub record IsRefusedAt (aim : Aim) (each : Bool) (j : Judgement) (text : List �
   pub count : batches ≡ batches_of j
 
 -- a stop at this judgement
-abbrev pub StopsIn : StopCause → ℕ → ℕ → ℕ → Aim → Bool → Judgement → List ℕ → Type 0
-StopsIn (causes.Refused r) n of of' aim each j text = IsRefusedAt aim each j text r n
-StopsIn causes.Write n of of' aim each j text =
-    HasPartOf aim (closed_in each j) text n × Rose of of'
-StopsIn causes.Memory n of of' aim each j text =
-    HasFrontOf aim (closed_in each j) text n
-StopsIn causes.Read n of of' aim each j text = ⊥
+abbrev pub StopsIn : StopCause → ℕ → Counts → Aim → Bool → Judgement → List ℕ → Type 0
+StopsIn (causes.Refused r) n faults aim each j text = IsRefusedAt aim each j text r n
+StopsIn causes.Write n faults aim each j text =
+    HasPartOf aim (closed_in each j) text n × Rose faults.before faults.after
+StopsIn causes.Memory n faults aim each j text = HasFrontOf aim (closed_in each j) text n
+StopsIn causes.Read n faults aim each j text = ⊥
 
-abbrev pub ItemsTo : {T X : Type 0} {P : X → Type 0} → ℕ → ℕ → Says X P → Aim → Bool
-    → ReportedLog X P → Judgement → List ℕ → Result T Stop → Type 0
-ItemsTo of of' says aim each check j text (Ok x) = Stands says aim each check j text
-ItemsTo of of' says aim each check j text (Err stop) =
-    StopsIn stop.cause stop.batches of of' aim each j text
+abbrev pub ItemsTo : {T X : Type 0} {P : X → Type 0} → Counts → Says X P → Aim → Bool → ReportedLog
+    X P → Judgement → List ℕ → Result T Stop → Type 0
+ItemsTo faults says aim each check j text (Ok x) = Stands says aim each check j text
+ItemsTo faults says aim each check j text (Err stop) =
+    StopsIn stop.cause stop.batches faults aim each j text
 
 -- items led to this judgement, behind this text
-pub record TakesItems {T X : Type 0} {P : X → Type 0} (held held' : Option (List ℕ)) (of of' : ℕ)
-    (says : Says X P)
-    (aim : Aim) (each : Bool) (check : ReportedLog X P) (j : Judgement) (text : List ℕ)
-    (result : Result T Stop) : Type 0 where
+pub record TakesItems {T X : Type 0} {P : X → Type 0} (sink : Change) (says : Says X P) (aim : Aim)
+    (each : Bool) (check : ReportedLog X P) (j : Judgement) (text : List ℕ) (result : Result T Stop)
+    : Type 0 where
   pub written : List ℕ
-  pub wrote : Appends held held' written
-  pub later : of ≤ of'
-  pub to : ItemsTo of of' says aim each check j (text ++ written) result
+  pub wrote : Appends sink.before sink.after written
+  pub later : sink.faults_before ≤ sink.faults_after
+  pub to : ItemsTo (faults_of sink) says aim each check j (text ++ written) result
 
 -- ---- the summary of a bench
 
@@ -130,28 +128,24 @@ pub record IsBenchAim (aim : Aim) : Type 0 where
   pub witness : aim.shown.witness ≡ false
 
 -- a summary could not be written, or there was no memory for it
-abbrev pub SummaryStops : StopCause → ℕ → ℕ → ℕ → Aim → ℕ → Prefix → Sizes
-    → List ℕ → Type 0
-SummaryStops causes.Write n of of' aim batches log sizes text =
-    (whole : List ℕ)
-    × IsSummaryOf sizes (asked_of aim) log.header log.batches aim.watches whole
-    × IsPrefix text whole × (n ≡ batches) × Rose of of'
-SummaryStops causes.Memory n of of' aim batches log sizes text = (text ≡ []) × (n ≡ 0)
-SummaryStops (causes.Refused r) n of of' aim batches log sizes text = ⊥
-SummaryStops causes.Read n of of' aim batches log sizes text = ⊥
+abbrev pub SummaryStops : StopCause → ℕ → Counts → Aim → ℕ → Prefix → Sizes → List ℕ → Type 0
+SummaryStops causes.Write n faults aim batches log sizes text =
+    (whole : List ℕ) × IsSummaryOf sizes (asked_of aim) log.header log.batches aim.watches whole
+    × IsPrefix text whole × (n ≡ batches) × Rose faults.before faults.after
+SummaryStops causes.Memory n faults aim batches log sizes text = (text ≡ []) × (n ≡ 0)
+SummaryStops (causes.Refused r) n faults aim batches log sizes text = ⊥
+SummaryStops causes.Read n faults aim batches log sizes text = ⊥
 
-abbrev pub SumsUpTo : ℕ → ℕ → Aim → ℕ → Prefix → Sizes → List ℕ
-    → Result Verdict Stop → Type 0
-SumsUpTo of of' aim batches log sizes text (Ok v) =
+abbrev pub SumsUpTo : Counts → Aim → ℕ → Prefix → Sizes → List ℕ → Result Verdict Stop → Type 0
+SumsUpTo faults aim batches log sizes text (Ok v) =
     IsSummaryOf sizes (asked_of aim) log.header log.batches aim.watches text
     × ((v.truth ≡ true) ↔ IsTrueSoFar aim log) × (v.batches ≡ batches)
-SumsUpTo of of' aim batches log sizes text (Err stop) =
-    SummaryStops stop.cause stop.batches of of' aim batches log sizes text
+SumsUpTo faults aim batches log sizes text (Err stop) =
+    SummaryStops stop.cause stop.batches faults aim batches log sizes text
 
-pub record SumsUp (held held' : Option (List ℕ)) (of of' : ℕ) (aim : Aim)
-    (batches : ℕ) (log : Prefix) (sizes : Sizes) (result : Result Verdict Stop) : Type 0
-  where
-    pub written : List ℕ
-    pub wrote : Appends held held' written
-    pub later : of ≤ of'
-    pub to : SumsUpTo of of' aim batches log sizes written result
+pub record SumsUp (sink : Change) (aim : Aim) (batches : ℕ) (log : Prefix) (sizes : Sizes)
+    (result : Result Verdict Stop) : Type 0 where
+  pub written : List ℕ
+  pub wrote : Appends sink.before sink.after written
+  pub later : sink.faults_before ≤ sink.faults_after
+  pub to : SumsUpTo (faults_of sink) aim batches log sizes written result

@@ -1,9 +1,10 @@
--- An input that is read and checked, however it is read: what its text, its verdict or its stop says
--- of the bytes that were read.
+-- An input that is read and checked, however it is read: what its text, its verdict or its stop
+-- says of the bytes that were read.
 use Rattle.std.specs.Prelude.{◌≡◌, ℕ, ◌≤◌, ◌↔◌, Bool, true, false, List, Option, Some, None}
 use Rattle.std.specs.Prelude.{Result, Ok, Err}
 use Rattle.std.specs.Io.KnownBytes.{Appends, Consumes, IsAtEnd}
 use Rattle.pota_base.specs.Outside.{Rose}
+use Rattle.pota_base.specs.Changes.{Behind, Change, behind_both}
 use Rattle.fault_kinds.specs.declared.refusal.Refusal.{Refusal}
 use Rattle.log_rules.specs.Judgement.{Prefix}
 use Rattle.log_rules.specs.Readings.{Reading}
@@ -28,17 +29,18 @@ pub record TellsDueBy (reading : Reading) (aim : Aim) (each ended : Bool) (bytes
   pub texts : AreReportsFor aim (reported each (due_by reading aim ended bytes)) text
 
 -- a stop behind these bytes, with this text written
-abbrev pub StopsBy : Reading → StopCause → ℕ → Option (List ℕ) → ℕ → ℕ → ℕ → ℕ → Aim → Bool
-    → List ℕ → List ℕ → Type 0
-StopsBy reading (causes.Refused r) n left lf lf' of of' aim each bytes text =
-    (ended : Bool) × (ended ≡ true → IsAtEnd left)
-    × TellsDueBy reading aim each ended bytes text (Some r) n
-StopsBy reading causes.Read n left lf lf' of of' aim each bytes text =
-    TellsDueBy reading aim each false bytes text None n × Rose lf lf'
-StopsBy reading causes.Write n left lf lf' of of' aim each bytes text =
-    (ended : Bool) × (ended ≡ true → IsAtEnd left)
-    × HasPartOf aim (reported each (due_by reading aim ended bytes)) text n × Rose of of'
-StopsBy reading causes.Memory n left lf lf' of of' aim each bytes text =
+abbrev pub StopsBy : Reading → StopCause → ℕ → Behind → Aim → Bool → List ℕ → List ℕ → Type 0
+StopsBy reading (causes.Refused r) n behind aim each bytes text =
+    (ended : Bool) × (ended ≡ true → IsAtEnd behind.rest) × TellsDueBy reading aim each ended bytes
+    text (Some r) n
+StopsBy reading causes.Read n behind aim each bytes text =
+    TellsDueBy reading aim each false bytes text None n × Rose behind.source.before
+    behind.source.after
+StopsBy reading causes.Write n behind aim each bytes text =
+    (ended : Bool) × (ended ≡ true → IsAtEnd behind.rest) × HasPartOf aim
+    (reported each (due_by reading aim ended bytes)) text n × Rose behind.sink.before
+    behind.sink.after
+StopsBy reading causes.Memory n behind aim each bytes text =
     HasFrontOf aim (reported each (due_by reading aim false bytes)) text n
 
 -- the verdict on a log without a fault, whose reports were written
@@ -49,20 +51,19 @@ pub record IsVerdictBy (reading : Reading) (aim : Aim) (each : Bool) (bytes text
   pub whole : (due_by reading aim true bytes).whole ≡ Some log
   pub truth : (v.truth ≡ true) ↔ IsTrueSoFar aim log
 
-abbrev pub ChecksBy : Reading → Option (List ℕ) → ℕ → ℕ → ℕ → ℕ → Aim → Bool → List ℕ → List ℕ
-    → Result Verdict Stop → Type 0
-ChecksBy reading left lf lf' of of' aim each read text (Ok v) =
-    IsAtEnd left × IsVerdictBy reading aim each read text v
-ChecksBy reading left lf lf' of of' aim each read text (Err stop) =
-    StopsBy reading stop.cause stop.batches left lf lf' of of' aim each read text
+abbrev pub ChecksBy : Reading → Behind → Aim → Bool → List ℕ → List ℕ → Result Verdict Stop → Type 0
+ChecksBy reading behind aim each read text (Ok v) =
+    IsAtEnd behind.rest × IsVerdictBy reading aim each read text v
+ChecksBy reading behind aim each read text (Err stop) =
+    StopsBy reading stop.cause stop.batches behind aim each read text
 
 -- the input was read and checked
-pub record HasCheckedBy (reading : Reading) (left left' held held' : Option (List ℕ))
-    (lf lf' of of' : ℕ) (aim : Aim) (each : Bool) (result : Result Verdict Stop) : Type 0 where
+pub record HasCheckedBy (reading : Reading) (source sink : Change) (aim : Aim) (each : Bool)
+    (result : Result Verdict Stop) : Type 0 where
   pub read : List ℕ
   pub written : List ℕ
-  pub consumed : Consumes left left' read
-  pub wrote : Appends held held' written
-  pub log_later : lf ≤ lf'
-  pub out_later : of ≤ of'
-  pub to : ChecksBy reading left' lf lf' of of' aim each read written result
+  pub consumed : Consumes source.before source.after read
+  pub wrote : Appends sink.before sink.after written
+  pub log_later : source.faults_before ≤ source.faults_after
+  pub out_later : sink.faults_before ≤ sink.faults_after
+  pub to : ChecksBy reading (behind_both source sink) aim each read written result

@@ -3,6 +3,7 @@ use Rattle.std.specs.Prelude.{◌≡◌, ℕ, ◌≤◌, ◌↔◌, true, false,
 use Rattle.std.specs.Prelude.{Result, Ok, Err}
 use Rattle.std.specs.Io.KnownBytes.{Appends}
 use Rattle.pota_base.specs.Outside.{Rose}
+use Rattle.pota_base.specs.Changes.{Change, Counts, faults_of}
 use Rattle.event_log.specs.declared.log.Log.{Log}
 use Rattle.event_log.specs.LogText.{log_items}
 use Rattle.fault_kinds.specs.declared.refusal.Refusal.{Refusal}
@@ -56,20 +57,21 @@ pub record IsWholePart (aim : Aim) (log : Log) (text : List ℕ) (batches : ℕ)
   pub is : whole_of (judgement_on aim log) ≡ Some whole
   pub part : HasPartOf aim (whole ∷ []) text batches
 
-abbrev pub WholeStops : StopCause → ℕ → ℕ → ℕ → Aim → Log → List ℕ → Type 0
-WholeStops (causes.Refused r) n of of' aim log text = IsWholeRefused aim log text r n
-WholeStops causes.Write n of of' aim log text = IsWholePart aim log text n × Rose of of'
-WholeStops causes.Memory n of of' aim log text = (text ≡ []) × (n ≡ 0)
-WholeStops causes.Read n of of' aim log text = ⊥
+abbrev pub WholeStops : StopCause → ℕ → Counts → Aim → Log → List ℕ → Type 0
+WholeStops (causes.Refused r) n faults aim log text = IsWholeRefused aim log text r n
+WholeStops causes.Write n faults aim log text =
+    IsWholePart aim log text n × Rose faults.before faults.after
+WholeStops causes.Memory n faults aim log text = (text ≡ []) × (n ≡ 0)
+WholeStops causes.Read n faults aim log text = ⊥
 
-abbrev pub WholeTo : ℕ → ℕ → Aim → Log → List ℕ → Result Verdict Stop → Type 0
-WholeTo of of' aim log text (Ok v) = IsWholeVerdict aim log text v
-WholeTo of of' aim log text (Err stop) = WholeStops stop.cause stop.batches of of' aim log text
+abbrev pub WholeTo : Counts → Aim → Log → List ℕ → Result Verdict Stop → Type 0
+WholeTo faults aim log text (Ok v) = IsWholeVerdict aim log text v
+WholeTo faults aim log text (Err stop) = WholeStops stop.cause stop.batches faults aim log text
 
 -- the log was checked, and its report written
-pub record HasWhole (held held' : Option (List ℕ)) (of of' : ℕ) (aim : Aim) (log : Log)
-    (result : Result Verdict Stop) : Type 0 where
-  pub written : List ℕ
-  pub wrote : Appends held held' written
-  pub later : of ≤ of'
-  pub to : WholeTo of of' aim log written result
+pub record HasWhole (sink : Change) (aim : Aim) (log : Log) (result : Result Verdict Stop) : Type 0
+  where
+    pub written : List ℕ
+    pub wrote : Appends sink.before sink.after written
+    pub later : sink.faults_before ≤ sink.faults_after
+    pub to : WholeTo (faults_of sink) aim log written result

@@ -1,6 +1,7 @@
 //! A log that is checked item by item, with the reports that its batches have.
 ghost use Rattle.std.specs.Prelude.{◌≡◌, ◌∷◌, ◌++◌, [], ℕ, List as ListOf};
 ghost use Rattle.std.specs.Prelude.{IfOk, OnOk};
+ghost use Rattle.pota_base.specs.Changes.{of_sink};
 ghost use Rattle.log_rules.specs.Judgement.{Prefix, Judgement, judge, judged};
 ghost use Rattle.report.specs.Spelling.{IsWellFormed};
 ghost use Rattle.reported_log.specs.Aims.{Aim, IsReportFor, rules_of, said_by};
@@ -11,11 +12,11 @@ ghost use Rattle.log_answers.specs.Checking.{Stands, SumsUp, TakesItems};
 
 use crate::stop::{Stop, StopCause, Verdict};
 use bench_summary::write_summary;
+use call_options::Sizes;
 use event_log::Item;
 use pota_base::{Gate, List, NoMemory, Refused, Sink, Steps, write_all};
 use report::{Report, write_report};
 use reported_log::{Means, ReportedLog};
-use run_options::Sizes;
 use std::alloc::Global;
 use std::sync::ledger::Ledger;
 use std::thread::Threads;
@@ -31,8 +32,7 @@ pub struct Checking<L: Ledger> {
 
 /// Writes a text of so many batches.
 pub fn put<O: Sink>(out: &mut O, text: &[u8], batches: u32) -> Result<(), Stop>
-    ensures { Puts (O.held out.old) (O.held out.new) (O.faults out.old) (O.faults out.new) text.now
-        batches result }
+    ensures { Puts (of_sink O.Sink out.old out.new) text.now batches result }
 {
     match write_all(out, text) {
         Ok(()) => Ok(()),
@@ -81,10 +81,9 @@ impl<L: Ledger> Checking<L> {
     ) -> Result<Verdict, Stop>
         requires { (aim : Aim) × (j : Judgement) × (log : Prefix)
             × IsCheckOf (said_by answers) aim self.old.check j × HasClosed j log }
-        ensures reports { (aim : Aim) (j : Judgement) (log : Prefix)
-            → IsCheckOf (said_by answers) aim self.old.check j → HasClosed j log
-            → (before : ListOf Prefix) (text : ListOf ℕ) → AreReportsFor aim before text
-            → Reports (O.held out.old) (O.held out.new) (O.faults out.old) (O.faults out.new) aim
+        ensures reports { (aim : Aim) (j : Judgement) (log : Prefix) → IsCheckOf (said_by answers)
+            aim self.old.check j → HasClosed j log → (before : ListOf Prefix) (text : ListOf ℕ)
+            → AreReportsFor aim before text → Reports (of_sink O.Sink out.old out.new) aim
             self.old.check.log.intake.batches before log text result }
         ensures goes_on { OnOk result ((aim : Aim) (j : Judgement)
             → IsCheckOf (said_by answers) aim self.old.check j
@@ -130,12 +129,10 @@ impl<L: Ledger> Checking<L> {
         requires { (aim : Aim) × (j : Judgement) × (text : ListOf ℕ)
             × Stands (said_by answers) aim self.old.each_batch self.old.check j text
             × MayFollow j (item ∷ []) }
-        ensures items { (aim : Aim) (j : Judgement) (text : ListOf ℕ)
-            → Stands (said_by answers) aim self.old.each_batch self.old.check j text
-            → MayFollow j (item ∷ [])
-            → TakesItems (O.held out.old) (O.held out.new) (O.faults out.old) (O.faults out.new)
-            (said_by answers) aim self.old.each_batch self.new.check (judge (rules_of aim) j item)
-            text result }
+        ensures items { (aim : Aim) (j : Judgement) (text : ListOf ℕ) → Stands (said_by answers) aim
+            self.old.each_batch self.old.check j text → MayFollow j (item ∷ []) → TakesItems
+            (of_sink O.Sink out.old out.new) (said_by answers) aim self.old.each_batch
+            self.new.check (judge (rules_of aim) j item) text result }
         ensures each { self.new.each_batch ≡ self.old.each_batch }
     {
         let closed = match self.judge(means.alloc, item) {
@@ -165,12 +162,10 @@ impl<L: Ledger> Checking<L> {
         requires { (aim : Aim) × (j : Judgement) × (text : ListOf ℕ)
             × Stands (said_by answers) aim self.old.each_batch self.old.check j text
             × MayFollow j items }
-        ensures items { (aim : Aim) (j : Judgement) (text : ListOf ℕ)
-            → Stands (said_by answers) aim self.old.each_batch self.old.check j text
-            → MayFollow j items
-            → TakesItems (O.held out.old) (O.held out.new) (O.faults out.old) (O.faults out.new)
-            (said_by answers) aim self.old.each_batch self.new.check (judged (rules_of aim) j items)
-            text result }
+        ensures items { (aim : Aim) (j : Judgement) (text : ListOf ℕ) → Stands (said_by answers) aim
+            self.old.each_batch self.old.check j text → MayFollow j items → TakesItems
+            (of_sink O.Sink out.old out.new) (said_by answers) aim self.old.each_batch
+            self.new.check (judged (rules_of aim) j items) text result }
         ensures each { self.new.each_batch ≡ self.old.each_batch }
     {
         let mut rest = items.into_vec().into_iter();
@@ -191,10 +186,10 @@ impl<L: Ledger> Checking<L> {
     ) -> Result<Verdict, Stop>
         requires { (aim : Aim) × (j : Judgement) × (log : Prefix)
             × IsCheckOf (said_by answers) aim self.old.check j × HasClosed j log }
-        ensures { (aim : Aim) (j : Judgement) (log : Prefix)
-            → IsCheckOf (said_by answers) aim self.old.check j → HasClosed j log → IsBenchAim aim
-            → SumsUp (O.held out.old) (O.held out.new) (O.faults out.old) (O.faults out.new) aim
-            self.old.check.log.intake.batches log sizes result }
+        ensures { (aim : Aim) (j : Judgement) (log : Prefix) → IsCheckOf (said_by answers) aim
+            self.old.check j → HasClosed j log → IsBenchAim aim → SumsUp
+            (of_sink O.Sink out.old out.new) aim self.old.check.log.intake.batches log sizes
+            result }
     {
         let batches = self.check.log.intake.batches;
         let Ok(report) = self.ask(means) else {

@@ -1,5 +1,6 @@
 //! A log that stands whole.
 ghost use Rattle.std.specs.Prelude.{◌≡◌, length};
+ghost use Rattle.pota_base.specs.Changes.{of_sink};
 ghost use Rattle.event_log.specs.FittingItems.{FitFirst};
 ghost use Rattle.event_log.specs.LogText.{log_items};
 ghost use Rattle.log_rules.specs.Judgement.{waiting};
@@ -43,9 +44,8 @@ impl<L: Ledger> Checking<L> {
         requires batch { length log.batches ≡ 1 }
         requires fits { FitFirst (log_items log) }
         requires check { (aim : Aim) × IsCheckOf (said_by answers) aim self.old.check waiting }
-        ensures { (aim : Aim) → IsCheckOf (said_by answers) aim self.old.check waiting
-            → HasWhole (O.held out.old) (O.held out.new) (O.faults out.old) (O.faults out.new) aim
-            log result }
+        ensures { (aim : Aim) → IsCheckOf (said_by answers) aim self.old.check waiting → HasWhole
+            (of_sink O.Sink out.old out.new) aim log result }
     {
         if let Err(stop) = self.take_whole(means.alloc, log) {
             return Err(stop);

@@ -161,10 +161,9 @@ impl LogCheck {
             → MayFollow (growing log []) (batch_items (batch ∷ []))
             → IsCheckOf (said_by answers) aim self.new
             (judged (rules_of aim) (growing log []) (batch_items (batch ∷ [])))) }
-        ensures fault { IfFault result (λ why. (aim : Aim) (log : Prefix)
-            → IsCheckOf (said_by answers) aim self.old (growing log [])
-            → MayFollow (growing log []) (batch_items (batch ∷ []))
-            → IsRefusedAs (growing log [])
+        ensures fault { IfFault result (λ why. (aim : Aim) (log : Prefix) → IsCheckOf
+            (said_by answers) aim self.old (growing log []) → MayFollow (growing log [])
+            (batch_items (batch ∷ [])) → IsRefusedAs (growing log [])
             (judged (rules_of aim) (growing log []) (batch_items (batch ∷ [])))
             self.new.intake.batches why) }
     {

@@ -1,14 +1,12 @@
 //! Whether events and whole logs may be checked.
 ghost use Rattle.std.specs.Prelude.{◌≤◌, IsTrue};
 ghost use Rattle.std.specs.List.{AllByRecursion};
+ghost use Rattle.pota_base.specs.Limits.{most_events};
 ghost use Rattle.event_log.specs.LogText.{KindWithin, event_count};
 ghost use Rattle.vector_clock.specs.Events.{EventStands, AllStand, CanBeChecked};
 
 use event_log::{Event, Kind, Log};
-use pota_base::List;
-
-/// The most events of a log.
-const MOST_EVENTS: usize = 50_000;
+use pota_base::{List, MOST_EVENTS};
 
 // Whether the peer of a message is there.
 fn is_within(procs: usize, kind: Kind) -> bool
@@ -59,7 +57,7 @@ fn batches_stand(procs: usize, batches: &[List<Event>]) -> bool
 
 // Whether there are no more events than a log may have.
 fn are_few(batches: &[List<Event>]) -> bool
-    ensures { IsTrue result → event_count batches.now ≤ 50000 }
+    ensures { IsTrue result → event_count batches.now ≤ most_events }
 {
     let mut left = MOST_EVENTS;
     for batch in batches {

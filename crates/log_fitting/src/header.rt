@@ -1,17 +1,12 @@
 //! Whether a header and events may be handed to the calls on states.
 ghost use Rattle.std.specs.Prelude.{IsTrue, ℕ, ◌≤◌, [], length, get_or};
 ghost use Rattle.std.specs.List.{AllByRecursion};
+ghost use Rattle.pota_base.specs.Limits.{most_variables};
 ghost use Rattle.event_log.specs.States.{IsHeader, IsKnown, AreNamedApart, AssignsWithin};
 
 use event_log::{Binding, Event, Header};
 use log_lines::are_distinct;
-use pota_base::List;
-
-/// The most processes of a log.
-const MOST_PROCESSES: usize = 32;
-
-/// The most variables of a process.
-const MOST_VARIABLES: usize = 16;
+use pota_base::{List, MOST_PROCESSES, MOST_VARIABLES};
 
 // Whether no two variables of a process have one name.
 fn all_apart(vars: &[List<Binding>]) -> bool
@@ -39,7 +34,7 @@ pub fn is_header(header: &Header) -> bool
 
 /// Whether no process has more variables than one may have.
 pub fn has_few_variables(header: &Header) -> bool
-    ensures { IsTrue result → (p : ℕ) → length (get_or header.now.vars p []) ≤ 16 }
+    ensures { IsTrue result → (p : ℕ) → length (get_or header.now.vars p []) ≤ most_variables }
 {
     for bindings in header.vars.as_slice() {
         if bindings.len() > MOST_VARIABLES {

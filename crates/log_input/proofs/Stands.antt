@@ -15,15 +15,16 @@ use Rattle.event_log.specs.declared.item.Item.TheVariants as item
 use Rattle.event_log.specs.declared.log.Event.{Event}
 use Rattle.event_log.specs.declared.log.Header.{Header}
 use Rattle.std.specs.List.{AllByRecursion}
+use Rattle.pota_base.specs.Limits.{longest_kept, longest_log, most_events}
 use Rattle.fault_kinds.specs.declared.import.ImportFault.{ImportFault}
 use Rattle.fault_kinds.specs.declared.merge.MergeFault.{MergeFault}
 use Rattle.fault_kinds.specs.declared.refusal.Refusal.{Refusal}
 use Rattle.fault_kinds.specs.declared.refusal.Refusal.TheVariants as refusal
-use Rattle.input_reading.specs.Changes.{Change}
+use Rattle.pota_base.specs.Changes.{Change, left_by}
 use Rattle.input_reading.specs.declared.kept.Kept.{Kept}
 use Rattle.input_reading.specs.declared.reading.End.{End}
 use Rattle.input_reading.specs.declared.reading.End.TheVariants as end
-use Rattle.input_reading.specs.Intakes.{Ends, HasReadAll, HasReadSome}
+use Rattle.input_reading.specs.Intakes.{Ends, ReadsAll, ReadsShort}
 use Rattle.log_merge.specs.Merging.{merged_header, merged_events, numbered, merged_log}
 use Rattle.log_merge.proofs.Fits.{merged_logs_fit}
 use Rattle.log_sources.specs.declared.gathering.Gathered.{Gathered}
@@ -65,18 +66,18 @@ err_so (Err none) A a = a
 
 -- the bytes that came, of which more may matter or not
 abbrev pub Open : Kept → List ℕ → Type 0
-Open k bytes = (k.bytes ≡ bytes) × (length bytes < 67108865)
+Open k bytes = (k.bytes ≡ bytes) × (length bytes < longest_kept)
 
 abbrev pub Done : Kept → List ℕ → Type 0
-Done k bytes = (k.bytes ≡ take 67108865 bytes) × (67108865 ≤ length bytes)
+Done k bytes = (k.bytes ≡ take longest_kept bytes) × (longest_kept ≤ length bytes)
 
-pub read_short : (s : Change) (kept : Kept) (e : End) → HasReadAll s (Open kept) (Done kept) [] e → HasReadSome s
+pub read_short : (s : Change) (kept : Kept) (e : End) → ReadsAll s (Open kept) (Done kept) [] e → ReadsShort s
 read_short s kept e all = record { read = all.read; consumed = all.consumed; later = all.later }
 
-kept_front : (s : Change) (kept : Kept) (bytes : List ℕ) (e : End) → Ends s.after s.faults_before s.faults_after (Open kept) (Done kept) bytes e → kept.bytes ≡ take 67108865 bytes
-kept_front s kept bytes end.Ended ends = ends.1.0 ∙ sym (take_all 67108865 bytes (omega (arith, ends.1.1)))
+kept_front : (s : Change) (kept : Kept) (bytes : List ℕ) (e : End) → Ends (left_by s) (Open kept) (Done kept) bytes e → kept.bytes ≡ take longest_kept bytes
+kept_front s kept bytes end.Ended ends = ends.1.0 ∙ sym (take_all longest_kept bytes (omega (arith, ends.1.1)))
 kept_front s kept bytes end.Done ends = ends.0
-kept_front s kept bytes end.Failed ends = ends.1.0 ∙ sym (take_all 67108865 bytes (omega (arith, ends.1.1)))
+kept_front s kept bytes end.Failed ends = ends.1.0 ∙ sym (take_all longest_kept bytes (omega (arith, ends.1.1)))
 
 -- ---- what was judged, told with the line of its fault
 
@@ -101,17 +102,17 @@ told_stood form s read text consumed same j to r came = ok_so r (λ i. i ≡ tol
 
 -- ---- one log
 
-front_long : (bytes : List ℕ) → 67108865 ≤ length bytes → 67108865 ≤ length (take 67108865 bytes)
-front_long bytes long = let same = length-take-le 67108865 bytes long in omega (arith, same)
+front_long : (bytes : List ℕ) → longest_kept ≤ length bytes → longest_kept ≤ length (take longest_kept bytes)
+front_long bytes long = let same = length-take-le longest_kept bytes long in omega (arith, same)
 
-text_stands : (e : End) (s : Change) (kept : Kept) (bytes text : List ℕ) → text ≡ kept.bytes → Ends s.after s.faults_before s.faults_after (Open kept) (Done kept) bytes e
+text_stands : (e : End) (s : Change) (kept : Kept) (bytes text : List ℕ) → text ≡ kept.bytes → Ends (left_by s) (Open kept) (Done kept) bytes e
     → ((e ≡ end.Failed → ⊥) → s.faults_after ≡ s.faults_before) → (j : Judged) → IsTextJudged text e j → StandsJudged form.OneLog s bytes j
 text_stands end.Ended s kept bytes text is ends calm (Whole l q) j = (ends.0, calm j.0, subst (λ (bs : List ℕ). IsFilled form.OneLog bs l) (is ∙ ends.1.0) j.1, j.2)
 text_stands end.Ended s kept bytes text is ends calm (Faulty r) j =
     (j.0, λ _. ends.0, subst (λ (bs : List ℕ). (log_due form.OneLog j.0 bs).fault ≡ Some r) (is ∙ ends.1.0) j.2)
 text_stands end.Ended s kept bytes text is ends calm Failed j = absurd (let no = j.0 in cc)
 text_stands end.Done s kept bytes text is ends calm (Whole l q) j =
-    absurd (not_whole (take 67108865 bytes) l (front_long bytes ends.1) (subst (λ (bs : List ℕ). IsFilled form.OneLog bs l) (is ∙ ends.0) j.1))
+    absurd (not_whole (take longest_kept bytes) l (front_long bytes ends.1) (subst (λ (bs : List ℕ). IsFilled form.OneLog bs l) (is ∙ ends.0) j.1))
 text_stands end.Done s kept bytes text is ends calm (Faulty r) j =
     (false, λ e. absurd cc, of_front bytes j.0 r ends.1 (subst (λ (bs : List ℕ). (log_due form.OneLog j.0 bs).fault ≡ Some r) (is ∙ ends.0) j.2))
 text_stands end.Done s kept bytes text is ends calm Failed j = absurd (let no = j.0 in cc)
@@ -121,7 +122,7 @@ text_stands end.Failed s kept bytes text is ends calm (Faulty r) j =
 text_stands end.Failed s kept bytes text is ends calm Failed j =
     (subst (λ (bs : List ℕ). (log_due form.OneLog false bs).fault ≡ None) (is ∙ ends.1.0) j.1, ends.0)
 
-pub log_stood : (s : Change) (kept : Kept) (e : End) → HasReadAll s (Open kept) (Done kept) [] e → ((e ≡ end.Failed → ⊥) → s.faults_after ≡ s.faults_before)
+pub log_stood : (s : Change) (kept : Kept) (e : End) → ReadsAll s (Open kept) (Done kept) [] e → ((e ≡ end.Failed → ⊥) → s.faults_after ≡ s.faults_before)
     → (text : List ℕ) → text ≡ kept.bytes → (j : Judged) → IsTextJudged text e j → (r : Result Input NoMemory) → IfOk r (λ i. i ≡ told j text) → IfOk r (HasStood form.OneLog s)
 log_stood s kept e all calm text is j judged r came =
     told_stood form.OneLog s all.read text all.consumed (λ r. ap (shown_line r) (is ∙ kept_front s kept all.read e all.to)) j (text_stands e s kept all.read text is all.to calm j judged) r came
@@ -145,32 +146,32 @@ no_refusal text none = ap (option_map (λ f. refusal.Import f)) none
 pub import_refused : (text : List ℕ) (f : ImportFault) → fault_of text ≡ Some f → StandsAt form.Clocks text (Faulty (refusal.Import f))
 import_refused text f some = text_due clocks_fault imported clocks_place text (refusal.Import f) true (ap (option_map (λ x. refusal.Import x)) some)
 
-no_fault : (bytes : List ℕ) → length bytes < 67108865 → clocks_fault false bytes ≡ None
-no_fault bytes few = ap (λ (b : Bool). if b then import_refusal bytes else None) (le-ltb 67108864 (length bytes) (omega (arith, few)))
+no_fault : (bytes : List ℕ) → length bytes < longest_kept → clocks_fault false bytes ≡ None
+no_fault bytes few = ap (λ (b : Bool). if b then import_refusal bytes else None) (le-ltb longest_log (length bytes) (omega (arith, few)))
 
 some_refusal : (fault : Option ImportFault) → is_some fault ≡ true → option_map (λ f. refusal.Import f) fault ≡ None → ⊥
 some_refusal None some none = absurd cc
 some_refusal (Some f) some none = absurd cc
 
 -- a text that is too long has the fault of its front
-module _ (bytes : List ℕ) (long : 67108865 ≤ length bytes) where
-  faulty_front : clocks_fault true (take 67108865 bytes) ≡ None → ⊥
-  faulty_front none = some_refusal (fault_of (take 67108865 bytes)) (long_texts_are_faulty (take 67108865 bytes) [] (front_long bytes long)).0 none
+module _ (bytes : List ℕ) (long : longest_kept ≤ length bytes) where
+  faulty_front : clocks_fault true (take longest_kept bytes) ≡ None → ⊥
+  faulty_front none = some_refusal (fault_of (take longest_kept bytes)) (long_texts_are_faulty (take longest_kept bytes) [] (front_long bytes long)).0 none
 
-  same_fault : clocks_fault false bytes ≡ clocks_fault true (take 67108865 bytes)
+  same_fault : clocks_fault false bytes ≡ clocks_fault true (take longest_kept bytes)
   same_fault =
-      ap (λ (b : Bool). if b then import_refusal bytes else None) (lt-ltb 67108864 (length bytes) (omega (arith, long)))
-      ∙ ap import_refusal (sym (take-append-drop 67108865 bytes))
-      ∙ ap (option_map (λ f. refusal.Import f)) (long_texts_are_faulty (take 67108865 bytes) (drop 67108865 bytes) (front_long bytes long)).1
+      ap (λ (b : Bool). if b then import_refusal bytes else None) (lt-ltb longest_log (length bytes) (omega (arith, long)))
+      ∙ ap import_refusal (sym (take-append-drop longest_kept bytes))
+      ∙ ap (option_map (λ f. refusal.Import f)) (long_texts_are_faulty (take longest_kept bytes) (drop longest_kept bytes) (front_long bytes long)).1
 
-  front_due : (o : Option Refusal) → clocks_fault true (take 67108865 bytes) ≡ o → (j : Judged) → StandsAt form.Clocks (take 67108865 bytes) j → (s : Change) → StandsJudged form.Clocks s bytes j
+  front_due : (o : Option Refusal) → clocks_fault true (take longest_kept bytes) ≡ o → (j : Judged) → StandsAt form.Clocks (take longest_kept bytes) j → (s : Change) → StandsJudged form.Clocks s bytes j
   front_due None none j at s = absurd (faulty_front none)
-  front_due (Some f) some (Whole l q) at s = absurd (none-some f (sym at.0.has.free ∙ text_due clocks_fault imported clocks_place (take 67108865 bytes) f true some))
+  front_due (Some f) some (Whole l q) at s = absurd (none-some f (sym at.0.has.free ∙ text_due clocks_fault imported clocks_place (take longest_kept bytes) f true some))
   front_due (Some f) some (Faulty r) at s = (
     false,
     λ e. absurd cc,
     text_due clocks_fault imported clocks_place bytes f false (same_fault ∙ some)
-        ∙ sym (text_due clocks_fault imported clocks_place (take 67108865 bytes) f true some) ∙ at,
+        ∙ sym (text_due clocks_fault imported clocks_place (take longest_kept bytes) f true some) ∙ at,
   )
   front_due (Some f) some Failed at s = absurd at
 
@@ -179,16 +180,16 @@ ended_so s bytes (Whole log q) at calm is = (at, calm, is.0, is.1)
 ended_so s bytes (Faulty r) at calm is = (true, λ _. at, is)
 ended_so s bytes Failed at calm is = absurd is
 
-records_stand : (e : End) (s : Change) (kept : Kept) (bytes text : List ℕ) → text ≡ kept.bytes → Ends s.after s.faults_before s.faults_after (Open kept) (Done kept) bytes e
+records_stand : (e : End) (s : Change) (kept : Kept) (bytes text : List ℕ) → text ≡ kept.bytes → Ends (left_by s) (Open kept) (Done kept) bytes e
     → ((e ≡ end.Failed → ⊥) → s.faults_after ≡ s.faults_before) → (j : Judged) → AreRecordsJudged text e j → StandsJudged form.Clocks s bytes j
 records_stand end.Ended s kept bytes text is ends calm j judged =
     ended_so s bytes j ends.0 (calm (λ other. cc)) (subst (λ (bs : List ℕ). StandsAt form.Clocks bs j) (is ∙ ends.1.0) judged)
 records_stand end.Done s kept bytes text is ends calm j judged =
-    front_due bytes ends.1 (clocks_fault true (take 67108865 bytes)) refl j (subst (λ (bs : List ℕ). StandsAt form.Clocks bs j) (is ∙ ends.0) judged) s
+    front_due bytes ends.1 (clocks_fault true (take longest_kept bytes)) refl j (subst (λ (bs : List ℕ). StandsAt form.Clocks bs j) (is ∙ ends.0) judged) s
 records_stand end.Failed s kept bytes text is ends calm j judged =
     subst (StandsJudged form.Clocks s bytes) (sym judged) (none_due clocks_fault imported clocks_place bytes (no_fault bytes ends.1.1), ends.0)
 
-pub records_stood : (s : Change) (kept : Kept) (e : End) → HasReadAll s (Open kept) (Done kept) [] e → ((e ≡ end.Failed → ⊥) → s.faults_after ≡ s.faults_before)
+pub records_stood : (s : Change) (kept : Kept) (e : End) → ReadsAll s (Open kept) (Done kept) [] e → ((e ≡ end.Failed → ⊥) → s.faults_after ≡ s.faults_before)
     → (text : List ℕ) → text ≡ kept.bytes → (j : Judged) → AreRecordsJudged text e j → (r : Result Input NoMemory) → IfOk r (λ i. i ≡ told j text) → IfOk r (HasStood form.Clocks s)
 records_stood s kept e all calm text is j judged r came =
     told_stood form.Clocks s all.read text all.consumed (λ r. ap (shown_line r) (is ∙ kept_front s kept all.read e all.to)) j (records_stand e s kept all.read text is all.to calm j judged) r came
@@ -204,14 +205,14 @@ merged_some false bytes f some = ap (option_map (λ x. refusal.Merge x)) some
 merged_some true bytes f some = ap (option_map (λ x. refusal.Merge x)) some
 
 -- the merged log fits: items of one batch
-fit_from : (h : Header) (n : ℕ) (es : List Event) → AllByRecursion (EventFits h) es → n + length es ≤ 50000 → FitFrom h n (event_items es ++ item.End ∷ [])
+fit_from : (h : Header) (n : ℕ) (es : List Event) → AllByRecursion (EventFits h) es → n + length es ≤ most_events → FitFrom h n (event_items es ++ item.End ∷ [])
 fit_from h n [] each few = tt
 fit_from h n (x ∷ es) each few = (each.0, omega (arith, few), fit_from h (n + 1) es each.1 (omega (arith, few)))
 
 pub merge_fits : (logs : List Log) → CanMerge logs → FitFirst (log_items (merged_log logs))
 merge_fits logs can =
     let fit = merged_logs_fit logs can.some can.each can.faultless in
-    let few : 0 + length (numbered 1 (merged_events logs)) ≤ 50000 = omega (arith, fit.checked.events) in
+    let few : 0 + length (numbered 1 (merged_events logs)) ≤ most_events = omega (arith, fit.checked.events) in
     (fit.header, fit_from (merged_header logs) 0 (numbered 1 (merged_events logs)) fit.events few)
 
 merge_stands : (bytes : List ℕ) → merged_fault true bytes ≡ None → (input : Judged) → IsMergedOf (logs_of (after no_sources bytes)) input → StandsAt form.Merged bytes input
@@ -227,7 +228,7 @@ merged_at_end s bytes (Faulty r) at calm is = (true, λ _. at, is)
 merged_at_end s bytes Failed at calm is = absurd is
 
 module _ (s : Change) (g : Gathered) (read_so : HasGathered s g) where
-  pub gathered_short : HasReadSome s
+  pub gathered_short : ReadsShort s
   gathered_short = record { read = read_so.read; consumed = read_so.consumed; later = read_so.later }
 
   pub may_merge : (logs slice : List Log) → slice ≡ logs → g ≡ gathered.Logs logs → CanMerge slice

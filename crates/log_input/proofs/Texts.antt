@@ -4,6 +4,7 @@ use Rattle.std.specs.Option.{option_map}
 use Rattle.std.proofs.lemmas.Bool.{false≢true}
 use Rattle.std.proofs.lemmas.List.{take-append-drop, length-take-le}
 use Rattle.std.proofs.lemmas.Option.{none-some, same_Some}
+use Rattle.pota_base.specs.Limits.{longest_kept, longest_log}
 use Rattle.event_log.specs.declared.item.Fed.{Fed}
 use Rattle.event_log.specs.declared.item.Item.{Item}
 use Rattle.event_log.specs.declared.item.LogFault.{LogFault}
@@ -144,30 +145,30 @@ text_stops text e f is = (false, λ t. absurd (false≢true t), is)
 abbrev so_due : Bool → List ℕ → Due
 so_due ended bytes = log_due form.OneLog ended bytes
 
-long_fault : (bytes : List ℕ) → 67108865 ≤ length bytes → (f : Refusal) × ((so_due false bytes).fault ≡ Some f)
+long_fault : (bytes : List ℕ) → longest_kept ≤ length bytes → (f : Refusal) × ((so_due false bytes).fault ≡ Some f)
 long_fault bytes long = go (so_due false bytes).fault refl
   where
     go : (o : Option Refusal) → (so_due false bytes).fault ≡ o → (f : Refusal) × ((so_due false bytes).fault ≡ Some f)
-    go None is = absurd (omega (arith, due_bounded 67108864 log_reading log_is_read without_formula bytes is, long))
+    go None is = absurd (omega (arith, due_bounded longest_log log_reading log_is_read without_formula bytes is, long))
     go (Some f) is = (f, is)
 
 -- a fault stays, whatever follows
 stays : (ended : Bool) (bytes more : List ℕ) (f : Refusal) → (so_due false bytes).fault ≡ Some f → (so_due ended (bytes ++ more)).fault ≡ Some f
-stays ended bytes more f is = ap (λ (d : Due). d.fault) (due_stays 67108864 log_reading log_is_read without_formula ended bytes more f is) ∙ is
+stays ended bytes more f is = ap (λ (d : Due). d.fault) (due_stays longest_log log_reading log_is_read without_formula ended bytes more f is) ∙ is
 
 stays_here : (ended : Bool) (bytes : List ℕ) (f : Refusal) → (so_due false bytes).fault ≡ Some f → (so_due ended bytes).fault ≡ Some f
 stays_here ended bytes f is = subst (λ (bs : List ℕ). (so_due ended bs).fault ≡ Some f) (append-nil bytes) (stays ended bytes [] f is)
 
-pub not_whole : (bytes : List ℕ) (log : Log) → 67108865 ≤ length bytes → IsFilled form.OneLog bytes log → ⊥
+pub not_whole : (bytes : List ℕ) (log : Log) → longest_kept ≤ length bytes → IsFilled form.OneLog bytes log → ⊥
 not_whole bytes log long filled =
     let f = long_fault bytes long in
     none-some f.0 (sym filled.has.free ∙ stays_here true bytes f.0 f.1)
 
 -- it has the fault of its front
-pub of_front : (bytes : List ℕ) (ended : Bool) (r : Refusal) → 67108865 ≤ length bytes → (so_due ended (take 67108865 bytes)).fault ≡ Some r → (so_due false bytes).fault ≡ Some r
+pub of_front : (bytes : List ℕ) (ended : Bool) (r : Refusal) → longest_kept ≤ length bytes → (so_due ended (take longest_kept bytes)).fault ≡ Some r → (so_due false bytes).fault ≡ Some r
 of_front bytes ended r long is =
-    let front_long : 67108865 ≤ length (take 67108865 bytes) = let same = length-take-le 67108865 bytes long in omega (arith, same) in
-    let f = long_fault (take 67108865 bytes) front_long in
-    let same : f.0 ≡ r = same_Some f.0 r (sym (stays_here ended (take 67108865 bytes) f.0 f.1) ∙ is) in
-    ap (λ (bs : List ℕ). (so_due false bs).fault) (sym (take-append-drop 67108865 bytes))
-    ∙ stays false (take 67108865 bytes) (drop 67108865 bytes) f.0 f.1 ∙ ap (λ (x : Refusal). Some x) same
+    let front_long : longest_kept ≤ length (take longest_kept bytes) = let same = length-take-le longest_kept bytes long in omega (arith, same) in
+    let f = long_fault (take longest_kept bytes) front_long in
+    let same : f.0 ≡ r = same_Some f.0 r (sym (stays_here ended (take longest_kept bytes) f.0 f.1) ∙ is) in
+    ap (λ (bs : List ℕ). (so_due false bs).fault) (sym (take-append-drop longest_kept bytes))
+    ∙ stays false (take longest_kept bytes) (drop longest_kept bytes) f.0 f.1 ∙ ap (λ (x : Refusal). Some x) same

@@ -6,7 +6,7 @@ use Rattle.pota_base.specs.Outside.{Rose}
 use Rattle.event_log.specs.declared.item.LogFault.{LogFault}
 use Rattle.event_log.specs.declared.log.Log.{Log}
 use Rattle.event_log.specs.LogText.{event_count}
-use Rattle.input_reading.specs.Changes.{Change}
+use Rattle.pota_base.specs.Changes.{Change}
 use Rattle.log_rules.specs.WholeLogs.{all_of}
 use Rattle.log_writing.specs.Spelling.{HasText}
 use Rattle.vector_clock.specs.Events.{AllFit}

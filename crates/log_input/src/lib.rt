@@ -1,5 +1,5 @@
-//! The log of an input in one of its forms: the text of one log, several logs one behind another, or
-//! records of two lines.
+//! The log of an input in one of its forms: the text of one log, several logs one behind another,
+//! or records of two lines.
 //!
 //! `read_input`, for every source and form: what was read, and what it is (`reads`). Where it is a
 //! whole log the input was read to its end, no read failed, no fault is due of its bytes by

@@ -6,10 +6,11 @@ ghost use Rattle.filled_log.specs.Filling.{Keeps};
 ghost use Rattle.log_rules.specs.Judgement.{waiting};
 ghost use Rattle.event_log.specs.FittingItems.{FitFirst};
 ghost use Rattle.event_log.specs.LogText.{log_items};
-ghost use Rattle.input_reading.specs.Changes.{of_source};
-ghost use Rattle.input_reading.specs.Intakes.{HasReadSome};
+ghost use Rattle.pota_base.specs.Changes.{of_source};
+ghost use Rattle.input_reading.specs.Intakes.{ReadsShort};
 ghost use Rattle.log_sources.specs.Reading.{CanMerge};
-ghost use Rattle.log_input.specs.declared.form.Form.TheVariants.{OneLog, Merged as MergedForm, Clocks};
+ghost use Rattle.log_input.specs.declared.form.Form.TheVariants.{OneLog, Merged as MergedForm};
+ghost use Rattle.log_input.specs.declared.form.Form.TheVariants.{Clocks};
 ghost use Rattle.log_input.specs.Inputs.{HasStood};
 ghost use Rattle.log_input.specs.inside.Judging.{IsJudged, IsMergedOf, IsTextJudged};
 ghost use Rattle.log_input.specs.inside.Judging.{AreRecordsJudged, HasTaken, HasTextFault};
@@ -32,8 +33,8 @@ use vclog_import::import;
 /// What an input is once it was read.
 #[derive(Debug, Drop)]
 pub enum Input {
-    /// Bytes of which no fault is due, which are this log, all its clocks filled in, and how a fault
-    /// at a line of it is told.
+    /// Bytes of which no fault is due, which are this log, all its clocks filled in, and how a
+    /// fault at a line of it is told.
     Whole(Log, Places),
     /// Bytes of which this fault is due, and what is shown of the line that it is at: its first
     /// bytes, at most `LONGEST_SHOWN_LINE`. The bytes of several logs aren't kept, so that of those
@@ -137,7 +138,7 @@ fn with_line(alloc: Global, judged: Judged, bytes: &[u8]) -> Result<Input, NoMem
 // Reads the text of one log.
 fn read_log<S: Source>(alloc: Global, source: &mut S) -> Result<Input, NoMemory>
     ensures reads { IfOk result (HasStood OneLog (of_source S.Source source.old source.new)) }
-    ensures short { OnErr result (HasReadSome (of_source S.Source source.old source.new)) }
+    ensures short { OnErr result (ReadsShort (of_source S.Source source.old source.new)) }
 {
     let mut kept = Kept::new(alloc);
     let end = read_all(alloc, source, &mut kept)?;
@@ -171,7 +172,7 @@ fn judge_records(alloc: Global, text: &[u8], end: End) -> Result<Judged, NoMemor
 // Reads records of two lines.
 fn read_records<S: Source>(alloc: Global, source: &mut S) -> Result<Input, NoMemory>
     ensures reads { IfOk result (HasStood Clocks (of_source S.Source source.old source.new)) }
-    ensures short { OnErr result (HasReadSome (of_source S.Source source.old source.new)) }
+    ensures short { OnErr result (ReadsShort (of_source S.Source source.old source.new)) }
 {
     let mut kept = Kept::new(alloc);
     let end = read_all(alloc, source, &mut kept)?;
@@ -198,7 +199,7 @@ fn merge_all(alloc: Global, logs: &[Log]) -> Result<Judged, NoMemory>
 // Reads several logs one behind another.
 fn read_sources<S: Source>(alloc: Global, source: &mut S) -> Result<Input, NoMemory>
     ensures reads { IfOk result (HasStood MergedForm (of_source S.Source source.old source.new)) }
-    ensures short { OnErr result (HasReadSome (of_source S.Source source.old source.new)) }
+    ensures short { OnErr result (ReadsShort (of_source S.Source source.old source.new)) }
 {
     match gather(alloc, source)? {
         Gathered::Logs(logs) => {
@@ -213,7 +214,7 @@ fn read_sources<S: Source>(alloc: Global, source: &mut S) -> Result<Input, NoMem
 /// Reads an input in this form to its end, or until its log is refused.
 pub fn read_input<S: Source>(alloc: Global, form: Form, source: &mut S) -> Result<Input, NoMemory>
     ensures reads { IfOk result (HasStood form (of_source S.Source source.old source.new)) }
-    ensures short { OnErr result (HasReadSome (of_source S.Source source.old source.new)) }
+    ensures short { OnErr result (ReadsShort (of_source S.Source source.old source.new)) }
 {
     match form {
         Form::OneLog => read_log(alloc, source),

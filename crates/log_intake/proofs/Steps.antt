@@ -5,6 +5,7 @@ use Rattle.std.specs.List.{AllByRecursion}
 use Rattle.std.proofs.lemmas.Bool.{false≢true}
 use Rattle.std.proofs.lemmas.List.{length_push, length-set, length-replicate}
 use Rattle.std.proofs.lemmas.Option.{none-some, same_Some}
+use Rattle.pota_base.specs.Limits.{most_events}
 use Rattle.log_lines.specs.Reading.{choose}
 use Rattle.event_log.specs.declared.item.Item.TheVariants as item
 use Rattle.event_log.specs.declared.item.LogFault.{LogFault}
@@ -68,7 +69,7 @@ length-with_batches : (ess bs : List (List Event)) → length (with_batches ess 
 length-with_batches ess [] = refl
 length-with_batches ess (b ∷ bs) = length-with_batches (with_batch ess b) bs ∙ length-with_batch ess b
 
-fits_after : (log : Prefix) (since : List Event) → AllByRecursion (EventFits log.header) since → event_count log.batches + length since ≤ 50000 → FitsTrace (trace_after log) since
+fits_after : (log : Prefix) (since : List Event) → AllByRecursion (EventFits log.header) since → event_count log.batches + length since ≤ most_events → FitsTrace (trace_after log) since
 fits_after log since each few =
     let procs : length (with_batches (no_events (length log.header.procs)) log.batches) ≡ length log.header.procs =
     length-with_batches (no_events (length log.header.procs)) log.batches ∙ length-replicate (length log.header.procs) [] in
@@ -109,7 +110,7 @@ same_fault rules g log batch judged is =
 -- events that may come fit, and stay within what a log may have
 record AllFit (h : Header) (n : ℕ) (batch : List Event) : Type 0 where
   each : AllByRecursion (EventFits h) batch
-  few : n ≤ 50000 → n + length batch ≤ 50000
+  few : n ≤ most_events → n + length batch ≤ most_events
 
 all_fit : (h : Header) (n : ℕ) (batch : List Event) → FitFrom h n (event_items batch) → AllFit h n batch
 all_fit h n [] fit = record { each = tt; few = λ k. omega (arith, k) }
@@ -193,7 +194,7 @@ module _ {X : Type 0} {P : X → Type 0} (says : Says X P) (terms : Terms) where
     pub is : j ≡ growing log batch
     pub observed : IsObserved says terms log o
     pub each : AllByRecursion (EventFits log.header) batch
-    pub few : event_count log.batches + length batch ≤ 50000
+    pub few : event_count log.batches + length batch ≤ most_events
 
   closing_of : (j : Judgement) (last : Bool) (kept : LogIntake X P) (o : Observation X P) (batch : List Event) → IsIntakeOf says terms kept j → MayFollow j (end_item last ∷ []) → kept.ended ≡ false → kept.observation ≡ Some o → batch ≡ kept.since
       → Closing j kept o batch
@@ -207,7 +208,7 @@ module _ {X : Type 0} {P : X → Type 0} (says : Says X P) (terms : Terms) where
         is = ap (growing log) came;
         observed = subst (λ (x : Observation X P). IsObserved says terms log x) one is.keeps.0.is;
         each = subst (λ (es : List Event). AllByRecursion (EventFits log.header) es) came is.keeps.1.each;
-        few = subst (λ (es : List Event). event_count log.batches + length es ≤ 50000) came is.keeps.1.few;
+        few = subst (λ (es : List Event). event_count log.batches + length es ≤ most_events) came is.keeps.1.few;
       }
   closing_of (finished log closed) last kept o batch is fit open_ some same = absurd (false≢true (sym open_ ∙ is.keeps.1))
   closing_of (refused log why) last kept o batch is fit open_ some same = absurd is.keeps
@@ -259,7 +260,7 @@ module _ {X : Type 0} {P : X → Type 0} (says : Says X P) (terms : Terms) where
       counted_now : count ≡ counted after.batches
       counted_now = counts ∙ ap (λ (n : ℕ). min (n + 1) 4294967295) number_is ∙ counted-push k.log.batches full
 
-      few_now : event_count after.batches + 0 ≤ 50000
+      few_now : event_count after.batches + 0 ≤ most_events
       few_now = omega (arith, k.few, event_count-push k.log.batches full, length-fill_from (with_batch (events_of k.log) batch) (events_of k.log) batch)
 
       abbrev now : LogIntake X P

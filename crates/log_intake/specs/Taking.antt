@@ -2,6 +2,7 @@
 use Rattle.std.specs.Prelude.{◌≡◌, ℕ, ◌+◌, ◌<◌, ◌≤◌, Bool, true, false, List, [], ◌∷◌, ◌++◌, length}
 use Rattle.std.specs.Prelude.{Option, None, Some}
 use Rattle.std.specs.List.{AllByRecursion}
+use Rattle.pota_base.specs.Limits.{most_events}
 use Rattle.event_log.specs.declared.item.Item.{Item}
 use Rattle.event_log.specs.declared.item.Item.TheVariants as item
 use Rattle.event_log.specs.declared.item.LogFault.{LogFault}
@@ -121,7 +122,7 @@ pub record HasSince {X : Type 0} {P : X → Type 0} (kept : LogIntake X P) (log 
   pub since_is : kept.since ≡ since
   pub open_ : kept.ended ≡ false
   pub each : AllByRecursion (EventFits log.header) since
-  pub few : event_count log.batches + length since ≤ 50000
+  pub few : event_count log.batches + length since ≤ most_events
 
 -- the items so far are judged so, without a fault
 abbrev pub Keeps : {X : Type 0} {P : X → Type 0} → Says X P → Terms → LogIntake X P → Judgement

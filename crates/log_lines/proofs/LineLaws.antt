@@ -10,6 +10,7 @@ use Rattle.log_lines.specs.Spelling.{NamedValue, Action, Internal, Send, Receive
 use Rattle.log_lines.specs.Reading.{◌>>=◌, choose, number_at, text_at, spaced_name_at, names_from, values_from, values_at, event_clock_at, message_at, send_at, receive_at, action_at, event_in, vars_in, procs_in}
 use Rattle.log_lines.specs.Drafts.{Gives}
 use Rattle.pota_base.proofs.NumberLaws.{number_takes, number_again, starts_digit}
+use Rattle.pota_base.specs.Limits.{most_processes, most_variables}
 use Rattle.log_lines.proofs.WordLaws.{bind_some, text_takes, spaced_name_takes, spaced_name_again, starts_name}
 use Rattle.log_lines.proofs.ItemLaws.{names_take, names_again, values_take, values_from_again, event_clock_takes, event_clock_again}
 
@@ -22,14 +23,14 @@ pub record ValuesRead (bytes : List ℕ) (vs : List NamedValue) : Type 0 where
 pub values_at_takes : (bytes : List ℕ) (vs : List NamedValue) → values_at bytes ≡ Some vs → ValuesRead bytes vs
 unfolding values_at
 values_at_takes bytes vs h =
-    let b = bind_some (values_from 16 [] bytes) _ vs h in
-    let t = values_take 16 bytes b.0 b.1 in
+    let b = bind_some (values_from most_variables [] bytes) _ vs h in
+    let t = values_take most_variables bytes b.0 b.1 in
     let g = cond_some (are_distinct (names_of b.0)) b.0 vs b.2 in
     subst (ValuesRead bytes) g.1 (record { text = t.text; fits = record { few = t.few; each = t.fits; distinct = g.0 } })
 
 pub values_at_again : (vs : List NamedValue) → ValuesFit vs → values_at (values_text vs) ≡ Some vs
 unfolding values_at
-values_at_again vs fits = rw (values_from_again 16 vs fits.few fits.each, fits.distinct) refl
+values_at_again vs fits = rw (values_from_again most_variables vs fits.few fits.each, fits.distinct) refl
 
 -- ---- actions
 
@@ -182,9 +183,9 @@ pub procs_take : (line : List ℕ) (names : List Name) → procs_in line ≡ Som
 unfolding procs_in
 procs_take line names h =
     let a = bind_some (text_at (112 ∷ 114 ∷ 111 ∷ 99 ∷ 115 ∷ []) line) _ names h in
-    let b = bind_some (names_from 32 [] a.0) _ names a.2 in
+    let b = bind_some (names_from most_processes [] a.0) _ names a.2 in
     let g = cond_some (nat_lt 0 (length b.0) && are_distinct b.0) b.0 names b.2 in
-    let t = names_take 32 a.0 b.0 b.1 in
+    let t = names_take most_processes a.0 b.0 b.1 in
     let parts = and_parts (nat_lt 0 (length b.0)) (are_distinct b.0) g.0 in
     let text : line ≡ procs_line b.0 = text_takes (112 ∷ 114 ∷ 111 ∷ 99 ∷ 115 ∷ []) line a.0 a.1 ∙ ap (λ (u : List ℕ). 112 ∷ 114 ∷ 111 ∷ 99 ∷ 115 ∷ u) t.text in
     subst (ProcsRead line) g.1 (record { text = text; fits = record { some = ltb-true _ _ parts.0; few = t.few; each = t.fits; distinct = parts.1 } })
@@ -192,7 +193,7 @@ procs_take line names h =
 pub procs_again : (names : List Name) → ProcsFit names → procs_in (procs_line names) ≡ Some names
 unfolding procs_in text_at
 procs_again names fits =
-    rw (names_again 32 names fits.few fits.each, and_from (nat_lt 0 (length names)) (are_distinct names) (lt-ltb 0 (length names) fits.some) fits.distinct) refl
+    rw (names_again most_processes names fits.few fits.each, and_from (nat_lt 0 (length names)) (are_distinct names) (lt-ltb 0 (length names) fits.some) fits.distinct) refl
 
 -- ---- as clauses say it
 

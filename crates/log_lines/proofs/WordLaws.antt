@@ -5,6 +5,7 @@ use Rattle.std.specs.List.{list_all}
 use Rattle.std.proofs.lemmas.Bool.{cases_Bool, eqb-true, eq-eqb, lt-ltb, le-leb, and_parts, and_from, or_left, ltb-true, leb-true, true≢false}
 use Rattle.std.proofs.lemmas.Option.{same_Some, cond_some}
 use Rattle.std.proofs.lemmas.List.{take-append-drop, take_at, drop_at, length-take-le}
+use Rattle.pota_base.specs.Limits.{longest_name}
 use Rattle.log_lines.specs.Names.{is_name, is_name_start, is_name_byte}
 use Rattle.log_lines.specs.Reading.{◌>>=◌, text_at, front, name_at, spaced_name_at}
 
@@ -69,26 +70,26 @@ pub record NameTaken (xs name rest : List ℕ) : Type 0 where
   pub fits : is_name name ≡ true
 
 -- a run of `k` bytes that passed the tests of a name is one
-run_is_name : (k : ℕ) (xs : List ℕ) → k ≤ length xs → (nat_lt 0 k && nat_le k 64) ≡ true → is_name_start (slice_index xs 0) ≡ true → list_all is_name_byte (take k xs) ≡ true → is_name (take k xs) ≡ true
+run_is_name : (k : ℕ) (xs : List ℕ) → k ≤ length xs → (nat_lt 0 k && nat_le k longest_name) ≡ true → is_name_start (slice_index xs 0) ≡ true → list_all is_name_byte (take k xs) ≡ true → is_name (take k xs) ≡ true
 run_is_name zero xs within size first all = absurd (true≢false (sym size))
 run_is_name (suc k) [] within size first all = absurd (omega arith)
 run_is_name (suc k) (x ∷ xs) within size first all =
-    let few : suc k ≤ 64 = leb-true (suc k) 64 (and_parts (nat_lt 0 (suc k)) (nat_le (suc k) 64) size).1 in
+    let few : suc k ≤ longest_name = leb-true (suc k) longest_name (and_parts (nat_lt 0 (suc k)) (nat_le (suc k) longest_name) size).1 in
     let len : length (take k xs) ≡ k = length-take-le k xs (omega arith) in
-    and_from _ _ first (and_from _ _ (rw len (lt-ltb k 64 (omega arith))) (and_parts (is_name_byte x) (list_all is_name_byte (take k xs)) all).1)
+    and_from _ _ first (and_from _ _ (rw len (lt-ltb k longest_name (omega arith))) (and_parts (is_name_byte x) (list_all is_name_byte (take k xs)) all).1)
 
 pub record NameParts (n : List ℕ) : Type 0 where
   pub some : 0 < length n
-  pub few : length n ≤ 64
+  pub few : length n ≤ longest_name
   pub first : is_name_start (slice_index n 0) ≡ true
   pub bytes : list_all is_name_byte n ≡ true
 
 pub name_parts : (n : List ℕ) → is_name n ≡ true → NameParts n
 name_parts [] h = absurd (true≢false (sym h))
 name_parts (b ∷ bs) h =
-    let first = and_parts (is_name_start b) (nat_lt (length bs) 64 && list_all is_name_byte bs) h in
-    let rest = and_parts (nat_lt (length bs) 64) (list_all is_name_byte bs) first.1 in
-    let few : length bs < 64 = ltb-true (length bs) 64 rest.0 in
+    let first = and_parts (is_name_start b) (nat_lt (length bs) longest_name && list_all is_name_byte bs) h in
+    let rest = and_parts (nat_lt (length bs) longest_name) (list_all is_name_byte bs) first.1 in
+    let few : length bs < longest_name = ltb-true (length bs) longest_name rest.0 in
     record { some = omega arith; few = omega arith; first = first.0; bytes = and_from (is_name_byte b) (list_all is_name_byte bs) (or_left (is_name_start b) _ first.0) rest.1 }
 
 pub name_takes : (xs name rest : List ℕ) → name_at xs ≡ Some (name, rest) → NameTaken xs name rest
@@ -96,7 +97,7 @@ unfolding name_at
 name_takes xs name rest h =
     let k = front is_name_byte xs in
     let parts = cond_some _ (take k xs, drop k xs) (name, rest) h in
-    let tests = and_parts (nat_lt 0 k && nat_le k 64) (is_name_start (slice_index xs 0)) parts.0 in
+    let tests = and_parts (nat_lt 0 k && nat_le k longest_name) (is_name_start (slice_index xs 0)) parts.0 in
     let fits = run_is_name k xs (front-le is_name_byte xs) tests.0 tests.1 (front-passes is_name_byte xs) in
     subst (λ (p : List ℕ × List ℕ). NameTaken xs p.0 p.1) parts.1 (record { text = sym (take-append-drop k xs); fits = fits })
 
@@ -108,7 +109,7 @@ pub name_again : (name rest : List ℕ) → is_name name ≡ true → starts_nam
 unfolding name_at
 name_again name rest fits stops =
     let p = name_parts name fits in
-    rw (front-again name rest p.bytes stops, lt-ltb 0 (length name) p.some, le-leb (length name) 64 p.few, index-append name rest p.some, p.first, take_at name rest (length name) refl, drop_at name rest (length name) refl) refl
+    rw (front-again name rest p.bytes stops, lt-ltb 0 (length name) p.some, le-leb (length name) longest_name p.few, index-append name rest p.some, p.first, take_at name rest (length name) refl, drop_at name rest (length name) refl) refl
 
 pub record SpacedNameTaken (xs name rest : List ℕ) : Type 0 where
   pub text : xs ≡ 32 ∷ (name ++ rest)

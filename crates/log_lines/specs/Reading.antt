@@ -3,6 +3,7 @@
 use Rattle.std.specs.Prelude.{ℕ, zero, suc, ◌+◌, ◌-◌, ◌^◌, Bool, ◌&&◌, ◌==◌, nat_lt, nat_le, List}
 use Rattle.std.specs.Prelude.{[], ◌∷◌, ◌++◌, length, take, drop, slice_index, Option, None, Some}
 use Rattle.std.specs.Prelude.{is_some, if◌then◌else◌}
+use Rattle.pota_base.specs.Limits.{longest_name, most_processes, most_variables}
 pub use Rattle.pota_base.specs.Number.{◌>>=◌, number_at, signed_at}
 use Rattle.log_lines.specs.Names.{Name, is_name_start, is_name_byte, are_distinct}
 use Rattle.log_lines.specs.Spelling.{NamedValue, Action, Internal, Send, Receive, EventLine}
@@ -23,7 +24,7 @@ front test (b ∷ bs) = if test b then front test bs + 1 else 0
 
 abbrev pub name_of : ℕ → List ℕ → Option (Name × List ℕ)
 name_of k bytes =
-    if (nat_lt 0 k && nat_le k 64) && is_name_start (slice_index bytes 0)
+    if (nat_lt 0 k && nat_le k longest_name) && is_name_start (slice_index bytes 0)
     then Some (take k bytes, drop k bytes) else None
 
 -- the longest run of letters, digits and underscores, where it is a name
@@ -61,7 +62,7 @@ values_from most front bytes = items_from value_at most front bytes
 -- at most 16 values, of distinct variables
 unfoldable pub values_at : List ℕ → Option (List NamedValue)
 values_at bytes = do
-  values ← values_from 16 [] bytes
+  values ← values_from most_variables [] bytes
   if are_distinct (names_of values) then Some values else None
 
 -- what follows from the value, where there is one, else this
@@ -132,7 +133,7 @@ vars_in line = do
 unfoldable pub procs_in : List ℕ → Option (List Name)
 procs_in line = do
   rest ← text_at (112 ∷ 114 ∷ 111 ∷ 99 ∷ 115 ∷ []) line
-  names ← names_from 32 [] rest
+  names ← names_from most_processes [] rest
   if nat_lt 0 (length names) && are_distinct names then Some names else None
 
 -- whether the line begins with `vars`

@@ -4,6 +4,7 @@ use Rattle.std.specs.Prelude.{FitsSigned}
 use Rattle.std.specs.Int.{w64}
 use Rattle.std.specs.List.{AllByRecursion}
 use Rattle.std.specs.Fmt.{decimal, signed_decimal}
+use Rattle.pota_base.specs.Limits.{most_processes, most_variables}
 use Rattle.log_lines.specs.Names.{Name, is_name, are_distinct}
 
 -- a variable's name and a value for it
@@ -92,7 +93,7 @@ pub record ValueFits (v : NamedValue) : Type 0 where
 
 -- at most 16 variables, each once
 pub record ValuesFit (vs : List NamedValue) : Type 0 where
-  pub few : length vs ≤ 16
+  pub few : length vs ≤ most_variables
   pub each : AllByRecursion ValueFits vs
   pub distinct : are_distinct (names_of vs) ≡ true
 
@@ -120,6 +121,6 @@ pub record VarsLineFits (v : VarsLine) : Type 0 where
 -- 1 to 32 names, each once
 pub record ProcsFit (names : List Name) : Type 0 where
   pub some : 0 < length names
-  pub few : length names ≤ 32
+  pub few : length names ≤ most_processes
   pub each : AllByRecursion (λ n. is_name n ≡ true) names
   pub distinct : are_distinct names ≡ true

@@ -15,7 +15,7 @@ use crate::draft::{ActionDraft, EventDraft, LineError, VarsDraft};
 use crate::frames::Frames;
 use crate::values::{event_clock_at, names_from, values_at};
 use crate::words::{are_distinct, place_among, spaced_name_at, text_at};
-use pota_base::number_at;
+use pota_base::{MOST_PROCESSES, number_at};
 use pota_names::Name;
 use std::alloc::Global;
 
@@ -107,7 +107,7 @@ fn procs_in(alloc: Global, line: &[u8]) -> Result<Vec<&[u8]>, LineError>
     ensures { Gives (λ names. texts_of names.items) result (procs_in line.now) }
 {
     let rest = text_at(b"procs", line).ok_or(LineError::Malformed)?;
-    let names = names_from(alloc, 32, rest)?;
+    let names = names_from(alloc, MOST_PROCESSES, rest)?;
     if names.is_empty() {
         return Err(LineError::Malformed);
     }

@@ -9,7 +9,7 @@ ghost use Rattle.log_lines.specs.inside.Drafts.{value_seen};
 use crate::counts::count_at;
 use crate::draft::{LineError, Setting, Settings};
 use crate::words::{are_distinct, spaced_name_at, text_at};
-use pota_base::signed_at;
+use pota_base::{MOST_VARIABLES, signed_at};
 use std::alloc::Global;
 
 /// ` NAME=INT` at the front, and the bytes after it.
@@ -67,7 +67,7 @@ fn values_from(alloc: Global, most: usize, bytes: &[u8]) -> Result<Settings<'_>,
 pub fn values_at(alloc: Global, bytes: &[u8]) -> Result<Settings<'_>, LineError>
     ensures { Gives (λ values. values_of values.items) result (values_at bytes.now) }
 {
-    let values = values_from(alloc, 16, bytes)?;
+    let values = values_from(alloc, MOST_VARIABLES, bytes)?;
     if !are_distinct(values.as_slice()) {
         return Err(LineError::Malformed);
     }

@@ -6,6 +6,7 @@ ghost use Rattle.log_lines.specs.Names.{Name as NameOf, is_name_byte, place_of, 
 ghost use Rattle.log_lines.specs.Reading.{text_at, front, name_at, spaced_name_at};
 ghost use Rattle.log_lines.specs.Drafts.{rest_seen, name_seen};
 
+use pota_base::LONGEST_NAME;
 use pota_names::{Name, is_byte_of_name, is_start_of_name, key_of};
 
 /// What has a name by which it is looked up.
@@ -126,7 +127,7 @@ pub fn name_at(bytes: &[u8]) -> Option<(&[u8], &[u8])>
     if len == 0 {
         return None;
     }
-    if len > 64 {
+    if len > LONGEST_NAME {
         return None;
     }
     if !is_start_of_name(bytes[0]) {

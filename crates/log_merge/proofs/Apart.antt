@@ -13,6 +13,7 @@ use Rattle.std.proofs.lemmas.List.Sorted.{IsPermutation-sym, Contains-permutatio
 use Rattle.std.proofs.lemmas.List.Sums.{sum_by-cons, sum_by-append}
 use Rattle.std.proofs.lemmas.Option.{none-some, slice_get_past}
 use Rattle.std.proofs.lemmas.Slice.Eq.{slice_eq-Decides, bytes_eq-Decides}
+use Rattle.pota_base.specs.Limits.{most_events, most_sources}
 use Rattle.log_lines.specs.Reading.{choose}
 use Rattle.event_log.specs.declared.log.Binding.{Binding}
 use Rattle.event_log.specs.declared.log.Event.{Event}
@@ -141,7 +142,7 @@ apart_more before s apart ok = record {
   same = λ a b ina inb. same a b (Contains-append_cases before (s ∷ []) a ina) (Contains-append_cases before (s ∷ []) b inb);
   alone = λ a ina. alone a (Contains-append_cases before (s ∷ []) a ina);
   once = λ p. once p (cases_Bool (has_lines_of p s));
-  few = let no : length before ≡ 32 → ⊥ = ok.few in omega (arith, apart.few, no, length-append before (s ∷ []));
+  few = let no : length before ≡ most_sources → ⊥ = ok.few in omega (arith, apart.few, no, length-append before (s ∷ []));
   small = omega (arith, events_in-push before s, apart.small, ok.small);
 }
   where
@@ -248,13 +249,13 @@ module _ (before : List Log) (s : Log) (rest : List Log) (apart : AreApart (befo
 
   not_too_many : one_too_many before ≡ None
   not_too_many =
-      let no : (length before == 32) ≡ false = ne_eqb (length before) 32 (λ e. absurd (omega (arith, e, apart.few, length-append before (s ∷ rest)))) in
+      let no : (length before == most_sources) ≡ false = ne_eqb (length before) most_sources (λ e. absurd (omega (arith, e, apart.few, length-append before (s ∷ rest)))) in
       ap (λ (b : Bool). cond b (found code.TooManySources 1) None) no
 
   has_room : event_too_many before s ≡ None
   has_room =
       let size : Log → ℕ = λ (x : Log). length (events_of x) in
-      let past : slice_get (events_of s) (50000 - events_in before) ≡ None = slice_get_past (events_of s) (50000 - events_in before) (omega (arith, apart.small, sum_by-append size before (s ∷ rest), sum_by-cons size s rest)) in
+      let past : slice_get (events_of s) (most_events - events_in before) ≡ None = slice_get_past (events_of s) (most_events - events_in before) (omega (arith, apart.small, sum_by-append size before (s ∷ rest), sum_by-cons size s rest)) in
       rw past refl
 
   is_fine : source_fault before s ≡ None

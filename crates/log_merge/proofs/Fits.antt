@@ -5,6 +5,7 @@ use Rattle.std.specs.List.{list_any, AllByRecursion}
 use Rattle.std.proofs.lemmas.Bool.{cases_Bool, eq-eqb}
 use Rattle.std.proofs.lemmas.List.{append-nil, length-append}
 use Rattle.std.proofs.lemmas.List.Folds.{Any-from_list_any, list_any-append}
+use Rattle.pota_base.specs.Limits.{most_events}
 use Rattle.log_lines.specs.Names.{are_distinct}
 use Rattle.log_lines.specs.Spelling.{names_of}
 use Rattle.event_log.specs.declared.log.Binding.{Binding}
@@ -160,7 +161,7 @@ merged_logs_fit (x ∷ xs) some all none =
     moved_fits s.header (merged_header (x ∷ xs)) e (record { version = alike.version; procs = alike.procs }) vars fits in
     let events : List Placed = by_process 0 n (placed_from 1 (x ∷ xs)) in
     let fit : AllByRecursion (EventFits h) (numbered 1 events) = numbered_keeps h 1 events (order_keeps h 0 n (placed_from 1 (x ∷ xs)) (all_move h 1 (x ∷ xs) (λ s has k. source_moves h s (moves s has) k (is_source (x ∷ xs) all s has)))) in
-    let few : length (numbered 1 events) + 0 ≤ 50000 = omega (arith, apart.small, length-numbered 1 events, length-by_process 0 n (placed_from 1 (x ∷ xs)), length-placed 1 (x ∷ xs)) in
+    let few : length (numbered 1 events) + 0 ≤ most_events = omega (arith, apart.small, length-numbered 1 events, length-by_process 0 n (placed_from 1 (x ∷ xs)), length-placed 1 (x ∷ xs)) in
     record {
       header = record { version = all.0.header.version; procs = all.0.header.procs; all = length-variables 0 n (x ∷ xs); vars = variables_fit 0 n (x ∷ xs) (in_fits (x ∷ xs) all apart) };
       events = fit;

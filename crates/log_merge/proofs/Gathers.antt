@@ -4,6 +4,7 @@ use Rattle.std.specs.Prelude.{◌==◌, slice_get}
 use Rattle.std.proofs.lemmas.Bool.{cases_Bool, ne_eqb, eqb-true}
 use Rattle.std.proofs.lemmas.List.{append-nil, map-append, length-map, length-append, length-take-le, take_all}
 use Rattle.std.proofs.lemmas.List.Sums.{sum_by-cons}
+use Rattle.pota_base.specs.Limits.{most_events}
 use Rattle.event_log.specs.declared.log.Binding.{Binding}
 use Rattle.event_log.specs.declared.log.Event.{Event}
 use Rattle.event_log.specs.declared.log.Log.{Log}
@@ -73,7 +74,7 @@ gathers_batch a b c n batches i batch lt is g h =
 
 -- there is room for one batch more
 pub room_batch : (a b : Gathered) (n : ℕ) (batches : List (List Event)) (i : ℕ) (batch : List Event) → i < length batches → batch ≡ get_or batches i batch
-    → Gathers a b (placed_events n (all_events (take i batches))) → length a.events + length (all_events batches) ≤ 50000 → length b.events + length batch ≤ 50000
+    → Gathers a b (placed_events n (all_events (take i batches))) → length a.events + length (all_events batches) ≤ most_events → length b.events + length batch ≤ most_events
 room_batch a b n batches i batch lt is g room =
     let place : Event → Placed = λ (x : Event). record { source = n; event = x } in
     let taken = ap length (all_events-taken batches i batch lt is) in
@@ -124,8 +125,8 @@ gathers_process a b c p xs g h =
     let e : 0 + p ≡ p = omega arith in
     subst (Gathers a c) (sym (by_process-more 0 p xs ∙ ap (λ (k : ℕ). by_process 0 p xs ++ of_process k xs) e)) (gathers_more a b c (by_process 0 p xs) (of_process p xs) g h)
 
-pub room_process : (a b : Gathered) (p : ℕ) (sources : List Log) → Gathers a b (by_process 0 p (placed_from 1 sources)) → a.events ≡ [] → events_in sources ≤ 50000
-    → length b.events + length (of_process p (placed_from 1 sources)) ≤ 50000
+pub room_process : (a b : Gathered) (p : ℕ) (sources : List Log) → Gathers a b (by_process 0 p (placed_from 1 sources)) → a.events ≡ [] → events_in sources ≤ most_events
+    → length b.events + length (of_process p (placed_from 1 sources)) ≤ most_events
 room_process a b p sources g none few =
     let xs = placed_from 1 sources in
     let e : 0 + p ≡ p = omega arith in
@@ -166,7 +167,7 @@ no_variables_there [] p le = refl
 no_variables_there (v ∷ vars) zero le = absurd (omega arith)
 no_variables_there (v ∷ vars) (suc p) le = no_variables_there vars p (omega arith)
 
-pub room_event : (a b : Gathered) (n : ℕ) (events : List Event) (i : ℕ) → i < length events → Gathers a b (placed_events n (take i events)) → length a.events + length events ≤ 50000 → length b.events < 50000
+pub room_event : (a b : Gathered) (n : ℕ) (events : List Event) (i : ℕ) → i < length events → Gathers a b (placed_events n (take i events)) → length a.events + length events ≤ most_events → length b.events < most_events
 room_event a b n events i lt g room =
     let place : Event → Placed = λ (x : Event). record { source = n; event = x } in
     omega (arith, length-gathers a b (placed_events n (take i events)) g, length-map (take i events) place, length-take-le i events (omega (arith, lt)))
@@ -178,7 +179,7 @@ gathers_step a b c n batches slice i batch part same lt is part_is g h =
     gathers_batch a b c n batches i batch (omega (arith, ap length same, lt)) (is ∙ ap (λ (bs : List (List Event)). get_or bs i batch) same) g (subst (λ (es : List Event). Gathers b c (placed_events n es)) part_is h)
 
 pub room_step : (a b : Gathered) (n : ℕ) (batches slice : List (List Event)) (i : ℕ) (batch part : List Event) → slice ≡ batches → i < length slice → batch ≡ get_or slice i batch → part ≡ batch
-    → Gathers a b (placed_events n (all_events (take i batches))) → length a.events + length (all_events batches) ≤ 50000 → length b.events + length part ≤ 50000
+    → Gathers a b (placed_events n (all_events (take i batches))) → length a.events + length (all_events batches) ≤ most_events → length b.events + length part ≤ most_events
 room_step a b n batches slice i batch part same lt is part_is g room =
     omega (arith, ap length part_is, room_batch a b n batches i batch (omega (arith, ap length same, lt)) (is ∙ ap (λ (bs : List (List Event)). get_or bs i batch) same) g room)
 

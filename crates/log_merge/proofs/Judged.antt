@@ -9,6 +9,7 @@ use Rattle.std.proofs.Math.ListN.{length-set}
 use Rattle.std.proofs.lemmas.List.Elements.{All-from_recursion}
 use Rattle.std.proofs.lemmas.List.Sums.{sum_by-cons, sum_by-append}
 use Rattle.std.proofs.lemmas.Option.{none-some}
+use Rattle.pota_base.specs.Limits.{most_events, most_processes, most_sources}
 use Rattle.log_lines.specs.Reading.{choose}
 use Rattle.event_log.specs.declared.log.Binding.{Binding}
 use Rattle.event_log.specs.declared.log.Event.{Event}
@@ -37,16 +38,16 @@ all_at P xs i x all lt is = subst P (sym is) (All-from_recursion P xs all i x lt
 -- ---- a source's lines are of its processes
 
 abbrev IsLow : OwnLine → Type 0
-IsLow l = l.process < 32
+IsLow l = l.process < most_processes
 
-vars_low : (p : ℕ) (lines : List ℕ) → p + length lines ≤ 32 → AllByRecursion IsLow (own_vars_lines p lines)
+vars_low : (p : ℕ) (lines : List ℕ) → p + length lines ≤ most_processes → AllByRecursion IsLow (own_vars_lines p lines)
 vars_low p [] few = tt
 vars_low p (line ∷ lines) few = elim (cases_Bool (line == 0)) [
   | inl none ↦ rw none (vars_low (p + 1) lines (omega arith))
   | inr some ↦ rw some (omega arith, vars_low (p + 1) lines (omega arith))
 ]
 
-events_low : (h : Header) (es : List Event) → length h.procs ≤ 32 → AllByRecursion (EventFits h) es → AllByRecursion IsLow (own_event_lines es)
+events_low : (h : Header) (es : List Event) → length h.procs ≤ most_processes → AllByRecursion (EventFits h) es → AllByRecursion IsLow (own_event_lines es)
 events_low h [] few fit = tt
 events_low h (e ∷ es) few fit = (omega (arith, few, fit.0.process), events_low h es few fit.1)
 
@@ -55,7 +56,7 @@ length-lines_from n [] = refl
 length-lines_from n ([] ∷ vars) = ap suc (length-lines_from n vars)
 length-lines_from n ((b ∷ bs) ∷ vars) = ap suc (length-lines_from (n + 1) vars)
 
-pub few_lines : (s : Log) → IsSource s → length s.header.var_lines ≤ 32
+pub few_lines : (s : Log) → IsSource s → length s.header.var_lines ≤ most_processes
 few_lines s source = omega (arith, ap length source.lines, length-lines_from 3 s.header.vars, source.header.all, source.header.procs.few)
 
 low_seen : (ls : List OwnLine) → AllByRecursion IsLow ls → IsOfAProcess (seen_of ls)
@@ -85,26 +86,26 @@ get_nothing [] i e = omega arith
 get_nothing (x ∷ xs) zero e = absurd (none-some x (sym e))
 get_nothing (x ∷ xs) (suc i) e = omega (arith, get_nothing xs i e)
 
-not_last : (before : List Log) → one_too_many before ≡ None → length before ≡ 32 → ⊥
-not_last before e is = none-some _ (sym (sym (ap (λ (b : Bool). cond b (found code.TooManySources 1) None) (eq-eqb (length before) 32 is)) ∙ e))
+not_last : (before : List Log) → one_too_many before ≡ None → length before ≡ most_sources → ⊥
+not_last before e is = none-some _ (sym (sym (ap (λ (b : Bool). cond b (found code.TooManySources 1) None) (eq-eqb (length before) most_sources is)) ∙ e))
 
 pub record IsFine (before : List Log) (s : Log) : Type 0 where
   pub same : differs before s ≡ None
   pub alone : not_alone before (seen_of (own_lines s)) ≡ None
-  pub few : length before ≡ 32 → ⊥
-  pub small : length (events_of s) ≤ 50000 - events_in before
+  pub few : length before ≡ most_sources → ⊥
+  pub small : length (events_of s) ≤ most_events - events_in before
 
 pub fine : (before : List Log) (s : Log) → source_fault before s ≡ None → IsFine before s
 fine before s e =
     let last = or_nothing _ _ e in
     let third = or_nothing _ _ last.0 in
     let second = or_nothing _ _ third.0 in
-    let line = map_nothing _ (line_at (50000 - events_in before) (events_of s)) last.1 in
+    let line = map_nothing _ (line_at (most_events - events_in before) (events_of s)) last.1 in
     record {
       same = second.0;
       alone = second.1;
       few = not_last before third.1;
-      small = get_nothing (events_of s) (50000 - events_in before) (map_nothing _ (slice_get (events_of s) (50000 - events_in before)) line);
+      small = get_nothing (events_of s) (most_events - events_in before) (map_nothing _ (slice_get (events_of s) (most_events - events_in before)) line);
     }
 
 -- ---- one source more
@@ -139,9 +140,9 @@ events_in-push before s =
     let size : Log → ℕ = λ (x : Log). length (events_of x) in
     omega (arith, sum_by-append size before (s ∷ []), sum_by-cons size s [])
 
-pub none_joined : (owners : List (Option ℕ)) → length owners ≡ 32 → owners ≡ replicate 32 None → HasJoined (record { owners = owners; count = 0 }) []
+pub none_joined : (owners : List (Option ℕ)) → length owners ≡ most_processes → owners ≡ replicate most_processes None → HasJoined (record { owners = owners; count = 0 }) []
 none_joined owners long is = record {
-  judged = record { none = fault_done []; owners_are = λ p lt. subst (IsOwner [] p) (sym (ap (λ (os : List (Option ℕ)). get_or os p None) is ∙ get_or-replicate {A = Option ℕ} 32 p None None lt)) (no_owners p); few = omega arith };
+  judged = record { none = fault_done []; owners_are = λ p lt. subst (IsOwner [] p) (sym (ap (λ (os : List (Option ℕ)). get_or os p None) is ∙ get_or-replicate {A = Option ℕ} most_processes p None None lt)) (no_owners p); few = omega arith };
   count_is = refl;
   few = omega arith;
   long = long;
@@ -156,7 +157,7 @@ pub one_joined : (before : List Log) (s : Log) (old new : Joined) (n : ℕ) (see
     → HasJoined new (before ++ s ∷ [])
 one_joined before s old new n seen source has seen_is none made size count =
     let ok = fine before s none in
-    let few : length before + 1 ≤ 32 = omega (arith, has.few, λ (e : length before ≡ 32). ok.few e) in
+    let few : length before + 1 ≤ most_sources = omega (arith, has.few, λ (e : length before ≡ most_sources). ok.few e) in
     let events = events_in-push before s in
     record {
       judged = record {

@@ -7,6 +7,7 @@ use Rattle.std.proofs.lemmas.List.{append-nil, length-append, get_or-set_same, g
 use Rattle.std.proofs.lemmas.List.Elements.{filter-append}
 use Rattle.std.proofs.lemmas.List.Folds.{list_any-append}
 use Rattle.std.proofs.lemmas.Option.{none-some}
+use Rattle.pota_base.specs.Limits.{most_processes}
 use Rattle.log_lines.specs.Reading.{choose}
 use Rattle.event_log.specs.declared.log.Binding.{Binding}
 use Rattle.event_log.specs.declared.log.Event.{Event}
@@ -205,7 +206,7 @@ alone_none before p line e = go (list_any (has_lines_of p) before) e
     go true h = absurd (none-some _ (sym h))
     go false h = refl
 
-pub owners_more : (before : List Log) (s : Log) (owners : List (Option ℕ)) (seen : Seen) (k : ℕ) → IsSource s → seen ≡ seen_of (own_lines s) → IsOfAProcess seen → k ≡ length before + 1 → length owners ≡ 32
+pub owners_more : (before : List Log) (s : Log) (owners : List (Option ℕ)) (seen : Seen) (k : ℕ) → IsSource s → seen ≡ seen_of (own_lines s) → IsOfAProcess seen → k ≡ length before + 1 → length owners ≡ most_processes
     → not_alone before (seen_of (own_lines s)) ≡ None → AreOwners before owners → AreOwners (before ++ s ∷ []) (with_owner owners seen k)
 owners_more before s owners Nothing k source is within number len none are = λ p lt.
     let empty : own_lines s ≡ [] = seen_none (own_lines s) (sym is) in
@@ -216,7 +217,7 @@ owners_more before s owners (One q line) k source is within number len none are 
     one : IsOne (own_lines s) q
     one = seen_one_process (own_lines s) q line (sym is)
 
-    go : (p : ℕ) → p < 32 → ((q == p) ≡ true) ⊎ ((q == p) ≡ false) → IsOwner (before ++ s ∷ []) p (get_or (set owners q (Some k)) p None)
+    go : (p : ℕ) → p < most_processes → ((q == p) ≡ true) ⊎ ((q == p) ≡ false) → IsOwner (before ++ s ∷ []) p (get_or (set owners q (Some k)) p None)
     go p lt (inl here) =
         let same : q ≡ p = eqb-true q p here in
         let there : q < length owners = omega (arith, len, within) in

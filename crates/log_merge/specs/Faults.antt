@@ -5,6 +5,7 @@ use Rattle.std.specs.Cmp.Lexicographic.{pointwise}
 use Rattle.std.specs.List.{list_any}
 use Rattle.std.specs.Option.{option_map, option_or}
 use Rattle.std.specs.Str.{bytes_eq}
+use Rattle.pota_base.specs.Limits.{most_events, most_sources}
 use Rattle.event_log.specs.declared.log.Header.{Header}
 use Rattle.event_log.specs.declared.log.Log.{Log}
 use Rattle.fault_kinds.specs.declared.merge.MergeCode.{MergeCode}
@@ -47,13 +48,13 @@ not_alone before (Two line) = found code.TwoProcesses line
 
 -- it is source 33
 abbrev pub one_too_many : List Log → Option Found
-one_too_many before = if length before == 32 then found code.TooManySources 1 else None
+one_too_many before = if length before == most_sources then found code.TooManySources 1 else None
 
 -- it has event 50,001 of all events
 abbrev pub event_too_many : List Log → Log → Option Found
 event_too_many before source =
     option_map (λ (line : ℕ). record { code = code.TooManyEvents; line = line })
-    (line_at (50000 - events_in before) (events_of source))
+    (line_at (most_events - events_in before) (events_of source))
 
 -- the first fault of a source behind those before it, in this order
 abbrev pub source_fault : List Log → Log → Option Found

@@ -3,6 +3,7 @@ use Rattle.std.specs.Prelude.{◌≡◌, ◌↔◌, ℕ, ◌<◌, ◌≤◌, tru
 use Rattle.std.specs.Prelude.{Contains}
 use Rattle.std.specs.List.{AllByRecursion}
 use Rattle.std.specs.List.Sorted.{IsPermutation}
+use Rattle.pota_base.specs.Limits.{most_events, most_sources}
 use Rattle.event_log.specs.declared.log.Header.{Header}
 use Rattle.event_log.specs.declared.log.Log.{Log}
 use Rattle.event_log.specs.LogText.{HeaderFits, EventFits, LogFits, HasVarLines}
@@ -24,8 +25,8 @@ pub record AreApart (sources : List Log) : Type 0 where
   pub alone : (s : Log) → Contains sources s → (p q : ℕ) → has_lines_of p s ≡ true
       → has_lines_of q s ≡ true → p ≡ q
   pub once : (p : ℕ) → count_by (has_lines_of p) sources ≤ 1
-  pub few : length sources ≤ 32
-  pub small : events_in sources ≤ 50000
+  pub few : length sources ≤ most_sources
+  pub small : events_in sources ≤ most_events
 
 -- there is no fault exactly where the sources can be merged
 abbrev pub NoFaultIsApart : Type 0

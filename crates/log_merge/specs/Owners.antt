@@ -3,6 +3,7 @@ use Rattle.std.specs.Prelude.{◌≡◌, ℕ, zero, suc, ◌<◌, ◌≤◌, Lis
 use Rattle.std.specs.Prelude.{None, IfSome, slice_get, get_or}
 use Rattle.std.specs.List.{list_any}
 use Rattle.std.specs.Option.{is_some}
+use Rattle.pota_base.specs.Limits.{most_events, most_processes, most_sources}
 use Rattle.log_lines.specs.Reading.{choose}
 use Rattle.event_log.specs.declared.log.Binding.{Binding}
 use Rattle.event_log.specs.declared.log.Log.{Log}
@@ -39,17 +40,17 @@ pub record IsOwner (sources : List Log) (process : ℕ) (owner : Option ℕ) : T
 -- each process has its owner in the list
 abbrev pub AreOwners : List Log → List (Option ℕ) → Type 0
 AreOwners sources owners =
-    (process : ℕ) → process < 32 → IsOwner sources process (get_or owners process None)
+    (process : ℕ) → process < most_processes → IsOwner sources process (get_or owners process None)
 
 -- what is known of sources that have no fault
 pub record IsJudged (sources : List Log) (owners : List (Option ℕ)) : Type 0 where
   pub none : merge_fault sources ≡ None
   pub owners_are : AreOwners sources owners
-  pub few : events_in sources ≤ 50000
+  pub few : events_in sources ≤ most_events
 
 -- what is known of sources that are joined: they have no fault
 pub record HasJoined (joined : Joined) (sources : List Log) : Type 0 where
   pub judged : IsJudged sources joined.owners
   pub count_is : joined.count ≡ events_in sources
-  pub few : length sources ≤ 32
-  pub long : length joined.owners ≡ 32
+  pub few : length sources ≤ most_sources
+  pub long : length joined.owners ≡ most_processes

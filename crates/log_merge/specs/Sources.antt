@@ -1,8 +1,9 @@
 -- The sources: one log for each process, or for none, and the lines that they have of it.
-use Rattle.std.specs.Prelude.{ℕ, ◌+◌, ◌≤◌, Bool, ◌==◌, List, [], ◌∷◌, ◌++◌, length, map, Option, None}
-use Rattle.std.specs.Prelude.{Some, slice_get, sum_by, flat_map, if◌then◌else◌}
+use Rattle.std.specs.Prelude.{ℕ, ◌+◌, ◌≤◌, Bool, ◌==◌, List, [], ◌∷◌, ◌++◌, length, map, Option}
+use Rattle.std.specs.Prelude.{None, Some, slice_get, sum_by, flat_map, if◌then◌else◌}
 use Rattle.std.specs.List.{AllByRecursion, list_any}
 use Rattle.std.specs.Option.{option_map}
+use Rattle.pota_base.specs.Limits.{most_events}
 use Rattle.log_lines.specs.Reading.{choose}
 use Rattle.event_log.specs.declared.log.Event.{Event}
 use Rattle.event_log.specs.declared.log.Log.{Log}
@@ -39,7 +40,7 @@ pub record IsSource (source : Log) : Type 0 where
   pub header : HeaderFits source.header
   pub lines : HasVarLines source.header
   pub events : AllByRecursion (EventFits source.header) (events_of source)
-  pub few : length (events_of source) ≤ 50000
+  pub few : length (events_of source) ≤ most_events
 
 -- the log with all its events in one batch
 abbrev pub in_one_batch : Log → Log

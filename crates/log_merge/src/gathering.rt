@@ -2,6 +2,7 @@
 
 ghost use Rattle.std.specs.Prelude.{◌≡◌, ◌+◌, ◌≤◌, ◌<◌, ◌∷◌, [], length, IfOk, OnOk, None, Some};
 ghost use Rattle.std.specs.Prelude.{slice_get};
+ghost use Rattle.pota_base.specs.Limits.{most_events, most_processes};
 ghost use Rattle.event_log.specs.declared.log.Event.{Event};
 ghost use Rattle.event_log.specs.Numbers.{variables_at};
 ghost use Rattle.log_merge.specs.Sources.{events_of, events_in};
@@ -12,7 +13,7 @@ ghost use Rattle.log_merge.specs.Owners.{AreOwners, IsOwner};
 
 use crate::merged::Origin;
 use event_log::{Binding, Event, Header, Log, copy_of};
-use pota_base::{List, NoMemory};
+use pota_base::{List, MOST_PROCESSES, NoMemory};
 use std::alloc::Global;
 
 /// Events with their numbers as lines, and where each comes from.
@@ -44,7 +45,7 @@ impl Gathered {
 
     // One event more.
     fn add(&mut self, alloc: Global, source: u32, event: &Event) -> Result<(), NoMemory>
-        requires { length self.old.events < 50000 }
+        requires { length self.old.events < most_events }
         ensures { OnOk result (Gathers self.old self.new
             (record { source = source; event = event.now } ∷ [])) }
     {
@@ -60,7 +61,7 @@ impl Gathered {
 
     // These events of a source.
     fn add_batch(&mut self, alloc: Global, number: u32, batch: &[Event]) -> Result<(), NoMemory>
-        requires { length self.old.events + length batch.now ≤ 50000 }
+        requires { length self.old.events + length batch.now ≤ most_events }
         ensures { OnOk result (Gathers self.old self.new (placed_events number batch.now)) }
     {
         for event in batch {
@@ -71,7 +72,7 @@ impl Gathered {
 
     // All events of a source.
     fn add_all(&mut self, alloc: Global, number: u32, source: &Log) -> Result<(), NoMemory>
-        requires { length self.old.events + length (events_of source.now) ≤ 50000 }
+        requires { length self.old.events + length (events_of source.now) ≤ most_events }
         ensures { OnOk result (Gathers self.old self.new (placed_in number source.now)) }
     {
         for batch in source.batches.as_slice() {
@@ -90,7 +91,7 @@ impl Gathered {
     ) -> Result<(), NoMemory>
         requires owner { IsOwner sources.now process owner }
         requires few { length self.old.events
-            + length (of_process process (placed_from 1 sources.now)) ≤ 50000 }
+            + length (of_process process (placed_from 1 sources.now)) ≤ most_events }
         ensures { OnOk result (Gathers self.old self.new
             (of_process process (placed_from 1 sources.now))) }
     {
@@ -104,12 +105,12 @@ impl Gathered {
     pub fn of(
         alloc: Global,
         sources: &[Log],
-        owners: &[Option<u32>; 32],
+        owners: &[Option<u32>; MOST_PROCESSES],
         procs: usize,
     ) -> Result<Gathered, NoMemory>
         requires owners { AreOwners sources.now owners.now }
-        requires procs { procs ≤ 32 }
-        requires few { events_in sources.now ≤ 50000 }
+        requires procs { procs ≤ most_processes }
+        requires few { events_in sources.now ≤ most_events }
         ensures { IfOk result (λ g. g ≡ record {
           events = numbered 1 (by_process 0 procs (placed_from 1 sources.now));
           origins = origins (by_process 0 procs (placed_from 1 sources.now));
@@ -157,11 +158,11 @@ fn variables_of(
 pub fn variables(
     alloc: Global,
     sources: &[Log],
-    owners: &[Option<u32>; 32],
+    owners: &[Option<u32>; MOST_PROCESSES],
     procs: usize,
 ) -> Result<List<List<Binding>>, NoMemory>
     requires owners { AreOwners sources.now owners.now }
-    requires procs { procs ≤ 32 }
+    requires procs { procs ≤ most_processes }
     ensures { IfOk result (λ vars. vars ≡ all_variables 0 procs sources.now) }
 {
     let mut vars = List::new(alloc);

@@ -4,6 +4,7 @@ ghost use Rattle.std.specs.Prelude.{◌≡◌, ◌+◌, ◌-◌, ◌≤◌, ◌<
 ghost use Rattle.std.specs.Prelude.{IfErr, OnOk, OnErr, None, Some};
 ghost use Rattle.std.specs.Option.{option_map};
 ghost use Rattle.std.specs.List.{AllByRecursion};
+ghost use Rattle.pota_base.specs.Limits.{most_events};
 ghost use Rattle.event_log.specs.declared.log.Event.{Event};
 ghost use Rattle.log_merge.specs.Sources.{IsSource, seen_of, own_lines, events_in, events_of};
 ghost use Rattle.log_merge.specs.Sources.{all_events};
@@ -16,13 +17,7 @@ use crate::fault::Found;
 use crate::seen::{Seen, line_at, seen_in};
 use event_log::{Event, Header, Log};
 use fault_kinds::{MergeCode, MergeFault};
-use pota_base::List;
-
-/// The most sources.
-const MOST_SOURCES: usize = 32;
-
-/// The most events of all sources.
-const MOST_EVENTS: usize = 50_000;
+use pota_base::{List, MOST_EVENTS, MOST_PROCESSES, MOST_SOURCES};
 
 // Whether the headers name the same processes.
 fn same_procs(a: &Header, b: &Header) -> bool
@@ -66,7 +61,7 @@ fn differs(before: &[Log], source: &Log) -> Option<Found>
 }
 
 // Whether a source with these lines is more than the one source of one process.
-fn not_alone(before: &[Log], seen: Seen, owners: &[Option<u32>; 32]) -> Option<Found>
+fn not_alone(before: &[Log], seen: Seen, owners: &[Option<u32>; MOST_PROCESSES]) -> Option<Found>
     requires owners { AreOwners before.now owners.now }
     requires within { IsOfAProcess seen }
     ensures { result ≡ not_alone before.now seen }
@@ -107,7 +102,7 @@ fn one_too_many(before: &[Log]) -> Option<Found>
 // Whether there are too many events with those of the source behind so many.
 fn event_too_many(before: &[Log], source: &Log, count: usize) -> Option<Found>
     requires count { count ≡ events_in before.now }
-    requires small { count ≤ 50000 }
+    requires small { count ≤ most_events }
     ensures { result ≡ event_too_many before.now source.now }
 {
     match line_at(source.batches.as_slice(), MOST_EVENTS - count) {
@@ -124,14 +119,14 @@ fn source_fault(
     before: &[Log],
     source: &Log,
     seen: Seen,
-    owners: &[Option<u32>; 32],
+    owners: &[Option<u32>; MOST_PROCESSES],
     count: usize,
 ) -> Option<Found>
     requires owners { AreOwners before.now owners.now }
     requires seen { seen ≡ seen_of (own_lines source.now) }
     requires within { IsOfAProcess seen }
     requires count { count ≡ events_in before.now }
-    requires small { count ≤ 50000 }
+    requires small { count ≤ most_events }
     ensures { result ≡ source_fault before.now source.now }
 {
     differs(before, source)
@@ -141,7 +136,7 @@ fn source_fault(
 }
 
 // Which source has the lines of which process, with those of one source more.
-fn note(owners: &mut [Option<u32>; 32], seen: Seen, number: u32)
+fn note(owners: &mut [Option<u32>; MOST_PROCESSES], seen: Seen, number: u32)
     requires { IsOfAProcess seen }
     ensures { owners.new ≡ with_owner owners.old seen number }
 {
@@ -152,7 +147,7 @@ fn note(owners: &mut [Option<u32>; 32], seen: Seen, number: u32)
 
 // How many events the batches have.
 fn count_of(batches: &[List<Event>]) -> usize
-    requires { length (all_events batches.now) ≤ 50000 }
+    requires { length (all_events batches.now) ≤ most_events }
     ensures { result ≡ length (all_events batches.now) }
 {
     let mut count = 0;
@@ -166,7 +161,7 @@ fn count_of(batches: &[List<Event>]) -> usize
 /// how many events they have.
 #[derive(Clone, Copy, Debug)]
 pub struct Joined {
-    owners: [Option<u32>; 32],
+    owners: [Option<u32>; MOST_PROCESSES],
     count: usize,
 }
 
@@ -178,7 +173,7 @@ impl Joined {
         ensures { HasJoined result [] }
     {
         Joined {
-            owners: [None; 32],
+            owners: [None; MOST_PROCESSES],
             count: 0,
         }
     }
@@ -209,7 +204,7 @@ impl Joined {
 }
 
 /// Which source has the lines of which process, or the first fault of the sources.
-pub fn judge(sources: &[Log]) -> Result<[Option<u32>; 32], MergeFault>
+pub fn judge(sources: &[Log]) -> Result<[Option<u32>; MOST_PROCESSES], MergeFault>
     requires { AllByRecursion IsSource sources.now }
     ensures { MatchResult result (IsJudged sources.now) (λ f. merge_fault sources.now ≡ Some f) }
 {

@@ -2,6 +2,7 @@
 
 ghost use Rattle.std.specs.Prelude.{◌≡◌, ◌^◌, ◌≤◌, ◌<◌, length, IfOk, None, Some, replicate};
 ghost use Rattle.std.specs.List.{AllByRecursion};
+ghost use Rattle.pota_base.specs.Limits.{most_processes};
 ghost use Rattle.log_merge.specs.Sources.{IsSource};
 ghost use Rattle.log_merge.specs.Faults.{merge_fault};
 ghost use Rattle.log_merge.specs.Merging.{merged};
@@ -12,7 +13,7 @@ use crate::gathering::{Gathered, variables};
 use crate::judging::judge;
 use event_log::{Header, Log, copy_of};
 use fault_kinds::MergeFault;
-use pota_base::{List, NoMemory, Refused};
+use pota_base::{List, MOST_PROCESSES, NoMemory, Refused};
 use std::alloc::Global;
 
 /// Where an event comes from: a source and a line in it, both counted from 1.
@@ -31,7 +32,7 @@ pub struct Merged {
 
 // No `vars` line for so many processes.
 fn no_lines(alloc: Global, procs: usize) -> Result<List<u32>, NoMemory>
-    requires { procs ≤ 32 }
+    requires { procs ≤ most_processes }
     ensures { IfOk result (λ lines. lines ≡ replicate procs 0) }
 {
     let mut lines = List::new(alloc);
@@ -42,7 +43,11 @@ fn no_lines(alloc: Global, procs: usize) -> Result<List<u32>, NoMemory>
 }
 
 // The sources merged, where they have no fault.
-fn merged_by(alloc: Global, sources: &[Log], owners: &[Option<u32>; 32]) -> Result<Merged, NoMemory>
+fn merged_by(
+    alloc: Global,
+    sources: &[Log],
+    owners: &[Option<u32>; MOST_PROCESSES],
+) -> Result<Merged, NoMemory>
     requires some { 0 < length sources.now }
     requires logs { AllByRecursion IsSource sources.now }
     requires judged { IsJudged sources.now owners.now }

@@ -1,6 +1,7 @@
 //! Of which processes a source has lines.
 
 ghost use Rattle.std.specs.Prelude.{◌≡◌, ◌≤◌, length};
+ghost use Rattle.pota_base.specs.Limits.{most_processes};
 ghost use Rattle.log_merge.specs.declared.seen.Seen.TheVariants.{Nothing};
 ghost use Rattle.log_merge.specs.Sources.{IsSource, seen_of, own_lines};
 ghost use Rattle.log_merge.specs.inside.Sources.{seen_after};
@@ -42,7 +43,7 @@ impl Seen {
 
 // The processes of the `vars` lines, which the header notes.
 fn seen_in_header(lines: &[u32]) -> Seen
-    requires { length lines.now ≤ 32 }
+    requires { length lines.now ≤ most_processes }
     ensures { result ≡ seen_after Nothing (own_vars_lines 0 lines.now) }
 {
     let mut seen = Seen::Nothing;
@@ -67,7 +68,7 @@ fn seen_in_events(mut seen: Seen, events: &[Event]) -> Seen
 
 /// Of which processes the source has lines, be they `vars` or `ev` lines.
 pub fn seen_in(source: &Log) -> Seen
-    requires { length source.now.header.var_lines ≤ 32 }
+    requires { length source.now.header.var_lines ≤ most_processes }
     ensures { result ≡ seen_of (own_lines source.now) }
 {
     let mut seen = seen_in_header(source.header.var_lines.as_slice());

@@ -2,6 +2,7 @@
 use Rattle.std.proofs.Common.{◌≡◌, ℕ, ◌-◌, ◌<◌, true, false, Option, Some, None, List, [], ◌++◌, length, length-append, refl, sym, ap, subst, ◌∙◌, arith, inl, inr}
 use Rattle.std.proofs.lemmas.Bool.{cases_Bool}
 use Rattle.std.proofs.lemmas.Option.{none-some}
+use Rattle.pota_base.specs.Limits.{longest_kept}
 use Rattle.event_log.specs.declared.item.Fed.{Fed}
 use Rattle.event_log.specs.declared.item.LogFault.{LogFault}
 use Rattle.event_log.specs.declared.reader.Reader.{Reader}
@@ -145,7 +146,7 @@ module _ {X : Type 0} {P : X → Type 0} (says : Says X P) (aim : Aim) where
       }
 
       -- and has less room
-      less_in : (f : LogFault) → end_ ≡ Some f → 0 < length piece → 67108865 - reader.feeder.total < 67108865 - part.reader.feeder.total
+      less_in : (f : LogFault) → end_ ≡ Some f → 0 < length piece → longest_kept - reader.feeder.total < longest_kept - part.reader.feeder.total
       less_in f some there =
           let past = log_upto [] (bytes ++ piece) in
           let within = within_end past f free_now (end_now ∙ some) in
@@ -167,8 +168,8 @@ module _ {X : Type 0} {P : X → Type 0} (says : Says X P) (aim : Aim) where
             there,
           )
 
-      pub less_room : (last : Reader) (f : LogFault) → last ≡ reader → end_ ≡ Some f → 0 < length piece → 67108865 - last.feeder.total < 67108865 - part.reader.feeder.total
-      less_room last f same some there = subst (λ (x : Reader). 67108865 - x.feeder.total < 67108865 - part.reader.feeder.total) (sym same) (less_in f some there)
+      pub less_room : (last : Reader) (f : LogFault) → last ≡ reader → end_ ≡ Some f → 0 < length piece → longest_kept - last.feeder.total < longest_kept - part.reader.feeder.total
+      less_room last f same some there = subst (λ (x : Reader). longest_kept - x.feeder.total < longest_kept - part.reader.feeder.total) (sym same) (less_in f some there)
 
       -- the log is whole
       stands : (new : LogPart X P) (rest : List ℕ) → end_ ≡ None → new.check ≡ check → rest ≡ part.rest ++ behind → IsWholeLog says aim new.check rest (bytes ++ piece)

@@ -3,6 +3,8 @@
 use Rattle.std.specs.Prelude.{◌≡◌, ℕ, ◌-◌, ◌≤◌, Bool, true, false, List, [], Option, Some, None}
 use Rattle.std.specs.Io.KnownBytes.{Consumes, IsAtEnd}
 use Rattle.pota_base.specs.Outside.{Rose}
+use Rattle.pota_base.specs.Limits.{longest_kept}
+use Rattle.pota_base.specs.Changes.{Change, Left, left_by}
 use Rattle.event_log.specs.LogEnd.{is_whole, log_upto, behind_log}
 use Rattle.event_log.specs.Faults.{first_fault, items}
 use Rattle.event_log.specs.Reader.{HasRead}
@@ -34,7 +36,7 @@ pub record IsOpen {X : Type 0} {P : X → Type 0} (says : Says X P) (aim : Aim) 
 
 -- how many bytes more the log may have
 abbrev pub room_of : {X : Type 0} {P : X → Type 0} → LogPart X P → ℕ
-room_of part = 67108865 - part.reader.feeder.total
+room_of part = longest_kept - part.reader.feeder.total
 
 -- the log stands at the front of these bytes and has no fault; the rest stands behind it
 pub record IsWholeLog {X : Type 0} {P : X → Type 0} (says : Says X P) (aim : Aim)
@@ -66,20 +68,18 @@ pub record IsCutShort (aim : Aim) (bytes : List ℕ) : Type 0 where
 
 -- It is whole; or this fault is due of it, of its bytes or because the input has ended; or a read
 -- failed within it.
-abbrev pub IsFront : {X : Type 0} {P : X → Type 0} → Says X P → Aim → Option (List ℕ)
-    → (faults faults' : ℕ) → List ℕ → Front X P → Type 0
-IsFront says aim left faults faults' bytes (front.Whole check rest) =
-    IsWholeLog says aim check rest bytes
-IsFront says aim left faults faults' bytes (front.Refused why) =
-    (ended : Bool) × (ended ≡ true → IsAtEnd left)
+abbrev pub IsFront : {X : Type 0} {P : X → Type 0} → Says X P → Aim → (left : Left) → List ℕ → Front
+    X P → Type 0
+IsFront says aim left bytes (front.Whole check rest) = IsWholeLog says aim check rest bytes
+IsFront says aim left bytes (front.Refused why) =
+    (ended : Bool) × (ended ≡ true → IsAtEnd left.rest)
     × ((due_of_front aim ended bytes).fault ≡ Some why)
-IsFront says aim left faults faults' bytes front.Failed =
-    Rose faults faults' × IsCutShort aim bytes
+IsFront says aim left bytes front.Failed = Rose left.before left.after × IsCutShort aim bytes
 
 -- some bytes were read, and this is at their front
 pub record HasReadFront {X : Type 0} {P : X → Type 0} (says : Says X P) (aim : Aim)
-    (left left' : Option (List ℕ)) (faults faults' : ℕ) (front : Front X P) : Type 0 where
+    (source : Change) (front : Front X P) : Type 0 where
   pub read : List ℕ
-  pub consumed : Consumes left left' read
-  pub later : faults ≤ faults'
-  pub is : IsFront says aim left' faults faults' read front
+  pub consumed : Consumes source.before source.after read
+  pub later : source.faults_before ≤ source.faults_after
+  pub is : IsFront says aim (left_by source) read front

@@ -12,7 +12,8 @@ pub struct Row {
     pub words: Vec<String>,
     /// The input.
     pub input: Vec<u8>,
-    /// Where the input is cut: each number of bytes from the first of these to that before the second.
+    /// Where the input is cut: each number of bytes from the first of these to that before the
+    /// second.
     pub cut: Option<(usize, usize)>,
     /// Whether each read fails, and each write.
     pub fails: (bool, bool),

@@ -1,5 +1,6 @@
 pub mod Judgement
 pub mod Counters
+pub mod Laws
 pub mod Readings
 pub mod SoFar
 pub mod Due

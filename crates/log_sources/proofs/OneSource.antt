@@ -3,6 +3,7 @@ use Rattle.std.proofs.Common.{◌≡◌, ℕ, ◌+◌, ◌-◌, ◌<◌, ◌≤�
 use Rattle.std.proofs.lemmas.Bool.{cases_Bool}
 use Rattle.std.proofs.lemmas.List.{length-append}
 use Rattle.std.proofs.lemmas.Option.{none-some}
+use Rattle.pota_base.specs.Limits.{longest_log}
 use Rattle.event_log.specs.declared.item.LogFault.{LogFault}
 use Rattle.event_log.specs.LogEnd.{is_whole, log_upto, behind_log}
 use Rattle.event_log.specs.Faults.{first_fault}
@@ -47,7 +48,7 @@ no_bytes s is = record {
       ap (λ (t : Sources). after t []) same ∙ ap (after (judged s.before s.now (s.total + n))) (sym (behind_none s.now)) ∙ ap (λ (p : List ℕ). after (judged s.before p (s.total + n)) (behind_log s.now [])) (sym (upto_none s.now));
 }
 
-module _ (s : Sources) (is : IsOpen s) (b : ℕ) (bytes : List ℕ) (small : s.total < 67108864) where
+module _ (s : Sources) (is : IsOpen s) (b : ℕ) (bytes : List ℕ) (small : s.total < longest_log) where
   abbrev next : Sources
   next = judged s.before (b ∷ s.now) (s.total + 1)
 
@@ -100,7 +101,7 @@ module _ (s : Sources) (is : IsOpen s) (b : ℕ) (bytes : List ℕ) (small : s.t
         ∙ ap (λ (p : List ℕ). after (judged s.before p (s.total + n)) (behind_log (b ∷ s.now) bytes)) (sym upto_is) ∙ ap (after (judged s.before (log_upto s.now (b ∷ bytes)) (s.total + n))) (sym behind_is);
   }
 
-pub reads_source : (s : Sources) (bytes : List ℕ) → IsOpen s → s.total + length bytes ≤ 67108864 → ReadsSource s bytes
+pub reads_source : (s : Sources) (bytes : List ℕ) → IsOpen s → s.total + length bytes ≤ longest_log → ReadsSource s bytes
 reads_source s [] is small = no_bytes s is
 reads_source s (b ∷ bytes) is small = by_fault (first_fault (b ∷ s.now)) refl (λ own open_. reads_source (next s is b bytes (omega arith)) bytes (next_open s is b bytes (omega arith) own open_) (omega arith))
   where

@@ -7,6 +7,7 @@ use Rattle.std.proofs.Math.Seq.{drop-append_seam}
 use Rattle.std.proofs.lemmas.Bool.{cases_Bool, le-leb, lt-leb}
 use Rattle.std.proofs.lemmas.List.{map_push, length-map, length-append, take-append-drop, length-take-le}
 use Rattle.std.proofs.lemmas.Option.{none-some}
+use Rattle.pota_base.specs.Limits.{longest_log, most_sources}
 use Rattle.event_log.specs.declared.item.Fed.{Fed}
 use Rattle.event_log.specs.declared.item.LogFault.{LogFault}
 use Rattle.event_log.specs.declared.log.Log.{Log}
@@ -96,7 +97,7 @@ input_is_fault r new (b ∷ bytes) f o some free judges found is s has =
 
 -- ---- the bytes of one source
 
-pub open_source : (r : SourceReader) (s : Sources) → HasReadSources r s → r.fault ≡ None → length r.sources < 32 → IsOpen (turned s)
+pub open_source : (r : SourceReader) (s : Sources) → HasReadSources r s → r.fault ≡ None → length r.sources < most_sources → IsOpen (turned s)
 open_source r s has free few =
     let none : s.fault ≡ None = sym has.fault_is ∙ free in
     let reads = has.reads none in
@@ -106,14 +107,14 @@ open_source r s has free few =
 abbrev pub Feeds : SourceReader → Reader → List ℕ → Fed → List ℕ → Type 0
 Feeds r reader piece fed rest = (past : Past) → HasRead r.reader past → ReadsLog reader piece fed rest past
 
-module _ (r : SourceReader) (bytes piece : List ℕ) (k : ℕ) (piece_is : piece ≡ take k bytes) (some : 0 < length bytes) (free : r.fault ≡ None) (few : length r.sources < 32) (small : r.total + length piece ≤ 67108864) where
+module _ (r : SourceReader) (bytes piece : List ℕ) (k : ℕ) (piece_is : piece ≡ take k bytes) (some : 0 < length bytes) (free : r.fault ≡ None) (few : length r.sources < most_sources) (small : r.total + length piece ≤ longest_log) where
   front_first : (s : Sources) → HasReadSources r s → after s bytes ≡ after (after (turned s) piece) (drop k bytes)
   front_first s has =
       let none : s.fault ≡ None = sym has.fault_is ∙ free in
       let whole : bytes ≡ piece ++ drop k bytes = sym (take-append-drop k bytes) ∙ ap (λ (xs : List ℕ). xs ++ drop k bytes) (sym piece_is) in
       after_turned s bytes none some ∙ ap (after (turned s)) whole ∙ after_more (turned s) piece (drop k bytes)
 
-  room : (s : Sources) → HasReadSources r s → (turned s).total + length piece ≤ 67108864
+  room : (s : Sources) → HasReadSources r s → (turned s).total + length piece ≤ longest_log
   room s has = omega (arith, small, (has.reads (sym has.fault_is ∙ free)).total_is)
 
   -- it has a fault of its own
@@ -168,10 +169,10 @@ behind_less past (b ∷ bytes) open_ some = omega (arith, ap length (upto_byte p
 pub record IsCount (r : SourceReader) (bytes : List ℕ) (k : ℕ) : Type 0 where
   pub within : k ≤ length bytes
   pub some : 0 < k
-  pub small : r.total + k ≤ 67108864
+  pub small : r.total + k ≤ longest_log
   pub taken : length (take k bytes) ≡ k
 
-pub is_count : (r : SourceReader) (bytes : List ℕ) (k total : ℕ) → k ≡ min (length bytes) (67108864 - total) → total ≡ r.total → r.total < 67108864 → 0 < length bytes → IsCount r bytes k
+pub is_count : (r : SourceReader) (bytes : List ℕ) (k total : ℕ) → k ≡ min (length bytes) (longest_log - total) → total ≡ r.total → r.total < longest_log → 0 < length bytes → IsCount r bytes k
 is_count r bytes k total k_is total_is room some =
     let within : k ≤ length bytes = omega arith in
     record { within = within; some = omega arith; small = omega arith; taken = length-take-le k bytes within }
@@ -226,22 +227,22 @@ same_reads r new s total sources joined reader draft reads = record {
 
 -- ---- the fault of the next byte
 
-pub too_many : (r : SourceReader) (x : MergeFault) (s : Sources) → 32 ≤ length r.sources → x ≡ record { code = code.TooManySources; source = length r.sources + 1; line = 1 } → ReadsOn r s → Some x ≡ input_fault s
+pub too_many : (r : SourceReader) (x : MergeFault) (s : Sources) → most_sources ≤ length r.sources → x ≡ record { code = code.TooManySources; source = length r.sources + 1; line = 1 } → ReadsOn r s → Some x ≡ input_fault s
 unfolding input_fault
 too_many r x s full x_is reads =
     let count = count_before r s reads in
-    let full_before : 32 ≤ length s.before = omega (arith, full, count) in
-    rw (le-leb 32 (length s.before) full_before) (ap (λ (y : MergeFault). Some y) x_is ∙ ap (λ (n : ℕ). Some (record { code = code.TooManySources; source = n + 1; line = 1 })) count)
+    let full_before : most_sources ≤ length s.before = omega (arith, full, count) in
+    rw (le-leb most_sources (length s.before) full_before) (ap (λ (y : MergeFault). Some y) x_is ∙ ap (λ (n : ℕ). Some (record { code = code.TooManySources; source = n + 1; line = 1 })) count)
 
-pub too_long : (r : SourceReader) (x : MergeFault) (line : ℕ) (s : Sources) → length r.sources < 32 → 67108864 ≤ r.total → x ≡ record { code = code.TooLong; source = length r.sources + 1; line = line } → line ≡ length (lines s.now) + 1 → ReadsOn r s → Some x ≡ input_fault s
+pub too_long : (r : SourceReader) (x : MergeFault) (line : ℕ) (s : Sources) → length r.sources < most_sources → longest_log ≤ r.total → x ≡ record { code = code.TooLong; source = length r.sources + 1; line = line } → line ≡ length (lines s.now) + 1 → ReadsOn r s → Some x ≡ input_fault s
 unfolding input_fault
 too_long r x line s few full x_is line_is reads =
     let count = count_before r s reads in
-    let few_before : length s.before < 32 = omega (arith, few, count) in
-    let full_now : 67108864 ≤ s.total = omega (arith, full, reads.total_is) in
-    rw (lt-leb 32 (length s.before) few_before, le-leb 67108864 s.total full_now) (ap (λ (y : MergeFault). Some y) x_is ∙ ap (λ (n : ℕ). Some (record { code = code.TooLong; source = n + 1; line = line })) count ∙ ap (λ (n : ℕ). Some (record { code = code.TooLong; source = length s.before + 1; line = n })) line_is)
+    let few_before : length s.before < most_sources = omega (arith, few, count) in
+    let full_now : longest_log ≤ s.total = omega (arith, full, reads.total_is) in
+    rw (lt-leb most_sources (length s.before) few_before, le-leb longest_log s.total full_now) (ap (λ (y : MergeFault). Some y) x_is ∙ ap (λ (n : ℕ). Some (record { code = code.TooLong; source = n + 1; line = line })) count ∙ ap (λ (n : ℕ). Some (record { code = code.TooLong; source = length s.before + 1; line = n })) line_is)
 
-pub has_room : (r : SourceReader) (s : Sources) → length r.sources < 32 → r.total < 67108864 → ReadsOn r s → None ≡ input_fault s
+pub has_room : (r : SourceReader) (s : Sources) → length r.sources < most_sources → r.total < longest_log → ReadsOn r s → None ≡ input_fault s
 has_room r s few small reads = sym (no_input_fault s (omega (arith, few, count_before r s reads)) (omega (arith, small, reads.total_is)))
 
 -- ---- the end of a source

@@ -1,6 +1,7 @@
 -- How the sources follow the bytes.
 use Rattle.std.proofs.Common.{◌≡◌, ℕ, ◌+◌, ◌<◌, true, false, Option, Some, None, List, [], ◌∷◌, ◌++◌, length, refl, sym, ap, ◌∙◌, arith, inl, inr}
 use Rattle.std.proofs.lemmas.Bool.{cases_Bool, lt-leb}
+use Rattle.pota_base.specs.Limits.{longest_log, most_sources}
 use Rattle.event_log.specs.Before.{is_ended}
 use Rattle.event_log.specs.Feeding.{Past}
 use Rattle.event_log.specs.Moments.{lines}
@@ -107,13 +108,13 @@ pub record IsOpen (s : Sources) : Type 0 where
   pub faultless : s.fault ≡ None
   pub own : first_fault s.now ≡ None
   pub open_ : is_whole s.now ≡ false
-  pub few : length s.before < 32
+  pub few : length s.before < most_sources
 
-pub no_input_fault : (s : Sources) → length s.before < 32 → s.total < 67108864 → input_fault s ≡ None
+pub no_input_fault : (s : Sources) → length s.before < most_sources → s.total < longest_log → input_fault s ≡ None
 unfolding input_fault
-no_input_fault s few small = rw (lt-leb 32 (length s.before) few, lt-leb 67108864 s.total small) refl
+no_input_fault s few small = rw (lt-leb most_sources (length s.before) few, lt-leb longest_log s.total small) refl
 
-pub byte_taken : (s : Sources) (b : ℕ) → IsOpen s → s.total < 67108864 → step s b ≡ judged s.before (b ∷ s.now) (s.total + 1)
+pub byte_taken : (s : Sources) (b : ℕ) → IsOpen s → s.total < longest_log → step s b ≡ judged s.before (b ∷ s.now) (s.total + 1)
 byte_taken s b is small =
     step_free s b is.faultless ∙ ap (λ (t : Sources). taken t b) (turned_same s is.open_) ∙ taken_byte s b (no_input_fault s is.few small)
 

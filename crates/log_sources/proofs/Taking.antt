@@ -3,6 +3,8 @@ use Rattle.std.proofs.Common.{◌≡◌, ℕ, ◌+◌, ◌-◌, ◌<◌, ◌≤�
 use Rattle.std.specs.Io.KnownBytes.{IsAtEnd}
 use Rattle.std.proofs.lemmas.Option.{none-some}
 use Rattle.pota_base.specs.Outside.{Rose}
+use Rattle.pota_base.specs.Limits.{longest_log}
+use Rattle.pota_base.specs.Changes.{change_of}
 use Rattle.input_reading.specs.declared.reading.End.TheVariants as end
 use Rattle.input_reading.specs.Intakes.{ReadsAll}
 use Rattle.fault_kinds.specs.declared.merge.MergeFault.{MergeFault}
@@ -49,7 +51,7 @@ module _ (new : SourceReader) (bytes piece : List ℕ) (has : HasReadSources new
   told_all : o ≡ (after no_sources (bytes ++ piece)).fault
   told_all = told ∙ ap (λ (s : Sources). s.fault) (sym joined)
 
-  pub may_follow : (r : SourceReader) → Open r bytes → 0 < length piece → o ≡ None → Open new (bytes ++ piece) × (67108864 - new.total < 67108864 - r.total)
+  pub may_follow : (r : SourceReader) → Open r bytes → 0 < length piece → o ≡ None → Open new (bytes ++ piece) × (longest_log - new.total < longest_log - r.total)
   may_follow r open_ some none =
       let now : Open new (bytes ++ piece) = (has_all, sym told_all ∙ none) in
       let before = counted r bytes open_ in
@@ -78,14 +80,14 @@ faulty_so left faults faults' bytes (Fault f) faulty is = (false, λ e. absurd c
 faulty_so left faults faults' bytes Failed faulty is = absurd is
 
 module _ (left left' : Option (List ℕ)) (faults faults' : ℕ) (reader : SourceReader) (g : Gathered) where
-  pub gathers_ended : ReadsAll left left' faults faults' (Open reader) (Done reader) [] end.Ended
+  pub gathers_ended : ReadsAll (change_of left left' faults faults') (Open reader) (Done reader) [] end.Ended
       → ((bytes : List ℕ) → HasReadSources reader (after no_sources bytes) → IsGathered bytes g) → Gathers left left' faults faults' g
   gathers_ended all gathered = record { read = all.read; consumed = all.consumed; later = all.later; to = ended_so left' faults faults' all.read g all.to.0 (gathered all.read all.to.1.0) }
 
-  pub gathers_done : ReadsAll left left' faults faults' (Open reader) (Done reader) [] end.Done
+  pub gathers_done : ReadsAll (change_of left left' faults faults') (Open reader) (Done reader) [] end.Done
       → ((bytes : List ℕ) → HasReadSources reader (after no_sources bytes) → IsGathered bytes g) → Gathers left left' faults faults' g
   gathers_done all gathered = record { read = all.read; consumed = all.consumed; later = all.later; to = faulty_so left' faults faults' all.read g all.to.1 (gathered all.read all.to.0) }
 
-pub gathers_failed : (left left' : Option (List ℕ)) (faults faults' : ℕ) (reader : SourceReader) → ReadsAll left left' faults faults' (Open reader) (Done reader) [] end.Failed
+pub gathers_failed : (left left' : Option (List ℕ)) (faults faults' : ℕ) (reader : SourceReader) → ReadsAll (change_of left left' faults faults') (Open reader) (Done reader) [] end.Failed
     → Gathers left left' faults faults' Failed
 gathers_failed left left' faults faults' reader all = record { read = all.read; consumed = all.consumed; later = all.later; to = (all.to.1.1, all.to.0) }

@@ -6,6 +6,7 @@ use Rattle.std.proofs.lemmas.Bool.{cases_Bool, le-leb, lt-leb, cases_lt}
 use Rattle.std.proofs.lemmas.Grind.{flat_map-append}
 use Rattle.std.proofs.lemmas.List.{append-nil, map_push, length-map, length-append}
 use Rattle.std.proofs.lemmas.Option.{none-some}
+use Rattle.pota_base.specs.Limits.{longest_log, most_sources}
 use Rattle.event_log.specs.declared.item.LogFault.{LogFault}
 use Rattle.event_log.specs.Feeding.{Past}
 use Rattle.event_log.specs.LogText.{onto}
@@ -55,20 +56,20 @@ fine_byte s b bytes none = by_fault s.fault refl
 -- ---- few bytes
 
 pub record HasRoom (s : Sources) : Type 0 where
-  pub sources : length s.before < 32
-  pub bytes : s.total < 67108864
+  pub sources : length s.before < most_sources
+  pub bytes : s.total < longest_log
 
 input_room : (s : Sources) → input_fault s ≡ None → HasRoom s
 unfolding input_fault
-input_room s none = elim (cases_lt (length s.before) 32) [
-  | inr full ↦ absurd (none-some _ (sym (rw (le-leb 32 (length s.before) full) at none)))
-  | inl few ↦ elim (cases_lt s.total 67108864) [
+input_room s none = elim (cases_lt (length s.before) most_sources) [
+  | inr full ↦ absurd (none-some _ (sym (rw (le-leb most_sources (length s.before) full) at none)))
+  | inl few ↦ elim (cases_lt s.total longest_log) [
     | inl small ↦ record { sources = few; bytes = small }
-    | inr full ↦ absurd (none-some _ (sym (rw (lt-leb 32 (length s.before) few, le-leb 67108864 s.total full) at none)))
+    | inr full ↦ absurd (none-some _ (sym (rw (lt-leb most_sources (length s.before) few, le-leb longest_log s.total full) at none)))
   ]
 ]
 
-faultless_few : (s : Sources) (bytes : List ℕ) → s.total ≤ 67108864 → (after s bytes).fault ≡ None → s.total + length bytes ≤ 67108864
+faultless_few : (s : Sources) (bytes : List ℕ) → s.total ≤ longest_log → (after s bytes).fault ≡ None → s.total + length bytes ≤ longest_log
 faultless_few s [] small none = omega arith
 faultless_few s (b ∷ bytes) small none =
     let fine = fine_byte s b bytes none in
@@ -89,7 +90,7 @@ total_after s (b ∷ bytes) none =
     omega (arith, same, more, total)
 
 pub faultless_are_few : FaultlessAreFew
-faultless_are_few bytes none = let few : 0 + length bytes ≤ 67108864 = faultless_few no_sources bytes (omega arith) none in omega arith
+faultless_are_few bytes none = let few : 0 + length bytes ≤ longest_log = faultless_few no_sources bytes (omega arith) none in omega arith
 
 -- ---- texts
 
@@ -179,7 +180,7 @@ byte_texts t b bytes has none =
 
 pub record AreSources (s : Sources) (bytes : List ℕ) : Type 0 where
   pub has : HasTexts s bytes
-  pub few : length s.before < 32
+  pub few : length s.before < most_sources
 
 sources_after : (s : Sources) (seen bytes : List ℕ) → AreSources s seen → (after s bytes).fault ≡ None → AreSources (after s bytes) (seen ++ bytes)
 sources_after s seen [] are none = subst (λ (t : Sources). AreSources t (seen ++ [])) (sym (after_none s)) (subst (AreSources s) (sym (append-nil seen)) are)

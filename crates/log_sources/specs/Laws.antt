@@ -1,5 +1,6 @@
 -- What follows from reading the sources byte by byte.
 use Rattle.std.specs.Prelude.{◌≡◌, ℕ, ◌≤◌, List, [], ◌∷◌, ◌++◌, length, map, flat_map, None, Some}
+use Rattle.pota_base.specs.Limits.{longest_log}
 use Rattle.event_log.specs.declared.log.Log.{Log}
 use Rattle.event_log.specs.Laws.{IsTextOf}
 use Rattle.fault_kinds.specs.declared.merge.MergeFault.{MergeFault}
@@ -20,7 +21,7 @@ FaultStays = (s : Sources) (f : MergeFault) (bytes : List ℕ) → s.fault ≡ S
 -- bytes without a fault are few
 abbrev pub FaultlessAreFew : Type 0
 FaultlessAreFew = (bytes : List ℕ) → (after no_sources bytes).fault ≡ None
-    → length bytes ≤ 67108864
+    → length bytes ≤ longest_log
 
 -- each text is that of the log at its place
 abbrev pub AreTextsOf : List (List ℕ) → List Log → Type 0

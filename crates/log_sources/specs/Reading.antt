@@ -1,6 +1,7 @@
 -- What the reader of sources keeps of the bytes so far.
 use Rattle.std.specs.Prelude.{◌≡◌, ◌<◌, ◌≤◌, List, length, map, None}
 use Rattle.std.specs.List.{AllByRecursion}
+use Rattle.pota_base.specs.Limits.{most_sources}
 use Rattle.event_log.specs.declared.log.Log.{Log}
 use Rattle.event_log.specs.LogEnd.{is_whole}
 use Rattle.event_log.specs.Faults.{first_fault, items}
@@ -32,6 +33,6 @@ pub record HasReadSources (r : SourceReader) (s : Sources) : Type 0 where
 -- the logs can be merged
 pub record CanMerge (logs : List Log) : Type 0 where
   pub some : 0 < length logs
-  pub few : length logs ≤ 32
+  pub few : length logs ≤ most_sources
   pub each : AllByRecursion IsSource logs
   pub faultless : merge_fault logs ≡ None

@@ -3,6 +3,7 @@
 use Rattle.std.specs.Prelude.{ℕ, ◌+◌, nat_le, List, [], ◌∷◌, ◌++◌, length, map, Option, None, Some}
 use Rattle.std.specs.Prelude.{if◌then◌else◌}
 use Rattle.std.specs.Option.{option_map}
+use Rattle.pota_base.specs.Limits.{longest_log, most_sources}
 use Rattle.log_lines.specs.Reading.{choose}
 use Rattle.event_log.specs.declared.item.LogFault.{LogFault}
 use Rattle.event_log.specs.declared.log.Log.{Log}
@@ -45,8 +46,8 @@ turned s =
 -- the fault of the next byte, whatever byte it is
 unfoldable pub input_fault : Sources → Option MergeFault
 input_fault s =
-    if nat_le 32 (length s.before) then Some (fault_at s.before code.TooManySources 1)
-    else if nat_le 67108864 s.total
+    if nat_le most_sources (length s.before) then Some (fault_at s.before code.TooManySources 1)
+    else if nat_le longest_log s.total
     then Some (fault_at s.before code.TooLong (length (lines s.now) + 1))
     else None
 

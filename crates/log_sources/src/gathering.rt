@@ -1,8 +1,9 @@
 //! The sources of an input, read to its end or to their first fault.
 
 ghost use Rattle.std.specs.Prelude.{◌≡◌, ◌≢◌, ◌-◌, ℕ, List as ListOf, IfOk, OnErr, None};
-ghost use Rattle.input_reading.specs.Changes.{of_source};
-ghost use Rattle.input_reading.specs.Intakes.{HasReadSome};
+ghost use Rattle.pota_base.specs.Limits.{longest_log};
+ghost use Rattle.pota_base.specs.Changes.{of_source};
+ghost use Rattle.input_reading.specs.Intakes.{ReadsShort};
 ghost use Rattle.log_sources.specs.Sources.{after, no_sources};
 ghost use Rattle.log_sources.specs.Reading.{HasReadSources};
 ghost use Rattle.log_sources.specs.Gathering.{HasGathered, IsFaulty};
@@ -33,7 +34,7 @@ impl Intake for SourceReader {
     ghost done = { λ r bytes. HasReadSources r (after no_sources bytes)
         × IsFaulty (after no_sources bytes) };
 
-    ghost room = { λ r. 67108864 - r.total };
+    ghost room = { λ r. longest_log - r.total };
 
     fn take(&mut self, piece: &[u8]) -> Result<Turn, NoMemory> {
         match self.feed(piece)? {
@@ -58,7 +59,7 @@ fn finished(mut reader: SourceReader) -> Gathered
 /// read.
 pub fn gather<S: Source>(alloc: Global, source: &mut S) -> Result<Gathered, NoMemory>
     ensures reads { IfOk result (HasGathered (of_source S.Source source.old source.new)) }
-    ensures short { OnErr result (HasReadSome (of_source S.Source source.old source.new)) }
+    ensures short { OnErr result (ReadsShort (of_source S.Source source.old source.new)) }
     ensures calm { result ≢ Ok Gathered.Failed → S.faults source.new ≡ S.faults source.old }
 {
     let mut reader = SourceReader::new(alloc);

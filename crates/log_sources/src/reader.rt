@@ -1,19 +1,14 @@
 //! The reader of sources in pieces.
 
 ghost use Rattle.std.specs.Prelude.{◌≡◌, ◌+◌, ◌<◌, ◌≤◌, false, length, None, IfOk, OnOk};
+ghost use Rattle.pota_base.specs.Limits.{longest_log, most_sources};
 
 use crate::draft::Draft;
 use event_log::{Log, Reader};
 use log_merge::{Joined, MergeCode, MergeFault};
-use pota_base::{List, NoMemory};
+use pota_base::{LONGEST_LOG, List, MOST_SOURCES, NoMemory};
 use std::alloc::Global;
 use std::mem;
-
-/// The most sources.
-const MOST_SOURCES: usize = 32;
-
-/// The most bytes of all sources.
-const MOST_BYTES: usize = 67_108_864;
 
 /// Reads the texts of several logs one behind another, in pieces of any lengths, each up to its
 /// `end` line. What it gives are functions of the bytes so far.
@@ -30,8 +25,8 @@ pub struct SourceReader {
     /// The last source is whole, and no byte came behind it.
     between: bool,
     fault: Option<MergeFault>,
-    ghost room: { total ≤ 67108864 },
-    ghost few: { length sources ≤ 32 },
+    ghost room: { total ≤ longest_log },
+    ghost few: { length sources ≤ most_sources },
 }
 
 impl SourceReader {
@@ -92,14 +87,14 @@ impl SourceReader {
     fn input_fault(&mut self) -> Option<MergeFault>
         ensures fault { (s : Sources) → ReadsOn self.old s → is_whole s.now ≡ false
             → result ≡ input_fault s }
-        ensures bytes { result ≡ None → self.old.total < 67108864 }
-        ensures sources { result ≡ None → length self.old.sources < 32 }
+        ensures bytes { result ≡ None → self.old.total < longest_log }
+        ensures sources { result ≡ None → length self.old.sources < most_sources }
         ensures same { self.new ≡ self.old }
     {
         if self.sources.len() >= MOST_SOURCES {
             return Some(self.fault_at(MergeCode::TooManySources, 1));
         }
-        if self.total >= MOST_BYTES {
+        if self.total >= LONGEST_LOG {
             let line = self.line();
             return Some(self.fault_at(MergeCode::TooLong, line));
         }
@@ -141,7 +136,7 @@ impl SourceReader {
             self.fault = Some(fault);
             return Ok(&[]);
         }
-        let count = bytes.len().min(MOST_BYTES - self.total);
+        let count = bytes.len().min(LONGEST_LOG - self.total);
         let (fed, behind) = self.reader.feed_log(&bytes[..count])?;
         if let Some(fault) = fed.fault {
             self.fault = Some(self.fault_at(MergeCode::Log(fault.code), fault.line));

@@ -4,6 +4,7 @@ use Rattle.std.specs.List.{AllByRecursion}
 use Rattle.std.proofs.lemmas.Bool.{false≢true}
 use Rattle.std.proofs.lemmas.List.{length_push}
 use Rattle.std.proofs.lemmas.Option.{none-some, same_Some}
+use Rattle.pota_base.specs.Limits.{most_events}
 use Rattle.log_lines.specs.Reading.{choose}
 use Rattle.event_log.specs.declared.item.Item.TheVariants as item
 use Rattle.event_log.specs.declared.item.LogFault.{LogFault}
@@ -48,7 +49,7 @@ batches_sum : (ess : List (List Event)) (bs : List (List Event)) → sum (map le
 batches_sum ess [] = omega arith
 batches_sum ess (b ∷ bs) = omega (arith, batches_sum (with_batch ess b) bs, sum_batch ess b)
 
-fits_after : (trace : TraceView) (log : Prefix) (since : List Event) → trace.states ≡ states_of log → AllByRecursion (EventFits log.header) since → event_count log.batches + length since ≤ 50000
+fits_after : (trace : TraceView) (log : Prefix) (since : List Event) → trace.states ≡ states_of log → AllByRecursion (EventFits log.header) since → event_count log.batches + length since ≤ most_events
     → FitsTrace trace since
 fits_after trace log since same each few = record {
   follows = record {
@@ -137,7 +138,7 @@ record Closing (j : Judgement) (kept : LogTrace) (trace : TraceView) (batch : Li
   states : trace.states ≡ states_of log
   here : trace.spent ≡ false
   each : AllByRecursion (EventFits log.header) batch
-  few : event_count log.batches + length batch ≤ 50000
+  few : event_count log.batches + length batch ≤ most_events
 
 closing_of : (j : Judgement) (last : Bool) (kept : LogTrace) (trace : TraceView) (batch : List Event) → Keeps kept j → MayFollow j (end_item last ∷ []) → kept.ended ≡ false → kept.trace ≡ Some trace → batch ≡ kept.since
     → Closing j kept trace batch
@@ -153,7 +154,7 @@ closing_of (growing log since) last kept trace batch is fit open_ some same =
       states = ap (λ (t : TraceView). t.states) (sym one) ∙ is.0.states;
       here = ap (λ (t : TraceView). t.spent) (sym one) ∙ is.0.here;
       each = subst (λ (es : List Event). AllByRecursion (EventFits log.header) es) came is.1.each;
-      few = subst (λ (es : List Event). event_count log.batches + length es ≤ 50000) came is.1.few;
+      few = subst (λ (es : List Event). event_count log.batches + length es ≤ most_events) came is.1.few;
     }
 closing_of (finished log closed) last kept trace batch is fit open_ some same = absurd (false≢true (sym open_ ∙ is.1))
 closing_of (refused log why) last kept trace batch is fit open_ some same = absurd is

@@ -2,6 +2,7 @@
 use Rattle.std.specs.Prelude.{◌≡◌, ℕ, ◌+◌, ◌≤◌, true, false, List, [], length, None, Some}
 use Rattle.std.specs.Prelude.{Option}
 use Rattle.std.specs.List.{AllByRecursion}
+use Rattle.pota_base.specs.Limits.{most_events}
 use Rattle.event_log.specs.declared.item.Item.{Item}
 use Rattle.event_log.specs.declared.item.LogFault.{LogFault}
 use Rattle.event_log.specs.declared.log.Event.{Event}
@@ -46,7 +47,7 @@ pub record HasSince (kept : LogTrace) (log : Prefix) (since : List Event) : Type
   pub since_is : kept.since ≡ since
   pub open_ : kept.ended ≡ false
   pub each : AllByRecursion (EventFits log.header) since
-  pub few : event_count log.batches + length since ≤ 50000
+  pub few : event_count log.batches + length since ≤ most_events
 
 -- no item came yet
 pub record IsNew (kept : LogTrace) : Type 0 where

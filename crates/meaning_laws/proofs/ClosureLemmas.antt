@@ -4,7 +4,7 @@ use Rattle.std.proofs.lemmas.Bool.{cases_lt, cases_eq}
 use Rattle.run_model.specs.Cut.{Cut, Clocks, count, IsWithin, min_cut, max_cut, with_next, Follows, lengths}
 use Rattle.run_model.specs.Consistent.{IsOrder, IsConsistent, PathIn, IsPath}
 use Rattle.run_model.specs.Sublattice.{IsSublattice, AllIn}
-use Rattle.run_model.specs.Operators.{SomeTime, EachTime, Staying, NextTime}
+use Rattle.run_model.specs.Operators.{EfHolds, AgHolds, EgHolds, ExHolds}
 use Rattle.run_model.proofs.Counts.{count-min, count-max, length-min, length-max, within_trans, min_left, max_left, max_right, max_within, same_counts, max_absorbs, length-with_next, with_next_same, with_next_other}
 use Rattle.run_model.proofs.Orders.{min_consistent, max_consistent}
 use Rattle.run_model.proofs.Paths.{path_first, path_last, path_rises, path_joined, path_wider, path_all, all_first, each_time_ends, each_time_from_ends, next_time_from, next_time_lands}
@@ -12,12 +12,12 @@ use Rattle.meaning_laws.proofs.OperatorLemmas.{path_exists}
 
 -- ---- EF
 
-pub some_time_min : (o : Clocks) → IsOrder o → (A : Cut → Type 0) (c d : Cut) → IsConsistent o c → IsConsistent o d → SomeTime o A c → SomeTime o A (min_cut c d)
+pub some_time_min : (o : Clocks) → IsOrder o → (A : Cut → Type 0) (c d : Cut) → IsConsistent o c → IsConsistent o d → EfHolds o A c → EfHolds o A (min_cut c d)
 some_time_min o order A c d k l w =
     let p = path_exists o order (min_cut c d) w.1 (min_consistent o order c d k l) (path_last (IsConsistent o) c w.0 w.1 w.2) (within_trans (min_cut c d) c w.1 (min_left c d) (path_rises (IsConsistent o) c w.0 w.1 w.2)) in
     (p.0, w.1, p.1, w.3)
 
-pub some_time_max : (o : Clocks) → IsOrder o → (A : Cut → Type 0) → ((x y : Cut) → IsConsistent o x → IsConsistent o y → A x → A y → A (max_cut x y)) → (c d : Cut) → IsConsistent o c → IsConsistent o d → SomeTime o A c → SomeTime o A d → SomeTime o A (max_cut c d)
+pub some_time_max : (o : Clocks) → IsOrder o → (A : Cut → Type 0) → ((x y : Cut) → IsConsistent o x → IsConsistent o y → A x → A y → A (max_cut x y)) → (c d : Cut) → IsConsistent o c → IsConsistent o d → EfHolds o A c → EfHolds o A d → EfHolds o A (max_cut c d)
 some_time_max o order A keeps c d k l w v =
     let x = w.1 in
     let y = v.1 in
@@ -29,7 +29,7 @@ some_time_max o order A keeps c d k l w v =
 
 -- ---- AG
 
-pub each_time_max : (o : Clocks) → IsOrder o → (A : Cut → Type 0) (c d : Cut) → IsConsistent o c → EachTime o A c → EachTime o A (max_cut c d)
+pub each_time_max : (o : Clocks) → IsOrder o → (A : Cut → Type 0) (c d : Cut) → IsConsistent o c → AgHolds o A c → AgHolds o A (max_cut c d)
 each_time_max o order A c d k each = each_time_from_ends o A (max_cut c d) (λ es e p.
     let q = path_exists o order c e k (path_last (IsConsistent o) (max_cut c d) es e p) (within_trans c (max_cut c d) e (max_left c d) (path_rises (IsConsistent o) (max_cut c d) es e p)) in
     each_time_ends o A c each q.0 e q.1)
@@ -39,7 +39,7 @@ spread e c d s t h = same_counts (min_cut (max_cut e c) (max_cut e d)) e
     (omega (arith, length-min (max_cut e c) (max_cut e d), length-max e c, length-max e d, s, t))
     (λ i. omega (arith, count-min (max_cut e c) (max_cut e d) i, count-max e c i, count-max e d i, count-min c d i, h i))
 
-pub each_time_min : (o : Clocks) → IsOrder o → (A : Cut → Type 0) → ((x y : Cut) → IsConsistent o x → IsConsistent o y → A x → A y → A (min_cut x y)) → (c d : Cut) → IsConsistent o c → IsConsistent o d → EachTime o A c → EachTime o A d → EachTime o A (min_cut c d)
+pub each_time_min : (o : Clocks) → IsOrder o → (A : Cut → Type 0) → ((x y : Cut) → IsConsistent o x → IsConsistent o y → A x → A y → A (min_cut x y)) → (c d : Cut) → IsConsistent o c → IsConsistent o d → AgHolds o A c → AgHolds o A d → AgHolds o A (min_cut c d)
 each_time_min o order A keeps c d k l each other = each_time_from_ends o A (min_cut c d) (λ es e p.
     let at_e = path_last (IsConsistent o) (min_cut c d) es e p in
     let x = max_consistent o order e c at_e k in
@@ -121,11 +121,11 @@ both_path : (o : Clocks) (A : Cut → Type 0) (c : Cut) (es : List Cut) (d : Cut
 both_path o A c [] d p h = ((p.0, h), p.1)
 both_path o A c (e ∷ es) d p h = ((p.0, h.0), p.1, both_path o A e es d p.2 h.1)
 
-stays : (o : Clocks) (A : Cut → Type 0) (c : Cut) (es : List Cut) → PathIn (Both o A) c es (lengths o) → Staying o A c
+stays : (o : Clocks) (A : Cut → Type 0) (c : Cut) (es : List Cut) → PathIn (Both o A) c es (lengths o) → EgHolds o A c
 stays o A c es p = (es, path_wider (Both o A) (IsConsistent o) (λ x h. h.0) c es (lengths o) p, path_all A c es (lengths o) (path_wider (Both o A) A (λ x h. h.1) c es (lengths o) p))
 
 -- each cut of a path to the final cut, joined with a fixed member
-pub staying_max : (o : Clocks) → IsOrder o → (A : Cut → Type 0) → ((x y : Cut) → IsConsistent o x → IsConsistent o y → A x → A y → A (max_cut x y)) → (c d : Cut) → IsConsistent o d → A d → Staying o A c → Staying o A (max_cut c d)
+pub staying_max : (o : Clocks) → IsOrder o → (A : Cut → Type 0) → ((x y : Cut) → IsConsistent o x → IsConsistent o y → A x → A y → A (max_cut x y)) → (c d : Cut) → IsConsistent o d → A d → EgHolds o A c → EgHolds o A (max_cut c d)
 staying_max o order A keeps c d l member w =
     let p = both_path o A c w.0 (lengths o) w.1 w.2 in
     let at_end = path_last (Both o A) c w.0 (lengths o) p in
@@ -137,7 +137,7 @@ min_final : (o : Clocks) (d : Cut) → IsConsistent o (lengths o) → IsConsiste
 min_final o d k l = same_counts (min_cut (lengths o) d) d (omega (arith, length-min (lengths o) d, k.shaped, l.shaped)) (λ i. omega (arith, count-min (lengths o) d i, l.within i))
 
 -- the path of c, cut down to d, and then the path of d
-pub staying_min : (o : Clocks) → IsOrder o → (A : Cut → Type 0) → ((x y : Cut) → IsConsistent o x → IsConsistent o y → A x → A y → A (min_cut x y)) → (c d : Cut) → IsConsistent o d → Staying o A c → Staying o A d → Staying o A (min_cut c d)
+pub staying_min : (o : Clocks) → IsOrder o → (A : Cut → Type 0) → ((x y : Cut) → IsConsistent o x → IsConsistent o y → A x → A y → A (min_cut x y)) → (c d : Cut) → IsConsistent o d → EgHolds o A c → EgHolds o A d → EgHolds o A (min_cut c d)
 staying_min o order A keeps c d l w v =
     let p = both_path o A c w.0 (lengths o) w.1 w.2 in
     let at_end = path_last (Both o A) c w.0 (lengths o) p in
@@ -169,7 +169,7 @@ next_of_max c d i s l = same_counts (max_cut (with_next c i) (with_next d i)) (w
       | inr ne ↦ omega (arith, count-max (with_next c i) (with_next d i) j, with_next_other c i j ne, with_next_other d i j ne, with_next_other (max_cut c d) i j ne, count-max c d j)
     ])
 
-pub next_time_min : (o : Clocks) → IsOrder o → (A : Cut → Type 0) → ((x y : Cut) → IsConsistent o x → IsConsistent o y → A x → A y → A (min_cut x y)) → (c d : Cut) → IsConsistent o c → IsConsistent o d → (i : ℕ) → NextTime o i A c → NextTime o i A d → NextTime o i A (min_cut c d)
+pub next_time_min : (o : Clocks) → IsOrder o → (A : Cut → Type 0) → ((x y : Cut) → IsConsistent o x → IsConsistent o y → A x → A y → A (min_cut x y)) → (c d : Cut) → IsConsistent o c → IsConsistent o d → (i : ℕ) → ExHolds o i A c → ExHolds o i A d → ExHolds o i A (min_cut c d)
 next_time_min o order A keeps c d k l i w v =
     let e = next_of_min c d i (k.shaped ∙ sym l.shaped) w.0 in
     let m = next_time_lands o i A c w in
@@ -178,7 +178,7 @@ next_time_min o order A keeps c d k l i w v =
     (subst (IsConsistent o) e (min_consistent o order (with_next c i) (with_next d i) m n))
     (subst A e (keeps (with_next c i) (with_next d i) m n w.2 v.2))
 
-pub next_time_max : (o : Clocks) → IsOrder o → (A : Cut → Type 0) → ((x y : Cut) → IsConsistent o x → IsConsistent o y → A x → A y → A (max_cut x y)) → (c d : Cut) → IsConsistent o c → IsConsistent o d → (i : ℕ) → NextTime o i A c → NextTime o i A d → NextTime o i A (max_cut c d)
+pub next_time_max : (o : Clocks) → IsOrder o → (A : Cut → Type 0) → ((x y : Cut) → IsConsistent o x → IsConsistent o y → A x → A y → A (max_cut x y)) → (c d : Cut) → IsConsistent o c → IsConsistent o d → (i : ℕ) → ExHolds o i A c → ExHolds o i A d → ExHolds o i A (max_cut c d)
 next_time_max o order A keeps c d k l i w v =
     let e = next_of_max c d i (k.shaped ∙ sym l.shaped) w.0 in
     let m = next_time_lands o i A c w in
@@ -189,28 +189,28 @@ next_time_max o order A keeps c d k l i w v =
 
 -- ---- together
 
-pub some_time_closed : (o : Clocks) → IsOrder o → (A : Cut → Type 0) → IsSublattice o A → IsSublattice o (λ c. IsConsistent o c × SomeTime o A c)
+pub some_time_closed : (o : Clocks) → IsOrder o → (A : Cut → Type 0) → IsSublattice o A → IsSublattice o (λ c. IsConsistent o c × EfHolds o A c)
 some_time_closed o order A closed = record {
   consistent = λ c h. h.0;
   has_min = λ c d h l. (min_consistent o order c d h.0 l.0, some_time_min o order A c d h.0 l.0 h.1);
   has_max = λ c d h l. (max_consistent o order c d h.0 l.0, some_time_max o order A (λ x y p q. closed.has_max x y) c d h.0 l.0 h.1 l.1);
 }
 
-pub each_time_closed : (o : Clocks) → IsOrder o → (A : Cut → Type 0) → IsSublattice o A → IsSublattice o (λ c. IsConsistent o c × EachTime o A c)
+pub each_time_closed : (o : Clocks) → IsOrder o → (A : Cut → Type 0) → IsSublattice o A → IsSublattice o (λ c. IsConsistent o c × AgHolds o A c)
 each_time_closed o order A closed = record {
   consistent = λ c h. h.0;
   has_min = λ c d h l. (min_consistent o order c d h.0 l.0, each_time_min o order A (λ x y p q. closed.has_min x y) c d h.0 l.0 h.1 l.1);
   has_max = λ c d h l. (max_consistent o order c d h.0 l.0, each_time_max o order A c d h.0 h.1);
 }
 
-pub staying_closed : (o : Clocks) → IsOrder o → (A : Cut → Type 0) → IsSublattice o A → IsSublattice o (λ c. IsConsistent o c × Staying o A c)
+pub staying_closed : (o : Clocks) → IsOrder o → (A : Cut → Type 0) → IsSublattice o A → IsSublattice o (λ c. IsConsistent o c × EgHolds o A c)
 staying_closed o order A closed = record {
   consistent = λ c h. h.0;
   has_min = λ c d h l. (min_consistent o order c d h.0 l.0, staying_min o order A (λ x y p q. closed.has_min x y) c d l.0 h.1 l.1);
   has_max = λ c d h l. (max_consistent o order c d h.0 l.0, staying_max o order A (λ x y p q. closed.has_max x y) c d l.0 (all_first A d l.1.0 l.1.2) h.1);
 }
 
-pub next_time_closed : (o : Clocks) → IsOrder o → (A : Cut → Type 0) → IsSublattice o A → (i : ℕ) → IsSublattice o (λ c. IsConsistent o c × NextTime o i A c)
+pub next_time_closed : (o : Clocks) → IsOrder o → (A : Cut → Type 0) → IsSublattice o A → (i : ℕ) → IsSublattice o (λ c. IsConsistent o c × ExHolds o i A c)
 next_time_closed o order A closed i = record {
   consistent = λ c h. h.0;
   has_min = λ c d h l. (min_consistent o order c d h.0 l.0, next_time_min o order A (λ x y p q. closed.has_min x y) c d h.0 l.0 i h.1 l.1);

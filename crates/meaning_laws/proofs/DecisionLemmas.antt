@@ -5,7 +5,7 @@ use Rattle.run_model.specs.Cut.{Cut, Clocks, count, IsWithin, with_next, lengths
 use Rattle.run_model.specs.Run.{Run}
 use Rattle.run_model.specs.Consistent.{clock, IsOrder, IsConsistent, IsPath}
 use Rattle.run_model.specs.Sublattice.{AllIn}
-use Rattle.run_model.specs.Operators.{SomeTime, EachTime, Staying, NextTime}
+use Rattle.run_model.specs.Operators.{EfHolds, AgHolds, EgHolds, ExHolds}
 use Rattle.run_model.specs.Formula.{Ef, Ag, Eg, Af, Ax, Formula, Truth, Comparison, Watched, InTransit, Empty, Difference, Not, And, Or, Temporal, Next, Until, Formulas, Nil, Cons}
 use Rattle.run_model.specs.Meaning.{compares, value_at, side_at, in_transit, Sat, SatAll, SatSome}
 use Rattle.run_model.proofs.Counts.{count_past, within_refl, within_both, search_below, total, total_below, with_next_above, with_next_same, length-lengths}
@@ -99,7 +99,7 @@ later o M N decide c = elim (search_cuts (lengths o) (λ d. IsConsistent o d × 
   | inr all ↦ inr (λ d k h. all d (k.shaped ∙ sym (length-lengths o)) k.within k h)
 ]
 
-pub decide_some_time : (o : Clocks) → IsOrder o → (A : Cut → Type 0) → ((d : Cut) → IsConsistent o d → Decided (A d)) → (c : Cut) → IsConsistent o c → Decided (SomeTime o A c)
+pub decide_some_time : (o : Clocks) → IsOrder o → (A : Cut → Type 0) → ((d : Cut) → IsConsistent o d → Decided (A d)) → (c : Cut) → IsConsistent o c → Decided (EfHolds o A c)
 decide_some_time o order A decide c k = elim (later o A (λ d. A d → ⊥) decide c) [
   | inl w ↦ let p = path_exists o order c w.0 k w.1 w.2 in inl (p.0, w.0, p.1, w.3)
   | inr none ↦ inr (λ v. none v.1 (path_last (IsConsistent o) c v.0 v.1 v.2) (path_rises (IsConsistent o) c v.0 v.1 v.2) v.3)
@@ -109,7 +109,7 @@ turned : (A : Cut → Type 0) (d : Cut) → Decided (A d) → (A d → ⊥) ⊎ 
 turned A d (inl h) = inr h
 turned A d (inr n) = inl n
 
-pub decide_each_time : (o : Clocks) → IsOrder o → (A : Cut → Type 0) → ((d : Cut) → IsConsistent o d → Decided (A d)) → (c : Cut) → IsConsistent o c → Decided (EachTime o A c)
+pub decide_each_time : (o : Clocks) → IsOrder o → (A : Cut → Type 0) → ((d : Cut) → IsConsistent o d → Decided (A d)) → (c : Cut) → IsConsistent o c → Decided (AgHolds o A c)
 decide_each_time o order A decide c k = elim (later o (λ d. A d → ⊥) A (λ d l. turned A d (decide d l)) c) [
   | inl w ↦ inr (λ each. let p = path_exists o order c w.0 k w.1 w.2 in w.3 (each_time_ends o A c each p.0 w.0 p.1))
   | inr all ↦ inl (each_time_from_ends o A c (λ es d p. all d (path_last (IsConsistent o) c es d p) (path_rises (IsConsistent o) c es d p)))
@@ -123,12 +123,12 @@ at_final o c k = elim (decide_within (lengths o) c) [
   | inr no' ↦ inr (λ e. no' (subst (λ x. IsWithin x c) e (within_refl c)))
 ]
 
-stays_from : (o : Clocks) (A : Cut → Type 0) (c : Cut) → IsConsistent o c → A c → (i : ℕ) → i < length c → Staying o A (with_next c i) → Staying o A c
+stays_from : (o : Clocks) (A : Cut → Type 0) (c : Cut) → IsConsistent o c → A c → (i : ℕ) → i < length c → EgHolds o A (with_next c i) → EgHolds o A c
 stays_from o A c k h i l w = (with_next c i ∷ w.0, (k, (i, l, refl), w.1), (h, w.2))
 
-stays_nowhere : (o : Clocks) (A : Cut → Type 0) (c : Cut) → (c ≡ lengths o → ⊥) → ((i : ℕ) → i < length c → Staying o A (with_next c i) → ⊥) → (es : List Cut) → IsPath o c es (lengths o) → AllIn A c es → ⊥
+stays_nowhere : (o : Clocks) (A : Cut → Type 0) (c : Cut) → (c ≡ lengths o → ⊥) → ((i : ℕ) → i < length c → EgHolds o A (with_next c i) → ⊥) → (es : List Cut) → IsPath o c es (lengths o) → AllIn A c es → ⊥
 stays_nowhere o A c ne none [] p h = ne p.1
-stays_nowhere o A c ne none (e ∷ es) p h = none p.1.0 p.1.1 (subst (Staying o A) p.1.2 (es, p.2, h.1))
+stays_nowhere o A c ne none (e ∷ es) p h = none p.1.0 p.1.1 (subst (EgHolds o A) p.1.2 (es, p.2, h.1))
 
 grows : (c : Cut) (i : ℕ) → i < length c → total c < total (with_next c i)
 grows c i h = total_below c (with_next c i) i (with_next_above c i h) (omega (arith, with_next_same c i h))
@@ -139,10 +139,10 @@ shorter o c k ne = elim (search_below (λ j. count c j < count (lengths o) j) (�
   | inr all ↦ absurd (ne (within_both c (lengths o) (k.shaped ∙ sym (length-lengths o)) k.within (λ j. elim (cases_lt j (length (lengths o))) [ inl l ↦ all j l | inr g ↦ omega (arith, count_past (lengths o) j g) ])))
 ]
 
-stays_first : (o : Clocks) (A : Cut → Type 0) (c : Cut) → Staying o A c → A c
+stays_first : (o : Clocks) (A : Cut → Type 0) (c : Cut) → EgHolds o A c → A c
 stays_first o A c w = all_first A c w.0 w.2
 
-next_decided : (o : Clocks) (A : Cut → Type 0) (c : Cut) (i : ℕ) → (IsConsistent o (with_next c i) → i < length c → Decided (Staying o A (with_next c i))) → ((i < length c) × Staying o A (with_next c i)) ⊎ (i < length c → Staying o A (with_next c i) → ⊥)
+next_decided : (o : Clocks) (A : Cut → Type 0) (c : Cut) (i : ℕ) → (IsConsistent o (with_next c i) → i < length c → Decided (EgHolds o A (with_next c i))) → ((i < length c) × EgHolds o A (with_next c i)) ⊎ (i < length c → EgHolds o A (with_next c i) → ⊥)
 next_decided o A c i decide = elim (cases_lt i (length c)) [
   | inr past ↦ inr (λ l. absurd (omega (arith, past, l)))
   | inl there ↦ elim (decide_consistent o (with_next c i)) [
@@ -154,7 +154,7 @@ next_decided o A c i decide = elim (cases_lt i (length c)) [
   ]
 ]
 
-decide_staying_by : (o : Clocks) (A : Cut → Type 0) → ((d : Cut) → IsConsistent o d → Decided (A d)) → (fuel : ℕ) (c : Cut) → IsConsistent o c → total (lengths o) < total c + fuel → Decided (Staying o A c)
+decide_staying_by : (o : Clocks) (A : Cut → Type 0) → ((d : Cut) → IsConsistent o d → Decided (A d)) → (fuel : ℕ) (c : Cut) → IsConsistent o c → total (lengths o) < total c + fuel → Decided (EgHolds o A c)
 decide_staying_by o A decide zero c k f = elim (at_final o c k) [
   | inl e ↦ absurd (omega (arith, f, ap total e))
   | inr ne ↦ absurd (omega (arith, f, shorter o c k ne))
@@ -163,19 +163,19 @@ decide_staying_by o A decide (suc fuel) c k f = elim (decide c k) [
   | inr no' ↦ inr (λ w. no' (stays_first o A c w))
   | inl h ↦ elim (at_final o c k) [
     | inl e ↦ inl ([], (k, e), h)
-    | inr ne ↦ elim (search_below (λ i. (i < length c) × Staying o A (with_next c i)) (λ i. i < length c → Staying o A (with_next c i) → ⊥) (λ i. next_decided o A c i (λ l there. decide_staying_by o A decide fuel (with_next c i) l (omega (arith, f, grows c i there)))) (length c)) [
+    | inr ne ↦ elim (search_below (λ i. (i < length c) × EgHolds o A (with_next c i)) (λ i. i < length c → EgHolds o A (with_next c i) → ⊥) (λ i. next_decided o A c i (λ l there. decide_staying_by o A decide fuel (with_next c i) l (omega (arith, f, grows c i there)))) (length c)) [
       | inl w ↦ inl (stays_from o A c k h w.0 w.2.0 w.2.1)
       | inr none ↦ inr (λ w. stays_nowhere o A c ne (λ i l. none i l l) w.0 w.1 w.2)
     ]
   ]
 ]
 
-pub decide_staying : (o : Clocks) (A : Cut → Type 0) → ((d : Cut) → IsConsistent o d → Decided (A d)) → (c : Cut) → IsConsistent o c → Decided (Staying o A c)
+pub decide_staying : (o : Clocks) (A : Cut → Type 0) → ((d : Cut) → IsConsistent o d → Decided (A d)) → (c : Cut) → IsConsistent o c → Decided (EgHolds o A c)
 decide_staying o A decide c k = decide_staying_by o A decide (suc (total (lengths o))) c k (omega arith)
 
 -- ---- the next cut
 
-pub decide_next_time : (o : Clocks) (A : Cut → Type 0) → ((d : Cut) → IsConsistent o d → Decided (A d)) → (i : ℕ) (c : Cut) → IsConsistent o c → Decided (NextTime o i A c)
+pub decide_next_time : (o : Clocks) (A : Cut → Type 0) → ((d : Cut) → IsConsistent o d → Decided (A d)) → (i : ℕ) (c : Cut) → IsConsistent o c → Decided (ExHolds o i A c)
 decide_next_time o A decide i c k = elim (cases_lt i (length c)) [
   | inr past ↦ inr (λ w. absurd (omega (arith, past, w.0)))
   | inl there ↦ elim (decide_consistent o (with_next c i)) [

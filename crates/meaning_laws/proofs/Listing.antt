@@ -7,7 +7,7 @@ use Rattle.run_model.specs.Cut.{Cut, Clocks, count, IsWithin, with_next, lengths
 use Rattle.run_model.specs.Run.{Run}
 use Rattle.run_model.specs.Consistent.{clock, IsOrder, IsConsistent, IsPath}
 use Rattle.run_model.specs.Sublattice.{AllIn}
-use Rattle.run_model.specs.Operators.{SomeTime, EachTime, Staying, NextTime}
+use Rattle.run_model.specs.Operators.{EfHolds, AgHolds, EgHolds, ExHolds}
 use Rattle.run_model.specs.Formula.{Ef, Ag, Eg, Af, Ax, Formula, Truth, Comparison, Watched, InTransit, Empty, Difference, Not, And, Or, Temporal, Next, Until, Formulas, Nil, Cons}
 use Rattle.run_model.specs.Meaning.{compares, value_at, side_at, in_transit, Sat, SatAll, SatSome}
 use Rattle.run_model.proofs.Counts.{within_refl, within_both, total, total_below, total_within, with_next_above, with_next_same, length-lengths}
@@ -225,7 +225,7 @@ unfoldable mutual
 abbrev Reads : Clocks → (Cut → Bool) → (Cut → Type 0) → Type 0
 Reads o p A = (c : Cut) → IsConsistent o c → Decides (p c) (A c)
 
-some_time_reads : (o : Clocks) → IsOrder o → (p : Cut → Bool) (A : Cut → Type 0) → Reads o p A → Reads o (λ c. list_any (λ d. within c d && p d) (consistent_cuts o)) (SomeTime o A)
+some_time_reads : (o : Clocks) → IsOrder o → (p : Cut → Bool) (A : Cut → Type 0) → Reads o p A → Reads o (λ c. list_any (λ d. within c d && p d) (consistent_cuts o)) (EfHolds o A)
 some_time_reads o order p A reads c k = (
   λ h.
       let w = any_in (λ d. within c d && p d) (consistent_cuts o) h in
@@ -238,7 +238,7 @@ some_time_reads o order p A reads c k = (
       in_any (λ d. within c d && p d) v.1 (consistent_cuts o) (listed_consistent o v.1 l) (and_from (within c v.1) (p v.1) (is_within c v.1 (path_rises (IsConsistent o) c v.0 v.1 v.2)) ((reads v.1 l).1 v.3)),
 )
 
-each_time_reads : (o : Clocks) → IsOrder o → (p : Cut → Bool) (A : Cut → Type 0) → Reads o p A → Reads o (λ c. list_all (λ d. not (within c d) || p d) (consistent_cuts o)) (EachTime o A)
+each_time_reads : (o : Clocks) → IsOrder o → (p : Cut → Bool) (A : Cut → Type 0) → Reads o p A → Reads o (λ c. list_all (λ d. not (within c d) || p d) (consistent_cuts o)) (AgHolds o A)
 each_time_reads o order p A reads c k = (
   λ h. each_time_from_ends o A c (λ es d path.
       let l = path_last (IsConsistent o) c es d path in
@@ -259,7 +259,7 @@ each_time_reads o order p A reads c k = (
 at_end : (o : Clocks) (c : Cut) → IsConsistent o c → IsWithin (lengths o) c → c ≡ lengths o
 at_end o c k h = within_both c (lengths o) (k.shaped ∙ sym (length-lengths o)) k.within h
 
-stays_is : (o : Clocks) (p : Cut → Bool) (A : Cut → Type 0) → Reads o p A → (fuel : ℕ) (c : Cut) → IsConsistent o c → stays o p fuel c ≡ true → Staying o A c
+stays_is : (o : Clocks) (p : Cut → Bool) (A : Cut → Type 0) → Reads o p A → (fuel : ℕ) (c : Cut) → IsConsistent o c → stays o p fuel c ≡ true → EgHolds o A c
 stays_is o p A reads zero c k h = absurd (false≢true h)
 stays_is o p A reads (suc fuel) c k h =
     let both = and_parts (p c) (within (lengths o) c || some_below (λ i. consistent o (with_next c i) && stays o p fuel (with_next c i)) (length c)) h in
@@ -290,13 +290,13 @@ is_stays o p A reads (e ∷ es) c (suc fuel) f path all =
     (or_right (within (lengths o) c) (some_below (λ i. consistent o (with_next c i) && stays o p fuel (with_next c i)) (length c))
     (some_below_from (λ i. consistent o (with_next c i) && stays o p fuel (with_next c i)) (length c) i there (and_from (consistent o (with_next c i)) (stays o p fuel (with_next c i)) (is_consistent o (with_next c i) k) next)))
 
-staying_reads : (o : Clocks) (p : Cut → Bool) (A : Cut → Type 0) → Reads o p A → Reads o (stays o p (suc (total (lengths o)))) (Staying o A)
+staying_reads : (o : Clocks) (p : Cut → Bool) (A : Cut → Type 0) → Reads o p A → Reads o (stays o p (suc (total (lengths o)))) (EgHolds o A)
 staying_reads o p A reads c k = (
   stays_is o p A reads (suc (total (lengths o))) c k,
   λ w. is_stays o p A reads w.0 c (suc (total (lengths o))) (omega arith) w.1 w.2,
 )
 
-next_time_reads : (o : Clocks) (p : Cut → Bool) (A : Cut → Type 0) → Reads o p A → (i : ℕ) → Reads o (next_holds o p i) (NextTime o i A)
+next_time_reads : (o : Clocks) (p : Cut → Bool) (A : Cut → Type 0) → Reads o p A → (i : ℕ) → Reads o (next_holds o p i) (ExHolds o i A)
 next_time_reads o p A reads i c k = (
   λ h.
       let first = and_parts (ltb i (length c)) (consistent o (with_next c i) && p (with_next c i)) h in

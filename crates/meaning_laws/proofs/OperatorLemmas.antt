@@ -5,7 +5,7 @@ use Rattle.run_model.specs.Cut.{Cut, Clocks, count, IsWithin, max_cut, with_next
 use Rattle.run_model.specs.Consistent.{clock, IsEvent, IsOrder, IsConsistent, PathIn, IsPath}
 use Rattle.run_model.specs.Sublattice.{IsSublattice, IsLeast, IsGreatest, Having}
 use Rattle.run_model.specs.Slice.{Slice, IsLeastOf, StandsFor, cut_of}
-use Rattle.run_model.specs.Operators.{SomeTime, EachTime, Staying, HoldsAlways, HasPairs}
+use Rattle.run_model.specs.Operators.{EfHolds, AgHolds, EgHolds, AgHoldsByRows, HasPairs}
 use Rattle.run_model.proofs.Counts.{within_refl, within_trans, max_within, max_left, max_right, within_both, with_next_same, with_next_other}
 use Rattle.run_model.proofs.Orders.{event_of_run, max_consistent, past_consistent, past_has, has_past, final_consistent}
 use Rattle.run_model.proofs.Paths.{path_first, path_last, path_rises, path_wider, path_all, path_both, all_first, each_time_ends, each_time_from_ends}
@@ -44,7 +44,7 @@ path_to_final o order c k = path_exists o order c (lengths o) k (final_consisten
 
 -- ---- EF
 
-pub some_time_within : (o : Clocks) → IsOrder o → (A : Cut → Type 0) → ((c : Cut) → A c → IsConsistent o c) → (t : Cut) → IsGreatest A t → (c : Cut) → IsConsistent o c → SomeTime o A c ↔ IsWithin c t
+pub some_time_within : (o : Clocks) → IsOrder o → (A : Cut → Type 0) → ((c : Cut) → A c → IsConsistent o c) → (t : Cut) → IsGreatest A t → (c : Cut) → IsConsistent o c → EfHolds o A c ↔ IsWithin c t
 some_time_within o order A consistent t top c k = (
   λ w. within_trans c w.1 t (path_rises (IsConsistent o) c w.0 w.1 w.2) (top.greatest w.1 w.3),
   λ h. let p = path_exists o order c t k (consistent t top.member) h in (p.0, t, p.1, top.member),
@@ -52,7 +52,7 @@ some_time_within o order A consistent t top c k = (
 
 -- ---- AG
 
-pub each_time_holds : (o : Clocks) → IsOrder o → (A : Cut → Type 0) → (s : Slice) → StandsFor o s A → (c : Cut) → IsConsistent o c → EachTime o A c → HoldsAlways o s c
+pub each_time_holds : (o : Clocks) → IsOrder o → (A : Cut → Type 0) → (s : Slice) → StandsFor o s A → (c : Cut) → IsConsistent o c → AgHolds o A c → AgHoldsByRows o s c
 each_time_holds o order A s stands c k each =
     let ends = each_time_ends o A c each in
     record {
@@ -63,7 +63,7 @@ each_time_holds o order A s stands c k each =
           least_within (Having A i a) (s.row i a) m (stands.rows i a ev) (ends p.0 m p.1, le_trans (past_has o order i a ev) (max_right c (clock o i a) i));
     }
 
-pub holds_each_time : (o : Clocks) → IsOrder o → (A : Cut → Type 0) → IsSublattice o A → (s : Slice) → StandsFor o s A → (c : Cut) → HoldsAlways o s c → EachTime o A c
+pub holds_each_time : (o : Clocks) → IsOrder o → (A : Cut → Type 0) → IsSublattice o A → (s : Slice) → StandsFor o s A → (c : Cut) → AgHoldsByRows o s c → AgHolds o A c
 holds_each_time o order A closed s stands c holds = each_time_from_ends o A c (λ es d p.
     let up = path_rises (IsConsistent o) c es d p in
     let k = path_last (IsConsistent o) c es d p in
@@ -73,16 +73,16 @@ holds_each_time o order A closed s stands c holds = each_time_from_ends o A c (�
       rows = λ i a ev. has_within_up (s.row i a) (max_cut c (clock o i a)) d (max_within c (clock o i a) d up (has_past o order d k i a ev)) (holds.rows i a (event_of_run o d k i a ev));
     }))
 
-pub each_time_by_rows : (o : Clocks) → IsOrder o → (A : Cut → Type 0) → IsSublattice o A → (s : Slice) → StandsFor o s A → (c : Cut) → IsConsistent o c → EachTime o A c ↔ HoldsAlways o s c
+pub each_time_by_rows : (o : Clocks) → IsOrder o → (A : Cut → Type 0) → IsSublattice o A → (s : Slice) → StandsFor o s A → (c : Cut) → IsConsistent o c → AgHolds o A c ↔ AgHoldsByRows o s c
 each_time_by_rows o order A closed s stands c k = (each_time_holds o order A s stands c k, holds_each_time o order A closed s stands c)
 
 -- AG is true nowhere, where the final cut is not in the set
-pub each_time_final : (o : Clocks) → IsOrder o → (A : Cut → Type 0) → (c : Cut) → IsConsistent o c → EachTime o A c → A (lengths o)
+pub each_time_final : (o : Clocks) → IsOrder o → (A : Cut → Type 0) → (c : Cut) → IsConsistent o c → AgHolds o A c → A (lengths o)
 each_time_final o order A c k each =
     let p = path_to_final o order c k in
     each_time_ends o A c each p.0 (lengths o) p.1
 
-pub holds_up : (o : Clocks) (s : Slice) (c d : Cut) → IsWithin c d → HoldsAlways o s c → HoldsAlways o s d
+pub holds_up : (o : Clocks) (s : Slice) (c d : Cut) → IsWithin c d → AgHoldsByRows o s c → AgHoldsByRows o s d
 holds_up o s c d up h = record {
   bottom = has_within_up s.bottom c d up h.bottom;
   rows = λ i a ev. has_within_up (s.row i a) (max_cut c (clock o i a)) (max_cut d (clock o i a)) (max_within c (clock o i a) (max_cut d (clock o i a)) (within_trans c d (max_cut d (clock o i a)) up (max_left d (clock o i a))) (max_right d (clock o i a))) (h.rows i a ev);
@@ -90,7 +90,7 @@ holds_up o s c d up h = record {
 
 -- ---- EG
 
-pub staying_last : (o : Clocks) (A : Cut → Type 0) (c : Cut) → Staying o A c → A (lengths o)
+pub staying_last : (o : Clocks) (A : Cut → Type 0) (c : Cut) → EgHolds o A c → A (lengths o)
 staying_last o A c w = path_last A c w.0 (lengths o) (path_both A (IsConsistent o) c w.0 (lengths o) w.1 w.2)
 
 -- a step of a path within A, where each member has both of two events or neither
@@ -126,7 +126,7 @@ both_along o A i a j b ev fv differ both x (e ∷ es) p =
     both_step A x p.0 k p.1.1 i a j b differ both h l
 
 -- two events of which each member has both or neither: no path within the set leads from a cut that lacks them to the final cut
-pub pair_refutes : (o : Clocks) (A : Cut → Type 0) (i a j b : ℕ) → IsEvent (lengths o) i a → IsEvent (lengths o) j b → ((i ≡ j) × (a ≡ b) → ⊥) → ((c : Cut) → A c → (a ≤ count c i) ↔ (b ≤ count c j)) → (c : Cut) → count c i < a → Staying o A c → ⊥
+pub pair_refutes : (o : Clocks) (A : Cut → Type 0) (i a j b : ℕ) → IsEvent (lengths o) i a → IsEvent (lengths o) j b → ((i ≡ j) × (a ≡ b) → ⊥) → ((c : Cut) → A c → (a ≤ count c i) ↔ (b ≤ count c j)) → (c : Cut) → count c i < a → EgHolds o A c → ⊥
 pair_refutes o A i a j b ev fv differ both c lack w = omega (arith, lack, both_along o A i a j b ev fv differ both c w.0 (path_both A (IsConsistent o) c w.0 (lengths o) w.1 w.2))
 
 -- of two events that share a row, each member has both or neither
@@ -142,7 +142,7 @@ rows_both o A s stands i a j b ev fv same c member = (
   has_other A (s.row j b) (s.row i a) j b i a (stands.rows j b fv) (stands.rows i a ev) (sym same) c member,
 )
 
-pub staying_pairs : (o : Clocks) (A : Cut → Type 0) (s : Slice) → StandsFor o s A → (c : Cut) → Staying o A c → A c × HasPairs o s c
+pub staying_pairs : (o : Clocks) (A : Cut → Type 0) (s : Slice) → StandsFor o s A → (c : Cut) → EgHolds o A c → A c × HasPairs o s c
 staying_pairs o A s stands c w = (
   all_first A c w.0 w.2,
   λ i a j b ev fv same differ. both_along o A i a j b ev fv differ (rows_both o A s stands i a j b ev fv same) c w.0 (path_both A (IsConsistent o) c w.0 (lengths o) w.1 w.2),
@@ -177,10 +177,10 @@ pairs_apart o A closed s stands final c pairs i a j b ev fv h l p q =
       | inr ne ↦ absurd (omega (arith, pairs i a j b ev fv same (λ d. ne d.0), h))
     ]
 
-pub pairs_staying : (o : Clocks) (A : Cut → Type 0) → IsSublattice o A → (s : Slice) → StandsFor o s A → A (lengths o) → (c : Cut) → A c → HasPairs o s c → Staying o A c
+pub pairs_staying : (o : Clocks) (A : Cut → Type 0) → IsSublattice o A → (s : Slice) → StandsFor o s A → A (lengths o) → (c : Cut) → A c → HasPairs o s c → EgHolds o A c
 pairs_staying o A closed s stands final c member pairs =
     let p = climb o A (lengths o) (λ i a. cut_of (s.row i a)) (set_climbable o A closed s stands final) c member (pairs_apart o A closed s stands final c pairs) in
     (p.0, path_wider A (IsConsistent o) closed.consistent c p.0 (lengths o) p.1, path_all A c p.0 (lengths o) p.1)
 
-pub staying_by_rows : (o : Clocks) (A : Cut → Type 0) → IsSublattice o A → (s : Slice) → StandsFor o s A → A (lengths o) → (c : Cut) → Staying o A c ↔ (A c × HasPairs o s c)
+pub staying_by_rows : (o : Clocks) (A : Cut → Type 0) → IsSublattice o A → (s : Slice) → StandsFor o s A → A (lengths o) → (c : Cut) → EgHolds o A c ↔ (A c × HasPairs o s c)
 staying_by_rows o A closed s stands final c = (staying_pairs o A s stands c, λ h. pairs_staying o A closed s stands final c h.0 h.1)

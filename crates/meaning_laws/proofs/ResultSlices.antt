@@ -5,7 +5,7 @@ use Rattle.run_model.specs.Cut.{Cut, Clocks, count, IsWithin, max_cut, lengths}
 use Rattle.run_model.specs.Consistent.{IsOrder, IsConsistent}
 use Rattle.run_model.specs.Sublattice.{IsSublattice, IsLeast, IsGreatest, Having}
 use Rattle.run_model.specs.Slice.{Slice, IsLeastOf, StandsFor}
-use Rattle.run_model.specs.Operators.{SomeTime, EachTime, Staying, HoldsAlways, HasPairs, whole, nowhere, lowered, raised}
+use Rattle.run_model.specs.Operators.{EfHolds, AgHolds, EgHolds, AgHoldsByRows, HasPairs, whole, nowhere, lowered, raised}
 use Rattle.run_model.proofs.Counts.{within_refl, max_within, max_left, max_right}
 use Rattle.run_model.proofs.Orders.{past_least, initial_least, max_consistent}
 use Rattle.run_model.proofs.SliceLemmas.{least_of_member, stands_same}
@@ -45,36 +45,36 @@ raised_stands o s A b has_max stands member = record {
 
 -- ---- EF
 
-pub some_time_slice : (o : Clocks) → IsOrder o → (A : Cut → Type 0) → ((c : Cut) → A c → IsConsistent o c) → (t : Cut) → IsGreatest A t → StandsFor o (lowered (whole o) t) (λ c. IsConsistent o c × SomeTime o A c)
-some_time_slice o order A consistent t top = stands_same o (lowered (whole o) t) (λ c. IsConsistent o c × IsWithin c t) (λ c. IsConsistent o c × SomeTime o A c)
+pub some_time_slice : (o : Clocks) → IsOrder o → (A : Cut → Type 0) → ((c : Cut) → A c → IsConsistent o c) → (t : Cut) → IsGreatest A t → StandsFor o (lowered (whole o) t) (λ c. IsConsistent o c × EfHolds o A c)
+some_time_slice o order A consistent t top = stands_same o (lowered (whole o) t) (λ c. IsConsistent o c × IsWithin c t) (λ c. IsConsistent o c × EfHolds o A c)
     (λ c. (λ h. (h.0, (some_time_within o order A consistent t top c h.0).1 h.1), λ h. (h.0, (some_time_within o order A consistent t top c h.0).0 h.1)))
     (lowered_stands o (whole o) (IsConsistent o) t (whole_stands o order) (consistent t top.member))
 
-pub some_time_nowhere : (o : Clocks) (A : Cut → Type 0) → ((c : Cut) → A c → ⊥) → StandsFor o nowhere (λ c. IsConsistent o c × SomeTime o A c)
-some_time_nowhere o A none = nowhere_stands o (λ c. IsConsistent o c × SomeTime o A c) (λ c h. none h.1.1 h.1.3)
+pub some_time_nowhere : (o : Clocks) (A : Cut → Type 0) → ((c : Cut) → A c → ⊥) → StandsFor o nowhere (λ c. IsConsistent o c × EfHolds o A c)
+some_time_nowhere o A none = nowhere_stands o (λ c. IsConsistent o c × EfHolds o A c) (λ c h. none h.1.1 h.1.3)
 
 -- ---- AG
 
-pub each_time_slice : (o : Clocks) → IsOrder o → (A : Cut → Type 0) → IsSublattice o A → (s : Slice) → StandsFor o s A → (b : Cut) → IsLeast (λ c. IsConsistent o c × HoldsAlways o s c) b → StandsFor o (raised (whole o) b) (λ c. IsConsistent o c × EachTime o A c)
-each_time_slice o order A closed s stands b least = stands_same o (raised (whole o) b) (λ c. IsConsistent o c × IsWithin b c) (λ c. IsConsistent o c × EachTime o A c)
+pub each_time_slice : (o : Clocks) → IsOrder o → (A : Cut → Type 0) → IsSublattice o A → (s : Slice) → StandsFor o s A → (b : Cut) → IsLeast (λ c. IsConsistent o c × AgHoldsByRows o s c) b → StandsFor o (raised (whole o) b) (λ c. IsConsistent o c × AgHolds o A c)
+each_time_slice o order A closed s stands b least = stands_same o (raised (whole o) b) (λ c. IsConsistent o c × IsWithin b c) (λ c. IsConsistent o c × AgHolds o A c)
     (λ c. (
       λ h. (h.0, (each_time_by_rows o order A closed s stands c h.0).1 (holds_up o s b c h.1 least.member.1)),
       λ h. (h.0, least.least c (h.0, (each_time_by_rows o order A closed s stands c h.0).0 h.1)),
     ))
     (raised_stands o (whole o) (IsConsistent o) b (max_consistent o order) (whole_stands o order) least.member.0)
 
-pub each_time_nowhere : (o : Clocks) → IsOrder o → (A : Cut → Type 0) → (A (lengths o) → ⊥) → StandsFor o nowhere (λ c. IsConsistent o c × EachTime o A c)
-each_time_nowhere o order A none = nowhere_stands o (λ c. IsConsistent o c × EachTime o A c) (λ c h. none (each_time_final o order A c h.0 h.1))
+pub each_time_nowhere : (o : Clocks) → IsOrder o → (A : Cut → Type 0) → (A (lengths o) → ⊥) → StandsFor o nowhere (λ c. IsConsistent o c × AgHolds o A c)
+each_time_nowhere o order A none = nowhere_stands o (λ c. IsConsistent o c × AgHolds o A c) (λ c h. none (each_time_final o order A c h.0 h.1))
 
 -- ---- EG
 
-pub staying_slice : (o : Clocks) (A : Cut → Type 0) → IsSublattice o A → (s : Slice) → StandsFor o s A → A (lengths o) → (b : Cut) → IsLeast (λ c. A c × HasPairs o s c) b → StandsFor o (raised s b) (λ c. IsConsistent o c × Staying o A c)
-staying_slice o A closed s stands final b least = stands_same o (raised s b) (λ c. A c × IsWithin b c) (λ c. IsConsistent o c × Staying o A c)
+pub staying_slice : (o : Clocks) (A : Cut → Type 0) → IsSublattice o A → (s : Slice) → StandsFor o s A → A (lengths o) → (b : Cut) → IsLeast (λ c. A c × HasPairs o s c) b → StandsFor o (raised s b) (λ c. IsConsistent o c × EgHolds o A c)
+staying_slice o A closed s stands final b least = stands_same o (raised s b) (λ c. A c × IsWithin b c) (λ c. IsConsistent o c × EgHolds o A c)
     (λ c. (
       λ h. (closed.consistent c h.0, (staying_by_rows o A closed s stands final c).1 (h.0, λ i a j d ev fv same differ. le_trans (least.member.1 i a j d ev fv same differ) (h.1 i))),
       λ h. let w = (staying_by_rows o A closed s stands final c).0 h.1 in (w.0, least.least c w),
     ))
     (raised_stands o s A b closed.has_max stands least.member.0)
 
-pub staying_nowhere : (o : Clocks) (A : Cut → Type 0) → (A (lengths o) → ⊥) → StandsFor o nowhere (λ c. IsConsistent o c × Staying o A c)
-staying_nowhere o A none = nowhere_stands o (λ c. IsConsistent o c × Staying o A c) (λ c h. none (staying_last o A c h.1))
+pub staying_nowhere : (o : Clocks) (A : Cut → Type 0) → (A (lengths o) → ⊥) → StandsFor o nowhere (λ c. IsConsistent o c × EgHolds o A c)
+staying_nowhere o A none = nowhere_stands o (λ c. IsConsistent o c × EgHolds o A c) (λ c h. none (staying_last o A c h.1))

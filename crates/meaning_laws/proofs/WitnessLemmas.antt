@@ -6,9 +6,9 @@ use Rattle.run_model.specs.Consistent.{clock, IsOrder, IsConsistent, IsPath}
 use Rattle.run_model.specs.Sublattice.{AllIn, IsSublattice, Having}
 use Rattle.run_model.specs.Slice.{Slice, HasWithin, IsLeastOf, Cuts, StandsFor, Fits}
 use Rattle.run_model.specs.Formula.{Ef, Ag, Eg, Formula, Temporal, Next}
-use Rattle.run_model.specs.Operators.{NextTime}
+use Rattle.run_model.specs.Operators.{ExHolds}
 use Rattle.run_model.specs.Meaning.{Sat, Family}
-use Rattle.run_model.specs.Witness.{WitnessOperator, ExistsFinally, AlwaysGlobally, ExistsGlobally, ExistsNext, IsPartOf, HasFirst, first_event_of, Place, PathTo, Witness, StepsIn, IsOfKind, FirstSteps, FirstStepsTo, IsFirst, row_at, Departs, Shares, IsPlace, IsCanonical}
+use Rattle.run_model.specs.Witness.{WitnessOperator, ForEf, ForAg, ForEg, ExistsNext, IsPartOf, HasFirst, first_event_of, Place, PathTo, Witness, StepsIn, IsOfKind, FirstSteps, FirstStepsTo, IsFirst, row_at, Departs, Shares, IsPlace, IsCanonical}
 use Rattle.run_model.specs.Witness as W
 use Rattle.run_model.proofs.Counts.{within_both, initial_within, length-initial, count-initial, total, total_next}
 use Rattle.std.proofs.lemmas.Bool.{cases_order}
@@ -52,7 +52,7 @@ all_there o order s start rows d k = record {
 }
 
 -- the first event of the process leads to a cut of the slice exactly where EX is true at the start
-first_next : (r : Run) (f : Formula) → IsSublattice r.clocks (Family r f) → (s : Slice) → StandsFor r.clocks s (Family r f) → (i : ℕ) → HasFirst r.clocks s i ↔ NextTime r.clocks i (Sat r f) (initial r.clocks)
+first_next : (r : Run) (f : Formula) → IsSublattice r.clocks (Family r f) → (s : Slice) → StandsFor r.clocks s (Family r f) → (i : ℕ) → HasFirst r.clocks s i ↔ ExHolds r.clocks i (Sat r f) (initial r.clocks)
 first_next r f closed s stands i = (
   λ h.
       let member = cuts_member r.clocks (Family r f) closed s stands (with_next (initial r.clocks) i) h.1 in
@@ -65,9 +65,9 @@ first_next r f closed s stands i = (
 
 -- what the witness for an operator says of the part that the operator makes of f
 abbrev KindOf : Run → Formula → WitnessOperator → Witness → Type 0
-KindOf r f ExistsFinally w = IsOfKind r (Temporal Ef f) w
-KindOf r f AlwaysGlobally w = IsOfKind r (Temporal Ag f) w
-KindOf r f ExistsGlobally w = IsOfKind r (Temporal Eg f) w
+KindOf r f ForEf w = IsOfKind r (Temporal Ef f) w
+KindOf r f ForAg w = IsOfKind r (Temporal Ag f) w
+KindOf r f ForEg w = IsOfKind r (Temporal Eg f) w
 KindOf r f (ExistsNext i) w = (process : Name) → r.process process ≡ i → IsOfKind r (Next process f) w
 
 canonical_kind : (r : Run) → IsOrder r.clocks → (f : Formula) → IsSublattice r.clocks (Family r f) → (s : Slice) → StandsFor r.clocks s (Family r f) → (operator : WitnessOperator) (w : Witness) → IsCanonical r.clocks s operator w → KindOf r f operator w
@@ -101,9 +101,9 @@ canonical_kind r order f closed s stands _ _ (W.IsCanonical.never_next {process 
     W.IsOfKind.never_next (λ w. none (subst (HasFirst r.clocks s) e ((first_next r f closed s stands (r.process process)).1 w)))
 
 part_kind : (r : Run) (f : Formula) (operator : WitnessOperator) (part : Formula) → IsPartOf r operator f part → (w : Witness) → KindOf r f operator w → IsOfKind r part w
-part_kind r f ExistsFinally part e w k = subst (λ x. IsOfKind r x w) (sym e) k
-part_kind r f AlwaysGlobally part e w k = subst (λ x. IsOfKind r x w) (sym e) k
-part_kind r f ExistsGlobally part e w k = subst (λ x. IsOfKind r x w) (sym e) k
+part_kind r f ForEf part e w k = subst (λ x. IsOfKind r x w) (sym e) k
+part_kind r f ForAg part e w k = subst (λ x. IsOfKind r x w) (sym e) k
+part_kind r f ForEg part e w k = subst (λ x. IsOfKind r x w) (sym e) k
 part_kind r f (ExistsNext i) part h w k = subst (λ x. IsOfKind r x w) (sym h.2) (k h.0 h.1)
 
 pub canonical_is_of_kind : (r : Run) → IsOrder r.clocks → (f : Formula) → IsSublattice r.clocks (Family r f) → (s : Slice) → StandsFor r.clocks s (Family r f) → (operator : WitnessOperator) (part : Formula) → IsPartOf r operator f part → (w : Witness) → IsCanonical r.clocks s operator w → IsOfKind r part w
@@ -234,13 +234,13 @@ pair_stops o s fits path goal steps e f there place shares =
     (rows_both o (Cuts o s) s fits e.process e.position f.process f.position there place (sym shares.1))
     (initial o) (omega (arith, count-initial o e.process, there.0)) (cuts_along (initial o) path.steps, along.0, along.1)
 
-reach_one : (o : Clocks) (s : Slice) (w v : Witness) → IsCanonical o s ExistsFinally w → IsCanonical o s ExistsFinally v → w ≡ v
+reach_one : (o : Clocks) (s : Slice) (w v : Witness) → IsCanonical o s ForEf w → IsCanonical o s ForEf v → w ≡ v
 reach_one o s _ _ (W.IsCanonical.reaches {path = p} b steps) (W.IsCanonical.reaches {path = q} c other) = ap W.Reach (one_path_to o p q (some_goal s.bottom p.goal q.goal b c) steps other)
 reach_one o s _ _ (W.IsCanonical.reaches {path = p} b steps) (W.IsCanonical.never c) = absurd (none_goal s.bottom p.goal b c)
 reach_one o s _ _ (W.IsCanonical.never c) (W.IsCanonical.reaches {path = p} b steps) = absurd (none_goal s.bottom p.goal b c)
 reach_one o s _ _ (W.IsCanonical.never b) (W.IsCanonical.never c) = refl
 
-against_one : (o : Clocks) (s : Slice) (w v : Witness) → IsCanonical o s AlwaysGlobally w → IsCanonical o s AlwaysGlobally v → w ≡ v
+against_one : (o : Clocks) (s : Slice) (w v : Witness) → IsCanonical o s ForAg w → IsCanonical o s ForAg v → w ≡ v
 against_one o s _ _ (W.IsCanonical.refuted_at_start n) (W.IsCanonical.refuted_at_start m) = refl
 against_one o s _ _ (W.IsCanonical.refuted_at_start n) (W.IsCanonical.refuted start first goal steps) = absurd (n start)
 against_one o s _ _ (W.IsCanonical.refuted_at_start n) (W.IsCanonical.each_time start rows) = absurd (n start)
@@ -253,7 +253,7 @@ against_one o s _ _ (W.IsCanonical.each_time start rows) (W.IsCanonical.refuted_
 against_one o s _ _ (W.IsCanonical.each_time start rows) (W.IsCanonical.refuted {e = e} begin first goal steps) = absurd (first.has (rows e first.there))
 against_one o s _ _ (W.IsCanonical.each_time start rows) (W.IsCanonical.each_time begin others) = refl
 
-always_one : (o : Clocks) (s : Slice) → Fits o s → (w v : Witness) → IsCanonical o s ExistsGlobally w → IsCanonical o s ExistsGlobally v → w ≡ v
+always_one : (o : Clocks) (s : Slice) → Fits o s → (w v : Witness) → IsCanonical o s ForEg w → IsCanonical o s ForEg v → w ≡ v
 always_one o s fits _ _ (W.IsCanonical.stays {path = p} goal steps) (W.IsCanonical.stays {path = q} end other) = ap W.Always (one_path (Cuts o s) (initial o) p q (goal ∙ sym end) steps other)
 always_one o s fits _ _ (W.IsCanonical.stays {path = p} goal steps) (W.IsCanonical.false_at_start n) = absurd (n (steps_start (Cuts o s) (initial o) p.steps p.goal steps))
 always_one o s fits _ _ (W.IsCanonical.stays {path = p} goal steps) (W.IsCanonical.false_at_finish start n) = absurd (n (subst (Cuts o s) goal (steps_end (Cuts o s) (initial o) p.steps p.goal steps)))
@@ -282,7 +282,7 @@ next_one o s i _ _ (W.IsCanonical.never_next none) (W.IsCanonical.never_next oth
 
 -- an operator over a slice has one canonical witness at most
 pub canonical_one : (o : Clocks) (s : Slice) → Fits o s → (operator : WitnessOperator) (w v : Witness) → IsCanonical o s operator w → IsCanonical o s operator v → w ≡ v
-canonical_one o s fits ExistsFinally w v p q = reach_one o s w v p q
-canonical_one o s fits AlwaysGlobally w v p q = against_one o s w v p q
-canonical_one o s fits ExistsGlobally w v p q = always_one o s fits w v p q
+canonical_one o s fits ForEf w v p q = reach_one o s w v p q
+canonical_one o s fits ForAg w v p q = against_one o s w v p q
+canonical_one o s fits ForEg w v p q = always_one o s fits w v p q
 canonical_one o s fits (ExistsNext i) w v p q = next_one o s i w v p q

@@ -8,7 +8,7 @@ use Rattle.run_model.specs.Sublattice.{IsSublattice, Smallest}
 use Rattle.run_model.specs.Slice.{Slice, Cuts, StandsFor}
 use Rattle.run_model.specs.Formula.{Formula}
 use Rattle.run_model.specs.Meaning.{Family}
-use Rattle.run_model.specs.Witness.{WitnessOperator, ExistsFinally, AlwaysGlobally, ExistsGlobally, ExistsNext, first_event_of, Place, PathTo, Witness, Nothing, Reach, Against, Always, StuckStart, StuckFinish, StuckPair, FirstSteps, FirstStepsTo, IsPlace, IsBefore, IsFirst, row_at, Departs, Shares, AreTwo, IsCanonical}
+use Rattle.run_model.specs.Witness.{WitnessOperator, ForEf, ForAg, ForEg, ExistsNext, first_event_of, Place, PathTo, Witness, Nothing, Reach, Against, Always, StuckStart, StuckFinish, StuckPair, FirstSteps, FirstStepsTo, IsPlace, IsBefore, IsFirst, row_at, Departs, Shares, AreTwo, IsCanonical}
 use Rattle.run_model.specs.Witness as W
 use Rattle.run_model.specs.Worked.{stable, run_with_watch, HasWitness}
 use Rattle.run_model.proofs.Counts.{within_both, within_refl}
@@ -217,50 +217,50 @@ for_each_slice trace f k operator w canonical s stands = canonical_same (clocks_
 
 -- ---- the kinds
 
-pub reaches_by_listing : (trace : Trace) (f : Formula) (path : PathTo) → ordered (clocks_of trace) ≡ true → is_regular_anyhow f ≡ true → least_listed (family (run_with_watch trace) f) ≡ Some path.goal → first_steps (below (clocks_of trace) path.goal) (initial (clocks_of trace)) path.steps path.goal ≡ true → HasWitness trace ExistsFinally f (Reach path)
-reaches_by_listing trace f path o k least steps = for_each_slice trace f (operand trace f o k) ExistsFinally (Reach path) (W.IsCanonical.reaches least
+pub reaches_by_listing : (trace : Trace) (f : Formula) (path : PathTo) → ordered (clocks_of trace) ≡ true → is_regular_anyhow f ≡ true → least_listed (family (run_with_watch trace) f) ≡ Some path.goal → first_steps (below (clocks_of trace) path.goal) (initial (clocks_of trace)) path.steps path.goal ≡ true → HasWitness trace ForEf f (Reach path)
+reaches_by_listing trace f path o k least steps = for_each_slice trace f (operand trace f o k) ForEf (Reach path) (W.IsCanonical.reaches least
     (first_steps_is (below (clocks_of trace) path.goal) (λ c. IsConsistent (clocks_of trace) c × IsWithin c path.goal) (below_reads (clocks_of trace) path.goal) (initial (clocks_of trace)) path.steps path.goal steps))
 
-pub never_by_listing : (trace : Trace) (f : Formula) → ordered (clocks_of trace) ≡ true → is_regular_anyhow f ≡ true → least_listed (family (run_with_watch trace) f) ≡ None → HasWitness trace ExistsFinally f Nothing
-never_by_listing trace f o k none = for_each_slice trace f (operand trace f o k) ExistsFinally Nothing (W.IsCanonical.never none)
+pub never_by_listing : (trace : Trace) (f : Formula) → ordered (clocks_of trace) ≡ true → is_regular_anyhow f ≡ true → least_listed (family (run_with_watch trace) f) ≡ None → HasWitness trace ForEf f Nothing
+never_by_listing trace f o k none = for_each_slice trace f (operand trace f o k) ForEf Nothing (W.IsCanonical.never none)
 
 pub refuted_by_listing : (trace : Trace) (f : Formula) (path : PathTo) (e : Place) → ordered (clocks_of trace) ≡ true → is_regular_anyhow f ≡ true → member trace f (initial (clocks_of trace)) ≡ true
     → first_place (clocks_of trace) (departs (clocks_of trace) (listed_slice (run_with_watch trace) f)) e ≡ true → path.goal ≡ clock (clocks_of trace) e.process e.position
-    → first_steps (below (clocks_of trace) path.goal) (initial (clocks_of trace)) path.steps path.goal ≡ true → HasWitness trace AlwaysGlobally f (Against path)
+    → first_steps (below (clocks_of trace) path.goal) (initial (clocks_of trace)) path.steps path.goal ≡ true → HasWitness trace ForAg f (Against path)
 refuted_by_listing trace f path e o k start first goal steps =
     let op = operand trace f o k in
-    for_each_slice trace f op AlwaysGlobally (Against path) (W.IsCanonical.refuted {e = e}
+    for_each_slice trace f op ForAg (Against path) (W.IsCanonical.refuted {e = e}
     ((member_reads trace f op (initial (clocks_of trace))).0 start)
     (first_place_is (clocks_of trace) (departs (clocks_of trace) (listed_slice (run_with_watch trace) f)) (Departs (clocks_of trace) (listed_slice (run_with_watch trace) f)) (λ e there. departs_reads (clocks_of trace) (listed_slice (run_with_watch trace) f) e) e first)
     goal
     (first_steps_is (below (clocks_of trace) path.goal) (λ c. IsConsistent (clocks_of trace) c × IsWithin c path.goal) (below_reads (clocks_of trace) path.goal) (initial (clocks_of trace)) path.steps path.goal steps))
 
 pub each_time_by_listing : (trace : Trace) (f : Formula) → ordered (clocks_of trace) ≡ true → is_regular_anyhow f ≡ true → member trace f (initial (clocks_of trace)) ≡ true
-    → all_events (lengths (clocks_of trace)) (λ i a. row_is ((listed_slice (run_with_watch trace) f).row i a) (Some (clock (clocks_of trace) i a))) ≡ true → HasWitness trace AlwaysGlobally f Nothing
+    → all_events (lengths (clocks_of trace)) (λ i a. row_is ((listed_slice (run_with_watch trace) f).row i a) (Some (clock (clocks_of trace) i a))) ≡ true → HasWitness trace ForAg f Nothing
 each_time_by_listing trace f o k start rows =
     let op = operand trace f o k in
-    for_each_slice trace f op AlwaysGlobally Nothing (W.IsCanonical.each_time ((member_reads trace f op (initial (clocks_of trace))).0 start)
+    for_each_slice trace f op ForAg Nothing (W.IsCanonical.each_time ((member_reads trace f op (initial (clocks_of trace))).0 start)
     (λ e there. row_is_same (row_at (listed_slice (run_with_watch trace) f) e) (Some (clock (clocks_of trace) e.process e.position)) (all_events_at (lengths (clocks_of trace)) (λ i a. row_is ((listed_slice (run_with_watch trace) f).row i a) (Some (clock (clocks_of trace) i a))) rows e.process e.position there)))
 
-pub stays_by_listing : (trace : Trace) (f : Formula) (path : PathTo) → ordered (clocks_of trace) ≡ true → is_regular_anyhow f ≡ true → path.goal ≡ lengths (clocks_of trace) → first_steps (member trace f) (initial (clocks_of trace)) path.steps path.goal ≡ true → HasWitness trace ExistsGlobally f (Always path)
+pub stays_by_listing : (trace : Trace) (f : Formula) (path : PathTo) → ordered (clocks_of trace) ≡ true → is_regular_anyhow f ≡ true → path.goal ≡ lengths (clocks_of trace) → first_steps (member trace f) (initial (clocks_of trace)) path.steps path.goal ≡ true → HasWitness trace ForEg f (Always path)
 stays_by_listing trace f path o k goal steps =
     let op = operand trace f o k in
-    for_each_slice trace f op ExistsGlobally (Always path) (W.IsCanonical.stays goal
+    for_each_slice trace f op ForEg (Always path) (W.IsCanonical.stays goal
     (first_steps_is (member trace f) (Cuts (clocks_of trace) (listed_slice (run_with_watch trace) f)) (member_reads trace f op) (initial (clocks_of trace)) path.steps path.goal steps))
 
-pub finish_by_listing : (trace : Trace) (f : Formula) → ordered (clocks_of trace) ≡ true → is_regular_anyhow f ≡ true → member trace f (initial (clocks_of trace)) ≡ true → member trace f (lengths (clocks_of trace)) ≡ false → HasWitness trace ExistsGlobally f StuckFinish
+pub finish_by_listing : (trace : Trace) (f : Formula) → ordered (clocks_of trace) ≡ true → is_regular_anyhow f ≡ true → member trace f (initial (clocks_of trace)) ≡ true → member trace f (lengths (clocks_of trace)) ≡ false → HasWitness trace ForEg f StuckFinish
 finish_by_listing trace f o k start finish =
     let op = operand trace f o k in
-    for_each_slice trace f op ExistsGlobally StuckFinish (W.IsCanonical.false_at_finish ((member_reads trace f op (initial (clocks_of trace))).0 start)
+    for_each_slice trace f op ForEg StuckFinish (W.IsCanonical.false_at_finish ((member_reads trace f op (initial (clocks_of trace))).0 start)
     (λ m. both_ways (member trace f (lengths (clocks_of trace))) finish ((member_reads trace f op (lengths (clocks_of trace))).1 m)))
 
 pub pair_by_listing : (trace : Trace) (f : Formula) (first other : Place) → ordered (clocks_of trace) ≡ true → is_regular_anyhow f ≡ true → member trace f (initial (clocks_of trace)) ≡ true → member trace f (lengths (clocks_of trace)) ≡ true
     → first_place (clocks_of trace) (is_sharing (clocks_of trace) (listed_slice (run_with_watch trace) f)) first ≡ true
-    → first_place (clocks_of trace) (shares (listed_slice (run_with_watch trace) f) first) other ≡ true → HasWitness trace ExistsGlobally f (StuckPair first other)
+    → first_place (clocks_of trace) (shares (listed_slice (run_with_watch trace) f) first) other ≡ true → HasWitness trace ForEg f (StuckPair first other)
 pair_by_listing trace f first other o k start finish p q =
     let op = operand trace f o k in
     let s = listed_slice (run_with_watch trace) f in
-    for_each_slice trace f op ExistsGlobally (StuckPair first other) (W.IsCanonical.come_together
+    for_each_slice trace f op ForEg (StuckPair first other) (W.IsCanonical.come_together
     ((member_reads trace f op (initial (clocks_of trace))).0 start)
     ((member_reads trace f op (lengths (clocks_of trace))).0 finish)
     (first_place_is (clocks_of trace) (is_sharing (clocks_of trace) s) (λ e. (f : Place) × IsPlace (clocks_of trace) f × Shares s e f) (λ e there. sharing_reads (clocks_of trace) s e) first p)

@@ -14,7 +14,7 @@ ghost use Rattle.run_model.specs.Worked.{first_two_events, no_events, x_is, x_is
 ghost use Rattle.run_model.specs.Worked.{y_is, x_less_y, both, one_of};
 ghost use Rattle.run_model.specs.Worked.{edge, at, path_to, run_with_watch, HasVerdict, HasSlice};
 ghost use Rattle.run_model.specs.Worked.{HasNoSlice, HasWitness};
-ghost use Rattle.run_model.specs.Witness.{ExistsFinally, AlwaysGlobally, ExistsGlobally};
+ghost use Rattle.run_model.specs.Witness.{ForEf, ForAg, ForEg};
 ghost use Rattle.run_model.specs.Witness.{ExistsNext, Reach, Against, Always, StuckFinish};
 ghost use Rattle.run_model.specs.Witness.{StuckPair, Nothing};
 
@@ -37,7 +37,7 @@ pub fn two_and_one_is_reached()
     ensures verdict { HasVerdict five_events (Temporal Ef (both (x_is 2) (y_is 1))) true }
     ensures slice { HasSlice five_events (Temporal Ef (both (x_is 2) (y_is 1)))
         (cut 0 0) (cut 2 1) [] }
-    ensures witness { HasWitness five_events ExistsFinally (both (x_is 2) (y_is 1))
+    ensures witness { HasWitness five_events ForEf (both (x_is 2) (y_is 1))
         (Reach (path_to (cut 2 1) (at 0 1 ∷ at 0 2 ∷ at 1 1 ∷ []))) }
 {}
 
@@ -45,7 +45,7 @@ pub fn two_and_one_is_reached()
 pub fn zero_and_one_is_never_reached()
     ensures verdict { HasVerdict five_events (Temporal Ef (both (x_is 0) (y_is 1))) false }
     ensures slice { HasNoSlice five_events (Temporal Ef (both (x_is 0) (y_is 1))) }
-    ensures witness { HasWitness five_events ExistsFinally (both (x_is 0) (y_is 1)) Nothing }
+    ensures witness { HasWitness five_events ForEf (both (x_is 0) (y_is 1)) Nothing }
 {}
 
 /// `P.x = 0` on the five events: the initial cut alone.
@@ -59,7 +59,7 @@ pub fn one_message_at_most()
     ensures verdict { HasVerdict five_events (Temporal Ag (InTransit p q LessOrEqual 1)) true }
     ensures slice { HasSlice five_events (Temporal Ag (InTransit p q LessOrEqual 1))
         (cut 0 0) (cut 3 2) [] }
-    ensures witness { HasWitness five_events AlwaysGlobally (InTransit p q LessOrEqual 1) Nothing }
+    ensures witness { HasWitness five_events ForAg (InTransit p q LessOrEqual 1) Nothing }
 {}
 
 /// `EF AG P.x = 2` on the five events, and `AG P.x = 2`, which is true from the second event of P
@@ -69,7 +69,7 @@ pub fn two_for_good()
     ensures slice { HasSlice five_events (Temporal Ef (Temporal Ag (x_is 2)))
         (cut 0 0) (cut 3 2) [] }
     ensures operand { HasSlice five_events (Temporal Ag (x_is 2)) (cut 2 0) (cut 3 2) [] }
-    ensures witness { HasWitness five_events ExistsFinally (Temporal Ag (x_is 2))
+    ensures witness { HasWitness five_events ForEf (Temporal Ag (x_is 2))
         (Reach (path_to (cut 2 0) (at 0 1 ∷ at 0 2 ∷ []))) }
 {}
 
@@ -79,7 +79,7 @@ pub fn empty_each_time()
     ensures operand { HasSlice five_events (Empty p q) (cut 0 0) (cut 3 2) (edge 1 1 0 1 ∷ []) }
     ensures verdict { HasVerdict five_events (Temporal Ag (Empty p q)) false }
     ensures slice { HasSlice five_events (Temporal Ag (Empty p q)) (cut 1 1) (cut 3 2) [] }
-    ensures witness { HasWitness five_events AlwaysGlobally (Empty p q)
+    ensures witness { HasWitness five_events ForAg (Empty p q)
         (Against (path_to (cut 1 0) (at 0 1 ∷ []))) }
 {}
 
@@ -88,7 +88,7 @@ pub fn empty_each_time()
 pub fn empty_all_along()
     ensures verdict { HasVerdict five_events (Temporal Eg (Empty p q)) false }
     ensures slice { HasSlice five_events (Temporal Eg (Empty p q)) (cut 1 1) (cut 3 2) [] }
-    ensures witness { HasWitness five_events ExistsGlobally (Empty p q)
+    ensures witness { HasWitness five_events ForEg (Empty p q)
         (StuckPair (at 0 1) (at 1 1)) }
 {}
 
@@ -96,7 +96,7 @@ pub fn empty_all_along()
 pub fn two_at_most_all_along()
     ensures verdict { HasVerdict five_events (Temporal Eg (x_at_most 2)) true }
     ensures slice { HasSlice five_events (Temporal Eg (x_at_most 2)) (cut 0 0) (cut 3 2) [] }
-    ensures witness { HasWitness five_events ExistsGlobally (x_at_most 2)
+    ensures witness { HasWitness five_events ForEg (x_at_most 2)
         (Always (path_to (cut 3 2) (at 0 1 ∷ at 0 2 ∷ at 1 1 ∷ at 1 2 ∷ at 0 3 ∷ []))) }
 {}
 
@@ -105,7 +105,7 @@ pub fn two_can_always_be_reached()
     ensures verdict { HasVerdict five_events (Temporal Ag (Temporal Ef (y_is 2))) true }
     ensures slice { HasSlice five_events (Temporal Ag (Temporal Ef (y_is 2)))
         (cut 0 0) (cut 3 2) [] }
-    ensures witness { HasWitness five_events AlwaysGlobally (Temporal Ef (y_is 2)) Nothing }
+    ensures witness { HasWitness five_events ForAg (Temporal Ef (y_is 2)) Nothing }
 {}
 
 /// `P.x = 1 & Q.y = 2 | P.x = 2 & Q.y = 1` on the five events: two of the four cuts that are shown
@@ -122,7 +122,7 @@ pub fn one_of_two_pairs()
 pub fn true_without_events()
     ensures verdict { HasVerdict no_events (Temporal Eg (Truth true)) true }
     ensures slice { HasSlice no_events (Temporal Eg (Truth true)) (0 ∷ []) (0 ∷ []) [] }
-    ensures witness { HasWitness no_events ExistsGlobally (Truth true)
+    ensures witness { HasWitness no_events ForEg (Truth true)
         (Always (path_to (0 ∷ []) [])) }
 {}
 
@@ -155,7 +155,7 @@ pub fn not_one()
     ensures slice { HasSlice five_events (x_is_not 1)
         (cut 0 0) (cut 3 2) (edge 0 2 0 1 ∷ edge 0 2 1 1 ∷ []) }
     ensures all_along { HasVerdict five_events (Temporal Eg (x_is_not 1)) false }
-    ensures witness { HasWitness five_events ExistsGlobally (x_is_not 1)
+    ensures witness { HasWitness five_events ForEg (x_is_not 1)
         (StuckPair (at 0 1) (at 0 2)) }
 {}
 
@@ -165,7 +165,7 @@ pub fn stable_and_two()
     ensures verdict { HasVerdict five_events (Temporal Ef (both (Watched p p) (y_is 2))) true }
     ensures slice { HasSlice five_events (Temporal Ef (both (Watched p p) (y_is 2)))
         (cut 0 0) (cut 3 2) [] }
-    ensures witness { HasWitness five_events ExistsFinally (both (Watched p p) (y_is 2))
+    ensures witness { HasWitness five_events ForEf (both (Watched p p) (y_is 2))
         (Reach (path_to (cut 3 2) (at 0 1 ∷ at 0 2 ∷ at 1 1 ∷ at 1 2 ∷ at 0 3 ∷ []))) }
 {}
 
@@ -173,7 +173,7 @@ pub fn stable_and_two()
 pub fn before_the_receipts()
     ensures not_yet { HasVerdict first_two_events (Temporal Ef (both (x_is 2) (y_is 1))) false }
     ensures verdict { HasVerdict first_two_events (Temporal Eg (Empty p q)) false }
-    ensures witness { HasWitness first_two_events ExistsGlobally (Empty p q) StuckFinish }
+    ensures witness { HasWitness first_two_events ForEg (Empty p q) StuckFinish }
 {}
 
 /// `EX P P.x = 1` on the five events: true where the first event of P is the next one.

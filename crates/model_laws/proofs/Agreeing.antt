@@ -3,7 +3,7 @@ use Rattle.std.proofs.Common.{◌≡◌, ℕ, ◌-◌, ◌↔◌, Bool, IsTrue, 
 use Rattle.std.specs.Prelude.{◌==◌, if◌then◌else◌}
 use Rattle.run_model.specs.Cut.{Cut, Clocks, count, with_next}
 use Rattle.run_model.specs.Run.{Name, Run}
-use Rattle.run_model.specs.Operators.{SomeTime, EachTime, Staying, NextTime}
+use Rattle.run_model.specs.Operators.{EfHolds, AgHolds, EgHolds, ExHolds}
 use Rattle.run_model.specs.Formula.{Side, Number, Variable, Ef, Ag, Eg, Af, Ax, Formula, Truth, Comparison, Watched, InTransit, Empty, Difference, Not, And, Or, Temporal, Next, Until, Formulas, Nil, Cons}
 use Rattle.run_model.specs.Meaning.{compares, value_at, side_at, in_transit, Sat, SatAll, SatSome}
 use Rattle.run_model.proofs.Paths.{all_wider}
@@ -31,23 +31,23 @@ same_transit r s p q c h = transit_same r s (r.process p) (r.process q) (s.proce
     (h.sends (count c (r.process p)) ∙ ap (λ k. s.sent (s.process p) (s.process q) (count c k)) h.sender)
     (h.receipts (count c (r.process q)) ∙ ap (λ k. s.received (s.process p) (s.process q) (count c k)) h.receiver)
 
-same_some_time : (o p : Clocks) → o ≡ p → (A B : Cut → Type 0) → ((c : Cut) → A c ↔ B c) → (c : Cut) → SomeTime o A c ↔ SomeTime p B c
-same_some_time o p e A B same c = subst (λ (x : Clocks). SomeTime o A c ↔ SomeTime x B c) e (λ h. (h.0, h.1, h.2, (same h.1).0 h.3), λ h. (h.0, h.1, h.2, (same h.1).1 h.3))
+same_some_time : (o p : Clocks) → o ≡ p → (A B : Cut → Type 0) → ((c : Cut) → A c ↔ B c) → (c : Cut) → EfHolds o A c ↔ EfHolds p B c
+same_some_time o p e A B same c = subst (λ (x : Clocks). EfHolds o A c ↔ EfHolds x B c) e (λ h. (h.0, h.1, h.2, (same h.1).0 h.3), λ h. (h.0, h.1, h.2, (same h.1).1 h.3))
 
-same_each_time : (o p : Clocks) → o ≡ p → (A B : Cut → Type 0) → ((c : Cut) → A c ↔ B c) → (c : Cut) → EachTime o A c ↔ EachTime p B c
-same_each_time o p e A B same c = subst (λ (x : Clocks). EachTime o A c ↔ EachTime x B c) e (
+same_each_time : (o p : Clocks) → o ≡ p → (A B : Cut → Type 0) → ((c : Cut) → A c ↔ B c) → (c : Cut) → AgHolds o A c ↔ AgHolds p B c
+same_each_time o p e A B same c = subst (λ (x : Clocks). AgHolds o A c ↔ AgHolds x B c) e (
   λ h es d path. all_wider A B (λ x m. (same x).0 m) c es (h es d path),
   λ h es d path. all_wider B A (λ x m. (same x).1 m) c es (h es d path),
 )
 
-same_staying : (o p : Clocks) → o ≡ p → (A B : Cut → Type 0) → ((c : Cut) → A c ↔ B c) → (c : Cut) → Staying o A c ↔ Staying p B c
-same_staying o p e A B same c = subst (λ (x : Clocks). Staying o A c ↔ Staying x B c) e (
+same_staying : (o p : Clocks) → o ≡ p → (A B : Cut → Type 0) → ((c : Cut) → A c ↔ B c) → (c : Cut) → EgHolds o A c ↔ EgHolds p B c
+same_staying o p e A B same c = subst (λ (x : Clocks). EgHolds o A c ↔ EgHolds x B c) e (
   λ h. (h.0, h.1, all_wider A B (λ x m. (same x).0 m) c h.0 h.2),
   λ h. (h.0, h.1, all_wider B A (λ x m. (same x).1 m) c h.0 h.2),
 )
 
-same_next_time : (o p : Clocks) → o ≡ p → (i j : ℕ) → i ≡ j → (A B : Cut → Type 0) → ((c : Cut) → A c ↔ B c) → (c : Cut) → NextTime o i A c ↔ NextTime p j B c
-same_next_time o p e i j h A B same c = subst (λ (x : Clocks). NextTime o i A c ↔ NextTime x j B c) e (subst (λ k. NextTime o i A c ↔ NextTime o k B c) h
+same_next_time : (o p : Clocks) → o ≡ p → (i j : ℕ) → i ≡ j → (A B : Cut → Type 0) → ((c : Cut) → A c ↔ B c) → (c : Cut) → ExHolds o i A c ↔ ExHolds p j B c
+same_next_time o p e i j h A B same c = subst (λ (x : Clocks). ExHolds o i A c ↔ ExHolds x j B c) e (subst (λ k. ExHolds o i A c ↔ ExHolds o k B c) h
     (λ w. (w.0, w.1, (same (with_next c i)).0 w.2), λ w. (w.0, w.1, (same (with_next c i)).1 w.2)))
 
 mutual

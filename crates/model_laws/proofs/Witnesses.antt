@@ -10,7 +10,7 @@ use Rattle.run_model.specs.Operators.{HasPairs}
 use Rattle.run_model.specs.Formula.{Operator, Ef, Ag, Eg, Af, Ax, Formula, Truth, Comparison, Watched, InTransit, Empty, Difference, Not, And, Or, Temporal, Next, Until}
 use Rattle.run_model.specs.Meaning.{IsRun, Family}
 use Rattle.run_model.specs.Class.{is_analysed, is_conjunctive, IsKeptFor, IsRegular, IsRegularIn}
-use Rattle.run_model.specs.Witness.{WitnessOperator, ExistsFinally, AlwaysGlobally, ExistsGlobally, ExistsNext, IsPartOf, HasFirst, Place, PathTo, Witness, Nothing, first_event_of, IsOfKind, IsPlace, FirstSteps, IsFirst, row_at, AreTwo, Departs, Shares, IsCanonical, explained, IsWitnessOf}
+use Rattle.run_model.specs.Witness.{WitnessOperator, ForEf, ForAg, ForEg, ExistsNext, IsPartOf, HasFirst, Place, PathTo, Witness, Nothing, first_event_of, IsOfKind, IsPlace, FirstSteps, IsFirst, row_at, AreTwo, Departs, Shares, IsCanonical, explained, IsWitnessOf}
 use Rattle.run_model.specs.Witness as W
 use Rattle.run_model.proofs.Counts.{within_both, initial_within}
 use Rattle.run_model.proofs.Orders.{initial_consistent, past_consistent, past_has, has_past}
@@ -42,7 +42,7 @@ in_set o A s k c = exact_slice o A k.closed s k.stands c
 
 -- ---- EF
 
-reach_by : (o : Clocks) (A : Cut → Type 0) (s : Slice) → Operand o A s → (b : Option Cut) → s.bottom ≡ b → IsLeastOf A b → (w : Witness) × IsCanonical o s ExistsFinally w
+reach_by : (o : Clocks) (A : Cut → Type 0) (s : Slice) → Operand o A s → (b : Option Cut) → s.bottom ≡ b → IsLeastOf A b → (w : Witness) × IsCanonical o s ForEf w
 reach_by o A s k None e least = (Nothing, W.IsCanonical.never e)
 reach_by o A s k (Some goal) e least =
     let consistent = k.closed.consistent goal least.member in
@@ -50,7 +50,7 @@ reach_by o A s k (Some goal) e least =
     (initial o) (initial_consistent o, initial_within o goal) (below_apart o k.order (initial o) goal consistent) in
     (W.Reach (record { goal = goal; steps = path.0 }), W.IsCanonical.reaches e path.1)
 
-reach_there : (o : Clocks) (A : Cut → Type 0) (s : Slice) → Operand o A s → (w : Witness) × IsCanonical o s ExistsFinally w
+reach_there : (o : Clocks) (A : Cut → Type 0) (s : Slice) → Operand o A s → (w : Witness) × IsCanonical o s ForEf w
 reach_there o A s k = reach_by o A s k s.bottom refl k.stands.bottom
 
 -- ---- AG
@@ -77,7 +77,7 @@ not_departing o A s k none e there = elim (k.decide (clock o e.process e.positio
   | inr n ↦ absurd (none e there (λ same. n ((subst (IsLeastOf (Having A e.process e.position)) same (k.stands.rows e.process e.position there)).member.0)))
 ]
 
-against_there : (o : Clocks) (A : Cut → Type 0) (s : Slice) → Operand o A s → (w : Witness) × IsCanonical o s AlwaysGlobally w
+against_there : (o : Clocks) (A : Cut → Type 0) (s : Slice) → Operand o A s → (w : Witness) × IsCanonical o s ForAg w
 against_there o A s k = elim (k.decide (initial o)) [
   | inr n ↦ (W.Against (record { goal = initial o; steps = [] }), W.IsCanonical.refuted_at_start (λ h. n ((in_set o A s k (initial o)).1 h)))
   | inl start ↦ elim (first_event o (Departs o s) (decide_departs o A s k)) [
@@ -144,19 +144,19 @@ decide_shared o A s k final e there = elim (first_other o A s k final e there) [
 no_pairs : (o : Clocks) (s : Slice) → ((e : Place) → IsPlace o e → Shared o s e → ⊥) → (c : Cut) → HasPairs o s c
 no_pairs o s none c i a j b ev fv same differ = absurd (none (at i a) ev (at j b, fv, (differ, sym same)))
 
-stay_there : (o : Clocks) (A : Cut → Type 0) (s : Slice) → Operand o A s → A (initial o) → A (lengths o) → ((e : Place) → IsPlace o e → Shared o s e → ⊥) → (w : Witness) × IsCanonical o s ExistsGlobally w
+stay_there : (o : Clocks) (A : Cut → Type 0) (s : Slice) → Operand o A s → A (initial o) → A (lengths o) → ((e : Place) → IsPlace o e → Shared o s e → ⊥) → (w : Witness) × IsCanonical o s ForEg w
 stay_there o A s k start final none =
     let path = first_path o A (lengths o) (λ i a. cut_of (s.row i a)) (set_climbable o A k.closed s k.stands final) k.decide (initial o) start
     (pairs_apart o A k.closed s k.stands final (initial o) (no_pairs o s none (initial o))) in
     (W.Always (record { goal = lengths o; steps = path.0 }), W.IsCanonical.stays refl (first_steps_same A (Cuts o s) (in_set o A s k) (initial o) path.0 (lengths o) path.1))
 
-pair_there : (o : Clocks) (A : Cut → Type 0) (s : Slice) → Operand o A s → A (initial o) → A (lengths o) → (e : Place) → IsFirst o (Shared o s) e → (w : Witness) × IsCanonical o s ExistsGlobally w
+pair_there : (o : Clocks) (A : Cut → Type 0) (s : Slice) → Operand o A s → A (initial o) → A (lengths o) → (e : Place) → IsFirst o (Shared o s) e → (w : Witness) × IsCanonical o s ForEg w
 pair_there o A s k start final e first = elim (first_other o A s k final e first.there) [
   | inl other ↦ (W.StuckPair e other.0, W.IsCanonical.come_together {first = e} {other = other.0} ((in_set o A s k (initial o)).0 start) ((in_set o A s k (lengths o)).0 final) first other.1)
   | inr none ↦ absurd (none first.has.0 first.has.1 first.has.2)
 ]
 
-always_there : (o : Clocks) (A : Cut → Type 0) (s : Slice) → Operand o A s → (w : Witness) × IsCanonical o s ExistsGlobally w
+always_there : (o : Clocks) (A : Cut → Type 0) (s : Slice) → Operand o A s → (w : Witness) × IsCanonical o s ForEg w
 always_there o A s k = elim (k.decide (initial o)) [
   | inr n ↦ (W.StuckStart, W.IsCanonical.false_at_start (λ h. n ((in_set o A s k (initial o)).1 h)))
   | inl start ↦ elim (k.decide (lengths o)) [
@@ -184,9 +184,9 @@ canonical_there o A s order closed stands decide operator = by_operator operator
     k = record { order = order; closed = closed; stands = stands; decide = decide }
 
     by_operator : (operator : WitnessOperator) → (w : Witness) × IsCanonical o s operator w
-    by_operator ExistsFinally = reach_there o A s k
-    by_operator AlwaysGlobally = against_there o A s k
-    by_operator ExistsGlobally = always_there o A s k
+    by_operator ForEf = reach_there o A s k
+    by_operator ForAg = against_there o A s k
+    by_operator ForEg = always_there o A s k
     by_operator (ExistsNext i) = next_there o A s k i
 
 -- ---- of a part
@@ -227,9 +227,9 @@ witness_there r run (Difference p x q y relation m) h = (Nothing, refl)
 witness_there r run (Not f) h = (Nothing, refl)
 witness_there r run (And fs) h = (Nothing, refl)
 witness_there r run (Or fs) h = (Nothing, refl)
-witness_there r run (Temporal Ef f) h = witness_by r run ExistsFinally f (operand_regular r Ef f h)
-witness_there r run (Temporal Ag f) h = witness_by r run AlwaysGlobally f (operand_regular r Ag f h)
-witness_there r run (Temporal Eg f) h = witness_by r run ExistsGlobally f (operand_regular r Eg f h)
+witness_there r run (Temporal Ef f) h = witness_by r run ForEf f (operand_regular r Ef f h)
+witness_there r run (Temporal Ag f) h = witness_by r run ForAg f (operand_regular r Ag f h)
+witness_there r run (Temporal Eg f) h = witness_by r run ForEg f (operand_regular r Eg f h)
 witness_there r run (Temporal Af f) h = (Nothing, refl)
 witness_there r run (Temporal Ax f) h = (Nothing, refl)
 witness_there r run (Next p f) h = witness_by r run (ExistsNext (r.process p)) f (next_regular r p f h)
@@ -255,9 +255,9 @@ witness_one r run (Difference p x q y relation n) g w v h k = h ∙ sym k
 witness_one r run (Not f) g w v h k = h ∙ sym k
 witness_one r run (And fs) g w v h k = h ∙ sym k
 witness_one r run (Or fs) g w v h k = h ∙ sym k
-witness_one r run (Temporal Ef f) g w v h k = one_by r run ExistsFinally f (operand_regular r Ef f g) w v h k
-witness_one r run (Temporal Ag f) g w v h k = one_by r run AlwaysGlobally f (operand_regular r Ag f g) w v h k
-witness_one r run (Temporal Eg f) g w v h k = one_by r run ExistsGlobally f (operand_regular r Eg f g) w v h k
+witness_one r run (Temporal Ef f) g w v h k = one_by r run ForEf f (operand_regular r Ef f g) w v h k
+witness_one r run (Temporal Ag f) g w v h k = one_by r run ForAg f (operand_regular r Ag f g) w v h k
+witness_one r run (Temporal Eg f) g w v h k = one_by r run ForEg f (operand_regular r Eg f g) w v h k
 witness_one r run (Temporal Af f) g w v h k = h ∙ sym k
 witness_one r run (Temporal Ax f) g w v h k = h ∙ sym k
 witness_one r run (Next p f) g w v h k = one_by r run (ExistsNext (r.process p)) f (next_regular r p f g) w v h k
@@ -280,9 +280,9 @@ witness_kind r run (Difference p x q y relation m) g w h = plain_kind r (Differe
 witness_kind r run (Not f) g w h = plain_kind r (Not f) w h (W.IsOfKind.not_temporal refl)
 witness_kind r run (And fs) g w h = plain_kind r (And fs) w h (W.IsOfKind.not_temporal refl)
 witness_kind r run (Or fs) g w h = plain_kind r (Or fs) w h (W.IsOfKind.not_temporal refl)
-witness_kind r run (Temporal Ef f) g w h = kind_by r run ExistsFinally f (operand_regular r Ef f g) (Temporal Ef f) refl w h
-witness_kind r run (Temporal Ag f) g w h = kind_by r run AlwaysGlobally f (operand_regular r Ag f g) (Temporal Ag f) refl w h
-witness_kind r run (Temporal Eg f) g w h = kind_by r run ExistsGlobally f (operand_regular r Eg f g) (Temporal Eg f) refl w h
+witness_kind r run (Temporal Ef f) g w h = kind_by r run ForEf f (operand_regular r Ef f g) (Temporal Ef f) refl w h
+witness_kind r run (Temporal Ag f) g w h = kind_by r run ForAg f (operand_regular r Ag f g) (Temporal Ag f) refl w h
+witness_kind r run (Temporal Eg f) g w h = kind_by r run ForEg f (operand_regular r Eg f g) (Temporal Eg f) refl w h
 witness_kind r run (Temporal Af f) g w h = absurd (false≢true g.form)
 witness_kind r run (Temporal Ax f) g w h = absurd (false≢true g.form)
 witness_kind r run (Next p f) g w h = kind_by r run (ExistsNext (r.process p)) f (next_regular r p f g) (Next p f) (p, refl, refl) w h

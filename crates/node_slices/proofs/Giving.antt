@@ -16,7 +16,7 @@ use Rattle.slice_graph.specs.Fitting.{ClosedCuts}
 use Rattle.slice_graph.proofs.Kept.{closed_cuts_closed}
 use Rattle.rctl_grammar.specs.declared.tree.Operator.{Operator}
 use Rattle.rctl_grammar.specs.declared.tree.Operator.TheVariants as operator
-use Rattle.certified_nodes.specs.Given.{SlicedBy, IsGiven}
+use Rattle.certificate_nodes.specs.Given.{SlicedBy, IsGiven}
 use Rattle.node_slices.proofs.Tables.{HasSlice, slice_kept}
 
 -- ---- what is decided

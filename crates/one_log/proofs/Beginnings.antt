@@ -20,11 +20,11 @@ use Rattle.vector_clock.specs.Events.{Events, no_events}
 use Rattle.fault_kinds.specs.declared.merge.MergeFault.{MergeFault}
 use Rattle.fault_kinds.specs.declared.refusal.Refusal.{Refusal}
 use Rattle.fault_kinds.specs.declared.refusal.Refusal.TheVariants as refusal
-use Rattle.input_reading.specs.Changes.{Change}
+use Rattle.pota_base.specs.Changes.{Change, left_by}
 use Rattle.input_reading.specs.declared.kept.Kept.{Kept}
 use Rattle.input_reading.specs.declared.reading.End.{End}
 use Rattle.input_reading.specs.declared.reading.End.TheVariants as end
-use Rattle.input_reading.specs.Intakes.{Ends, HasReadAll}
+use Rattle.input_reading.specs.Intakes.{Ends, ReadsAll}
 use Rattle.log_lines.specs.Reading.{choose}
 use Rattle.log_merge.specs.Merging.{merged}
 use Rattle.log_sources.specs.Sources.{no_sources, after, last_fault, logs_of}
@@ -287,7 +287,7 @@ pub torn_so : (r : Result TornInput NoMemory) (P Q : TornInput → Type 0) → (
 torn_so (Ok i) P Q f h = f i h
 torn_so (Err short) P Q f h = tt
 
-module _ (form_ : Form) (s : Change) (kept : Kept) (e : End) (all : HasReadAll s (Open kept) (Done kept) [] e) (calm : (e ≡ end.Failed → ⊥) → s.faults_after ≡ s.faults_before) where
+module _ (form_ : Form) (s : Change) (kept : Kept) (e : End) (all : ReadsAll s (Open kept) (Done kept) [] e) (calm : (e ≡ end.Failed → ⊥) → s.faults_after ≡ s.faults_before) where
   ended_to : (bytes : List ℕ) → IsAtEnd s.after → s.faults_after ≡ s.faults_before → (i : TornInput) → IsTornAt form_ (mended bytes) i → StandsTornTo form_ s bytes i
   ended_to bytes at same (Whole b) is = (at, same, is)
   ended_to bytes at same (Faulty why) is = (at, is)
@@ -297,7 +297,7 @@ module _ (form_ : Form) (s : Change) (kept : Kept) (e : End) (all : HasReadAll s
   pub torn_ended : (text : List ℕ) → text ≡ kept.bytes → (r : Result TornInput NoMemory) → IfOk r (IsTornAt form_ (mended text)) → e ≡ end.Ended → IfOk r (HasStoodTorn form_ s)
   torn_ended text text_is (Err short) stands is = tt
   torn_ended text text_is (Ok i) stands is =
-      let to = subst (Ends s.after s.faults_before s.faults_after (Open kept) (Done kept) all.read) is all.to in
+      let to = subst (Ends (left_by s) (Open kept) (Done kept) all.read) is all.to in
       record {
         read = all.read;
         consumed = all.consumed;
@@ -306,10 +306,10 @@ module _ (form_ : Form) (s : Change) (kept : Kept) (e : End) (all : HasReadAll s
 
   pub torn_done : e ≡ end.Done → HasStoodTorn form_ s TooLong
   torn_done is =
-      let to = subst (Ends s.after s.faults_before s.faults_after (Open kept) (Done kept) all.read) is all.to in
+      let to = subst (Ends (left_by s) (Open kept) (Done kept) all.read) is all.to in
       record { read = all.read; consumed = all.consumed; to = (calm (λ other. cc), omega (arith, to.1)) }
 
   pub torn_failed : e ≡ end.Failed → HasStoodTorn form_ s Failed
   torn_failed is =
-      let to = subst (Ends s.after s.faults_before s.faults_after (Open kept) (Done kept) all.read) is all.to in
+      let to = subst (Ends (left_by s) (Open kept) (Done kept) all.read) is all.to in
       record { read = all.read; consumed = all.consumed; to = to.0 }

@@ -5,6 +5,7 @@ use Rattle.std.specs.Option.{option_map}
 use Rattle.std.specs.Io.KnownBytes.{Appends}
 use Rattle.std.proofs.KnownBytes.{Appends-trans}
 use Rattle.pota_base.specs.Outside.{AppendsPrefix}
+use Rattle.pota_base.specs.Changes.{change_of}
 use Rattle.fault_line.specs.Lines.{Told}
 use Rattle.one_log.specs.Faults.{program, unknown_text, word_at}
 
@@ -45,6 +46,6 @@ all_pieces a b c d first word last one two three = Appends-trans a b d first (wo
 line_is : (word : List ℕ) → codes "pota_log: --keep " ++ (word ++ codes ": not in the log\n") ≡ program ++ (codes ": " ++ (unknown_text word ++ 10 ∷ []))
 line_is word = ap (λ (xs : List ℕ). codes "pota_log: --keep " ++ xs) (sym (append_assoc word (codes ": not in the log") (10 ∷ [])))
 
-pub line_told : (old new : Option (List ℕ)) (before now : ℕ) (word : List ℕ) → Told old new before now (codes "pota_log: --keep " ++ (word ++ codes ": not in the log\n"))
-    → Told old new before now (program ++ (codes ": " ++ (unknown_text word ++ 10 ∷ [])))
-line_told old new before now word = subst (Told old new before now) (line_is word)
+pub line_told : (old new : Option (List ℕ)) (before now : ℕ) (word : List ℕ) → Told (change_of old new before now) (codes "pota_log: --keep " ++ (word ++ codes ": not in the log\n"))
+    → Told (change_of old new before now) (program ++ (codes ": " ++ (unknown_text word ++ 10 ∷ [])))
+line_told old new before now word = subst (Told (change_of old new before now)) (line_is word)

@@ -9,8 +9,8 @@ use Rattle.event_log.specs.declared.log.Log.{Log}
 use Rattle.kept_log.specs.Unknown.{unknown_word}
 use Rattle.fault_kinds.specs.declared.refusal.Refusal.{Refusal}
 use Rattle.fault_line.specs.Lines.{Told}
-use Rattle.input_reading.specs.Changes.{Change}
-use Rattle.input_reading.specs.Intakes.{HasReadSome}
+use Rattle.pota_base.specs.Changes.{Change, behind_of, change_of, counts_of}
+use Rattle.input_reading.specs.Intakes.{ReadsShort}
 use Rattle.log_rules.specs.Judgement.{Prefix}
 use Rattle.log_rules.specs.WholeLogs.{all_of}
 use Rattle.one_log.specs.declared.asking.Asked.{Asked}
@@ -32,39 +32,39 @@ use Rattle.one_log.specs.inside.Torn.{HasStoodTorn}
 
 -- a whole text, or a front of it where a write failed
 pub told_text : {T E : Type 0} (r : Result T E) (old new : Option (List ℕ)) (before now : ℕ) (text : List ℕ)
-    → OnOk r (Appends old new text) → OnErr r (AppendsPrefix old new text) → HasCause before now r → Told old new before now text
+    → OnOk r (Appends old new text) → OnErr r (AppendsPrefix old new text) → HasCause before now r → Told (change_of old new before now) text
 told_text (Ok x) old new before now text ok err cause = record { whole = λ calm. ok; part = (text, ([], sym (append-nil text)), ok) }
 told_text (Err e) old new before now text ok err cause = record { whole = λ calm. absurd (calm cause.failed); part = err }
 
 -- nothing was written, and nothing was to be
-pub untold : (old : Option (List ℕ)) (count : ℕ) → Told old old count count []
+pub untold : (old : Option (List ℕ)) (count : ℕ) → Told (change_of old old count count) []
 untold old count = record { whole = λ calm. Appends-nil old; part = ([], ([], refl), Appends-nil old) }
 
 -- ---- the log
 
 module _ (words : List (List ℕ)) (asked : Asked) (log : Prefix) (held : Option (List ℕ)) (of : ℕ) where
-  pub no_text : PutsLog words asked log held held of of (Some fault.Memory)
+  pub no_text : PutsLog words asked log (change_of held held of of) (Some fault.Memory)
   no_text = record { written = []; wrote = Appends-nil held; to = refl }
 
-  pub unknown : (place : ℕ) → Some place ≡ unknown_word log.header words → PutsLog words asked log held held of of (Some (fault.Unknown place))
+  pub unknown : (place : ℕ) → Some place ≡ unknown_word log.header words → PutsLog words asked log (change_of held held of of) (Some (fault.Unknown place))
   unknown place is = record { written = []; wrote = Appends-nil held; to = (refl, sym is) }
 
   module _ (known : None ≡ unknown_word log.header words) (text : List ℕ) (text_is : text ≡ asked_text asked log) where
-    pub too_long : longest_log < length text → PutsLog words asked log held held of of (Some fault.TooLong)
+    pub too_long : longest_log < length text → PutsLog words asked log (change_of held held of of) (Some fault.TooLong)
     too_long long = record {
       written = [];
       wrote = Appends-nil held;
       to = (refl, subst (λ (t : List ℕ). longest_log < length t) text_is long, sym known);
     }
 
-    pub was_put : (held' : Option (List ℕ)) (of' : ℕ) (slice : List ℕ) → slice ≡ text → length text ≤ longest_log → Appends held held' slice → PutsLog words asked log held held' of of' None
+    pub was_put : (held' : Option (List ℕ)) (of' : ℕ) (slice : List ℕ) → slice ≡ text → length text ≤ longest_log → Appends held held' slice → PutsLog words asked log (change_of held held' of of') None
     was_put held' of' slice is short wrote = record {
       written = text;
       wrote = subst (Appends held held') is wrote;
       to = record { text_is = text_is; short = short; known = sym known };
     }
 
-    pub not_put : (held' : Option (List ℕ)) (of' : ℕ) (slice : List ℕ) → slice ≡ text → length text ≤ longest_log → AppendsPrefix held held' slice → Rose of of' → PutsLog words asked log held held' of of' (Some fault.Write)
+    pub not_put : (held' : Option (List ℕ)) (of' : ℕ) (slice : List ℕ) → slice ≡ text → length text ≤ longest_log → AppendsPrefix held held' slice → Rose of of' → PutsLog words asked log (change_of held held' of of') (Some fault.Write)
     not_put held' of' slice is short wrote rose =
         let part = subst (AppendsPrefix held held') is wrote in
         record { written = part.0; wrote = part.2; to = (text, record { text_is = text_is; short = short; known = sym known }, part.1, rose) }
@@ -83,8 +83,8 @@ module _ (words : List (List ℕ)) (asked : Asked) (asks : asked_by words ≡ So
       known = is.known;
     }
 
-    says_so : (f : Option Fault) → (written : List ℕ) → PutsTo words asked log of of' written f → (f ≡ None → IsToldOf asked.flags.torn asked.flags.form read lines)
-        → Says f s.after s.faults_before s.faults_after of of' words read written lines
+    says_so : (f : Option Fault) → (written : List ℕ) → PutsTo words asked log (counts_of of of') written f → (f ≡ None → IsToldOf asked.flags.torn asked.flags.form read lines)
+        → Says f (behind_of s.after s.faults_before s.faults_after of of') words read written lines
     unfolding answered
     says_so None written puts told = (answered written puts, told refl)
     says_so (Some fault.Usage) written puts told = absurd puts
@@ -99,14 +99,14 @@ module _ (words : List (List ℕ)) (asked : Asked) (asks : asked_by words ≡ So
     says_so (Some fault.Write) written puts told = (puts.0, answered puts.0 puts.1, puts.2, puts.3)
     says_so (Some fault.Memory) written puts told = puts
 
-    logged : (f : Option Fault) → PutsLog words asked log held held' of of' f → (f ≡ None → IsToldOf asked.flags.torn asked.flags.form read lines)
-        → HasLogged s.before s.after held held' s.faults_before s.faults_after of of' words f lines
+    logged : (f : Option Fault) → PutsLog words asked log (change_of held held' of of') f → (f ≡ None → IsToldOf asked.flags.torn asked.flags.form read lines)
+        → HasLogged s (change_of held held' of of') words f lines
     logged f puts told =
         record { read = read; written = puts.written; consumed = consumed; wrote = puts.wrote; says = says_so f puts.written puts.to told }
 
   -- nothing was written
-  unwritten : (read : List ℕ) → Consumes s.before s.after read → (f : Option Fault) (lines : List ℕ) → Says f s.after s.faults_before s.faults_after of of words read [] lines
-      → HasLogged s.before s.after held held s.faults_before s.faults_after of of words f lines
+  unwritten : (read : List ℕ) → Consumes s.before s.after read → (f : Option Fault) (lines : List ℕ) → Says f (behind_of s.after s.faults_before s.faults_after of of) words read [] lines
+      → HasLogged s (change_of held held of of) words f lines
   unwritten read consumed f lines says = record { read = read; written = []; consumed = consumed; wrote = Appends-nil held; says = says }
 
   asking : (P : Asked → Type 0) → P asked → HasAsked words P
@@ -117,18 +117,18 @@ module _ (words : List (List ℕ)) (asked : Asked) (asks : asked_by words ≡ So
     as_plain : (P : Bool → Type 0) → P false → P asked.flags.torn
     as_plain P p = subst P (sym plain) p
 
-    pub whole : (log : Log) (places : Places) (stood : HasStood asked.flags.form s (Whole log places)) (held' : Option (List ℕ)) (of' : ℕ) (f : Option Fault) → PutsLog words asked (all_of log) held held' of of' f
-        → HasLogged s.before s.after held held' s.faults_before s.faults_after of of' words f []
+    pub whole : (log : Log) (places : Places) (stood : HasStood asked.flags.form s (Whole log places)) (held' : Option (List ℕ)) (of' : ℕ) (f : Option Fault) → PutsLog words asked (all_of log) (change_of held held' of of') f
+        → HasLogged s (change_of held held' of of') words f []
     whole log places stood held' of' f puts =
         logged stood.read stood.consumed stood.to.0 (all_of log) (as_plain (λ t. HasLogBy t asked.flags.form stood.read (all_of log)) stood.to.2.has) held' of' [] f puts
         (λ none. as_plain (λ t. IsToldOf t asked.flags.form stood.read []) refl)
 
-    pub refused : (r : Refusal) (line : List ℕ) → HasStood asked.flags.form s (Faulty r line) → HasLogged s.before s.after held held s.faults_before s.faults_after of of words (Some (fault.Refused r)) []
+    pub refused : (r : Refusal) (line : List ℕ) → HasStood asked.flags.form s (Faulty r line) → HasLogged s (change_of held held of of) words (Some (fault.Refused r)) []
     refused r line stood =
         unwritten stood.read stood.consumed (Some (fault.Refused r)) []
         (refl, asking (λ a. IsRefusedBy a.flags.torn a.flags.form s.after stood.read r) (as_plain (λ t. IsRefusedBy t asked.flags.form s.after stood.read r) stood.to.0))
 
-    pub failed : HasStood asked.flags.form s Failed → HasLogged s.before s.after held held s.faults_before s.faults_after of of words (Some fault.Read) []
+    pub failed : HasStood asked.flags.form s Failed → HasLogged s (change_of held held of of) words (Some fault.Read) []
     failed stood =
         unwritten stood.read stood.consumed (Some fault.Read) []
         (refl, stood.to.1, asking (λ a. IsFreeBy a.flags.torn a.flags.form stood.read) (as_plain (λ t. IsFreeBy t asked.flags.form stood.read) stood.to.0))
@@ -138,8 +138,8 @@ module _ (words : List (List ℕ)) (asked : Asked) (asks : asked_by words ≡ So
     as_torn : (P : Bool → Type 0) → P true → P asked.flags.torn
     as_torn P p = subst P (sym is_torn) p
 
-    pub torn_whole : (b : Beginning) (stood : HasStoodTorn asked.flags.form s (torn.Whole b)) (held' : Option (List ℕ)) (of' : ℕ) (f : Option Fault) (lines : List ℕ) → PutsLog words asked (all_of b.log) held held' of of' f
-        → (f ≡ None → lines ≡ left_out_lines b.log.header.procs b.left_out) → HasLogged s.before s.after held held' s.faults_before s.faults_after of of' words f lines
+    pub torn_whole : (b : Beginning) (stood : HasStoodTorn asked.flags.form s (torn.Whole b)) (held' : Option (List ℕ)) (of' : ℕ) (f : Option Fault) (lines : List ℕ) → PutsLog words asked (all_of b.log) (change_of held held' of of') f
+        → (f ≡ None → lines ≡ left_out_lines b.log.header.procs b.left_out) → HasLogged s (change_of held held' of of') words f lines
     torn_whole b stood held' of' f lines puts told =
         logged stood.read stood.consumed stood.to.0 (all_of b.log) (as_torn (λ t. HasLogBy t asked.flags.form stood.read (all_of b.log)) stood.to.2.has) held' of' lines f puts
         (λ none. as_torn (λ t. IsToldOf t asked.flags.form stood.read lines) (record {
@@ -148,22 +148,22 @@ module _ (words : List (List ℕ)) (asked : Asked) (asks : asked_by words ≡ So
           are = told none ∙ ap (left_out_lines b.log.header.procs) stood.to.2.left_out_are;
         }))
 
-    pub torn_refused : (r : Refusal) (lines : List ℕ) → HasStoodTorn asked.flags.form s (torn.Faulty r) → HasLogged s.before s.after held held s.faults_before s.faults_after of of words (Some (fault.Refused r)) lines
+    pub torn_refused : (r : Refusal) (lines : List ℕ) → HasStoodTorn asked.flags.form s (torn.Faulty r) → HasLogged s (change_of held held of of) words (Some (fault.Refused r)) lines
     torn_refused r lines stood =
         unwritten stood.read stood.consumed (Some (fault.Refused r)) lines
         (refl, asking (λ a. IsRefusedBy a.flags.torn a.flags.form s.after stood.read r) (as_torn (λ t. IsRefusedBy t asked.flags.form s.after stood.read r) stood.to))
 
-    pub torn_failed : (lines : List ℕ) → HasStoodTorn asked.flags.form s torn.Failed → HasLogged s.before s.after held held s.faults_before s.faults_after of of words (Some fault.Read) lines
+    pub torn_failed : (lines : List ℕ) → HasStoodTorn asked.flags.form s torn.Failed → HasLogged s (change_of held held of of) words (Some fault.Read) lines
     torn_failed lines stood =
         unwritten stood.read stood.consumed (Some fault.Read) lines
         (refl, stood.to, asking (λ a. IsFreeBy a.flags.torn a.flags.form stood.read) (as_torn (λ t. IsFreeBy t asked.flags.form stood.read) tt))
 
-    pub torn_long : (lines : List ℕ) → HasStoodTorn asked.flags.form s torn.TooLong → HasLogged s.before s.after held held s.faults_before s.faults_after of of words (Some fault.TooLong) lines
+    pub torn_long : (lines : List ℕ) → HasStoodTorn asked.flags.form s torn.TooLong → HasLogged s (change_of held held of of) words (Some fault.TooLong) lines
     torn_long lines stood =
         unwritten stood.read stood.consumed (Some fault.TooLong) lines (refl, asking (IsTooLong words s.after stood.read) (inr (is_torn, stood.to.1)))
 
 -- no read failed
-pub calm_so : (words : List (List ℕ)) (asked : Asked) (log : Prefix) (held held' : Option (List ℕ)) (of of' lf lf' : ℕ) → lf' ≡ lf → (f : Option Fault) → PutsLog words asked log held held' of of' f → IsCalm lf lf' f
+pub calm_so : (words : List (List ℕ)) (asked : Asked) (log : Prefix) (held held' : Option (List ℕ)) (of of' lf lf' : ℕ) → lf' ≡ lf → (f : Option Fault) → PutsLog words asked log (change_of held held' of of') f → IsCalm lf lf' f
 calm_so words asked log held held' of of' lf lf' calm None puts = calm
 calm_so words asked log held held' of of' lf lf' calm (Some fault.Usage) puts = absurd puts.to
 calm_so words asked log held held' of of' lf lf' calm (Some (fault.Refused r)) puts = tt
@@ -173,6 +173,6 @@ calm_so words asked log held held' of of' lf lf' calm (Some fault.Read) puts = t
 calm_so words asked log held held' of of' lf lf' calm (Some fault.Write) puts = calm
 calm_so words asked log held held' of of' lf lf' calm (Some fault.Memory) puts = tt
 
-pub short : (words : List (List ℕ)) (s : Change) (held : Option (List ℕ)) (of : ℕ) (lines : List ℕ) → HasReadSome s
-    → HasLogged s.before s.after held held s.faults_before s.faults_after of of words (Some fault.Memory) lines
+pub short : (words : List (List ℕ)) (s : Change) (held : Option (List ℕ)) (of : ℕ) (lines : List ℕ) → ReadsShort s
+    → HasLogged s (change_of held held of of) words (Some fault.Memory) lines
 short words s held of lines some = record { read = some.read; written = []; consumed = some.consumed; wrote = Appends-nil held; says = refl }

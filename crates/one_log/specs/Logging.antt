@@ -6,6 +6,7 @@ use Rattle.pota_base.specs.Limits.{longest_log}
 use Rattle.pota_base.specs.Outside.{Rose, IsPrefix}
 use Rattle.fault_kinds.specs.declared.refusal.Refusal.{Refusal}
 use Rattle.run_model.specs.Cut.{Cut}
+use Rattle.pota_base.specs.Changes.{Behind, Change, behind_both}
 use Rattle.event_log.specs.declared.item.Item.{Item}
 use Rattle.event_log.specs.declared.log.Event.{Event}
 use Rattle.event_log.specs.declared.log.Log.{Log}
@@ -168,38 +169,39 @@ abbrev pub IsFreeBy : (torn : Bool) → Form → List ℕ → Type 0
 IsFreeBy false form read = (log_due form false read).fault ≡ None
 IsFreeBy true form read = Unit {0}
 
--- What an outcome says of the bytes that were read and written, and of the lines that tell of events
--- left out, by what the source has left, the counts of faults before and after, and the words. Only
--- a log is written, or where that failed its front. A read fault comes behind the faults of the
--- bytes before it.
-abbrev pub Says : Option Fault → Option (List ℕ) → (lf lf' of of' : ℕ) → List (List ℕ) → List ℕ
-    → List ℕ → (lines : List ℕ) → Type 0
-Says None left lf lf' of of' words read written lines =
-    (answer : IsAnswer left words read written)
-    × IsToldOf answer.asked.flags.torn answer.asked.flags.form read lines
-Says (Some fault.Usage) left lf lf' of of' words read written lines =
+-- What an outcome says of the bytes that were read and written, and of the lines that tell of
+-- events left out, by what the source has left, the counts of faults before and after, and the
+-- words. Only a log is written, or where that failed its front. A read fault comes behind the
+-- faults of the bytes before it.
+abbrev pub Says : Option Fault → (behind : Behind) → List (List ℕ) → List ℕ → List ℕ
+    → (lines : List ℕ) → Type 0
+Says None behind words read written lines =
+    (answer : IsAnswer behind.rest words read written) × IsToldOf answer.asked.flags.torn
+    answer.asked.flags.form read lines
+Says (Some fault.Usage) behind words read written lines =
     (written ≡ []) × (read ≡ []) × (asked_by words ≡ None)
-Says (Some (fault.Refused r)) left lf lf' of of' words read written lines =
-    (written ≡ [])
-    × HasAsked words (λ asked. IsRefusedBy asked.flags.torn asked.flags.form left read r)
-Says (Some (fault.Unknown place)) left lf lf' of of' words read written lines =
-    (written ≡ []) × IsAtEnd left
-    × HasAsked words (λ asked. IsFirstUnknown words asked read place)
-Says (Some fault.TooLong) left lf lf' of of' words read written lines =
-    (written ≡ []) × HasAsked words (IsTooLong words left read)
-Says (Some fault.Read) left lf lf' of of' words read written lines =
-    (written ≡ []) × Rose lf lf'
-    × HasAsked words (λ asked. IsFreeBy asked.flags.torn asked.flags.form read)
-Says (Some fault.Write) left lf lf' of of' words read written lines =
-    (text : List ℕ) × IsAnswer left words read text × IsPrefix written text × Rose of of'
-Says (Some fault.Memory) left lf lf' of of' words read written lines = written ≡ []
+Says (Some (fault.Refused r)) behind words read written lines =
+    (written ≡ []) × HasAsked words (λ asked. IsRefusedBy asked.flags.torn asked.flags.form
+    behind.rest read r)
+Says (Some (fault.Unknown place)) behind words read written lines =
+    (written ≡ []) × IsAtEnd behind.rest × HasAsked words
+    (λ asked. IsFirstUnknown words asked read place)
+Says (Some fault.TooLong) behind words read written lines =
+    (written ≡ []) × HasAsked words (IsTooLong words behind.rest read)
+Says (Some fault.Read) behind words read written lines =
+    (written ≡ []) × Rose behind.source.before behind.source.after × HasAsked words
+    (λ asked. IsFreeBy asked.flags.torn asked.flags.form read)
+Says (Some fault.Write) behind words read written lines =
+    (text : List ℕ) × IsAnswer behind.rest words read text × IsPrefix written text × Rose
+    behind.sink.before behind.sink.after
+Says (Some fault.Memory) behind words read written lines = written ≡ []
 
 -- By the words, what the source has left, what the sink holds and their counts of faults, before
 -- and after: these bytes were read and written, and the outcome says this of them.
-pub record HasLogged (left left' held held' : Option (List ℕ)) (lf lf' of of' : ℕ)
-    (words : List (List ℕ)) (fault : Option Fault) (lines : List ℕ) : Type 0 where
+pub record HasLogged (source sink : Change) (words : List (List ℕ)) (fault : Option Fault)
+    (lines : List ℕ) : Type 0 where
   pub read : List ℕ
   pub written : List ℕ
-  pub consumed : Consumes left left' read
-  pub wrote : Appends held held' written
-  pub says : Says fault left' lf lf' of of' words read written lines
+  pub consumed : Consumes source.before source.after read
+  pub wrote : Appends sink.before sink.after written
+  pub says : Says fault (behind_both source sink) words read written lines

@@ -4,6 +4,7 @@ ghost use Rattle.std.specs.Prelude.{◌≡◌, ◌++◌, codes, map, string_byte
 ghost use Rattle.std.specs.Prelude.{[], ◌∷◌, Some, OnOk, OnErr};
 ghost use Rattle.std.specs.Io.KnownBytes.{Appends};
 ghost use Rattle.pota_base.specs.Outside.{AppendsPrefix, HasCause};
+ghost use Rattle.pota_base.specs.Changes.{of_sink};
 ghost use Rattle.fault_line.specs.Lines.{Told, line_by};
 ghost use Rattle.one_log.specs.Faults.{line_of, program, unknown_text, word_at};
 ghost use Rattle.one_log.specs.LeftOut.{told_of};
@@ -17,16 +18,14 @@ const USAGE: &[u8] = b"pota_log: usage: pota_log [--merged] [--vclog] [--torn] [
 
 // Writes a line that `pota` hasn't.
 fn put<D: Sink>(diag: &mut D, line: &[u8])
-    ensures { Told (D.held diag.old) (D.held diag.new) (D.faults diag.old) (D.faults diag.new)
-        line.now }
+    ensures { Told (of_sink D.Sink diag.old diag.new) line.now }
 {
     let _ = write_all(diag, line);
 }
 
 // Tells of a fault that `pota` may have too, as it does.
 fn put_shared<D: Sink>(diag: &mut D, fault: Shared)
-    ensures { Told (D.held diag.old) (D.held diag.new) (D.faults diag.old) (D.faults diag.new)
-        (line_by program (Some fault)) }
+    ensures { Told (of_sink D.Sink diag.old diag.new) (line_by program (Some fault)) }
 {
     fault_line::tell(diag, b"pota_log", &Some(fault));
 }
@@ -56,7 +55,7 @@ fn put_pieces<D: Sink>(diag: &mut D, first: &[u8], word: &[u8], last: &[u8]) -> 
 
 // Tells of the word that names what the log does not have.
 fn put_unknown<D: Sink>(diag: &mut D, word: &[u8])
-    ensures { Told (D.held diag.old) (D.held diag.new) (D.faults diag.old) (D.faults diag.new)
+    ensures { Told (of_sink D.Sink diag.old diag.new)
         (program ++ (codes ": " ++ (unknown_text word.now ++ 10 ∷ []))) }
 {
     let _ = put_pieces(diag, b"pota_log: --keep ", word, b": not in the log\n");
@@ -64,7 +63,7 @@ fn put_unknown<D: Sink>(diag: &mut D, word: &[u8])
 
 // Tells why no log is written.
 fn tell_fault<D: Sink>(diag: &mut D, words: &[String], fault: &Fault)
-    ensures { Told (D.held diag.old) (D.held diag.new) (D.faults diag.old) (D.faults diag.new)
+    ensures { Told (of_sink D.Sink diag.old diag.new)
         (line_of (map string_bytes words.now) (Some fault.now)) }
 {
     match fault {
@@ -78,10 +77,10 @@ fn tell_fault<D: Sink>(diag: &mut D, words: &[String], fault: &Fault)
     }
 }
 
-/// Tells `diag` why no log is written for these words, or these lines where it is. Whether that succeeds changes
-/// nothing else.
+/// Tells `diag` why no log is written for these words, or these lines where it is. Whether that
+/// succeeds changes nothing else.
 pub fn tell<D: Sink>(diag: &mut D, words: &[String], fault: &Option<Fault>, lines: &[u8])
-    ensures { Told (D.held diag.old) (D.held diag.new) (D.faults diag.old) (D.faults diag.new)
+    ensures { Told (of_sink D.Sink diag.old diag.new)
         (told_of (map string_bytes words.now) fault.now lines.now) }
 {
     match fault {

@@ -1,6 +1,7 @@
 //! The one call that the program runs.
 ghost use Rattle.std.specs.Prelude.{◌≡◌, ◌++◌, true, false, [], None, Some};
 ghost use Rattle.std.specs.Prelude.{map, string_bytes, IfOk, OnOk};
+ghost use Rattle.pota_base.specs.Changes.{of_sink, of_source};
 ghost use Rattle.fault_line.specs.Lines.{Told};
 ghost use Rattle.kept_log.specs.Keeping.{CanBeKept};
 ghost use Rattle.log_writing.specs.Spelling.{HasText};
@@ -134,8 +135,8 @@ fn put_log<O: Sink>(
     out: &mut O,
 ) -> Option<Fault>
     requires { CanBeKept log }
-    ensures { PutsLog (map string_bytes words.now) asked.now (all_of log) (O.held out.old)
-        (O.held out.new) (O.faults out.old) (O.faults out.new) result }
+    ensures { PutsLog (map string_bytes words.now) asked.now (all_of log)
+        (of_sink O.Sink out.old out.new) result }
 {
     match unknown_word(alloc, &log.header, words) {
         Ok(None) => {}
@@ -164,7 +165,7 @@ fn put_beginning<O: Sink>(
 ) -> Logged
     requires { CanBeKept begun.log }
     ensures puts { PutsLog (map string_bytes words.now) asked.now (all_of begun.log)
-        (O.held out.old) (O.held out.new) (O.faults out.old) (O.faults out.new) result.fault }
+        (of_sink O.Sink out.old out.new) result.fault }
     ensures lines { result.fault ≡ None
         → result.left_out ≡ left_out_lines begun.log.header.procs begun.left_out }
 {
@@ -191,9 +192,8 @@ fn log_torn<S: Source, O: Sink>(
 ) -> Logged
     requires asks { asked_by (map string_bytes words.now) ≡ Some asked.now }
     requires torn { asked.now.flags.torn ≡ true }
-    ensures logged { HasLogged (S.left input.old) (S.left input.new) (O.held out.old)
-        (O.held out.new) (S.faults input.old) (S.faults input.new) (O.faults out.old)
-        (O.faults out.new) (map string_bytes words.now) result.fault result.left_out }
+    ensures logged { HasLogged (of_source S.Source input.old input.new)
+        (of_sink O.Sink out.old out.new) (map string_bytes words.now) result.fault result.left_out }
     ensures calm { IsCalm (S.faults input.old) (S.faults input.new) result.fault }
 {
     match read_torn(alloc, asked.flags.form, input) {
@@ -215,9 +215,8 @@ fn log_whole<S: Source, O: Sink>(
 ) -> Option<Fault>
     requires asks { asked_by (map string_bytes words.now) ≡ Some asked.now }
     requires plain { asked.now.flags.torn ≡ false }
-    ensures logged { HasLogged (S.left input.old) (S.left input.new) (O.held out.old)
-        (O.held out.new) (S.faults input.old) (S.faults input.new) (O.faults out.old)
-        (O.faults out.new) (map string_bytes words.now) result [] }
+    ensures logged { HasLogged (of_source S.Source input.old input.new)
+        (of_sink O.Sink out.old out.new) (map string_bytes words.now) result [] }
     ensures calm { IsCalm (S.faults input.old) (S.faults input.new) result }
 {
     match read_input(alloc, asked.flags.form, input) {
@@ -236,9 +235,8 @@ fn log_whole<S: Source, O: Sink>(
 
 // Reads the input and writes the log that the words ask for.
 fn answer<S: Source, O: Sink>(alloc: Global, words: &[String], input: &mut S, out: &mut O) -> Logged
-    ensures logged { HasLogged (S.left input.old) (S.left input.new) (O.held out.old)
-        (O.held out.new) (S.faults input.old) (S.faults input.new) (O.faults out.old)
-        (O.faults out.new) (map string_bytes words.now) result.fault result.left_out }
+    ensures logged { HasLogged (of_source S.Source input.old input.new)
+        (of_sink O.Sink out.old out.new) (map string_bytes words.now) result.fault result.left_out }
     ensures calm { IsCalm (S.faults input.old) (S.faults input.new) result.fault }
 {
     let asked = match asked_by(alloc, words) {
@@ -268,11 +266,10 @@ pub fn write_one_log<S: Source, O: Sink, D: Sink>(
     out: &mut O,
     diag: &mut D,
 ) -> Logged
-    ensures logged { HasLogged (S.left input.old) (S.left input.new) (O.held out.old)
-        (O.held out.new) (S.faults input.old) (S.faults input.new) (O.faults out.old)
-        (O.faults out.new) (map string_bytes words.now) result.fault result.left_out }
+    ensures logged { HasLogged (of_source S.Source input.old input.new)
+        (of_sink O.Sink out.old out.new) (map string_bytes words.now) result.fault result.left_out }
     ensures calm { IsCalm (S.faults input.old) (S.faults input.new) result.fault }
-    ensures told { Told (D.held diag.old) (D.held diag.new) (D.faults diag.old) (D.faults diag.new)
+    ensures told { Told (of_sink D.Sink diag.old diag.new)
         (told_of (map string_bytes words.now) result.fault result.left_out) }
 {
     let logged = answer(alloc, words, input, out);

@@ -3,10 +3,11 @@
 ghost use Rattle.std.specs.Prelude.{◌≡◌, ◌≢◌, length, None, IfOk, OnErr};
 ghost use Rattle.event_log.specs.FittingItems.{FitFirst};
 ghost use Rattle.event_log.specs.LogText.{log_items};
-ghost use Rattle.input_reading.specs.Changes.{of_source};
-ghost use Rattle.input_reading.specs.Intakes.{HasReadSome};
+ghost use Rattle.pota_base.specs.Changes.{of_source};
+ghost use Rattle.input_reading.specs.Intakes.{ReadsShort};
 ghost use Rattle.log_sources.specs.Reading.{CanMerge};
-ghost use Rattle.log_input.specs.declared.form.Form.TheVariants.{OneLog, Merged as MergedForm, Clocks};
+ghost use Rattle.log_input.specs.declared.form.Form.TheVariants.{OneLog, Merged as MergedForm};
+ghost use Rattle.log_input.specs.declared.form.Form.TheVariants.{Clocks};
 ghost use Rattle.one_log.specs.inside.Torn.{EndsWhole, IsTornJudged, IsTornAt, HasStoodTorn};
 ghost use Rattle.one_log.specs.inside.Torn.{IsMergedTornOf, text_refusal};
 ghost use Rattle.torn_text.specs.Mending.{mended};
@@ -171,7 +172,7 @@ pub fn read_torn<S: Source>(
 ) -> Result<TornInput, NoMemory>
     requires { form ≢ Clocks }
     ensures reads { IfOk result (HasStoodTorn form (of_source S.Source source.old source.new)) }
-    ensures short { OnErr result (HasReadSome (of_source S.Source source.old source.new)) }
+    ensures short { OnErr result (ReadsShort (of_source S.Source source.old source.new)) }
 {
     let mut kept = Kept::new(alloc);
     match read_all(alloc, source, &mut kept)? {

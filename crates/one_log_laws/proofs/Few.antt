@@ -2,6 +2,7 @@
 use Rattle.std.proofs.Common.{◌≡◌, ℕ, ◌+◌, ◌<◌, ◌≤◌, Option, Some, None, List, [], ◌∷◌, ◌++◌, length, ap, subst, ◌∙◌, arith}
 use Rattle.std.proofs.lemmas.List.{length_push}
 use Rattle.std.proofs.lemmas.Option.{none-some, same_Some}
+use Rattle.pota_base.specs.Limits.{most_events}
 use Rattle.log_lines.specs.Reading.{choose}
 use Rattle.event_log.specs.declared.item.Item.{Item}
 use Rattle.event_log.specs.declared.item.Item.TheVariants as item
@@ -20,11 +21,11 @@ use Rattle.log_trace.proofs.Following.{event_count-push, follows_one}
 -- so many events, and some batch
 pub record IsSmall (log : Prefix) : Type 0 where
   pub some : 0 < length log.batches
-  pub few : event_count log.batches ≤ 50000
+  pub few : event_count log.batches ≤ most_events
 
 abbrev IsBounded : Judgement → Type 0
 IsBounded waiting = Unit {0}
-IsBounded (growing log since) = event_count log.batches + length since ≤ 50000
+IsBounded (growing log since) = event_count log.batches + length since ≤ most_events
 IsBounded (finished log last) = IsSmall (followed_by log last)
 IsBounded (refused log why) = Unit {0}
 
@@ -32,12 +33,12 @@ closed_count : (log : Prefix) (since : List Event) → event_count (log.batches 
 closed_count log since =
     event_count-push log.batches (with_clocks log since) ∙ ap (λ (n : ℕ). event_count log.batches + n) (length-fill_from (with_batch (events_of log) since) (events_of log) since)
 
-on_close : (log : Prefix) (since : List Event) → event_count log.batches + length since ≤ 50000 → (o : Option LogFault)
+on_close : (log : Prefix) (since : List Event) → event_count log.batches + length since ≤ most_events → (o : Option LogFault)
     → IsBounded (choose o (λ f. refused (Some log) (refusal.Log f)) (growing (followed_by log (with_clocks log since)) []))
 on_close log since few None = omega (arith, few, closed_count log since)
 on_close log since few (Some f) = tt
 
-on_end : (log : Prefix) (since : List Event) → event_count log.batches + length since ≤ 50000 → (o : Option LogFault)
+on_end : (log : Prefix) (since : List Event) → event_count log.batches + length since ≤ most_events → (o : Option LogFault)
     → IsBounded (choose o (λ f. refused (Some log) (refusal.Log f)) (finished log (with_clocks log since)))
 on_end log since few None = record {
   some = omega (arith, length_push log.batches (with_clocks log since));

@@ -7,6 +7,7 @@ use Rattle.log_lines.specs.Names.{are_distinct}
 use Rattle.log_lines.specs.Spelling.{names_of}
 use Rattle.log_lines.specs.Reading.{choose}
 use Rattle.run_model.specs.Cut.{Cut, count, lengths, IsWithin}
+use Rattle.pota_base.specs.Limits.{most_variables}
 use Rattle.event_log.specs.declared.item.LogFault.{LogFault}
 use Rattle.event_log.specs.declared.log.Event.{Event}
 use Rattle.event_log.specs.declared.log.Header.{Header}
@@ -39,7 +40,7 @@ pub record IsPlaced (h : Header) (most : ℕ) (e : Event) : Type 0 where
   pub width : length e.clock ≡ length h.procs
   pub clock : AllByRecursion (λ n. n ≤ most) e.clock
   pub kind : KindFits (length h.procs) e.process e.kind
-  pub few : length e.assigns ≤ 16
+  pub few : length e.assigns ≤ most_variables
   pub assigns : AllByRecursion (AssignFits (variables_at h.vars e.process)) e.assigns
   pub distinct : are_distinct (names_of (map (named (variables_at h.vars e.process)) e.assigns)) ≡ true
 

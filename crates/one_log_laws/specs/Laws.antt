@@ -74,8 +74,8 @@ NoGreaterBeginningIsLogged = (f : Form) (text : List ℕ) (log : Prefix)
 
 -- ---- what is named alone
 
--- A formula whose names are among those that are kept, without EX, is as true at a consistent cut of
--- the run that was read as at the kept events of that cut in the run that was written.
+-- A formula whose names are among those that are kept, without EX, is as true at a consistent cut
+-- of the run that was read as at the kept events of that cut in the run that was written.
 abbrev pub FormulasStayAsTrue : Type 0
 FormulasStayAsTrue = (asked : Asked) (input text : List ℕ) (w : IsLogOf asked input text)
     → are_none asked.names ≡ false → (watches : Watches)

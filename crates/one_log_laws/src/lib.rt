@@ -1,12 +1,13 @@
 // What is written of an input by `one_log`, and what it says of the input.
 //
 // It has no fault, written again it is the same bytes, and it is read as the log that was written
-// (`what_is_written_stays`). Where all of it is asked for, its run is that of the log that was read,
-// whatever the form and the batches (`the_same_run_is_written`): so a verdict, a slice, a witness
-// or a certificate on it is one on the run that was logged. Of torn logs the log is one alone, and no greater beginning of
-// the run is logged whole (`a_torn_log_is_the_greatest_beginning`). Where names are given, a
-// formula of these names, without EX, is as true of the log that is written as of the one that was
-// read (`formulas_stay_as_true`).
+// (`what_is_written_stays`). Where all of it is asked for, its run is that of the log that was
+// read, whatever the form and the batches (`the_same_run_is_written`): so a verdict, a slice, a
+// witness or a certificate on it is one on the run that was logged. Of torn logs the log is one
+// alone, and no greater beginning of the run is logged whole
+// (`a_torn_log_is_the_greatest_beginning`). Where names are given, a formula of these names,
+// without EX, is as true of the log that is written as of the one that was read
+// (`formulas_stay_as_true`).
 //
 // Not said here: that a text is written. `one_log` says so.
 #![tactic(auto)]
@@ -36,8 +37,8 @@ pub fn a_torn_log_is_the_greatest_beginning()
     ensures greatest { NoGreaterBeginningIsLogged }
 {}
 
-/// A formula of the names that are kept, without EX, is as true of the run that is written as of the
-/// run that was read, cut by cut.
+/// A formula of the names that are kept, without EX, is as true of the run that is written as of
+/// the run that was read, cut by cut.
 pub fn formulas_stay_as_true()
     ensures { FormulasStayAsTrue }
 {}

@@ -6,6 +6,7 @@ ghost use Rattle.over_answers.specs.inside.Answering.{RefusesOne, numbered_stop}
 ghost use Rattle.part_pulls.specs.Observing.{clocks_seen};
 ghost use Rattle.question_outcomes.specs.Telling.{HasSystem};
 ghost use Rattle.std.specs.Prelude.{◌≡◌, ◌≤◌, ◌<◌, length, map, string_bytes, IfErr, IfOk};
+ghost use Rattle.pota_base.specs.Limits.{most_processes};
 
 use instance_outcomes::{OverStop, Tally, answer_over};
 use part_pulls::Observed;
@@ -42,7 +43,7 @@ fn answer_one<R: Threads + Sync, G: Gate, L: Ledger>(
     steps: &mut Steps<L>,
 ) -> Result<Option<Tallied>, Refused<OverStop>>
     requires seen { IsBare seen.now }
-    requires procs { length (header_of seen.now).procs ≤ 32 }
+    requires procs { length (header_of seen.now).procs ≤ most_processes }
     requires named { IsNamedBy text.now over }
     requires system { HasSystem (clocks_seen seen.now) system.old }
     ensures tallied { IfOk result (IsComeTo seen.now text.now) }
@@ -85,7 +86,7 @@ pub fn answer_overs<R: Threads + Sync, G: Gate, L: Ledger>(
     steps: &mut Steps<L>,
 ) -> Result<List<Option<Tallied>>, Refused<NumberedStop>>
     requires seen { IsBare seen.now }
-    requires procs { length (header_of seen.now).procs ≤ 32 }
+    requires procs { length (header_of seen.now).procs ≤ most_processes }
     requires few { length texts.now ≤ 64 }
     requires named { AreNamedBy (map string_bytes texts.now) overs.now }
     ensures tallies { IfOk result (AreTallies seen.now (map string_bytes texts.now)) }

@@ -16,7 +16,8 @@ use Rattle.over_questions.specs.declared.entry.EntryFault.TheVariants as fault
 use Rattle.over_questions.specs.declared.reading.OverQuestionFault.{OverQuestionFault}
 use Rattle.over_questions.specs.declared.reading.OverQuestionFault.TheVariants as over_fault
 
--- the text is this question: one that names nothing that stands for processes, or one over processes
+-- the text is this question: one that names nothing that stands for processes, or one over
+-- processes
 abbrev pub IsEntryOf : List ℕ → Entry → Type 0
 IsEntryOf text (entry.One q) = (over_of text ≡ Ok None) × IsReadAs text q
 IsEntryOf text (entry.Over over) =

@@ -1,6 +1,6 @@
 //! What a question over processes may not have.
-ghost use Rattle.over_questions.specs.Barred.{barred_at, barred_disjuncts, barred_expr, barred_exprs};
-ghost use Rattle.over_questions.specs.Barred.{barred_part, barred_parts, first};
+ghost use Rattle.over_questions.specs.Barred.{barred_at, barred_disjuncts, barred_expr};
+ghost use Rattle.over_questions.specs.Barred.{barred_exprs, barred_part, barred_parts, first};
 ghost use Rattle.over_questions.specs.declared.barred.BarredKind.TheVariants as kind_is;
 ghost use Rattle.rctl_class.specs.NamedParts.{disjuncts_of, expr_of, exprs, piece_of, pieces_of};
 ghost use Rattle.std.specs.Prelude.{◌≡◌, map};

@@ -2,7 +2,7 @@
 use Rattle.std.proofs.Common.{◌≡◌, ℕ, zero, suc, ◌+◌, List, length, get_or, refl, sym, ◌∙◌, ap, arith}
 use Rattle.std.specs.Prelude.{◌↔◌, set, replicate}
 use Rattle.run_model.specs.Cut.{Cut, Clocks, initial, with_next}
-use Rattle.run_model.specs.Operators.{NextTime}
+use Rattle.run_model.specs.Operators.{ExHolds}
 use Rattle.run_model.specs.Slice.{Slice, Cuts}
 use Rattle.run_model.specs.Witness.{HasFirst}
 use Rattle.run_model.proofs.Counts.{length-initial}
@@ -18,7 +18,7 @@ zero_at (suc n) zero = refl
 zero_at (suc n) (suc p) = zero_at n p
 
 -- EX is true at the initial cut exactly where the cut with the first event of its process is there
-pub first_next : (o : Clocks) (s : Slice) (process : ℕ) → HasFirst o s process ↔ NextTime o process (Cuts o s) (initial o)
+pub first_next : (o : Clocks) (s : Slice) (process : ℕ) → HasFirst o s process ↔ ExHolds o process (Cuts o s) (initial o)
 first_next o s process = (
   λ h. next_time_from o process (Cuts o s) (initial o) (omega (arith, h.0, length-initial o)) (initial_consistent o) h.1.consistent h.1,
   λ w. (omega (arith, w.0, length-initial o), w.2),

@@ -7,7 +7,7 @@ use Rattle.event_log.proofs.NameNumbers.{names_are, number_again}
 use Rattle.run_model.specs.Cut.{Cut, Clocks, lengths, with_next}
 use Rattle.run_model.specs.Consistent.{IsConsistent, IsPath}
 use Rattle.run_model.specs.Sublattice.{AllIn}
-use Rattle.run_model.specs.Operators.{SomeTime, EachTime, Staying, NextTime}
+use Rattle.run_model.specs.Operators.{EfHolds, AgHolds, EgHolds, ExHolds}
 use Rattle.run_model.specs.Formula.{Formula}
 use Rattle.run_model.specs.Meaning.{Sat}
 use Rattle.run_model.specs.Run as run
@@ -32,16 +32,16 @@ all_same : (o : Clocks) (A B : Cut → Type 0) → ((c : Cut) → IsConsistent o
 all_same o A B same c [] d path all = same c path.0 all
 all_same o A B same c (e ∷ es) d path all = (same c path.0 all.0, all_same o A B same e es d path.2 all.1)
 
-pub some_time_same : (o : Clocks) (A B : Cut → Type 0) → ((c : Cut) → IsConsistent o c → A c → B c) → (c : Cut) → SomeTime o A c → SomeTime o B c
+pub some_time_same : (o : Clocks) (A B : Cut → Type 0) → ((c : Cut) → IsConsistent o c → A c → B c) → (c : Cut) → EfHolds o A c → EfHolds o B c
 some_time_same o A B same c (es, d, path, here) = (es, d, path, same d (path_ends o c es d path) here)
 
-pub each_time_same : (o : Clocks) (A B : Cut → Type 0) → ((c : Cut) → IsConsistent o c → A c → B c) → (c : Cut) → EachTime o A c → EachTime o B c
+pub each_time_same : (o : Clocks) (A B : Cut → Type 0) → ((c : Cut) → IsConsistent o c → A c → B c) → (c : Cut) → AgHolds o A c → AgHolds o B c
 each_time_same o A B same c each es d path = all_same o A B same c es d path (each es d path)
 
-pub staying_same : (o : Clocks) (A B : Cut → Type 0) → ((c : Cut) → IsConsistent o c → A c → B c) → (c : Cut) → Staying o A c → Staying o B c
+pub staying_same : (o : Clocks) (A B : Cut → Type 0) → ((c : Cut) → IsConsistent o c → A c → B c) → (c : Cut) → EgHolds o A c → EgHolds o B c
 staying_same o A B same c (es, path, all) = (es, path, all_same o A B same c es (lengths o) path all)
 
-pub next_time_same : (o : Clocks) (i : ℕ) (A B : Cut → Type 0) → ((c : Cut) → IsConsistent o c → A c → B c) → (c : Cut) → NextTime o i A c → NextTime o i B c
+pub next_time_same : (o : Clocks) (i : ℕ) (A B : Cut → Type 0) → ((c : Cut) → IsConsistent o c → A c → B c) → (c : Cut) → ExHolds o i A c → ExHolds o i B c
 next_time_same o i A B same c (there, path, here) = (there, path, same (with_next c i) (path_ends o c (with_next c i ∷ []) (with_next c i) path) here)
 
 -- the operator makes the same of both
@@ -83,8 +83,8 @@ operated_means seen trace kind f A fits reading same c = by_operator kind fits
     by_operator (operator.Ex process) h =
         let number = number_is seen trace reading process (there seen trace process h) in
         let both = over (operator.Ex process) in (
-          λ w. subst (λ (i : ℕ). NextTime (clocks_seen seen) i (Sat (run_seen seen reading) f) c) (sym number) (both.0 w),
-          λ w. both.1 (subst (λ (i : ℕ). NextTime (clocks_seen seen) i (Sat (run_seen seen reading) f) c) number w),
+          λ w. subst (λ (i : ℕ). ExHolds (clocks_seen seen) i (Sat (run_seen seen reading) f) c) (sym number) (both.0 w),
+          λ w. both.1 (subst (λ (i : ℕ). ExHolds (clocks_seen seen) i (Sat (run_seen seen reading) f) c) number w),
         )
     by_operator operator.Af h = absurd h
     by_operator operator.Ax h = absurd h

@@ -2,6 +2,7 @@
 use Rattle.std.proofs.Common.{◌≡◌, ℕ, true, List, [], ◌∷◌, sym, subst}
 use Rattle.std.specs.Prelude.{Option, Some, false}
 use Rattle.std.specs.List.{AllByRecursion}
+use Rattle.pota_base.specs.Limits.{longest_log}
 use Rattle.pota_names.specs.Names.{is_name}
 use Rattle.event_log.specs.declared.log.Binding.{Binding}
 use Rattle.event_log.specs.declared.log.Header.{Header}
@@ -44,7 +45,7 @@ still_named : Follows without_formula Named
 still_named log since good fits none = good
 
 due_named : (bytes : List ℕ) → AllByRecursion Named (reported false (due log_reading without_formula true bytes))
-due_named bytes = all_sound without_formula Named (λ h fits. fits) still_named 67108864 log_reading log_is_read true bytes false
+due_named bytes = all_sound without_formula Named (λ h fits. fits) still_named longest_log log_reading log_is_read true bytes false
 
 log_named : (input : List ℕ) (s : StatesView) → HasLog input s → HeaderFits s.header
 log_named input s log =

@@ -1,6 +1,6 @@
-//! Questions asked of a log as a program: the log comes on standard input, the document of what each
-//! question comes to goes to standard output, and the lines that tell why there is none to standard
-//! error. Questions may name the watches `stable`, `owing` and `calm`.
+//! Questions asked of a log as a program: the log comes on standard input, the document of what
+//! each question comes to goes to standard output, and the lines that tell why there is none to
+//! standard error. Questions may name the watches `stable`, `owing` and `calm`.
 #![tactic(auto)]
 
 ghost use Rattle.std.specs.Prelude.{◌≡◌, ◌∷◌, ◌++◌, [], true, OnOk};

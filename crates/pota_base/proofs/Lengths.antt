@@ -4,6 +4,7 @@ use Rattle.std.proofs.lemmas.Bool.{cases_eq, cases_lt}
 use Rattle.std.proofs.lemmas.List.{length-set, get_or-set_same, get_or-set_other, take_all, take-set-le, ext_get_or}
 use Rattle.std.proofs.lemmas.List.Sums.{sum_by-cons, sum_by-take-le}
 use Rattle.pota_base.specs.Shape.{IsShape, AreStarts}
+use Rattle.pota_base.specs.Limits.{most_events}
 
 sum-cons : (x : ℕ) (xs : List ℕ) → sum (x ∷ xs) ≡ x + sum xs
 sum-cons x xs = sum_by-cons (λ n. n) x xs
@@ -58,7 +59,7 @@ starts_raised lens starts starts' p v h there le same below above = record {
 
 -- no start is raised above the sum
 pub starts_few : (lens starts : List ℕ) (p v k : ℕ) → AreStarts lens starts → p < length lens → get_or lens p 0 ≤ v → IsShape (set lens p v) → k < length starts
-    → get_or starts k 0 + (v - get_or lens p 0) ≤ 50000
+    → get_or starts k 0 + (v - get_or lens p 0) ≤ most_events
 starts_few lens starts p v k h there le shape within =
     let all = length lens in
     let whole : sum (set lens p v) ≡ sum lens + (v - get_or lens p 0) =

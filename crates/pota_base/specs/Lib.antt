@@ -1,4 +1,6 @@
 pub mod formers
+pub mod Blanks
+pub mod Changes
 pub mod Limits
 pub mod Memory
 pub mod Number

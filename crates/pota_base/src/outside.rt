@@ -12,8 +12,8 @@ use crate::Failed;
 /// Bytes that come piece by piece.
 ///
 /// `left` is what is still to come, where that is told; `faults` counts the failures so far. A
-/// count rises only where a call fails, and never falls, and at 2^64 - 1 it stays: from there on every failure is taken to have its
-/// cause.
+/// count rises only where a call fails, and never falls, and at 2^64 - 1 it stays: from there on
+/// every failure is taken to have its cause.
 pub trait Source {
     ghost left: { Self → Option (List ℕ) };
 

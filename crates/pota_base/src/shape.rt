@@ -1,6 +1,7 @@
 ghost use Rattle.std.specs.Prelude.{◌≡◌, ℕ, ◌+◌, ◌<◌, ◌≤◌, ◌↔◌, length, get_or, set, slice_index};
 ghost use Rattle.std.specs.Prelude.{sum, IsNone, IfSome, IfOk};
 ghost use Rattle.pota_base.specs.Shape.{IsShape, AreStarts};
+ghost use Rattle.pota_base.specs.Limits.{most_events};
 
 use crate::fault::NoMemory;
 use std::alloc::Global;
@@ -139,7 +140,7 @@ impl Shape {
 // Adds as much to each number from a place on.
 fn raise_from(starts: &mut Vec<u32>, first: usize, more: u32)
     requires few { (k : ℕ) → k < length starts.old.items
-        → get_or starts.old.items k 0 + more ≤ 50000 }
+        → get_or starts.old.items k 0 + more ≤ most_events }
     ensures count { length starts.new.items ≡ length starts.old.items }
     ensures below { (k : ℕ) → k < first
         → get_or starts.new.items k 0 ≡ get_or starts.old.items k 0 }

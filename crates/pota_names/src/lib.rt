@@ -11,11 +11,9 @@ ghost use Rattle.std.specs.Prelude.{◌≡◌, false, IfOk, IsTrue, MatchOption}
 ghost use Rattle.std.specs.List.{list_all};
 ghost use Rattle.std.specs.Str.{bytes_eq};
 
+pub use pota_base::LONGEST_NAME;
 use std::alloc::Global;
 use std::marker::Model;
-
-/// The most bytes of a name.
-pub const LONGEST_NAME: usize = 64;
 
 /// How many bytes of a name its key has.
 const KEY_BYTES: usize = 8;

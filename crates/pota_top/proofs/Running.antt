@@ -7,6 +7,8 @@ use Rattle.pota_base.specs.Outside.{IsPrefix}
 use Rattle.pota_base.specs.declared.status.Status.TheVariants as status
 use Rattle.run_model.specs.Class.{IsOfClass}
 use Rattle.run_model.specs.Run.{Watches}
+use Rattle.pota_base.specs.Limits.{longest_log}
+use Rattle.pota_base.specs.Changes.{behind_of, change_of}
 use Rattle.rctl_grammar.specs.declared.tree.Tree.{Tree}
 use Rattle.rctl_class.specs.Nodes.{node_of, formula_of}
 use Rattle.rctl_class.proofs.Class.{of_the_class}
@@ -17,9 +19,9 @@ use Rattle.command_words.specs.declared.request.Inquiry.{Inquiry}
 use Rattle.command_words.specs.declared.request.Product.TheVariants as product
 use Rattle.command_words.specs.declared.request.Reporting.{Reporting}
 use Rattle.stated_formula.specs.declared.formula.Stated.{Stated}
-use Rattle.run_request.specs.declared.question.QuestionFault.{QuestionFault}
-use Rattle.run_request.specs.declared.question.QuestionFault.TheVariants as question
-use Rattle.run_request.specs.Questions.{IsQuestionFault, AsksFor}
+use Rattle.call_request.specs.declared.question.QuestionFault.{QuestionFault}
+use Rattle.call_request.specs.declared.question.QuestionFault.TheVariants as question
+use Rattle.call_request.specs.Questions.{IsQuestionFault, AsksFor}
 use Rattle.stated_formula.specs.Stating.{IsStated}
 use Rattle.run_report.specs.Reports.{Asked, IsReportOf}
 use Rattle.report.specs.Spelling.{report_text}
@@ -37,21 +39,21 @@ use Rattle.log_judgement.proofs.Texts.{texts_split, one_text}
 use Rattle.certificate_answers.specs.PassedOn.{Says, Aim, asked_of, aim_of, names_of, watches_of, rules_of, unknown_name}
 use Rattle.watch.specs.declared.predicate.Handed.{Handed}
 use Rattle.fault_line.specs.Faults.{status_of, fault_of_refusal}
-use Rattle.run_promise.specs.Questions.{fault_of_question}
+use Rattle.call_promise.specs.Questions.{fault_of_question}
 use Rattle.log_answers.specs.declared.stop.StopCause.{StopCause}
 use Rattle.log_answers.specs.declared.stop.StopCause.TheVariants as causes
 use Rattle.log_answers.specs.declared.stop.Stop.{Stop}
 use Rattle.log_answers.specs.declared.stop.Verdict.{Verdict}
-use Rattle.run_promise.specs.declared.outcome.Outcome.{Outcome}
+use Rattle.call_promise.specs.declared.outcome.Outcome.{Outcome}
 use Rattle.certificate_answers.specs.PassedOn.{fault_of, faulty_outcome, outcome_of}
-use Rattle.run_promise.specs.Asking.{Handing, handing_of, asked_by, reading_of, due_of}
+use Rattle.call_promise.specs.Asking.{Handing, handing_of, asked_by, reading_of, due_of}
 use Rattle.log_answers.specs.Calm.{IsCalmUnlessRead}
 use Rattle.log_answers.specs.Checking.{AreReportsFor, HasPartOf, HasFrontOf}
 use Rattle.log_answers.specs.Inputs.{due_by, TellsDueBy, StopsBy, IsVerdictBy, ChecksBy, HasCheckedBy}
 use Rattle.run_report.proofs.Telling.{told_denotes, told_kinds}
-use Rattle.run_promise.proofs.Clauses.{not_both, not_certified, form_is_read}
-use Rattle.run_promise.specs.Certificates.{IsTrueAtStart}
-use Rattle.run_promise.specs.Run.{Tells, AllTell, IsTold, HasVerdict, IsRefused, HasPart, IsWholeDue, Answer, Ran}
+use Rattle.call_promise.proofs.Clauses.{not_both, not_certified, form_is_read}
+use Rattle.call_promise.specs.Certificates.{IsTrueAtStart}
+use Rattle.call_promise.specs.Run.{Tells, AllTell, IsTold, HasVerdict, IsRefused, HasPart, IsWholeDue, Answer, Ran}
 use Rattle.certificate_answers.proofs.PassedOn.{stated_asked, ran_nothing}
 
 front_half : (Good : Prefix → Type 0) (xs ys : List Prefix) → AllByRecursion Good (xs ++ ys) → AllByRecursion Good xs
@@ -110,10 +112,10 @@ module _ {X : Type 0} {P : X → Type 0} (says : Says X P) (s : Stated) (read_as
   class_asked = (of_the_class (node_of s.formula.tree)).0 is.classed.free
 
   due_ordered : (ended : Bool) (bytes : List ℕ) → AllByRecursion IsOrdered (reported each (due_by reading aim ended bytes))
-  due_ordered ended bytes = all_ordered (unknown_name aim.node (names_of handed)) (counters_in (formula_of aim.node)) 67108864 reading (form_is_read read_as) each ended bytes
+  due_ordered ended bytes = all_ordered (unknown_name aim.node (names_of handed)) (counters_in (formula_of aim.node)) longest_log reading (form_is_read read_as) each ended bytes
 
   due_kept : (ended : Bool) (bytes : List ℕ) → AllByRecursion (IsKept q.formula (watches_of says handed)) (reported each (due_by reading aim ended bytes))
-  due_kept ended bytes = all_kept q.formula (watches_of says handed) 67108864 reading (form_is_read read_as) (unknown_name aim.node (names_of handed)) each ended bytes
+  due_kept ended bytes = all_kept q.formula (watches_of says handed) longest_log reading (form_is_read read_as) (unknown_name aim.node (names_of handed)) each ended bytes
 
   due_tell : (ended : Bool) (bytes : List ℕ) → AllTell (watches_of says handed) s.formula.tree (product.Reports reporting) (reported each (due_by reading aim ended bytes))
   due_tell ended bytes =
@@ -166,7 +168,7 @@ module _ {X : Type 0} {P : X → Type 0} (says : Says X P) (s : Stated) (read_as
       let ended = due_is.0 in
       let all = bytes ++ due_is.1 in
       let watches = watches_of says handed in
-      let grown = due_grows 67108864 reading (form_is_read read_as) (rules_of aim) each ended bytes due_is.1 in
+      let grown = due_grows longest_log reading (form_is_read read_as) (rules_of aim) each ended bytes due_is.1 in
       let logs : reported each (due_by reading aim ended all) ≡ h.front ++ (h.rest ++ grown.0) =
       grown.1 ∙ ap (λ (ps : List Prefix). ps ++ grown.0) h.are ∙ append_assoc h.front h.rest grown.0 in
       let parts = texts_split (IsReportText q watches) h.front (h.rest ++ grown.0) whole (subst (λ (ps : List Prefix). AreReports q watches ps whole) logs due_is.2) in
@@ -187,8 +189,8 @@ module _ {X : Type 0} {P : X → Type 0} (says : Says X P) (s : Stated) (read_as
       fault = refl;
     }
 
-    stop_answer : (why : StopCause) (n : ℕ) → StopsBy reading why n left lf lf' of of' aim each read written
-        → Answer (status_of (fault_of why)) left lf lf' of of' on words read written (faulty_outcome n (fault_of why))
+    stop_answer : (why : StopCause) (n : ℕ) → StopsBy reading why n (behind_of left lf lf' of of') aim each read written
+        → Answer (status_of (fault_of why)) (behind_of left lf lf' of of') on words read written (faulty_outcome n (fault_of why))
     unfolding due_of told_of
     stop_answer (causes.Refused (refusal.Formula x)) n h = (x, inr (inl (refused_by (refusal.Formula x) n h.0 h.1 h.2)))
     stop_answer (causes.Refused (refusal.Log x)) n h = (refusal.Log x, refl, refused_by (refusal.Log x) n h.0 h.1 h.2)
@@ -218,17 +220,17 @@ module _ {X : Type 0} {P : X → Type 0} (says : Says X P) (s : Stated) (read_as
     }
 
     verdict_answer : (b : Bool) (v : Verdict) → v.truth ≡ b → IsAtEnd left → IsVerdictBy reading aim each read written v
-        → Answer (if b then status.True else status.False) left lf lf' of of' on words read written (record { status = if b then status.True else status.False; batches = v.batches; fault = None })
+        → Answer (if b then status.True else status.False) (behind_of left lf lf' of of') on words read written (record { status = if b then status.True else status.False; batches = v.batches; fault = None })
     verdict_answer true v e ended h = inl (verdict_of true v e ended h)
     verdict_answer false v e ended h = inl (verdict_of false v e ended h)
 
-    answer_of : (result : Result Verdict Stop) → ChecksBy reading left lf lf' of of' aim each read written result
-        → Answer (outcome_of result).status left lf lf' of of' on words read written (outcome_of result)
+    answer_of : (result : Result Verdict Stop) → ChecksBy reading (behind_of left lf lf' of of') aim each read written result
+        → Answer (outcome_of result).status (behind_of left lf lf' of of') on words read written (outcome_of result)
     answer_of (Ok v) h = verdict_answer v.truth v refl h.0 h.1
     answer_of (Err stop) h = stop_answer stop.cause stop.batches h
 
-  pub ran_checked : (left left' held held' : Option (List ℕ)) (lf lf' of of' : ℕ) (result : Result Verdict Stop) → HasCheckedBy reading left left' held held' lf lf' of of' aim each result
-      → Ran left left' held held' lf lf' of of' on words (outcome_of result)
+  pub ran_checked : (left left' held held' : Option (List ℕ)) (lf lf' of of' : ℕ) (result : Result Verdict Stop) → HasCheckedBy reading (change_of left left' lf lf') (change_of held held' of of') aim each result
+      → Ran (change_of left left' lf lf') (change_of held held' of of') on words (outcome_of result)
   ran_checked left left' held held' lf lf' of of' result h = record {
     read = h.read;
     written = h.written;
@@ -242,14 +244,14 @@ module _ {X : Type 0} {P : X → Type 0} (says : Says X P) (s : Stated) (read_as
 -- ---- words at fault
 
 misasked_answer : (words : List (List ℕ)) (left : Option (List ℕ)) (lf of : ℕ) (on : Handing) (f : QuestionFault) → IsQuestionFault words f
-    → Answer (status_of (fault_of_question f)) left lf lf of of on words [] [] (faulty_outcome 0 (fault_of_question f))
+    → Answer (status_of (fault_of_question f)) (behind_of left lf lf of of) on words [] [] (faulty_outcome 0 (fault_of_question f))
 misasked_answer words left lf of on question.Usage is = record { fault_is = is; nothing = (refl, refl); batches = refl; fault = refl }
 misasked_answer words left lf of on (question.Formula f) is = (f, inl (record { fault_is = is; nothing = (refl, refl); batches = refl; fault = refl }))
 
 pub ran_misasked : (left held : Option (List ℕ)) (lf of : ℕ) (on : Handing) (words : List (List ℕ)) (f : QuestionFault) (o : Outcome) → IsQuestionFault words f
-    → o ≡ faulty_outcome 0 (fault_of_question f) → Ran left left held held lf lf of of on words o
+    → o ≡ faulty_outcome 0 (fault_of_question f) → Ran (change_of left left lf lf) (change_of held held of of) on words o
 ran_misasked left held lf of on words f o is ended =
-    subst (Ran left left held held lf lf of of on words) (sym ended)
+    subst (Ran (change_of left left lf lf) (change_of held held of of) on words) (sym ended)
     (ran_nothing left held lf of on words (faulty_outcome 0 (fault_of_question f)) (misasked_answer words left lf of on f is))
 
 -- ---- the count of faults of the source

@@ -6,8 +6,9 @@ use Rattle.std.proofs.lemmas.Bool.{cases_Bool}
 use Rattle.std.proofs.lemmas.Bool.Decides.{nat_tests}
 use Rattle.std.proofs.lemmas.Option.{none-some, same_Some}
 use Rattle.pota_base.specs.Number.{number_at, whole}
+use Rattle.pota_base.specs.Limits.{most_events, most_processes, most_workers}
 use Rattle.rctl_grammar.specs.declared.tree.Tree.{Tree}
-use Rattle.run_options.specs.declared.sizes.Sizes.{Sizes}
+use Rattle.call_options.specs.declared.sizes.Sizes.{Sizes}
 use Rattle.command_words.specs.declared.request.Task.{Task}
 use Rattle.command_words.specs.declared.request.Form.{Form}
 use Rattle.command_words.specs.declared.request.Form.TheVariants as form
@@ -17,9 +18,9 @@ use Rattle.command_words.specs.declared.request.Task.TheVariants.{Read, Bench}
 use Rattle.command_words.specs.Numbers.{number, workers_of, needed, sizes_of}
 use Rattle.command_words.specs.Request.{Values, values_of, reporting_of, has_sizes, has_flags, form_of, check_of, certify_of, bench_of, task_of, Wanted, wanted, request_of}
 use Rattle.command_words.specs.Rule.{Text, given}
-use Rattle.run_request.specs.declared.question.Question.{Question}
-use Rattle.run_request.specs.Questions.{IsQuestion, AsksFor}
-use Rattle.run_promise.specs.Asking.{certifying}
+use Rattle.call_request.specs.declared.question.Question.{Question}
+use Rattle.call_request.specs.Questions.{IsQuestion, AsksFor}
+use Rattle.call_promise.specs.Asking.{certifying}
 use Rattle.bench_answers.specs.Benching.{CanBeMade}
 
 abbrev Then : {A B : Type 0} → Option A → (A → Option B) → B → Type 0
@@ -48,17 +49,17 @@ needed_within : (low high n : ℕ) (text : Option Text) → needed low high text
 needed_within low high n None h = absurd (none-some n h)
 needed_within low high n (Some text) h = number_within low high n text h
 
-workers_within : (text : Option Text) (n : ℕ) → workers_of text ≡ Some n → Within 1 16 n
-workers_within None n h = subst (Within 1 16) (same_Some 1 n h) (omega arith, omega arith)
-workers_within (Some text) n h = number_within 1 16 n text h
+workers_within : (text : Option Text) (n : ℕ) → workers_of text ≡ Some n → Within 1 most_workers n
+workers_within None n h = subst (Within 1 most_workers) (same_Some 1 n h) (omega arith, omega arith)
+workers_within (Some text) n h = number_within 1 most_workers n text h
 
 sizes_can : (seed procs events : Option Text) (s : Sizes) → sizes_of seed procs events ≡ Some s → CanBeMade s
 sizes_can seed procs events s h =
-    let a = then_some (needed 0 (2 ^ 64 - 1) seed) (λ x. option_and_then (λ p. option_and_then (λ e. let z : Sizes = record { seed = x; procs = p; events = e } in Some z) (needed 0 50000 events)) (needed 1 32 procs)) s h in
-    let b = then_some (needed 1 32 procs) (λ p. option_and_then (λ e. let z : Sizes = record { seed = a.0; procs = p; events = e } in Some z) (needed 0 50000 events)) s a.2 in
-    let c = then_some (needed 0 50000 events) (λ e. let z : Sizes = record { seed = a.0; procs = b.0; events = e } in Some z) s b.2 in
-    let here = needed_within 1 32 b.0 procs b.1 in
-    let there = needed_within 0 50000 c.0 events c.1 in
+    let a = then_some (needed 0 (2 ^ 64 - 1) seed) (λ x. option_and_then (λ p. option_and_then (λ e. let z : Sizes = record { seed = x; procs = p; events = e } in Some z) (needed 0 most_events events)) (needed 1 most_processes procs)) s h in
+    let b = then_some (needed 1 most_processes procs) (λ p. option_and_then (λ e. let z : Sizes = record { seed = a.0; procs = p; events = e } in Some z) (needed 0 most_events events)) s a.2 in
+    let c = then_some (needed 0 most_events events) (λ e. let z : Sizes = record { seed = a.0; procs = b.0; events = e } in Some z) s b.2 in
+    let here = needed_within 1 most_processes b.0 procs b.1 in
+    let there = needed_within 0 most_events c.0 events c.1 in
     let made : CanBeMade (record { seed = a.0; procs = b.0; events = c.0 }) = record { some = here.0; few = here.1; limit = there.1 } in
     subst CanBeMade (same_Some _ s c.2) made
 
@@ -207,8 +208,8 @@ module _ (words : List (List ℕ)) (q : Question) (is : IsQuestion words q) wher
   found : (v : Values) × IsFound v is.wanted
   found = request_found words is.wanted is.asks
 
-  pub question_workers : Within 1 16 q.workers
-  question_workers = subst (Within 1 16) (sym is.workers) (workers_within found.0.workers is.wanted.workers found.1.workers)
+  pub question_workers : Within 1 most_workers q.workers
+  question_workers = subst (Within 1 most_workers) (sym is.workers) (workers_within found.0.workers is.wanted.workers found.1.workers)
 
   pub question_sizes : (s : Sizes) → q.task ≡ Bench s → CanBeMade s
   question_sizes s e = task_can found.1.command found.0 s (found.1.task ∙ ap (λ (t : Task). Some t) (sym is.task ∙ e))

@@ -1,9 +1,10 @@
 //! The answers to an inquiry.
-ghost use Rattle.std.specs.Prelude.{◌≡◌, ◌<◌, ℕ, Bool, List as ListOf};
+ghost use Rattle.pota_base.specs.Blanks.{IsBlankOf};
+ghost use Rattle.std.specs.Prelude.{◌<◌, ℕ, Bool, List as ListOf};
 ghost use Rattle.log_rules.specs.Judgement.{waiting};
 ghost use Rattle.command_words.specs.declared.request.Task.TheVariants.{Read};
 ghost use Rattle.command_words.specs.declared.request.Product.TheVariants.{Reports};
-ghost use Rattle.run_request.specs.Questions.{AsksFor};
+ghost use Rattle.call_request.specs.Questions.{AsksFor};
 ghost use Rattle.stated_formula.specs.Stating.{IsStated};
 ghost use Rattle.certificate_answers.specs.PassedOn.{Aim, AreWatches, said_by};
 ghost use Rattle.certificate_answers.specs.PassedOn.{IsCheckOf};
@@ -11,9 +12,9 @@ ghost use Rattle.log_answers.specs.Calm.{IsCalmUnlessRead};
 ghost use Rattle.log_answers.specs.Inputs.{HasCheckedBy};
 ghost use Rattle.form_readings.specs.Clocks.{clocks_reading};
 ghost use Rattle.form_readings.specs.Sources.{merged_reading};
-ghost use Rattle.run_promise.specs.Asking.{handing_of};
-ghost use Rattle.run_promise.specs.Run.{RanOn};
-ghost use Rattle.input_reading.specs.Changes.{of_source, of_sink};
+ghost use Rattle.call_promise.specs.Asking.{handing_of};
+ghost use Rattle.call_promise.specs.Run.{Ran};
+ghost use Rattle.pota_base.specs.Changes.{of_sink, of_source};
 ghost use Rattle.certificate_answers.specs.PassedOn.{outcome_of};
 ghost use Rattle.certificate_answers.specs.PassedOn.{HasChecked};
 
@@ -37,13 +38,10 @@ fn check_text<R: Threads + Sync, G: Gate, L: Ledger, S: Source, O: Sink>(
     log: &mut S,
     out: &mut O,
 ) -> Result<Verdict, Stop>
-    requires name { blank.name ≡ L.name }
-    requires parts { blank.parts ≡ L.parts }
-    requires one { 0 < blank.parts }
+    requires blank { IsBlankOf L.name L.parts blank }
     requires check { (aim : Aim) × IsCheckOf (said_by answers) aim check waiting }
-    ensures checks { (aim : Aim) → IsCheckOf (said_by answers) aim check waiting
-        → HasChecked (S.left log.old) (S.left log.new) (O.held out.old) (O.held out.new)
-        (S.faults log.old) (S.faults log.new) (O.faults out.old) (O.faults out.new) aim each_batch
+    ensures checks { (aim : Aim) → IsCheckOf (said_by answers) aim check waiting → HasChecked
+        (of_source S.Source log.old log.new) (of_sink O.Sink out.old out.new) aim each_batch
         result }
     ensures calm { IsCalmUnlessRead (S.faults log.old) (S.faults log.new) result }
 {
@@ -65,14 +63,11 @@ fn check_records<R: Threads + Sync, G: Gate, L: Ledger, S: Source, O: Sink>(
     source: &mut S,
     out: &mut O,
 ) -> Result<Verdict, Stop>
-    requires name { blank.name ≡ L.name }
-    requires parts { blank.parts ≡ L.parts }
-    requires one { 0 < blank.parts }
+    requires blank { IsBlankOf L.name L.parts blank }
     requires check { (aim : Aim) × IsCheckOf (said_by answers) aim check waiting }
     ensures checks { (aim : Aim) → IsCheckOf (said_by answers) aim check waiting → (each : Bool)
-        → HasCheckedBy clocks_reading (S.left source.old) (S.left source.new) (O.held out.old)
-        (O.held out.new) (S.faults source.old) (S.faults source.new) (O.faults out.old)
-        (O.faults out.new) aim each result }
+        → HasCheckedBy clocks_reading (of_source S.Source source.old source.new)
+        (of_sink O.Sink out.old out.new) aim each result }
     ensures calm { IsCalmUnlessRead (S.faults source.old) (S.faults source.new) result }
 {
     let mut checking = Checking {
@@ -93,14 +88,11 @@ fn check_logs<R: Threads + Sync, G: Gate, L: Ledger, S: Source, O: Sink>(
     source: &mut S,
     out: &mut O,
 ) -> Result<Verdict, Stop>
-    requires name { blank.name ≡ L.name }
-    requires parts { blank.parts ≡ L.parts }
-    requires one { 0 < blank.parts }
+    requires blank { IsBlankOf L.name L.parts blank }
     requires check { (aim : Aim) × IsCheckOf (said_by answers) aim check waiting }
     ensures checks { (aim : Aim) → IsCheckOf (said_by answers) aim check waiting → (each : Bool)
-        → HasCheckedBy merged_reading (S.left source.old) (S.left source.new) (O.held out.old)
-        (O.held out.new) (S.faults source.old) (S.faults source.new) (O.faults out.old)
-        (O.faults out.new) aim each result }
+        → HasCheckedBy merged_reading (of_source S.Source source.old source.new)
+        (of_sink O.Sink out.old out.new) aim each result }
     ensures calm { IsCalmUnlessRead (S.faults source.old) (S.faults source.new) result }
 {
     let mut checking = Checking {
@@ -125,10 +117,9 @@ fn answer_reports<R: Threads + Sync, G: Gate, S: Source, O: Sink>(
 ) -> Result<Verdict, Stop>
     requires watches { AreWatches watches.items }
     requires stated { (text : ListOf ℕ) × IsStated text stated }
-    ensures ran { (words : ListOf (ListOf ℕ)) (text : ListOf ℕ) → IsStated text stated
-        → AsksFor words (Read (record { form = form; product = Reports reporting }))
-        stated.formula.tree
-        → RanOn (of_source S.Source log.old log.new) (of_sink O.Sink out.old out.new)
+    ensures ran { (words : ListOf (ListOf ℕ)) (text : ListOf ℕ) → IsStated text stated → AsksFor
+        words (Read (record { form = form; product = Reports reporting })) stated.formula.tree → Ran
+        (of_source S.Source log.old log.new) (of_sink O.Sink out.old out.new)
         (handing_of (said_by answers) watches.items) words (outcome_of result) }
     ensures calm { IsCalmUnlessRead (S.faults log.old) (S.faults log.new) result }
 {
@@ -156,10 +147,10 @@ pub fn answer_inquiry<R: Threads + Sync, G: Gate, S: Source, O: Sink>(
 ) -> Result<Verdict, Stop>
     requires watches { AreWatches watches.items }
     requires stated { (text : ListOf ℕ) × IsStated text stated }
-    ensures ran { (words : ListOf (ListOf ℕ)) (text : ListOf ℕ) → IsStated text stated
-        → AsksFor words (Read inquiry) stated.formula.tree
-        → RanOn (of_source S.Source log.old log.new) (of_sink O.Sink out.old out.new)
-        (handing_of (said_by answers) watches.items) words (outcome_of result) }
+    ensures ran { (words : ListOf (ListOf ℕ)) (text : ListOf ℕ) → IsStated text stated → AsksFor
+        words (Read inquiry) stated.formula.tree → Ran (of_source S.Source log.old log.new)
+        (of_sink O.Sink out.old out.new) (handing_of (said_by answers) watches.items) words
+        (outcome_of result) }
     ensures calm { IsCalmUnlessRead (S.faults log.old) (S.faults log.new) result }
 {
     let form = inquiry.form;

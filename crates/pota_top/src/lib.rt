@@ -9,10 +9,10 @@
 //! certificate of the formula on the whole log, by `certify`, which tells the truth. For a bench it
 //! is the summary of the log that is made, and nothing is read. Usage and Formula are the first
 //! fault of the words, of the formula or of its names; a fault of the log is the first that is due
-//! of the bytes. After a read fault no fault is due of the bytes that were read; after a write fault
-//! the reports before that of batch `batches` were written and a front of that one, or a front of
-//! the certificate; after want of memory what was written is a front of what may be due. A read or
-//! write fault comes only where that object's count of faults rose (`read`, `write`).
+//! of the bytes. After a read fault no fault is due of the bytes that were read; after a write
+//! fault the reports before that of batch `batches` were written and a front of that one, or a
+//! front of the certificate; after want of memory what was written is a front of what may be due. A
+//! read or write fault comes only where that object's count of faults rose (`read`, `write`).
 //!
 //! Where the source tells its bytes, no count rose and memory was there: each log of which no
 //! fault is due is decided (`decided`), each fault that is due is the answer (`refused`), each
@@ -26,6 +26,6 @@
 mod inquiring;
 mod top;
 
+pub use call_promise::Outcome;
 pub use fault_line::Fault;
-pub use run_promise::Outcome;
 pub use top::pota;

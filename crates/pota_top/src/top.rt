@@ -2,27 +2,27 @@
 ghost use Rattle.std.specs.Prelude.{◌≡◌, ◌≢◌, ℕ, List, map, string_bytes};
 ghost use Rattle.pota_base.specs.Outside.{Rose};
 ghost use Rattle.pota_base.specs.declared.status.Status.TheVariants.{ReadFault, WriteFault};
-ghost use Rattle.input_reading.specs.Changes.{of_source, of_sink};
-ghost use Rattle.run_request.specs.Questions.{IsQuestion};
+ghost use Rattle.pota_base.specs.Changes.{of_sink, of_source};
+ghost use Rattle.call_request.specs.Questions.{IsQuestion};
 ghost use Rattle.certificate_answers.specs.PassedOn.{AreWatches, said_by};
 ghost use Rattle.log_answers.specs.Calm.{IsCalmUnlessRead};
 ghost use Rattle.fault_line.specs.Lines.{Told};
-ghost use Rattle.run_promise.specs.Asking.{handing_of};
-ghost use Rattle.run_promise.specs.Run.{RanOn, IsDecidedOn, IsRefusedOn, IsMisaskedOn};
-ghost use Rattle.run_promise.specs.Run.{IsBenchedOn};
-ghost use Rattle.run_promise.specs.Questions.{fault_of_question};
+ghost use Rattle.call_promise.specs.Asking.{handing_of};
+ghost use Rattle.call_promise.specs.Run.{Ran, IsDecidedOn, IsRefusedOn, IsMisaskedOn};
+ghost use Rattle.call_promise.specs.Run.{IsBenchedOn};
+ghost use Rattle.call_promise.specs.Questions.{fault_of_question};
 ghost use Rattle.certificate_answers.specs.PassedOn.{outcome_of};
 ghost use Rattle.pota_top.specs.Telling.{line_of};
 
 use crate::inquiring::answer_inquiry;
 use bench_answers::answer_bench;
+use call_promise::Outcome;
+use call_request::{Question, QuestionFault, read_question};
 use certificate_answers::{faulty, outcome_of};
 use command_words::Task;
 use fault_line::{Fault, tell};
 use log_answers::{Means, Stop, Verdict};
 use pota_base::{Gate, Refused, Sink, Source};
-use run_promise::Outcome;
-use run_request::{Question, QuestionFault, read_question};
 use std::alloc::Global;
 use std::thread::Threads;
 use watch::{Handed, Watch};
@@ -39,8 +39,8 @@ fn answer_question<R: Threads + Sync, G: Gate, S: Source, O: Sink>(
 ) -> Result<Verdict, Stop>
     requires watches { AreWatches watches.items }
     requires asks { (words : List (List ℕ)) × IsQuestion words question }
-    ensures ran { (words : List (List ℕ)) → IsQuestion words question
-        → RanOn (of_source S.Source log.old log.new) (of_sink O.Sink out.old out.new)
+    ensures ran { (words : List (List ℕ)) → IsQuestion words question → Ran
+        (of_source S.Source log.old log.new) (of_sink O.Sink out.old out.new)
         (handing_of (said_by answers) watches.items) words (outcome_of result) }
     ensures calm { IsCalmUnlessRead (S.faults log.old) (S.faults log.new) result }
 {
@@ -82,7 +82,7 @@ fn answer_words<R: Threads + Sync, G: Gate, S: Source, O: Sink>(
     out: &mut O,
 ) -> Outcome
     requires watches { AreWatches watches.items }
-    ensures ran { RanOn (of_source S.Source log.old log.new) (of_sink O.Sink out.old out.new)
+    ensures ran { Ran (of_source S.Source log.old log.new) (of_sink O.Sink out.old out.new)
         (handing_of (said_by answers) watches.items) (map string_bytes words.now) result }
     ensures calm { result.status ≢ ReadFault → S.faults log.new ≡ S.faults log.old }
 {
@@ -99,8 +99,8 @@ fn answer_words<R: Threads + Sync, G: Gate, S: Source, O: Sink>(
 /// one that is made.
 ///
 /// The words are the command line without the program's name. A formula may name the watches that
-/// are handed in, but for a certificate, whose formula may name none. The reports or the certificate
-/// go to `out`, and one line that tells why there is no verdict to `diag`.
+/// are handed in, but for a certificate, whose formula may name none. The reports or the
+/// certificate go to `out`, and one line that tells why there is no verdict to `diag`.
 pub fn pota<R: Threads + Sync, S: Source, O: Sink, D: Sink, G: Gate>(
     rt: &R,
     alloc: Global,
@@ -112,10 +112,9 @@ pub fn pota<R: Threads + Sync, S: Source, O: Sink, D: Sink, G: Gate>(
     gate: &G,
 ) -> Outcome
     requires watches { AreWatches watches.items }
-    ensures ran { RanOn (of_source S.Source log.old log.new) (of_sink O.Sink out.old out.new)
+    ensures ran { Ran (of_source S.Source log.old log.new) (of_sink O.Sink out.old out.new)
         (handing_of (said_by answers) watches.items) (map string_bytes words.now) result }
-    ensures told { Told (D.held diag.old) (D.held diag.new) (D.faults diag.old) (D.faults diag.new)
-        (line_of result.fault) }
+    ensures told { Told (of_sink D.Sink diag.old diag.new) (line_of result.fault) }
     ensures read { result.status ≡ ReadFault → Rose (S.faults log.old) (S.faults log.new) }
     ensures calm { result.status ≢ ReadFault → S.faults log.new ≡ S.faults log.old }
     ensures write { result.status ≡ WriteFault → Rose (O.faults out.old) (O.faults out.new) }

@@ -8,6 +8,7 @@ use Rattle.std.proofs.lemmas.Fmt.{length-decimal-le}
 use Rattle.std.proofs.lemmas.Int.{ints}
 use Rattle.std.proofs.lemmas.List.{length-take}
 use Rattle.run_model.specs.Formula as model
+use Rattle.pota_base.specs.Limits.{most_nodes}
 use Rattle.pota_names.specs.Names.{is_name, is_name_start, is_name_byte}
 use Rattle.rctl_grammar.specs.declared.token.Kind.{Kind}
 use Rattle.rctl_grammar.specs.declared.token.Kind.TheVariants as kind
@@ -248,7 +249,7 @@ mutual
   joined-near joint (more front s) h =
       simp length-append (omega (arith, joined-near joint front h.0, joint-short joint, bracketed-short (needs_brackets joint s) (canonical s), text-near s h.1))
 
-shape-near : (text : List ℕ) (d : Disjunction) → text_disjunction d [] ≡ (lex text).tokens → IsSpellable (shape_disjunction d) → nodes (shape_disjunction d) ≤ 64
+shape-near : (text : List ℕ) (d : Disjunction) → text_disjunction d [] ≡ (lex text).tokens → IsSpellable (shape_disjunction d) → nodes (shape_disjunction d) ≤ most_nodes
     → length (canonical (shape_disjunction d)) + 5 ≤ length text + 3200
 shape-near text d is h few =
     let words = disjunction-names d [] in
@@ -261,5 +262,5 @@ pub printed_near : PrintedIsLittleLonger
 printed_near text t r =
     let spelled : IsSpellable (shape_disjunction r.d) = (disjunction-spelled r.d [] (subst AreSound (sym r.text) (lex-sound text))).0 in
     let is : shape_of t ≡ shape_disjunction r.d = ap shape_of (sym r.tree) ∙ tree-disjunction r.d in
-    let few : nodes (shape_disjunction r.d) ≤ 64 = omega (arith, nodes-disjunction r.d, r.limits.nodes) in
+    let few : nodes (shape_disjunction r.d) ≤ most_nodes = omega (arith, nodes-disjunction r.d, r.limits.nodes) in
     subst (λ (s : Shape). length (canonical s) ≤ length text + 3195) (sym is) (omega (arith, shape-near text r.d r.text spelled few))

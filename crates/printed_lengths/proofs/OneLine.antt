@@ -9,6 +9,7 @@ use Rattle.std.proofs.lemmas.Int.{ints}
 use Rattle.std.proofs.lemmas.Bool.{cases_Bool, and_parts, eqb-true, true≢false}
 use Rattle.std.proofs.lemmas.Bool.Decides.{nat_tests}
 use Rattle.run_model.specs.Formula as model
+use Rattle.pota_base.specs.Limits.{longest_name}
 use Rattle.pota_names.specs.Names.{is_name, is_name_start, is_name_byte}
 use Rattle.rctl_grammar.specs.declared.tree.Compare.{Compare}
 use Rattle.rctl_grammar.specs.declared.tree.Compare.TheVariants as compare
@@ -57,7 +58,7 @@ name-free : (name : List ℕ) → is_name name ≡ true → HasNoFeed name
 name-free [] h = absurd cc
 name-free (b ∷ bs) h =
     let first = and_parts (is_name_start b) _ h in
-    (passed is_name_start refl b first.0, all-passed bs (and_parts (nat_lt _ 64) (list_all is_name_byte bs) first.1).1)
+    (passed is_name_start refl b first.0, all-passed bs (and_parts (nat_lt _ longest_name) (list_all is_name_byte bs) first.1).1)
 
 -- ---- numbers
 

@@ -4,6 +4,7 @@ use Rattle.std.specs.Prelude.{slice_index}
 use Rattle.std.specs.List.{Contains}
 use Rattle.std.proofs.lemmas.List.{length-set, length-take}
 use Rattle.std.proofs.lemmas.List.Elements.{Contains-append_left, Contains-append_right, Contains-append_cases, Contains-push, Contains-push_cases}
+use Rattle.pota_base.specs.Limits.{most_processes}
 use mathlib.Core.Option.{some, none, some-injective, some-ne-none}
 use lib.ListN.{get_elem?}
 use Rattle.atomic_table.specs.Table.{State, Me, step, keeps, Allows, Splits, Joins, opening}
@@ -308,5 +309,5 @@ zeros_taken (suc m) zero i = refl
 zeros_taken (suc m) (suc n) zero = refl
 zeros_taken (suc m) (suc n) (suc i) = zeros_taken m n i
 
-pub free_kept : (count : ℕ) → count ≤ 32 → ClaimsHold count (opening (take count (replicate 32 0)) [] opened)
-free_kept count few = starts_kept count (take count (replicate 32 0)) (omega (arith, length-take count (let zeros : List ℕ = replicate 32 0 in zeros))) (zeros_taken count 32)
+pub free_kept : (count : ℕ) → count ≤ most_processes → ClaimsHold count (opening (take count (replicate most_processes 0)) [] opened)
+free_kept count few = starts_kept count (take count (replicate most_processes 0)) (omega (arith, length-take count (let zeros : List ℕ = replicate most_processes 0 in zeros))) (zeros_taken count most_processes)

@@ -1,8 +1,9 @@
 ghost use Rattle.std.specs.Prelude.{◌≡◌, ◌+◌, ◌<◌, ◌≤◌, [], ◌∷◌, ◌++◌, true, false, IfOk};
+ghost use Rattle.pota_base.specs.Limits.{most_processes};
 
 use crate::claimer::{Claimer, Meets, Parts, Ruled, SeenClaims, Swaps};
 use atomic_table::Table;
-use pota_base::NoMemory;
+use pota_base::{MOST_PROCESSES, NoMemory};
 use std::alloc::Global;
 use std::marker::Model;
 
@@ -29,12 +30,12 @@ impl Claims {
     /// The words of so many processes, of which none is claimed, and a first caller.
     pub fn new(alloc: Global, processes: u32) -> Result<(Claims, Claimer), NoMemory>
         requires some { 1 ≤ processes }
-        requires few { processes ≤ 32 }
+        requires few { processes ≤ most_processes }
         ensures words { IfOk result (λ pair. pair.0.words ≡ processes) }
         ensures claimer { IfOk result (λ pair. pair.1
             ≡ record { table = pair.0; claims = []; marks = [] }) }
     {
-        let free = [0; 32];
+        let free = [0; MOST_PROCESSES];
         let (table, token) = Table::of_words(alloc, &free[..processes as usize], &processes)?;
         Ok((Claims { table }, Claimer { token }))
     }

@@ -1,5 +1,5 @@
 -- The columns of rows: none, one row more, and a table that is the only one.
-use Rattle.std.proofs.Common.{◌≡◌, ℕ, zero, suc, ◌+◌, ◌*◌, ◌<◌, List, [], ◌∷◌, ◌++◌, length, get_or, map, replicate, refl, sym, ap, ◌∙◌, arith, append_assoc}
+use Rattle.std.proofs.Common.{◌≡◌, ℕ, zero, suc, ◌+◌, ◌*◌, ◌<◌, List, [], ◌∷◌, ◌++◌, length, get_or, map, replicate, refl, sym, ap, ◌∙◌, arith, append_assoc, append-nil}
 use Rattle.std.specs.List.{range_with_len}
 use Rattle.std.proofs.lemmas.List.{same_lists, get_or-append-add}
 use Rattle.std.proofs.lemmas.List.FromFn.{get_or-map-range_with_len, length-map-range_with_len, map-range_with_len_more}
@@ -7,7 +7,7 @@ use Rattle.std.proofs.lemmas.Grind.{same_number_lists}
 use Rattle.std.proofs.lemmas.Nat.{mul-add-lt}
 use Rattle.std.proofs.Math.ListN.{get_or-append}
 use Rattle.pull_system.specs.declared.pull.Pull.{Pull}
-use Rattle.pull_fans.specs.Fans.{FanView, column, HasRow, pull_of_fan, pulls_of_fan}
+use Rattle.pull_fans.specs.Fans.{FanView, column, HasRow, HaveRows, pull_of_fan, pulls_of_fan}
 use Rattle.pull_fans.specs.declared.layout.Layout.{Layout}
 use Rattle.pull_fans.specs.declared.layout.Layout.TheVariants.{ByTarget}
 use Rattle.pull_fans.specs.inside.Layouts.{place_in, tables_in}
@@ -59,6 +59,39 @@ has_row layout targets width values entries row whole size within is = record {
       table_at layout targets width (values + 1) (entries ++ whole) j there ∙ column_more width values entries whole place size (within j there)
       ∙ ap (λ (n : ℕ). column width values entries place ++ n ∷ []) (is j there) ∙ ap (λ (xs : List ℕ). xs ++ get_or row j 0 ∷ []) (sym (table_at layout targets width values entries j there));
 }
+
+-- so many rows more
+pub column_append : (width values count i : ℕ) (entries rows : List ℕ) → length entries ≡ values * width → i < width → column width (values + count) (entries ++ rows) i ≡ column width values entries i ++ column width count rows i
+column_append width values zero i entries rows size there =
+    ap (λ (n : ℕ). column width n (entries ++ rows) i) (omega arith)
+    ∙ same_maps (λ x. get_or (entries ++ rows) (x * width + i) 0) (λ x. get_or entries (x * width + i) 0) values (λ x less.
+    let inside : x * width + i < width * values = mul-add-lt x width i values less there in
+    get_or-append entries rows 0 (x * width + i) (omega (arith, inside, size)))
+    ∙ sym (append-nil (column width values entries i))
+column_append width values (suc count) i entries rows size there =
+    ap (λ (n : ℕ). column width n (entries ++ rows) i) (let more : values + suc count ≡ (values + count) + 1 = omega arith in more)
+    ∙ map-range_with_len_more (λ x. get_or (entries ++ rows) (x * width + i) 0) 0 (values + count) (values + count) (omega arith)
+    ∙ ap (λ (xs : List ℕ). xs ++ get_or (entries ++ rows) ((values + count) * width + i) 0 ∷ []) (column_append width values count i entries rows size there)
+    ∙ ap (λ (n : ℕ). (column width values entries i ++ column width count rows i) ++ get_or (entries ++ rows) n 0 ∷ []) (let place : (values + count) * width + i ≡ length entries + (count * width + i) = omega (arith, size) in place)
+    ∙ ap (λ (x : ℕ). (column width values entries i ++ column width count rows i) ++ x ∷ []) (get_or-append-add entries rows (count * width + i) 0)
+    ∙ append_assoc (column width values entries i) (column width count rows i) (get_or rows (count * width + i) 0 ∷ [])
+    ∙ ap (λ (xs : List ℕ). column width values entries i ++ xs) (sym (map-range_with_len_more (λ x. get_or rows (x * width + i) 0) 0 count count (omega arith)))
+    ∙ ap (λ (n : ℕ). column width values entries i ++ column width n rows i) (let next : count + 1 ≡ suc count = omega arith in next)
+
+pub have_rows : (targets : List ℕ) (values count : ℕ) (entries rows : List ℕ) → length entries ≡ values * length targets
+    → HaveRows rows count (tables_in ByTarget targets (length targets) values entries) (tables_in ByTarget targets (length targets) (values + count) (entries ++ rows))
+have_rows targets values count entries rows size = record {
+  size = tables_size (values + count) (entries ++ rows) ∙ sym (tables_size values entries);
+  each = λ j inside.
+      let there : j < length targets = omega (arith, inside, tables_size values entries) in
+      table_at ByTarget targets (length targets) (values + count) (entries ++ rows) j there
+      ∙ column_append (length targets) values count j entries rows size there
+      ∙ ap (λ (xs : List ℕ). xs ++ column (length targets) count rows j) (sym (table_at ByTarget targets (length targets) values entries j there))
+      ∙ ap (λ (n : ℕ). get_or (tables_in ByTarget targets (length targets) values entries) j [] ++ column n count rows j) (sym (tables_size values entries));
+}
+  where
+    tables_size : (n : ℕ) (words : List ℕ) → length (tables_in ByTarget targets (length targets) n words) ≡ length targets
+    tables_size n words = length-map-range_with_len (λ index. column (length targets) n words index) 0 (length targets)
 
 pub one_column : (table : List ℕ) → column 1 (length table) table 0 ≡ table
 one_column table =

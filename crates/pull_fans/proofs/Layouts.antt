@@ -164,6 +164,27 @@ kept_next layout src targets width values entries row now kept some count more =
       zero_next layout src width values targets entries row kept.1 kept.0.size count kept.2,
     )
 
+-- in a fan to all processes rows are by target
+pub to_all_by_target : (layout : Layout) (src width : ℕ) (targets : List ℕ) → IsLaidOut layout src targets width → ((index : ℕ) → index < length targets → get_or targets index 0 ≡ index) → src < length targets → layout ≡ ByTarget
+to_all_by_target ByTarget src width targets laid all inside = refl
+to_all_by_target ByProcess src width targets laid all inside =
+    let others : AreOthers src targets = laid.is in
+    absurd (omega (arith, others.behind src (omega arith) inside, all src inside))
+
+-- so many rows more of a fan by target
+pub kept_rows : (src : ℕ) (targets : List ℕ) (width values count : ℕ) (entries rows now : List ℕ) → IsKept ByTarget src targets width values entries → 0 < length targets → length rows ≡ count * length targets → now ≡ entries ++ rows
+    → IsKept ByTarget src targets width (values + count) now
+kept_rows src targets width values count entries rows now kept some size more =
+    let whole : length rows ≡ count * width = size ∙ ap (λ (n : ℕ). count * n) (sym kept.1.size) in
+    let all : length (entries ++ rows) ≡ values * width + count * width = omega (arith, kept.0.size, whole, length-append entries rows) in
+    let wide : 1 ≤ width = omega (arith, some, kept.1.size) in
+    let each : count * 1 ≤ count * width = mul-le-mul_left count wide in
+    subst (λ (list : List ℕ). IsKept ByTarget src targets width (values + count) list) (sym more) (
+      record { size = omega (arith, all); rows = omega (arith, length-append entries rows, whole, each, kept.0.rows) },
+      kept.1,
+      λ x by below. absurd (not_by_process by),
+    )
+
 -- ---- rows of one entry per process
 
 -- each place of a row is that of a target, or holds 0

@@ -7,9 +7,9 @@ use Rattle.std.proofs.Math.ListN.{get_or-append}
 use Rattle.std.proofs.Math.Nat.{mod-lt}
 use Rattle.pull_system.specs.declared.pull.Pull.{Pull}
 use Rattle.pull_system.specs.System.{IsPull, no_pull}
-use Rattle.pull_fans.specs.Fans.{FanView, pulls_of_fan, pulls_of_fans}
+use Rattle.pull_fans.specs.Fans.{FanView, pulls_of_fan, pulls_of_fans, IsToAll}
 use Rattle.pull_fans.specs.inside.Asks.{AreAskRows, AreRaised, IsAskedOf, IsFanOfAsks}
-use Rattle.pull_fans.specs.inside.Fans.{AreFanRows, IsToAll, IsToOthers}
+use Rattle.pull_fans.specs.inside.Fans.{AreFanRows, IsToOthers}
 use Rattle.pull_fans.specs.inside.First.{IsFirstFrom, IsFromOther}
 use Rattle.pull_fans.specs.inside.Places.{fan_at}
 use Rattle.pull_fans.proofs.FirstFans.{split_pulls}

@@ -1,6 +1,6 @@
 -- The pulls from one process side by side, and the tables that stand in such rows.
 use Rattle.std.specs.Prelude.{◌≡◌, ℕ, ◌+◌, ◌*◌, ◌<◌, List, [], ◌∷◌, ◌++◌, length, get_or, map}
-use Rattle.std.specs.Prelude.{flat_map}
+use Rattle.std.specs.Prelude.{flat_map, slice_index}
 use Rattle.std.specs.List.{range_with_len}
 use Rattle.pull_system.specs.declared.pull.Pull.{Pull}
 
@@ -33,6 +33,17 @@ pub record HasRow (row : List ℕ) (before now : List (List ℕ)) : Type 0 where
   pub size : length now ≡ length before
   pub each : (j : ℕ) → j < length before
       → get_or now j [] ≡ get_or before j [] ++ get_or row j 0 ∷ []
+
+-- the pulls go to each process in turn
+pub record IsToAll (fan : FanView) (procs : ℕ) : Type 0 where
+  pub count : length fan.targets ≡ procs
+  pub each : (index : ℕ) → index < procs → slice_index fan.targets index ≡ index
+
+-- each table has one number of each of so many rows more
+pub record HaveRows (rows : List ℕ) (count : ℕ) (before now : List (List ℕ)) : Type 0 where
+  pub size : length now ≡ length before
+  pub each : (j : ℕ) → j < length before
+      → get_or now j [] ≡ get_or before j [] ++ column (length before) count rows j
 
 -- one table for each process, with its first entries
 pub record AreTables (entry : ℕ → ℕ → ℕ) (procs count : ℕ) (tables : List (List ℕ)) : Type 0 where

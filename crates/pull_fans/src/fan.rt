@@ -2,8 +2,8 @@
 ghost use Rattle.std.specs.Prelude.{◌≡◌, ◌⊎◌, ℕ, ◌+◌, ◌*◌, ◌^◌, ◌<◌, ◌≤◌, [], ◌∷◌, ◌++◌, length};
 ghost use Rattle.std.specs.Prelude.{replicate, slice_index, slice_range, get_or, IfOk, OnOk, OnErr};
 ghost use Rattle.std.specs.Prelude.{IsTrue, IsFalse};
-ghost use Rattle.pull_fans.specs.Fans.{HasRow, pulls_of_fan, pulls_of_fans};
-ghost use Rattle.pull_fans.specs.inside.Fans.{entry_of, HasProcessRows, AreFanRows, IsToAll};
+ghost use Rattle.pull_fans.specs.Fans.{HasRow, HaveRows, IsToAll, pulls_of_fan, pulls_of_fans};
+ghost use Rattle.pull_fans.specs.inside.Fans.{entry_of, HasProcessRows, AreFanRows};
 ghost use Rattle.pull_fans.specs.inside.Fans.{IsToOthers};
 ghost use Rattle.pull_fans.specs.inside.Growing.{kept_tables};
 ghost use Rattle.pull_fans.specs.inside.Asks.{AreInTurn, AreRaisedIn, AreRaised};
@@ -85,6 +85,22 @@ impl Fan {
         }
         self.layout.push_row(&mut self.entries, self.src, row)?;
         self.values += 1;
+        Ok(())
+    }
+
+    /// Puts one number of each of so many rows behind each table, in a fan to all processes.
+    pub fn push_rows(&mut self, rows: &[u32], count: usize) -> Result<(), NoMemory>
+        requires all { IsToAll self.old (length self.old.targets) }
+        requires process { self.old.src < length self.old.targets }
+        requires size { length rows.now ≡ count * length self.old.targets }
+        requires entries { (i : ℕ) → slice_index rows.now i < 2 ^ 16 }
+        ensures source { self.new.src ≡ self.old.src }
+        ensures targets { self.new.targets ≡ self.old.targets }
+        ensures rows { OnOk result (HaveRows rows.now count self.old.tables self.new.tables) }
+        ensures err { OnErr result (self.new ≡ self.old) }
+    {
+        push_narrow(&mut self.entries, rows)?;
+        self.values += count;
         Ok(())
     }
 

@@ -46,7 +46,8 @@ impl Layout {
     ) -> Result<(), NoMemory>
         requires source { self ≡ ByProcess → src ≤ length row.now }
         requires entries { (i : ℕ) → slice_index row.now i < 2 ^ 16 }
-        ensures ok { OnOk result (entries.new.items ≡ entries.old.items ++ row_in self src row.now) }
+        ensures ok { OnOk result
+            (entries.new.items ≡ entries.old.items ++ row_in self src row.now) }
         ensures err { OnErr result (entries.new.items ≡ entries.old.items) }
     {
         match self {

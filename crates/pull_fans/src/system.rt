@@ -161,8 +161,8 @@ impl System {
         })
     }
 
-    /// The system of the same pulls on a longer shape. Of each table the first entries stay, one for
-    /// each value up to the source's old length. Behind them come those that `more` has for its
+    /// The system of the same pulls on a longer shape. Of each table the first entries stay, one
+    /// for each value up to the source's old length. Behind them come those that `more` has for its
     /// source and target, by rows of one entry per process.
     pub fn grown(self, alloc: Global, shape: &Shape, more: &[List<u32>]) -> Result<System, NoMemory>
         requires procs { length shape.now ≡ length self.lens }

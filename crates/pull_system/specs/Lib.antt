@@ -1,3 +1,4 @@
+pub mod Laws
 pub mod Vector
 pub mod System
 pub mod Pulls

@@ -1,16 +1,17 @@
 //! Laws on systems and rows. The functions do nothing.
 ghost use Rattle.std.specs.Prelude.{◌≡◌, ◌↔◌, ℕ, ◌<◌, ◌≤◌, Bool, true, List, ◌++◌, length, sum};
-ghost use Rattle.std.specs.Prelude.{Some, slice_index, slice_set};
+ghost use Rattle.std.specs.Prelude.{slice_index, slice_set};
 ghost use Rattle.pull_system.specs.declared.pull.Pull.{Pull};
 ghost use Rattle.pull_system.specs.Pulls.{ClosedUnder, first_below};
 ghost use Rattle.pota_base.specs.declared.shape.EventId.{EventId};
 ghost use Rattle.pota_base.specs.Shape.{HasEvent, row_of};
 ghost use Rattle.pull_system.specs.Vector.{IsAtMost, IsVector, IsMinimum, IsMaximum};
 ghost use Rattle.pull_system.specs.System.{SystemView, IsSystem, IsClosed, IsLeastFrom};
-ghost use Rattle.pull_system.specs.Rows.{RowsView, AreLeastRows, start_of, starts, place_of};
-ghost use Rattle.pull_system.specs.Rows.{IsLeast, row_at};
-ghost use Rattle.pull_system.specs.Growth.{Grows, Stays, grown_words, old_row};
 ghost use Rattle.pull_system.specs.System.{IsBelowLeast};
+ghost use Rattle.pull_system.specs.Rows.{RowsView, AreLeastRows, start_of, starts, place_of};
+ghost use Rattle.pull_system.specs.Rows.{row_at};
+ghost use Rattle.pull_system.specs.Growth.{Grows, Stays, grown_words};
+ghost use Rattle.pull_system.specs.Laws.{FinalRowsAreLeast};
 
 /// From each start there is exactly one least closed vector, so a row's is a function of the system
 /// and the row.
@@ -84,10 +85,5 @@ pub fn final_rows()
     ensures vector { (before after : SystemView) → IsSystem before → Grows before after
         → Stays before after → (start v : List ℕ) → IsLeastFrom before start v
         → IsAtMost v before.lens → IsLeastFrom after start v }
-    ensures row { (before after : SystemView) → IsSystem before → Grows before after
-        → Stays before after → (old : RowsView) → old.lens ≡ before.lens
-        → AreLeastRows before old.words → (row kept : ℕ) → row ≤ sum after.lens
-        → old_row old.lens after.lens row ≡ Some kept
-        → IsAtMost (row_at old.lens old.words kept) old.lens
-        → IsLeast after row (row_at after.lens (grown_words after.lens old) row) }
+    ensures row { FinalRowsAreLeast }
 {}

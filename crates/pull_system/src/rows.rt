@@ -4,7 +4,7 @@ ghost use Rattle.pota_base.specs.Shape.{IsShape};
 ghost use Rattle.pull_system.specs.Rows.{start_of, starts, row_at};
 ghost use Rattle.pull_system.specs.Growth.{DidNotFall, grown_row, grown_words, old_row};
 
-use pota_base::{NoMemory, Shape};
+use pota_base::{MOST_PROCESSES, NoMemory, Shape};
 use std::alloc::Global;
 use std::marker::Model;
 
@@ -147,7 +147,7 @@ fn push_start(words: &mut Vec<u16>, lens: &[u32], row: u32) -> Result<(), NoMemo
     requires { IsShape lens.now }
     ensures { OnOk result (words.new.items ≡ words.old.items ++ start_of lens.now row) }
 {
-    let zeros = [0; 32];
+    let zeros = [0; MOST_PROCESSES];
     let begin = words.len();
     words.extend_from_slice(&zeros[..lens.len()])?;
     let mut left = row;

@@ -71,8 +71,8 @@ abbrev pub over_entries : (text : List ℕ) → Header → Tallied → Option An
 over_entries text h t None = []
 over_entries text h t (Some a) = over (over_view text h t a) ∷ []
 
--- each text is a question over processes, of which this is the tally, or the next one of the entries,
--- which comes to the next one of the outcomes
+-- each text is a question over processes, of which this is the tally, or the next one of the
+-- entries, which comes to the next one of the outcomes
 abbrev pub views_from : List (List NamedPiece) → Header → (texts : List (List ℕ))
     → List (Option Tallied) → List Listed → List Outcome → List EntryView
 views_from ds h [] ts es os = []

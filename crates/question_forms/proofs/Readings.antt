@@ -1,6 +1,7 @@
 -- Each text is read or has a fault.
 use Rattle.std.proofs.Common.{◌≡◌, ◌⊎◌, ℕ, nat_lt, List, length, drop, Option, None, Some, Result, Ok, Err, sym, ap, subst, refl, ◌∙◌, inl, inr, arith}
 use Rattle.std.proofs.lemmas.Bool.{cases_Bool, ltb-true, ltb-false}
+use Rattle.pota_base.specs.Limits.{longest_formula}
 use Rattle.rctl_grammar.specs.declared.fault.FormulaCode.TheVariants as code
 use Rattle.rctl_grammar.specs.declared.fault.FormulaFault.{FormulaFault}
 use Rattle.rctl_grammar.specs.declared.token.End.{End}
@@ -33,8 +34,8 @@ tree_free : (tokens : List Token) (ending : End) (t : Tree) → IsTreeOf tokens 
 tree_free tokens ending t is = ap (first_fault tokens) is.ends ∙ within_is_read tokens is.d is.len is.text is.limits
 
 pub text_free : (text : List ℕ) (t : Tree) → IsFormulaText text t → fault_of_text text ≡ None
-text_free text t is = elim (cases_Bool (nat_lt 4096 (length text))) [
-  | inl long ↦ absurd (omega (arith, ltb-true 4096 (length text) long, is.short))
+text_free text t is = elim (cases_Bool (nat_lt longest_formula (length text))) [
+  | inl long ↦ absurd (omega (arith, ltb-true longest_formula (length text) long, is.short))
   | inr short ↦ rw short (tree_free (lex text).tokens (lex text).end t is.read)
 ]
 
@@ -44,10 +45,10 @@ free_tree tokens ending h =
     (tree_disjunction is.d, record { d = is.d; text = is.text; limits = is.limits; len = is.len; ends = is.ends; tree = refl })
 
 pub text_read : (text : List ℕ) → ((t : Tree) × IsFormulaText text t) ⊎ ((f : FormulaFault) × (fault_of_text text ≡ Some f))
-text_read text = elim (cases_Bool (nat_lt 4096 (length text))) [
-  | inl long ↦ inr (record { code = code.TooLong; place = 4096 }, rw long refl)
+text_read text = elim (cases_Bool (nat_lt longest_formula (length text))) [
+  | inl long ↦ inr (record { code = code.TooLong; place = longest_formula }, rw long refl)
   | inr short ↦ elim (cases_Option (long_fault text)) [
-    | inl none ↦ let is = free_tree (lex text).tokens (lex text).end none in inl (is.0, record { short = ltb-false 4096 (length text) short; read = is.1 })
+    | inl none ↦ let is = free_tree (lex text).tokens (lex text).end none in inl (is.0, record { short = ltb-false longest_formula (length text) short; read = is.1 })
     | inr some ↦ inr (some.0, rw short some.1)
   ]
 ]

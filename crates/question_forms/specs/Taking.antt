@@ -51,9 +51,9 @@ form_fault asking.Surely n = regular_negation_fault n
 form_fault asking.AtEnd n = regular_fault n
 form_fault asking.Plain n = class_fault n
 
--- the form in which it is asked. `always` asks the negation where that is analysed, also of a regular
--- formula: neither has an operator then, and each disjunct of the negation is answered by one least
--- cut, where AG of the formula settles all rows
+-- the form in which it is asked. `always` asks the negation where that is analysed, also of a
+-- regular formula: neither has an operator then, and each disjunct of the negation is answered by
+-- one least cut, where AG of the formula settles all rows
 abbrev pub form_of : Asking → Node → Form
 form_of asking.Never n = form.Never
 form_of asking.Can n = form.Can

@@ -20,7 +20,8 @@ placed name at = record { name = name; at = at }
 -- `p.x = 1` from that byte on
 abbrev is_1 : List ℕ → ℕ → Node
 is_1 p at =
-    leaf (atom.Local (placed p at) (placed (codes "x") (at + 2)) compare.Eq (side.Number (pos 1))) at
+    leaf (atom.Local (placed p at) (placed (codes "x") (at + 2)) compare.Eq (side.Number (pos 1)))
+    at
 
 abbrev two : Node → Node → Nodes
 two n m = more n (more m none)

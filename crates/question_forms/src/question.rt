@@ -58,8 +58,8 @@ fn refused(from: u32, stop: Stop) -> Refused<QuestionFault>
     }
 }
 
-/// Reads a question of at most 8,192 bytes. `Fault` is its first fault: of its name, of the words of
-/// its form, of its formula's text, or of what its form takes.
+/// Reads a question of at most 8,192 bytes. `Fault` is its first fault: of its name, of the words
+/// of its form, of its formula's text, or of what its form takes.
 pub fn read_question(alloc: Global, text: &[u8]) -> Result<Question, Refused<QuestionFault>>
     ensures { MatchResult result
         (λ q. (head : HeadIs) × (t : TreeOf) × IsQuestion text.now head t q)

@@ -8,6 +8,7 @@ use Rattle.std.specs.Prelude.{ℕ, ◌+◌, ◌≤◌, Bool, false, not, ◌&&�
 use Rattle.std.specs.Prelude.{drop, length, Option, None, Some, IfSome, Result, Ok, Err, codes}
 use Rattle.std.specs.Prelude.{if◌then◌else◌}
 use Rattle.std.specs.Str.{bytes_eq}
+use Rattle.pota_base.specs.Limits.{longest_question}
 use Rattle.pota_names.specs.Names.{is_name_byte, is_name_start}
 use Rattle.question_text.specs.Bytes.{is_blank, is_no_colon, run_of}
 use Rattle.question_text.specs.Forms.{behind_word, first_word, names_process}
@@ -96,7 +97,7 @@ over_behind at text = if begins_over at text then found (over_at at text) else O
 -- the names that stand for processes, if the text has any
 unfoldable pub over_of : List ℕ → Result (Option Over) OverFault
 over_of text =
-    if nat_lt 8192 (length text) then Ok None
+    if nat_lt longest_question (length text) then Ok None
     else if begins_over (past_blanks 0 text) text then found (over_at (past_blanks 0 text) text)
     else if run_of is_no_colon text == length text then Ok None
     else over_behind (past_blanks (run_of is_no_colon text + 1) text) text

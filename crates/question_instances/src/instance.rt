@@ -1,6 +1,6 @@
 //! The text of a question with names of processes in the place of those that stand for them.
-ghost use Rattle.question_instances.specs.Instances.{instance_text, is_access, next_after, put_word};
-ghost use Rattle.question_instances.specs.Instances.{renamed, renaming_of, scanned};
+ghost use Rattle.question_instances.specs.Instances.{instance_text, is_access, next_after};
+ghost use Rattle.question_instances.specs.Instances.{put_word, renamed, renaming_of, scanned};
 ghost use Rattle.std.specs.Prelude.{◌≡◌, ◌++◌, ◌≤◌, [], false, length, map, IfOk, OnOk};
 
 use crate::over::Over;
@@ -30,7 +30,8 @@ fn renamed<'a>(names: &[Naming<'a>], word: &'a [u8]) -> &'a [u8]
 
 // Appends a word, behind a `.` or an `@` as it is.
 fn put_word(out: &mut Bytes, after: bool, names: &[Naming<'_>], word: &[u8]) -> Result<(), NoMemory>
-    ensures { OnOk result (out.new ≡ out.old ++ put_word after (map renaming_of names.now) word.now) }
+    ensures { OnOk result (out.new ≡ out.old ++ put_word after (map renaming_of names.now)
+        word.now) }
 {
     if word.is_empty() {
         return Ok(());
@@ -62,7 +63,8 @@ fn next_after(after: bool, empty: bool, byte: u8) -> bool
 // Appends a text with names of processes for those that stand for them.
 #[tactic(auto, using(crate::proofs::Scans::on_word, crate::proofs::Scans::on_other))]
 fn put_scanned(out: &mut Bytes, names: &[Naming<'_>], text: &[u8]) -> Result<(), NoMemory>
-    ensures { OnOk result (out.new ≡ out.old ++ scanned (map renaming_of names.now) false [] text.now) }
+    ensures { OnOk result (out.new ≡ out.old ++ scanned (map renaming_of names.now) false []
+        text.now) }
 {
     let mut after = false;
     let mut from = 0;

@@ -1,9 +1,10 @@
 //! The names that stand for processes, before the form of a question.
-ghost use Rattle.question_instances.specs.Over.{begins_name, begins_over, closed_at, fault_at, is_at};
-ghost use Rattle.question_instances.specs.Over.{IsOverIn, IsSpanIn, over_at, over_of, past_blanks};
-ghost use Rattle.question_instances.specs.Over.{past_word, span_at};
-ghost use Rattle.question_instances.specs.Over.{with_first, word_at};
+ghost use Rattle.question_instances.specs.Over.{begins_name, begins_over, closed_at, fault_at};
+ghost use Rattle.question_instances.specs.Over.{is_at, IsOverIn, IsSpanIn, over_at, over_of};
+ghost use Rattle.question_instances.specs.Over.{past_blanks, past_word, span_at, with_first};
+ghost use Rattle.question_instances.specs.Over.{word_at};
 ghost use Rattle.std.specs.Prelude.{◌≡◌, ◌+◌, ◌≤◌, drop, length, IfOk, IfSome};
+ghost use Rattle.pota_base.specs.Limits.{longest_question};
 
 use pota_names::is_start_of_name;
 use question_text::{Class, LONGEST_QUESTION, Span, behind_word, names_process, run_of};
@@ -39,7 +40,7 @@ pub struct OverFault {
 
 // The fault of this code at this place.
 fn fault(code: OverCode, place: usize) -> OverFault
-    requires { place ≤ 8192 }
+    requires { place ≤ longest_question }
     ensures { result ≡ fault_at code place }
 {
     OverFault {
@@ -79,7 +80,7 @@ fn word_at(at: usize, text: &[u8]) -> &[u8]
 // Where the word at a place is.
 fn span_at(at: usize, text: &[u8]) -> Span
     requires here { at ≤ length text.now }
-    requires short { length text.now ≤ 8192 }
+    requires short { length text.now ≤ longest_question }
     ensures span { result ≡ span_at at text.now }
     ensures within { IsSpanIn (length text.now) result }
 {
@@ -124,7 +125,7 @@ fn closed_at(
     second: Option<Span>,
     text: &[u8],
 ) -> Result<Over, OverFault>
-    requires short { length text.now ≤ 8192 }
+    requires short { length text.now ≤ longest_question }
     requires from { from ≤ length text.now }
     requires here { end ≤ length text.now }
     requires first { IsSpanIn (length text.now) first }
@@ -145,7 +146,7 @@ fn closed_at(
 
 // Behind the first name, where a second one may be.
 fn with_first(from: usize, name: usize, at: usize, text: &[u8]) -> Result<Over, OverFault>
-    requires short { length text.now ≤ 8192 }
+    requires short { length text.now ≤ longest_question }
     requires from { from ≤ length text.now }
     requires name { name ≤ length text.now }
     requires here { at ≤ length text.now }
@@ -169,7 +170,7 @@ fn with_first(from: usize, name: usize, at: usize, text: &[u8]) -> Result<Over, 
 
 // Behind the word `for`, which is at a place.
 fn over_at(from: usize, text: &[u8]) -> Result<Over, OverFault>
-    requires short { length text.now ≤ 8192 }
+    requires short { length text.now ≤ longest_question }
     requires here { from ≤ length text.now }
     ensures over { result ≡ over_at from text.now }
     ensures within { IfOk result (IsOverIn (length text.now)) }

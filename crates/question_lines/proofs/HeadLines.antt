@@ -5,6 +5,7 @@ use Rattle.std.specs.Str.{bytes_eq}
 use Rattle.std.proofs.lemmas.Bool.{cases_Bool}
 use Rattle.std.proofs.lemmas.Bool.Decides.{nat_tests}
 use Rattle.std.proofs.lemmas.List.{take_all}
+use Rattle.pota_base.specs.Limits.{longest_question}
 use Rattle.pota_names.specs.Names.{is_name_byte}
 use Rattle.question_text.specs.Bytes.{is_blank, is_no_colon, is_title_byte, run_of, end_behind, end_of_words}
 use Rattle.question_text.specs.Forms.{first_word, behind_word, names_process, of_word, words_of, at_end, front_of}
@@ -132,7 +133,7 @@ pub head-free : (text : List ℕ) (head : Head) → head_of text ≡ Ok head →
 unfolding head_of
 head-free text head e =
     let colon = run_of is_no_colon text in
-    elim (pick (nat_lt 8192 (length text)) _ _ head e) [
+    elim (pick (nat_lt longest_question (length text)) _ _ head e) [
       | inl p ↦ absurd (let q = p.1 in cc)
       | inr p ↦ elim (pick (colon == length text) _ _ head p.1) [
         | inl q ↦ form-free _ 0 text head tt q.1

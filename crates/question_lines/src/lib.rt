@@ -1,5 +1,5 @@
-//! A question that was read is one line: it has no line feed, as what is written of it may want. The
-//! function is a law over the definition of what is read, and does nothing
+//! A question that was read is one line: it has no line feed, as what is written of it may want.
+//! The function is a law over the definition of what is read, and does nothing
 //! (`read_questions_are_one_line`).
 //!
 //! Not said: that its other bytes can be shown. A tab may stand in it.

@@ -4,7 +4,7 @@ use Rattle.std.specs.Prelude.{⊤}
 use Rattle.run_model.specs.Cut.{Cut}
 use Rattle.run_model.specs.Run.{Run}
 use Rattle.run_model.specs.Formula.{Formula}
-use Rattle.run_model.specs.Operators.{SomeTime, EachTime, Staying}
+use Rattle.run_model.specs.Operators.{EfHolds, AgHolds, EgHolds}
 use Rattle.run_model.specs.Meaning.{SatAll}
 use Rattle.run_model.specs.Class.{SatParts, SatDisjuncts}
 use Rattle.question_meaning.specs.declared.form.Form.TheVariants as form
@@ -21,12 +21,12 @@ parts_of_all r (f ∷ fs) c h = (h.0, parts_of_all r fs c h.1)
 
 -- ---- EF of each disjunct
 
-pub some_asked : (r : Run) (ds : List (List Formula)) (c : Cut) → SatDisjuncts r (asked form.Can ds) c → SomeTime r.clocks (SatDisjuncts r ds) c
+pub some_asked : (r : Run) (ds : List (List Formula)) (c : Cut) → SatDisjuncts r (asked form.Can ds) c → EfHolds r.clocks (SatDisjuncts r ds) c
 some_asked r [] c h = absurd h
 some_asked r (d ∷ ds) c (inl h) = some_time_goes r.clocks (SatAll r (members d)) (SatDisjuncts r (d ∷ ds)) (λ x k s. inl (parts_of_all r d x s)) c h.0
 some_asked r (d ∷ ds) c (inr h) = some_time_goes r.clocks (SatDisjuncts r ds) (SatDisjuncts r (d ∷ ds)) (λ x k s. inr s) c (some_asked r ds c h)
 
-pub asked_some : (r : Run) (ds : List (List Formula)) (c : Cut) → SomeTime r.clocks (SatDisjuncts r ds) c → SatDisjuncts r (asked form.Can ds) c
+pub asked_some : (r : Run) (ds : List (List Formula)) (c : Cut) → EfHolds r.clocks (SatDisjuncts r ds) c → SatDisjuncts r (asked form.Can ds) c
 asked_some r [] c w = absurd w.3
 asked_some r (d ∷ ds) c w = elim w.3 [
   | inl s ↦ inl ((w.0, w.1, w.2, all_of_parts r d w.1 s), tt)
@@ -42,7 +42,7 @@ goes_disjunct : (r : Run) (d : List Formula) → Goes r.clocks (SatDisjuncts r (
 goes_disjunct r d c k (inl s) = all_of_parts r d c s
 goes_disjunct r d c k (inr lacks) = absurd lacks
 
-pub each_asked : (r : Run) (ds : List (List Formula)) → length ds ≡ 1 → (c : Cut) → SatDisjuncts r (asked form.Always ds) c ↔ EachTime r.clocks (SatDisjuncts r ds) c
+pub each_asked : (r : Run) (ds : List (List Formula)) → length ds ≡ 1 → (c : Cut) → SatDisjuncts r (asked form.Always ds) c ↔ AgHolds r.clocks (SatDisjuncts r ds) c
 each_asked r [] one c = absurd (omega (arith, one))
 each_asked r (d ∷ []) one c = (
   λ h. elim h [
@@ -53,7 +53,7 @@ each_asked r (d ∷ []) one c = (
 )
 each_asked r (d ∷ e ∷ ds) one c = absurd (omega (arith, one))
 
-pub staying_asked : (r : Run) (ds : List (List Formula)) → length ds ≡ 1 → (c : Cut) → SatDisjuncts r (asked form.Surely ds) c ↔ Staying r.clocks (SatDisjuncts r ds) c
+pub staying_asked : (r : Run) (ds : List (List Formula)) → length ds ≡ 1 → (c : Cut) → SatDisjuncts r (asked form.Surely ds) c ↔ EgHolds r.clocks (SatDisjuncts r ds) c
 staying_asked r [] one c = absurd (omega (arith, one))
 staying_asked r (d ∷ []) one c = (
   λ h. elim h [
@@ -64,17 +64,17 @@ staying_asked r (d ∷ []) one c = (
 )
 staying_asked r (d ∷ e ∷ ds) one c = absurd (omega (arith, one))
 
-pub final_asked : (r : Run) (ds : List (List Formula)) → length ds ≡ 1 → (c : Cut) → SatDisjuncts r (asked form.AtEnd ds) c ↔ EachTime r.clocks (SomeTime r.clocks (SatDisjuncts r ds)) c
+pub final_asked : (r : Run) (ds : List (List Formula)) → length ds ≡ 1 → (c : Cut) → SatDisjuncts r (asked form.AtEnd ds) c ↔ AgHolds r.clocks (EfHolds r.clocks (SatDisjuncts r ds)) c
 final_asked r [] one c = absurd (omega (arith, one))
 final_asked r (d ∷ []) one c =
     let o = r.clocks in
     let D = SatDisjuncts r (d ∷ []) in
     let A = SatAll r (members d) in (
       λ h. elim h [
-        | inl s ↦ each_time_goes o (λ x. SomeTime o A x × ⊤) (SomeTime o D) (λ x k t. some_time_goes o A D (disjunct_goes r d) x t.0) c s.0
+        | inl s ↦ each_time_goes o (λ x. EfHolds o A x × ⊤) (EfHolds o D) (λ x k t. some_time_goes o A D (disjunct_goes r d) x t.0) c s.0
         | inr lacks ↦ absurd lacks
       ],
-      λ h. inl (each_time_goes o (SomeTime o D) (λ x. SomeTime o A x × ⊤) (λ x k t. (some_time_goes o D A (goes_disjunct r d) x t, tt)) c h, tt),
+      λ h. inl (each_time_goes o (EfHolds o D) (λ x. EfHolds o A x × ⊤) (λ x k t. (some_time_goes o D A (goes_disjunct r d) x t, tt)) c h, tt),
     )
 final_asked r (d ∷ e ∷ ds) one c = absurd (omega (arith, one))
 

@@ -20,7 +20,8 @@ use Rattle.question_outcome.specs.declared.outcome.PartPlace.{PartPlace}
 -- ---- what is shown against a question
 
 -- the witnesses against a question that doesn't hold: those of all parts of the first true disjunct
--- of what was asked, or, where the question asks for the truth of it, of the first false part of each
+-- of what was asked, or, where the question asks for the truth of it, of the first false part of
+-- each
 abbrev pub AreAgainst : Run → Form → List (List Formula) → List WitnessText → Type 0
 AreAgainst r form ds ws =
     MatchBool (is_turned form) (AreTextsOfTrue r 1 ds ws) (AreTextsOfFalse r 1 ds ws)

@@ -9,7 +9,7 @@ use Rattle.run_model.specs.Formula.{Formula, Temporal, Ef}
 use Rattle.run_model.specs.Meaning.{Sat}
 use Rattle.run_model.specs.Class.{SatParts, SatDisjuncts}
 use Rattle.run_model.specs.Slice.{Slice}
-use Rattle.run_model.specs.Witness.{ExistsFinally, IsCanonical}
+use Rattle.run_model.specs.Witness.{ForEf, IsCanonical}
 use Rattle.question_meaning.proofs.Operators.{reach, reached}
 use Rattle.rctl_grammar.specs.declared.tree.Operator.TheVariants as operator
 use Rattle.rctl_parts.specs.Pieces.{Piece}
@@ -31,7 +31,7 @@ use Rattle.question_outcomes.specs.inside.Telling.{IsReached, IsTold, ReachesAto
 pub record IsGiven (seen : Observed) (least : Option Cut) (n : ℕ) (text : WitnessText) : Type 0 where
   pub disjunct : text.disjunct ≡ n
   pub part : text.part ≡ 1
-  pub canonical : (s : Slice) → s.bottom ≡ least → IsCanonical (clocks_seen seen) s ExistsFinally (witness_of text.witness)
+  pub canonical : (s : Slice) → s.bottom ≡ least → IsCanonical (clocks_seen seen) s ForEf (witness_of text.witness)
 
 text_for : (seen : Observed) (ps : List Piece) (least : Option Cut) → IsBottomHolding seen ps least → (n : ℕ) (text : WitnessText) → IsGiven seen least n text
     → (reading : Reading) → AreAnswers seen reading → IsTextFor (run_seen seen reading) n 1 (Temporal Ef (conjunction_of (names_seen seen reading) ps)) text

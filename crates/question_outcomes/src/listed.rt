@@ -25,8 +25,8 @@ fn in_range(disjuncts: &[List<Part>], range: AskedRange) -> &[List<Part>]
     &disjuncts[from..to]
 }
 
-/// The outcome of each question of a list, in their order, on what was observed for the list. It may
-/// wait for threads that it joins.
+/// The outcome of each question of a list, in their order, on what was observed for the list. It
+/// may wait for threads that it joins.
 pub fn outcomes<R: Threads + Sync, G: Gate, L: Ledger>(
     rt: &R,
     alloc: Global,

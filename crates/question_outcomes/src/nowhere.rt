@@ -91,8 +91,8 @@ fn push_nowhere<L: Ledger>(
     Ok(())
 }
 
-/// The places of the parts without an operator that hold nowhere, each alone, of the parts under the
-/// operators of these disjuncts.
+/// The places of the parts without an operator that hold nowhere, each alone, of the parts under
+/// the operators of these disjuncts.
 pub fn nowhere_in<L: Ledger>(
     alloc: Global,
     seen: &Observed,

@@ -1,9 +1,9 @@
 -- The words of the forms at the front of a text.
 --
--- A word goes as far as letters, digits and `_` go. The words `never`, `can`, `always` and `surely`,
--- and the two words `at end`, are those of a form, but where a `.` or an `@` is behind the first one,
--- with blanks before it or without: then it is a process's name, with which a formula begins. No
--- formula begins with `at` in another way, so `at` has to have `end` behind it.
+-- A word goes as far as letters, digits and `_` go. The words `never`, `can`, `always` and
+-- `surely`, and the two words `at end`, are those of a form, but where a `.` or an `@` is behind
+-- the first one, with blanks before it or without: then it is a process's name, with which a
+-- formula begins. No formula begins with `at` in another way, so `at` has to have `end` behind it.
 use Rattle.std.specs.Prelude.{ℕ, ◌+◌, Bool, false, ◌||◌, ◌==◌, List, [], ◌∷◌, take, drop}
 use Rattle.std.specs.Prelude.{codes, if◌then◌else◌}
 use Rattle.std.specs.Str.{bytes_eq}

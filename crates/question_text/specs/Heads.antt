@@ -2,11 +2,12 @@
 -- ends.
 --
 -- Up to the first colon is the name, where there is a colon: a formula has none. The name goes from
--- its first byte that is no blank to its last one. It may not be what a form begins with and nothing
--- behind it, nor begin with the word `for`: who writes so means no name.
+-- its first byte that is no blank to its last one. It may not be what a form begins with and
+-- nothing behind it, nor begin with the word `for`: who writes so means no name.
 use Rattle.std.specs.Prelude.{ℕ, ◌+◌, Bool, false, ◌||◌, ◌==◌, nat_lt, List, take, drop, length}
 use Rattle.std.specs.Prelude.{Option, None, Some, Result, Ok, Err, codes, if◌then◌else◌}
 use Rattle.std.specs.Str.{bytes_eq}
+use Rattle.pota_base.specs.Limits.{longest_question}
 use Rattle.question_text.specs.Bytes.{is_blank, is_no_colon, is_title_byte, run_of, end_of_words}
 use Rattle.question_text.specs.Forms.{first_word, front_of}
 use Rattle.question_text.specs.declared.front.Asking.TheVariants as asking
@@ -77,6 +78,7 @@ with_name (Err fault) at text = Err fault
 -- then that of the form, each where it is
 unfoldable pub head_of : List ℕ → Result Head HeadFault
 head_of text =
-    if nat_lt 8192 (length text) then Err (fault_at code.TooLong 8192)
+    if nat_lt longest_question (length text) then Err (fault_at code.TooLong longest_question)
     else if run_of is_no_colon text == length text then form_head None 0 text
-    else with_name (name_of (take (run_of is_no_colon text) text)) (run_of is_no_colon text + 1) text
+    else with_name (name_of (take (run_of is_no_colon text) text)) (run_of is_no_colon text + 1)
+    text

@@ -17,7 +17,11 @@ nameless asking formula = Ok (record { name = None; asking = asking; formula = f
 -- one with a name
 abbrev named : ℕ → ℕ → Asking → ℕ → Result Head HeadFault
 named from to asking formula =
-    Ok (record { name = Some (record { from = from; to = to }); asking = asking; formula = formula })
+    Ok (record {
+      name = Some (record { from = from; to = to });
+      asking = asking;
+      formula = formula;
+    })
 
 -- a text with that fault
 abbrev refused : HeadCode → ℕ → Result Head HeadFault

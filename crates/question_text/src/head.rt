@@ -2,13 +2,12 @@
 ghost use Rattle.question_text.specs.Heads.{form_head, head_of, headed, fault_at};
 ghost use Rattle.question_text.specs.inside.Fronts.{IsWithin};
 ghost use Rattle.std.specs.Prelude.{◌≡◌, ◌-◌, ◌≤◌, ℕ, length, IfOk};
+ghost use Rattle.pota_base.specs.Limits.{longest_question};
 
 use crate::bytes::{Class, run_of};
 use crate::front::{Asking, Front, front_of};
 use crate::name::name_of;
-
-/// The most bytes of a question.
-pub const LONGEST_QUESTION: usize = 8192;
+pub use pota_base::LONGEST_QUESTION;
 
 /// Bytes of a text: from the first one on, up to the one before `to`.
 #[derive(Clone, Copy, Debug, PartialEq, Eq)]
@@ -52,7 +51,7 @@ pub struct HeadFault {
 
 /// The fault of this code at this place.
 pub fn fault(code: HeadCode, place: usize) -> HeadFault
-    requires { place ≤ 8192 }
+    requires { place ≤ longest_question }
     ensures { result ≡ fault_at code place }
 {
     HeadFault {
@@ -63,8 +62,8 @@ pub fn fault(code: HeadCode, place: usize) -> HeadFault
 
 // The head with this name, whose front is at this byte.
 fn headed(name: Option<Span>, from: usize, front: Front) -> Result<Head, HeadFault>
-    requires here { from ≤ 8192 }
-    requires within { IsWithin (8192 - from) front }
+    requires here { from ≤ longest_question }
+    requires within { IsWithin (longest_question - from) front }
     ensures head { result ≡ headed name from front }
     ensures within { (len : ℕ) → from ≤ len → IsWithin (len - from) front
         → IfOk result (λ head. head.formula ≤ len) }
@@ -86,7 +85,7 @@ fn headed(name: Option<Span>, from: usize, front: Front) -> Result<Head, HeadFau
 
 // The head with this name, whose form is looked for from a byte on.
 fn form_head(name: Option<Span>, at: usize, text: &[u8]) -> Result<Head, HeadFault>
-    requires short { length text.now ≤ 8192 }
+    requires short { length text.now ≤ longest_question }
     requires within { at ≤ length text.now }
     ensures head { result ≡ form_head name at text.now }
     ensures within { IfOk result (λ head. head.formula ≤ length text.now) }

@@ -1,6 +1,7 @@
 //! The name of a question.
 ghost use Rattle.question_text.specs.Heads.{is_form, is_taken, name_of};
 ghost use Rattle.std.specs.Prelude.{◌≡◌, ◌≤◌, length};
+ghost use Rattle.pota_base.specs.Limits.{longest_question};
 
 use crate::bytes::{Class, end_of_words, run_of};
 use crate::front::{Front, front_of};
@@ -28,7 +29,7 @@ fn is_taken(title: &[u8]) -> bool
 /// Where the name is in the bytes before the colon.
 #[tactic(auto, unfolding(crate::specs::Heads::name_of))]
 pub fn name_of(before: &[u8]) -> Result<Span, HeadFault>
-    requires { length before.now ≤ 8192 }
+    requires { length before.now ≤ longest_question }
     ensures { result ≡ name_of before.now }
 {
     let from = run_of(Class::Blank, before);

@@ -1,11 +1,12 @@
-ghost use Rattle.std.specs.Prelude.{◌≡◌, ℕ, ◌<◌, ◌≤◌, List, length, sum, slice_index};
+ghost use Rattle.std.specs.Prelude.{◌≡◌, ℕ, ◌≤◌, List, sum};
 ghost use Rattle.pull_system.specs.Vector.{IsAtMost};
 ghost use Rattle.pull_system.specs.System.{SystemView, IsSystem, IsClosed};
 ghost use Rattle.pull_system.specs.Rows.{RowsView, AreLeastRows, IsLeast};
 ghost use Rattle.pull_system.specs.Growth.{Grows, grown_words};
 ghost use Rattle.raise_machine.specs.declared.step.Step.{Step};
-ghost use Rattle.raise_machine.specs.Bounds.{AreBounds, word_at};
+ghost use Rattle.raise_machine.specs.Bounds.{AreBounds};
 ghost use Rattle.raise_machine.specs.Machine.{words_at, IsSeen};
+ghost use Rattle.raise_machine.specs.Laws.{ClosedRowsStay};
 
 /// Over every list of steps: no word falls and none passes the least; and a row that is seen
 /// closed, each word at a moment of its own, is the least closed vector, and the words are that
@@ -20,12 +21,7 @@ pub fn runs()
         (moments : ℕ → ℕ) (v : List ℕ) → row ≤ sum system.lens → IsSystem system
         → AreBounds system words → IsSeen system words steps row moments v → IsClosed system v
         → IsLeast system row v }
-    ensures stays { (system : SystemView) (words : List ℕ) (steps : List Step) (row : ℕ)
-        (moments : ℕ → ℕ) (v : List ℕ) → row ≤ sum system.lens → IsSystem system
-        → AreBounds system words → IsSeen system words steps row moments v → IsClosed system v
-        → (n : ℕ) → ((process : ℕ) → process < length system.lens → moments process ≤ n)
-        → (process : ℕ) → process < length system.lens
-        → word_at system.lens (words_at system words steps n) row process ≡ slice_index v process }
+    ensures stays { ClosedRowsStay }
 {}
 
 /// A table may begin from the rows of an earlier system that has grown into this one: its least

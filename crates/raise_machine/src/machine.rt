@@ -1,3 +1,4 @@
+ghost use Rattle.pota_base.specs.Blanks.{IsBlankOf};
 ghost use Rattle.std.specs.Prelude.{◌≡◌, ◌+◌, ◌<◌, ◌≤◌, true, length, sum, slice_index, IfOk};
 ghost use Rattle.pull_system.specs.System.{SystemView, ask, pull_at};
 ghost use Rattle.raise_machine.specs.Bounds.{AreBounds, word_at, has_start};
@@ -168,9 +169,7 @@ impl Machine {
 
 /// One entry of a pull's table, looked up on a counter that nobody reads.
 fn entry<L: Ledger>(blank: Blank, system: &System, k: u32, x: u64) -> u64
-    requires name { blank.name ≡ L.name }
-    requires parts { blank.parts ≡ L.parts }
-    requires some { 0 < blank.parts }
+    requires blank { IsBlankOf L.name L.parts blank }
     requires pull { k < length system.now.pulls }
     requires entry { x < length (pull_at system.now k).table }
     ensures { result ≡ ask system.now k x }

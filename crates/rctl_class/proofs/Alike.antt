@@ -10,7 +10,7 @@ use Rattle.run_model.specs.Formula as model
 use Rattle.run_model.specs.Formula.{Formula, Formulas}
 use Rattle.run_model.specs.Consistent.{IsOrder, IsConsistent, PathIn}
 use Rattle.run_model.specs.Sublattice.{AllIn}
-use Rattle.run_model.specs.Operators.{SomeTime, EachTime, Staying, NextTime}
+use Rattle.run_model.specs.Operators.{EfHolds, AgHolds, EgHolds, ExHolds}
 use Rattle.run_model.specs.Meaning.{Sat, SatAll}
 use Rattle.run_model.specs.Class as class
 use Rattle.run_model.specs.Class.{is_plain, all_plain, processes, all_processes, is_local, after_sign, channel_parts, parts, all_parts, difference_parts, are_bounded, is_unequal, disjuncts, all_disjuncts, SatParts, SatDisjuncts}
@@ -99,13 +99,13 @@ all_along : (A B C : Cut → Type 0) → ((c : Cut) → C c → A c → B c) →
 all_along A B C wider c [] d path all = wider c path.0 all
 all_along A B C wider c (e ∷ es) d path all = (wider c path.0 all.0, all_along A B C wider e es d path.2 all.1)
 
-some_time_too : (o : Clocks) (A B : Cut → Type 0) → ((c : Cut) → IsConsistent o c → A c → B c) → (c : Cut) → SomeTime o A c → SomeTime o B c
+some_time_too : (o : Clocks) (A B : Cut → Type 0) → ((c : Cut) → IsConsistent o c → A c → B c) → (c : Cut) → EfHolds o A c → EfHolds o B c
 some_time_too o A B wider c h = (h.0, h.1, h.2, wider h.1 (path_last (IsConsistent o) c h.0 h.1 h.2) h.3)
 
-each_time_too : (o : Clocks) (A B : Cut → Type 0) → ((c : Cut) → IsConsistent o c → A c → B c) → (c : Cut) → EachTime o A c → EachTime o B c
+each_time_too : (o : Clocks) (A B : Cut → Type 0) → ((c : Cut) → IsConsistent o c → A c → B c) → (c : Cut) → AgHolds o A c → AgHolds o B c
 each_time_too o A B wider c h = λ es d path. all_along A B (IsConsistent o) wider c es d path (h es d path)
 
-staying_too : (o : Clocks) (A B : Cut → Type 0) → ((c : Cut) → IsConsistent o c → A c → B c) → (c : Cut) → Staying o A c → Staying o B c
+staying_too : (o : Clocks) (A B : Cut → Type 0) → ((c : Cut) → IsConsistent o c → A c → B c) → (c : Cut) → EgHolds o A c → EgHolds o B c
 staying_too o A B wider c h = (h.0, h.1, all_along A B (IsConsistent o) wider c h.0 _ h.1 h.2)
 
 operated_alike : (o : Operator) (f g : Formula) → MeanTheSame f g → MeanTheSame (model.Temporal (model_operator o) f) (model.Temporal (model_operator o) g)
@@ -116,7 +116,7 @@ operated_alike (operator.Ex process) f g same r order c k = (λ h. h, λ h. h)
 operated_alike operator.Af f g same r order c k = (λ h. h, λ h. h)
 operated_alike operator.Ax f g same r order c k = (λ h. h, λ h. h)
 
-next_too : (o : Clocks) (i : ℕ) (A B : Cut → Type 0) → ((c : Cut) → IsConsistent o c → A c → B c) → (c : Cut) → NextTime o i A c → NextTime o i B c
+next_too : (o : Clocks) (i : ℕ) (A B : Cut → Type 0) → ((c : Cut) → IsConsistent o c → A c → B c) → (c : Cut) → ExHolds o i A c → ExHolds o i B c
 next_too o i A B wider c h = (h.0, h.1, wider (with_next c i) (path_last (IsConsistent o) c (with_next c i ∷ []) (with_next c i) h.1) h.2)
 
 stepped_alike : (process : Name) (f g : Formula) → MeanTheSame f g → MeanTheSame (model.Next process f) (model.Next process g)

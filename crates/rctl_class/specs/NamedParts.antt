@@ -5,6 +5,7 @@ use Rattle.std.specs.Prelude.{bytes_eq}
 use Rattle.run_model.specs.Run.{Name}
 use Rattle.run_model.specs.Formula as model
 use Rattle.run_model.specs.Class.{is_analysed}
+use Rattle.pota_base.specs.Limits.{most_disjuncts, most_parts}
 use Rattle.rctl_grammar.specs.declared.tree.Compare.{Compare}
 use Rattle.rctl_grammar.specs.declared.tree.Operator.{Operator}
 use Rattle.rctl_grammar.specs.declared.tree.Place.{Place}
@@ -292,5 +293,5 @@ disjuncts_count (d ∷ ds) = parts_count d + disjuncts_count ds
 pub record AreDisjuncts (ds : List (List NamedPiece)) : Type 0 where
   pub fit : AllFit ds
   pub some : 1 ≤ length ds
-  pub few : length ds ≤ 64
-  pub parts : disjuncts_count ds ≤ 128
+  pub few : length ds ≤ most_disjuncts
+  pub parts : disjuncts_count ds ≤ most_parts

@@ -4,6 +4,7 @@ use Rattle.std.specs.Prelude.{◌≡◌, ℕ, ◌+◌, ◌^◌, ◌≤◌, nat_l
 use Rattle.std.specs.Prelude.{IsTrue, ℤ, pos, neg_ℤ, int_le, int_lt}
 use Rattle.run_model.specs.Formula as model
 use Rattle.run_model.specs.Class.{is_wide}
+use Rattle.pota_base.specs.Limits.{most_nodes}
 use Rattle.rctl_grammar.specs.declared.tree.Operator.{Operator}
 use Rattle.rctl_grammar.specs.declared.tree.Place.{Place}
 use Rattle.rctl_grammar.specs.declared.tree.Atom.{Atom}
@@ -116,4 +117,4 @@ abbrev mutual
 pub record IsWithinLimits (n : Node) : Type 0 where
   pub counts : counts_fit n ≡ true
   pub wide : IsTrue (is_wide (formula_of n))
-  pub few : node_count n ≤ 64
+  pub few : node_count n ≤ most_nodes

@@ -81,12 +81,11 @@ fn judge_difference(
     compare: Compare,
     at: u32,
 ) -> Result<Compare, Stop>
-    ensures { MatchResult result
-        (λ turned. (are_bounded sign left_process.now.name right_process.now.name
-        (relation_of compare) ≡ true)
-        × (relation_of turned ≡ turned_by sign (relation_of compare)))
-        (λ stop. Faults stop (λ f. (are_bounded sign left_process.now.name right_process.now.name
-        (relation_of compare) ≡ false) × (f ≡ record { code = NotRegular; place = at }))) }
+    ensures { MatchResult result (λ turned. (are_bounded sign left_process.now.name
+        right_process.now.name (relation_of compare) ≡ true)
+        × (relation_of turned ≡ turned_by sign (relation_of compare))) (λ stop. Faults stop (λ f.
+        (are_bounded sign left_process.now.name right_process.now.name (relation_of compare)
+        ≡ false) × (f ≡ record { code = NotRegular; place = at }))) }
 {
     if left_process.name.as_bytes() == right_process.name.as_bytes() {
         return Err(fault(FormulaCode::NotRegular, at));
@@ -134,12 +133,10 @@ fn conjunctions(
     members: &[Tree],
     parts: &mut List<NamedPart>,
 ) -> Result<(), Stop>
-    ensures { MatchResult result
-        (λ _. (first_of true sign (nodes_of (map node_of members.now)) ≡ None)
-        × (pieces_of parts.new
-        ≡ pieces_of parts.old ++ all_parts sign (nodes_of (map node_of members.now))))
-        (λ stop. Faults stop
-        (λ f. first_of true sign (nodes_of (map node_of members.now)) ≡ Some f)) }
+    ensures { MatchResult result (λ _.
+        (first_of true sign (nodes_of (map node_of members.now)) ≡ None) × (pieces_of parts.new
+        ≡ pieces_of parts.old ++ all_parts sign (nodes_of (map node_of members.now)))) (λ stop.
+        Faults stop (λ f. first_of true sign (nodes_of (map node_of members.now)) ≡ Some f)) }
 {
     'members: for member in members {
         conjunction(alloc, sign, member, parts)?;
@@ -239,12 +236,11 @@ fn disjunctions(
     members: &[Tree],
     disjuncts: &mut List<List<NamedPart>>,
 ) -> Result<(), Stop>
-    ensures { MatchResult result
-        (λ _. (first_of false sign (nodes_of (map node_of members.now)) ≡ None)
-        × (disjuncts_of disjuncts.new ≡ disjuncts_of disjuncts.old
-        ++ all_disjuncts sign (nodes_of (map node_of members.now))))
-        (λ stop. Faults stop
-        (λ f. first_of false sign (nodes_of (map node_of members.now)) ≡ Some f)) }
+    ensures { MatchResult result (λ _.
+        (first_of false sign (nodes_of (map node_of members.now)) ≡ None) × (disjuncts_of
+        disjuncts.new ≡ disjuncts_of disjuncts.old ++ all_disjuncts sign
+        (nodes_of (map node_of members.now)))) (λ stop. Faults stop (λ f. first_of false sign
+        (nodes_of (map node_of members.now)) ≡ Some f)) }
 {
     'members: for member in members {
         disjunction(alloc, sign, member, disjuncts)?;

@@ -1,6 +1,7 @@
 -- The first fault of a text, over its tokens: the limits laid over the reading from left to right.
 use Rattle.std.specs.Prelude.{ℕ, zero, suc, Bool, true, false, ◌+◌, nat_lt, List, [], ◌∷◌, Option}
 use Rattle.std.specs.Prelude.{None, Some, if◌then◌else◌}
+use Rattle.pota_names.specs.PassedOn.{deepest, most_nodes}
 use Rattle.rctl_grammar.specs.declared.token.Kind.{Kind}
 use Rattle.rctl_grammar.specs.declared.token.Kind.TheVariants as kind
 use Rattle.rctl_grammar.specs.declared.token.Word.{Word}
@@ -62,12 +63,6 @@ abbrev mutual
 
 -- ---- what a token breaks
 
-abbrev pub MOST_LEVELS : ℕ
-MOST_LEVELS = 16
-
-abbrev pub MOST_NODES : ℕ
-MOST_NODES = 64
-
 abbrev pub syntax_at : ℕ → FormulaFault
 syntax_at at = record { code = code.Syntax; place = at }
 
@@ -90,11 +85,11 @@ either (Some fault) second = Some fault
 
 -- a token opens a level inside `levels` others
 abbrev pub level_opens : ℕ → ℕ → Option FormulaFault
-level_opens levels at = if nat_lt levels MOST_LEVELS then None else Some (too_deep_at at)
+level_opens levels at = if nat_lt levels deepest then None else Some (too_deep_at at)
 
 -- a token is the place of a node behind `nodes` others
 abbrev pub node_stands : ℕ → ℕ → Option FormulaFault
-node_stands nodes at = if nat_lt nodes MOST_NODES then None else Some (too_many_at at)
+node_stands nodes at = if nat_lt nodes most_nodes then None else Some (too_many_at at)
 
 -- whether a word that is no name opens a level
 abbrev pub is_operator : Word → Bool

@@ -67,7 +67,8 @@ pub enum Atom {
 }
 
 /// The operators of one operand: possibly or always, on some path or on all, and behind the next
-/// event of the process of that number. A tree names that process, in its `Next`, and never has `Ex`.
+/// event of the process of that number. A tree names that process, in its `Next`, and never has
+/// `Ex`.
 #[derive(Clone, Copy, Debug, PartialEq, Eq)]
 pub enum Operator {
     Ef,

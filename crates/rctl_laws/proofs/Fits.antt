@@ -11,6 +11,7 @@ use Rattle.rctl_grammar.specs.declared.token.Word.{Word}
 use Rattle.rctl_grammar.specs.declared.token.Word.TheVariants as word
 use Rattle.rctl_grammar.specs.declared.token.Token.{Token}
 use Rattle.run_model.specs.Formula as model
+use Rattle.pota_base.specs.Limits.{deepest, most_nodes}
 use Rattle.rctl_grammar.specs.declared.fault.FormulaFault.{FormulaFault}
 use Rattle.rctl_grammar.specs.Grammar.{Spelled, number, variable, constant, comparison, watch, transit, emptiness, difference, Disjunction, one_conjunction, or, Conjunction, one_unary, and, Unary, leaf, negation, temporal, stepping, group, until, levels_disjunction, levels_conjunction, levels_unary, nodes_disjunction, nodes_conjunction, nodes_unary, in_range, counts, disjunction_in_range, conjunction_in_range, unary_in_range}
 use Rattle.rctl_grammar.specs.Machine.{ChannelWord, of_transit, of_emptiness, Front, process_dot, left_side, compared, right_process, right_dot, process_at, channel_word, channel_opened, channel_sender, channel_comma, channel_receiver, transit_channel, transit_compared, subtracting, subtracted_process, subtracted_dot, both_sides, difference_compared, Before, nothing, bar, Outer, top, in_group, in_left, in_right, Open, first_of, next_of, in_negation, in_temporal, in_stepping, State, operand, a_word, in_leaf, a_path, a_stepping, after, joined, plug, settled, step, step_kind, step_now, step_close, no_sign, following}
@@ -21,52 +22,52 @@ use Rattle.rctl_laws.proofs.Scan.{and_on, step_limited, scan}
 
 -- a disjunction inside so many levels
 abbrev pub FitsIn : ℕ → Disjunction → Type 0
-FitsIn levels d = (levels + levels_disjunction d ≤ 16) × (disjunction_in_range d ≡ true)
+FitsIn levels d = (levels + levels_disjunction d ≤ deepest) × (disjunction_in_range d ≡ true)
 
 abbrev pub FitsBefore : ℕ → Before → Type 0
 FitsBefore levels nothing = Unit {0}
 FitsBefore levels (bar d at) = FitsIn levels d
 
 abbrev pub FitsConjunction : ℕ → Conjunction → Type 0
-FitsConjunction levels c = (levels + levels_conjunction c ≤ 16) × (conjunction_in_range c ≡ true)
+FitsConjunction levels c = (levels + levels_conjunction c ≤ deepest) × (conjunction_in_range c ≡ true)
 
 abbrev mutual
   pub FitsOuter : Outer → Type 0
   FitsOuter top = Unit {0}
-  FitsOuter (in_group o opened) = FitsOpen o × (depth o < 16)
-  FitsOuter (in_left o path) = FitsOpen o × (depth o < 16)
+  FitsOuter (in_group o opened) = FitsOpen o × (depth o < deepest)
+  FitsOuter (in_left o path) = FitsOpen o × (depth o < deepest)
   FitsOuter (in_right o path left name at) = FitsOpen o × FitsIn (depth o + 1) left
 
   pub FitsOpen : Open → Type 0
   FitsOpen (first_of outer before) = FitsOuter outer × FitsBefore (depth_outer outer) before
   FitsOpen (next_of outer before c at) = FitsOuter outer × FitsBefore (depth_outer outer) before × FitsConjunction (depth_outer outer) c
-  FitsOpen (in_negation o at) = FitsOpen o × (depth o < 16)
-  FitsOpen (in_temporal o op name at) = FitsOpen o × (depth o < 16)
-  FitsOpen (in_stepping o name at process) = FitsOpen o × (depth o < 16)
+  FitsOpen (in_negation o at) = FitsOpen o × (depth o < deepest)
+  FitsOpen (in_temporal o op name at) = FitsOpen o × (depth o < deepest)
+  FitsOpen (in_stepping o name at process) = FitsOpen o × (depth o < deepest)
 
 abbrev pub Fits : State → Type 0
-Fits (operand o) = FitsOpen o × (nodes_open o ≤ 64)
-Fits (a_word o w) = FitsOpen o × (nodes_open o ≤ 64)
-Fits (in_leaf o front) = FitsOpen o × (nodes_open o < 64)
-Fits (a_path o all name at) = FitsOpen o × (nodes_open o < 64)
-Fits (a_stepping o name at) = FitsOpen o × (depth o < 16) × (nodes_open o < 64)
+Fits (operand o) = FitsOpen o × (nodes_open o ≤ most_nodes)
+Fits (a_word o w) = FitsOpen o × (nodes_open o ≤ most_nodes)
+Fits (in_leaf o front) = FitsOpen o × (nodes_open o < most_nodes)
+Fits (a_path o all name at) = FitsOpen o × (nodes_open o < most_nodes)
+Fits (a_stepping o name at) = FitsOpen o × (depth o < deepest) × (nodes_open o < most_nodes)
 Fits (after outer before c) =
-    FitsOuter outer × FitsBefore (depth_outer outer) before × FitsConjunction (depth_outer outer) c × (nodes_outer outer + nodes_before before + nodes_conjunction c ≤ 64)
+    FitsOuter outer × FitsBefore (depth_outer outer) before × FitsConjunction (depth_outer outer) c × (nodes_outer outer + nodes_before before + nodes_conjunction c ≤ most_nodes)
 
-outer-depth : (outer : Outer) → FitsOuter outer → depth_outer outer ≤ 16
+outer-depth : (outer : Outer) → FitsOuter outer → depth_outer outer ≤ deepest
 outer-depth top h = omega arith
 outer-depth (in_group o opened) h = omega (arith, h.1)
 outer-depth (in_left o path) h = omega (arith, h.1)
 outer-depth (in_right o path left name at) h = omega (arith, h.1.0)
 
-open-depth : (o : Open) → FitsOpen o → depth o ≤ 16
+open-depth : (o : Open) → FitsOpen o → depth o ≤ deepest
 open-depth (first_of outer before) h = outer-depth outer h.0
 open-depth (next_of outer before c at) h = outer-depth outer h.0
 open-depth (in_negation o at) h = omega (arith, h.1)
 open-depth (in_temporal o op name at) h = omega (arith, h.1)
 open-depth (in_stepping o name at process) h = omega (arith, h.1)
 
-plug-fits : (o : Open) (u : Unary) → FitsOpen o → depth o + levels_unary u ≤ 16 → unary_in_range u ≡ true → nodes_open o + nodes_unary u ≤ 64 → Fits (plug o u)
+plug-fits : (o : Open) (u : Unary) → FitsOpen o → depth o + levels_unary u ≤ deepest → unary_in_range u ≡ true → nodes_open o + nodes_unary u ≤ most_nodes → Fits (plug o u)
 plug-fits (first_of outer before) u h levels range nodes = (h.0, h.1, (levels, range), nodes)
 plug-fits (next_of outer before c at) u h levels range nodes =
     (h.0, h.1, (omega (arith, h.2.0), and_from (conjunction_in_range c) (unary_in_range u) h.2.1 range), omega arith)
@@ -86,16 +87,16 @@ next-none None h = tt
 next-none (Some s) h = h s refl
 
 -- a level opens, or a node stands, where there is room
-if-level : (levels here : ℕ) (next : Option State) → (levels < 16 → Next None next) → Next (level_opens levels here) next
-if-level levels here next h = cond_both (nat_lt levels 16) None (Some (too_deep_at here)) (λ b. Next b next) (λ e. h (ltb-true levels 16 e)) (λ e. tt)
+if-level : (levels here : ℕ) (next : Option State) → (levels < deepest → Next None next) → Next (level_opens levels here) next
+if-level levels here next h = cond_both (nat_lt levels deepest) None (Some (too_deep_at here)) (λ b. Next b next) (λ e. h (ltb-true levels deepest e)) (λ e. tt)
 
-if-node : (nodes here : ℕ) (next : Option State) → (nodes < 64 → Next None next) → Next (node_stands nodes here) next
-if-node nodes here next h = cond_both (nat_lt nodes 64) None (Some (too_many_at here)) (λ b. Next b next) (λ e. h (ltb-true nodes 64 e)) (λ e. tt)
+if-node : (nodes here : ℕ) (next : Option State) → (nodes < most_nodes → Next None next) → Next (node_stands nodes here) next
+if-node nodes here next h = cond_both (nat_lt nodes most_nodes) None (Some (too_many_at here)) (λ b. Next b next) (λ e. h (ltb-true nodes most_nodes e)) (λ e. tt)
 
-if-both : (levels nodes here : ℕ) (next : Option State) → (levels < 16 → nodes < 64 → Next None next) → Next (either (level_opens levels here) (node_stands nodes here)) next
+if-both : (levels nodes here : ℕ) (next : Option State) → (levels < deepest → nodes < most_nodes → Next None next) → Next (either (level_opens levels here) (node_stands nodes here)) next
 if-both levels nodes here next h =
-    cond_both (nat_lt levels 16) None (Some (too_deep_at here)) (λ b. Next (either b (node_stands nodes here)) next)
-    (λ e. if-node nodes here next (h (ltb-true levels 16 e))) (λ e. tt)
+    cond_both (nat_lt levels deepest) None (Some (too_deep_at here)) (λ b. Next (either b (node_stands nodes here)) next)
+    (λ e. if-node nodes here next (h (ltb-true levels deepest e))) (λ e. tt)
 
 fits-operand : (o : Open) (k : Kind) (here : ℕ) → Fits (operand o) → Next (operand_limit o k here) (step_now (operand o) k here)
 fits-operand o kind.Bang here h = if-both (depth o) (nodes_open o) here (Some (operand (in_negation o here))) (λ shallow room. ((h.0, shallow), omega arith))
@@ -103,15 +104,15 @@ fits-operand o kind.OpenRound here h = if-level (depth o) here (Some (operand (f
 fits-operand o (kind.Word w name) here h = h
 fits-operand o k here h = tt
 
-leaf-range : (o : Open) (here : ℕ) (is_in_range : Bool) (u : Unary) → unary_in_range u ≡ is_in_range → FitsOpen o → levels_unary u ≡ 0 → nodes_unary u ≡ 1 → nodes_open o < 64
+leaf-range : (o : Open) (here : ℕ) (is_in_range : Bool) (u : Unary) → unary_in_range u ≡ is_in_range → FitsOpen o → levels_unary u ≡ 0 → nodes_unary u ≡ 1 → nodes_open o < most_nodes
     → Next (if is_in_range then None else Some (number_at here)) (Some (plug o u))
 leaf-range o here true u range h flat one room = plug-fits o u h (let d = open-depth o h in omega arith) range (omega arith)
 leaf-range o here false u range h flat one room = tt
 
-leaf-whole : (o : Open) (u : Unary) → unary_in_range u ≡ true → FitsOpen o → levels_unary u ≡ 0 → nodes_unary u ≡ 1 → nodes_open o < 64 → Fits (plug o u)
+leaf-whole : (o : Open) (u : Unary) → unary_in_range u ≡ true → FitsOpen o → levels_unary u ≡ 0 → nodes_unary u ≡ 1 → nodes_open o < most_nodes → Fits (plug o u)
 leaf-whole o u range h flat one room = plug-fits o u h (let d = open-depth o h in omega arith) range (omega arith)
 
-fits-channel : (o : Open) (w : ChannelWord) (name : Name) (at opened : ℕ) (sender : Spelled) (comma : ℕ) (receiver : Spelled) (here : ℕ) → FitsOpen o → nodes_open o < 64
+fits-channel : (o : Open) (w : ChannelWord) (name : Name) (at opened : ℕ) (sender : Spelled) (comma : ℕ) (receiver : Spelled) (here : ℕ) → FitsOpen o → nodes_open o < most_nodes
     → Next None (step_now (in_leaf o (channel_receiver w name at opened sender comma receiver)) kind.CloseRound here)
 fits-channel o of_transit name at opened sender comma receiver here h room = (h, room)
 fits-channel o of_emptiness name at opened sender comma receiver here h room =
@@ -168,7 +169,7 @@ fits-stepping : (o : Open) (name : Name) (at : ℕ) (k : Kind) (here : ℕ) → 
 fits-stepping o name at (kind.Word w process) here h = ((h.0, h.1), omega (arith, h.2))
 fits-stepping o name at k here h = tt
 
-fits-close : (outer : Outer) (d : Disjunction) (k : Kind) (here : ℕ) → FitsOuter outer → FitsIn (depth_outer outer) d → nodes_outer outer + nodes_disjunction d ≤ 64 → Next None (step_close outer d k here)
+fits-close : (outer : Outer) (d : Disjunction) (k : Kind) (here : ℕ) → FitsOuter outer → FitsIn (depth_outer outer) d → nodes_outer outer + nodes_disjunction d ≤ most_nodes → Next None (step_close outer d k here)
 fits-close top d k here h fits nodes = tt
 fits-close (in_group o opened) d kind.CloseRound here h fits nodes = plug-fits o (group opened d here) h.0 (omega (arith, fits.0)) fits.1 nodes
 fits-close (in_group o opened) d k here h fits nodes = tt
@@ -207,11 +208,11 @@ pub either_none : (a b : Option FormulaFault) → either a b ≡ None → (a ≡
 either_none None b e = (refl, e)
 either_none (Some fault) b e = absurd cc
 
-node-room : (nodes here : ℕ) → node_stands nodes here ≡ None → nodes < 64
-node-room nodes here = cond_both (nat_lt nodes 64) None (Some (too_many_at here)) (λ b. b ≡ None → nodes < 64) (λ e h. ltb-true nodes 64 e) (λ e h. absurd cc)
+node-room : (nodes here : ℕ) → node_stands nodes here ≡ None → nodes < most_nodes
+node-room nodes here = cond_both (nat_lt nodes most_nodes) None (Some (too_many_at here)) (λ b. b ≡ None → nodes < most_nodes) (λ e h. ltb-true nodes most_nodes e) (λ e h. absurd cc)
 
-level-room : (levels here : ℕ) → level_opens levels here ≡ None → levels < 16
-level-room levels here = cond_both (nat_lt levels 16) None (Some (too_deep_at here)) (λ b. b ≡ None → levels < 16) (λ e h. ltb-true levels 16 e) (λ e h. absurd cc)
+level-room : (levels here : ℕ) → level_opens levels here ≡ None → levels < deepest
+level-room levels here = cond_both (nat_lt levels deepest) None (Some (too_deep_at here)) (λ b. b ≡ None → levels < deepest) (λ e h. ltb-true levels deepest e) (λ e h. absurd cc)
 
 word-operator : (o : Open) (op : model.Operator) (name : Name) (at : ℕ) (s : State) → Some (operand (in_temporal o op name at)) ≡ Some s → FitsOpen o
     → either (level_opens (depth o) at) (node_stands (nodes_open o) at) ≡ None → Fits s
@@ -250,7 +251,7 @@ word-next o w k here h None free (Some s) e = fits-now s k here (settled_fits o 
 
 named-next : (o : Open) (at : ℕ) (front : Front) → Fits (operand o) → Next (either (node_stands (nodes_open o) at) None) (Some (in_leaf o front))
 named-next o at front h =
-    cond_both (nat_lt (nodes_open o) 64) None (Some (too_many_at at)) (λ b. Next (either b None) (Some (in_leaf o front))) (λ e. (h.0, ltb-true (nodes_open o) 64 e)) (λ e. tt)
+    cond_both (nat_lt (nodes_open o) most_nodes) None (Some (too_many_at at)) (λ b. Next (either b None) (Some (in_leaf o front))) (λ e. (h.0, ltb-true (nodes_open o) most_nodes e)) (λ e. tt)
 
 fits-word : (o : Open) (w : Spelled) (k : Kind) (here : ℕ) → Fits (a_word o w) → Next (limit (a_word o w) k here) (step_kind (a_word o w) k here)
 fits-word o w kind.Dot here h = named-next o w.at (process_dot w here) h

@@ -3,6 +3,7 @@ use Rattle.std.specs.Prelude.{ℕ, ◌+◌, ◌≤◌, true, List, Option, None,
 use Rattle.std.proofs.Common.{◌≡◌, refl, sym, ◌∙◌, subst, arith}
 use Rattle.std.proofs.lemmas.Option.{same_Some}
 use Rattle.std.proofs.lemmas.Bool.{cond_both}
+use Rattle.pota_base.specs.Limits.{most_nodes}
 use Rattle.rctl_grammar.specs.declared.token.Token.{Token}
 use Rattle.rctl_grammar.specs.declared.token.End.{End}
 use Rattle.rctl_grammar.specs.declared.token.End.TheVariants as end
@@ -22,7 +23,7 @@ joined-nodes : (before : Before) (c : Conjunction) → nodes_disjunction (joined
 joined-nodes nothing c = omega arith
 joined-nodes (bar d at) c = refl
 
-joined-limits : (before : Before) (c : Conjunction) → FitsBefore 0 before → FitsConjunction 0 c → nodes_before before + nodes_conjunction c ≤ 64 → IsWithinLimits (joined before c)
+joined-limits : (before : Before) (c : Conjunction) → FitsBefore 0 before → FitsConjunction 0 c → nodes_before before + nodes_conjunction c ≤ most_nodes → IsWithinLimits (joined before c)
 joined-limits before c hb hc room =
     let fits = joined_fits 0 before c hb hc in
     record { levels = omega (arith, fits.0); nodes = rw (joined-nodes before c) room; numbers = fits.1 }

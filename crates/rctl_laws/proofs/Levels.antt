@@ -4,6 +4,7 @@ use Rattle.std.proofs.Common.{◌≡◌, refl, sym, ◌∙◌, ap, subst, inl, i
 use Rattle.std.proofs.lemmas.Bool.{cond_both, le-ltb}
 use Rattle.pota_base.specs.Number.{◌>>=◌}
 use Rattle.run_model.specs.Run.{Name}
+use Rattle.pota_base.specs.Limits.{deepest, most_nodes}
 use Rattle.rctl_grammar.specs.declared.token.Kind.{Kind}
 use Rattle.rctl_grammar.specs.declared.token.Kind.TheVariants as kind
 use Rattle.rctl_grammar.specs.declared.token.Word.{Word}
@@ -162,17 +163,17 @@ word-first before rest o w ending c text rises breaks =
 
 -- ---- levels
 
-too-deep : (levels here : ℕ) → 16 ≤ levels → level_opens levels here ≡ Some (too_deep_at here)
-too-deep levels here deep = rw (le-ltb levels 16 deep) refl
+too-deep : (levels here : ℕ) → deepest ≤ levels → level_opens levels here ≡ Some (too_deep_at here)
+too-deep levels here deep = rw (le-ltb levels deepest deep) refl
 
-operator-limit : (o : Open) (w : Spelled) → is_operator w.word ≡ true → 16 ≤ depth o → word_limit o w no_sign ≡ Some (too_deep_at w.at)
-operator-limit o w is deep = rw (is, le-ltb (depth o) 16 deep) refl
+operator-limit : (o : Open) (w : Spelled) → is_operator w.word ≡ true → deepest ≤ depth o → word_limit o w no_sign ≡ Some (too_deep_at w.at)
+operator-limit o w is deep = rw (is, le-ltb (depth o) deepest deep) refl
 
 follows-none : (g : NameSign) (rest : List Token) → Follows g rest → NamesNone rest → g ≡ no_sign
 follows-none g [] h none = h
 follows-none g (t ∷ ts) h none = sym h ∙ none
 
-operator-breaks : (o : Open) (w : Spelled) (rest : List Token) → is_operator w.word ≡ true → 16 ≤ depth o → NamesNone rest → Breaks o w rest code.TooDeep
+operator-breaks : (o : Open) (w : Spelled) (rest : List Token) → is_operator w.word ≡ true → deepest ≤ depth o → NamesNone rest → Breaks o w rest code.TooDeep
 operator-breaks o w rest is deep none g h =
     (too_deep_at w.at, ap (λ (x : NameSign). word_limit o w x) (follows-none g rest h none) ∙ operator-limit o w is deep, omega arith)
 
@@ -183,14 +184,14 @@ word-here : (before rest : List Token) (t : Token) (v : Word) (name : Name) (end
 word-here before rest t v name ending c is first rises =
     along (before ++ t ∷ rest) (before ++ spelled v name t.at ∷ rest) ending c t.at t.at (ap (λ (k : Kind). before ++ tok k t.at ∷ rest) is) refl first rises
 
-deep-here : (before rest : List Token) (t : Token) (around : Open) (ending : End) → 16 ≤ depth around → ((before ≡ text_open around []) × OpensOperand t.kind rest) ⊎ OpensUntil around before t.kind
+deep-here : (before rest : List Token) (t : Token) (around : Open) (ending : End) → deepest ≤ depth around → ((before ≡ text_open around []) × OpensOperand t.kind rest) ⊎ OpensUntil around before t.kind
     → Ascend 0 (before ++ t ∷ rest) (place_of ending) → First (before ++ t ∷ rest) ending code.TooDeep t.at
 deep-here before rest t around ending deep (inl (text, inl is)) rises =
     token-first before rest t ending code.TooDeep rises (λ s e waits. stops-later code.TooDeep s t (too_deep_at t.at) waits
-    (later-open t.kind t.at (ap sign is) around s (reached-from before (text_open around []) s text e) ∙ rw (is, le-ltb (depth around) 16 deep) refl) (omega arith))
+    (later-open t.kind t.at (ap sign is) around s (reached-from before (text_open around []) s text e) ∙ rw (is, le-ltb (depth around) deepest deep) refl) (omega arith))
 deep-here before rest t around ending deep (inl (text, inr (inl is))) rises =
     token-first before rest t ending code.TooDeep rises (λ s e waits. stops-later code.TooDeep s t (too_deep_at t.at) waits
-    (later-open t.kind t.at (ap sign is) around s (reached-from before (text_open around []) s text e) ∙ rw (is, le-ltb (depth around) 16 deep) refl) (omega arith))
+    (later-open t.kind t.at (ap sign is) around s (reached-from before (text_open around []) s text e) ∙ rw (is, le-ltb (depth around) deepest deep) refl) (omega arith))
 deep-here before rest t around ending deep (inl (text, inr (inr (v, name, is, operates, none)))) rises =
     let w : Spelled = record { word = v; name = name; at = t.at } in
     word-here before rest t v name ending code.TooDeep is (λ h. word-first before rest around w ending code.TooDeep text h (operator-breaks around w rest operates deep none)) rises
@@ -206,21 +207,21 @@ deep_first tokens ending at d =
 
 -- ---- nodes
 
-too-many : (nodes here : ℕ) → 64 ≤ nodes → node_stands nodes here ≡ Some (too_many_at here)
-too-many nodes here many = rw (le-ltb nodes 64 many) refl
+too-many : (nodes here : ℕ) → most_nodes ≤ nodes → node_stands nodes here ≡ Some (too_many_at here)
+too-many nodes here many = rw (le-ltb nodes most_nodes many) refl
 
 -- a level too deep or a node too many
 abbrev Crowded : ℕ → ℕ → Option FormulaFault → Type 0
 Crowded nodes here broken = (fault : FormulaFault) × (either broken (node_stands nodes here) ≡ Some fault) × (rank fault.code ≤ 4)
 
-crowded-none : (nodes here : ℕ) → 64 ≤ nodes → Crowded nodes here None
+crowded-none : (nodes here : ℕ) → most_nodes ≤ nodes → Crowded nodes here None
 crowded-none nodes here many = (too_many_at here, too-many nodes here many, omega arith)
 
-crowded-level : (nodes here levels : ℕ) → 64 ≤ nodes → Crowded nodes here (level_opens levels here)
+crowded-level : (nodes here levels : ℕ) → most_nodes ≤ nodes → Crowded nodes here (level_opens levels here)
 crowded-level nodes here levels many =
-    cond_both (nat_lt levels 16) None (Some (too_deep_at here)) (Crowded nodes here) (λ e. crowded-none nodes here many) (λ e. (too_deep_at here, refl, omega arith))
+    cond_both (nat_lt levels deepest) None (Some (too_deep_at here)) (Crowded nodes here) (λ e. crowded-none nodes here many) (λ e. (too_deep_at here, refl, omega arith))
 
-word-crowded : (o : Open) (w : Spelled) (g : NameSign) → 64 ≤ nodes_open o → (fault : FormulaFault) × (word_limit o w g ≡ Some fault) × (rank fault.code ≤ 4)
+word-crowded : (o : Open) (w : Spelled) (g : NameSign) → most_nodes ≤ nodes_open o → (fault : FormulaFault) × (word_limit o w g ≡ Some fault) × (rank fault.code ≤ 4)
 word-crowded o w by_dot many = crowded-none (nodes_open o) w.at many
 word-crowded o w by_at many = crowded-none (nodes_open o) w.at many
 word-crowded o w no_sign many =
@@ -230,7 +231,7 @@ word-crowded o w no_sign many =
 stops-crowded : (s : State) (t : Token) (fault : FormulaFault) → Waits s t.at → later s t.kind t.at ≡ Some fault → rank fault.code ≤ 4 → Stops code.TooManyNodes s t
 stops-crowded s t fault waits e le = stops-later code.TooManyNodes s t fault waits e le
 
-node-here : (before rest : List Token) (t : Token) (nodes : ℕ) (ending : End) → 64 ≤ nodes → IsNode before t.kind nodes
+node-here : (before rest : List Token) (t : Token) (nodes : ℕ) (ending : End) → most_nodes ≤ nodes → IsNode before t.kind nodes
     → Ascend 0 (before ++ t ∷ rest) (place_of ending) → First (before ++ t ∷ rest) ending code.TooManyNodes t.at
 node-here before rest t nodes ending many (inl b) rises = unary-here b.unary
   where

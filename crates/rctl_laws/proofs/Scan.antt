@@ -4,6 +4,7 @@ use Rattle.std.proofs.Common.{◌≡◌, refl, sym, ◌∙◌, ap, subst, arith}
 use Rattle.std.proofs.lemmas.Bool.{cond_both}
 use Rattle.std.proofs.lemmas.List.{same_from_push}
 use Rattle.pota_base.specs.Number.{◌>>=◌}
+use Rattle.pota_base.specs.Limits.{deepest, most_nodes}
 use Rattle.rctl_grammar.specs.declared.token.Kind.{Kind}
 use Rattle.rctl_grammar.specs.declared.token.Kind.TheVariants as kind
 use Rattle.rctl_grammar.specs.declared.token.Token.{Token}
@@ -94,10 +95,10 @@ at-either here None b ha hb = hb
 at-either here (Some fault) b ha hb = ha
 
 at-level : (levels here : ℕ) → At here (level_opens levels here)
-at-level levels here = cond_both (nat_lt levels 16) None (Some (too_deep_at here)) (At here) (λ e. tt) (λ e. refl)
+at-level levels here = cond_both (nat_lt levels deepest) None (Some (too_deep_at here)) (At here) (λ e. tt) (λ e. refl)
 
 at-node : (nodes here : ℕ) → At here (node_stands nodes here)
-at-node nodes here = cond_both (nat_lt nodes 64) None (Some (too_many_at here)) (At here) (λ e. tt) (λ e. refl)
+at-node nodes here = cond_both (nat_lt nodes most_nodes) None (Some (too_many_at here)) (At here) (λ e. tt) (λ e. refl)
 
 at-operand : (o : Open) (k : Kind) (here : ℕ) → At here (operand_limit o k here)
 at-operand o kind.Bang here = at-either here (level_opens (depth o) here) (node_stands (nodes_open o) here) (at-level (depth o) here) (at-node (nodes_open o) here)

@@ -3,6 +3,7 @@ use Rattle.std.specs.Prelude.{ℕ, ℤ, pos, negsuc, ◌+◌, ◌⊎◌, nat_lt,
 use Rattle.std.proofs.Common.{◌≡◌, refl, sym, ◌∙◌, ap, subst, inl, inr, append-nil, append_assoc}
 use Rattle.std.proofs.lemmas.Bool.{cond_both, ltb-false}
 use Rattle.run_model.specs.Run.{Name}
+use Rattle.pota_base.specs.Limits.{deepest, most_nodes}
 use Rattle.rctl_grammar.specs.declared.token.Kind.{Kind}
 use Rattle.rctl_grammar.specs.declared.token.Kind.TheVariants as kind
 use Rattle.rctl_grammar.specs.declared.token.Token.{Token}
@@ -36,14 +37,14 @@ level-holds : (before rest : List Token) (k : Kind) (here : ℕ) (ending : End) 
     → (((before ≡ text_open around []) × OpensOperand k rest) ⊎ OpensUntil around before k)
     → Holds (before ++ tok k here ∷ rest) ending (level_opens (depth around) here)
 level-holds before rest k here ending around opens =
-    cond_both (nat_lt (depth around) 16) None (Some (too_deep_at here)) (Holds (before ++ tok k here ∷ rest) ending) (λ e. tt)
-    (λ e. record { before = before; token = tok k here; rest = rest; stands = at_token before rest (tok k here); around = around; deep = ltb-false (depth around) 16 e; opens = opens })
+    cond_both (nat_lt (depth around) deepest) None (Some (too_deep_at here)) (Holds (before ++ tok k here ∷ rest) ending) (λ e. tt)
+    (λ e. record { before = before; token = tok k here; rest = rest; stands = at_token before rest (tok k here); around = around; deep = ltb-false (depth around) deepest e; opens = opens })
 
 node-holds : (before rest : List Token) (k : Kind) (here : ℕ) (ending : End) (nodes : ℕ) → IsNode before k nodes
     → Holds (before ++ tok k here ∷ rest) ending (node_stands nodes here)
 node-holds before rest k here ending nodes node =
-    cond_both (nat_lt nodes 64) None (Some (too_many_at here)) (Holds (before ++ tok k here ∷ rest) ending) (λ e. tt)
-    (λ e. record { before = before; token = tok k here; rest = rest; stands = at_token before rest (tok k here); nodes = nodes; many = ltb-false nodes 64 e; node = node })
+    cond_both (nat_lt nodes most_nodes) None (Some (too_many_at here)) (Holds (before ++ tok k here ∷ rest) ending) (λ e. tt)
+    (λ e. record { before = before; token = tok k here; rest = rest; stands = at_token before rest (tok k here); nodes = nodes; many = ltb-false nodes most_nodes e; node = node })
 
 -- ---- what a token breaks where no word waits
 

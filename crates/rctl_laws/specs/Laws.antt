@@ -1,5 +1,6 @@
 -- The laws of the grammar.
 use Rattle.std.specs.Prelude.{◌≡◌, ℕ, ◌≤◌, true, List, Some, None}
+use Rattle.pota_base.specs.Limits.{deepest, most_nodes}
 use Rattle.rctl_grammar.specs.declared.token.Token.{Token}
 use Rattle.rctl_grammar.specs.declared.token.End.{End}
 use Rattle.rctl_grammar.specs.declared.token.End.TheVariants as end
@@ -8,7 +9,7 @@ use Rattle.rctl_grammar.specs.declared.fault.FormulaFault.{FormulaFault}
 use Rattle.rctl_grammar.specs.Grammar.{Disjunction, IsFormula, levels_disjunction}
 use Rattle.rctl_grammar.specs.Grammar.{nodes_disjunction, disjunction_in_range}
 use Rattle.rctl_grammar.specs.Machine.{read}
-use Rattle.rctl_grammar.specs.FirstFault.{MOST_LEVELS, MOST_NODES, first_fault}
+use Rattle.rctl_grammar.specs.FirstFault.{first_fault}
 use Rattle.rctl_lexer.specs.Lexing.{Ascend, place_of}
 use Rattle.rctl_laws.specs.Table.{HasFault, Precedes}
 
@@ -18,8 +19,8 @@ OneReading = (tokens : List Token) (d : Disjunction) → IsFormula tokens d → 
 
 -- a formula whose numbers are in range, of at most 16 levels and 64 nodes
 pub record IsWithinLimits (d : Disjunction) : Type 0 where
-  pub levels : levels_disjunction d ≤ MOST_LEVELS
-  pub nodes : nodes_disjunction d ≤ MOST_NODES
+  pub levels : levels_disjunction d ≤ deepest
+  pub nodes : nodes_disjunction d ≤ most_nodes
   pub numbers : disjunction_in_range d ≡ true
 
 -- tokens of such a formula up to the end of the text have no fault

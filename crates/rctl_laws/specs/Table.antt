@@ -3,6 +3,7 @@
 use Rattle.std.specs.Prelude.{◌≡◌, ℕ, negsuc, ◌+◌, ◌<◌, ◌≤◌, ◌⊎◌, Bool, List, [], ◌∷◌, ◌++◌, Some}
 use Rattle.std.specs.Prelude.{None, true}
 use Rattle.run_model.specs.Run.{Name}
+use Rattle.pota_base.specs.Limits.{deepest, most_nodes}
 use Rattle.rctl_grammar.specs.declared.token.Kind.{Kind}
 use Rattle.rctl_grammar.specs.declared.token.Kind.TheVariants as kind
 use Rattle.rctl_grammar.specs.declared.token.Word.{Word}
@@ -20,7 +21,7 @@ use Rattle.rctl_grammar.specs.Grammar.{text_unary, nodes_conjunction, nodes_unar
 use Rattle.rctl_grammar.specs.Grammar.{Begins}
 use Rattle.rctl_grammar.specs.Machine.{Before, Outer, Open, sign, no_sign, text_before, text_outer}
 use Rattle.rctl_grammar.specs.Machine.{text_open}
-use Rattle.rctl_grammar.specs.FirstFault.{MOST_LEVELS, MOST_NODES, depth, nodes_open, nodes_outer}
+use Rattle.rctl_grammar.specs.FirstFault.{depth, nodes_open, nodes_outer}
 use Rattle.rctl_grammar.specs.FirstFault.{nodes_before, is_operator}
 
 -- the token is one of these, at this place, with those tokens before it and behind it
@@ -98,7 +99,7 @@ pub record IsTooDeep (tokens : List Token) (at : ℕ) : Type 0 where
   pub rest : List Token
   pub stands : IsAt tokens at before token rest
   pub around : Open
-  pub deep : MOST_LEVELS ≤ depth around
+  pub deep : deepest ≤ depth around
   pub opens : ((before ≡ text_open around []) × OpensOperand token.kind rest)
       ⊎ OpensUntil around before token.kind
 
@@ -140,7 +141,7 @@ pub record IsTooMany (tokens : List Token) (at : ℕ) : Type 0 where
   pub rest : List Token
   pub stands : IsAt tokens at before token rest
   pub nodes : ℕ
-  pub many : MOST_NODES ≤ nodes
+  pub many : most_nodes ≤ nodes
   pub node : IsNode before token.kind nodes
 
 -- ---- all of them, and their order

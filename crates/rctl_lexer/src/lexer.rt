@@ -1,6 +1,7 @@
 //! Tokens from bytes.
 
 ghost use Rattle.std.specs.Prelude.{◌≡◌, ◌≤◌, length, IfOk};
+ghost use Rattle.pota_base.specs.Limits.{longest_lexed};
 ghost use Rattle.rctl_lexer.specs.Lexing.{lex, place_of, Ascend, IsEndOf};
 
 use crate::front::{Front, front_of};
@@ -20,7 +21,7 @@ pub struct Lexed {
 /// The tokens of a text, each as long as it can be, up to the end of the text or the first byte at
 /// which no token begins.
 pub fn lex(alloc: Global, text: &[u8]) -> Result<Lexed, NoMemory>
-    requires { length text.now ≤ 65536 }
+    requires { length text.now ≤ longest_lexed }
     ensures lexed { IfOk result (λ lexed. lexed ≡ lex text.now) }
     ensures ascend { IfOk result (λ lexed. Ascend 0 lexed.tokens (place_of lexed.end)) }
     ensures end { IfOk result (λ lexed. IsEndOf (length text.now) lexed.end) }

@@ -3,6 +3,7 @@
 use Rattle.std.specs.Prelude.{◌≡◌, ℕ, ◌≤◌, true, List, [], map, length, get_or, Option, None}
 use Rattle.std.specs.Prelude.{Some}
 use Rattle.run_model.specs.Run.{Name}
+use Rattle.pota_base.specs.Limits.{most_variables}
 use Rattle.event_log.specs.declared.log.Binding.{Binding}
 use Rattle.event_log.specs.declared.log.Header.{Header}
 use Rattle.event_log.specs.States.{IsHeader}
@@ -96,7 +97,7 @@ abbrev mutual
 -- a header with few variables, and few watches
 pub record CanResolve (header : Header) (watches : List Name) : Type 0 where
   pub fits : IsHeader header
-  pub variables : (p : ℕ) → length (get_or header.vars p []) ≤ 16
+  pub variables : (p : ℕ) → length (get_or header.vars p []) ≤ most_variables
   pub few : length watches ≤ 8
 
 -- how many variables each process of a header has, and the process that each watch is on

@@ -22,12 +22,11 @@ struct Counter {
 
 /// The numbers of a process and of one of its variables.
 fn resolve_counter(scope: &Scope, process: &Place, variable: &Place) -> Result<Counter, Stop>
-    ensures { MatchResult result
-        (λ made. (counter_fault (header_names scope.now) process.now variable.now ≡ None)
-        × (made.process ≡ process_in (header_names scope.now) process.now)
-        × (made.variable ≡ variable_in (header_names scope.now) process.now variable.now))
-        (λ stop. Faults stop
-        (λ f. counter_fault (header_names scope.now) process.now variable.now ≡ Some f)) }
+    ensures { MatchResult result (λ made. (counter_fault (header_names scope.now) process.now
+        variable.now ≡ None) × (made.process ≡ process_in (header_names scope.now) process.now)
+        × (made.variable ≡ variable_in (header_names scope.now) process.now variable.now)) (λ stop.
+        Faults stop (λ f. counter_fault (header_names scope.now) process.now variable.now ≡ Some
+        f)) }
 {
     let number = process_number(scope, process)?;
     let variables = scope.variables[number as usize].as_slice();
@@ -47,13 +46,12 @@ pub fn at_most(
     right: &Place,
     k: i128,
 ) -> Result<Part, Stop>
-    ensures { MatchResult result
-        (λ made. (difference_fault (header_names scope.now) left_process.now left.now
-        right_process.now right.now ≡ None)
-        × (piece_of made ≡ piece_in (header_names scope.now)
-        (diff_at_most left_process.now left.now right_process.now right.now k)))
-        (λ stop. Faults stop (λ f. difference_fault (header_names scope.now) left_process.now
-        left.now right_process.now right.now ≡ Some f)) }
+    ensures { MatchResult result (λ made. (difference_fault (header_names scope.now)
+        left_process.now left.now right_process.now right.now ≡ None) × (piece_of made ≡ piece_in
+        (header_names scope.now)
+        (diff_at_most left_process.now left.now right_process.now right.now k))) (λ stop. Faults
+        stop (λ f. difference_fault (header_names scope.now) left_process.now left.now
+        right_process.now right.now ≡ Some f)) }
 {
     let left = resolve_counter(scope, left_process, left)?;
     let right = resolve_counter(scope, right_process, right)?;
@@ -76,13 +74,12 @@ pub fn at_least(
     right: &Place,
     k: i128,
 ) -> Result<Part, Stop>
-    ensures { MatchResult result
-        (λ made. (difference_fault (header_names scope.now) left_process.now left.now
-        right_process.now right.now ≡ None)
-        × (piece_of made ≡ piece_in (header_names scope.now)
-        (diff_at_least left_process.now left.now right_process.now right.now k)))
-        (λ stop. Faults stop (λ f. difference_fault (header_names scope.now) left_process.now
-        left.now right_process.now right.now ≡ Some f)) }
+    ensures { MatchResult result (λ made. (difference_fault (header_names scope.now)
+        left_process.now left.now right_process.now right.now ≡ None) × (piece_of made ≡ piece_in
+        (header_names scope.now)
+        (diff_at_least left_process.now left.now right_process.now right.now k))) (λ stop. Faults
+        stop (λ f. difference_fault (header_names scope.now) left_process.now left.now
+        right_process.now right.now ≡ Some f)) }
 {
     let left = resolve_counter(scope, left_process, left)?;
     let right = resolve_counter(scope, right_process, right)?;

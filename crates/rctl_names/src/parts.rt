@@ -31,11 +31,9 @@ fn resolve_over(
     place: &Place,
     expr: &NamedExpr,
 ) -> Result<Part, Stop>
-    ensures { MatchResult result
-        (λ made. IsPieceIn scope.now watches.old watches.new
-        (local (Some place.now) (named_expr expr.now)) (piece_of made))
-        (λ stop. Faults stop
-        (λ f. part_fault (names_in scope.now watches.old) (watched_in watches.old)
+    ensures { MatchResult result (λ made. IsPieceIn scope.now watches.old watches.new
+        (local (Some place.now) (named_expr expr.now)) (piece_of made)) (λ stop. Faults stop (λ f.
+        part_fault (names_in scope.now watches.old) (watched_in watches.old)
         (local (Some place.now) (named_expr expr.now)) ≡ Some f)) }
 {
     let number = process_number(scope, place)?;
@@ -55,12 +53,10 @@ fn resolve_constant(
     watches: &mut Watches,
     expr: &NamedExpr,
 ) -> Result<Part, Stop>
-    ensures { MatchResult result
-        (λ made. IsPieceIn scope.now watches.old watches.new
-        (local None (named_expr expr.now)) (piece_of made))
-        (λ stop. Faults stop
-        (λ f. part_fault (names_in scope.now watches.old) (watched_in watches.old)
-        (local None (named_expr expr.now)) ≡ Some f)) }
+    ensures { MatchResult result (λ made. IsPieceIn scope.now watches.old watches.new
+        (local None (named_expr expr.now)) (piece_of made)) (λ stop. Faults stop (λ f. part_fault
+        (names_in scope.now watches.old) (watched_in watches.old) (local None (named_expr expr.now))
+        ≡ Some f)) }
 {
     let on = Process {
         number: 0,
@@ -80,11 +76,9 @@ fn resolve_parts(
     watches: &mut Watches,
     parts: &[NamedPart],
 ) -> Result<List<Part>, Stop>
-    ensures { MatchResult result
-        (λ made. ArePiecesIn scope.now watches.old watches.new
-        (named_operand (named_list parts.now)) (pieces (pieces_of made)))
-        (λ stop. Faults stop
-        (λ f. operand_fault (names_in scope.now watches.old) (watched_in watches.old)
+    ensures { MatchResult result (λ made. ArePiecesIn scope.now watches.old watches.new
+        (named_operand (named_list parts.now)) (pieces (pieces_of made))) (λ stop. Faults stop (λ f.
+        operand_fault (names_in scope.now watches.old) (watched_in watches.old)
         (named_operand (named_list parts.now)) ≡ Some f)) }
 {
     let mut made = List::new(alloc);
@@ -177,11 +171,9 @@ pub fn resolve_disjuncts(
     watches: &mut Watches,
     disjuncts: &[List<NamedPart>],
 ) -> Result<List<List<Part>>, Stop>
-    ensures { MatchResult result
-        (λ made. AreDisjunctsIn scope.now watches.old watches.new
-        (named_disjuncts disjuncts.now) (disjuncts_of made))
-        (λ stop. Faults stop
-        (λ f. disjuncts_fault (names_in scope.now watches.old) (watched_in watches.old)
+    ensures { MatchResult result (λ made. AreDisjunctsIn scope.now watches.old watches.new
+        (named_disjuncts disjuncts.now) (disjuncts_of made)) (λ stop. Faults stop (λ f.
+        disjuncts_fault (names_in scope.now watches.old) (watched_in watches.old)
         (named_disjuncts disjuncts.now) ≡ Some f)) }
 {
     let mut made = List::new(alloc);

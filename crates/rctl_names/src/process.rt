@@ -1,4 +1,5 @@
 ghost use Rattle.std.specs.Prelude.{◌≤◌, length};
+ghost use Rattle.pota_base.specs.Limits.{most_variables};
 
 use event_log::Binding;
 
@@ -7,5 +8,5 @@ use event_log::Binding;
 pub struct Process<'a> {
     pub number: u32,
     pub variables: &'a [Binding],
-    ghost few: { length variables.now ≤ 16 },
+    ghost few: { length variables.now ≤ most_variables },
 }

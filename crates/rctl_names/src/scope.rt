@@ -1,4 +1,5 @@
 ghost use Rattle.std.specs.Prelude.{◌≡◌, ◌≤◌, ℕ, [], get_or, length};
+ghost use Rattle.pota_base.specs.Limits.{most_processes, most_variables};
 
 use event_log::Binding;
 use pota_base::List;
@@ -9,7 +10,7 @@ use pota_names::Name;
 pub struct Scope<'a> {
     pub processes: &'a [Name],
     pub variables: &'a [List<Binding>],
-    ghost few: { length processes.now ≤ 32 },
+    ghost few: { length processes.now ≤ most_processes },
     ghost paired: { length variables.now ≡ length processes.now },
-    ghost small: { (p : ℕ) → length (get_or variables.now p []) ≤ 16 },
+    ghost small: { (p : ℕ) → length (get_or variables.now p []) ≤ most_variables },
 }

@@ -1,6 +1,7 @@
 -- The parser's lists of members: what a turn of a loop makes of those so far.
 use Rattle.std.specs.Prelude.{ℕ, ◌<◌, ◌≤◌, ◌+◌, List, [], ◌∷◌, ◌++◌, None, Some}
 use Rattle.std.proofs.Common.{◌≡◌, refl, sym, ◌∙◌, ap, subst, arith}
+use Rattle.pota_base.specs.Limits.{most_nodes}
 use Rattle.rctl_grammar.specs.declared.token.Kind.{Kind}
 use Rattle.rctl_grammar.specs.declared.token.Kind.TheVariants as kind
 use Rattle.rctl_grammar.specs.declared.token.Token.{Token}
@@ -32,7 +33,7 @@ bar_there = found_is bar_in (tok kind.Bar) bar_is
 
 -- the limit on nodes passed at the first separator
 abbrev pub OneMore : ℕ → ℕ → Type 0
-OneMore nodes behind = (nodes < 64) × (behind ≡ nodes + 1)
+OneMore nodes behind = (nodes < most_nodes) × (behind ≡ nodes + 1)
 
 -- ---- conjunctions
 
@@ -54,7 +55,7 @@ pub conjunction_fault : (around : Around) (ts : List Token) (f : FormulaFault) �
 conjunction_fault around ts f bad outer before d m = bad (first_of outer before) d m
 
 pub conjunction_bound : (around : Around) (ts rest more : List Token) (nodes at : ℕ) (t : Tree) (f : FormulaFault) → UnaryRead ts rest around nodes t → found amp_in rest ≡ Some (at, more)
-    → 64 ≤ nodes → f ≡ too_many_at at → ConjunctionFault ts around f
+    → most_nodes ≤ nodes → f ≡ too_many_at at → ConjunctionFault ts around f
 conjunction_bound around ts rest more nodes at t f read h many is outer before d m =
     read.goes (first_of outer before) d m ∙ ap (λ x. fault_of (after outer before (one_unary read.u)) x around.end) (amp_there rest more at h)
     ∙ rw (node_stops (nodes_outer outer + nodes_before before + nodes_conjunction (one_unary read.u)) at (omega (arith, read.counts)), is) refl
@@ -134,7 +135,7 @@ pub formula_fault : (around : Around) (ts : List Token) (f : FormulaFault) → C
 formula_fault around ts f bad outer d m = bad outer nothing d (omega arith)
 
 pub formula_bound : (around : Around) (ts rest more : List Token) (nodes at : ℕ) (t : Tree) (f : FormulaFault) → ConjunctionRead ts rest around nodes t → found bar_in rest ≡ Some (at, more)
-    → 64 ≤ nodes → f ≡ too_many_at at → FormulaFails ts around f
+    → most_nodes ≤ nodes → f ≡ too_many_at at → FormulaFails ts around f
 formula_bound around ts rest more nodes at t f read h many is outer d m =
     read.goes outer nothing d (omega arith) ∙ ap (λ x. fault_of (after outer nothing read.c) x around.end) (bar_there rest more at h)
     ∙ rw (node_stops (nodes_outer outer + nodes_conjunction read.c) at (omega (arith, read.counts)), is) refl
@@ -199,7 +200,7 @@ formula_last around ts more rest nodes total at members t so read none = record 
 
 -- ---- turns, as the loops have them
 
-pub counted_over : (a around : Around) (nodes : ℕ) → a ≡ record around { nodes = nodes } → 64 ≤ a.nodes → 64 ≤ nodes
+pub counted_over : (a around : Around) (nodes : ℕ) → a ≡ record around { nodes = nodes } → most_nodes ≤ a.nodes → most_nodes ≤ nodes
 counted_over a around nodes is many = let same : a.nodes ≡ nodes = ap (λ (x : Around). x.nodes) is in omega arith
 
 pub one_more : (a around : Around) (nodes behind : ℕ) → a ≡ record around { nodes = nodes } → OneMore a.nodes behind → OneMore nodes behind

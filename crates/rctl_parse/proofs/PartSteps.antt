@@ -11,6 +11,7 @@ use Rattle.rctl_grammar.specs.declared.token.End.{End}
 use Rattle.rctl_grammar.specs.declared.token.End.TheVariants as end
 use Rattle.rctl_grammar.specs.declared.fault.FormulaFault.{FormulaFault}
 use Rattle.run_model.specs.Formula as model
+use Rattle.pota_base.specs.Limits.{deepest, most_nodes}
 use Rattle.rctl_grammar.specs.declared.tree.Tree.{Tree}
 use Rattle.rctl_grammar.specs.declared.tree.Tree.TheVariants as tree
 use Rattle.rctl_grammar.specs.Grammar.{negation, temporal, group, until, Path, Disjunction, Conjunction, tok, spelled, operator_of, word_of, path_word, text_disjunction, tree_disjunction, nodes_disjunction, levels_disjunction, disjunction_in_range}
@@ -70,7 +71,7 @@ settled_operator o model.Eg name at = refl
 settled_operator o model.Af name at = refl
 settled_operator o model.Ax name at = refl
 
-operator_goes : (o : Open) (op : model.Operator) (name : Name) (at : ℕ) (ts : List Token) (ending : End) → sign_of ts ≡ no_sign → depth o < 16 → nodes_open o < 64
+operator_goes : (o : Open) (op : model.Operator) (name : Name) (at : ℕ) (ts : List Token) (ending : End) → sign_of ts ≡ no_sign → depth o < deepest → nodes_open o < most_nodes
     → fault_of (operand o) (spelled (word_of op) name at ∷ ts) ending ≡ fault_of (operand (in_temporal o op name at)) ts ending
 unfolding settle
 operator_goes o op name at ts ending other deep room =
@@ -147,7 +148,7 @@ unclosed look outer before c next l (t ∷ ts) ending no_amp no_bar h = rw (anot
 group_closes : (o : Open) (at : ℕ) (before : Before) (c : Conjunction) → Closes close_round_in (in_group o at) before c (λ closed. plug o (group at (joined before c) closed))
 group_closes o at before c = record { steps = λ k here_at. refl; unfinished = refl }
 
-group_opens : (o : Open) (at : ℕ) (ts : List Token) (ending : End) → depth o < 16 → fault_of (operand o) (tok kind.OpenRound at ∷ ts) ending ≡ fault_of (operand (first_of (in_group o at) nothing)) ts ending
+group_opens : (o : Open) (at : ℕ) (ts : List Token) (ending : End) → depth o < deepest → fault_of (operand o) (tok kind.OpenRound at ∷ ts) ending ≡ fault_of (operand (first_of (in_group o at) nothing)) ts ending
 group_opens o at ts ending deep = rw (level_passes (depth o) at deep) refl
 
 pub group_read : (around inside : Around) (at : ℕ) (ts middle rest : List Token) (nodes closed : ℕ) (t : Tree) → Opened around inside → FormulaRead ts middle inside nodes t
@@ -167,7 +168,7 @@ group_read around inside at ts middle rest nodes closed t (deep, is) given h =
       shorter = omega (arith, read.shorter, longer (tok kind.CloseRound closed) middle rest closing);
     }
 
-pub group_bound : (around : Around) (at : ℕ) (ts : List Token) (f : FormulaFault) → 16 ≤ around.level → f ≡ too_deep_at at → UnaryFault (tok kind.OpenRound at ∷ ts) around f
+pub group_bound : (around : Around) (at : ℕ) (ts : List Token) (f : FormulaFault) → deepest ≤ around.level → f ≡ too_deep_at at → UnaryFault (tok kind.OpenRound at ∷ ts) around f
 group_bound around at ts f deep is o d m = rw (level_stops (depth o) at (omega arith), is) refl
 
 pub group_fault : (around inside : Around) (at : ℕ) (ts : List Token) (f : FormulaFault) → Opened around inside → FormulaFails ts inside f → UnaryFault (tok kind.OpenRound at ∷ ts) around f
@@ -229,7 +230,7 @@ pub record LeftRead (all : Bool) (name : Name) (at : ℕ) (ts rest : List Token)
   pub goes : (o : Open) → depth o ≡ around.level → nodes_open o ≡ around.nodes
       → fault_of (operand o) (spelled (path_word all) name at ∷ ts) around.end ≡ fault_of (operand (first_of (in_right o (path_of all name at opened) left u_name u_at) nothing)) rest around.end
   pub counts : nodes ≡ around.nodes + 1 + nodes_disjunction left
-  pub levels : levels_disjunction left ≤ 16 - (around.level + 1)
+  pub levels : levels_disjunction left ≤ deepest - (around.level + 1)
   pub in_range : disjunction_in_range left ≡ true
   pub shorter : length rest < length ts
 
@@ -300,7 +301,7 @@ until_read around inside all name at ts more behind rest left_nodes nodes closed
           (right_closes o p l.left l.u_name l.u_at read.before read.c) behind rest around.end closed read.no_amp read.no_bar h;
       counts = omega (arith, read.counts, l.counts);
       fits = read.fits;
-      levels = let deep : around.level < 16 = l.enters.0 in omega (arith, l.levels, read.levels);
+      levels = let deep : around.level < deepest = l.enters.0 in omega (arith, l.levels, read.levels);
       in_range = rw (l.in_range, read.in_range) refl;
       shorter = let b : length rest < length behind = longer (tok kind.CloseSquare closed) behind rest closing in omega (arith, l.shorter, read.shorter);
     }

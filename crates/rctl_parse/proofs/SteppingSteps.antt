@@ -2,6 +2,7 @@
 use Rattle.std.specs.Prelude.{ℕ, ◌<◌, ◌+◌, length, List, [], ◌∷◌, None, Some}
 use Rattle.std.proofs.Common.{◌≡◌, refl, sym, ◌∙◌, ap, subst, arith}
 use Rattle.run_model.specs.Run.{Name}
+use Rattle.pota_base.specs.Limits.{deepest, most_nodes}
 use Rattle.rctl_grammar.specs.declared.token.Word.TheVariants as word
 use Rattle.rctl_grammar.specs.declared.token.Token.{Token}
 use Rattle.rctl_grammar.specs.declared.token.End.{End}
@@ -22,7 +23,7 @@ use Rattle.rctl_parse.proofs.UnarySteps.{level_passes, node_passes, settle, word
 use Rattle.rctl_parse.proofs.PartSteps.{missing_close}
 
 -- the word before these tokens, where it breaks nothing
-goes_on : (o : Open) (name : Name) (at : ℕ) (ts : List Token) (ending : End) → sign_of ts ≡ no_sign → depth o < 16 → nodes_open o < 64
+goes_on : (o : Open) (name : Name) (at : ℕ) (ts : List Token) (ending : End) → sign_of ts ≡ no_sign → depth o < deepest → nodes_open o < most_nodes
     → fault_of (operand o) (spelled word.Ex name at ∷ ts) ending ≡ fault_of (a_stepping o name at) ts ending
 unfolding settle
 goes_on o name at ts ending other deep room =

@@ -5,6 +5,7 @@ use Rattle.std.proofs.Common.{◌≡◌, refl, sym, ◌∙◌, ap, arith}
 use Rattle.std.proofs.lemmas.Bool.{lt-ltb, le-ltb}
 use Rattle.pota_base.specs.declared.fault.Refused.{Refused}
 use Rattle.run_model.specs.Run.{Name}
+use Rattle.pota_base.specs.Limits.{deepest, most_nodes}
 use Rattle.rctl_grammar.specs.declared.token.Kind.{Kind}
 use Rattle.rctl_grammar.specs.declared.token.Kind.TheVariants as kind
 use Rattle.rctl_grammar.specs.declared.token.Word.{Word}
@@ -30,17 +31,17 @@ use Rattle.rctl_parse.specs.inside.Parts.{sign_of, NoRole, IsLeafRole, WordRead,
 
 -- ---- the limits
 
-pub level_passes : (level at : ℕ) → level < 16 → level_opens level at ≡ None
-level_passes level at h = rw (lt-ltb level 16 h) refl
+pub level_passes : (level at : ℕ) → level < deepest → level_opens level at ≡ None
+level_passes level at h = rw (lt-ltb level deepest h) refl
 
-pub level_stops : (level at : ℕ) → 16 ≤ level → level_opens level at ≡ Some (too_deep_at at)
-level_stops level at h = rw (le-ltb level 16 h) refl
+pub level_stops : (level at : ℕ) → deepest ≤ level → level_opens level at ≡ Some (too_deep_at at)
+level_stops level at h = rw (le-ltb level deepest h) refl
 
-pub node_passes : (nodes at : ℕ) → nodes < 64 → node_stands nodes at ≡ None
-node_passes nodes at h = rw (lt-ltb nodes 64 h) refl
+pub node_passes : (nodes at : ℕ) → nodes < most_nodes → node_stands nodes at ≡ None
+node_passes nodes at h = rw (lt-ltb nodes most_nodes h) refl
 
-pub node_stops : (nodes at : ℕ) → 64 ≤ nodes → node_stands nodes at ≡ Some (too_many_at at)
-node_stops nodes at h = rw (le-ltb nodes 64 h) refl
+pub node_stops : (nodes at : ℕ) → most_nodes ≤ nodes → node_stands nodes at ≡ Some (too_many_at at)
+node_stops nodes at h = rw (le-ltb nodes most_nodes h) refl
 
 -- ---- states in which other word waits
 
@@ -184,7 +185,7 @@ any_word_bound : (o : Open) (w : Spelled) (ts : List Token) (ending : End) (f : 
 any_word_bound o w [] ending f bound = word_bound o w [] ending f refl bound
 any_word_bound o w (t ∷ ts) ending f bound = rw bound refl
 
-pub leaf_too_many : (around : Around) (l : LeafRole) (w : Word) (name : Name) (at : ℕ) (ts : List Token) (f : FormulaFault) → IsLeafRole l w ts → 64 ≤ around.nodes → f ≡ too_many_at at
+pub leaf_too_many : (around : Around) (l : LeafRole) (w : Word) (name : Name) (at : ℕ) (ts : List Token) (f : FormulaFault) → IsLeafRole l w ts → most_nodes ≤ around.nodes → f ≡ too_many_at at
     → UnaryFault (spelled w name at ∷ ts) around f
 leaf_too_many around l w name at ts f is many named_so o deep many_before =
     any_word_bound o (record { word = w; name = name; at = at }) ts around.end f (leaf_word o l w name at ts is ∙ node_stops (nodes_open o) at (omega arith) ∙ ap Some (sym named_so))
@@ -222,7 +223,7 @@ pub watched_fault : (w : Spelled) (at : ℕ) (more ts : List Token) (ending : En
 watched_fault w at more ts ending f is bad o room = rw (is, node_passes (nodes_open o) w.at room) (bad o)
 
 -- a word of its own
-alone_goes : (o : Open) (l : LeafRole) (w : Word) (name : Name) (at : ℕ) (ts : List Token) (ending : End) → IsLeafRole l w ts → sign_of ts ≡ no_sign → nodes_open o < 64
+alone_goes : (o : Open) (l : LeafRole) (w : Word) (name : Name) (at : ℕ) (ts : List Token) (ending : End) → IsLeafRole l w ts → sign_of ts ≡ no_sign → nodes_open o < most_nodes
     → fault_of (a_word o (record { word = w; name = name; at = at })) ts ending ≡ settle (settled o (record { word = w; name = name; at = at })) ts ending
 alone_goes o l w name at ts ending is other room = word_free o (record { word = w; name = name; at = at }) ts ending other
     (ap (word_limit o (record { word = w; name = name; at = at })) (sym other) ∙ leaf_word o l w name at ts is ∙ node_passes (nodes_open o) at room)
@@ -324,7 +325,7 @@ emptiness_answer (Ok x) w name at ts ending is read = emptiness_word w name at t
 emptiness_answer (Err stop) w name at ts ending is bad = for_fault stop (λ f h. emptiness_fault w name at ts ending f is (h name at)) bad
 
 -- a leaf as a unary
-pub leaf_read : (around behind : Around) (w : Spelled) (ts rest : List Token) (a : Atom) → (around.nodes < 64) × (behind ≡ record around { nodes = around.nodes + 1 })
+pub leaf_read : (around behind : Around) (w : Spelled) (ts rest : List Token) (a : Atom) → (around.nodes < most_nodes) × (behind ≡ record around { nodes = around.nodes + 1 })
     → WordRead w ts rest around.end a → UnaryRead (named w ∷ ts) rest around behind.nodes (tree.Leaf a w.at)
 leaf_read around behind w ts rest a (room, one_more) read = record {
   u = leaf read.l;

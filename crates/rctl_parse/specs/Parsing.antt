@@ -1,5 +1,6 @@
 -- What the reading of a text gives.
 use Rattle.std.specs.Prelude.{◌≡◌, ℕ, nat_lt, length, List, Option, Some, if◌then◌else◌}
+use Rattle.pota_base.specs.Limits.{longest_formula}
 use Rattle.rctl_grammar.specs.declared.token.Token.{Token}
 use Rattle.rctl_grammar.specs.declared.token.End.{End}
 use Rattle.rctl_grammar.specs.declared.token.End.TheVariants as end
@@ -32,5 +33,6 @@ long_fault text = first_fault (lex text).tokens (lex text).end
 -- the first fault of a text: too long comes before all
 abbrev pub fault_of_text : List ℕ → Option FormulaFault
 fault_of_text text =
-    if nat_lt 4096 (length text) then Some (record { code = code.TooLong; place = 4096 })
+    if nat_lt longest_formula (length text) then Some
+    (record { code = code.TooLong; place = longest_formula })
     else long_fault text

@@ -7,16 +7,13 @@ ghost use Rattle.rctl_parse.specs.inside.Limits.{Opened, Entered};
 ghost use Rattle.rctl_parse.specs.Reading.{Faults};
 ghost use Rattle.rctl_parse.specs.inside.Reading.{cut_short, here};
 ghost use Rattle.std.specs.Prelude.{◌≡◌, Some, ◌+◌, ◌<◌, ◌≤◌, MatchResult};
+ghost use Rattle.pota_base.specs.Limits.{deepest, most_nodes};
 
-use pota_base::Refused;
+use pota_base::{DEEPEST, MOST_NODES, Refused};
 use rctl_grammar::{End, FormulaCode, FormulaFault, Token};
 
 /// Why no formula was read.
 pub type Stop = Refused<FormulaFault>;
-
-const MOST_LEVELS: u32 = 16;
-
-const MOST_NODES: u32 = 64;
 
 /// What stands around a part of a formula: the end of the tokens, the levels open there, the nodes
 /// whose places stand before it.
@@ -45,9 +42,9 @@ impl Around {
     /// Inside the level that the token at `at` opens. `Fault` where it is too deep.
     pub fn opened(self, at: u32) -> Result<Around, Stop>
         ensures { MatchResult result (λ inside. Opened self inside)
-            (λ stop. (16 ≤ self.level) × (stop ≡ Fault (too_deep_at at))) }
+            (λ stop. (deepest ≤ self.level) × (stop ≡ Fault (too_deep_at at))) }
     {
-        if self.level >= MOST_LEVELS {
+        if self.level >= DEEPEST {
             return Err(fault(FormulaCode::TooDeep, at));
         }
         Ok(Around {
@@ -58,9 +55,9 @@ impl Around {
 
     /// Behind the node whose place is `at`. `Fault` where there are too many.
     pub fn counted(self, at: u32) -> Result<Around, Stop>
-        ensures { MatchResult result (λ behind. (self.nodes < 64)
+        ensures { MatchResult result (λ behind. (self.nodes < most_nodes)
             × (behind ≡ record self { nodes = self.nodes + 1 }))
-            (λ stop. (64 ≤ self.nodes) × (stop ≡ Fault (too_many_at at))) }
+            (λ stop. (most_nodes ≤ self.nodes) × (stop ≡ Fault (too_many_at at))) }
     {
         if self.nodes >= MOST_NODES {
             return Err(fault(FormulaCode::TooManyNodes, at));

@@ -17,6 +17,7 @@ ghost use Rattle.rctl_parse.specs.Reading.{Faults};
 ghost use Rattle.run_model.specs.Run.{Name as Bytes};
 ghost use Rattle.std.specs.Prelude.{◌≡◌, ◌∷◌, ◌++◌, [], ◌+◌, ◌<◌, ◌≤◌, length, Bool, IfOk};
 ghost use Rattle.std.specs.Prelude.{MatchResult};
+ghost use Rattle.pota_base.specs.Limits.{most_nodes};
 
 use crate::around::{Around, Stop, refused_here};
 use crate::leaf::{comparison, emptiness, place, place_of, transit, watch};
@@ -275,8 +276,8 @@ fn with_member(mut members: List<Tree>, tree: Tree) -> Result<List<Tree>, NoMemo
 // The first member alone, and the nodes up to that of the members, whose place is `at`.
 fn begun(alloc: Global, first: Tree, behind: Around, at: u32) -> Result<(List<Tree>, u32), Stop>
     ensures { MatchResult result
-        (λ x. (x.0 ≡ first ∷ []) × ((behind.nodes < 64) × (x.1 ≡ behind.nodes + 1)))
-        (λ stop. Faults stop (λ f. (64 ≤ behind.nodes) × (f ≡ too_many_at at))) }
+        (λ x. (x.0 ≡ first ∷ []) × ((behind.nodes < most_nodes) × (x.1 ≡ behind.nodes + 1)))
+        (λ stop. Faults stop (λ f. (most_nodes ≤ behind.nodes) × (f ≡ too_many_at at))) }
 {
     match behind.counted(at) {
         Ok(Around { nodes, .. }) => Ok((with_member(List::new(alloc), first)?, nodes)),

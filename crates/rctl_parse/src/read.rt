@@ -6,19 +6,15 @@ ghost use Rattle.rctl_grammar.specs.declared.tree.Tree.{Tree as TreeOf};
 ghost use Rattle.rctl_parse.specs.Parsing.{fault_of_text, long_fault, IsReadAs, IsTreeOf};
 ghost use Rattle.rctl_parse.specs.Reading.{Faults};
 ghost use Rattle.std.specs.Prelude.{◌≡◌, ◌<◌, ◌≤◌, length, IfErr, IfOk, MatchResult};
+ghost use Rattle.pota_base.specs.Limits.{longest_formula, longest_lexed};
 
 use crate::around::{Around, Stop, fault, refused_here};
 use crate::parser::{Part, formula};
+pub use pota_base::LONGEST_FORMULA;
 use pota_base::Refused;
 use rctl_grammar::{End, Formula, FormulaCode, FormulaFault, Token};
 use rctl_laws::lex;
 use std::alloc::Global;
-
-/// The most bytes of a formula that `parse` reads.
-pub const LONGEST_FORMULA: usize = 4096;
-
-/// Where a longer text ends too late.
-const TOO_LONG_AT: u32 = 4096;
 
 // The formula of these tokens.
 fn formula_of(alloc: Global, tokens: &[Token], end: End) -> Result<Formula, Stop>
@@ -42,7 +38,7 @@ fn formula_of(alloc: Global, tokens: &[Token], end: End) -> Result<Formula, Stop
 
 /// Reads a formula of at most 65,536 bytes. `Fault` is its first fault, and never `TooLong`.
 pub fn parse_long(alloc: Global, text: &[u8]) -> Result<Formula, Refused<FormulaFault>>
-    requires { length text.now ≤ 65536 }
+    requires { length text.now ≤ longest_lexed }
     ensures read { IfOk result (λ formula. IsReadAs text.now formula.tree) }
     ensures fault { IfErr result (λ stop. Faults stop (λ f. long_fault text.now ≡ Some f)) }
     ensures complete { (t : TreeOf) → IsReadAs text.now t
@@ -55,14 +51,14 @@ pub fn parse_long(alloc: Global, text: &[u8]) -> Result<Formula, Refused<Formula
 /// Reads a formula. `Fault` is its first fault: `TooLong` where it has more than 4,096 bytes, and
 /// else the one with the least place.
 pub fn parse(alloc: Global, text: &[u8]) -> Result<Formula, Refused<FormulaFault>>
-    ensures read { IfOk result (λ formula. (length text.now ≤ 4096)
+    ensures read { IfOk result (λ formula. (length text.now ≤ longest_formula)
         × IsReadAs text.now formula.tree) }
     ensures fault { IfErr result (λ stop. Faults stop (λ f. fault_of_text text.now ≡ Some f)) }
-    ensures complete { (t : TreeOf) → length text.now ≤ 4096 → IsReadAs text.now t
+    ensures complete { (t : TreeOf) → length text.now ≤ longest_formula → IsReadAs text.now t
         → MatchResult result (λ formula. formula.tree ≡ t) (λ stop. stop ≡ OutOfMemory) }
 {
     if text.len() > LONGEST_FORMULA {
-        return Err(fault(FormulaCode::TooLong, TOO_LONG_AT));
+        return Err(fault(FormulaCode::TooLong, LONGEST_FORMULA as u32));
     }
     parse_long(alloc, text)
 }

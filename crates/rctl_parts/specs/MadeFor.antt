@@ -2,6 +2,7 @@
 -- on one process.
 use Rattle.std.specs.Prelude.{◌≡◌, ℕ, ◌+◌, ◌^◌, ◌<◌, ◌≤◌, ◌==◌, Bool, true, false, ◌&&◌, ◌||◌, List}
 use Rattle.std.specs.Prelude.{[], ◌∷◌, length, get_or, Option, None, Some, ⊤, ℤ, pos, neg_ℤ, ◌≤ℤ◌}
+use Rattle.pota_base.specs.Limits.{most_disjuncts, most_parts}
 use Rattle.rctl_grammar.specs.declared.tree.Operator.{Operator}
 use Rattle.rctl_grammar.specs.declared.tree.Operator.TheVariants as operator
 use Rattle.rctl_parts.specs.declared.expr.LocalSide.{LocalSide}
@@ -187,8 +188,8 @@ pub record AreMadeFor (scope : Scope) (ds : List (List Piece)) : Type 0 where
   -- each number is there, each watch of a local part is on its process, each operator is analysed
   pub fit : AllFit scope ds
   pub some : 1 ≤ length ds
-  pub few : length ds ≤ 64
-  pub parts : disjuncts_count ds ≤ 128
+  pub few : length ds ≤ most_disjuncts
+  pub parts : disjuncts_count ds ≤ most_parts
   -- a watch that no part names is on no process
   pub unnamed : (w : ℕ) → disjuncts_name_watch w ds ≡ false
       → get_or scope.watch_process w None ≡ None

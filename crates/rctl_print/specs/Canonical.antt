@@ -8,8 +8,8 @@ use Rattle.rctl_grammar.specs.declared.tree.Operator.TheVariants as operator
 use Rattle.rctl_grammar.specs.Grammar.{operator_of}
 use Rattle.rctl_grammar.specs.Shape.{PlainSide, number, variable, PlainAtom, truth, comparison}
 use Rattle.rctl_grammar.specs.Shape.{watch, transit, emptiness, difference, Shape, plain, not}
-use Rattle.rctl_grammar.specs.Shape.{conjunction, disjunction, under, stepped, until_of, Shapes, one}
-use Rattle.rctl_grammar.specs.Shape.{more}
+use Rattle.rctl_grammar.specs.Shape.{conjunction, disjunction, under, stepped, until_of, Shapes}
+use Rattle.rctl_grammar.specs.Shape.{one, more}
 use Rattle.rctl_print.specs.declared.joint.Joint.{Joint}
 use Rattle.rctl_print.specs.declared.joint.Joint.TheVariants.{Amp, Bar}
 

@@ -77,8 +77,8 @@ fn put_comparison(
     compare: Compare,
     side: &Side,
 ) -> Result<(), NoMemory>
-    ensures { OnOk result (out.new ≡ out.old
-        ++ atom_text (comparison process.now.name variable.now.name compare (plain_side side.now))) }
+    ensures { OnOk result (out.new ≡ out.old ++ atom_text (comparison process.now.name
+        variable.now.name compare (plain_side side.now))) }
 {
     put_pair(out, process, b".", variable)?;
     put_sign(out, compare)?;

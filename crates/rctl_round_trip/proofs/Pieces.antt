@@ -10,6 +10,7 @@ use Rattle.std.proofs.lemmas.Bool.{cases_Bool, cases_lt, and_parts}
 use Rattle.std.proofs.lemmas.Bool.Decides.{nat_tests}
 use Rattle.pota_base.specs.Number.{is_digit}
 use Rattle.pota_base.proofs.NumberLaws.{signed_only}
+use Rattle.pota_base.specs.Limits.{longest_name}
 use Rattle.pota_names.specs.Names.{is_name, is_name_start, is_name_byte}
 use Rattle.rctl_grammar.specs.declared.token.Kind.{Kind}
 use Rattle.rctl_grammar.specs.declared.token.Kind.TheVariants as kind
@@ -178,8 +179,8 @@ pub word : (name rest : List ℕ) (ks : List Kind) → is_name name ≡ true →
 unfolding front word_front
 word [] rest ks named stops h = absurd cc
 word (b ∷ bs) rest ks named stops h =
-    let parts = and_parts (is_name_start b) (nat_lt (length bs) 64 && list_all is_name_byte bs) named in
-    let more = and_parts (nat_lt (length bs) 64) (list_all is_name_byte bs) parts.1 in
+    let parts = and_parts (is_name_start b) (nat_lt (length bs) longest_name && list_all is_name_byte bs) named in
+    let more = and_parts (nat_lt (length bs) longest_name) (list_all is_name_byte bs) parts.1 in
     let run = run-whole is_name_byte bs rest more.1 stops in
     let one : length bs + 1 ≡ suc (length bs) = omega arith in
     let whole : take (length bs + 1) (b ∷ bs ++ rest) ≡ b ∷ bs = rw one (ap (λ (ys : List ℕ). b ∷ ys) (taken bs rest)) in

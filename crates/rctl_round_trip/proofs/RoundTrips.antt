@@ -7,6 +7,7 @@ use Rattle.rctl_grammar.specs.Shape.{Shape, shape_of, shape_disjunction}
 use Rattle.rctl_grammar.proofs.Shapes.{tree-disjunction}
 use Rattle.rctl_lexer.specs.Lexing.{lex}
 use Rattle.std.proofs.lemmas.Option.{same_Some}
+use Rattle.pota_base.specs.Limits.{longest_lexed, most_nodes}
 use Rattle.rctl_parse.proofs.PassedOn.{one_reading}
 use Rattle.rctl_parse.proofs.PassedOn.{within_is_read}
 use Rattle.rctl_grammar.specs.FirstFault.{first_fault}
@@ -79,5 +80,5 @@ printed_itself text t again r q =
 
 pub printed_shortly : PrintedIsShort
 printed_shortly text t r =
-    let few : nodes (shape_disjunction r.d) ≤ 64 = omega (arith, nodes-disjunction r.d, r.limits.nodes) in
-    subst (λ (s : Shape). length (canonical s) < 65536) (sym (shape-is text t r)) (printed-short (shape_disjunction r.d) (spelled text t r) few)
+    let few : nodes (shape_disjunction r.d) ≤ most_nodes = omega (arith, nodes-disjunction r.d, r.limits.nodes) in
+    subst (λ (s : Shape). length (canonical s) < longest_lexed) (sym (shape-is text t r)) (printed-short (shape_disjunction r.d) (spelled text t r) few)

@@ -8,6 +8,7 @@ use Rattle.std.proofs.lemmas.Int.{ints}
 use Rattle.std.proofs.lemmas.Bool.{and_parts, ltb-true}
 use Rattle.run_model.specs.Run.{Name}
 use Rattle.run_model.specs.Formula as model
+use Rattle.pota_base.specs.Limits.{longest_lexed, longest_name, most_nodes}
 use Rattle.pota_names.specs.Names.{is_name, is_name_start}
 use Rattle.rctl_grammar.specs.declared.tree.Compare.{Compare}
 use Rattle.rctl_grammar.specs.declared.tree.Compare.TheVariants as compare
@@ -27,11 +28,11 @@ signed-short : (z : ℤ) → FitsSigned w64 z → length (signed_decimal z) ≤ 
 signed-short (pos n) fits = let bound : n < 2 ^ 64 = omega (arith, ints) in omega (arith, decimal-short n bound)
 signed-short (negsuc n) fits = let bound : suc n < 2 ^ 64 = omega (arith, ints) in omega (arith, decimal-short (suc n) bound)
 
-name-short : (name : Name) → is_name name ≡ true → length name ≤ 64
+name-short : (name : Name) → is_name name ≡ true → length name ≤ longest_name
 name-short [] h = absurd cc
 name-short (b ∷ bs) h =
     let tail = (and_parts (is_name_start b) _ h).1 in
-    let few = ltb-true _ _ (and_parts (nat_lt (length bs) 64) _ tail).0 in
+    let few = ltb-true _ _ (and_parts (nat_lt (length bs) longest_name) _ tail).0 in
     omega arith
 
 sign-short : (c : Compare) → length (sign_of c) ≤ 2
@@ -98,5 +99,5 @@ mutual
   joined-short joint (more front s) h =
       simp length-append (omega (arith, joined-short joint front h.0, joint-short joint, bracketed-short (needs_brackets joint s) (canonical s), text-short s h.1))
 
-pub printed-short : (s : Shape) → IsSpellable s → nodes s ≤ 64 → length (canonical s) < 65536
+pub printed-short : (s : Shape) → IsSpellable s → nodes s ≤ most_nodes → length (canonical s) < longest_lexed
 printed-short s h few = omega (arith, text-short s h)

@@ -1,5 +1,6 @@
 -- What is printed of a formula that was read is read again, as the same formula but for its places.
 use Rattle.std.specs.Prelude.{◌≡◌, ℕ, ◌<◌, List, length, None}
+use Rattle.pota_base.specs.Limits.{longest_lexed}
 use Rattle.rctl_grammar.specs.declared.tree.Tree.{Tree}
 use Rattle.rctl_grammar.specs.Shape.{shape_of}
 use Rattle.rctl_parse.specs.Parsing.{IsReadAs, long_fault}
@@ -25,7 +26,7 @@ PrintedIsItself =
 -- and it is short
 abbrev pub PrintedIsShort : Type 0
 PrintedIsShort =
-    (text : List ℕ) (t : Tree) → IsReadAs text t → length (canonical (shape_of t)) < 65536
+    (text : List ℕ) (t : Tree) → IsReadAs text t → length (canonical (shape_of t)) < longest_lexed
 
 -- some text was read as the tree
 abbrev pub WasRead : Tree → Type 0

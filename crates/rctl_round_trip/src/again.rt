@@ -4,6 +4,7 @@ ghost use Rattle.rctl_grammar.specs.Shape.{shape_of};
 ghost use Rattle.rctl_print.specs.Canonical.{canonical};
 ghost use Rattle.rctl_round_trip.specs.RoundTrip.{WasRead};
 ghost use Rattle.std.specs.Prelude.{◌≡◌, ◌<◌, ◌≤◌, length, IfOk, MatchOption};
+ghost use Rattle.pota_base.specs.Limits.{longest_formula};
 
 use pota_base::{NoMemory, Refused};
 use rctl_parse::{Formula, LONGEST_FORMULA, parse, parse_long, print};
@@ -27,8 +28,8 @@ pub fn read_back_short(alloc: Global, formula: &Formula) -> Result<Option<Formul
     requires { WasRead formula.now.tree }
     ensures { let printed = canonical (shape_of formula.now.tree) in IfOk result
         (λ found. MatchOption found
-        (LONGEST_FORMULA < length printed)
-        (λ again. (length printed ≤ LONGEST_FORMULA)
+        (longest_formula < length printed)
+        (λ again. (length printed ≤ longest_formula)
         × (shape_of again.tree ≡ shape_of formula.now.tree))) }
 {
     let text = print(alloc, formula)?;

@@ -1,6 +1,7 @@
 -- The fault of a text is the first of those that it has.
 use Rattle.std.specs.Prelude.{nat_eq, nat_lt, ◌⊎◌, ◌<◌, ◌≤◌, ℕ, Bool, true, false, List, length, Option, None, Some, if◌then◌else◌}
 use Rattle.std.proofs.Common.{◌≡◌, refl, sym, ◌∙◌, ap, ap₂, subst, inl, inr, arith, ltb-true, lt-ltb}
+use Rattle.pota_base.specs.Limits.{longest_formula}
 use Rattle.rctl_grammar.specs.declared.fault.FormulaCode.{FormulaCode}
 use Rattle.rctl_grammar.specs.declared.fault.FormulaCode.TheVariants as code
 use Rattle.rctl_grammar.specs.declared.fault.FormulaFault.{FormulaFault}
@@ -17,19 +18,19 @@ use Rattle.rctl_text_faults.specs.TextFaults.{TextHasFault, ComesFirst, IsFirstF
 -- ---- too long, or not
 
 abbrev too_long : FormulaFault
-too_long = record { code = code.TooLong; place = 4096 }
+too_long = record { code = code.TooLong; place = longest_formula }
 
 abbrev Lengths : List ℕ → Type 0
 Lengths text =
-    ((4096 < length text) × (fault_of_text text ≡ Some too_long))
-    ⊎ ((4096 < length text → ⊥) × (fault_of_text text ≡ long_fault text))
+    ((longest_formula < length text) × (fault_of_text text ≡ Some too_long))
+    ⊎ ((longest_formula < length text → ⊥) × (fault_of_text text ≡ long_fault text))
 
-lengths-by : (text : List ℕ) (b : Bool) → nat_lt 4096 (length text) ≡ b → Lengths text
-lengths-by text true e = inl (ltb-true 4096 (length text) e, rw e refl)
-lengths-by text false e = inr ((λ h. cc (e, lt-ltb 4096 (length text) h)), rw e refl)
+lengths-by : (text : List ℕ) (b : Bool) → nat_lt longest_formula (length text) ≡ b → Lengths text
+lengths-by text true e = inl (ltb-true longest_formula (length text) e, rw e refl)
+lengths-by text false e = inr ((λ h. cc (e, lt-ltb longest_formula (length text) h)), rw e refl)
 
 lengths : (text : List ℕ) → Lengths text
-lengths text = lengths-by text (nat_lt 4096 (length text)) refl
+lengths text = lengths-by text (nat_lt longest_formula (length text)) refl
 
 -- ---- the fault stands
 
@@ -57,12 +58,12 @@ after-long : (fault : FormulaFault) (c : FormulaCode) (at : ℕ) → fault.code 
 after-long fault code.TooLong at e = e
 after-long fault c at e = inl e
 
-tokens-given : (text : List ℕ) (c : FormulaCode) (at : ℕ) → (4096 < length text → ⊥)
+tokens-given : (text : List ℕ) (c : FormulaCode) (at : ℕ) → (longest_formula < length text → ⊥)
     → (f : FormulaFault) → Precedes f c at → TextHasFault text c at → ComesFirst f c at
 tokens-given text code.TooLong at short f p h = absurd (short h.0)
 tokens-given text c at short f p h = inr p
 
-of-tokens : (text : List ℕ) (c : FormulaCode) (at : ℕ) → (4096 < length text → ⊥) → TextHasFault text c at → HasFault (lex text).tokens (lex text).end c at
+of-tokens : (text : List ℕ) (c : FormulaCode) (at : ℕ) → (longest_formula < length text → ⊥) → TextHasFault text c at → HasFault (lex text).tokens (lex text).end c at
 of-tokens text code.TooLong at short h = absurd (short h.0)
 of-tokens text c at short h = h
 
@@ -105,7 +106,7 @@ same-fault : (f g : FormulaFault) → f.code ≡ g.code → f.place ≡ g.place 
 same-fault f g e h = ap₂ (λ (c : FormulaCode) (p : ℕ). let made : FormulaFault = record { code = c; place = p } in made) e h
 
 -- a fault of a text that is too long, at its place
-place-of-long : (text : List ℕ) (c : FormulaCode) (at : ℕ) → c ≡ code.TooLong → TextHasFault text c at → at ≡ 4096
+place-of-long : (text : List ℕ) (c : FormulaCode) (at : ℕ) → c ≡ code.TooLong → TextHasFault text c at → at ≡ longest_formula
 place-of-long text code.TooLong at e h = h.1
 place-of-long text code.Token at e h = cc e
 place-of-long text code.Syntax at e h = cc e

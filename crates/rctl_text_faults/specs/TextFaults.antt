@@ -1,5 +1,6 @@
 -- The faults that a text has, and the first of them.
 use Rattle.std.specs.Prelude.{◌≡◌, ℕ, ◌<◌, ◌⊎◌, List, length}
+use Rattle.pota_base.specs.Limits.{longest_formula}
 use Rattle.rctl_grammar.specs.declared.fault.FormulaCode.{FormulaCode}
 use Rattle.rctl_grammar.specs.declared.fault.FormulaCode.TheVariants as code
 use Rattle.rctl_grammar.specs.declared.fault.FormulaFault.{FormulaFault}
@@ -8,7 +9,7 @@ use Rattle.rctl_laws.specs.Table.{HasFault, Precedes}
 
 -- the text has such a fault at that place: it is too long, or its tokens have the fault
 abbrev pub TextHasFault : List ℕ → FormulaCode → ℕ → Type 0
-TextHasFault text code.TooLong at = (4096 < length text) × (at ≡ 4096)
+TextHasFault text code.TooLong at = (longest_formula < length text) × (at ≡ longest_formula)
 TextHasFault text c at = HasFault (lex text).tokens (lex text).end c at
 
 -- too long comes before all others, and each of these is the other or comes before it by its place,

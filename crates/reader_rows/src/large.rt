@@ -1,7 +1,8 @@
-//! Pictures of large made logs: how many events and receipts a log has, and how many marks and arrows
-//! its picture; and how many events of two processes set their counters, of which the last twelve of
-//! each are shown.
+//! Pictures of large made logs: how many events and receipts a log has, and how many marks and
+//! arrows its picture; and how many events of two processes set their counters, of which the last
+//! twelve of each are shown.
 ghost use Rattle.std.specs.Prelude.{◌≤◌};
+ghost use Rattle.pota_base.specs.Limits.{most_events};
 
 use crate::run::{Reader, Setting, run};
 use event_log::write_log;
@@ -35,7 +36,7 @@ fn lines_with(text: &str, piece: &str) -> usize {
 
 // The log of 32 processes and so many events that the seed makes.
 fn log_text(alloc: Global, seed: u64, events: u32) -> Result<String, NoMemory>
-    requires { events ≤ 50000 }
+    requires { events ≤ most_events }
 {
     let log = generate(alloc, seed, 32, events)?;
     let text = write_log(alloc, &log)?;
@@ -99,8 +100,8 @@ pub fn large_picture(alloc: Global, seed: u64) -> Result<Shapes, AllocError> {
     })
 }
 
-/// Counts what the picture of a log of 20,000 events shows that is folded to two counters: the events
-/// of their processes, each of which sets its own, and the marks.
+/// Counts what the picture of a log of 20,000 events shows that is folded to two counters: the
+/// events of their processes, each of which sets its own, and the marks.
 ///
 /// # Errors
 ///

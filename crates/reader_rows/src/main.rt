@@ -1,7 +1,7 @@
 //! Runs the calls of the views and of the verifier on the rows of its input, and prints for each
 //! section how many of its rows came out as they must, and each row that did not; then how many
-//! shapes the pictures of large logs have. A line `rows KIND NAME` begins a section, and `Kind` says
-//! what its rows are.
+//! shapes the pictures of large logs have. A line `rows KIND NAME` begins a section, and `Kind`
+//! says what its rows are.
 //!
 //! The crate `row_cases` says what the lines of a case mean: its log is the whole input, with the
 //! report or the certificate that stands behind the log, and its report is what must be written.

@@ -1,6 +1,7 @@
 //! What stands of a report behind its first lines.
 
 ghost use Rattle.std.specs.Prelude.{◌≡◌, ◌≤◌, length, IfOk};
+ghost use Rattle.pota_base.specs.Limits.{most_processes};
 ghost use Rattle.log_lines.specs.Spelling.{ProcsFit};
 ghost use Rattle.report_lines.specs.Spelling.{RunFits};
 ghost use Rattle.report_lines.specs.Reading.{has_path, with_steps};
@@ -69,7 +70,7 @@ fn measured(
     procs: List<Name>,
     line: &[u8],
 ) -> Result<Option<Draft>, NoMemory>
-    requires { length procs ≤ 32 }
+    requires { length procs ≤ most_processes }
     ensures { IfOk result (λ next. next ≡ step (NamedAs batch procs) line.now) }
 {
     let Some(lengths) = read_lengths(alloc, procs.len(), line)? else {

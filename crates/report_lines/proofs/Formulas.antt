@@ -4,6 +4,7 @@ use Rattle.std.specs.Prelude.{is_none, codes}
 use Rattle.std.specs.Str.{bytes_eq}
 use Rattle.std.proofs.lemmas.Bool.{cases_Bool, and_parts, true≢false}
 use Rattle.std.proofs.lemmas.Slice.Eq.{bytes_eq-Decides}
+use Rattle.pota_base.specs.Limits.{longest_canonical, longest_lexed}
 use Rattle.rctl_grammar.specs.declared.tree.Tree.{Tree}
 use Rattle.rctl_grammar.specs.declared.fault.FormulaFault.{FormulaFault}
 use Rattle.rctl_grammar.specs.FirstFault.{first_fault}
@@ -56,10 +57,10 @@ pub canonical_again : (text : List ℕ) → IsCanonical text → is_canonical te
 canonical_again text c = read_is text c.tree c.read ∙ (bytes_eq-Decides (canonical (shape_of c.tree)) text).1 c.printed
 
 -- a canonical text is short
-pub canonical_short : (text : List ℕ) → IsCanonical text → length text < 65536
-canonical_short text c = subst (λ (t : List ℕ). length t < 65536) c.printed (printed_shortly text c.tree c.read)
+pub canonical_short : (text : List ℕ) → IsCanonical text → length text < longest_lexed
+canonical_short text c = subst (λ (t : List ℕ). length t < longest_lexed) c.printed (printed_shortly text c.tree c.read)
 
-pub long_is_not : (text : List ℕ) → 65535 < length text → is_canonical text ≡ false
+pub long_is_not : (text : List ℕ) → longest_canonical < length text → is_canonical text ≡ false
 long_is_not text long = elim (cases_Bool (is_canonical text)) [
   | inl h ↦ absurd (omega (arith, canonical_short text (canonical_is text h)))
   | inr h ↦ h

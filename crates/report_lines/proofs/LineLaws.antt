@@ -15,6 +15,7 @@ use Rattle.log_lines.specs.Names.{Name}
 use Rattle.log_lines.specs.Spelling.{clock_text}
 use Rattle.log_lines.specs.Reading.{text_at, clock_at}
 use Rattle.pota_base.specs.Number.{digits_from}
+use Rattle.pota_base.specs.Limits.{most_events}
 use Rattle.log_lines.proofs.WordLaws.{bind_some, text_takes}
 use Rattle.slice_graph.specs.declared.edges.Edge.{Edge}
 use Rattle.report_lines.specs.Formula.{IsCanonical, is_canonical}
@@ -54,19 +55,19 @@ lengths_take procs line c h =
     let d = bind_some (text_at (codes "lengths ") line >>= cut_at (length procs) >>= alone) _ c h in
     let b = bind_some (text_at (codes "lengths ") line >>= cut_at (length procs)) alone d.0 d.1 in
     let a = bind_some (text_at (codes "lengths ") line) (cut_at (length procs)) b.0 b.1 in
-    let g = cond_some (nat_le (sum d.0) 50000) d.0 c d.2 in
+    let g = cond_some (nat_le (sum d.0) most_events) d.0 c d.2 in
     let end = alone_takes b.0 d.0 b.2 in
     let t = cut_takes (length procs) a.0 b.0.0 b.0.1 a.2 in
     let text = text_takes (codes "lengths ") line a.0 a.1 ∙ ap (λ (r : List ℕ). codes "lengths " ++ r) (nothing_left (clock_text b.0.0) a.0 b.0.1 t.text end.end) in
     let same : b.0.0 ≡ c = end.value ∙ g.1 in
-    let few : sum c ≤ 50000 = subst (λ (x : Cut). sum x ≤ 50000) g.1 (leb-true (sum d.0) 50000 g.0) in
+    let few : sum c ≤ most_events = subst (λ (x : Cut). sum x ≤ most_events) g.1 (leb-true (sum d.0) most_events g.0) in
     (subst (λ (x : Cut). line ≡ lengths_line x) same text, record { width = subst (λ (x : Cut). length x ≡ length procs) same t.width; few = few })
 
 pub lengths_again : (procs : List Name) (c : Cut) → 0 < length procs → LengthsFit procs c → lengths_in (length procs) (lengths_line c) ≡ Some c
 unfolding lengths_in text_at
 lengths_again procs c some fits =
     let read : cut_at (length procs) (clock_text c) ≡ Some (c, []) = ap (cut_at (length procs)) (sym (append-nil (clock_text c))) ∙ cut_again (length procs) c [] some fits.width (lengths_small c fits.few) stops_end in
-    rw (read, le-leb (sum c) 50000 fits.few) refl
+    rw (read, le-leb (sum c) most_events fits.few) refl
 
 -- ---- formula and verdict
 

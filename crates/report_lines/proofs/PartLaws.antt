@@ -11,6 +11,7 @@ use Rattle.pota_base.specs.declared.shape.EventId.{EventId}
 use Rattle.pota_base.specs.Shape.{HasEvent}
 use Rattle.pota_base.specs.Number.{number_at}
 use Rattle.pota_base.proofs.NumberLaws.{number_takes, number_again, starts_digit}
+use Rattle.pota_base.specs.Limits.{most_events}
 use Rattle.log_lines.specs.Names.{Name, is_name, place_of}
 use Rattle.log_lines.specs.Spelling.{ClockFits, clock_text}
 use Rattle.log_lines.specs.Reading.{text_at, spaced_name_at, clock_at}
@@ -76,11 +77,11 @@ cut_takes width xs c rest h =
     subst (λ (p : Cut × List ℕ). CutTaken width xs p.0 p.1) g.1 taken
 
 -- counts of at most 50,000 have a spelling
-pub small_counts : (c : Cut) → ((i : ℕ) → count c i ≤ 50000) → AllByRecursion (λ n. n < 2 ^ 32) c
+pub small_counts : (c : Cut) → ((i : ℕ) → count c i ≤ most_events) → AllByRecursion (λ n. n < 2 ^ 32) c
 small_counts [] h = tt
 small_counts (x ∷ c) h = (omega (arith, h 0), small_counts c (λ i. h (suc i)))
 
-pub lengths_small : (lengths : Cut) → sum lengths ≤ 50000 → (i : ℕ) → count lengths i ≤ 50000
+pub lengths_small : (lengths : Cut) → sum lengths ≤ most_events → (i : ℕ) → count lengths i ≤ most_events
 lengths_small lengths few i = omega (arith, item_le_sum lengths i)
 
 pub record Stops (rest : List ℕ) : Type 0 where
@@ -95,7 +96,7 @@ pub stops_space : (rest : List ℕ) → Stops (32 ∷ rest)
 unfolding text_at
 stops_space rest = record { comma = refl; digit = refl }
 
-pub cut_again : (width : ℕ) (c : Cut) (rest : List ℕ) → 0 < width → length c ≡ width → ((i : ℕ) → count c i ≤ 50000) → Stops rest → cut_at width (clock_text c ++ rest) ≡ Some (c, rest)
+pub cut_again : (width : ℕ) (c : Cut) (rest : List ℕ) → 0 < width → length c ≡ width → ((i : ℕ) → count c i ≤ most_events) → Stops rest → cut_at width (clock_text c ++ rest) ≡ Some (c, rest)
 unfolding cut_at
 cut_again width c rest some len small stops =
     let fits : ClockFits c = record { some = omega arith; each = small_counts c small } in
@@ -120,10 +121,10 @@ module _ (procs : List Name) (lengths : Cut) (run : RunFits procs lengths) where
   pub some_lengths : 0 < length lengths
   some_lengths = omega (arith, run.procs.some, run.lengths.width)
 
-  pub length_small : (i : ℕ) → count lengths i ≤ 50000
+  pub length_small : (i : ℕ) → count lengths i ≤ most_events
   length_small i = lengths_small lengths run.lengths.few i
 
-  pub within_small : (c : Cut) → CutFits lengths c → (i : ℕ) → count c i ≤ 50000
+  pub within_small : (c : Cut) → CutFits lengths c → (i : ℕ) → count c i ≤ most_events
   within_small c fits i = omega (arith, fits.within i, length_small i)
 
   pub within_at_again : (c : Cut) (rest : List ℕ) → CutFits lengths c → Stops rest → within_at lengths (clock_text c ++ rest) ≡ Some (c, rest)

@@ -6,6 +6,7 @@ use Rattle.std.specs.Borrow.{Bor}
 use Rattle.run_model.specs.Cut.{Cut, count}
 use Rattle.pota_base.specs.declared.shape.EventId.{EventId}
 use Rattle.pota_base.specs.Number.{◌>>=◌, number_at}
+use Rattle.pota_base.specs.Limits.{most_events}
 use Rattle.log_lines.specs.Names.{Name, place_of}
 use Rattle.log_lines.specs.Reading.{choose, text_at, spaced_name_at, clock_at}
 use Rattle.witness_kinds.specs.declared.Path.{Path}
@@ -63,7 +64,7 @@ batch_in line = text_at (codes "batch ") line >>= positive_at >>= alone
 unfoldable pub lengths_in : ℕ → List ℕ → Option Cut
 lengths_in procs line =
     text_at (codes "lengths ") line >>= cut_at procs >>= alone >>= λ lengths. if nat_le
-    (sum lengths) 50000 then Some lengths else None
+    (sum lengths) most_events then Some lengths else None
 
 unfoldable pub formula_in : List ℕ → Option (List ℕ)
 formula_in line =

@@ -7,6 +7,7 @@ use Rattle.std.specs.Fmt.{decimal}
 use Rattle.run_model.specs.Cut.{Cut, IsWithin}
 use Rattle.pota_base.specs.declared.shape.EventId.{EventId}
 use Rattle.pota_base.specs.Shape.{HasEvent}
+use Rattle.pota_base.specs.Limits.{most_events}
 use Rattle.log_lines.specs.Names.{Name}
 use Rattle.log_lines.specs.Spelling.{ProcsFit, clock_text}
 use Rattle.event_log.specs.LogText.{name_at}
@@ -88,7 +89,7 @@ pub record IsPositive (n : ℕ) : Type 0 where
 -- one component a process, and at most 50,000 events
 pub record LengthsFit (procs : List Name) (lengths : Cut) : Type 0 where
   pub width : length lengths ≡ length procs
-  pub few : sum lengths ≤ 50000
+  pub few : sum lengths ≤ most_events
 
 -- one component a process, within the lengths
 pub record CutFits (lengths c : Cut) : Type 0 where

@@ -2,6 +2,7 @@
 
 ghost use Rattle.std.specs.Prelude.{◌≡◌, ◌≤◌, IfOk, length, sum, if◌then◌else◌};
 ghost use Rattle.std.specs.Str.{bytes_eq};
+ghost use Rattle.pota_base.specs.Limits.{longest_canonical, most_processes};
 ghost use Rattle.rctl_grammar.specs.Shape.{shape_of};
 ghost use Rattle.rctl_print.specs.Canonical.{canonical};
 ghost use Rattle.report_lines.specs.Formula.{is_canonical};
@@ -11,16 +12,10 @@ ghost use Rattle.report_lines.specs.Reading.{verdict_in};
 use crate::parts::{cut_at, positive_at};
 use cut_lattice::Cut;
 use log_lines::text_at;
-use pota_base::{Bytes, NoMemory, Refused};
+use pota_base::{Bytes, LONGEST_CANONICAL, MOST_EVENTS, NoMemory, Refused};
 use rctl_grammar::Formula;
 use rctl_round_trip::{parse_long, print};
 use std::alloc::Global;
-
-/// The most events of a run.
-const MOST_EVENTS: u64 = 50_000;
-
-/// The most bytes of a canonical text.
-const LONGEST_CANONICAL: usize = 65_535;
 
 /// Whether the line is the first one of a report.
 pub fn is_title(line: &[u8]) -> bool
@@ -44,7 +39,7 @@ pub fn read_batch(line: &[u8]) -> Option<u32>
 
 // The sum of counts of 32 bits.
 fn total(counts: &[u32]) -> u64
-    requires { length counts.now ≤ 32 }
+    requires { length counts.now ≤ most_processes }
     ensures { result ≡ sum counts.now }
 {
     let mut all = 0u64;
@@ -57,14 +52,14 @@ fn total(counts: &[u32]) -> u64
 /// The lengths of so many processes that the line spells, at most 50,000 events in all.
 #[tactic(auto, unfolding(crate::specs::Reading::lengths_in))]
 pub fn read_lengths(alloc: Global, procs: usize, line: &[u8]) -> Result<Option<Cut>, NoMemory>
-    requires { procs ≤ 32 }
+    requires { procs ≤ most_processes }
     ensures { IfOk result (λ lengths. lengths ≡ lengths_in procs line.now) }
 {
     let Some(rest) = text_at(b"lengths ", line) else {
         return Ok(None);
     };
     match cut_at(alloc, procs, rest)? {
-        Some((lengths, [])) if total(lengths.as_slice()) <= MOST_EVENTS => Ok(Some(lengths)),
+        Some((lengths, [])) if total(lengths.as_slice()) <= MOST_EVENTS as u64 => Ok(Some(lengths)),
         _ => Ok(None),
     }
 }
@@ -84,7 +79,7 @@ fn text_of(alloc: Global, formula: &Formula, text: &[u8]) -> Result<Option<Bytes
 
 // The text, where it is canonical.
 fn canonical_of(alloc: Global, text: &[u8]) -> Result<Option<Bytes>, NoMemory>
-    requires { length text.now ≤ 65535 }
+    requires { length text.now ≤ longest_canonical }
     ensures { IfOk result (λ found.
         found ≡ (if is_canonical text.now then Some text.now else None)) }
 {

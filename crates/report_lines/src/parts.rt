@@ -2,6 +2,7 @@
 
 ghost use Rattle.std.specs.Prelude.{◌≡◌, ◌≤◌, ◌<◌, length, IfOk, IfSome};
 ghost use Rattle.pota_base.specs.Number.{seen};
+ghost use Rattle.pota_base.specs.Limits.{most_processes};
 ghost use Rattle.report_lines.specs.Reading.{positive_at, cut_at, within_at, event_at};
 
 use cut_lattice::Cut;
@@ -24,7 +25,7 @@ pub fn positive_at(bytes: &[u8]) -> Option<(u32, &[u8])>
 
 // The cut of these counts.
 fn cut_of(alloc: Global, counts: &[u32]) -> Result<Cut, NoMemory>
-    requires { length counts.now ≤ 32 }
+    requires { length counts.now ≤ most_processes }
     ensures { IfOk result (λ cut. cut ≡ counts.now) }
 {
     let mut cut = Cut::new(alloc, counts.len() as u32)?;
@@ -37,7 +38,7 @@ fn cut_of(alloc: Global, counts: &[u32]) -> Result<Cut, NoMemory>
 /// The cut of so many processes at the front, and the bytes behind it.
 #[tactic(auto, unfolding(crate::specs::Reading::cut_at))]
 pub fn cut_at(alloc: Global, width: usize, bytes: &[u8]) -> Result<Option<(Cut, &[u8])>, NoMemory>
-    requires { width ≤ 32 }
+    requires { width ≤ most_processes }
     ensures found { IfOk result (λ found. seen found ≡ cut_at width bytes.now) }
     ensures width { IfOk result (λ found. IfSome found (λ x. length x.0 ≡ width)) }
 {
@@ -59,7 +60,7 @@ pub fn within_at<'a>(
     lengths: &Cut,
     bytes: &'a [u8],
 ) -> Result<Option<(Cut, &'a [u8])>, NoMemory>
-    requires { length lengths.now ≤ 32 }
+    requires { length lengths.now ≤ most_processes }
     ensures { IfOk result (λ found. seen found ≡ within_at lengths.now bytes.now) }
 {
     let Some((cut, rest)) = cut_at(alloc, lengths.as_slice().len(), bytes)? else {
@@ -75,7 +76,7 @@ pub fn within_at<'a>(
 /// bytes behind it.
 #[tactic(auto, unfolding(crate::specs::Reading::event_at))]
 pub fn event_at<'a>(procs: &[Name], lengths: &Cut, bytes: &'a [u8]) -> Option<(EventId, &'a [u8])>
-    requires few { length procs.now ≤ 32 }
+    requires few { length procs.now ≤ most_processes }
     requires width { length lengths.now ≡ length procs.now }
     ensures { seen result ≡ event_at procs.now lengths.now bytes.now }
 {

@@ -1,6 +1,7 @@
 //! The lines of a slice.
 
 ghost use Rattle.std.specs.Prelude.{◌≡◌, ◌≤◌, length, IfOk};
+ghost use Rattle.pota_base.specs.Limits.{most_processes};
 ghost use Rattle.report_lines.specs.Reading.{bounds_in, slice_in, edge_in, step_in};
 
 use crate::parts::{event_at, within_at};
@@ -18,7 +19,7 @@ fn bounds_in(
     lengths: &Cut,
     bytes: &[u8],
 ) -> Result<Option<Option<(Cut, Cut)>>, NoMemory>
-    requires { length lengths.now ≤ 32 }
+    requires { length lengths.now ≤ most_processes }
     ensures { IfOk result (λ bounds. bounds ≡ bounds_in lengths.now bytes.now) }
 {
     let Some((low, rest)) = within_at(alloc, lengths, bytes)? else {
@@ -41,7 +42,7 @@ pub fn read_slice(
     lengths: &Cut,
     line: &[u8],
 ) -> Result<Option<Option<(Cut, Cut)>>, NoMemory>
-    requires { length lengths.now ≤ 32 }
+    requires { length lengths.now ≤ most_processes }
     ensures { IfOk result (λ bounds. bounds ≡ slice_in lengths.now line.now) }
 {
     let Some(rest) = text_at(b"slice ", line) else {
@@ -56,7 +57,7 @@ pub fn read_slice(
 /// The edge that the line spells.
 #[tactic(auto, unfolding(crate::specs::Reading::edge_in))]
 pub fn read_edge(procs: &[Name], lengths: &Cut, line: &[u8]) -> Option<Edge>
-    requires few { length procs.now ≤ 32 }
+    requires few { length procs.now ≤ most_processes }
     requires width { length lengths.now ≡ length procs.now }
     ensures { result ≡ edge_in procs.now lengths.now line.now }
 {
@@ -73,7 +74,7 @@ pub fn read_edge(procs: &[Name], lengths: &Cut, line: &[u8]) -> Option<Edge>
 /// The step of a path that the line spells.
 #[tactic(auto, unfolding(crate::specs::Reading::step_in))]
 pub fn read_step(procs: &[Name], lengths: &Cut, line: &[u8]) -> Option<EventId>
-    requires few { length procs.now ≤ 32 }
+    requires few { length procs.now ≤ most_processes }
     requires width { length lengths.now ≡ length procs.now }
     ensures { result ≡ step_in procs.now lengths.now line.now }
 {

@@ -1,6 +1,7 @@
 //! The lines of witnesses.
 
 ghost use Rattle.std.specs.Prelude.{◌≡◌, ◌≤◌, length, IfOk};
+ghost use Rattle.pota_base.specs.Limits.{most_processes};
 ghost use Rattle.report_lines.specs.Reading.{goal_in, pair_in, plain_in, kind_in, numbers_seen};
 ghost use Rattle.report_lines.specs.Reading.{numbers_at, witness_in};
 
@@ -15,7 +16,7 @@ use witness_kinds::{Path, Witness};
 
 // The path to the goal that is all of the bytes, without its steps.
 fn goal_in(alloc: Global, lengths: &Cut, bytes: &[u8]) -> Result<Option<Path>, NoMemory>
-    requires { length lengths.now ≤ 32 }
+    requires { length lengths.now ≤ most_processes }
     ensures { IfOk result (λ path. path ≡ goal_in lengths.now bytes.now) }
 {
     match within_at(alloc, lengths, bytes)? {
@@ -29,7 +30,7 @@ fn goal_in(alloc: Global, lengths: &Cut, bytes: &[u8]) -> Result<Option<Path>, N
 
 // Two events that are all of the bytes.
 fn pair_in(procs: &[Name], lengths: &Cut, bytes: &[u8]) -> Option<Witness>
-    requires few { length procs.now ≤ 32 }
+    requires few { length procs.now ≤ most_processes }
     requires width { length lengths.now ≡ length procs.now }
     ensures { result ≡ pair_in procs.now lengths.now bytes.now }
 {
@@ -65,7 +66,7 @@ fn kind_in(
     lengths: &Cut,
     bytes: &[u8],
 ) -> Result<Option<Witness>, NoMemory>
-    requires few { length procs.now ≤ 32 }
+    requires few { length procs.now ≤ most_processes }
     requires width { length lengths.now ≡ length procs.now }
     ensures { IfOk result (λ kind. kind ≡ kind_in procs.now lengths.now bytes.now) }
 {
@@ -105,7 +106,7 @@ pub fn read_witness(
     lengths: &Cut,
     line: &[u8],
 ) -> Result<Option<WitnessText>, NoMemory>
-    requires few { length procs.now ≤ 32 }
+    requires few { length procs.now ≤ most_processes }
     requires width { length lengths.now ≡ length procs.now }
     ensures { IfOk result (λ witness. witness ≡ witness_in procs.now lengths.now line.now) }
 {

@@ -21,7 +21,7 @@ use Rattle.part_pulls.specs.Counters.{CountersRise}
 use Rattle.part_pulls.specs.Observing.{Reading, AreAnswers, trace_seen, run_seen}
 use Rattle.answering.specs.PassedOn.{IsAnswer}
 use Rattle.answer_report.specs.PassedOn.{Asked, IsReportOn}
-use Rattle.run_options.specs.declared.shown.Shown.{Shown}
+use Rattle.call_options.specs.declared.shown.Shown.{Shown}
 use Rattle.answer_report.specs.Asking.{IsAskedOf}
 use Rattle.log_rules.specs.Judgement.{Prefix}
 use Rattle.log_rules.proofs.Rising.{whole_log}

@@ -3,7 +3,7 @@ use Rattle.std.specs.Prelude.{ℕ, List}
 use Rattle.run_model.specs.Run.{Name, Watches}
 use Rattle.rctl_class.specs.Nodes.{Node, node_of, formula_of}
 use Rattle.report.specs.declared.report.Report.{Report}
-use Rattle.run_options.specs.declared.shown.Shown.{Shown}
+use Rattle.call_options.specs.declared.shown.Shown.{Shown}
 use Rattle.answer_report.specs.PassedOn.{Asked, IsReportOf}
 use Rattle.stated_formula.specs.declared.formula.Stated.{Stated}
 use Rattle.log_rules.specs.Judgement.{Prefix, Rules}

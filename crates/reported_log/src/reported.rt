@@ -18,12 +18,12 @@ ghost use Rattle.reported_log.specs.Checking.{GoesOn, HasClosed, IsCheckOf, IsRe
 
 use answer_report::report_on;
 use answering::{Answering, Means, what_goes_on_goes_on_later};
+use call_options::Shown;
 use event_log::{Item, Log};
 use fault_kinds::Refusal;
 use log_check::{CheckedLog, LogCheck};
 use pota_base::{Gate, NoMemory, Refused, Steps};
 use report::Report;
-use run_options::Shown;
 use stated_formula::Stated;
 use std::alloc::Global;
 use std::sync::ledger::Ledger;

@@ -1,9 +1,7 @@
 //! Parts of logs that are too long to be stored.
 
+use pota_base::MOST_PROCESSES;
 use std::alloc::AllocError;
-
-/// The most processes of a log.
-const PROCESSES: usize = 32;
 
 /// Appends the number in decimal digits.
 ///
@@ -66,11 +64,11 @@ pub fn put_clock(to: &mut Vec<u8>, clock: &[u32]) -> Result<(), AllocError> {
 
 // Appends so many local events of the process of this index, which know no event of another one.
 fn put_own_events(to: &mut Vec<u8>, process: usize, count: u32) -> Result<(), AllocError> {
-    let mut clock = [0_u32; PROCESSES];
+    let mut clock = [0_u32; MOST_PROCESSES];
     for i in 0..count {
-        clock[process % PROCESSES] = i.saturating_add(1);
+        clock[process % MOST_PROCESSES] = i.saturating_add(1);
         to.extend_from_slice(b"ev P")?;
-        put_number(to, (process % PROCESSES) as u32 + 1)?;
+        put_number(to, (process % MOST_PROCESSES) as u32 + 1)?;
         to.push(b' ')?;
         put_clock(to, clock.as_slice())?;
         to.extend_from_slice(b" int n=")?;
@@ -88,7 +86,7 @@ pub fn put_alone(to: &mut Vec<u8>, count: u32) -> Result<(), AllocError> {
         put_number(to, i + 1)?;
         to.extend_from_slice(b" n=0\n")?;
     }
-    for process in 0..PROCESSES {
+    for process in 0..MOST_PROCESSES {
         put_own_events(to, process, count)?;
     }
     Ok(())

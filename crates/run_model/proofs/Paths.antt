@@ -3,7 +3,7 @@ use Rattle.std.proofs.Common.{ℕ, ◌<◌, List, [], ◌∷◌, ◌++◌, lengt
 use Rattle.run_model.specs.Cut.{Cut, Clocks, IsWithin, with_next, Follows}
 use Rattle.run_model.specs.Consistent.{IsConsistent, PathIn, IsPath}
 use Rattle.run_model.specs.Sublattice.{AllIn}
-use Rattle.run_model.specs.Operators.{EachTime, NextTime}
+use Rattle.run_model.specs.Operators.{AgHolds, ExHolds}
 use Rattle.run_model.proofs.Counts.{within_refl, within_trans, with_next_above}
 
 pub follows_rises : (c d : Cut) → Follows c d → IsWithin c d
@@ -61,15 +61,15 @@ pub ends_are_all : (A B : Cut → Type 0) (c : Cut) (es : List Cut) (d : Cut) �
 ends_are_all A B c [] d h p = h [] c (p.0, refl)
 ends_are_all A B c (e ∷ es) d h p = (h [] c (p.0, refl), ends_are_all A B e es d (λ fs x q. h (e ∷ fs) x (p.0, p.1, q)) p.2)
 
-pub each_time_ends : (o : Clocks) (A : Cut → Type 0) (c : Cut) → EachTime o A c → (es : List Cut) (d : Cut) → IsPath o c es d → A d
+pub each_time_ends : (o : Clocks) (A : Cut → Type 0) (c : Cut) → AgHolds o A c → (es : List Cut) (d : Cut) → IsPath o c es d → A d
 each_time_ends o A c h es d p = all_last A (IsConsistent o) c es d p (h es d p)
 
-pub each_time_from_ends : (o : Clocks) (A : Cut → Type 0) (c : Cut) → ((es : List Cut) (d : Cut) → IsPath o c es d → A d) → EachTime o A c
+pub each_time_from_ends : (o : Clocks) (A : Cut → Type 0) (c : Cut) → ((es : List Cut) (d : Cut) → IsPath o c es d → A d) → AgHolds o A c
 each_time_from_ends o A c h es d p = ends_are_all A (IsConsistent o) c es d h p
 
 -- a step to a consistent cut of the set is a path of two cuts
-pub next_time_from : (o : Clocks) (i : ℕ) (A : Cut → Type 0) (c : Cut) → i < length c → IsConsistent o c → IsConsistent o (with_next c i) → A (with_next c i) → NextTime o i A c
+pub next_time_from : (o : Clocks) (i : ℕ) (A : Cut → Type 0) (c : Cut) → i < length c → IsConsistent o c → IsConsistent o (with_next c i) → A (with_next c i) → ExHolds o i A c
 next_time_from o i A c l k n h = (l, (k, (i, l, refl), (n, refl)), h)
 
-pub next_time_lands : (o : Clocks) (i : ℕ) (A : Cut → Type 0) (c : Cut) → NextTime o i A c → IsConsistent o (with_next c i)
+pub next_time_lands : (o : Clocks) (i : ℕ) (A : Cut → Type 0) (c : Cut) → ExHolds o i A c → IsConsistent o (with_next c i)
 next_time_lands o i A c w = path_last (IsConsistent o) c (with_next c i ∷ []) (with_next c i) w.1

@@ -6,7 +6,7 @@ use Rattle.std.specs.Ordering.{int_eq}
 use Rattle.run_model.specs.Cut.{Cut, count}
 use Rattle.run_model.specs.Run.{Name, Run}
 use Rattle.run_model.specs.Consistent.{IsOrder, IsConsistent}
-use Rattle.run_model.specs.Operators.{SomeTime, EachTime, Staying, NextTime}
+use Rattle.run_model.specs.Operators.{EfHolds, AgHolds, EgHolds, ExHolds}
 use Rattle.run_model.specs.Formula.{Relation, Equal, Unequal, Less, LessOrEqual, Greater}
 use Rattle.run_model.specs.Formula.{GreaterOrEqual, Side, Number, Variable, Ef, Ag, Eg, Af, Ax}
 use Rattle.run_model.specs.Formula.{Formula, Truth, Comparison, Watched, InTransit, Empty}
@@ -66,12 +66,12 @@ abbrev mutual
   Sat r (Not f) c = Sat r f c → ⊥
   Sat r (And fs) c = SatAll r fs c
   Sat r (Or fs) c = SatSome r fs c
-  Sat r (Temporal Ef f) c = SomeTime r.clocks (Sat r f) c
-  Sat r (Temporal Ag f) c = EachTime r.clocks (Sat r f) c
-  Sat r (Temporal Eg f) c = Staying r.clocks (Sat r f) c
+  Sat r (Temporal Ef f) c = EfHolds r.clocks (Sat r f) c
+  Sat r (Temporal Ag f) c = AgHolds r.clocks (Sat r f) c
+  Sat r (Temporal Eg f) c = EgHolds r.clocks (Sat r f) c
   Sat r (Temporal Af f) c = ⊥
   Sat r (Temporal Ax f) c = ⊥
-  Sat r (Next process f) c = NextTime r.clocks (r.process process) (Sat r f) c
+  Sat r (Next process f) c = ExHolds r.clocks (r.process process) (Sat r f) c
   Sat r (Until all left right) c = ⊥
 
   -- each formula is true

@@ -8,25 +8,25 @@ use Rattle.run_model.specs.Sublattice.{AllIn}
 use Rattle.run_model.specs.Slice.{Slice, HasWithin}
 
 -- EF: some path from c ends in the set
-abbrev pub SomeTime : Clocks → (Cut → Type 0) → Cut → Type 0
-SomeTime o A c = (es : List Cut) × (d : Cut) × IsPath o c es d × A d
+abbrev pub EfHolds : Clocks → (Cut → Type 0) → Cut → Type 0
+EfHolds o A c = (es : List Cut) × (d : Cut) × IsPath o c es d × A d
 
 -- AG: each cut of every path from c is in the set
-abbrev pub EachTime : Clocks → (Cut → Type 0) → Cut → Type 0
-EachTime o A c = (es : List Cut) (d : Cut) → IsPath o c es d → AllIn A c es
+abbrev pub AgHolds : Clocks → (Cut → Type 0) → Cut → Type 0
+AgHolds o A c = (es : List Cut) (d : Cut) → IsPath o c es d → AllIn A c es
 
 -- EG: some path from c to the final cut stays in the set
-abbrev pub Staying : Clocks → (Cut → Type 0) → Cut → Type 0
-Staying o A c = (es : List Cut) × IsPath o c es (lengths o) × AllIn A c es
+abbrev pub EgHolds : Clocks → (Cut → Type 0) → Cut → Type 0
+EgHolds o A c = (es : List Cut) × IsPath o c es (lengths o) × AllIn A c es
 
 -- EX of process i: some path of two cuts from c ends in the set, with one event of i more
-abbrev pub NextTime : Clocks → ℕ → (Cut → Type 0) → Cut → Type 0
-NextTime o i A c =
+abbrev pub ExHolds : Clocks → ℕ → (Cut → Type 0) → Cut → Type 0
+ExHolds o i A c =
     (i < length c) × IsPath o c (with_next c i ∷ []) (with_next c i) × A (with_next c i)
 
 -- AG at c by the rows of the set's slice: each is within the maximum of c and the past of its
 -- event, so c has each event of the row that is not in that past
-pub record HoldsAlways (o : Clocks) (s : Slice) (c : Cut) : Type 0 where
+pub record AgHoldsByRows (o : Clocks) (s : Slice) (c : Cut) : Type 0 where
   pub bottom : HasWithin s.bottom c
   pub rows : (i a : ℕ) → IsEvent (lengths o) i a → HasWithin (s.row i a) (max_cut c (clock o i a))
 

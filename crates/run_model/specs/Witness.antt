@@ -10,7 +10,7 @@ use Rattle.run_model.specs.Slice.{Slice, Cuts, StandsFor}
 use Rattle.run_model.specs.Formula.{Ef, Ag, Eg, Af, Ax, Formula, Truth, Comparison, Watched}
 use Rattle.run_model.specs.Formula.{InTransit, Empty, Difference, Not, And, Or, Temporal, Next}
 use Rattle.run_model.specs.Formula.{Until}
-use Rattle.run_model.specs.Operators.{NextTime}
+use Rattle.run_model.specs.Operators.{ExHolds}
 use Rattle.run_model.specs.Meaning.{Sat, Family}
 
 -- an event by its process, from 0, and its position there, from 1
@@ -96,7 +96,7 @@ pub data IsOfKind (r : Run) : Formula → Witness → Type 0 where
       → IsOfKind r (Temporal Eg f) (StuckPair first other)
   -- the step leads to a cut where f is true
   reaches_next : {process : Name} {f : Formula}
-      → NextTime r.clocks (r.process process) (Sat r f) (initial r.clocks)
+      → ExHolds r.clocks (r.process process) (Sat r f) (initial r.clocks)
       → IsOfKind r (Next process f) (Reach (first_event_of r.clocks (r.process process)))
   not_temporal : {f : Formula} → IsFalse (is_temporal f) → IsOfKind r f Nothing
   never : {f : Formula} → (Sat r (Temporal Ef f) (initial r.clocks) → ⊥)
@@ -144,17 +144,17 @@ Shares s e f = AreTwo e f × (row_at s f ≡ row_at s e)
 -- the operators whose parts get a witness: EF, AG, EG and EX of a process by the words that they
 -- stand for
 pub data WitnessOperator : Type 0 where
-  ExistsFinally : WitnessOperator
-  AlwaysGlobally : WitnessOperator
-  ExistsGlobally : WitnessOperator
+  ForEf : WitnessOperator
+  ForAg : WitnessOperator
+  ForEg : WitnessOperator
   ExistsNext : (process : ℕ) → WitnessOperator
 
 -- the part is what the operator makes of the operand. EX names its process in the formula, and has
 -- its number in the witness
 abbrev pub IsPartOf : Run → WitnessOperator → Formula → Formula → Type 0
-IsPartOf r ExistsFinally f part = part ≡ Temporal Ef f
-IsPartOf r AlwaysGlobally f part = part ≡ Temporal Ag f
-IsPartOf r ExistsGlobally f part = part ≡ Temporal Eg f
+IsPartOf r ForEf f part = part ≡ Temporal Ef f
+IsPartOf r ForAg f part = part ≡ Temporal Ag f
+IsPartOf r ForEg f part = part ≡ Temporal Eg f
 IsPartOf r (ExistsNext i) f part =
     (process : Name) × (r.process process ≡ i) × (part ≡ Next process f)
 
@@ -166,28 +166,28 @@ HasFirst o s i = (i < length o) × Cuts o s (with_next (initial o) i)
 pub data IsCanonical (o : Clocks) (s : Slice) : WitnessOperator → Witness → Type 0 where
   -- EF: to the least cut, if there is one
   reaches : {path : PathTo} → s.bottom ≡ Some path.goal → FirstStepsTo o path
-      → IsCanonical o s ExistsFinally (Reach path)
-  never : s.bottom ≡ None → IsCanonical o s ExistsFinally Nothing
+      → IsCanonical o s ForEf (Reach path)
+  never : s.bottom ≡ None → IsCanonical o s ForEf Nothing
   -- AG: against the initial cut, else against the past of the first event whose row is not its past
   refuted_at_start : (Cuts o s (initial o) → ⊥)
-      → IsCanonical o s AlwaysGlobally (Against (record { goal = initial o; steps = [] }))
+      → IsCanonical o s ForAg (Against (record { goal = initial o; steps = [] }))
   refuted : {path : PathTo} {e : Place} → Cuts o s (initial o) → IsFirst o (Departs o s) e
       → path.goal ≡ clock o e.process e.position → FirstStepsTo o path
-      → IsCanonical o s AlwaysGlobally (Against path)
+      → IsCanonical o s ForAg (Against path)
   each_time : Cuts o s (initial o)
       → ((e : Place) → IsPlace o e → row_at s e ≡ Some (clock o e.process e.position))
-      → IsCanonical o s AlwaysGlobally Nothing
+      → IsCanonical o s ForAg Nothing
   -- EG: a path through the slice, else what stands against it: the initial cut, the final cut, or
   -- the first two events that share a row
   stays : {path : PathTo} → path.goal ≡ lengths o
       → FirstSteps (Cuts o s) (initial o) path.steps path.goal
-      → IsCanonical o s ExistsGlobally (Always path)
-  false_at_start : (Cuts o s (initial o) → ⊥) → IsCanonical o s ExistsGlobally StuckStart
+      → IsCanonical o s ForEg (Always path)
+  false_at_start : (Cuts o s (initial o) → ⊥) → IsCanonical o s ForEg StuckStart
   false_at_finish : Cuts o s (initial o) → (Cuts o s (lengths o) → ⊥)
-      → IsCanonical o s ExistsGlobally StuckFinish
+      → IsCanonical o s ForEg StuckFinish
   come_together : {first other : Place} → Cuts o s (initial o) → Cuts o s (lengths o)
       → IsFirst o (λ e. (f : Place) × IsPlace o f × Shares s e f) first
-      → IsFirst o (Shares s first) other → IsCanonical o s ExistsGlobally (StuckPair first other)
+      → IsFirst o (Shares s first) other → IsCanonical o s ForEg (StuckPair first other)
   -- EX: the one step, if it leads to a cut of the slice
   reaches_next : {process : ℕ} → HasFirst o s process
       → IsCanonical o s (ExistsNext process) (Reach (first_event_of o process))
@@ -205,9 +205,9 @@ explained r (Difference left_process left right_process right relation k) = None
 explained r (Not f) = None
 explained r (And fs) = None
 explained r (Or fs) = None
-explained r (Temporal Ef f) = Some (ExistsFinally, f)
-explained r (Temporal Ag f) = Some (AlwaysGlobally, f)
-explained r (Temporal Eg f) = Some (ExistsGlobally, f)
+explained r (Temporal Ef f) = Some (ForEf, f)
+explained r (Temporal Ag f) = Some (ForAg, f)
+explained r (Temporal Eg f) = Some (ForEg, f)
 explained r (Temporal Af f) = None
 explained r (Temporal Ax f) = None
 explained r (Next process f) = Some (ExistsNext (r.process process), f)

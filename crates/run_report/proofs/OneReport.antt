@@ -27,7 +27,7 @@ use Rattle.report.specs.PassedOn.{WitnessText}
 use Rattle.report.specs.declared.report.Report.{Report}
 use Rattle.report.specs.declared.report.SliceText.{SliceText}
 use Rattle.run_report.specs.Witnesses.{IsTextFor, ArePartTexts, AreTextsOfTrue, IsTextOfFalse, AreTextsOfFalse, AreWitnesses}
-use Rattle.run_options.specs.declared.sizes.Sizes.{Sizes}
+use Rattle.call_options.specs.declared.sizes.Sizes.{Sizes}
 use Rattle.run_report.specs.Benches.{summary_text, benched, IsSummaryOf}
 use Rattle.run_report.specs.Reports.{Asked, text_seen, IsSliceShown, IsReportOn, IsReportOf}
 use Rattle.log_rules.specs.SoFar.{trace_so_far}

@@ -8,7 +8,7 @@ use Rattle.event_log.specs.Before.{Line}
 use Rattle.event_log.specs.LogText.{text_of}
 use Rattle.event_log.specs.declared.log.Event.{Event}
 use Rattle.event_log.specs.declared.log.Header.{Header}
-use Rattle.run_options.specs.declared.sizes.Sizes.{Sizes}
+use Rattle.call_options.specs.declared.sizes.Sizes.{Sizes}
 use Rattle.report.specs.PassedOn.{formula_line, verdict_line, slice_line}
 use Rattle.report.specs.declared.report.Report.{Report}
 use Rattle.report.specs.declared.report.SliceText.{SliceText}

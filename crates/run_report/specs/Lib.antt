@@ -1,3 +1,4 @@
+pub mod Laws
 pub mod Witnesses
 pub mod Reports
 pub mod Benches

@@ -1,5 +1,6 @@
 ghost use Rattle.std.specs.Prelude.{◌≡◌, ◌≤◌, length, IfOk};
 ghost use Rattle.std.specs.List.{AllByRecursion};
+ghost use Rattle.pota_base.specs.Limits.{most_events};
 ghost use Rattle.event_log.specs.declared.log.Header.{Header};
 ghost use Rattle.event_log.specs.States.{IsHeader, IsKnown};
 ghost use Rattle.vector_clock.specs.Events.{EventFits};
@@ -13,11 +14,11 @@ use trace_growth::Trace;
 
 // So many events of the first of two processes.
 fn many_events(alloc: Global, count: u32) -> Result<List<Event>, NoMemory>
-    requires { count ≤ 50000 }
+    requires { count ≤ most_events }
     ensures fits { IfOk result (λ batch. AllByRecursion (EventFits 2) batch) }
     ensures known { IfOk result (λ batch. (h : Header) → length h.procs ≡ 2
         → AllByRecursion (IsKnown h) batch) }
-    ensures len { IfOk result (λ batch. length batch ≤ 50000) }
+    ensures len { IfOk result (λ batch. length batch ≤ most_events) }
 {
     let mut batch = List::new(alloc);
     for before in 0..count {
@@ -53,7 +54,7 @@ fn extended(
 ) -> Result<(Trace, Option<LogFault>), NoMemory>
     requires fits { AllByRecursion (EventFits 2) batch }
     requires known { (h : Header) → length h.procs ≡ 2 → AllByRecursion (IsKnown h) batch }
-    requires len { length batch ≤ 50000 }
+    requires len { length batch ≤ most_events }
 {
     let mut trace = Trace::new(alloc, two_processes(rt, alloc)?)?;
     match trace.extend(batch) {

@@ -5,7 +5,7 @@ use crate::events::name;
 use event_log::{
     Assign, Binding, Event, Header, Kind, Log, LogCode, LogFault, Reader, count_events, write_log,
 };
-use pota_base::{Bytes, List, NoMemory};
+use pota_base::{Bytes, List, MOST_PROCESSES, NoMemory};
 use std::alloc::Global;
 use std::process::Abort;
 
@@ -146,7 +146,7 @@ fn written(rt: HostRuntime) -> Result<(), NoMemory> {
 }
 
 // The counts of one event of process 1.
-fn counted(alloc: Global) -> Result<[u32; 32], NoMemory> {
+fn counted(alloc: Global) -> Result<[u32; MOST_PROCESSES], NoMemory> {
     let event = Event {
         process: 1,
         line: 1,

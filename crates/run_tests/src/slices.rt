@@ -1,3 +1,4 @@
+ghost use Rattle.pota_base.specs.Blanks.{IsBlankOf};
 ghost use Rattle.std.specs.Prelude.{◌≡◌, ◌<◌, length, IfOk};
 
 use causal_order::Order;
@@ -177,9 +178,7 @@ fn system_of(alloc: Global, order: &Order) -> Result<System, NoMemory> {
 }
 
 fn closed_at<L: Ledger>(rt: &impl Abort, blank: Blank, system: &System, vector: &[u64]) -> bool
-    requires name { blank.name ≡ L.name }
-    requires parts { blank.parts ≡ L.parts }
-    requires some { 0 < blank.parts }
+    requires blank { IsBlankOf L.name L.parts blank }
 {
     assert!(rt; system.fits(vector));
     system.is_closed(vector, &mut Steps::<L>::new(blank))

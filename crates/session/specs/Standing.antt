@@ -1,5 +1,6 @@
 -- Where a session stands.
 use Rattle.std.specs.Prelude.{◌≡◌, ℕ, ◌≤◌, Bool, false, List, Option, IsSome}
+use Rattle.pota_base.specs.Limits.{most_workers}
 use Rattle.slice_workers.specs.Views.{SettledView}
 use Rattle.conjunctions.specs.declared.answer.Answer.{Answer}
 use Rattle.observation.specs.Growing.{GrowingView, HasTaken}
@@ -7,7 +8,7 @@ use Rattle.observation.specs.Growing.{GrowingView, HasTaken}
 -- so many workers may work at an answer
 pub record AreWorkers (workers : ℕ) : Type 0 where
   pub some : 1 ≤ workers
-  pub few : workers ≤ 16
+  pub few : workers ≤ most_workers
 
 -- what was answered: the answer, the rows of its conjunctions, and what both are of
 pub record AnsweredView : Type 0 where

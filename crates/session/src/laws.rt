@@ -16,13 +16,11 @@ use watch::{Handed, Watch};
 /// or the same fault. Behind it both have observed the same, so it goes on batch by batch.
 pub fn a_session_is_its_halves_in_a_row(watches: &Vec<Handed>)
     ensures { (here there here_after there_after : _) (before after start end : GrowingView)
-        (batch : List Event) (session halves : Result Answer LogFault)
-        → AreAlike (said_by answers) watches.now.items here there before start
-        → IsTrace after.seen.trace.states
-        → Goes (said_by answers) before after here here_after batch session
-        → Goes (said_by answers) start end there there_after batch halves
-        → (session ≡ halves)
-        × AreAlike (said_by answers) watches.now.items here_after there_after after end }
+        (batch : List Event) (session halves : Result Answer LogFault) → AreAlike (said_by answers)
+        watches.now.items here there before start → IsTrace after.seen.trace.states → Goes
+        (said_by answers) before after here here_after batch session → Goes (said_by answers) start
+        end there there_after batch halves → (session ≡ halves) × AreAlike (said_by answers)
+        watches.now.items here_after there_after after end }
 {
     let _watches = watches;
     a_fresh_start_answers_the_same(watches);

@@ -11,7 +11,7 @@ ghost use Rattle.observation.specs.Growing.{opened_observed};
 
 use event_log::Header;
 use log_fitting::{has_few_variables, is_header};
-use pota_base::{List, NoMemory, Refused};
+use pota_base::{List, MOST_WATCHES, NoMemory, Refused};
 use pota_names::Name;
 use rctl_class::{Classed, classify, read_formulas_are_within_limits};
 use rctl_names::resolve;
@@ -20,9 +20,6 @@ use rctl_parts::Resolved;
 use session::Session;
 use std::alloc::Global;
 use watch::Handed;
-
-/// The most watches that a formula may be looked up among.
-const MOST_WATCHES: usize = 8;
 
 // The formula of a text, none where the text has a fault.
 fn parsed(alloc: Global, text: &str) -> Result<Option<Formula>, NoMemory>

@@ -1,5 +1,6 @@
 //! One run of a case, and what it tells.
 ghost use Rattle.std.specs.Prelude.{◌≤◌};
+ghost use Rattle.pota_base.specs.Limits.{most_workers};
 
 use crate::case::{Case, WatchKind};
 use crate::log::{Logged, read};
@@ -51,7 +52,7 @@ fn take_all<R: Threads + Sync, L: Ledger>(
     steps: &mut Steps<L>,
 ) -> Result<String, NoMemory>
     requires some { 1 ≤ setting.workers }
-    requires few { setting.workers ≤ 16 }
+    requires few { setting.workers ≤ most_workers }
 {
     let mut told = String::new(alloc);
     for batch in batches {
@@ -88,7 +89,7 @@ fn told_with<R: Threads + Sync, L: Ledger>(
     steps: &mut Steps<L>,
 ) -> Result<Option<String>, NoMemory>
     requires some { 1 ≤ setting.workers }
-    requires few { setting.workers ≤ 16 }
+    requires few { setting.workers ≤ most_workers }
 {
     let Some(Logged { header, batches }) = read(alloc, case.log.as_str(), setting.cutting)? else {
         return Ok(None);
@@ -115,7 +116,7 @@ fn told_of_batches<R: Threads + Sync, L: Ledger>(
     steps: &mut Steps<L>,
 ) -> Result<Option<String>, NoMemory>
     requires some { 1 ≤ setting.workers }
-    requires few { setting.workers ≤ 16 }
+    requires few { setting.workers ≤ most_workers }
 {
     let mut watches = Vec::new(alloc);
     for wanted in &case.watches {
@@ -150,7 +151,7 @@ pub fn run<R: Threads + Sync, L: Ledger>(
     steps: &mut Steps<L>,
 ) -> Result<Option<String>, NoMemory>
     requires some { 1 ≤ setting.workers }
-    requires few { setting.workers ≤ 16 }
+    requires few { setting.workers ≤ most_workers }
 {
     let counts = Counts::new(alloc)?;
     let Some(mut told) = told_of_batches(rt, alloc, case, setting, &counts, steps)? else {

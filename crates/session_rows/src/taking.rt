@@ -1,20 +1,18 @@
 //! One batch, handed to a session.
 ghost use Rattle.std.specs.Prelude.{◌≡◌, ◌+◌, ◌≤◌, false, length, sum, IsTrue};
 ghost use Rattle.std.specs.List.{AllByRecursion};
+ghost use Rattle.pota_base.specs.Limits.{most_events, most_workers};
 ghost use Rattle.event_log.specs.States.{MayFollow};
 ghost use Rattle.vector_clock.specs.Events.{EventStands};
 ghost use Rattle.trace_growth.specs.Growing.{FitsTrace};
 
 use event_log::{Event, LogFault, States};
 use log_fitting::{are_known, events_stand};
-use pota_base::{FreeGate, List, NoMemory, Refused, Shape, Steps};
+use pota_base::{FreeGate, List, MOST_EVENTS, NoMemory, Refused, Shape, Steps};
 use session::Session;
 use std::sync::ledger::Ledger;
 use std::thread::Threads;
 use trace_growth::Trace;
-
-/// The most events of a trace.
-const MOST_EVENTS: usize = 50_000;
 
 /// What became of a batch.
 #[derive(Clone, Copy)]
@@ -27,7 +25,7 @@ pub enum Taken {
 
 // Whether so many events more are no more than a trace may have.
 fn has_room(shape: &Shape, more: usize) -> bool
-    ensures { IsTrue result → sum shape.now + more ≤ 50000 }
+    ensures { IsTrue result → sum shape.now + more ≤ most_events }
 {
     let before = shape.events() as usize;
     before <= MOST_EVENTS && more <= MOST_EVENTS - before
@@ -66,7 +64,7 @@ pub fn take<R: Threads + Sync, L: Ledger>(
     steps: &mut Steps<L>,
 ) -> Result<Taken, NoMemory>
     requires some { 1 ≤ workers }
-    requires few { workers ≤ 16 }
+    requires few { workers ≤ most_workers }
 {
     if session.is_spent() || !fits(session.trace(), batch.as_slice()) {
         return Ok(Taken::Unfit);

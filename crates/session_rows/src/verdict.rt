@@ -1,5 +1,6 @@
 //! Whether all runs of a case tell what they must.
-ghost use Rattle.std.specs.Prelude.{◌≡◌, ◌<◌};
+ghost use Rattle.pota_base.specs.Blanks.{IsBlankOf};
+ghost use Rattle.std.specs.Prelude.{◌<◌};
 
 use crate::case::Case;
 use crate::log::cuttings;
@@ -138,9 +139,7 @@ fn counted<R: Threads + Sync, L: Ledger>(
     case: &Case,
     blank: Blank,
 ) -> Result<String, NoMemory>
-    requires name { blank.name ≡ L.name }
-    requires parts { blank.parts ≡ L.parts }
-    requires some { 0 < blank.parts }
+    requires blank { IsBlankOf L.name L.parts blank }
 {
     let mut steps = Steps::<L>::new(blank);
     found(rt, alloc, case, &mut steps)

@@ -5,6 +5,7 @@ use Rattle.std.proofs.lemmas.Bool.{cases_eq, cases_order}
 use Rattle.std.proofs.lemmas.List.{length-map, get_or-map, get_or_append_left, get_or-set_same, get_or-set_other, get_or_push, length-append, length-set, length-replicate}
 use Rattle.pota_base.specs.declared.shape.EventId.{EventId}
 use Rattle.pota_base.specs.Shape.{HasEvent}
+use Rattle.pota_base.specs.Limits.{longest_log}
 use Rattle.event_log.specs.declared.log.Assign.{Assign}
 use Rattle.event_log.specs.declared.log.Binding.{Binding}
 use Rattle.event_log.specs.declared.log.Event.{Event}
@@ -132,9 +133,9 @@ pub logs_are_ordered : (names : Header → Option FormulaFault) (counters : Head
     → (due log_reading (with_rules names counters) true bytes).whole ≡ Some log → IsOrderedRun (states_of log)
 logs_are_ordered names counters bytes log whole =
     let rules = with_rules names counters in
-    let all = all_sound rules IsSoFar so_far_first (so_far_next names counters) 67108864 log_reading log_is_read true bytes false in
+    let all = all_sound rules IsSoFar so_far_first (so_far_next names counters) longest_log log_reading log_is_read true bytes false in
     let so_far : IsSoFar log = (subst (λ (o : Option Prefix). AllByRecursion IsSoFar (listed o)) whole all).0 in
-    let order : IsOrdered log = (subst (λ (o : Option Prefix). AllByRecursion IsOrdered (listed o)) whole (all_ordered names counters 67108864 log_reading log_is_read false true bytes)).0 in
+    let order : IsOrdered log = (subst (λ (o : Option Prefix). AllByRecursion IsOrdered (listed o)) whole (all_ordered names counters longest_log log_reading log_is_read false true bytes)).0 in
     record {
       whole = whole_log log so_far.fits;
       events = λ e there. event_is (states_of log) e so_far.are there;

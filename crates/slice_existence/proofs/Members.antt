@@ -5,7 +5,7 @@ use Rattle.run_model.specs.Cut.{Cut, Clocks, count, IsWithin, min_cut}
 use Rattle.run_model.specs.Consistent.{IsOrder, IsConsistent}
 use Rattle.run_model.specs.Sublattice.{IsSublattice, Having, min_of}
 use Rattle.run_model.specs.Slice.{Slice, IsLeastOf, StandsFor}
-use Rattle.run_model.specs.Operators.{SomeTime, EachTime, Staying}
+use Rattle.run_model.specs.Operators.{EfHolds, AgHolds, EgHolds}
 use Rattle.run_model.proofs.Counts.{count-min, within_refl, within_trans, min_left, min_right}
 use Rattle.meaning_laws.proofs.ClosureLemmas.{some_time_closed, each_time_closed, staying_closed}
 use Rattle.meaning_laws.proofs.DecisionLemmas.{Decided, decide_consistent, decide_some_time, decide_each_time, decide_staying}
@@ -89,11 +89,11 @@ module _ (o : Clocks) (order : IsOrder o) (A : Cut → Type 0) (closed : IsSubla
   both : (B : Cut → Type 0) → ((c : Cut) → IsConsistent o c → Decided (B c)) → (c : Cut) → IsConsistent o c → Decided (IsConsistent o c × B c)
   both B told c k = elim (told c k) [ inl h ↦ inl (k, h) | inr n ↦ inr (λ h. n h.1) ]
 
-  pub some_time_there : (s : Slice) × StandsFor o s (λ c. IsConsistent o c × SomeTime o A c)
-  some_time_there = slice_there o (λ c. IsConsistent o c × SomeTime o A c) (some_time_closed o order A closed) (both (SomeTime o A) (decide_some_time o order A decide))
+  pub some_time_there : (s : Slice) × StandsFor o s (λ c. IsConsistent o c × EfHolds o A c)
+  some_time_there = slice_there o (λ c. IsConsistent o c × EfHolds o A c) (some_time_closed o order A closed) (both (EfHolds o A) (decide_some_time o order A decide))
 
-  pub each_time_there : (s : Slice) × StandsFor o s (λ c. IsConsistent o c × EachTime o A c)
-  each_time_there = slice_there o (λ c. IsConsistent o c × EachTime o A c) (each_time_closed o order A closed) (both (EachTime o A) (decide_each_time o order A decide))
+  pub each_time_there : (s : Slice) × StandsFor o s (λ c. IsConsistent o c × AgHolds o A c)
+  each_time_there = slice_there o (λ c. IsConsistent o c × AgHolds o A c) (each_time_closed o order A closed) (both (AgHolds o A) (decide_each_time o order A decide))
 
-  pub staying_there : (s : Slice) × StandsFor o s (λ c. IsConsistent o c × Staying o A c)
-  staying_there = slice_there o (λ c. IsConsistent o c × Staying o A c) (staying_closed o order A closed) (both (Staying o A) (decide_staying o A decide))
+  pub staying_there : (s : Slice) × StandsFor o s (λ c. IsConsistent o c × EgHolds o A c)
+  staying_there = slice_there o (λ c. IsConsistent o c × EgHolds o A c) (staying_closed o order A closed) (both (EgHolds o A) (decide_staying o A decide))

@@ -1,6 +1,6 @@
 //! Each closed set of cuts whose members can be told has a slice, and so have the sets that EF, AG
-//! and EG make of it: a run has finitely many cuts, and the minimum of those of the set is its least
-//! one. Each function here is a law and does nothing.
+//! and EG make of it: a run has finitely many cuts, and the minimum of those of the set is its
+//! least one. Each function here is a law and does nothing.
 //!
 //! Not said: how a slice is found. `run_model` says what a slice is, and `slice_graph` and
 //! `temporal_slice` make it.
@@ -11,7 +11,7 @@ ghost use Rattle.run_model.specs.Cut.{Cut, Clocks};
 ghost use Rattle.run_model.specs.Consistent.{IsOrder, IsConsistent};
 ghost use Rattle.run_model.specs.Sublattice.{IsSublattice};
 ghost use Rattle.run_model.specs.Slice.{Slice, StandsFor};
-ghost use Rattle.run_model.specs.Operators.{SomeTime, EachTime, Staying};
+ghost use Rattle.run_model.specs.Operators.{EfHolds, AgHolds, EgHolds};
 
 use meaning_laws::sublattice_laws::SetOfCuts;
 
@@ -26,11 +26,11 @@ pub fn a_closed_set_has_a_slice<A: SetOfCuts>()
 pub fn operators_have_slices<A: SetOfCuts>()
     ensures some_time { (o : Clocks) → IsOrder o → IsSublattice o A.has
         → ((c : Cut) → IsConsistent o c → A.has c ⊎ (A.has c → ⊥))
-        → (s : Slice) × StandsFor o s (λ c. IsConsistent o c × SomeTime o A.has c) }
+        → (s : Slice) × StandsFor o s (λ c. IsConsistent o c × EfHolds o A.has c) }
     ensures each_time { (o : Clocks) → IsOrder o → IsSublattice o A.has
         → ((c : Cut) → IsConsistent o c → A.has c ⊎ (A.has c → ⊥))
-        → (s : Slice) × StandsFor o s (λ c. IsConsistent o c × EachTime o A.has c) }
+        → (s : Slice) × StandsFor o s (λ c. IsConsistent o c × AgHolds o A.has c) }
     ensures staying { (o : Clocks) → IsOrder o → IsSublattice o A.has
         → ((c : Cut) → IsConsistent o c → A.has c ⊎ (A.has c → ⊥))
-        → (s : Slice) × StandsFor o s (λ c. IsConsistent o c × Staying o A.has c) }
+        → (s : Slice) × StandsFor o s (λ c. IsConsistent o c × EgHolds o A.has c) }
 {}

@@ -11,6 +11,7 @@ use Rattle.pull_system.specs.declared.pull.Pull.{Pull}
 use Rattle.pull_fans.specs.Fans.{FanView, pull_of_fan, pulls_of_fan, pulls_of_fans, AreTables}
 use Rattle.run_model.specs.Cut.{Clocks, count, lengths}
 use Rattle.run_model.specs.Consistent.{IsOrder}
+use Rattle.pota_base.specs.Limits.{most_events}
 use Rattle.slice_graph.specs.Views.{SliceView, HasAllRows, slice_of, last_row}
 use Rattle.slice_graph.specs.Words.{past_ends, row_words}
 use Rattle.slice_graph.specs.PullLists.{past_count}
@@ -91,14 +92,14 @@ flat_others i f (suc n) lt =
 
 -- ---- entries of 16 bits
 
-count_few : (lens : List ℕ) → sum lens ≤ 50000 → (j : ℕ) → get_or lens j 0 ≤ 50000
+count_few : (lens : List ℕ) → sum lens ≤ most_events → (j : ℕ) → get_or lens j 0 ≤ most_events
 count_few lens few j = elim (cases_lt j (length lens)) [
   | inl there ↦ omega (arith, few, get_or-le-sum_by (λ (n : ℕ). n) lens j 0 there)
   | inr past ↦ omega (arith, get_or_past lens j 0 past)
 ]
 
 -- the row of the pulls to the others
-pub order_row_small : (o : Clocks) → IsOrder o → sum (lengths o) ≤ 50000 → (i x : ℕ) → x ≤ count (lengths o) i → (row : List ℕ)
+pub order_row_small : (o : Clocks) → IsOrder o → sum (lengths o) ≤ most_events → (i x : ℕ) → x ≤ count (lengths o) i → (row : List ℕ)
     → ((k : ℕ) → k < length row → get_or row k 0 ≡ past_count o i (other i k) x) → (k : ℕ) → get_or row k 0 < 2 ^ 16
 order_row_small o order few i x there row is k = elim (cases_lt k (length row)) [
   | inl less ↦ omega (arith, is k less, counts_within o order i (other i k) x there, count_few (lengths o) few (other i k))
@@ -109,7 +110,7 @@ pub slice_row_small : (v : SliceView) → HasAllRows v → (i x : ℕ) (row : Li
 slice_row_small v rows i x row is k =
     omega (arith, ap (λ (r : List ℕ). get_or r k 0) is, filled_most v.lens (last_row (slice_of v) i x) (last_is_row v rows i x) k, count_few v.lens rows.cuts.shape.events k)
 
-pub past_row_small : (lens : List ℕ) → sum lens ≤ 50000 → (row : List ℕ) → row ≡ past_ends lens → (k : ℕ) → get_or row k 0 < 2 ^ 16
+pub past_row_small : (lens : List ℕ) → sum lens ≤ most_events → (row : List ℕ) → row ≡ past_ends lens → (k : ℕ) → get_or row k 0 < 2 ^ 16
 past_row_small lens few row is k = omega (arith, ap (λ (r : List ℕ). get_or r k 0) is, past_ends_most lens k, count_few lens few k)
 
 -- ---- all fans

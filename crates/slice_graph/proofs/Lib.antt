@@ -1,4 +1,5 @@
 pub mod Words
+pub mod Pieces
 pub mod Events
 pub mod Building
 pub mod Lasts
@@ -9,6 +10,7 @@ pub mod RowByRow
 pub mod OrderPulls
 pub mod SlicePulls
 pub mod Fans
+pub mod EventWords
 pub mod EdgeSteps
 pub mod OrderGrowing
 pub mod StartingRows

@@ -18,6 +18,7 @@ use Rattle.pull_system.specs.Pulls.{HoldsAt, ClosedUnder}
 use Rattle.pull_system.specs.Rows.{start_of, row_at}
 use Rattle.slice_graph.specs.Views.{SliceView, HasAllRows, no_row, slice_of, last_row}
 use Rattle.slice_graph.specs.Words.{filled, row_words}
+use Rattle.slice_graph.specs.inside.Words.{AreAllWords}
 use Rattle.slice_graph.specs.Fitting.{FitsOrder}
 use Rattle.slice_graph.specs.PullLists.{order_entry, order_table, order_pull, pulls_of_order}
 use Rattle.slice_graph.specs.PullLists.{slice_entry, slice_table, slice_pull, pulls_of_slice}
@@ -172,6 +173,10 @@ zeros_max n c v zeros size =
 -- the row is the slice's
 abbrev pub IsSliceRow : SliceView → ℕ → List ℕ → Type 0
 IsSliceRow v r row = row ≡ filled v.lens (get_or v.rows r no_row)
+
+-- so are all of them, one behind the other
+pub all_built : (v : SliceView) (words : List ℕ) → AreAllWords v words → AreBuilt v.lens (IsSliceRow v) (length v.rows) words
+all_built v words all = record { size = all.size; each = all.each }
 
 -- the row of an event has the event
 row_has : (A : Cut → Type 0) (lens : List ℕ) (i a : ℕ) (k : Option Cut) → IsLeastOf (Having A i a) k → i < length lens → a ≤ count lens i → a ≤ count (filled lens k) i

@@ -7,12 +7,13 @@ use Rattle.std.proofs.lemmas.List.{at_drop_more, at_drop_all, length-replicate, 
 use Rattle.pota_base.specs.Shape.{row_of}
 use Rattle.run_model.specs.Cut.{Cut, Clocks, count, IsWithin, max_cut, lengths}
 use Rattle.run_model.specs.Consistent.{IsOrder, IsEvent}
-use Rattle.run_model.specs.Sublattice.{IsGreatest, Having}
-use Rattle.run_model.specs.Slice.{HasWithin, IsLeastOf, Cuts}
-use Rattle.run_model.proofs.Counts.{within_refl, within_trans, max_left, max_right, max_absorbs, length-lengths}
-use Rattle.run_model.proofs.SliceLemmas.{cuts_closed, greatest_from_rows}
+use Rattle.run_model.specs.Sublattice.{IsSublattice, IsGreatest, Having}
+use Rattle.run_model.specs.Slice.{HasWithin, IsLeastOf, StandsFor, Cuts}
+use Rattle.run_model.proofs.Counts.{within_both, within_refl, within_trans, max_left, max_right, max_absorbs, length-lengths}
+use Rattle.run_model.proofs.SliceLemmas.{cuts_closed, exact_slice, greatest_from_rows, least_of_member}
 use Rattle.slice_graph.specs.Views.{SliceView, slice_of, joined_onto, joined_rows, no_row}
 use Rattle.slice_graph.specs.Fitting.{FitsOrder}
+use Rattle.slice_graph.proofs.Building.{fits_of_set}
 use Rattle.slice_graph.proofs.Events.{event_of_row}
 
 -- ---- one row after the other
@@ -134,3 +135,14 @@ top_there o order v fits t is some = cases (slice_of v).bottom refl
 pub some_top : (k : Option Cut) (t x : Cut) → (k ≡ None → ⊥) → t ≡ x → Some t ≡ option_map (λ _. x) k
 some_top None t x some is = absurd (some refl)
 some_top (Some low) t x some is = ap Some is
+
+-- the greatest cut of a set that the slice stands for is the maximum of its rows
+pub top_of_set : (o : Clocks) → IsOrder o → (A : Cut → Type 0) → IsSublattice o A → (v : SliceView) → v.lens ≡ lengths o → length v.rows ≡ sum v.lens + 1 → StandsFor o (slice_of v) A
+    → (t : Cut) → IsGreatest A t → t ≡ joined_rows v
+top_of_set o order A closed v shape count stands t greatest =
+    let there = least_of_member A (slice_of v).bottom t stands.bottom greatest.member in
+    let joined = top_greatest o order v (fits_of_set o v A closed shape count stands) there.0 there.1 in
+    let exact = exact_slice o A closed (slice_of v) stands in
+    within_both t (joined_rows v) ((closed.consistent t greatest.member).shaped ∙ sym joined.member.consistent.shaped)
+    (joined.greatest t ((exact t).0 greatest.member))
+    (greatest.greatest (joined_rows v) ((exact (joined_rows v)).1 joined.member))

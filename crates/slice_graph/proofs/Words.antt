@@ -9,7 +9,7 @@ use Rattle.causal_order.specs.Blocks.{rows_of}
 use Rattle.causal_order.proofs.Rows.{length-rows_of, row_at, rows_push, row_within}
 use Rattle.slice_graph.specs.Views.{SliceView, IsCut, IsRow, AreCuts, no_row}
 use Rattle.slice_graph.specs.Words.{past_ends, filled, cut_in, cuts_in}
-use Rattle.slice_graph.specs.inside.Words.{IsFilled, AreFilled}
+use Rattle.slice_graph.specs.inside.Words.{IsFilled, AreFilled, AreAllWords}
 
 -- ---- words of a row
 
@@ -112,6 +112,19 @@ still_filled lens absent n words row h new width =
           (λ r lt. subst (IsFilled lens) (sym (ap (λ (rs : List Cut). get_or rs r []) more ∙ get_or_append_left (rows_of w n words) (row ∷ []) [] r (omega arith))) (h.each r lt))
           (subst (IsFilled lens) (sym (ap (λ (rs : List Cut). get_or rs n []) more ∙ get_or_push (rows_of w n words) row [] n len)) new);
     }
+
+-- the words of all rows
+pub all_words_are : (lens absent : List ℕ) (n : ℕ) (words : List ℕ) (v : SliceView) → view_of lens n words ≡ v → AreFilled lens absent n words → AreAllWords v words
+all_words_are lens absent n words v is h =
+    let count : length (cuts_in lens n words) ≡ n = rows_are lens n words (view_of lens n words) refl in
+    subst (λ (x : SliceView). AreAllWords x words) is (record {
+      size = h.size ∙ ap (λ (k : ℕ). k * length lens) (sym count);
+      each = λ row there.
+          let lt : row < n = omega (arith, there, count) in
+          ap (λ (k : ℕ). get_or (rows_of (length lens) k words) row []) count
+          ∙ (h.each row lt).same
+          ∙ ap (filled lens) (sym (row_in lens n words row lt));
+    })
 
 -- the words that are cut out are those of the row
 pub words_are : (lens absent : List ℕ) (n : ℕ) (words : List ℕ) (v : SliceView) (row : ℕ) → view_of lens n words ≡ v → AreFilled lens absent n words → row < n

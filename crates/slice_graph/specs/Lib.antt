@@ -1,3 +1,4 @@
+pub mod Laws
 pub mod Views
 pub mod Words
 pub mod Fitting

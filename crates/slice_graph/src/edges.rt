@@ -7,6 +7,7 @@ ghost use Rattle.run_model.specs.Cut.{Cut, count};
 ghost use Rattle.run_model.specs.Consistent.{clock};
 ghost use Rattle.run_model.specs.Sublattice.{IsGreatest};
 ghost use Rattle.run_model.specs.Slice.{Cuts, Denoted, IsPrintedAs, cut_of, edge_into, edges_of};
+ghost use Rattle.pota_base.specs.Limits.{most_processes};
 ghost use Rattle.slice_graph.specs.Views.{slice_of, joined_rows};
 ghost use Rattle.slice_graph.specs.Fitting.{FitsOrder};
 ghost use Rattle.slice_graph.specs.Edges.{edge_of};
@@ -104,7 +105,7 @@ fn push_edges_of(
     past: &[u32],
     edges: &mut List<Edge>,
 ) -> Result<(), NoMemory>
-    requires few { length row.now ≤ 32 }
+    requires few { length row.now ≤ most_processes }
     requires before { length before.now ≡ length row.now }
     requires past { length past.now ≡ length row.now }
     ensures { OnOk result (map edge_of edges.new ≡ map edge_of edges.old

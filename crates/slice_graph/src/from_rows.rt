@@ -15,7 +15,7 @@ use crate::slice::Slice;
 use crate::table::CutTable;
 use causal_order::Order;
 use cut_lattice::Cut;
-use pota_base::{List, NoMemory, Shape};
+use pota_base::{List, MOST_PROCESSES, NoMemory, Shape};
 use pull_system::Rows;
 use std::alloc::Global;
 
@@ -45,7 +45,7 @@ impl Slice {
         let _shape = order.shape();
         let shape = rows.shape();
         let mut table = CutTable::new(alloc, shape)?;
-        let mut room = [0; 32];
+        let mut room = [0; MOST_PROCESSES];
         let room = &mut room[..shape.procs() as usize];
         for row in 0..shape.events() + 1 {
             push_kept(&mut table, rows, row, room)?;

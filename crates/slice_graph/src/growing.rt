@@ -6,7 +6,7 @@ ghost use Rattle.slice_graph.specs.inside.Growing.{AreAllBehind, AreRowsBehind};
 
 use crate::order_pulls_of::past;
 use causal_order::Order;
-use pota_base::{List, NoMemory};
+use pota_base::{List, MOST_PROCESSES, NoMemory};
 use pull_fans::System;
 use std::alloc::Global;
 
@@ -43,7 +43,7 @@ fn rows_behind(alloc: Global, order: &Order, source: u32, first: u32) -> Result<
     let shape = order.shape();
     let procs = shape.procs() as usize;
     let len = shape.len_of(source);
-    let zeros = [0; 32];
+    let zeros = [0; MOST_PROCESSES];
     let none = &zeros[..procs];
     let mut rows = Vec::with_capacity(alloc, (len - first + 1) as usize * procs)?;
     for position in first + 1..len + 2 {

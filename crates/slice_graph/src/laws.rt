@@ -1,5 +1,5 @@
 //! Laws on orders, their pulls and least vectors. The functions do nothing.
-ghost use Rattle.std.specs.Prelude.{◌≡◌, ℕ, ◌<◌, ◌≤◌, List, ◌++◌, Option, length, sum, get_or, slice_index_or};
+ghost use Rattle.std.specs.Prelude.{◌≡◌, ℕ, ◌<◌, List, ◌++◌, Option, length, slice_index_or};
 ghost use Rattle.pota_base.specs.Shape.{HasEvent, row_of};
 ghost use Rattle.pota_base.specs.declared.shape.EventId.{EventId};
 ghost use Rattle.run_model.specs.Cut.{Cut, Clocks, lengths};
@@ -8,14 +8,12 @@ ghost use Rattle.run_model.specs.Sublattice.{Having};
 ghost use Rattle.run_model.specs.Slice.{IsLeastOf};
 ghost use Rattle.causal_order.specs.Growth.{HasGrown};
 ghost use Rattle.pull_system.specs.declared.pull.Pull.{Pull};
-ghost use Rattle.pull_system.specs.System.{SystemView, IsSystem, no_pull};
-ghost use Rattle.pull_system.specs.Rows.{IsLeast, AreLeastRows, row_at};
+ghost use Rattle.pull_system.specs.System.{SystemView, no_pull};
+ghost use Rattle.pull_system.specs.Rows.{IsLeast};
 ghost use Rattle.pull_system.specs.Growth.{PullGrows};
-ghost use Rattle.slice_graph.specs.Views.{SliceView, HasAllRows, no_row};
-ghost use Rattle.slice_graph.specs.Words.{filled};
-ghost use Rattle.slice_graph.specs.Starting.{AreWithinClosed};
-ghost use Rattle.slice_graph.specs.Fitting.{FitsOrder, HasOrder, ClosedCuts, IsCutOfVector};
-ghost use Rattle.slice_graph.specs.PullLists.{pulls_of_order, pulls_of_slice};
+ghost use Rattle.slice_graph.specs.Fitting.{HasOrder, ClosedCuts, IsCutOfVector};
+ghost use Rattle.slice_graph.specs.PullLists.{pulls_of_order};
+ghost use Rattle.slice_graph.specs.Laws.{RowsOfOneSlice};
 
 /// A system whose pulls begin with those of an order has the order's pulls.
 pub fn systems_of_an_order()
@@ -50,10 +48,5 @@ pub fn order_grows()
 
 /// The rows of a slice are the least closed vectors of its own pulls, with a cut or without.
 pub fn rows_of_one_slice()
-    ensures { (o : Clocks) (v : SliceView) → FitsOrder o v → HasAllRows v
-        → IsSystem (record { lens = v.lens; pulls = pulls_of_slice v }) → (words : List ℕ)
-        → ((row : ℕ) → row ≤ sum v.lens
-        → row_at v.lens words row ≡ filled v.lens (get_or v.rows row no_row))
-        → AreWithinClosed v.lens (pulls_of_slice v) words
-        → AreLeastRows (record { lens = v.lens; pulls = pulls_of_slice v }) words }
+    ensures { RowsOfOneSlice }
 {}

@@ -18,6 +18,7 @@ mod edges;
 mod from_rows;
 mod growing;
 mod laws;
+mod narrow_rows;
 mod order_pulls_of;
 mod slice;
 mod slice_pulls;
@@ -25,7 +26,7 @@ mod starting;
 mod table;
 
 pub use causal_order::Order;
-pub use cuts::{is_within, set_words};
+pub use cuts::{is_within, join_words, set_words};
 pub use edges::Edge;
 pub use growing::grown_order_system;
 pub use laws::{least_or_none, order_grows, rows_of_one_slice, systems_of_an_order};

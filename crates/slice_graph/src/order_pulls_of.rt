@@ -4,6 +4,7 @@ ghost use Rattle.std.specs.Prelude.{flat_map, slice_index, All, IfOk};
 ghost use Rattle.std.specs.List.{range_with_len};
 ghost use Rattle.run_model.specs.Cut.{Cut, count, IsWithin, lengths};
 ghost use Rattle.run_model.specs.Consistent.{IsConsistent};
+ghost use Rattle.pota_base.specs.Limits.{most_processes};
 ghost use Rattle.pull_system.specs.System.{IsPull};
 ghost use Rattle.pull_system.specs.Pulls.{ClosedUnder};
 ghost use Rattle.pull_fans.specs.Fans.{pulls_of_fan, pulls_of_fans};
@@ -11,7 +12,7 @@ ghost use Rattle.slice_graph.specs.PullLists.{past_count, order_pull, pulls_of_o
 ghost use Rattle.slice_graph.specs.inside.PullLists.{other};
 
 use causal_order::Order;
-use pota_base::{EventId, List, NoMemory};
+use pota_base::{EventId, List, MOST_PROCESSES, NoMemory};
 use pull_fans::{Fan, pulls_of};
 use pull_system::Pull;
 use std::alloc::Global;
@@ -57,9 +58,9 @@ fn order_fan(alloc: Global, order: &Order, source: u32) -> Result<Fan, NoMemory>
     let shape = order.shape();
     let procs = shape.procs();
     let len = shape.len_of(source);
-    let zeros = [0; 32];
+    let zeros = [0; MOST_PROCESSES];
     let none = &zeros[..procs as usize];
-    let mut room = [0; 32];
+    let mut room = [0; MOST_PROCESSES];
     let room = &mut room[..procs as usize - 1];
     let targets = other_processes(alloc, procs, source)?;
     let mut fan = Fan::new(alloc, source, targets, len as usize + 2)?;
@@ -86,7 +87,7 @@ fn other_processes(alloc: Global, procs: u32, process: u32) -> Result<List<u32>,
 fn leave_out(counts: &[u32], process: u32, into: &mut [u32])
     requires process { process < length counts.now }
     requires width { length into.old + 1 ≡ length counts.now }
-    requires few { length counts.now ≤ 32 }
+    requires few { length counts.now ≤ most_processes }
     ensures width { length into.new ≡ length into.old }
     ensures counts { (index : ℕ) → index < length into.new
         → slice_index into.new index ≡ count counts.now (other process index) }

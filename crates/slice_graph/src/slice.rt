@@ -7,13 +7,13 @@ ghost use Rattle.run_model.specs.Cut.{Cut as CutOfRun, Clocks, count, max_cut, l
 ghost use Rattle.run_model.specs.Consistent.{IsOrder};
 ghost use Rattle.run_model.specs.Sublattice.{IsGreatest, Having};
 ghost use Rattle.run_model.specs.Slice.{Cuts, IsLeastOf};
-ghost use Rattle.slice_graph.specs.Words.{past_ends, filled};
+ghost use Rattle.slice_graph.specs.Words.{past_ends};
 ghost use Rattle.slice_graph.specs.Views.{AreCuts, joined_onto, joined_rows, slice_of, no_row};
 
-use crate::cuts::{is_within, set_words};
+use crate::cuts::{is_within, join_words, set_words};
 use crate::table::CutTable;
 use cut_lattice::Cut;
-use pota_base::{EventId, NoMemory, Shape};
+use pota_base::{EventId, MOST_PROCESSES, NoMemory, Shape};
 use std::alloc::Global;
 use std::marker::Model;
 
@@ -41,6 +41,7 @@ impl Model for Slice {
 impl Slice {
     ghost use Rattle.slice_graph.specs.Views.{HasAllRows, IsCut, IsRow, HasLasts};
     ghost use Rattle.slice_graph.specs.Words.{row_words};
+    ghost use Rattle.slice_graph.specs.inside.Words.{AreAllWords, AreEventWords};
     ghost use Rattle.slice_graph.specs.Fitting.{FitsOrder};
 
     /// The slice of these rows.
@@ -50,6 +51,17 @@ impl Slice {
     {
         let top = join_rows(alloc, &table)?;
         Ok(Slice { table, top })
+    }
+
+    /// The slice of these rows, whose maximum is known already.
+    pub fn with_top(table: CutTable, top: Cut) -> Slice
+        requires count { length table.rows ≡ sum table.lens + 1 }
+        requires top { top ≡ joined_rows table }
+        ensures { result ≡ table }
+    {
+        // By its clause the rows of the table are cuts.
+        let _shape = table.shape();
+        Slice { table, top }
     }
 
     /// The slice of no cut.
@@ -149,13 +161,29 @@ impl Slice {
         self.table.words(row as usize)
     }
 
-    /// The words of a row. Row 0 is the bottom's.
-    pub(crate) fn words_of_row(&self, row: u32) -> &[u32]
-        requires { row ≤ sum self.now.lens }
-        ensures words { result.now ≡ filled self.now.lens (get_or self.now.rows row no_row) }
-        ensures width { length result.now ≡ length self.now.lens }
+    /// The words of all rows, one row behind the other. The bottom's row comes first.
+    pub(crate) fn all_words(&self) -> &[u32]
+        ensures { AreAllWords self.now result.now }
     {
-        self.table.words(row as usize)
+        self.table.all_words()
+    }
+
+    /// The words of the rows of all events of a process, one row behind the other.
+    pub(crate) fn words_of_events(&self, process: u32) -> &[u32]
+        requires { process < length self.now.lens }
+        ensures { AreEventWords self.now process result.now }
+    {
+        let shape = self.shape();
+        let len = shape.len_of(process);
+        if len == 0 {
+            return &[];
+        }
+        let width = shape.procs() as usize;
+        let first = shape.row_of(EventId {
+            process,
+            position: 1,
+        }) as usize;
+        &self.all_words()[first * width..(first + len as usize) * width]
     }
 
     /// The words of a row without a cut: each is one more than the process's length.
@@ -206,7 +234,7 @@ fn join_rows(alloc: Global, table: &CutTable) -> Result<Cut, NoMemory>
     ensures cuts { AreCuts table.now }
 {
     let procs = table.shape().procs();
-    let mut top = [0; 32];
+    let mut top = [0; MOST_PROCESSES];
     let top = &mut top[..procs as usize];
     for row in 0..table.len() {
         join_row(table, row, top);
@@ -225,15 +253,5 @@ fn join_row(table: &CutTable, row: usize, into: &mut [u32])
 {
     if let Some(cut) = table.cut(row) {
         join_words(cut, into);
-    }
-}
-
-/// Makes `into` the componentwise maximum of the words and itself.
-fn join_words(words: &[u32], into: &mut [u32])
-    requires { length words.now ≡ length into.old }
-    ensures { into.new ≡ max_cut words.now into.old }
-{
-    for process in 0..words.len() {
-        into[process] = into[process].max(words[process]);
     }
 }

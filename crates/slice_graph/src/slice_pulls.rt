@@ -62,9 +62,8 @@ fn slice_fan(alloc: Global, slice: &Slice, source: u32) -> Result<Fan, NoMemory>
     let len = shape.len_of(source);
     let targets = all_processes(alloc, shape.procs())?;
     let mut fan = Fan::new(alloc, source, targets, len as usize + 2)?;
-    for position in 0..len + 1 {
-        fan.push_row(slice.words(source, position))?;
-    }
+    fan.push_row(slice.words(source, 0))?;
+    fan.push_rows(slice.words_of_events(source), len as usize)?;
     fan.push_row(slice.absent())?;
     Ok(fan)
 }

@@ -14,11 +14,15 @@ ghost use Rattle.slice_graph.specs.Fitting.{FitsOrder};
 ghost use Rattle.slice_graph.specs.PullLists.{pulls_of_order, pulls_of_slice};
 ghost use Rattle.slice_graph.specs.Starting.{AreAbove, AreWithinClosed};
 
+use crate::cuts::join_words;
 use crate::slice::Slice;
 use causal_order::Order;
-use pota_base::NoMemory;
+use pota_base::{MOST_PROCESSES, NoMemory};
 use pull_system::Floor;
 use std::alloc::Global;
+
+/// How many words are made wide before they are appended.
+const PIECE: usize = 128;
 
 impl Slice {
     /// The rows of the slice, as a table of a system may begin from them. A row without a cut has
@@ -31,16 +35,8 @@ impl Slice {
         ensures begins { (o : Clocks) → FitsOrder o self.now → IfOk result (λ rows.
             AreWithinClosed self.now.lens (pulls_of_slice self.now) rows.words) }
     {
-        let shape = self.shape();
-        let procs = shape.procs() as usize;
-        let mut room = [0; 32];
-        let room = &mut room[..procs];
-        let mut words = Vec::with_capacity(alloc, (shape.events() as usize + 1) * procs)?;
-        for row in 0..shape.events() + 1 {
-            widen(self.words_of_row(row), room);
-            words.extend_from_slice(room)?;
-        }
-        Floor::from_words(alloc, shape, words)
+        let words = wide_words(alloc, self.all_words())?;
+        Floor::from_words(alloc, self.shape(), words)
     }
 }
 
@@ -56,7 +52,7 @@ pub fn order_rows(alloc: Global, order: &Order) -> Result<Floor, NoMemory>
     ensures begins { IfOk result (λ rows.
         AreWithinClosed (lengths order.now) (pulls_of_order order.now) rows.words) }
 {
-    let zeros = [0; 32];
+    let zeros = [0; MOST_PROCESSES];
     order_rows_above(alloc, order, &zeros[..order.shape().procs() as usize])
 }
 
@@ -75,9 +71,13 @@ pub fn order_rows_above(alloc: Global, order: &Order, vector: &[u64]) -> Result<
 {
     let shape = order.shape();
     let procs = shape.procs() as usize;
-    let none = [0; 32];
+    let none = [0; MOST_PROCESSES];
     let none = &none[..procs];
-    let (mut least, mut room, mut wide) = ([0; 32], [0; 32], [0; 32]);
+    let (mut least, mut room, mut wide) = (
+        [0; MOST_PROCESSES],
+        [0; MOST_PROCESSES],
+        [0; MOST_PROCESSES],
+    );
     let (least, room) = (&mut least[..procs], &mut room[..procs]);
     let wide = &mut wide[..procs];
     narrow(vector, least);
@@ -85,7 +85,7 @@ pub fn order_rows_above(alloc: Global, order: &Order, vector: &[u64]) -> Result<
     // A row is raised in 32 bits, which a processor does for four words at a time.
     for row in 0..shape.events() + 1 {
         room.copy_from_slice(least);
-        raise_to(clock_of(order, row, none), room);
+        join_words(clock_of(order, row, none), room);
         widen(room, wide);
         words.extend_from_slice(wide)?;
     }
@@ -108,6 +108,22 @@ fn clock_of<'a>(order: &'a Order, row: u32, none: &'a [u32]) -> &'a [u32]
     }
 }
 
+/// The same numbers in 64 bits each, in memory of their own.
+fn wide_words(alloc: Global, from: &[u32]) -> Result<Vec<u64>, NoMemory>
+    ensures { IfOk result (λ words. words.items ≡ from.now) }
+{
+    let mut words = Vec::with_capacity(alloc, from.len())?;
+    let mut piece = [0; PIECE];
+    while words.len() < from.len() {
+        let first = words.len();
+        let size = (from.len() - first).min(PIECE);
+        let piece = &mut piece[..size];
+        widen(&from[first..first + size], piece);
+        words.extend_from_slice(piece)?;
+    }
+    Ok(words)
+}
+
 /// Makes `into` the numbers of the row.
 fn widen(row: &[u32], into: &mut [u64])
     requires { length row.now ≡ length into.old }
@@ -115,16 +131,6 @@ fn widen(row: &[u32], into: &mut [u64])
 {
     for process in 0..row.len() {
         into[process] = row[process] as u64;
-    }
-}
-
-/// Raises each number of `into` to that of the row, where it lies below it.
-fn raise_to(row: &[u32], into: &mut [u32])
-    requires { length row.now ≡ length into.old }
-    ensures { into.new ≡ max_cut row.now into.old }
-{
-    for process in 0..row.len() {
-        into[process] = into[process].max(row[process]);
     }
 }
 

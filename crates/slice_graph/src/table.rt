@@ -37,6 +37,7 @@ impl Model for CutTable {
 
 impl CutTable {
     ghost use Rattle.slice_graph.specs.Views.{IsCut, AreCuts};
+    ghost use Rattle.slice_graph.specs.inside.Words.{AreAllWords};
 
     /// A table without rows, with the memory for all rows of the shape.
     pub fn new(alloc: Global, shape: &Shape) -> Result<CutTable, NoMemory>
@@ -94,6 +95,13 @@ impl CutTable {
         let width = self.absent.len();
         let start = row * width;
         &self.words[start..start + width]
+    }
+
+    /// The words of all rows, one row behind the other.
+    pub(crate) fn all_words(&self) -> &[u32]
+        ensures { AreAllWords self.now result.now }
+    {
+        self.words.as_slice()
     }
 
     /// The words of a row without a cut: each is one more than the process's length.

@@ -1,3 +1,4 @@
+pub mod Laws
 pub mod Reaching
 pub mod Calls
 pub mod Views

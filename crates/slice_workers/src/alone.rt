@@ -14,7 +14,7 @@ ghost use Rattle.slice_workers.specs.inside.Keeping.{AreKept, KeepsUpTo, TakesBo
 
 use crate::process::{go_behind, settle_next};
 use bound_table::{BoundTable, Firm, Seat};
-use pota_base::{EventId, Gate, NoMemory, Steps};
+use pota_base::{EventId, Gate, MOST_PROCESSES, NoMemory, Steps};
 use pull_system::Rows;
 use std::alloc::Global;
 use std::sync::ledger::Ledger;
@@ -36,8 +36,8 @@ pub(crate) fn settle_alone<G: Gate, L: Ledger>(
 {
     let shape = table.system().shape();
     let procs = shape.procs() as usize;
-    let mut bottom = [0; 32];
-    let mut into = [0; 32];
+    let mut bottom = [0; MOST_PROCESSES];
+    let mut into = [0; MOST_PROCESSES];
     let (bottom, into) = (&mut bottom[..procs], &mut into[..procs]);
     let mut words = Vec::with_capacity(alloc, (shape.events() as usize + 1) * procs)?;
     gate.enter(1);

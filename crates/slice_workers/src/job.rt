@@ -1,5 +1,6 @@
 //! What a worker is handed, and what it hands back.
 use bound_table::Seat;
+use pota_base::MOST_PROCESSES;
 
 /// A worker's seat and its number, from 1.
 #[derive(Drop)]
@@ -12,5 +13,5 @@ pub(crate) struct Job {
 #[derive(Drop)]
 pub(crate) struct Done {
     pub(crate) seat: Seat,
-    pub(crate) handed: [bool; 32],
+    pub(crate) handed: [bool; MOST_PROCESSES],
 }

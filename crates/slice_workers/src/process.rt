@@ -11,7 +11,7 @@ ghost use Rattle.slice_workers.specs.Calls.{IsPaid};
 ghost use Rattle.slice_workers.specs.inside.Settling.{HasOnlyRisen};
 
 use bound_table::{BoundTable, Seat};
-use pota_base::{EventId, Steps};
+use pota_base::{EventId, MOST_PROCESSES, Steps};
 use std::sync::ledger::Ledger;
 
 /// Settles the rows of the process in order behind its first ones, which the floor has reached,
@@ -98,7 +98,7 @@ pub(crate) fn settle_next<L: Ledger>(
     ensures rises_paid { IsPaid table.now.system 1 seat.old seat.new steps.old steps.new }
 {
     seat.bounds();
-    let mut looked = [0; 32];
+    let mut looked = [0; MOST_PROCESSES];
     let looked = &mut looked[..table.system().shape().procs() as usize];
     look_lent(table, seat, process, row, into, looked);
     table.settle_after(seat, before, row, looked, into, steps);

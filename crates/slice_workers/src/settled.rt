@@ -1,4 +1,5 @@
 ghost use Rattle.std.specs.Prelude.{◌≡◌, ℕ, ◌≤◌, length, IfOk, OnOk};
+ghost use Rattle.pota_base.specs.Limits.{most_workers};
 ghost use Rattle.bound_table.specs.Firm.{AreFinal, HasReachedFirm};
 ghost use Rattle.slice_workers.specs.inside.Reaching.{AreHanded, ReachesAll};
 ghost use Rattle.slice_workers.specs.Calls.{HasRisen, AreSettledRows, TakesLooks, TakesBehind};
@@ -7,7 +8,7 @@ use crate::alone::settle_alone;
 use crate::threads::{make_jobs, meet_all, run};
 use crate::workers::{none_handed, settle_rest};
 use bound_table::{BoundTable, Firm, Seat};
-use pota_base::{Gate, NoMemory, Steps};
+use pota_base::{Gate, MOST_PROCESSES, NoMemory, Steps};
 use pull_system::Rows;
 use std::alloc::Global;
 use std::marker::Model;
@@ -73,7 +74,7 @@ pub fn settle_all<R: Threads + Sync, G: Gate, L: Ledger>(
 ) -> Result<Settled, NoMemory>
     requires fits { seat.old.table ≡ table.now }
     requires some { 1 ≤ workers }
-    requires few { workers ≤ 16 }
+    requires few { workers ≤ most_workers }
     ensures risen { HasRisen seat.old seat.new }
     ensures settled { IfOk result (λ settled.
         AreSettledRows table.now.system seat.new.floor settled.rows) }
@@ -130,7 +131,7 @@ fn finish<L: Ledger>(
     table: &BoundTable,
     seat: &mut Seat,
     finals: &[u32],
-    handed: &mut [bool; 32],
+    handed: &mut [bool; MOST_PROCESSES],
     steps: &mut Steps<L>,
 )
     requires fits { seat.old.table ≡ table.now }
@@ -140,8 +141,8 @@ fn finish<L: Ledger>(
     ensures reaches { ReachesAll table.now.system seat.new.floor }
 {
     let procs = table.system().shape().procs() as usize;
-    let mut bottom = [0; 32];
-    let mut into = [0; 32];
+    let mut bottom = [0; MOST_PROCESSES];
+    let mut into = [0; MOST_PROCESSES];
     let (bottom, into) = (&mut bottom[..procs], &mut into[..procs]);
     finish_here(table, seat, finals, bottom, into, handed, steps);
 }
@@ -154,7 +155,7 @@ fn finish_here<L: Ledger>(
     finals: &[u32],
     bottom: &mut [u16],
     into: &mut [u16],
-    handed: &mut [bool; 32],
+    handed: &mut [bool; MOST_PROCESSES],
     steps: &mut Steps<L>,
 )
     requires fits { seat.old.table ≡ table.now }

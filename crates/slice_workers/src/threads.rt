@@ -1,6 +1,8 @@
 //! Workers on threads, each with a seat of its own, and what they hand back.
+ghost use Rattle.pota_base.specs.Blanks.{IsBlankOf};
 ghost use Rattle.std.specs.Prelude.{◌≡◌, ◌⊎◌, ℕ, ◌<◌, ◌≤◌, All, true, false, length};
 ghost use Rattle.std.specs.Prelude.{slice_index_or, IfOk};
+ghost use Rattle.pota_base.specs.Limits.{most_processes};
 ghost use Rattle.pull_system.specs.Vector.{IsAtMost};
 ghost use Rattle.bound_table.specs.Firm.{AreFinal};
 ghost use Rattle.slice_workers.specs.inside.Reaching.{AreHanded};
@@ -9,7 +11,7 @@ ghost use Rattle.slice_workers.specs.inside.Jobs.{IsJob, IsDone};
 use crate::job::{Done, Job};
 use crate::workers::{none_handed, settle_claimed};
 use bound_table::{BoundTable, Seat};
-use pota_base::{Gate, NoMemory, Steps};
+use pota_base::{Gate, MOST_PROCESSES, NoMemory, Steps};
 use std::alloc::Global;
 use std::marker::Brand;
 use std::sync::ledger::{Blank, Ledger};
@@ -76,11 +78,9 @@ fn work_counted<L: Ledger>(
     table: &BoundTable,
     seat: &mut Seat,
     finals: &[u32],
-    handed: &mut [bool; 32],
+    handed: &mut [bool; MOST_PROCESSES],
 )
-    requires name { blank.name ≡ L.name }
-    requires parts { blank.parts ≡ L.parts }
-    requires some { 0 < blank.parts }
+    requires blank { IsBlankOf L.name L.parts blank }
     requires fits { seat.old.table ≡ table.now }
     requires finals { AreFinal table.now.system seat.old.floor finals.now }
     requires none { (process : ℕ) → slice_index_or handed.old process false ≡ false }
@@ -88,8 +88,8 @@ fn work_counted<L: Ledger>(
     ensures handed { AreHanded table.now.system seat.new.floor handed.new }
 {
     let procs = table.system().shape().procs() as usize;
-    let mut bottom = [0; 32];
-    let mut into = [0; 32];
+    let mut bottom = [0; MOST_PROCESSES];
+    let mut into = [0; MOST_PROCESSES];
     let mut steps = Steps::<L>::new(blank);
     settle_claimed(
         table,
@@ -107,7 +107,7 @@ pub(crate) fn meet_all(
     table: &BoundTable,
     seat: &mut Seat,
     mut dones: Vec<Done>,
-    handed: &mut [bool; 32],
+    handed: &mut [bool; MOST_PROCESSES],
 )
     requires fits { seat.old.table ≡ table.now }
     requires dones { All (IsDone table.now) dones.items }
@@ -122,7 +122,7 @@ pub(crate) fn meet_all(
 }
 
 /// Meets one seat that a worker hands back.
-fn meet_one(table: &BoundTable, seat: &mut Seat, done: Done, handed: &mut [bool; 32])
+fn meet_one(table: &BoundTable, seat: &mut Seat, done: Done, handed: &mut [bool; MOST_PROCESSES])
     requires fits { seat.old.table ≡ table.now }
     requires done { IsDone table.now done }
     requires handed { AreHanded table.now.system seat.old.floor handed.old }
@@ -139,7 +139,7 @@ fn meet_one(table: &BoundTable, seat: &mut Seat, done: Done, handed: &mut [bool;
 }
 
 /// Marks what is marked in the second as well.
-fn add_handed(handed: &mut [bool; 32], more: &[bool; 32])
+fn add_handed(handed: &mut [bool; MOST_PROCESSES], more: &[bool; MOST_PROCESSES])
     ensures { (process : ℕ) → slice_index_or handed.new process false ≡ true
         → (slice_index_or handed.old process false ≡ true)
         ⊎ (slice_index_or more.now process false ≡ true) }
@@ -149,8 +149,8 @@ fn add_handed(handed: &mut [bool; 32], more: &[bool; 32])
     }
 }
 
-fn mark_if(handed: &mut [bool; 32], process: usize, is_marked: bool)
-    requires { process < 32 }
+fn mark_if(handed: &mut [bool; MOST_PROCESSES], process: usize, is_marked: bool)
+    requires { process < most_processes }
     ensures { (other : ℕ) → slice_index_or handed.new other false ≡ true
         → (slice_index_or handed.old other false ≡ true)
         ⊎ ((other ≡ process) × (is_marked ≡ true)) }

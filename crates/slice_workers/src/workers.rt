@@ -1,20 +1,21 @@
 //! Which processes a worker settles, and what is left to the calling thread.
 ghost use Rattle.std.specs.Prelude.{◌≡◌, ℕ, ◌<◌, ◌≤◌, true, false, length, slice_index_or};
+ghost use Rattle.pota_base.specs.Limits.{most_processes};
 ghost use Rattle.bound_table.specs.Firm.{AreFinal};
 ghost use Rattle.slice_workers.specs.inside.Reaching.{AreHanded, HasReachedRows};
 ghost use Rattle.slice_workers.specs.inside.Settling.{HasSettled};
 
 use crate::process::settle_process;
 use bound_table::{BoundTable, Seat};
-use pota_base::Steps;
+use pota_base::{MOST_PROCESSES, Steps};
 use std::sync::ledger::Ledger;
 
 /// No process is marked.
-pub(crate) fn none_handed() -> [bool; 32]
-    ensures size { length result ≡ 32 }
+pub(crate) fn none_handed() -> [bool; MOST_PROCESSES]
+    ensures size { length result ≡ most_processes }
     ensures none { (process : ℕ) → slice_index_or result process false ≡ false }
 {
-    [false; 32]
+    [false; MOST_PROCESSES]
 }
 
 /// Settles the bottom's row into `bottom`, and then the rows of each process that it claims. It
@@ -25,7 +26,7 @@ pub(crate) fn settle_claimed<L: Ledger>(
     finals: &[u32],
     bottom: &mut [u16],
     into: &mut [u16],
-    handed: &mut [bool; 32],
+    handed: &mut [bool; MOST_PROCESSES],
     steps: &mut Steps<L>,
 )
     requires fits { seat.old.table ≡ table.now }
@@ -49,7 +50,7 @@ pub(crate) fn settle_rest<L: Ledger>(
     finals: &[u32],
     bottom: &[u16],
     into: &mut [u16],
-    handed: &mut [bool; 32],
+    handed: &mut [bool; MOST_PROCESSES],
     steps: &mut Steps<L>,
 )
     requires fits { seat.old.table ≡ table.now }
@@ -73,11 +74,11 @@ fn claim_one<L: Ledger>(
     finals: &[u32],
     bottom: &[u16],
     into: &mut [u16],
-    handed: &mut [bool; 32],
+    handed: &mut [bool; MOST_PROCESSES],
     steps: &mut Steps<L>,
 )
     requires fits { seat.old.table ≡ table.now }
-    requires few { length table.now.system.lens ≤ 32 }
+    requires few { length table.now.system.lens ≤ most_processes }
     requires process { process < length table.now.system.lens }
     requires into { length into.old ≡ length table.now.system.lens }
     requires reached { HasReachedRows table.now.system seat.old.floor finals.now bottom.now
@@ -97,11 +98,11 @@ fn settle_left<L: Ledger>(
     finals: &[u32],
     bottom: &[u16],
     into: &mut [u16],
-    handed: &mut [bool; 32],
+    handed: &mut [bool; MOST_PROCESSES],
     steps: &mut Steps<L>,
 )
     requires fits { seat.old.table ≡ table.now }
-    requires few { length table.now.system.lens ≤ 32 }
+    requires few { length table.now.system.lens ≤ most_processes }
     requires process { process < length table.now.system.lens }
     requires into { length into.old ≡ length table.now.system.lens }
     requires reached { HasReachedRows table.now.system seat.old.floor finals.now bottom.now
@@ -122,11 +123,11 @@ fn settle_marked<L: Ledger>(
     finals: &[u32],
     bottom: &[u16],
     into: &mut [u16],
-    handed: &mut [bool; 32],
+    handed: &mut [bool; MOST_PROCESSES],
     steps: &mut Steps<L>,
 )
     requires fits { seat.old.table ≡ table.now }
-    requires few { length table.now.system.lens ≤ 32 }
+    requires few { length table.now.system.lens ≤ most_processes }
     requires process { process < length table.now.system.lens }
     requires into { length into.old ≡ length table.now.system.lens }
     requires reached { HasReachedRows table.now.system seat.old.floor finals.now bottom.now

@@ -1,3 +1,4 @@
+ghost use Rattle.pota_base.specs.Blanks.{IsBlankOf};
 ghost use Rattle.std.specs.Prelude.{◌≡◌, ◌<◌, ◌≤◌, IfOk, ◌∷◌, []};
 
 use crate::systems::{EMPTY_CHANNEL, Ends, NO_CUT, order_and, table_of};
@@ -23,9 +24,7 @@ fn settle_row<L: Ledger>(
     seat: &mut Seat,
     row: u32,
 ) -> [u64; 2]
-    requires name { blank.name ≡ L.name }
-    requires parts { blank.parts ≡ L.parts }
-    requires some { 0 < blank.parts }
+    requires blank { IsBlankOf L.name L.parts blank }
     requires fits { seat.old.table ≡ table.now }
     ensures { seat.new.table ≡ seat.old.table }
 {
@@ -94,9 +93,7 @@ struct Caller {
 }
 
 fn settle_and_lend<L: Ledger>(blank: Blank, table: &BoundTable, mut seat: Seat) -> Caller
-    requires name { blank.name ≡ L.name }
-    requires parts { blank.parts ≡ L.parts }
-    requires some { 0 < blank.parts }
+    requires blank { IsBlankOf L.name L.parts blank }
     requires fits { seat.table ≡ table.now }
     requires lens { table.now.system.lens ≡ 3 ∷ 2 ∷ [] }
     ensures { result.seat.table ≡ table.now }

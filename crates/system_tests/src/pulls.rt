@@ -1,4 +1,5 @@
-ghost use Rattle.std.specs.Prelude.{◌≡◌, ◌<◌};
+ghost use Rattle.pota_base.specs.Blanks.{IsBlankOf};
+ghost use Rattle.std.specs.Prelude.{◌<◌};
 
 use crate::fans::{Asked, system};
 use crate::systems::pull;
@@ -120,9 +121,7 @@ fn told<L: Ledger>(
     asked: Asked,
     question: Question,
 ) -> Result<u64, NoMemory>
-    requires name { blank.name ≡ L.name }
-    requires parts { blank.parts ≡ L.parts }
-    requires some { 0 < blank.parts }
+    requires blank { IsBlankOf L.name L.parts blank }
 {
     let system = system(rt, alloc, asked)?;
     Ok(answer(rt, &system, question, &mut Steps::<L>::new(blank)))

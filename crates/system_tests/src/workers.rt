@@ -1,4 +1,6 @@
-ghost use Rattle.std.specs.Prelude.{◌≡◌, ◌<◌, ◌≤◌};
+ghost use Rattle.pota_base.specs.Blanks.{IsBlankOf};
+ghost use Rattle.std.specs.Prelude.{◌<◌, ◌≤◌};
+ghost use Rattle.pota_base.specs.Limits.{most_workers};
 
 use crate::fans::{Asked, system};
 use crate::systems::{EMPTY_CHANNEL, order_and, table_of};
@@ -20,11 +22,9 @@ fn settle_counted<R: Threads + Sync, G: Gate, L: Ledger>(
     workers: u32,
     gate: &G,
 ) -> Result<Settled, NoMemory>
-    requires name { blank.name ≡ L.name }
-    requires parts { blank.parts ≡ L.parts }
-    requires count { 0 < blank.parts }
+    requires blank { IsBlankOf L.name L.parts blank }
     requires some { 1 ≤ workers }
-    requires few { workers ≤ 16 }
+    requires few { workers ≤ most_workers }
 {
     let (table, mut seat) = table_of(alloc, system)?;
     let mut steps = Steps::<L>::new(blank);
@@ -39,7 +39,7 @@ fn settled<R: Threads + Sync, G: Gate>(
     gate: &G,
 ) -> Result<Settled, NoMemory>
     requires some { 1 ≤ workers }
-    requires few { workers ≤ 16 }
+    requires few { workers ≤ most_workers }
 {
     settle_counted::<R, G, Brand>(rt, alloc, Blank::new(1), system, workers, gate)
 }

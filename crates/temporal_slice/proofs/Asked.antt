@@ -8,7 +8,7 @@ use Rattle.run_model.specs.Cut.{Cut, Clocks, count, IsWithin, max_cut, lengths, 
 use Rattle.run_model.specs.Consistent.{IsOrder, IsConsistent, IsEvent, clock}
 use Rattle.run_model.specs.Sublattice.{IsLeast}
 use Rattle.run_model.specs.Slice.{Slice, HasWithin, Cuts}
-use Rattle.run_model.specs.Operators.{HoldsAlways}
+use Rattle.run_model.specs.Operators.{AgHoldsByRows}
 use Rattle.run_model.proofs.Counts.{count-max, count_past, max_left, max_right, max_within, within_trans, length-lengths, initial_within}
 use Rattle.run_model.proofs.Orders.{has_process, has_past, past_consistent, max_consistent, initial_consistent}
 use Rattle.run_model.proofs.SliceLemmas.{has_within_up}
@@ -125,7 +125,7 @@ asks_next o order v n e words past old now lens some asks there at are is raised
       ),
     )
 
-holds_all : (o : Clocks) (v : SliceView) (n : ℕ) (c : Cut) → sum (lengths o) < n → HoldsBelow o v n c ↔ HoldsAlways o (slice_of v) c
+holds_all : (o : Clocks) (v : SliceView) (n : ℕ) (c : Cut) → sum (lengths o) < n → HoldsBelow o v n c ↔ AgHoldsByRows o (slice_of v) c
 holds_all o v n c all = (
   λ h. record {
     bottom = h.bottom;
@@ -138,7 +138,7 @@ holds_all o v n c all = (
 )
 
 pub asks_all : (o : Clocks) (v : SliceView) (n : ℕ) (asked : Cut) → sum (lengths o) < n → AsksBelow o v n asked → (c : Cut) → IsCut (lengths o) c
-    → IsWithin asked c ↔ HoldsAlways o (slice_of v) c
+    → IsWithin asked c ↔ AgHoldsByRows o (slice_of v) c
 asks_all o v n asked all asks c cut =
     let here = asks c cut in
     let there = holds_all o v n c all in
@@ -146,15 +146,15 @@ asks_all o v n asked all asks c cut =
 
 -- where the slice has the final cut, what is asked is within the lengths
 pub asked_within : (o : Clocks) (v : SliceView) (asked : Cut) → Cuts o (slice_of v) (lengths o)
-    → ((c : Cut) → IsCut (lengths o) c → IsWithin asked c ↔ HoldsAlways o (slice_of v) c) → IsWithin asked (lengths o)
+    → ((c : Cut) → IsCut (lengths o) c → IsWithin asked c ↔ AgHoldsByRows o (slice_of v) c) → IsWithin asked (lengths o)
 asked_within o v asked last asks = (asks (lengths o) (record { size = refl; within = λ i. le_refl (count (lengths o) i) })).1 (record {
   bottom = last.from_bottom;
   rows = λ i a ev. has_within_up ((slice_of v).row i a) (lengths o) (max_cut (lengths o) (clock o i a)) (max_left (lengths o) (clock o i a)) (last.rows i a ev);
 })
 
 -- the least consistent cut that holds what is asked is the least at which the rows say so
-pub asked_least : (o : Clocks) (v : SliceView) (asked b : Cut) → ((c : Cut) → IsCut (lengths o) c → IsWithin asked c ↔ HoldsAlways o (slice_of v) c)
-    → IsLeast (λ c. IsConsistent o c × IsWithin asked c) b → IsLeast (λ c. IsConsistent o c × HoldsAlways o (slice_of v) c) b
+pub asked_least : (o : Clocks) (v : SliceView) (asked b : Cut) → ((c : Cut) → IsCut (lengths o) c → IsWithin asked c ↔ AgHoldsByRows o (slice_of v) c)
+    → IsLeast (λ c. IsConsistent o c × IsWithin asked c) b → IsLeast (λ c. IsConsistent o c × AgHoldsByRows o (slice_of v) c) b
 asked_least o v asked b asks h = record {
   member = (h.member.0, (asks b (consistent_cut o b h.member.0)).0 h.member.1);
   least = λ c k. h.least c (k.0, (asks c (consistent_cut o c k.0)).1 k.1);

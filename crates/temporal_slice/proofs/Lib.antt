@@ -5,3 +5,4 @@ pub mod Shared
 pub mod Sets
 pub mod NextPulls
 pub mod PassedOn
+pub mod Tops

@@ -8,7 +8,7 @@ use Rattle.std.proofs.lemmas.List.FromFn.{length-map-range_with_len}
 use Rattle.run_model.specs.Cut.{Cut, Clocks, count, IsWithin, with_next, lengths}
 use Rattle.run_model.specs.Consistent.{IsConsistent}
 use Rattle.run_model.specs.Slice.{Cuts}
-use Rattle.run_model.specs.Operators.{NextTime}
+use Rattle.run_model.specs.Operators.{ExHolds}
 use Rattle.run_model.proofs.Counts.{count_past, length-lengths, length-with_next, with_next_same, with_next_other}
 use Rattle.run_model.proofs.Paths.{next_time_from}
 use Rattle.pull_system.specs.declared.pull.Pull.{Pull}
@@ -184,7 +184,7 @@ module _ (o : Clocks) (v : SliceView) (fits : FitsOrder o v) (rows : HasAllRows 
       All-cons (HoldsAt c) (the_pull v p i j) [] ((holds_row i j (h.within i)).1
       ((filled_within v.lens (last_row (slice_of v) i (count (with_next c p) i)) (with_next c p) rows.cuts.shape.some h.within).1 (lasts i lt) j)) (All-nil (HoldsAt c)))
 
-  pub next_closed : ClosedUnder (pulls_of_next v p) c ↔ NextTime o p (Cuts o (slice_of v)) c
+  pub next_closed : ClosedUnder (pulls_of_next v p) c ↔ ExHolds o p (Cuts o (slice_of v)) c
   next_closed = (
     λ closed.
         let h = next_within closed in

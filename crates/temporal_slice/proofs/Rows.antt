@@ -53,3 +53,7 @@ event_pushed lens s row e v w k h there at is more = built_more lens (IsRowOf le
 pub row_of_last : (s : Slice) (i a : ℕ) → 1 ≤ a → last_row s i a ≡ s.row i a
 row_of_last s i zero some = absurd (omega arith)
 row_of_last s i (suc a) some = refl
+
+-- what comes before the events
+pub first_behind : (lens : List ℕ) (e : EventId) → e ≡ record { process = 0; position = 0 } → row_of lens e + 1 ≡ 1
+first_behind lens e is = ap (λ (x : EventId). row_of lens x + 1) is ∙ omega arith

@@ -4,14 +4,14 @@ ghost use Rattle.run_model.specs.Cut.{Cut as CutOfRun, count, IsWithin, max_cut,
 ghost use Rattle.run_model.specs.Consistent.{IsConsistent, clock};
 ghost use Rattle.run_model.specs.Sublattice.{IsSublattice, IsLeast};
 ghost use Rattle.run_model.specs.Slice.{Cuts, StandsFor};
-ghost use Rattle.run_model.specs.Operators.{EachTime, HoldsAlways};
+ghost use Rattle.run_model.specs.Operators.{AgHolds, AgHoldsByRows};
 ghost use Rattle.slice_graph.specs.Views.{IsCut, slice_of};
 ghost use Rattle.slice_graph.specs.Fitting.{FitsOrder};
 
-use crate::cuts::{event_at, join_into};
+use crate::cuts::{before_all, event_behind, join_into};
 use crate::raised::cuts_from;
 use cut_lattice::Cut;
-use pota_base::{EventId, NoMemory};
+use pota_base::{EventId, MOST_PROCESSES, NoMemory};
 use slice_graph::{Order, Slice, set_words};
 use std::alloc::Global;
 
@@ -20,13 +20,13 @@ pub fn ag(alloc: Global, order: &Order, child: &Slice) -> Result<Slice, NoMemory
     requires { FitsOrder order.now child.now }
     ensures stands { IfOk result (λ slice. StandsFor order.now (slice_of slice)
         (λ c. IsConsistent order.now c
-        × EachTime order.now (Cuts order.now (slice_of child.now)) c)) }
+        × AgHolds order.now (Cuts order.now (slice_of child.now)) c)) }
     ensures fits { IfOk result (λ slice. FitsOrder order.now slice) }
     ensures closed { IsSublattice order.now (λ c. IsConsistent order.now c
-        × EachTime order.now (Cuts order.now (slice_of child.now)) c) }
+        × AgHolds order.now (Cuts order.now (slice_of child.now)) c) }
     ensures cuts { IfOk result (λ slice. (c : CutOfRun) → IsConsistent order.now c
         → Cuts order.now (slice_of slice) c
-        ↔ EachTime order.now (Cuts order.now (slice_of child.now)) c) }
+        ↔ AgHolds order.now (Cuts order.now (slice_of child.now)) c) }
 {
     let shape = order.shape();
     if !child.has_final() {
@@ -44,22 +44,27 @@ fn asked_of_all(alloc: Global, order: &Order, child: &Slice) -> Result<Cut, NoMe
     requires last { Cuts order.now (slice_of child.now) (lengths order.now) }
     ensures within { IfOk result (IsCut (lengths order.now)) }
     ensures asked { IfOk result (λ asked. (c : CutOfRun) → IsCut (lengths order.now) c
-        → IsWithin asked c ↔ HoldsAlways order.now (slice_of child.now) c) }
+        → IsWithin asked c ↔ AgHoldsByRows order.now (slice_of child.now) c) }
 {
     let shape = order.shape();
-    let mut asked = Cut::new(alloc, child.shape().procs())?;
-    set_words(child.words(0, 0), &mut asked);
+    let procs = child.shape().procs();
+    let mut room = [0; MOST_PROCESSES];
+    let room = &mut room[..procs as usize];
+    room.copy_from_slice(child.words(0, 0));
+    let mut before = before_all();
     for row in 1..shape.events() + 1 {
-        let event = event_at(shape, row);
+        let event = event_behind(shape, before, row);
         let words = child.words(event.process, event.position);
-        raise_beyond(words, order.clock(event), &mut asked);
+        raise_beyond(words, order.clock(event), room);
+        before = event;
     }
+    let mut asked = Cut::new(alloc, procs)?;
+    set_words(room, &mut asked);
     Ok(asked)
 }
 
-/// Raises the cut so far that it has each event of the words that isn't in the past.
-fn raise_beyond(words: &[u32], past: &[u32], into: &mut Cut)
-    requires few { length words.now ≤ 32 }
+/// Raises the counts so far that they have each event of the words that isn't in the past.
+fn raise_beyond(words: &[u32], past: &[u32], into: &mut [u32])
     requires past { length past.now ≡ length words.now }
     requires width { length into.old ≡ length words.now }
     ensures width { length into.new ≡ length into.old }
@@ -67,8 +72,7 @@ fn raise_beyond(words: &[u32], past: &[u32], into: &mut Cut)
         ↔ (IsWithin into.old c × IsWithin words.now (max_cut c past.now)) }
 {
     for process in 0..words.len() {
-        let count = into.get(process as u32);
-        into.set(process as u32, beyond(words[process], past[process], count));
+        into[process] = beyond(words[process], past[process], into[process]);
     }
 }
 

@@ -5,10 +5,9 @@
 //! for those from which some path to the final cut stays in it (clauses `stands` and `cuts`); each
 //! of these sets is closed under minimum and maximum (`closed`). The clauses speak of the slice's
 //! own cuts, and `operators_of_a_set` takes them to any closed set that the slice stands for.
-//! EX of a process needs no slice: `ex_pulls` gives its pulls, and `ex_fans` the same side by side. A
-//! consistent cut is closed under them exactly where the cut with the process's next event is one of
-//! the child's (`closed`).
-//! Nothing is said of the time or the memory that a call takes.
+//! EX of a process needs no slice: `ex_pulls` gives its pulls, and `ex_fans` the same side by side.
+//! A consistent cut is closed under them exactly where the cut with the process's next event is one
+//! of the child's (`closed`). Nothing is said of the time or the memory that a call takes.
 #![tactic(auto)]
 
 mod always;

@@ -5,13 +5,13 @@ ghost use Rattle.run_model.specs.Cut.{Cut as CutOfRun, count, max_cut, lengths};
 ghost use Rattle.run_model.specs.Consistent.{IsConsistent};
 ghost use Rattle.run_model.specs.Sublattice.{IsSublattice, IsLeast};
 ghost use Rattle.run_model.specs.Slice.{Cuts, StandsFor};
-ghost use Rattle.run_model.specs.Operators.{Staying, HasPairs};
+ghost use Rattle.run_model.specs.Operators.{EgHolds, HasPairs};
 ghost use Rattle.slice_graph.specs.Views.{IsCut, slice_of};
 ghost use Rattle.slice_graph.specs.Words.{row_words};
 ghost use Rattle.slice_graph.specs.Fitting.{FitsOrder};
 ghost use Rattle.temporal_slice.specs.inside.Operands.{IsInRow, Shares};
 
-use crate::cuts::{event_at, join_into};
+use crate::cuts::{before_all, event_behind, join_into};
 use crate::raised::cuts_from;
 use cut_lattice::Cut;
 use pota_base::{EventId, NoMemory};
@@ -23,13 +23,13 @@ pub fn eg(alloc: Global, order: &Order, child: &Slice) -> Result<Slice, NoMemory
     requires { FitsOrder order.now child.now }
     ensures stands { IfOk result (λ slice. StandsFor order.now (slice_of slice)
         (λ c. IsConsistent order.now c
-        × Staying order.now (Cuts order.now (slice_of child.now)) c)) }
+        × EgHolds order.now (Cuts order.now (slice_of child.now)) c)) }
     ensures fits { IfOk result (λ slice. FitsOrder order.now slice) }
     ensures closed { IsSublattice order.now (λ c. IsConsistent order.now c
-        × Staying order.now (Cuts order.now (slice_of child.now)) c) }
+        × EgHolds order.now (Cuts order.now (slice_of child.now)) c) }
     ensures cuts { IfOk result (λ slice. (c : CutOfRun) → IsConsistent order.now c
         → Cuts order.now (slice_of slice) c
-        ↔ Staying order.now (Cuts order.now (slice_of child.now)) c) }
+        ↔ EgHolds order.now (Cuts order.now (slice_of child.now)) c) }
 {
     let shape = order.shape();
     if !child.has_final() {
@@ -51,8 +51,11 @@ fn least_with_pairs(alloc: Global, order: &Order, child: &Slice) -> Result<Cut, 
     let shape = child.shape();
     let mut least = Cut::new(alloc, shape.procs())?;
     set_words(child.words(0, 0), &mut least);
+    let mut before = before_all();
     for row in 1..shape.events() + 1 {
-        join_shared(child, event_at(shape, row), &mut least);
+        let event = event_behind(shape, before, row);
+        join_shared(child, event, &mut least);
+        before = event;
     }
     Ok(least)
 }

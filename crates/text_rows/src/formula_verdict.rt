@@ -3,15 +3,12 @@
 ghost use Rattle.std.specs.Prelude.{◌≤◌, length};
 
 use crate::formula_row::{Row, Wanted};
-use pota_base::{NoMemory, Refused};
+use pota_base::{LONGEST_LEXED, NoMemory, Refused};
 use rctl_parse::{Formula, FormulaCode, FormulaFault, parse, parse_long, print};
 use std::alloc::{AllocError, Global};
 
 /// The most bytes that the common reading takes.
 const LONGEST: usize = 4096;
-
-/// The most bytes that the reading of long texts may be given.
-const LONGEST_OF_ALL: usize = 65536;
 
 // What a call gave, or want of memory.
 fn made<T>(answer: Result<T, NoMemory>) -> Result<T, AllocError> {
@@ -86,7 +83,7 @@ fn judge_text(
     wanted: &Wanted,
     long: &Wanted,
 ) -> Result<Option<String>, AllocError> {
-    if text.len() > LONGEST_OF_ALL {
+    if text.len() > LONGEST_LEXED {
         return Ok(Some(format!(in alloc; "too long for any reading")?));
     }
     let wrong = judge_read(alloc, text, parse(alloc, text), wanted)?;

@@ -14,7 +14,8 @@ use Rattle.vector_clock.specs.Filled.{is_left_out}
 abbrev pub only : ℕ → ℕ → ℕ → Cut
 only procs process count = set (replicate procs 0) process count
 
--- the place of the first event that sends the message, and where no event does one that is not there
+-- the place of the first event that sends the message, and where no event does one that is not
+-- there
 abbrev pub sent_at : Events → Message → ℕ
 sent_at events m =
     unwrap_or (first_send events m) (suc (length (own_events events m.sender)))

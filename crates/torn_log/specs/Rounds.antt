@@ -1,5 +1,6 @@
 -- A cut that is lowered, event by event and round by round, until it is logged whole.
-use Rattle.std.specs.Prelude.{◌≡◌, ℕ, ◌<◌, ◌≤◌, Bool, true, false, List, length, map, set, sum, get_or}
+use Rattle.std.specs.Prelude.{◌≡◌, ℕ, ◌<◌, ◌≤◌, Bool, true, false, List, length, map, set, sum}
+use Rattle.std.specs.Prelude.{get_or}
 use Rattle.run_model.specs.Cut.{Cut, count, IsWithin}
 use Rattle.run_model.specs.Consistent.{clock, IsEvent}
 use Rattle.torn_runs.specs.Torn.{IsLoggedWhole}

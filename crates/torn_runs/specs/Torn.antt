@@ -8,8 +8,8 @@ pub record IsBeginning (logged whole : Clocks) : Type 0 where
   pub procs : length logged ≡ length whole
   pub each : (p : ℕ) → (more : List Cut) × (get_or whole p [] ≡ get_or logged p [] ++ more)
 
--- a cut of logged events that is logged whole: each event that the clocks of its events count is one
--- of its own
+-- a cut of logged events that is logged whole: each event that the clocks of its events count is
+-- one of its own
 pub record IsLoggedWhole (o : Clocks) (c : Cut) : Type 0 where
   pub shaped : length c ≡ length o
   pub within : IsWithin c (lengths o)

@@ -1,5 +1,5 @@
--- The texts of logs, maybe torn ones, one behind another, mended: each torn log is closed behind its
--- last whole line.
+-- The texts of logs, maybe torn ones, one behind another, mended: each torn log is closed behind
+-- its last whole line.
 use Rattle.std.specs.Prelude.{ℕ, ◌-◌, Bool, true, false, not, ◌&&◌, ◌==◌, List, [], ◌∷◌, ◌++◌}
 use Rattle.std.specs.Prelude.{length, drop, is_some, if◌then◌else◌}
 use Rattle.std.specs.Str.{bytes_eq}

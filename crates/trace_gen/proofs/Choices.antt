@@ -9,6 +9,7 @@ use Rattle.run_model.specs.Cut.{Cut, count, max_cut, with_next}
 use Rattle.run_model.specs.Consistent.{IsConsistent}
 use Rattle.run_model.proofs.Counts.{count-max, length-max, length-with_next, with_next_same, with_next_other, same_counts, max_left}
 use Rattle.run_model.proofs.Orders.{max_consistent}
+use Rattle.pota_base.specs.Limits.{most_events}
 use Rattle.event_log.specs.declared.item.LogCode.TheVariants as code
 use Rattle.event_log.specs.declared.log.Assign.{Assign}
 use Rattle.event_log.specs.declared.log.Event.{Event}
@@ -44,7 +45,7 @@ pub record IsMadeWell (procs : ℕ) (before : Events) (k : ℕ) (x : Made) : Typ
   pub line : x.event.line ≡ procs + 3 + k
   pub goes : Going procs (with_event before x.event) (k + 1) x.processes
   pub past : IsConsistent (clocks_of (with_event before x.event)) x.event.clock
-  pub kind : k < 50000 → KindFits procs x.event.process x.event.kind
+  pub kind : k < most_events → KindFits procs x.event.process x.event.kind
   pub assigns : HasAssigns k x.event.assigns
   pub message : (all : Events) → HasMore before all → message_fault before all x.event ≡ None
 
@@ -296,7 +297,7 @@ module _ (procs : ℕ) (before : Events) (k : ℕ) (ps : Processes) (going : Goi
             ∙ ap (λ b. cond b (Some code.ReceiveEarly) None) (le-ltb (count receipt.clock m.sender) way_of.place (omega (arith, way_of.counted, max_left m.clock taken.clock m.sender)));
       }
         where
-          id_small : k < 50000 → m.id < 2 ^ 64
+          id_small : k < most_events → m.id < 2 ^ 64
           id_small small = omega (arith, low_ids before i k (m.id + 1) others queue.2)
 
 -- another process than i

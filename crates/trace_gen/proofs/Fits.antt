@@ -6,6 +6,7 @@ use Rattle.std.specs.List.{AllByRecursion}
 use Rattle.std.proofs.lemmas.Int.{ints}
 use Rattle.std.proofs.lemmas.List.{length-replicate, get_or-replicate}
 use Rattle.run_model.specs.Cut.{Cut, count}
+use Rattle.pota_base.specs.Limits.{most_events, most_processes, most_variables}
 use Rattle.log_lines.specs.Names.{are_distinct}
 use Rattle.log_lines.specs.Spelling.{names_of}
 use Rattle.event_log.specs.declared.log.Assign.{Assign}
@@ -32,7 +33,7 @@ use Rattle.trace_gen.proofs.Naming.{names_distinct, names_are}
 
 -- ---- the header
 
-small_fits : (n : ℕ) → n ≤ 50001 → FitsSigned w64 (pos n)
+small_fits : (n : ℕ) → n ≤ most_events + 1 → FitsSigned w64 (pos n)
 small_fits n low = omega (arith, ints)
 
 opening_fits : BindingsFit opening
@@ -42,7 +43,7 @@ all_openings : (n : ℕ) → AllByRecursion BindingsFit (replicate n opening)
 all_openings zero = tt
 all_openings (suc n) = (opening_fits, all_openings n)
 
-pub header_fits : (procs : ℕ) → 1 ≤ procs → procs ≤ 32 → HeaderFits (header_of procs)
+pub header_fits : (procs : ℕ) → 1 ≤ procs → procs ≤ most_processes → HeaderFits (header_of procs)
 header_fits procs some few = record {
   version = inl refl;
   procs = record {
@@ -65,7 +66,7 @@ all_low : (c : Cut) (bound : ℕ) → bound < 2 ^ 32 → ((j : ℕ) → count c 
 all_low [] bound low h = tt
 all_low (x ∷ c) bound low h = (omega (arith, h 0), all_low c bound low (λ j. h (suc j)))
 
-assigns_fit : (k : ℕ) (assigns : List Assign) → k < 50000 → HasAssigns k assigns → (length assigns ≤ 16) × AllByRecursion (AssignFits opening) assigns
+assigns_fit : (k : ℕ) (assigns : List Assign) → k < most_events → HasAssigns k assigns → (length assigns ≤ most_variables) × AllByRecursion (AssignFits opening) assigns
     × (are_distinct (names_of (map (named opening) assigns)) ≡ true)
 assigns_fit k assigns limit has = elim has.are [
   | inl is ↦ subst Fit (sym is) (omega arith, (n_fits, tt), refl)
@@ -73,7 +74,7 @@ assigns_fit k assigns limit has = elim has.are [
 ]
   where
     Fit : List Assign → Type 0
-    Fit list = (length list ≤ 16) × AllByRecursion (AssignFits opening) list × (are_distinct (names_of (map (named opening) list)) ≡ true)
+    Fit list = (length list ≤ most_variables) × AllByRecursion (AssignFits opening) list × (are_distinct (names_of (map (named opening) list)) ≡ true)
 
     n_fits : AssignFits opening (position_is has.n)
     n_fits = record { variable = omega arith; value = small_fits has.n (omega (arith, has.n_low)) }
@@ -81,7 +82,7 @@ assigns_fit k assigns limit has = elim has.are [
     seen_fits : AssignFits opening (seen_is has.seen)
     seen_fits = record { variable = omega arith; value = small_fits has.seen (omega (arith, has.seen_low)) }
 
-module _ (procs : ℕ) (some : 1 ≤ procs) (few : procs ≤ 32) where
+module _ (procs : ℕ) (some : 1 ≤ procs) (few : procs ≤ most_processes) where
   abbrev h : Header
   h = header_of procs
 
@@ -92,7 +93,7 @@ module _ (procs : ℕ) (some : 1 ≤ procs) (few : procs ≤ 32) where
   pub event_width : (before : Events) (k w : ℕ) (ps : Processes) → IsMadeWell procs before k (made procs k w ps) → length (made procs k w ps).event.clock ≡ procs
   event_width before k w ps well = well.past.shaped ∙ length-clocks_of (with_event before (made procs k w ps).event) ∙ well.goes.tables
 
-  pub event_fits : (before : Events) (k w : ℕ) (ps : Processes) → k < 50000 → IsMadeWell procs before k (made procs k w ps) → EventFits h (made procs k w ps).event
+  pub event_fits : (before : Events) (k w : ℕ) (ps : Processes) → k < most_events → IsMadeWell procs before k (made procs k w ps) → EventFits h (made procs k w ps).event
   event_fits before k w ps limit well =
       let e = (made procs k w ps).event in
       let after = with_event before e in
@@ -107,7 +108,7 @@ module _ (procs : ℕ) (some : 1 ≤ procs) (few : procs ≤ 32) where
         distinct = subst (λ (vars : List Binding). are_distinct (names_of (map (named vars) e.assigns)) ≡ true) (sym (vars_at e.process well.there)) fit.2;
       }
 
-  events_fit : (n k s line : ℕ) (before : Events) (ps : Processes) → k + n ≤ 50000 → line ≡ procs + 3 + k → Going procs before k ps → EventsFit h line (events_from procs k n s ps)
+  events_fit : (n k s line : ℕ) (before : Events) (ps : Processes) → k + n ≤ most_events → line ≡ procs + 3 + k → Going procs before k ps → EventsFit h line (events_from procs k n s ps)
   unfolding events_from
   events_fit zero k s line before ps limit here going = tt
   events_fit (suc n) k s line before ps limit here going =
@@ -122,7 +123,7 @@ module _ (procs : ℕ) (some : 1 ≤ procs) (few : procs ≤ 32) where
   length-events zero k s ps = refl
   length-events (suc n) k s ps = omega (arith, length-events n (k + 1) (next_state s) (made procs k (word s) ps).processes)
 
-  pub log_fits : (seed events : ℕ) → events ≤ 50000 → LogFits (generated seed procs events)
+  pub log_fits : (seed events : ℕ) → events ≤ most_events → LogFits (generated seed procs events)
   log_fits seed events limit = record {
     header = header_fits procs some few;
     some = omega arith;
@@ -131,12 +132,12 @@ module _ (procs : ℕ) (some : 1 ≤ procs) (few : procs ≤ 32) where
   }
 
   -- no clock is left out
-  pub all_written : (seed events : ℕ) → events ≤ 50000 → filled_log (generated seed procs events) ≡ generated seed procs events
+  pub all_written : (seed events : ℕ) → events ≤ most_events → filled_log (generated seed procs events) ≡ generated seed procs events
   all_written seed events limit =
       let log = generated seed procs events in
       let fits = log_fits seed events limit in
       ap (λ (batches : List (List Event)). record { header = log.header; batches = batches })
       (written_log (length log.header.procs) (no_events (length log.header.procs)) log.batches fits.header.procs.some (all_fit log.header _ log.batches refl fits.batches))
 
-  pub filled_clean : (seed events : ℕ) → events ≤ 50000 → log_fault (filled_log (generated seed procs events)) ≡ None
+  pub filled_clean : (seed events : ℕ) → events ≤ most_events → log_fault (filled_log (generated seed procs events)) ≡ None
   filled_clean seed events limit = ap log_fault (all_written seed events limit) ∙ no_log_fault seed procs events some

@@ -1,5 +1,6 @@
 -- The loop that makes the events.
 use Rattle.std.proofs.Common.{◌≡◌, ℕ, suc, ◌+◌, ◌-◌, ◌<◌, ◌≤◌, List, [], ◌∷◌, ◌++◌, length, sym, ap, ap₂, ◌∙◌, subst, arith, append-nil, append_assoc}
+use Rattle.pota_base.specs.Limits.{most_events, most_processes}
 use Rattle.event_log.specs.declared.log.Event.{Event}
 use Rattle.event_log.specs.States.{with_event, with_batch}
 use Rattle.vector_clock.specs.Events.{Events, no_events}
@@ -26,7 +27,7 @@ so_far_none seed procs count s events ps none first rest =
     (subst (MadeSoFar seed procs count [] 0 (first_state seed)) (sym rest)
     (record { going = start_going procs; all = ap (λ n. events_from procs 0 n (first_state seed) (at_rest procs)) all })))
 
-pub so_far_can : (seed procs count : ℕ) (events : List Event) (k s : ℕ) (ps : Processes) → MadeSoFar seed procs count events k s ps → 1 ≤ procs → procs ≤ 32 → k < 50000 → CanMake k ps
+pub so_far_can : (seed procs count : ℕ) (events : List Event) (k s : ℕ) (ps : Processes) → MadeSoFar seed procs count events k s ps → 1 ≤ procs → procs ≤ most_processes → k < most_events → CanMake k ps
 so_far_can seed procs count events k s ps h some few limit = record {
   some = omega (arith, h.going.all);
   few = omega (arith, h.going.all);

@@ -5,20 +5,21 @@ use Rattle.std.specs.Fmt.{digits}
 use Rattle.std.specs.List.{AllByRecursion}
 use Rattle.std.specs.Str.{bytes_eq}
 use Rattle.std.proofs.lemmas.Bool.{and_parts, and_from, not-false, not-true, true≢false}
+use Rattle.pota_base.specs.Limits.{most_processes}
 use Rattle.log_lines.specs.Names.{Name, is_name, are_distinct, place_from, place_of}
 use Rattle.vector_clock.specs.Events.{some_below}
 use Rattle.vector_clock.proofs.Below.{none_below}
 use Rattle.trace_gen.specs.Generated.{name_of, names_from}
 
-none_unnamed : some_below 32 (λ n. not (is_name (name_of n))) ≡ false
+none_unnamed : some_below most_processes (λ n. not (is_name (name_of n))) ≡ false
 unfolding digits some_below
 none_unnamed = refl
 
-pub name_is_there : (i : ℕ) → i < 32 → is_name (name_of i) ≡ true
-name_is_there i lt = not-false (is_name (name_of i)) (none_below (λ n. not (is_name (name_of n))) 32 none_unnamed i lt)
+pub name_is_there : (i : ℕ) → i < most_processes → is_name (name_of i) ≡ true
+name_is_there i lt = not-false (is_name (name_of i)) (none_below (λ n. not (is_name (name_of n))) most_processes none_unnamed i lt)
 
 -- so it is found where a name is looked for
-pub name_found : (i : ℕ) (text : List ℕ) (found : Option Name) → i < 32 → text ≡ name_of i → MatchOption found (is_name text ≡ false) (λ name. IsTrue (is_name text) × (name ≡ text)) → IsSome found
+pub name_found : (i : ℕ) (text : List ℕ) (found : Option Name) → i < most_processes → text ≡ name_of i → MatchOption found (is_name text ≡ false) (λ name. IsTrue (is_name text) × (name ≡ text)) → IsSome found
 name_found i text (Some name) lt is h = refl
 name_found i text None lt is h = absurd (true≢false (sym (ap is_name is ∙ name_is_there i lt) ∙ h))
 
@@ -60,16 +61,16 @@ distinct_front (x ∷ xs) ys h =
     let parts = and_parts (not (is_some (place_of (xs ++ ys) x))) (are_distinct (xs ++ ys)) h in
     and_from _ _ (ap not (found_still 0 xs ys x (not-true _ parts.0))) (distinct_front xs ys parts.1)
 
-most_distinct : are_distinct (names_from 0 32) ≡ true
+most_distinct : are_distinct (names_from 0 most_processes) ≡ true
 unfolding digits
 most_distinct = refl
 
-pub names_distinct : (n : ℕ) → n ≤ 32 → are_distinct (names_from 0 n) ≡ true
+pub names_distinct : (n : ℕ) → n ≤ most_processes → are_distinct (names_from 0 n) ≡ true
 names_distinct n few =
-    let all : n + (32 - n) ≡ 32 = omega arith in
-    distinct_front (names_from 0 n) (names_from (0 + n) (32 - n)) (subst (λ (ns : List Name). are_distinct ns ≡ true) (names_more 0 n (32 - n)) (subst (λ k. are_distinct (names_from 0 k) ≡ true) (sym all) most_distinct))
+    let all : n + (most_processes - n) ≡ most_processes = omega arith in
+    distinct_front (names_from 0 n) (names_from (0 + n) (most_processes - n)) (subst (λ (ns : List Name). are_distinct ns ≡ true) (names_more 0 n (most_processes - n)) (subst (λ k. are_distinct (names_from 0 k) ≡ true) (sym all) most_distinct))
 
-pub names_are : (i n : ℕ) → i + n ≤ 32 → AllByRecursion (λ name. is_name name ≡ true) (names_from i n)
+pub names_are : (i n : ℕ) → i + n ≤ most_processes → AllByRecursion (λ name. is_name name ≡ true) (names_from i n)
 names_are i zero lt = tt
 names_are i (suc n) lt = (name_is_there i (omega arith), names_are (i + 1) n (omega arith))
 

@@ -11,6 +11,7 @@ use Rattle.std.proofs.lemmas.List.{length-replicate, get_or-replicate}
 use Rattle.run_model.specs.Run as run
 use Rattle.run_model.specs.Cut.{Cut, count, max_cut, with_next}
 use Rattle.run_model.proofs.Counts.{with_next_same, max_right}
+use Rattle.pota_base.specs.Limits.{most_processes}
 use Rattle.event_log.specs.declared.log.Assign.{Assign}
 use Rattle.event_log.specs.declared.log.Binding.{Binding}
 use Rattle.event_log.specs.declared.log.Event.{Event}
@@ -222,7 +223,7 @@ made_rises procs before k w ps some going x z here =
 no_less : (a b : ℤ) → a ≤ℤ b → int_lt b a ≡ false
 no_less a b h = grind (arith, ints)
 
-module _ (procs : ℕ) (some : 1 ≤ procs) (few : procs ≤ 32) where
+module _ (procs : ℕ) (some : 1 ≤ procs) (few : procs ≤ most_processes) where
   abbrev states : Events → StatesView
   states before = record { header = header_of procs; events = before }
 

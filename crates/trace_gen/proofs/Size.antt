@@ -5,6 +5,7 @@ use Rattle.std.specs.Prelude.{nat_lt}
 use Rattle.std.specs.List.{AllByRecursion}
 use Rattle.std.proofs.lemmas.Bool.{and_parts, ltb-true}
 use Rattle.std.proofs.lemmas.Fmt.{length-decimal-le}
+use Rattle.pota_base.specs.Limits.{longest_log, longest_name, most_events, most_processes}
 use Rattle.log_lines.specs.Names.{Name, is_name, is_name_start}
 use Rattle.log_lines.specs.Spelling.{names_text, values_text, clock_rest, event_clock_text, action_text, event_line, procs_line, vars_line, end_line}
 use Rattle.event_log.specs.declared.log.Assign.{Assign}
@@ -27,14 +28,14 @@ use Rattle.trace_gen.proofs.Naming.{names_are}
 
 -- ---- parts of a line
 
-name_short : (name : Name) → is_name name ≡ true → length name ≤ 64
+name_short : (name : Name) → is_name name ≡ true → length name ≤ longest_name
 name_short [] h = omega arith
 name_short (b ∷ rest) h =
     let parts = and_parts (is_name_start b) _ h in
-    let short = and_parts (nat_lt (length rest) 64) _ parts.1 in
-    omega (arith, ltb-true (length rest) 64 short.0)
+    let short = and_parts (nat_lt (length rest) longest_name) _ parts.1 in
+    omega (arith, ltb-true (length rest) longest_name short.0)
 
-short_at : (names : List Name) (i : ℕ) → AllByRecursion (λ name. is_name name ≡ true) names → length (name_at names i) ≤ 64
+short_at : (names : List Name) (i : ℕ) → AllByRecursion (λ name. is_name name ≡ true) names → length (name_at names i) ≤ longest_name
 short_at [] i all = omega arith
 short_at (n ∷ names) zero all = name_short n all.0
 short_at (n ∷ names) (suc i) all = short_at names i all.1
@@ -50,7 +51,7 @@ clock_short : (c : List ℕ) → AllByRecursion (λ n. n < 2 ^ 32) c → length 
 clock_short [] all = omega arith
 clock_short (n ∷ c) all = omega (arith, length-append (decimal n) (clock_rest c), number_short n (omega (arith, all.0)), rest_short c all.1)
 
-peer_short : (name : Name) (id : ℕ) → length name ≤ 64 → id < 2 ^ 64 → length (name ++ 32 ∷ decimal id) ≤ 85
+peer_short : (name : Name) (id : ℕ) → length name ≤ longest_name → id < 2 ^ 64 → length (name ++ 32 ∷ decimal id) ≤ 85
 peer_short name id short low = omega (arith, length-append name (32 ∷ decimal id), number_short id low, short)
 
 action_short : (names : List Name) (n i : ℕ) (k : Kind) → AllByRecursion (λ name. is_name name ≡ true) names → KindFits n i k → length (action_text (action_of names k)) ≤ 90
@@ -58,7 +59,7 @@ action_short names n i kind.Internal all fits = omega arith
 action_short names n i (kind.Send to id) all fits = omega (arith, peer_short (name_at names to) id (short_at names to all) fits.2)
 action_short names n i (kind.Receive sender id) all fits = omega (arith, peer_short (name_at names sender) id (short_at names sender all) fits.2)
 
-assigns_short : (k : ℕ) (assigns : List Assign) → k < 50000 → HasAssigns k assigns → length (values_text (map (named opening) assigns)) ≤ 60
+assigns_short : (k : ℕ) (assigns : List Assign) → k < most_events → HasAssigns k assigns → length (values_text (map (named opening) assigns)) ≤ 60
 assigns_short k assigns limit has = elim has.are [
   | inl is ↦ subst Short (sym is) (omega (arith, length-append (decimal has.n) [], number_short has.n (omega (arith, has.n_low))))
   | inr is ↦
@@ -99,11 +100,11 @@ vars_short i (suc n) all =
     let line : length (vars_line (record { process = name; variables = values_of opening })) ≤ 100 = omega (arith, length-append name (values_text (values_of opening)), name_short name all.0, opening_text) in
     omega (arith, line_more (vars_line (record { process = name; variables = values_of opening })) (vars_lines (names_from (i + 1) n) (replicate n opening)), line, vars_short (i + 1) n all.1)
 
-module _ (procs : ℕ) (some : 1 ≤ procs) (few : procs ≤ 32) where
+module _ (procs : ℕ) (some : 1 ≤ procs) (few : procs ≤ most_processes) where
   abbrev h : Header
   h = header_of procs
 
-  event_short : (before : Events) (k w : ℕ) (ps : Processes) → k < 50000 → IsMadeWell procs before k (made procs k w ps) → length (event_line (line_of h (made procs k w ps).event)) ≤ 1000
+  event_short : (before : Events) (k w : ℕ) (ps : Processes) → k < most_events → IsMadeWell procs before k (made procs k w ps) → length (event_line (line_of h (made procs k w ps).event)) ≤ 1000
   event_short before k w ps limit well =
       let e = (made procs k w ps).event in
       let fits = event_fits procs some few before k w ps limit well in
@@ -120,7 +121,7 @@ module _ (procs : ℕ) (some : 1 ≤ procs) (few : procs ≤ 32) where
         values,
       )
 
-  events_short : (n k s : ℕ) (before : Events) (ps : Processes) → k + n ≤ 50000 → Going procs before k ps → length (text_of (event_lines h (events_from procs k n s ps))) ≤ 1001 * n
+  events_short : (n k s : ℕ) (before : Events) (ps : Processes) → k + n ≤ most_events → Going procs before k ps → length (text_of (event_lines h (events_from procs k n s ps))) ≤ 1001 * n
   unfolding events_from
   events_short zero k s before ps limit going = omega arith
   events_short (suc n) k s before ps limit going =
@@ -133,7 +134,7 @@ module _ (procs : ℕ) (some : 1 ≤ procs) (few : procs ≤ 32) where
         events_short n (k + 1) (next_state s) (with_event before x.event) x.processes (omega arith) well.goes,
       )
 
-  pub log_small : (seed events : ℕ) → events ≤ 50000 → length (log_text (generated seed procs events)) ≤ 67108864
+  pub log_small : (seed events : ℕ) → events ≤ most_events → length (log_text (generated seed procs events)) ≤ longest_log
   log_small seed events limit =
       let all = names_are 0 procs (omega arith) in
       let es = generated_events seed procs events in

@@ -2,6 +2,7 @@
 ghost use Rattle.std.specs.Prelude.{◌≡◌, ◌+◌, ◌^◌, ◌<◌, ◌≤◌, ◌%◌, ◌≢◌, pos, IfOk, OnOk, [], ◌∷◌};
 ghost use Rattle.std.specs.Prelude.{length};
 ghost use Rattle.run_model.specs.Cut.{count};
+ghost use Rattle.pota_base.specs.Limits.{most_events, most_processes};
 ghost use Rattle.trace_gen.specs.Making.{internal, sending, receiving, taking, made, peer};
 ghost use Rattle.trace_gen.specs.Making.{process_at, advanced, received, receipt_by, position_is};
 ghost use Rattle.trace_gen.specs.Making.{seen_is};
@@ -112,11 +113,11 @@ fn receive(
     line: u32,
     message: &Sent,
 ) -> Result<Event, NoMemory>
-    requires there { index < 32 }
+    requires there { index < most_processes }
     requires wide { index < length process.old.clock }
-    requires room { count process.old.clock index < 50000 }
+    requires room { count process.old.clock index < most_events }
     requires clock { length message.now.clock ≡ length process.old.clock }
-    requires few { process.old.seen < 50000 }
+    requires few { process.old.seen < most_events }
     ensures event { IfOk result (λ event.
         event ≡ receipt_by index line message.now (advanced process.old index)) }
     ensures process { OnOk result

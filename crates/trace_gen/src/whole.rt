@@ -1,6 +1,7 @@
 //! A whole log.
 ghost use Rattle.std.specs.Prelude.{◌≡◌, ◌≤◌, ◌<◌, ◌+◌, IfOk, None, List as ListOf, [], length};
 ghost use Rattle.std.specs.Prelude.{replicate};
+ghost use Rattle.pota_base.specs.Limits.{most_events, most_processes};
 ghost use Rattle.event_log.specs.Laws.{IsLog};
 ghost use Rattle.event_log.specs.LogText.{HasVarLines};
 ghost use Rattle.vector_clock.specs.Faults.{log_fault};
@@ -17,7 +18,7 @@ use std::alloc::Global;
 
 // `P1` and so on, by the index from 0.
 fn process_name(alloc: Global, index: usize) -> Result<Name, NoMemory>
-    requires { index < 32 }
+    requires { index < most_processes }
     ensures { IfOk result (λ name. name ≡ name_of index) }
 {
     let mut text = List::new(alloc);
@@ -28,7 +29,7 @@ fn process_name(alloc: Global, index: usize) -> Result<Name, NoMemory>
 }
 
 fn names(alloc: Global, procs: usize) -> Result<List<Name>, NoMemory>
-    requires { procs ≤ 32 }
+    requires { procs ≤ most_processes }
     ensures { IfOk result (λ names. names ≡ names_from 0 procs) }
 {
     let mut names = List::new(alloc);
@@ -66,7 +67,7 @@ fn all_variables(alloc: Global, procs: usize) -> Result<List<List<Binding>>, NoM
 }
 
 fn header(alloc: Global, procs: usize) -> Result<Header, NoMemory>
-    requires { procs ≤ 32 }
+    requires { procs ≤ most_processes }
     ensures { IfOk result (λ header. header ≡ header_of procs) }
 {
     let vars = all_variables(alloc, procs)?;
@@ -91,8 +92,8 @@ fn processes_at_rest(alloc: Global, procs: usize) -> Result<Vec<Process>, NoMemo
 
 fn make_events(alloc: Global, seed: u64, procs: u32, count: u32) -> Result<List<Event>, NoMemory>
     requires some { 1 ≤ procs }
-    requires few { procs ≤ 32 }
-    requires limit { count ≤ 50000 }
+    requires few { procs ≤ most_processes }
+    requires limit { count ≤ most_events }
     ensures { IfOk result (λ events. events ≡ generated_events seed procs count) }
 {
     let mut words = Words::new(seed);
@@ -108,8 +109,8 @@ fn make_events(alloc: Global, seed: u64, procs: u32, count: u32) -> Result<List<
 
 fn make_log(alloc: Global, seed: u64, procs: u32, events: u32) -> Result<Log, NoMemory>
     requires some { 1 ≤ procs }
-    requires few { procs ≤ 32 }
-    requires limit { events ≤ 50000 }
+    requires few { procs ≤ most_processes }
+    requires limit { events ≤ most_events }
     ensures { IfOk result (λ log. log ≡ generated seed procs events) }
 {
     let mut batches = List::new(alloc);
@@ -123,8 +124,8 @@ fn make_log(alloc: Global, seed: u64, procs: u32, events: u32) -> Result<Log, No
 /// The log of one batch that the seed gives, with so many processes and events.
 pub fn generate(alloc: Global, seed: u64, procs: u32, events: u32) -> Result<Log, NoMemory>
     requires some { 1 ≤ procs }
-    requires few { procs ≤ 32 }
-    requires limit { events ≤ 50000 }
+    requires few { procs ≤ most_processes }
+    requires limit { events ≤ most_events }
     ensures log { IfOk result (λ log. log ≡ generated seed procs events) }
     ensures text { IfOk result IsLog }
     ensures lines { IfOk result (λ log. HasVarLines log.header) }

@@ -10,6 +10,7 @@ use Rattle.std.proofs.lemmas.Int.{ints}
 use Rattle.std.proofs.lemmas.List.Sums.{count_by-le-length}
 use Rattle.std.proofs.lemmas.List.{append-nil, length-map, length-replicate}
 use Rattle.std.proofs.lemmas.Slice.Eq.{bytes_eq-Decides}
+use Rattle.pota_base.specs.Limits.{longest_name, most_events, most_processes}
 use Rattle.log_lines.specs.Names.{place_of, are_distinct}
 use Rattle.log_lines.specs.Reading.{choose}
 use Rattle.log_lines.specs.Spelling.{names_of}
@@ -63,18 +64,18 @@ start_of_name b other = go (is_name_byte b) refl
     go true is = left (is_name_start b) (nat_le 48 b && nat_le b 57) is other
     go false is = refl
 
-few_left : (n : ℕ) → n + 1 ≤ 64 → nat_lt n 64 ≡ true
+few_left : (n : ℕ) → n + 1 ≤ longest_name → nat_lt n longest_name ≡ true
 few_left n le = grind (arith, nat_tests)
 
 -- a host of at most 64 bytes of name, and not none, has a name
-pub host_is_named : (host : Host) → 0 < length host → length (name_of host) ≤ 64 → is_name (name_of host) ≡ true
+pub host_is_named : (host : Host) → 0 < length host → length (name_of host) ≤ longest_name → is_name (name_of host) ≡ true
 host_is_named [] some few = absurd (omega arith)
 host_is_named (b ∷ host) some few = go (nat_le 48 b && nat_le b 57) refl few
   where
-    go : (t : Bool) → (nat_le 48 b && nat_le b 57) ≡ t → length (if t then 95 ∷ map name_byte (b ∷ host) else map name_byte (b ∷ host)) ≤ 64 → is_name (if t then 95 ∷ map name_byte (b ∷ host) else map name_byte (b ∷ host)) ≡ true
-    go true is le = and_from (nat_lt (length (map name_byte (b ∷ host))) 64) (list_all is_name_byte (map name_byte (b ∷ host))) (few_left (length (map name_byte (b ∷ host))) (omega (arith, le))) (bytes_of_name (b ∷ host))
-    go false is le = and_from (is_name_start (name_byte b)) (nat_lt (length (map name_byte host)) 64 && list_all is_name_byte (map name_byte host)) (start_of_name b is)
-        (and_from (nat_lt (length (map name_byte host)) 64) (list_all is_name_byte (map name_byte host)) (few_left (length (map name_byte host)) (omega (arith, le))) (bytes_of_name host))
+    go : (t : Bool) → (nat_le 48 b && nat_le b 57) ≡ t → length (if t then 95 ∷ map name_byte (b ∷ host) else map name_byte (b ∷ host)) ≤ longest_name → is_name (if t then 95 ∷ map name_byte (b ∷ host) else map name_byte (b ∷ host)) ≡ true
+    go true is le = and_from (nat_lt (length (map name_byte (b ∷ host))) longest_name) (list_all is_name_byte (map name_byte (b ∷ host))) (few_left (length (map name_byte (b ∷ host))) (omega (arith, le))) (bytes_of_name (b ∷ host))
+    go false is le = and_from (is_name_start (name_byte b)) (nat_lt (length (map name_byte host)) longest_name && list_all is_name_byte (map name_byte host)) (start_of_name b is)
+        (and_from (nat_lt (length (map name_byte host)) longest_name) (list_all is_name_byte (map name_byte host)) (few_left (length (map name_byte host)) (omega (arith, le))) (bytes_of_name host))
 
 not_zero : (n : ℕ) → (n == 0) ≡ false → 0 < n
 not_zero n other = grind (arith, nat_tests)
@@ -88,8 +89,8 @@ not_least m n other = grind (arith, nat_tests)
 -- the host of a host line that isn't bad has a name
 pub fine_is_named : (r : Record) → IsFine r → IsNamed r.host
 fine_is_named r fine =
-    let parts = or_parts (length r.host == 0) (nat_lt 64 (length (name_of r.host))) fine in
-    host_is_named r.host (not_zero (length r.host) parts.0) (not_more 64 (length (name_of r.host)) parts.1)
+    let parts = or_parts (length r.host == 0) (nat_lt longest_name (length (name_of r.host))) fine in
+    host_is_named r.host (not_zero (length r.host) parts.0) (not_more longest_name (length (name_of r.host)) parts.1)
 
 pub hosts_are_named : (rs : List Record) → AllByRecursion IsFine rs → AllByRecursion IsNamed (hosts_of rs)
 hosts_are_named rs fine = all-hosts IsNamed rs (go rs fine)
@@ -139,15 +140,15 @@ all_fine before (r ∷ rs) all = ((line_is_quiet before r all.0).fine, all_fine 
 
 -- the counts at the last of the records
 record AreFew (rs : List Record) : Type 0 where
-  hosts : length (hosts_of rs) ≤ 32
-  records : length rs ≤ 50000
+  hosts : length (hosts_of rs) ≤ most_processes
+  records : length rs ≤ most_events
 
 few_from : (before : List Record) (r : Record) (rs : List Record) → AllQuiet line_fault before (r ∷ rs) → AreFew (before ++ r ∷ rs)
 few_from before r [] all =
     let quiet = line_is_quiet before r all.0 in
     record {
-      hosts = not_more 32 (length (hosts_of (before ++ r ∷ []))) quiet.hosts;
-      records = omega (arith, length-append before (r ∷ []), not_least 50000 (length before) quiet.records);
+      hosts = not_more most_processes (length (hosts_of (before ++ r ∷ []))) quiet.hosts;
+      records = omega (arith, length-append before (r ∷ []), not_least most_events (length before) quiet.records);
     }
 few_from before r (q ∷ rs) all = subst AreFew (append_assoc before (r ∷ []) (q ∷ rs)) (few_from (before ++ r ∷ []) q rs all.1)
 
@@ -205,7 +206,7 @@ names_each : (hosts : List Host) → AllByRecursion IsNamed hosts → AllByRecur
 names_each [] all = tt
 names_each (h ∷ hosts) all = (all.0, names_each hosts all.1)
 
-header_fits : (hosts : List Host) → 0 < length hosts → length hosts ≤ 32 → AllByRecursion IsNamed hosts → are_distinct (map name_of hosts) ≡ true → HeaderFits (header_of hosts)
+header_fits : (hosts : List Host) → 0 < length hosts → length hosts ≤ most_processes → AllByRecursion IsNamed hosts → are_distinct (map name_of hosts) ≡ true → HeaderFits (header_of hosts)
 header_fits hosts some few named distinct =
     let long : length (map name_of hosts) ≡ length hosts = length-map hosts name_of in
     record {
@@ -241,10 +242,10 @@ variables_are zero p lt = absurd (omega arith)
 variables_are (suc n) zero lt = refl
 variables_are (suc n) (suc p) lt = variables_are n p (omega arith)
 
-small_fits : (n : ℕ) → n ≤ 50001 → FitsSigned w64 (pos n)
+small_fits : (n : ℕ) → n ≤ most_events + 1 → FitsSigned w64 (pos n)
 small_fits n le = omega (arith, ints)
 
-event_fits : (hosts : List Host) (before : List Record) (r : Record) → IsPlaced hosts r → length before ≤ 50000 → EventFits (header_of hosts) (event_of hosts before r)
+event_fits : (hosts : List Host) (before : List Record) (r : Record) → IsPlaced hosts r → length before ≤ most_events → EventFits (header_of hosts) (event_of hosts before r)
 event_fits hosts before r placed few =
     let e = event_of hosts before r in
     let is : e.process ≡ placed.place = ap (λ (o : Option ℕ). unwrap_or o 0) placed.is in
@@ -264,13 +265,13 @@ event_fits hosts before r placed few =
     position_fits : FitsSigned w64 (pos (records_of r.host before + 1))
     position_fits = small_fits (records_of r.host before + 1) (omega (arith, few, count_by-le-length (λ (q : Record). bytes_eq q.host r.host) before))
 
-events_fit : (hosts : List Host) (before rs : List Record) → AllByRecursion (IsPlaced hosts) rs → length before + length rs ≤ 50000 → AllByRecursion (EventFits (header_of hosts)) (events_from hosts before rs)
+events_fit : (hosts : List Host) (before rs : List Record) → AllByRecursion (IsPlaced hosts) rs → length before + length rs ≤ most_events → AllByRecursion (EventFits (header_of hosts)) (events_from hosts before rs)
 unfolding events_from
 events_fit hosts before [] all few = tt
 events_fit hosts before (r ∷ rs) all few = (event_fits hosts before r all.0 (omega (arith, few)), events_fit hosts (before ++ r ∷ []) rs all.1 (omega (arith, few, length-append before (r ∷ []))))
 
 -- items of one batch
-fit_from : (h : Header) (n : ℕ) (es : List Event) → AllByRecursion (EventFits h) es → n + length es ≤ 50000 → FitFrom h n (event_items es ++ item.End ∷ [])
+fit_from : (h : Header) (n : ℕ) (es : List Event) → AllByRecursion (EventFits h) es → n + length es ≤ most_events → FitFrom h n (event_items es ++ item.End ∷ [])
 fit_from h n [] all few = tt
 fit_from h n (e ∷ es) all few = (all.0, omega (arith, few), fit_from h (n + 1) es all.1 (omega (arith, few)))
 

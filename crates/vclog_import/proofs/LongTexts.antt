@@ -3,6 +3,7 @@ use Rattle.std.proofs.Common.{◌≡◌, ℕ, ◌+◌, ◌<◌, ◌≤◌, Bool,
 use Rattle.std.specs.Prelude.{is_some, not, ◌||◌, ◌==◌}
 use Rattle.std.proofs.lemmas.Bool.Decides.{nat_tests}
 use Rattle.std.proofs.lemmas.List.{take-append-le}
+use Rattle.pota_base.specs.Limits.{longest_kept, longest_log}
 use Rattle.log_lines.specs.Reading.{choose}
 use Rattle.fault_kinds.specs.declared.import.ImportFault.{ImportFault}
 use Rattle.fault_kinds.specs.declared.import.ImportCode.TheVariants as code
@@ -13,8 +14,8 @@ use Rattle.vclog_import.specs.Laws.{LongTextsAreFaulty}
 longer : (m n : ℕ) → m < n → ltb m n ≡ true
 longer m n lt = grind (arith, nat_tests)
 
-is_long : (text : List ℕ) → 67108865 ≤ length text → is_too_long text ≡ true
-is_long text long = longer 67108864 (length text) (omega (arith, long))
+is_long : (text : List ℕ) → longest_kept ≤ length text → is_too_long text ≡ true
+is_long text long = longer longest_log (length text) (omega (arith, long))
 
 -- the fault of a text with this front
 abbrev fault_by : Bool → List ℕ → Option ImportFault
@@ -35,11 +36,11 @@ long_texts_are_faulty text more long = (some, same)
         ap (λ (o : Option ImportFault). is_some (choose (first_of line_fault [] (judged text)) (λ (g : ImportFault). Some g) (choose o (λ (g : ImportFault). Some g) (host_fault (judged text))))) ends
         ∙ chosen (first_of line_fault [] (judged text)) (record { code = code.TooLong; line = last_line text }) (host_fault (judged text))
 
-    front : take 67108864 (text ++ more) ≡ take 67108864 text
-    front = take-append-le 67108864 text more (omega (arith, long))
+    front : take longest_log (text ++ more) ≡ take longest_log text
+    front = take-append-le longest_log text more (omega (arith, long))
 
     both : is_too_long (text ++ more) ≡ is_too_long text
     both = is_long (text ++ more) (omega (arith, long, length-append text more)) ∙ sym (is_long text long)
 
     same : fault_of (text ++ more) ≡ fault_of text
-    same = ap (λ (b : Bool). fault_by b (take 67108864 (text ++ more))) both ∙ ap (fault_by (is_too_long text)) front
+    same = ap (λ (b : Bool). fault_by b (take longest_log (text ++ more))) both ∙ ap (fault_by (is_too_long text)) front

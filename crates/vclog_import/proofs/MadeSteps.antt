@@ -12,6 +12,7 @@ use Rattle.std.proofs.lemmas.Bool.{cases_eq, cases_Bool, not-true}
 use Rattle.std.proofs.lemmas.List.{append-nil, length-map, get_or-set_same, get_or-set_other, take_more, drop_more, take_all, drop_all, take-append-drop, get_or-map, drop-map}
 use Rattle.std.proofs.lemmas.List.Sums.{sum_by-append, sum_by-cons, count_by-le-length}
 use Rattle.std.proofs.lemmas.Slice.Eq.{bytes_eq-Decides}
+use Rattle.pota_base.specs.Limits.{most_events}
 use Rattle.log_lines.specs.Names.{place_of, are_distinct}
 use Rattle.log_lines.specs.Reading.{choose}
 use Rattle.event_log.specs.declared.log.Assign.{Assign}
@@ -235,13 +236,13 @@ module _ {A : Type 0} (view : A → Members) (lines : List HostLine) (hosts : Li
   line_host = ap (λ (hs : List Host). is_some (place_of hs (get_or lines i d).host.now)) (so.hosts_are ∙ are) ∙ host_known (records lines) i (record_of (get_or lines i d)) within at
 
 -- a count is small, also as a signed number
-pub small_count : (made : Events) (before : List Record) (host : Host) (place : ℕ) → HasMade made before → length before < 50000 → place_of (hosts_in made.hosts.now) host ≡ Some place → get_or made.counts place 0 ≤ 50000
+pub small_count : (made : Events) (before : List Record) (host : Host) (place : ℕ) → HasMade made before → length before < most_events → place_of (hosts_in made.hosts.now) host ≡ Some place → get_or made.counts place 0 ≤ most_events
 small_count made before host place so few found =
     let there : place < length made.hosts.now = omega (arith, (place_some (hosts_in made.hosts.now) host place found).0, length-map made.hosts.now (λ (h : Bor Host). h.now)) in
     omega (arith, counts_few made before place so there, few)
 
-small_fits : (n : ℕ) → n ≤ 50001 → FitsSigned w64 (pos n)
+small_fits : (n : ℕ) → n ≤ most_events + 1 → FitsSigned w64 (pos n)
 small_fits n le = omega (arith, ints)
 
-pub signed_count : (z : ℤ) (n : ℕ) → z ≡ pos (n + 1) → n ≤ 50000 → to_z w64 (of_z w64 z) ≡ pos (n + 1)
+pub signed_count : (z : ℤ) (n : ℕ) → z ≡ pos (n + 1) → n ≤ most_events → to_z w64 (of_z w64 z) ≡ pos (n + 1)
 signed_count z n is small = to_z-of_z w64 z (subst (FitsSigned w64) (sym is) (small_fits (n + 1) (omega (arith, small)))) ∙ is

@@ -5,6 +5,7 @@ use Rattle.std.specs.List.{list_any}
 use Rattle.std.proofs.lemmas.Bool.Decides.{nat_tests}
 use Rattle.std.proofs.lemmas.List.{append-nil, length-map}
 use Rattle.std.specs.Borrow.{Bor}
+use Rattle.pota_base.specs.Limits.{most_events, most_processes}
 use Rattle.log_lines.specs.Reading.{choose}
 use Rattle.fault_kinds.specs.declared.import.ImportCode.{ImportCode}
 use Rattle.fault_kinds.specs.declared.import.ImportCode.TheVariants as code
@@ -137,22 +138,22 @@ module _ (s : Scan) (line : HostLine) (hosts : List (Bor (List ℕ))) (scanned :
   long = sym (length-map hosts (λ (h : Bor (List ℕ)). h.now)) ∙ ap length now
 
   module _ (fine : is_bad (record_of line) ≡ false) where
-    pub is_host_33 : 32 < length hosts → Some code.TooManyHosts ≡ plain_fault (records s.lines.items) (record_of line)
+    pub is_host_33 : most_processes < length hosts → Some code.TooManyHosts ≡ plain_fault (records s.lines.items) (record_of line)
     is_host_33 more =
-        let many : is_host_too_many (records s.lines.items) (record_of line) ≡ true = more_than 32 (length (hosts_of (records s.lines.items ++ record_of line ∷ []))) (omega (arith, more, long)) in
+        let many : is_host_too_many (records s.lines.items) (record_of line) ≡ true = more_than most_processes (length (hosts_of (records s.lines.items ++ record_of line ∷ []))) (omega (arith, more, long)) in
         sym (rw (fine, many) refl)
 
-    few : length hosts ≤ 32 → is_host_too_many (records s.lines.items) (record_of line) ≡ false
-    few le = at_most 32 (length (hosts_of (records s.lines.items ++ record_of line ∷ []))) (omega (arith, le, long))
+    few : length hosts ≤ most_processes → is_host_too_many (records s.lines.items) (record_of line) ≡ false
+    few le = at_most most_processes (length (hosts_of (records s.lines.items ++ record_of line ∷ []))) (omega (arith, le, long))
 
-    pub is_record_50001 : length hosts ≤ 32 → 50000 ≤ length s.lines.items → Some code.TooManyEvents ≡ plain_fault (records s.lines.items) (record_of line)
+    pub is_record_50001 : length hosts ≤ most_processes → most_events ≤ length s.lines.items → Some code.TooManyEvents ≡ plain_fault (records s.lines.items) (record_of line)
     is_record_50001 le most =
-        let many : is_record_too_many (records s.lines.items) ≡ true = at_least 50000 (length (records s.lines.items)) (omega (arith, most, length-map s.lines.items record_of)) in
+        let many : is_record_too_many (records s.lines.items) ≡ true = at_least most_events (length (records s.lines.items)) (omega (arith, most, length-map s.lines.items record_of)) in
         sym (rw (fine, few le, many) refl)
 
-    pub is_no_fault : length hosts ≤ 32 → length s.lines.items < 50000 → None ≡ plain_fault (records s.lines.items) (record_of line)
+    pub is_no_fault : length hosts ≤ most_processes → length s.lines.items < most_events → None ≡ plain_fault (records s.lines.items) (record_of line)
     is_no_fault le less =
-        let not_many : is_record_too_many (records s.lines.items) ≡ false = below 50000 (length (records s.lines.items)) (omega (arith, less, length-map s.lines.items record_of)) in
+        let not_many : is_record_too_many (records s.lines.items) ≡ false = below most_events (length (records s.lines.items)) (omega (arith, less, length-map s.lines.items record_of)) in
         sym (rw (fine, few le, not_many) refl)
 
   -- the first clash with that of the line itself
@@ -167,7 +168,7 @@ module _ (s : Scan) (line : HostLine) (hosts : List (Bor (List ℕ))) (scanned :
       placed true = refl
       placed false = refl
 
-  module _ (t : Scan) (lines : records t.lines.items ≡ records s.lines.items ++ record_of line ∷ []) (hosts_is : t.hosts.items ≡ hosts) (le : length hosts ≤ 32) (less : length s.lines.items < 50000) where
+  module _ (t : Scan) (lines : records t.lines.items ≡ records s.lines.items ++ record_of line ∷ []) (hosts_is : t.hosts.items ≡ hosts) (le : length hosts ≤ most_processes) (less : length s.lines.items < most_events) where
     made : t.clash ≡ first_of clash_fault [] (records s.lines.items ++ record_of line ∷ []) → (t.clash ≡ None → list_any (λ (h : List ℕ). do_clash h line.host.now) (hosts_in s.hosts.items) ≡ false) → (t.clash ≡ None → s.clash ≡ None) → HasScanned t
     made clash quiet was = record {
       hosts_are = ap (λ (hs : List (Bor (List ℕ))). hosts_in hs) hosts_is ∙ now ∙ ap hosts_of (sym lines);

@@ -5,6 +5,7 @@ use Rattle.std.specs.Prelude.{Result, Ok, Err}
 use Rattle.std.specs.List.{list_any}
 use Rattle.pota_base.specs.declared.fault.Refused.{Refused}
 use Rattle.pota_base.specs.declared.fault.Refused.TheVariants.{Fault, NoMemory}
+use Rattle.pota_base.specs.Limits.{longest_log, longest_name, most_events, most_processes}
 use Rattle.log_lines.specs.Reading.{choose}
 use Rattle.fault_kinds.specs.declared.import.ImportCode.{ImportCode}
 use Rattle.fault_kinds.specs.declared.import.ImportCode.TheVariants as code
@@ -17,11 +18,11 @@ use Rattle.vclog_import.specs.Clock.{clock_in, clock_of, all_known}
 
 -- there is byte 67,108,865
 abbrev pub is_too_long : List ℕ → Bool
-is_too_long text = nat_lt 67108864 (length text)
+is_too_long text = nat_lt longest_log (length text)
 
 -- the bytes before that one
 abbrev pub front_of : List ℕ → List ℕ
-front_of text = take 67108864 text
+front_of text = take longest_log text
 
 -- the lines of the text; of a text that is too long only the whole ones before that byte
 abbrev pub judged_lines : List ℕ → List Line
@@ -52,15 +53,15 @@ first_of fault before (r ∷ rs) =
 
 -- there is no space, or no host before it, or its name is longer than 64 bytes
 abbrev pub is_bad : Record → Bool
-is_bad r = length r.host == 0 || nat_lt 64 (length (name_of r.host))
+is_bad r = length r.host == 0 || nat_lt longest_name (length (name_of r.host))
 
 -- its host is the 33rd
 abbrev pub is_host_too_many : List Record → Record → Bool
-is_host_too_many before r = nat_lt 32 (length (hosts_of (before ++ r ∷ [])))
+is_host_too_many before r = nat_lt most_processes (length (hosts_of (before ++ r ∷ [])))
 
 -- it is record 50,001
 abbrev pub is_record_too_many : List Record → Bool
-is_record_too_many before = nat_le 50000 (length before)
+is_record_too_many before = nat_le most_events (length before)
 
 abbrev pub number_fault : Judge
 number_fault before r = if is_host_too_many before r then Some code.TooManyHosts

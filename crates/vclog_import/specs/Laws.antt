@@ -4,6 +4,7 @@ use Rattle.std.specs.Prelude.{is_some, true}
 use Rattle.std.specs.List.{AllByRecursion}
 use Rattle.run_model.specs.Consistent.{HappenedBefore}
 use Rattle.run_model.specs.Run as run
+use Rattle.pota_base.specs.Limits.{longest_kept, most_events}
 use Rattle.log_lines.specs.Names.{place_of}
 use Rattle.event_log.specs.FittingItems.{FitFirst}
 use Rattle.event_log.specs.LogText.{HeaderFits, EventFits, log_items}
@@ -42,7 +43,7 @@ pub record ImportedFits (text : List ℕ) : Type 0 where
   pub header : HeaderFits (header_of (hosts_of (judged text)))
   pub events : AllByRecursion (EventFits (header_of (hosts_of (judged text))))
       (events_from (hosts_of (judged text)) [] (judged text))
-  pub few : length (judged text) ≤ 50000
+  pub few : length (judged text) ≤ most_events
   pub items : FitFirst (log_items (imported text))
 
 abbrev pub ImportedLogsFit : Type 0
@@ -50,5 +51,5 @@ ImportedLogsFit = (text : List ℕ) → fault_of text ≡ None → ImportedFits 
 
 -- a text of more than 67,108,864 bytes has a fault, and more bytes don't change it
 abbrev pub LongTextsAreFaulty : Type 0
-LongTextsAreFaulty = (text more : List ℕ) → 67108865 ≤ length text
+LongTextsAreFaulty = (text more : List ℕ) → longest_kept ≤ length text
     → (is_some (fault_of text) ≡ true) × (fault_of (text ++ more) ≡ fault_of text)

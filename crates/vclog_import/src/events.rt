@@ -3,6 +3,7 @@
 ghost use Rattle.std.specs.Prelude.{◌≡◌, ◌≤◌, ◌<◌, ◌++◌, ◌∷◌, [], None, Some, List as ListOf, true};
 ghost use Rattle.std.specs.Prelude.{length, map, is_some, IfOk, OnOk};
 ghost use Rattle.std.specs.List.{AllByRecursion};
+ghost use Rattle.pota_base.specs.Limits.{most_events, most_processes};
 ghost use Rattle.log_lines.specs.Reading.{choose};
 ghost use Rattle.log_lines.specs.Names.{place_of, are_distinct};
 ghost use Rattle.fault_kinds.specs.declared.import.ImportCode.TheVariants.{UnknownHost};
@@ -22,7 +23,7 @@ use crate::scanning::is_bad;
 use event_log::{Assign, Event, Kind};
 use fault_kinds::{ImportCode, ImportFault};
 use log_lines::place_of;
-use pota_base::{List, NoMemory, Refused};
+use pota_base::{List, MOST_PROCESSES, NoMemory, Refused};
 use std::alloc::Global;
 
 // Whether the host line is fine and its clock isn't.
@@ -93,7 +94,7 @@ fn unknown_host(
 #[derive(Debug, Drop)]
 pub struct Events<'a> {
     pub hosts: &'a [&'a [u8]],
-    pub counts: [u32; 32],
+    pub counts: [u32; MOST_PROCESSES],
     pub events: List<Event>,
 }
 
@@ -102,13 +103,13 @@ impl<'a> Events<'a> {
 
     // No event.
     fn new(alloc: Global, hosts: &'a [&'a [u8]]) -> Events<'a>
-        requires { length hosts.now ≤ 32 }
+        requires { length hosts.now ≤ most_processes }
         ensures made { HasMade result [] }
         ensures hosts { hosts_in result.hosts.now ≡ hosts_in hosts.now }
     {
         Events {
             hosts,
-            counts: [0; 32],
+            counts: [0; MOST_PROCESSES],
             events: List::new(alloc),
         }
     }
@@ -116,7 +117,7 @@ impl<'a> Events<'a> {
     // The event of one record more, with this clock.
     fn add(&mut self, alloc: Global, line: &HostLine<'_>, clock: Vec<u32>) -> Result<(), NoMemory>
         requires made { (before : ListOf Record) × HasMade self.old before
-            × (length before < 50000) }
+            × (length before < most_events) }
         requires distinct { are_distinct (hosts_in self.old.hosts.now) ≡ true }
         requires host { is_some (place_of (hosts_in self.old.hosts.now) line.now.host.now) ≡ true }
         requires clock { clock.items
@@ -153,9 +154,9 @@ pub fn events_of(
     clash: Option<ImportFault>,
 ) -> Result<List<Event>, Refused<ImportFault>>
     requires lines { AllByRecursion IsFine (records lines.now) }
-    requires few { length lines.now ≤ 50000 }
+    requires few { length lines.now ≤ most_events }
     requires hosts { hosts_in hosts.now ≡ hosts_of (records lines.now) }
-    requires few_hosts { length hosts.now ≤ 32 }
+    requires few_hosts { length hosts.now ≤ most_processes }
     ensures ok { IfOk result (λ events. events
         ≡ events_from (hosts_of (records lines.now)) [] (records lines.now)) }
     ensures faultless { IfOk result (λ _e. fault_with clash (records lines.now) ≡ None) }

@@ -1,15 +1,14 @@
 //! The host lines of a text, one after the other.
 
 ghost use Rattle.std.specs.Prelude.{◌≡◌, ◌+◌, ◌≤◌, true, length, option_map, IfSome, IfNone, not};
+ghost use Rattle.pota_base.specs.Limits.{longest_kept};
 ghost use Rattle.vclog_import.specs.Lines.{is_passed, parted, record_in};
 ghost use Rattle.vclog_import.specs.Faults.{is_too_long, judged, judged_lines, last_line};
 ghost use Rattle.vclog_import.specs.Lines.{is_due_behind};
 
 use event_log::split_line;
 use memchr::memchr;
-
-/// The most bytes of a text.
-const MOST_BYTES: usize = 67_108_864;
+use pota_base::LONGEST_LOG;
 
 /// The parts of the first line of a record, and its number, counted from 1.
 #[derive(Clone, Copy, Debug)]
@@ -31,7 +30,7 @@ pub struct HostLines<'a> {
     pub unfinished: bool,
     /// Whether a host line is due, or else a description.
     pub is_due: bool,
-    ghost room: { line + length rest.now ≤ 67108865 },
+    ghost room: { line + length rest.now ≤ longest_kept },
 }
 
 // Whether the line is none where a host line is due.
@@ -84,9 +83,9 @@ impl<'a> HostLines<'a> {
         ensures unfinished { result.unfinished ≡ not (is_too_long text.now) }
     {
         HostLines {
-            rest: &text[..text.len().min(MOST_BYTES)],
+            rest: &text[..text.len().min(LONGEST_LOG)],
             line: 1,
-            unfinished: text.len() <= MOST_BYTES,
+            unfinished: text.len() <= LONGEST_LOG,
             is_due: true,
         }
     }

@@ -11,15 +11,9 @@ use crate::host_lines::{HostLine, HostLines};
 use crate::hosts::put_host;
 use crate::names::{clashes, name_len};
 use fault_kinds::{ImportCode, ImportFault};
-use pota_base::NoMemory;
+use pota_base::{MOST_EVENTS, MOST_PROCESSES, NoMemory};
 use pota_names::LONGEST_NAME;
 use std::alloc::Global;
-
-/// The most hosts.
-const MOST_HOSTS: usize = 32;
-
-/// The most records.
-const MOST_RECORDS: usize = 50_000;
 
 /// The host lines up to the first fault, their hosts, and the faults that need no clock.
 #[derive(Debug, Drop)]
@@ -109,10 +103,10 @@ impl<'a> Scan<'a> {
             return Ok(Some(ImportCode::BadHostLine));
         }
         let is_new = put_host(&mut self.hosts, line.host)?;
-        if self.hosts.len() > MOST_HOSTS {
+        if self.hosts.len() > MOST_PROCESSES {
             return Ok(Some(ImportCode::TooManyHosts));
         }
-        if count >= MOST_RECORDS {
+        if count >= MOST_EVENTS {
             return Ok(Some(ImportCode::TooManyEvents));
         }
         if is_new && self.clash.is_none() {

@@ -1,5 +1,5 @@
 -- Batches that are admitted one after the other.
-use Rattle.std.proofs.Common.{◌≡◌, ℕ, zero, suc, ◌+◌, ◌<◌, ◌≤◌, List, [], ◌∷◌, ◌++◌, length, map, sum, drop, get_or, refl, sym, ap, ◌∙◌, subst, arith}
+use Rattle.std.proofs.Common.{◌≡◌, ℕ, zero, suc, ◌+◌, ◌<◌, ◌≤◌, List, [], ◌∷◌, length, map, sum, drop, get_or, refl, sym, ap, ◌∙◌, subst, arith}
 use Rattle.std.specs.Prelude.{◌==◌, true, Option, None, Some, Result, Ok, Err, OnErr, OnOk}
 use Rattle.std.proofs.lemmas.Bool.{eqb-true}
 use Rattle.std.specs.List.{AllByRecursion}
@@ -19,6 +19,7 @@ use Rattle.vector_clock.specs.Faults.{batch_fault, batches_fault, log_fault, fau
 use Rattle.vector_clock.specs.Admitted.{HasAdmitted, IfFault}
 use Rattle.pota_base.specs.declared.fault.Refused.{Refused}
 use Rattle.pota_base.specs.declared.fault.Refused.TheVariants.{Fault, NoMemory}
+use Rattle.pota_base.specs.Limits.{most_events}
 use Rattle.vector_clock.specs.Filled.{filled_batch, filled_batches, filled_log}
 use Rattle.vector_clock.proofs.Growth.{length-clocks_of, lengths_of, length-with_batch}
 use Rattle.vector_clock.proofs.FilledBatches.{filled_fits, length-fill_from}
@@ -65,7 +66,7 @@ pub record CheckedSoFar (log : Log) (i : ℕ) (clocks : code.Clocks) : Type 0 wh
   pub events : Events
   pub admitted : HasAdmitted clocks events
   pub count : length events ≡ length log.header.procs
-  pub few : sum (map length events) + event_count (drop i log.batches) ≤ 50000
+  pub few : sum (map length events) + event_count (drop i log.batches) ≤ most_events
   pub fault : log_fault (filled_log log) ≡ batches_fault events (filled_batches events (drop i log.batches))
   pub whole : with_batches (no_events (length log.header.procs)) (filled_log log).batches ≡ with_batches events (filled_batches events (drop i log.batches))
 
@@ -159,7 +160,7 @@ other_fault S T P Q (Fault f) step p = step f p
 other_fault S T P Q NoMemory step p = tt
 
 -- the first batch of two processes
-pub first_fits : (procs : ℕ) (clocks : code.Clocks) (batch bytes : List Event) → HasAdmitted clocks (no_events procs) → AllByRecursion (EventFits procs) batch → length batch ≤ 50000 → bytes ≡ batch
+pub first_fits : (procs : ℕ) (clocks : code.Clocks) (batch bytes : List Event) → HasAdmitted clocks (no_events procs) → AllByRecursion (EventFits procs) batch → length batch ≤ most_events → bytes ≡ batch
     → BatchFits (length clocks.order) (sum (lengths clocks.order)) bytes
 first_fits procs clocks batch bytes has fits few same =
     let count : length clocks.order ≡ procs = ap length has.order ∙ length-clocks_of (no_events procs) ∙ length-replicate procs [] in

@@ -3,6 +3,7 @@ use Rattle.std.proofs.Common.{◌≡◌, ℕ, zero, suc, ◌+◌, ◌-◌, ◌<�
 use Rattle.std.specs.List.{AllByRecursion}
 use Rattle.std.proofs.lemmas.List.{length-set, length-map, map-set, take_more, length-take, get_or-set_same}
 use Rattle.std.proofs.lemmas.List.Sums.{sum_by-cons}
+use Rattle.pota_base.specs.Limits.{most_events}
 use Rattle.event_log.specs.declared.log.Event.{Event}
 use Rattle.event_log.specs.States.{with_event, with_batch}
 use Rattle.vector_clock.specs.Events.{Events, EventFits, own_events, place}
@@ -98,7 +99,7 @@ item_le_sum [] i = omega arith
 item_le_sum (x ∷ xs) zero = omega (arith, sum_by-cons (λ n. n) x xs)
 item_le_sum (x ∷ xs) (suc i) = omega (arith, sum_by-cons (λ n. n) x xs, item_le_sum xs i)
 
-pub few_taken : (lens taken : List ℕ) (batch : List Event) (i p : ℕ) → taken ≡ raised lens (take i batch) → sum lens + length batch ≤ 50000 → get_or taken p 0 ≤ 50000
+pub few_taken : (lens taken : List ℕ) (batch : List Event) (i p : ℕ) → taken ≡ raised lens (take i batch) → sum lens + length batch ≤ most_events → get_or taken p 0 ≤ most_events
 few_taken lens taken batch i p is few =
     omega (arith, ap (λ (xs : List ℕ). get_or xs p 0) is, item_le_sum (raised lens (take i batch)) p, sum_raised lens (take i batch), length-take i batch)
 

@@ -11,6 +11,7 @@ pub mod BatchLaws
 pub mod FirstPlaces
 pub mod MessageLaws
 pub mod Noting
+pub mod RisingMessages
 pub mod Counting
 pub mod Judged
 pub mod FilledBatches

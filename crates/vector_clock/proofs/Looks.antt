@@ -96,7 +96,7 @@ sends_kept places batch i e lt at none are m =
     ∙ or_none (first_index (sends m) (take i batch)))
 
 pub sends_noted : (old new : Places) (batch : List Event) (i : ℕ) (e : Event) (n : Message) (met : Met) → i < length batch → e ≡ get_or batch i e → message_sent e.process e.kind ≡ Some n → met.sent ≡ Some i
-    → IsNoted old new n met → AreSends old (take i batch) → AreSends new (take (i + 1) batch)
+    → IsNoted (met_at old) (met_at new) n met → AreSends old (take i batch) → AreSends new (take (i + 1) batch)
 sends_noted old new batch i e n met lt at is here noted are m =
     let test : sends m e ≡ is_same n m = ap (λ (o : Option Message). choose o (λ k. is_same k m) false) is in
     let next = index_next (sends m) batch i e lt at in

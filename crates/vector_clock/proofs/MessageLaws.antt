@@ -16,7 +16,7 @@ use Rattle.vector_clock.specs.Events.{Events}
 use Rattle.vector_clock.specs.Messages.{message_sent, message_received, first_send, first_receipt}
 use Rattle.vector_clock.specs.Faults.{is_twice, is_unsent, is_early, message_fault}
 use Rattle.vector_clock.specs.Met.{met_at}
-use Rattle.vector_clock.specs.inside.Met.{HasPlaces, is_place}
+use Rattle.vector_clock.specs.inside.Met.{HaveSame, is_place}
 use Rattle.vector_clock.specs.Admitted.{HasMessages}
 use Rattle.vector_clock.specs.inside.Admitted.{StandsIn}
 use Rattle.vector_clock.proofs.FirstPlaces.{Key, none_noted, kept_for, before_is_less}
@@ -91,7 +91,7 @@ nothing_forgotten messages events e has lt none other = record {
   received = λ m. has.received m ∙ none_noted received_key (λ n. n.receiver) events e lt other m;
 }
 
-pub same_messages : (old new : Messages) (events : Events) → HasMessages old events → HasPlaces new.places (met_at old.places) → HasMessages new events
+pub same_messages : (old new : Messages) (events : Events) → HasMessages old events → HaveSame (met_at new.places) (met_at old.places) → HasMessages new events
 same_messages old new events has kept = record {
   sent = λ m. ap (λ (x : Met). x.sent) (kept m) ∙ has.sent m;
   received = λ m. ap (λ (x : Met). x.received) (kept m) ∙ has.received m;

@@ -4,6 +4,7 @@ use Rattle.std.specs.Prelude.{List, []}
 use Rattle.std.specs.Prelude.{length, map, get_or, replicate}
 use Rattle.std.specs.List.{AllByRecursion}
 use Rattle.run_model.specs.Cut.{Cut, Clocks, count}
+use Rattle.pota_base.specs.Limits.{most_events, most_processes}
 use Rattle.event_log.specs.declared.log.Event.{Event}
 use Rattle.event_log.specs.declared.log.Log.{Log}
 use Rattle.event_log.specs.LogText.{KindWithin, event_count}
@@ -45,7 +46,7 @@ pub record EventFits (procs : ℕ) (e : Event) : Type 0 where
 -- the batch fits so many processes that have so many events
 pub record BatchFits (procs events : ℕ) (batch : List Event) : Type 0 where
   pub each : AllByRecursion (EventFits procs) batch
-  pub few : events + length batch ≤ 50000
+  pub few : events + length batch ≤ most_events
 
 -- batches of which each event has its place
 abbrev pub AllFit : ℕ → List (List Event) → Type 0
@@ -63,7 +64,7 @@ pub record EventStands (procs : ℕ) (e : Event) : Type 0 where
 
 pub record BatchStands (procs events : ℕ) (batch : List Event) : Type 0 where
   pub each : AllByRecursion (EventStands procs) batch
-  pub few : events + length batch ≤ 50000
+  pub few : events + length batch ≤ most_events
 
 -- batches of which each event has its place
 abbrev pub AllStand : ℕ → List (List Event) → Type 0
@@ -74,6 +75,6 @@ AllStand procs batches =
 -- out or not
 pub record CanBeChecked (log : Log) : Type 0 where
   pub some : 1 ≤ length log.header.procs
-  pub few : length log.header.procs ≤ 32
+  pub few : length log.header.procs ≤ most_processes
   pub each : AllStand (length log.header.procs) log.batches
-  pub events : event_count log.batches ≤ 50000
+  pub events : event_count log.batches ≤ most_events

@@ -6,6 +6,7 @@ pub mod Filled
 pub mod Worked
 pub mod WorkedFills
 pub mod Sound
+pub mod Rising
 pub mod Met
 pub mod Admitted
 pub mod Faultless

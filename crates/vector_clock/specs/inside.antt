@@ -4,4 +4,5 @@ pub mod BatchPlaces
 pub mod Events
 pub mod Met
 pub mod Nodes
+pub mod Rising
 pub mod Sound

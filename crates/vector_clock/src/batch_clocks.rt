@@ -2,6 +2,7 @@
 ghost use Rattle.std.specs.Prelude.{◌≡◌, ℕ, ◌-◌, ◌<◌, ◌≤◌, [], length, get_or, replicate, IfOk};
 ghost use Rattle.std.specs.List.{AllByRecursion};
 ghost use Rattle.run_model.specs.Consistent.{clock};
+ghost use Rattle.pota_base.specs.Limits.{most_events};
 ghost use Rattle.causal_order.specs.Growth.{HasClock, with_clocks};
 ghost use Rattle.vector_clock.specs.inside.BatchPlaces.{ArePlaces, own_clocks};
 
@@ -48,7 +49,7 @@ fn no_places(alloc: Global, procs: u32) -> Result<Vec<List<u32>>, NoMemory>
 // The places of the events of each process.
 fn places_in(alloc: Global, procs: u32, batch: &[Event]) -> Result<Vec<List<u32>>, NoMemory>
     requires each { AllByRecursion (HasClock procs) batch.now }
-    requires few { length batch.now ≤ 50000 }
+    requires few { length batch.now ≤ most_events }
     ensures { IfOk result (λ places. ArePlaces procs batch.now places.items) }
 {
     let mut places = no_places(alloc, procs)?;
@@ -81,7 +82,7 @@ impl<'a> BatchClocks<'a> {
     /// The clocks of a batch of so many processes.
     pub fn new(alloc: Global, procs: u32, batch: &'a [Event]) -> Result<BatchClocks<'a>, NoMemory>
         requires each { AllByRecursion (HasClock procs) batch.now }
-        requires few { length batch.now ≤ 50000 }
+        requires few { length batch.now ≤ most_events }
         ensures { IfOk result (λ b. b ≡ with_clocks (replicate procs []) batch.now) }
     {
         let places = if batch.len() <= FEW {

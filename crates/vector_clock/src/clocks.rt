@@ -2,6 +2,7 @@
 ghost use Rattle.std.specs.Prelude.{◌≡◌, ℕ, ◌+◌, ◌<◌, ◌≤◌, Some, None, length, sum, IfOk, OnOk};
 ghost use Rattle.std.specs.Prelude.{OnErr};
 ghost use Rattle.run_model.specs.Cut.{lengths};
+ghost use Rattle.pota_base.specs.Limits.{most_processes};
 ghost use Rattle.event_log.specs.States.{with_batch};
 ghost use Rattle.vector_clock.specs.Events.{Events, BatchFits, BatchStands, no_events, clocks_of};
 ghost use Rattle.vector_clock.specs.inside.Events.{raised};
@@ -37,7 +38,7 @@ impl Clocks {
     /// The clocks of 1 to 32 processes without events.
     pub fn new(alloc: Global, procs: u32) -> Result<Clocks, NoMemory>
         requires some { 1 ≤ procs }
-        requires few { procs ≤ 32 }
+        requires few { procs ≤ most_processes }
         ensures { IfOk result (λ clocks. HasAdmitted clocks (no_events procs)) }
     {
         Ok(Clocks {
@@ -56,8 +57,8 @@ impl Clocks {
     /// count of a process is the greatest count of the written clocks that it looks back on, or
     /// the place of an event of that process without one. Written clocks stay. It copies the batch.
     ///
-    /// It takes time as its clocks have counts, whatever the order of its events, and a look-up in
-    /// an ordered map for each message.
+    /// It takes time as its clocks have counts, whatever the order of its events, and a look-up by
+    /// halves for each message.
     pub fn fill(&self, alloc: Global, batch: &[Event]) -> Result<List<Event>, NoMemory>
         requires { BatchStands (length self.now.order) (sum (lengths self.now.order)) batch.now }
         ensures { IfOk result (λ filled. (events : Events) → HasAdmitted self.now events
@@ -80,7 +81,7 @@ impl Clocks {
     /// other clock is compared with that of the last event of each process that the event newly
     /// names: one that its clock counts and that of the event before doesn't. So an event costs two
     /// or three rows of counts where its clock is as most are, and else about one for each event
-    /// that it newly names. A message costs look-ups in an ordered map.
+    /// that it newly names. A message costs look-ups by halves.
     pub fn admit(&mut self, batch: &[Event]) -> Result<(), Refused<LogFault>>
         requires { BatchFits (length self.old.order) (sum (lengths self.old.order)) batch.now }
         ensures ok { OnOk result ((events : Events) → HasAdmitted self.old events

@@ -2,6 +2,7 @@
 ghost use Rattle.std.specs.Prelude.{◌≡◌, ◌+◌, ◌<◌, ◌≤◌, ◌++◌, length, IfOk, OnOk};
 ghost use Rattle.std.specs.List.{AllByRecursion};
 ghost use Rattle.run_model.specs.Cut.{lengths};
+ghost use Rattle.pota_base.specs.Limits.{most_events};
 ghost use Rattle.greatest_reach.specs.Graph.{IsGraph};
 ghost use Rattle.vector_clock.specs.Events.{EventStands};
 ghost use Rattle.vector_clock.specs.inside.Nodes.{IsTarget, HaveTargets, AreReaders, AreStarts};
@@ -25,7 +26,7 @@ fn add_admitted(
     target: Option<Target>,
 ) -> Result<(), NoMemory>
     requires process { process < length order.now }
-    requires target { IsTarget (lengths order.now) 50000 target }
+    requires target { IsTarget (lengths order.now) most_events target }
     ensures { OnOk result (starts.new.items
         ≡ starts.old.items ++ admitted_start order.now process node target) }
 {
@@ -47,8 +48,8 @@ fn add_starts(
 ) -> Result<(), NoMemory>
     requires process { process < length order.now }
     requires event { EventStands (length order.now) event.now }
-    requires before { IsTarget (lengths order.now) 50000 node.before }
-    requires sent { IsTarget (lengths order.now) 50000 node.sent }
+    requires before { IsTarget (lengths order.now) most_events node.before }
+    requires sent { IsTarget (lengths order.now) most_events node.sent }
     ensures { OnOk result (starts.new.items
         ≡ starts.old.items ++ starts_of order.now process place event.now node) }
 {
@@ -77,7 +78,7 @@ fn starts_in(
 ) -> Result<Vec<Start>, NoMemory>
     requires process { process < length order.now }
     requires each { AllByRecursion (EventStands (length order.now)) batch.now }
-    requires few { length batch.now ≤ 50000 }
+    requires few { length batch.now ≤ most_events }
     requires count { length nodes.now ≡ length batch.now }
     requires targets { HaveTargets (lengths order.now) (length batch.now) nodes.now }
     ensures { IfOk result (λ starts. AreStarts order.now process batch.now nodes.now
@@ -101,7 +102,7 @@ fn counts_of(
 ) -> Result<Vec<u32>, NoMemory>
     requires process { process < length order.now }
     requires each { AllByRecursion (EventStands (length order.now)) batch.now }
-    requires few { length batch.now ≤ 50000 }
+    requires few { length batch.now ≤ most_events }
     requires count { length nodes.now ≡ length batch.now }
     requires targets { HaveTargets (lengths order.now) (length batch.now) nodes.now }
     requires readers { AreReaders batch.now nodes.now (length batch.now) readers.now }
@@ -132,7 +133,7 @@ pub fn clocks_of(
     readers: &[List<u32>],
 ) -> Result<Vec<List<u32>>, NoMemory>
     requires each { AllByRecursion (EventStands (length order.now)) batch.now }
-    requires few { length batch.now ≤ 50000 }
+    requires few { length batch.now ≤ most_events }
     requires count { length nodes.now ≡ length batch.now }
     requires targets { HaveTargets (lengths order.now) (length batch.now) nodes.now }
     requires readers { AreReaders batch.now nodes.now (length batch.now) readers.now }

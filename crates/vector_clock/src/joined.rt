@@ -5,6 +5,7 @@ ghost use Rattle.std.specs.List.{AllByRecursion};
 ghost use Rattle.event_log.specs.PassedOn.{choose};
 ghost use Rattle.run_model.specs.Cut.{count, IsWithin, lengths};
 ghost use Rattle.run_model.specs.Consistent.{clock};
+ghost use Rattle.pota_base.specs.Limits.{most_events};
 ghost use Rattle.event_log.specs.LogText.{KindWithin};
 ghost use Rattle.causal_order.specs.Growth.{HasClock, with_clocks};
 ghost use Rattle.vector_clock.specs.Faults.{clock_fault as fault_of_clock, goes_back as falls_back};
@@ -73,7 +74,7 @@ impl<'a> Joined<'a> {
         lens: &'a [u32],
     ) -> Result<Joined<'a>, NoMemory>
         requires each { AllByRecursion (HasClock (length admitted.now)) batch.now }
-        requires few { length batch.now ≤ 50000 }
+        requires few { length batch.now ≤ most_events }
         requires lens { lens.now ≡ lengths (with_clocks admitted.now batch.now) }
         ensures { IfOk result (λ j. j ≡ with_clocks admitted.now batch.now) }
     {

@@ -46,7 +46,8 @@ fn admit_filled(
     alloc: Global,
     batch: &[Event],
 ) -> Result<(), Refused<LogFault>>
-    requires stands { BatchStands (length clocks.old.order) (sum (lengths clocks.old.order)) batch.now }
+    requires stands { BatchStands (length clocks.old.order) (sum (lengths clocks.old.order))
+        batch.now }
     requires admitted { (events : Events) × HasAdmitted clocks.old events }
     ensures ok { OnOk result ((events : Events) → HasAdmitted clocks.old events
         → (batch_fault events (filled_batch events batch.now) ≡ None)

@@ -4,6 +4,7 @@ ghost use Rattle.std.specs.Prelude.{length, map, sum, OnOk, OnErr};
 ghost use Rattle.std.specs.List.{AllByRecursion};
 ghost use Rattle.event_log.specs.States.{with_event, with_batch};
 ghost use Rattle.run_model.specs.Cut.{count};
+ghost use Rattle.pota_base.specs.Limits.{most_events};
 ghost use Rattle.event_log.specs.declared.item.LogCode.TheVariants.{MessageTwice, ReceiveUnsent};
 ghost use Rattle.event_log.specs.declared.item.LogCode.TheVariants.{ReceiveEarly};
 ghost use Rattle.event_log.specs.LogText.{KindWithin};
@@ -112,7 +113,7 @@ impl Messages {
     /// them. Without memory it is as before.
     pub fn note_all(&mut self, batch: &[Event], taken: &mut Vec<u32>) -> Result<(), NoMemory>
         requires each { AllByRecursion (EventFits (length taken.old.items)) batch.now }
-        requires few { sum taken.old.items + length batch.now ≤ 50000 }
+        requires few { sum taken.old.items + length batch.now ≤ most_events }
         ensures ok { OnOk result ((events : Events) → HasMessages self.old events
             → taken.old.items ≡ map length events
             → HasMessages self.new (with_batch events batch.now)) }

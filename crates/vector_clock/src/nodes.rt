@@ -5,6 +5,7 @@ ghost use Rattle.std.specs.List.{AllByRecursion};
 ghost use Rattle.std.specs.Option.{option_map};
 ghost use Rattle.vector_clock.specs.declared.nodes.Target.TheVariants.{InBatch};
 ghost use Rattle.pota_base.specs.Shape.{IsShape};
+ghost use Rattle.pota_base.specs.Limits.{most_events, most_processes};
 ghost use Rattle.greatest_reach.specs.Graph.{IsGraph};
 ghost use Rattle.vector_clock.specs.Events.{Events, EventStands};
 ghost use Rattle.vector_clock.specs.inside.Events.{raised};
@@ -41,7 +42,7 @@ pub struct Node {
 
 /// Where the batch sends each message first.
 pub fn sends_in(alloc: Global, batch: &[Event]) -> Result<Places, NoMemory>
-    requires { length batch.now ≤ 50000 }
+    requires { length batch.now ≤ most_events }
     ensures { IfOk result (λ places. AreSends places batch.now) }
 {
     let mut places = Places::new(alloc);
@@ -94,7 +95,7 @@ fn send_of(lens: &[u32], messages: &Messages, sends: &Places, event: &Event) -> 
 
 // The last event of each process, of those that were admitted.
 fn lasts_of(alloc: Global, lens: &[u32]) -> Result<Vec<Option<Target>>, NoMemory>
-    requires { length lens.now ≤ 32 }
+    requires { length lens.now ≤ most_processes }
     ensures { IfOk result (λ lasts. AreLasts lens.now lasts.items) }
 {
     let mut lasts = Vec::with_capacity(alloc, lens.len())?;
@@ -114,7 +115,7 @@ pub fn nodes_in(
 ) -> Result<Vec<Node>, NoMemory>
     requires shape { IsShape lens.now }
     requires each { AllByRecursion (EventStands (length lens.now)) batch.now }
-    requires few { sum lens.now + length batch.now ≤ 50000 }
+    requires few { sum lens.now + length batch.now ≤ most_events }
     requires sends { AreSends sends.now batch.now }
     ensures nodes { IfOk result (λ nodes. (events : Events) → lens.now ≡ map length events
         → HasMessages messages.now events
@@ -160,7 +161,7 @@ pub fn readers_of(
     batch: &[Event],
     nodes: &[Node],
 ) -> Result<Vec<List<u32>>, NoMemory>
-    requires few { length batch.now ≤ 50000 }
+    requires few { length batch.now ≤ most_events }
     requires count { length nodes.now ≡ length batch.now }
     requires targets { AreWithin (length batch.now) nodes.now }
     ensures readers { IfOk result (λ readers. AreReaders batch.now nodes.now

@@ -3,6 +3,7 @@ use Rattle.std.proofs.Common.{◌≡◌, ℕ, Option, Some, Result, Ok, Err, Lis
 use Rattle.std.specs.Prelude.{IsOk, OnOk, OnErr, codes}
 use Rattle.std.specs.Io.KnownBytes.{Appends}
 use Rattle.pota_base.specs.Outside.{Rose, AppendsPrefix, HasCause}
+use Rattle.pota_base.specs.Changes.{change_of}
 use Rattle.fault_line.specs.declared.fault.Fault.{Fault}
 use Rattle.fault_line.specs.declared.fault.Fault.TheVariants as fault
 use Rattle.fault_line.specs.Lines.{Told, line_by}
@@ -12,13 +13,13 @@ use Rattle.verify_answers.specs.declared.answer.Verified.{Verified}
 use Rattle.verify_answers.specs.Telling.{line_of, verified_as, IsTold, fault_line_of}
 use Rattle.verify_answers.specs.inside.Telling.{HasNoLine}
 
-pub told_whole : (held held' : Option (List ℕ)) (of of' : ℕ) (answer : Answer) (v : Verified) → v ≡ verified_as answer → Appends held held' (line_of answer) → IsTold held held' of of' answer v
+pub told_whole : (held held' : Option (List ℕ)) (of of' : ℕ) (answer : Answer) (v : Verified) → v ≡ verified_as answer → Appends held held' (line_of answer) → IsTold (change_of held held' of of') answer v
 told_whole held held' of of' (Accepted truth) v is wrote = inl (is, wrote)
 told_whole held held' of of' (Refused n) v is wrote = inl (is, wrote)
 told_whole held held' of of' (Faulty f) v is wrote = (is, wrote)
 
 pub told_part : (held held' : Option (List ℕ)) (of of' : ℕ) (answer : Answer) (v : Verified) → (HasNoLine answer → ⊥) → v ≡ verified_as (Faulty fault.Write) → Rose of of' → AppendsPrefix held held' (line_of answer)
-    → IsTold held held' of of' answer v
+    → IsTold (change_of held held' of of') answer v
 told_part held held' of of' (Accepted truth) v some is rose part = inr (is, rose, part)
 told_part held held' of of' (Refused n) v some is rose part = inr (is, rose, part)
 told_part held held' of of' (Faulty f) v some is rose part = absurd (some tt)
@@ -34,7 +35,7 @@ whole_prefix old new text h = (text, ([], sym (append-nil text)), h)
 
 -- one text was written, or a front of it
 pub told_text : {T E : Type 0} (r : Result T E) (old new : Option (List ℕ)) (before now : ℕ) (text : List ℕ)
-    → OnOk r (Appends old new text) → OnErr r (AppendsPrefix old new text) → HasCause before now r → Told old new before now text
+    → OnOk r (Appends old new text) → OnErr r (AppendsPrefix old new text) → HasCause before now r → Told (change_of old new before now) text
 told_text (Ok x) old new before now text ok err cause = record { whole = λ calm. ok; part = whole_prefix old new text ok }
 told_text (Err e) old new before now text ok err cause = record { whole = λ calm. absurd (calm cause.failed); part = err }
 

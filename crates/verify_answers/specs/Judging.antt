@@ -9,7 +9,7 @@ use Rattle.certificate_lines.specs.Spelling.{formula_line}
 use Rattle.certificate_text.specs.Taking.{VerifierView, fresh}
 use Rattle.certificate_text.specs.Bytes.{Judged, RefusedAt}
 use Rattle.certificate_input.specs.Pieces.{RefusedWithin, NoneRefused}
-use Rattle.certified_nodes.specs.Nodes.{NodesView, fresh_nodes}
+use Rattle.certificate_nodes.specs.Nodes.{NodesView, fresh_nodes}
 use Rattle.certificate.specs.Numbering.{plan_of}
 use Rattle.certificate.specs.Following.{Follows}
 use Rattle.fault_line.specs.declared.fault.Fault.TheVariants as fault

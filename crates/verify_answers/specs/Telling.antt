@@ -6,6 +6,7 @@ use Rattle.std.specs.Fmt.{decimal}
 use Rattle.std.specs.Io.KnownBytes.{Appends}
 use Rattle.pota_base.specs.Outside.{Rose, AppendsPrefix}
 use Rattle.pota_base.specs.Status.{code_of}
+use Rattle.pota_base.specs.Changes.{Change}
 use Rattle.fault_line.specs.declared.fault.Fault.{Fault}
 use Rattle.fault_line.specs.declared.fault.Fault.TheVariants as fault
 use Rattle.fault_line.specs.Faults.{status_of}
@@ -31,12 +32,12 @@ verified_as (Refused n) = record { status = 1; fault = None }
 verified_as (Faulty f) = record { status = code_of (status_of f); fault = Some f }
 
 -- the line was written, or a front of it and then a write failed
-abbrev pub IsTold : Option (List ℕ) → Option (List ℕ) → (of of' : ℕ) → Answer → Verified → Type 0
-IsTold held held' of of' (Faulty f) v = (v ≡ verified_as (Faulty f)) × Appends held held' []
-IsTold held held' of of' answer v =
-    ((v ≡ verified_as answer) × Appends held held' (line_of answer))
-    ⊎ ((v ≡ verified_as (Faulty fault.Write)) × Rose of of'
-    × AppendsPrefix held held' (line_of answer))
+abbrev pub IsTold : (sink : Change) → Answer → Verified → Type 0
+IsTold sink (Faulty f) v = (v ≡ verified_as (Faulty f)) × Appends sink.before sink.after []
+IsTold sink answer v =
+    ((v ≡ verified_as answer) × Appends sink.before sink.after (line_of answer))
+    ⊎ ((v ≡ verified_as (Faulty fault.Write)) × Rose sink.faults_before sink.faults_after
+    × AppendsPrefix sink.before sink.after (line_of answer))
 
 -- ---- the line that tells of a fault
 

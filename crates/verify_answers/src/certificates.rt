@@ -1,10 +1,11 @@
 //! A certificate behind a log.
+ghost use Rattle.pota_base.specs.Blanks.{IsBlankOf};
 ghost use Rattle.std.specs.Prelude.{◌≡◌, ◌≢◌, ◌≤◌, ◌<◌, IfOk};
 ghost use Rattle.rctl_parts.specs.Pieces.{disjuncts_of};
 ghost use Rattle.rctl_parts.specs.MadeFor.{AreMadeFor};
 ghost use Rattle.part_pulls.specs.Counters.{CountersRise};
 ghost use Rattle.part_pulls.specs.Observing.{IsReady, clocks_seen, scope_seen};
-ghost use Rattle.certified_nodes.specs.Nodes.{AreNodes, fresh_nodes};
+ghost use Rattle.certificate_nodes.specs.Nodes.{AreNodes, fresh_nodes};
 ghost use Rattle.certificate.specs.Numbering.{plan_of};
 ghost use Rattle.certificate_input.specs.Telling.{IsFresh};
 ghost use Rattle.certificate_lines.specs.Spelling.{formula_line};
@@ -113,9 +114,7 @@ pub fn judge_certificate<L: Ledger, S: Source>(
     front: &[u8],
     source: &mut S,
 ) -> Answer
-    requires name { blank.name ≡ L.name }
-    requires parts { blank.parts ≡ L.parts }
-    requires one { 0 < blank.parts }
+    requires blank { IsBlankOf L.name L.parts blank }
     requires ready { IsReady checked.seen }
     requires made { AreMadeFor (scope_seen checked.seen) (disjuncts_of checked.disjuncts) }
     requires rise { CountersRise checked.seen (disjuncts_of checked.disjuncts) }

@@ -4,6 +4,7 @@ ghost use Rattle.std.specs.Fmt.{decimal};
 ghost use Rattle.verify_answers.specs.declared.answer.Answer.TheVariants.{Refused};
 ghost use Rattle.std.specs.Io.KnownBytes.{Appends};
 ghost use Rattle.pota_base.specs.Outside.{AppendsPrefix, HasCause};
+ghost use Rattle.pota_base.specs.Changes.{of_sink};
 ghost use Rattle.fault_line.specs.Lines.{Told};
 ghost use Rattle.verify_answers.specs.Telling.{IsTold, fault_line_of, line_of};
 ghost use Rattle.verify_answers.specs.inside.Telling.{HasNoLine};
@@ -72,8 +73,7 @@ fn write_answer<O: Sink>(out: &mut O, answer: &Answer) -> Result<(), Failed>
 /// Tells `out` what a log and its certificate are, and says what its caller is told. Where there is
 /// a fault nothing is written.
 pub fn tell_answer<O: Sink>(out: &mut O, answer: &Answer) -> Verified
-    ensures told { IsTold (O.held out.old) (O.held out.new) (O.faults out.old) (O.faults out.new)
-        answer.now result }
+    ensures told { IsTold (of_sink O.Sink out.old out.new) answer.now result }
     ensures later { O.faults out.old ≤ O.faults out.new }
 {
     match write_answer(out, answer) {
@@ -84,8 +84,7 @@ pub fn tell_answer<O: Sink>(out: &mut O, answer: &Answer) -> Verified
 
 // Tells `diag` of this fault.
 fn tell_cause<D: Sink>(diag: &mut D, fault: &Fault)
-    ensures { Told (D.held diag.old) (D.held diag.new) (D.faults diag.old) (D.faults diag.new)
-        (fault_line_of (Some fault.now)) }
+    ensures { Told (of_sink D.Sink diag.old diag.new) (fault_line_of (Some fault.now)) }
 {
     match fault {
         Fault::Usage => {
@@ -98,8 +97,7 @@ fn tell_cause<D: Sink>(diag: &mut D, fault: &Fault)
 /// Tells `diag` of a fault, and nothing where there is none. Whether that succeeds changes nothing
 /// else.
 pub fn tell_fault<D: Sink>(diag: &mut D, fault: &Option<Fault>)
-    ensures { Told (D.held diag.old) (D.held diag.new) (D.faults diag.old) (D.faults diag.new)
-        (fault_line_of fault.now) }
+    ensures { Told (of_sink D.Sink diag.old diag.new) (fault_line_of fault.now) }
 {
     match fault {
         Some(fault) => tell_cause(diag, fault),

@@ -2,6 +2,7 @@
 use Rattle.std.proofs.Common.{◌≡◌, ℕ, true, false, Option, Some, None, List, [], ◌∷◌, length, sym, ap, subst, ◌∙◌, arith, inl, inr}
 use Rattle.std.specs.Prelude.{nat_lt}
 use Rattle.std.proofs.lemmas.Bool.Decides.{nat_tests}
+use Rattle.pota_base.specs.Limits.{longest_formula}
 use Rattle.rctl_grammar.specs.declared.fault.FormulaFault.{FormulaFault}
 use Rattle.rctl_grammar.specs.declared.tree.Tree.{Tree}
 use Rattle.rctl_grammar.specs.Grammar.{tree_disjunction}
@@ -30,7 +31,7 @@ one_tree text t u h k =
 
 short_free : (text : List ℕ) (t : Tree) → IsShortText text t → fault_of_text text ≡ None
 short_free text t h =
-    let short : nat_lt 4096 (length text) ≡ false = grind (arith, nat_tests, h.short) in
+    let short : nat_lt longest_formula (length text) ≡ false = grind (arith, nat_tests, h.short) in
     let free : long_fault text ≡ None = ap (first_text_fault (lex text).tokens) h.read.ends ∙ within_is_read (lex text).tokens h.read.d h.read.len h.read.text h.read.limits in
     rw short free
 

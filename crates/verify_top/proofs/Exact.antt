@@ -1,6 +1,8 @@
 -- Each answer comes exactly in its case.
 use Rattle.std.proofs.Common.{◌≡◌, ◌⊎◌, ℕ, Bool, true, false, Option, Some, None, List, [], ◌++◌, refl, sym, ap, subst, ◌∙◌, inl, inr, append-nil}
 use Rattle.std.specs.Io.KnownBytes.{Consumes, IsAtEnd}
+use Rattle.pota_base.specs.Limits.{longest_log}
+use Rattle.pota_base.specs.Changes.{change_of, left_of}
 use Rattle.event_log.specs.LogEnd.{is_whole, log_upto}
 use Rattle.rctl_grammar.specs.declared.fault.FormulaFault.{FormulaFault}
 use Rattle.rctl_grammar.specs.declared.tree.Tree.{Tree}
@@ -19,7 +21,7 @@ use Rattle.certificate_text.specs.Bytes.{Judged, RefusedAt}
 use Rattle.certificate_text.proofs.OneAnswer.{one_truth, one_refusal, apart}
 use Rattle.certificate_input.specs.Pieces.{RefusedWithin}
 use Rattle.certificate_input.proofs.PieceLaws.{within_at}
-use Rattle.certified_nodes.specs.Nodes.{NodesView}
+use Rattle.certificate_nodes.specs.Nodes.{NodesView}
 use Rattle.certificate.specs.Following.{Follows}
 use Rattle.fault_line.specs.declared.fault.Fault.{Fault}
 use Rattle.fault_line.specs.declared.fault.Fault.TheVariants as fault
@@ -55,13 +57,13 @@ fault_stays t read rest why is =
     let more = log_front (log_upto [] read) rest in
     let rules = rules_of (aim_for t) in
     ap (λ (xs : List ℕ). (due log_reading rules true xs).fault) (front-more read rest [])
-    ∙ ap (λ (d : Due). d.fault) (due_stays 67108864 log_reading log_is_read rules true (log_front [] read) more why is) ∙ is
+    ∙ ap (λ (d : Due). d.fault) (due_stays longest_log log_reading log_is_read rules true (log_front [] read) more why is) ∙ is
 
-module _ (left left' held held' : Option (List ℕ)) (lf lf' of of' : ℕ) (words : List (List ℕ)) (v : Verified) (h : HasVerified left left' held held' lf lf' of of' words v) (calm : IsCalm lf lf' of of' v) where
+module _ (left left' held held' : Option (List ℕ)) (lf lf' of of' : ℕ) (words : List (List ℕ)) (v : Verified) (h : HasVerified (change_of left left' lf lf') (change_of held held' of of') words v) (calm : IsCalm lf lf' of of' v) where
   abbrev read : List ℕ
   read = h.answers.read
 
-  told_so : (answer : Answer) → IsTold held held' of of' answer v → Tells held held' answer v
+  told_so : (answer : Answer) → IsTold (change_of held held' of of') answer v → Tells held held' answer v
   told_so (Accepted truth) (inl x) = record { verified = x.0; wrote = x.1 }
   told_so (Accepted truth) (inr x) = absurd (calm.1 x.1)
   told_so (Refused n) (inl x) = record { verified = x.0; wrote = x.1 }
@@ -101,7 +103,7 @@ module _ (left left' held held' : Option (List ℕ)) (lf lf' of of' : ℕ) (word
     -- ---- the certificate is judged
 
     module _ (free : (due_of_front (aim_for t) true bytes).fault ≡ None) where
-      not_faulty : (f : Fault) → IsFaulty left' lf lf' words read f → Tells held held' (Faulty f) v → ⊥
+      not_faulty : (f : Fault) → IsFaulty (left_of left' lf lf') words read f → Tells held held' (Faulty f) v → ⊥
       not_faulty fault.Usage s tells = s.0 asks.text asks.one
       not_faulty (fault.Formula f) (inl s) tells = about_free words t f asks s.0
       not_faulty (fault.Formula f) (inr s) tells = not_both _ (refusal.Formula f) free (log_due (refusal.Formula f) s)
@@ -122,7 +124,7 @@ module _ (left left' held held' : Option (List ℕ)) (lf lf' of of' : ℕ) (word
             let same : of_log.log ≡ log = some_one _ of_log.log log (ap (λ (d : Due). d.whole) (sym (due_same of_log)) ∙ of_log.whole) whole in
             ap (λ (u : Tree). start_of u of_log.log) (about_one words of_log.tree t of_log.asks asks) ∙ ap (start_of t) same
 
-        decided_by : (answer : Answer) → Says left' lf lf' words read answer → Tells held held' answer v → IsJudgedSo t log bytes held held' v
+        decided_by : (answer : Answer) → Says (left_of left' lf lf') words read answer → Tells held held' answer v → IsJudgedSo t log bytes held held' v
         decided_by (Accepted truth) s tells =
             let all = read_all left left' bytes read is h.answers.consumed s.ended in
             let judged : Judged Follows (certificate_of bytes) start [] truth =
@@ -151,7 +153,7 @@ module _ (left left' held held' : Option (List ℕ)) (lf lf' of of' : ℕ) (word
       abbrev Decided : Type 0
       Decided = (log : Prefix) × ((due_of_front (aim_for t) true bytes).whole ≡ Some log) × IsJudgedSo t log bytes held held' v
 
-      found : (answer : Answer) → Says left' lf lf' words read answer → Tells held held' answer v → Decided
+      found : (answer : Answer) → Says (left_of left' lf lf') words read answer → Tells held held' answer v → Decided
       found (Accepted truth) s tells = (s.of.log, whole_log s.of, decided_by s.of.log (whole_log s.of) (Accepted truth) s tells)
       found (Refused n) s tells = (s.of.log, whole_log s.of, decided_by s.of.log (whole_log s.of) (Refused n) s tells)
       found (Faulty f) s tells = absurd (not_faulty f s tells)
@@ -162,7 +164,7 @@ module _ (left left' held held' : Option (List ℕ)) (lf lf' of of' : ℕ) (word
       same_refusal : (other : Refusal) → IsLogRefused left' words read other → Tells held held' (Faulty (fault_of_refusal other)) v → Tells held held' (Faulty (fault_of_refusal why)) v
       same_refusal other s tells = subst (λ (r : Refusal). Tells held held' (Faulty (fault_of_refusal r)) v) (some_one _ other why (log_due other s) due_is) tells
 
-      refused_by : (answer : Answer) → Says left' lf lf' words read answer → Tells held held' answer v → Tells held held' (Faulty (fault_of_refusal why)) v
+      refused_by : (answer : Answer) → Says (left_of left' lf lf') words read answer → Tells held held' answer v → Tells held held' (Faulty (fault_of_refusal why)) v
       refused_by (Accepted truth) s tells = absurd (not_both _ why (log_free s.of) due_is)
       refused_by (Refused n) s tells = absurd (not_both _ why (log_free s.of) due_is)
       refused_by (Faulty fault.Usage) s tells = absurd (s.0 asks.text asks.one)
@@ -177,7 +179,7 @@ module _ (left left' held held' : Option (List ℕ)) (lf lf' of of' : ℕ) (word
 
   -- ---- the words or the formula are refused
 
-  usage_by : AskNothing words → (answer : Answer) → Says left' lf lf' words read answer → Tells held held' answer v → Tells held held' (Faulty fault.Usage) v
+  usage_by : AskNothing words → (answer : Answer) → Says (left_of left' lf lf') words read answer → Tells held held' answer v → Tells held held' (Faulty fault.Usage) v
   usage_by none (Accepted truth) s tells = absurd (none s.of.asks.text s.of.asks.one)
   usage_by none (Refused n) s tells = absurd (none s.of.asks.text s.of.asks.one)
   usage_by none (Faulty fault.Usage) s tells = tells
@@ -190,7 +192,7 @@ module _ (left left' held held' : Option (List ℕ)) (lf lf' of of' : ℕ) (word
   usage_by none (Faulty fault.Write) s tells = absurd s
   usage_by none (Faulty fault.Memory) s tells = absurd (not_short tells)
 
-  formula_by : (f : FormulaFault) → HasFormulaFault words f → (answer : Answer) → Says left' lf lf' words read answer → Tells held held' answer v → Tells held held' (Faulty (fault.Formula f)) v
+  formula_by : (f : FormulaFault) → HasFormulaFault words f → (answer : Answer) → Says (left_of left' lf lf') words read answer → Tells held held' answer v → Tells held held' (Faulty (fault.Formula f)) v
   formula_by f has (Accepted truth) s tells = absurd (about_free words s.of.tree f s.of.asks has)
   formula_by f has (Refused n) s tells = absurd (about_free words s.of.tree f s.of.asks has)
   formula_by f has (Faulty fault.Usage) s tells = absurd (s.0 has.text has.one)

@@ -6,6 +6,7 @@ use Rattle.std.proofs.KnownBytes.{Consumes-trans, Consumes-nil}
 use Rattle.input_reading.specs.Intakes.{ReadsShort}
 use Rattle.run_model.specs.Cut.{initial}
 use Rattle.run_model.specs.Meaning.{Sat}
+use Rattle.pota_base.specs.Changes.{change_of, left_of}
 use Rattle.event_log.specs.LogEnd.{behind_log}
 use Rattle.rctl_grammar.specs.Shape.{shape_of}
 use Rattle.rctl_grammar.specs.declared.tree.Tree.{Tree}
@@ -40,7 +41,7 @@ use Rattle.certificate_text.specs.Bytes.{Judged, RefusedAt}
 use Rattle.certificate_text.proofs.Lines.{has_lines}
 use Rattle.certificate_input.specs.Pieces.{RefusedWithin, NoneRefused}
 use Rattle.certificate_input.proofs.PieceLaws.{within_at}
-use Rattle.certified_nodes.specs.Nodes.{NodesView, AreNodes, fresh_nodes}
+use Rattle.certificate_nodes.specs.Nodes.{NodesView, AreNodes, fresh_nodes}
 use Rattle.certificate.specs.Following.{Follows}
 use Rattle.certificate.specs.Numbering.{plan_of}
 use Rattle.fault_line.specs.declared.fault.Fault.{Fault}
@@ -100,24 +101,24 @@ refused_at bytes start n within = subst (λ (xs : List ℕ). RefusedAt Follows x
 
 -- ---- there is no memory
 
-pub short_read : (left left' : Option (List ℕ)) (lf lf' : ℕ) (words : List (List ℕ)) → ReadsShort left left' lf lf' → Answers left left' lf lf' words (Faulty fault.Memory)
+pub short_read : (left left' : Option (List ℕ)) (lf lf' : ℕ) (words : List (List ℕ)) → ReadsShort (change_of left left' lf lf') → Answers (change_of left left' lf lf') words (Faulty fault.Memory)
 short_read left left' lf lf' words h = record { read = h.read; consumed = h.consumed; later = h.later; says = tt }
 
-pub none_read : (left : Option (List ℕ)) (lf : ℕ) (words : List (List ℕ)) → Answers left left lf lf words (Faulty fault.Memory)
+pub none_read : (left : Option (List ℕ)) (lf : ℕ) (words : List (List ℕ)) → Answers (change_of left left lf lf) words (Faulty fault.Memory)
 none_read left lf words = record { read = []; consumed = Consumes-nil left; later = omega arith; says = tt }
 
 -- ---- the log is refused, or can't be read to its end
 
 pub refused_says : (left : Option (List ℕ)) (lf lf' : ℕ) (words : List (List ℕ)) (read : List ℕ) (why : Refusal) → IsLogRefused left words read why
-    → AnswerSays left lf lf' words read (Faulty (fault_of_refusal why))
+    → AnswerSays (left_of left lf lf') words read (Faulty (fault_of_refusal why))
 refused_says left lf lf' words read (refusal.Formula f) is = inr is
 refused_says left lf lf' words read (refusal.Log f) is = is
 refused_says left lf lf' words read (refusal.Import f) is = is
 refused_says left lf lf' words read (refusal.Merge f) is = is
 
 module _ {X : Type 0} {P : X → Type 0} (says : Says X P) (words : List (List ℕ)) (tree : Tree) (asks : AsksAbout words tree) where
-  pub log_refused : (left left' : Option (List ℕ)) (lf lf' : ℕ) (why : Refusal) → HasReadFront says (aim_for tree) left left' lf lf' (front.Refused why)
-      → Answers left left' lf lf' words (Faulty (fault_of_refusal why))
+  pub log_refused : (left left' : Option (List ℕ)) (lf lf' : ℕ) (why : Refusal) → HasReadFront says (aim_for tree) (change_of left left' lf lf') (front.Refused why)
+      → Answers (change_of left left' lf lf') words (Faulty (fault_of_refusal why))
   log_refused left left' lf lf' why h = record {
     read = h.read;
     consumed = h.consumed;
@@ -125,7 +126,7 @@ module _ {X : Type 0} {P : X → Type 0} (says : Says X P) (words : List (List �
     says = refused_says left' lf lf' words h.read why (record { tree = tree; asks = asks; ended = h.is.0; at_end = h.is.1; due_is = h.is.2 });
   }
 
-  pub log_failed : (left left' : Option (List ℕ)) (lf lf' : ℕ) → HasReadFront says (aim_for tree) left left' lf lf' front.Failed → Answers left left' lf lf' words (Faulty fault.Read)
+  pub log_failed : (left left' : Option (List ℕ)) (lf lf' : ℕ) → HasReadFront says (aim_for tree) (change_of left left' lf lf') front.Failed → Answers (change_of left left' lf lf') words (Faulty fault.Read)
   log_failed left left' lf lf' h = record {
     read = h.read;
     consumed = h.consumed;
@@ -175,7 +176,7 @@ module _ {X : Type 0} {P : X → Type 0} (says : Says X P) (words : List (List �
           (λ h. is.truth.0 (same.0 h), λ h. same.1 (is.truth.1 h))
 
       pub judged_says : (left : Option (List ℕ)) (lf lf_now lf' : ℕ) → lf ≤ lf_now → (answer : Answer) → (IsDecided answer → AreNodes (start_at checked).nodes) → IsJudged left lf_now lf' (start_at checked) (rest ++ more) answer
-          → AnswerSays left lf lf' words (bytes ++ more) answer
+          → AnswerSays (left_of left lf lf') words (bytes ++ more) answer
       unfolding has_log
       judged_says left lf lf_now lf' later (Accepted told) nodes j = record {
         ended = j.0;
@@ -205,7 +206,7 @@ module _ {X : Type 0} {P : X → Type 0} (says : Says X P) (words : List (List �
 
       -- the whole input
       pub all_judged : (left mid left' : Option (List ℕ)) (lf lf_now lf' : ℕ) → Consumes left mid bytes → lf ≤ lf_now → (answer : Answer) → (IsDecided answer → AreNodes (start_at checked).nodes)
-          → Consumes mid left' more → lf_now ≤ lf' → IsJudged left' lf_now lf' (start_at checked) (rest ++ more) answer → Answers left left' lf lf' words answer
+          → Consumes mid left' more → lf_now ≤ lf' → IsJudged left' lf_now lf' (start_at checked) (rest ++ more) answer → Answers (change_of left left' lf lf') words answer
       all_judged left mid left' lf lf_now lf' first early answer nodes second late j = record {
         read = bytes ++ more;
         consumed = Consumes-trans left mid left' bytes more first second;
@@ -216,21 +217,21 @@ module _ {X : Type 0} {P : X → Type 0} (says : Says X P) (words : List (List �
 -- ---- what was read at the front, and what stands behind it
 
 module _ {X : Type 0} {P : X → Type 0} (says : Says X P) (words : List (List ℕ)) (tree : Tree) (asks : AsksAbout words tree) (left mid left' : Option (List ℕ)) (lf lf_now lf' : ℕ) (at : Front X P)
-    (h : HasReadFront says (aim_for tree) left mid lf lf_now at) where
+    (h : HasReadFront says (aim_for tree) (change_of left mid lf lf_now) at) where
   pub behind_judged : (check : LogCheck X P) (rest : List ℕ) (is : at ≡ front.Whole check rest) (checked : CheckedLog)
       → ((j : Judgement) (log : Prefix) → IsCheckOf says (aim_for tree) check j → HasClosed j log → IsCheckedLog (aim_for tree) log checked)
       → TellTruth → IsTrace checked.seen.trace.states → AreMadeFor (scope_seen checked.seen) (disjuncts_of checked.disjuncts) → CountersRise checked.seen (disjuncts_of checked.disjuncts)
       → (piece : List ℕ) → piece ≡ rest → (answer : Answer) → HasJudged mid left' lf_now lf' (start_at checked) piece answer → (IsDecided answer → AreNodes (start_at checked).nodes)
-      → Answers left left' lf lf' words answer
+      → Answers (change_of left left' lf lf') words answer
   behind_judged check rest is checked observed law trace made rise piece same answer judged nodes =
       let w = whole_there says (aim_for tree) left mid lf lf_now at check rest is h in
       let j = subst (λ (xs : List ℕ). HasJudged mid left' lf_now lf' (start_at checked) xs answer) same judged in
       all_judged says words tree asks check rest h.read checked w (observed w.judgement w.log w.check_is w.closed) j.read law trace made rise left mid left' lf lf_now lf' h.consumed h.later answer nodes j.consumed j.later j.is
 
-  pub front_refused : (why : Refusal) (fault : Fault) → at ≡ front.Refused why → fault ≡ fault_of_refusal why → Answers left mid lf lf_now words (Faulty fault)
+  pub front_refused : (why : Refusal) (fault : Fault) → at ≡ front.Refused why → fault ≡ fault_of_refusal why → Answers (change_of left mid lf lf_now) words (Faulty fault)
   front_refused why fault is told =
-      subst (λ (f : Fault). Answers left mid lf lf_now words (Faulty f)) (sym told)
-      (log_refused says words tree asks left mid lf lf_now why (subst (HasReadFront says (aim_for tree) left mid lf lf_now) is h))
+      subst (λ (f : Fault). Answers (change_of left mid lf lf_now) words (Faulty f)) (sym told)
+      (log_refused says words tree asks left mid lf lf_now why (subst (HasReadFront says (aim_for tree) (change_of left mid lf lf_now)) is h))
 
-  pub front_unread : at ≡ front.Failed → Answers left mid lf lf_now words (Faulty fault.Read)
-  front_unread is = log_failed says words tree asks left mid lf lf_now (subst (HasReadFront says (aim_for tree) left mid lf lf_now) is h)
+  pub front_unread : at ≡ front.Failed → Answers (change_of left mid lf lf_now) words (Faulty fault.Read)
+  front_unread is = log_failed says words tree asks left mid lf lf_now (subst (HasReadFront says (aim_for tree) (change_of left mid lf lf_now)) is h)

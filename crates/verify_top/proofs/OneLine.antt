@@ -4,10 +4,10 @@ use Rattle.run_model.specs.Cut.{Clocks}
 use Rattle.slice_graph.specs.Views.{SliceView}
 use Rattle.certificate_lines.specs.declared.line.Line.TheVariants as line
 use Rattle.certificate_text.specs.Bytes.{OneFollows}
-use Rattle.certified_rows.specs.Begun.{BegunView, fresh_rows}
-use Rattle.certified_nodes.specs.declared.plan.Plan.{Plan}
-use Rattle.certified_nodes.specs.Plans.{system_at}
-use Rattle.certified_nodes.specs.Nodes.{NodesView}
+use Rattle.certificate_table.specs.Begun.{BegunView, fresh_rows}
+use Rattle.certificate_nodes.specs.declared.plan.Plan.{Plan}
+use Rattle.certificate_nodes.specs.Plans.{system_at}
+use Rattle.certificate_nodes.specs.Nodes.{NodesView}
 use Rattle.certificate.specs.Following.{Follows}
 use Rattle.certificate.proofs.OneSlice.{gives_one}
 

@@ -13,7 +13,7 @@ use Rattle.log_check.specs.Aims.{Aim}
 use Rattle.log_check.specs.Checked.{observed_alone}
 use Rattle.certificate_lines.specs.Spelling.{formula_line}
 use Rattle.certificate_text.specs.Taking.{VerifierView, fresh}
-use Rattle.certified_nodes.specs.Nodes.{NodesView, fresh_nodes}
+use Rattle.certificate_nodes.specs.Nodes.{NodesView, fresh_nodes}
 use Rattle.certificate.specs.Numbering.{plan_of}
 
 -- ---- the log

@@ -3,6 +3,7 @@ use Rattle.std.specs.Prelude.{◌≡◌, ◌⊎◌, ◌↔◌, ℕ, ◌≤◌, B
 use Rattle.std.specs.Prelude.{Option, None, Some}
 use Rattle.std.specs.Io.KnownBytes.{Appends, Consumes, IsAtEnd}
 use Rattle.pota_base.specs.Outside.{Rose}
+use Rattle.pota_base.specs.Changes.{Change, Left, left_by}
 use Rattle.event_log.specs.LogEnd.{behind_log}
 use Rattle.rctl_grammar.specs.declared.tree.Tree.{Tree}
 use Rattle.fault_kinds.specs.declared.refusal.Refusal.{Refusal}
@@ -76,41 +77,38 @@ pub record EndsInCertificate (words : List (List ℕ)) (read : List ℕ) : Type 
 
 -- ---- what an answer says of the words and the bytes that were read
 
-abbrev pub IsFaulty : Option (List ℕ) → (lf lf' : ℕ) → List (List ℕ) → List ℕ → Fault → Type 0
-IsFaulty left lf lf' words read fault.Usage = AskNothing words × (read ≡ [])
-IsFaulty left lf lf' words read (fault.Formula f) =
-    (HasFormulaFault words f × (read ≡ []))
-    ⊎ IsLogRefused left words read (refusal.Formula f)
-IsFaulty left lf lf' words read (fault.Log f) = IsLogRefused left words read (refusal.Log f)
-IsFaulty left lf lf' words read (fault.Import f) = IsLogRefused left words read (refusal.Import f)
-IsFaulty left lf lf' words read (fault.Merge f) = IsLogRefused left words read (refusal.Merge f)
-IsFaulty left lf lf' words read fault.Read =
-    Rose lf lf' × (EndsInLog words read ⊎ EndsInCertificate words read)
-IsFaulty left lf lf' words read fault.Write = ⊥
-IsFaulty left lf lf' words read fault.Memory = Unit {0}
+abbrev pub IsFaulty : (left : Left) → List (List ℕ) → List ℕ → Fault → Type 0
+IsFaulty left words read fault.Usage = AskNothing words × (read ≡ [])
+IsFaulty left words read (fault.Formula f) =
+    (HasFormulaFault words f × (read ≡ [])) ⊎ IsLogRefused left.rest words read (refusal.Formula f)
+IsFaulty left words read (fault.Log f) = IsLogRefused left.rest words read (refusal.Log f)
+IsFaulty left words read (fault.Import f) = IsLogRefused left.rest words read (refusal.Import f)
+IsFaulty left words read (fault.Merge f) = IsLogRefused left.rest words read (refusal.Merge f)
+IsFaulty left words read fault.Read =
+    Rose left.before left.after × (EndsInLog words read ⊎ EndsInCertificate words read)
+IsFaulty left words read fault.Write = ⊥
+IsFaulty left words read fault.Memory = Unit {0}
 
-abbrev pub Says : Option (List ℕ) → (lf lf' : ℕ) → List (List ℕ) → List ℕ → Answer → Type 0
-Says left lf lf' words read (Accepted told) = IsAccepted left words read told
-Says left lf lf' words read (Refused n) = IsRefused left words read n
-Says left lf lf' words read (Faulty f) = IsFaulty left lf lf' words read f
+abbrev pub Says : (left : Left) → List (List ℕ) → List ℕ → Answer → Type 0
+Says left words read (Accepted told) = IsAccepted left.rest words read told
+Says left words read (Refused n) = IsRefused left.rest words read n
+Says left words read (Faulty f) = IsFaulty left words read f
 
 -- some bytes were read, and this is the answer
-pub record Answers (left left' : Option (List ℕ)) (lf lf' : ℕ) (words : List (List ℕ))
-    (answer : Answer) : Type 0 where
+pub record Answers (source : Change) (words : List (List ℕ)) (answer : Answer) : Type 0 where
   pub read : List ℕ
-  pub consumed : Consumes left left' read
-  pub later : lf ≤ lf'
-  pub says : Says left' lf lf' words read answer
+  pub consumed : Consumes source.before source.after read
+  pub later : source.faults_before ≤ source.faults_after
+  pub says : Says (left_by source) words read answer
 
 -- ---- how an answer is told
 
 -- a whole run: what was read and written in it, that no count fell, and the answer that it tells
-pub record HasVerified (left left' held held' : Option (List ℕ)) (lf lf' of of' : ℕ)
-    (words : List (List ℕ)) (v : Verified) : Type 0 where
+pub record HasVerified (source sink : Change) (words : List (List ℕ)) (v : Verified) : Type 0 where
   pub answer : Answer
-  pub answers : Answers left left' lf lf' words answer
-  pub later : of ≤ of'
-  pub told : IsTold held held' of of' answer v
+  pub answers : Answers source words answer
+  pub later : sink.faults_before ≤ sink.faults_after
+  pub told : IsTold sink answer v
 
 -- where the certificate is accepted, this was read, and the truth of the formula at the initial cut
 -- of the log was written

@@ -1,8 +1,8 @@
 //! A log and its certificate, read one behind the other.
 ghost use Rattle.std.specs.Prelude.{◌≡◌, ◌≢◌, ℕ, List as ListOf, IfOk, OnErr, Option};
 ghost use Rattle.rctl_grammar.specs.declared.tree.Tree.{Tree};
-ghost use Rattle.input_reading.specs.Changes.{of_source};
-ghost use Rattle.input_reading.specs.Intakes.{HasReadSome};
+ghost use Rattle.pota_base.specs.Changes.{change_of, of_source};
+ghost use Rattle.input_reading.specs.Intakes.{ReadsShort};
 ghost use Rattle.log_rules.specs.Judgement.{waiting};
 ghost use Rattle.log_check.specs.Aims.{Aim, said_by};
 ghost use Rattle.log_check.specs.Checking.{IsCheckOf};
@@ -37,11 +37,10 @@ fn unwatched_check(alloc: Global, stated: Stated) -> Result<LogCheck, NoMemory>
 // Reads the log at the front of the input.
 fn read_front<S: Source>(alloc: Global, check: LogCheck, input: &mut S) -> Result<Front, NoMemory>
     requires { (aim : Aim) × IsCheckOf (said_by answers) aim check waiting }
-    ensures front { IfOk result (λ front. (aim : Aim)
-        → IsCheckOf (said_by answers) aim check waiting
-        → HasReadFront (said_by answers) aim (S.left input.old) (S.left input.new)
-        (S.faults input.old) (S.faults input.new) front) }
-    ensures short { OnErr result (HasReadSome (of_source S.Source input.old input.new)) }
+    ensures front { IfOk result (λ front. (aim : Aim) → IsCheckOf (said_by answers) aim check
+        waiting → HasReadFront (said_by answers) aim (of_source S.Source input.old input.new)
+        front) }
+    ensures short { OnErr result (ReadsShort (of_source S.Source input.old input.new)) }
     ensures calm { result ≢ Ok Front.Failed → S.faults input.new ≡ S.faults input.old }
 {
     let mut part = LogPart::new(alloc, check);
@@ -61,14 +60,13 @@ fn read_front<S: Source>(alloc: Global, check: LogCheck, input: &mut S) -> Resul
 
 // Answers by the log that was read, and by the certificate behind it.
 fn judge_front<S: Source>(alloc: Global, front: Front, input: &mut S) -> Answer
-    requires { (tree : Tree) × (left : Option (ListOf ℕ)) × (faults : ℕ)
-        × HasReadFront (said_by answers) (aim_for tree) left (S.left input.old) faults
-        (S.faults input.old) front }
+    requires { (tree : Tree) × (left : Option (ListOf ℕ)) × (faults : ℕ) × HasReadFront
+        (said_by answers) (aim_for tree)
+        (change_of left (S.left input.old) faults (S.faults input.old)) front }
     ensures answers { (words : ListOf (ListOf ℕ)) (tree : Tree) (left : Option (ListOf ℕ))
-        (faults : ℕ) → AsksAbout words tree
-        → HasReadFront (said_by answers) (aim_for tree) left (S.left input.old) faults
-        (S.faults input.old) front
-        → Answers left (S.left input.new) faults (S.faults input.new) words result }
+        (faults : ℕ) → AsksAbout words tree → HasReadFront (said_by answers) (aim_for tree)
+        (change_of left (S.left input.old) faults (S.faults input.old)) front → Answers
+        (change_of left (S.left input.new) faults (S.faults input.new)) words result }
     ensures failed { front ≡ Front.Failed → result ≡ Answer.Faulty Fault.Read }
     ensures calm { result ≢ Answer.Faulty Fault.Read → S.faults input.new ≡ S.faults input.old }
 {
@@ -86,9 +84,8 @@ fn judge_front<S: Source>(alloc: Global, front: Front, input: &mut S) -> Answer
 /// Judges the log that the source has, and the certificate behind it.
 pub fn judge_input<S: Source>(alloc: Global, stated: Stated, input: &mut S) -> Answer
     requires { (words : ListOf (ListOf ℕ)) × IsFormulaOf words stated }
-    ensures answers { (words : ListOf (ListOf ℕ)) → IsFormulaOf words stated
-        → Answers (S.left input.old) (S.left input.new) (S.faults input.old) (S.faults input.new)
-        words result }
+    ensures answers { (words : ListOf (ListOf ℕ)) → IsFormulaOf words stated → Answers
+        (of_source S.Source input.old input.new) words result }
     ensures calm { result ≢ Answer.Faulty Fault.Read → S.faults input.new ≡ S.faults input.old }
 {
     let Ok(check) = unwatched_check(alloc, stated) else {

@@ -3,6 +3,7 @@ ghost use Rattle.std.specs.Prelude.{◌≡◌, ◌≢◌, map, string_bytes};
 ghost use Rattle.pota_base.specs.Outside.{Rose};
 ghost use Rattle.pota_base.specs.Status.{code_of};
 ghost use Rattle.pota_base.specs.declared.status.Status.TheVariants.{ReadFault, WriteFault};
+ghost use Rattle.pota_base.specs.Changes.{of_sink, of_source};
 ghost use Rattle.fault_line.specs.Lines.{Told};
 ghost use Rattle.verify_top.specs.Exactness.{IsCalm, IsDecidedSo, IsRefusedAsAsked};
 ghost use Rattle.verify_top.specs.Exactness.{IsRefusedAsDue};
@@ -17,8 +18,8 @@ use verify_answers::{Answer, Verified, read_words, tell_answer, tell_fault};
 
 // Answers the words on the input that the source has.
 fn answer_words<S: Source>(alloc: Global, words: &[String], input: &mut S) -> Answer
-    ensures answers { Answers (S.left input.old) (S.left input.new) (S.faults input.old)
-        (S.faults input.new) (map string_bytes words.now) result }
+    ensures answers { Answers (of_source S.Source input.old input.new) (map string_bytes words.now)
+        result }
     ensures calm { result ≢ Answer.Faulty Fault.Read → S.faults input.new ≡ S.faults input.old }
 {
     match read_words(alloc, words) {
@@ -40,13 +41,11 @@ pub fn verify<S: Source, O: Sink, D: Sink>(
     out: &mut O,
     diag: &mut D,
 ) -> Verified
-    ensures verified { HasVerified (S.left input.old) (S.left input.new) (O.held out.old)
-        (O.held out.new) (S.faults input.old) (S.faults input.new) (O.faults out.old)
-        (O.faults out.new) (map string_bytes words.now) result }
+    ensures verified { HasVerified (of_source S.Source input.old input.new)
+        (of_sink O.Sink out.old out.new) (map string_bytes words.now) result }
     ensures truth { result.status ≡ 0 → HasToldTruth (S.left input.old) (S.left input.new)
         (O.held out.old) (O.held out.new) (map string_bytes words.now) }
-    ensures told { Told (D.held diag.old) (D.held diag.new) (D.faults diag.old) (D.faults diag.new)
-        (fault_line_of result.fault) }
+    ensures told { Told (of_sink D.Sink diag.old diag.new) (fault_line_of result.fault) }
     ensures read { result.status ≡ code_of ReadFault
         → Rose (S.faults input.old) (S.faults input.new) }
     ensures calm { result.status ≢ code_of ReadFault

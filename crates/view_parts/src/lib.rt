@@ -8,8 +8,8 @@
 //! exactly whether a report has the processes and the lengths of a run, so that each event of it is
 //! there.
 //!
-//! `event_at` gives an event, and the functions that put something give the stated text of it: where
-//! it stands, its line in the log, its kind and its assignments. `names` says exactly whether
+//! `event_at` gives an event, and the functions that put something give the stated text of it:
+//! where it stands, its line in the log, its kind and its assignments. `names` says exactly whether
 //! something stands among the tokens of a formula: a variable of a process, a channel, a watch of a
 //! process, or the operator `EX`. `is_about` says exactly whether an event sets a variable that the
 //! formula names, sends or receives on a channel that it names, or is of a process with a watch.

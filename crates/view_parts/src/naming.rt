@@ -1,8 +1,9 @@
 //! What the tokens of a formula name.
 ghost use Rattle.std.specs.Prelude.{◌≡◌};
 ghost use Rattle.view_parts.specs.Naming.{is_word, is_transit, is_opening, is_comma};
-ghost use Rattle.view_parts.specs.Naming.{begin_with_variable, begin_with_owner, begin_with_channel};
-ghost use Rattle.view_parts.specs.Naming.{begin_with_watch, begin_with_next, beginning, names};
+ghost use Rattle.view_parts.specs.Naming.{begin_with_variable, begin_with_owner};
+ghost use Rattle.view_parts.specs.Naming.{begin_with_channel, begin_with_watch, begin_with_next};
+ghost use Rattle.view_parts.specs.Naming.{beginning, names};
 
 use rctl_grammar::{Kind, Token, Word};
 

@@ -4,6 +4,7 @@ use Rattle.std.specs.Prelude.{IfSome}
 use Rattle.std.specs.List.{AllByRecursion}
 use Rattle.std.proofs.lemmas.Bool.{cases_Bool}
 use Rattle.run_model.specs.Cut.{Cut}
+use Rattle.pota_base.specs.Limits.{most_processes}
 use Rattle.witness_kinds.specs.declared.Witness.{Witness}
 use Rattle.witness_kinds.specs.declared.Witness.TheVariants as witness
 use Rattle.report_lines.specs.declared.kinds.WitnessText.{WitnessText}
@@ -11,7 +12,7 @@ use Rattle.report_lines.specs.Spelling.{WitnessFits, WitnessTextFits}
 use Rattle.view_picture.specs.inside.Drawing.{HasFewProcesses}
 use Rattle.view_picture.specs.Told.{is_drawn, first_drawn}
 
-few_in : (lengths : Cut) (w : Witness) → length lengths ≤ 32 → WitnessFits lengths w → HasFewProcesses w
+few_in : (lengths : Cut) (w : Witness) → length lengths ≤ most_processes → WitnessFits lengths w → HasFewProcesses w
 few_in lengths witness.Nothing few fits = tt
 few_in lengths (witness.Reach path) few fits = omega (arith, fits.goal.width)
 few_in lengths (witness.Against path) few fits = omega (arith, fits.goal.width)
@@ -20,7 +21,7 @@ few_in lengths witness.StuckStart few fits = tt
 few_in lengths witness.StuckFinish few fits = tt
 few_in lengths (witness.StuckPair first other) few fits = tt
 
-pub few_drawn : (lengths : Cut) (ws : List WitnessText) → length lengths ≤ 32 → AllByRecursion (WitnessTextFits lengths) ws → IfSome (first_drawn ws) (λ (w : WitnessText). HasFewProcesses w.witness)
+pub few_drawn : (lengths : Cut) (ws : List WitnessText) → length lengths ≤ most_processes → AllByRecursion (WitnessTextFits lengths) ws → IfSome (first_drawn ws) (λ (w : WitnessText). HasFewProcesses w.witness)
 few_drawn lengths [] few fits = tt
 few_drawn lengths (w ∷ ws) few fits = elim (cases_Bool (is_drawn w.witness)) [
   | inl drawn ↦ rw drawn (few_in lengths w.witness few fits.0.witness)

@@ -22,8 +22,8 @@ pub record HasBefore (o : Clocks) (shown : EventId → Bool) (rows : Rows) (i a 
   pub next_to : column rows i a ≡ column rows process position + 1
 
 -- The column of a shown event is above that of each event that happened before it, and is 1 or
--- right behind that of a shown one of them. So it is the length of the longest chain of shown events that
--- ends with it. An event that is not shown has the column of the one before it.
+-- right behind that of a shown one of them. So it is the length of the longest chain of shown
+-- events that ends with it. An event that is not shown has the column of the one before it.
 pub record AreColumns (o : Clocks) (shown : EventId → Bool) (rows : Rows) : Type 0 where
   pub before : (i a j b : ℕ) → shown (place j b) ≡ true → HappenedBefore o i a j b
       → column rows i a < column rows j b

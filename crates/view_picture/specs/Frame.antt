@@ -11,10 +11,11 @@ use Rattle.view_picture.specs.Columns.{Rows, column}
 use Rattle.view_picture.specs.Shown.{has_shown, rank}
 use Rattle.std.specs.Prelude.{get_or}
 use Rattle.std.specs.List.{count_by}
+use Rattle.pota_base.specs.Limits.{longest_canonical, longest_name}
 
 -- how many bytes the longest of the names has, at most 64
 abbrev pub longest : List Name → ℕ
-longest names = min (fold (λ n name. max n (length name)) 0 names) 64
+longest names = min (fold (λ n name. max n (length name)) 0 names) longest_name
 
 -- the greatest column
 abbrev pub most : Rows → ℕ
@@ -34,7 +35,7 @@ column_at left false column = left + 48 * column
 
 -- the formula stands on one line
 abbrev pub heading_width : Report → ℕ
-heading_width r = 40 + 9 * min (length r.formula) 65535
+heading_width r = 40 + 9 * min (length r.formula) longest_canonical
 
 abbrev pub frame_of : StatesView → Rows → Report → Frame
 frame_of s rows r = record {

@@ -6,6 +6,7 @@ ghost use Rattle.std.specs.List.{count_by};
 ghost use Rattle.pota_base.specs.Shape.{HasEvent};
 ghost use Rattle.run_model.specs.Cut.{count, lengths};
 ghost use Rattle.run_model.specs.Consistent.{IsOrder};
+ghost use Rattle.pota_base.specs.Limits.{most_events, most_processes};
 ghost use Rattle.vector_clock.specs.Events.{clocks_of};
 ghost use Rattle.view_parts.specs.Parts.{place};
 ghost use Rattle.view_picture.specs.Choice.{wants};
@@ -120,7 +121,7 @@ fn take_one(
 ) -> Result<(), NoMemory>
     requires process { process < length order.now }
     requires order { IsOrder order.now }
-    requires few { sum (lengths order.now) ≤ 50000 }
+    requires few { sum (lengths order.now) ≤ most_events }
     requires run { order.now ≡ clocks_of chooser.now.states.now.events }
     requires placed { HavePlaces order.now
         (wants chooser.now.states.now chooser.now.tokens.now chooser.now.choice.now)
@@ -149,7 +150,7 @@ fn take_each(
     rows: &mut Vec<List<u32>>,
 ) -> Result<(), NoMemory>
     requires order { IsOrder order.now }
-    requires few { sum (lengths order.now) ≤ 50000 }
+    requires few { sum (lengths order.now) ≤ most_events }
     requires run { order.now ≡ clocks_of chooser.now.states.now.events }
     requires placed { HavePlaces order.now
         (wants chooser.now.states.now chooser.now.tokens.now chooser.now.choice.now)
@@ -171,7 +172,7 @@ fn rows_of(alloc: Global, order: &Order, chooser: &Chooser<'_>) -> Result<Vec<Li
     requires { order.now ≡ clocks_of chooser.now.states.now.events }
     ensures columns { IfOk result (λ rows. AreColumns order.now
         (wants chooser.now.states.now chooser.now.tokens.now chooser.now.choice.now) rows.items) }
-    ensures few { IfOk result (λ rows. length rows.items ≤ 32) }
+    ensures few { IfOk result (λ rows. length rows.items ≤ most_processes) }
     ensures small { IfOk result (λ rows. (p : ℕ) → length (get_or rows.items p []) < 2 ^ 32) }
 {
     let shape = order.shape();
@@ -204,7 +205,7 @@ fn latest_in(alloc: Global, rows: &[List<u32>], process: u32) -> Result<List<u32
 
 // The same of each process.
 fn latest_of(alloc: Global, rows: &[List<u32>]) -> Result<Vec<List<u32>>, NoMemory>
-    requires few { length rows.now ≤ 32 }
+    requires few { length rows.now ≤ most_processes }
     requires small { (p : ℕ) → length (get_or rows.now p []) < 2 ^ 32 }
     ensures { IfOk result (λ latest. AreLatest rows.now latest.items) }
 {
@@ -318,7 +319,7 @@ impl Columns {
     /// How many processes have a shown event.
     pub fn count(&self) -> u64
         ensures count { result ≡ count_by has_shown self.now }
-        ensures few { result ≤ 32 }
+        ensures few { result ≤ most_processes }
     {
         count_shown(self.rows.as_slice()) as u64
     }

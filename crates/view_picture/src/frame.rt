@@ -1,10 +1,11 @@
 //! Where everything stands in the picture.
 ghost use Rattle.std.specs.Prelude.{◌≡◌, ◌<◌, ◌≤◌, ◌^◌};
+ghost use Rattle.pota_base.specs.Limits.{longest_name};
 
 use crate::columns::Columns;
 use crate::svg::Point;
 use event_log::States;
-use pota_base::EventId;
+use pota_base::{EventId, LONGEST_CANONICAL, LONGEST_NAME};
 use pota_names::Name;
 use report::Report;
 
@@ -37,16 +38,16 @@ pub struct Frame {
 impl Frame {
     ghost use Rattle.view_picture.specs.Frame.{longest, column_at, frame_of, lane, behind, at};
 
-    // How many bytes the longest of the names has, at most 64.
+    // How many bytes the longest of the names has, at most what a name may have.
     fn longest(names: &[Name]) -> usize
         ensures longest { result ≡ longest names.now }
-        ensures most { result ≤ 64 }
+        ensures most { result ≤ longest_name }
     {
         let mut most = 0usize;
         for name in names {
             most = most.max(name.as_bytes().len());
         }
-        most.min(64)
+        most.min(LONGEST_NAME)
     }
 
     /// The line of a process. Processes that have a shown event have theirs one below the other.
@@ -76,7 +77,7 @@ impl Frame {
         let most = columns.most();
         let left = 40 + 9 * Frame::longest(procs) as u32;
         let wide = most <= MANY_COLUMNS;
-        let heading = 40 + 9 * report.formula.len().min(65_535) as u64;
+        let heading = 40 + 9 * report.formula.len().min(LONGEST_CANONICAL) as u64;
         Frame {
             left,
             wide,

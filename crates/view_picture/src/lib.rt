@@ -8,8 +8,8 @@
 //! shown events that ends with it (`AreColumns`; `columns_are_one`).
 //!
 //! Laws: exactly the wanted events get a mark, and one, and what is told as left out is not shown
-//! (`shown_events_once`); no two marks lie on each other (`marks_are_apart`), and all lie within the
-//! picture (`marks_are_inside`); the line of a goal is drawn between those of the least and the
+//! (`shown_events_once`); no two marks lie on each other (`marks_are_apart`), and all lie within
+//! the picture (`marks_are_inside`); the line of a goal is drawn between those of the least and the
 //! greatest cut where it is between them (`goals_are_on_their_side`); a formula adds no tag
 //! (`escaped_has_no_tag`). That lines, arrows and ties draw exactly what happened before is said in
 //! `picture_laws`.

@@ -1,5 +1,6 @@
 //! Cuts as lines across the lanes, and the witness that is drawn.
 ghost use Rattle.std.specs.Prelude.{◌≡◌, ◌+◌, ◌<◌, ◌≤◌, ◌^◌, ◌++◌, length, OnOk};
+ghost use Rattle.pota_base.specs.Limits.{most_processes};
 ghost use Rattle.view_picture.specs.Drawing.{corner, shown_corners, cut_drawn, numbered};
 ghost use Rattle.view_picture.specs.Drawing.{step_drawn};
 ghost use Rattle.view_picture.specs.Drawing.{steps_drawn, ring, path_drawn, witness_drawn};
@@ -61,7 +62,7 @@ pub fn put_cut(
     shift: u64,
     look: &[u8],
 ) -> Result<(), NoMemory>
-    requires few { length cut.now ≤ 32 }
+    requires few { length cut.now ≤ most_processes }
     requires shift { shift ≤ 100 }
     ensures { OnOk result (out.new
         ≡ out.old ++ cut_drawn frame.now columns.now cut.now shift look.now) }
@@ -153,7 +154,7 @@ fn put_path(
     frame: &Frame,
     path: &Path,
 ) -> Result<(), NoMemory>
-    requires { length path.now.goal ≤ 32 }
+    requires { length path.now.goal ≤ most_processes }
     ensures { OnOk result (out.new ≡ out.old
         ++ path_drawn frame.now columns.now path.now.steps path.now.goal) }
 {

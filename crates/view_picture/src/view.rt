@@ -4,6 +4,7 @@ ghost use Rattle.std.specs.Prelude.{IfSome};
 ghost use Rattle.std.specs.List.{AllByRecursion};
 ghost use Rattle.std.specs.Option.{option_copied};
 ghost use Rattle.pota_base.specs.Shape.{HasEvent};
+ghost use Rattle.pota_base.specs.Limits.{most_processes};
 ghost use Rattle.report.specs.Spelling.{IsWellFormed};
 ghost use Rattle.vector_clock.specs.Events.{clocks_of};
 ghost use Rattle.view_parts.specs.Each.{places};
@@ -53,8 +54,8 @@ fn put_both(
     low: &Cut,
     high: &Cut,
 ) -> Result<(), NoMemory>
-    requires low { length low.now ≤ 32 }
-    requires high { length high.now ≤ 32 }
+    requires low { length low.now ≤ most_processes }
+    requires high { length high.now ≤ most_processes }
     requires height { frame.now.height < 2 ^ 40 }
     ensures { OnOk result (out.new
         ≡ out.old ++ bounds_drawn frame.now columns.now (Some (low.now, high.now))) }
@@ -74,7 +75,7 @@ fn put_slice(
     slice: &Option<SliceText>,
 ) -> Result<(), NoMemory>
     requires bounds { IfSome slice.now (λ s. IfSome s.bounds
-        (λ bounds. (length bounds.0 ≤ 32) × (length bounds.1 ≤ 32))) }
+        (λ bounds. (length bounds.0 ≤ most_processes) × (length bounds.1 ≤ most_processes))) }
     requires height { frame.now.height < 2 ^ 40 }
     ensures { OnOk result (out.new ≡ out.old ++ slice_drawn frame.now columns.now slice.now) }
 {

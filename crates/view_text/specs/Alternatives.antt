@@ -1,6 +1,6 @@
 -- The alternatives of a formula: what stands between its bars that are in no brackets.
-use Rattle.std.specs.Prelude.{ℕ, ◌+◌, ◌-◌, Bool, true, false, ◌&&◌, not, nat_le, nat_lt, List, [], ◌∷◌}
-use Rattle.std.specs.Prelude.{length, take, drop, if◌then◌else◌}
+use Rattle.std.specs.Prelude.{ℕ, ◌+◌, ◌-◌, Bool, true, false, ◌&&◌, not, nat_le, nat_lt, List, []}
+use Rattle.std.specs.Prelude.{◌∷◌, length, take, drop, if◌then◌else◌}
 use Rattle.rctl_grammar.specs.declared.token.Token.{Token}
 use Rattle.view_text.specs.declared.claims.Stand.{Stand}
 use Rattle.view_text.specs.declared.claims.Stand.TheVariants as stand
@@ -13,8 +13,8 @@ between bytes begin end =
     if nat_le begin end && nat_le end (length bytes) then take (end - begin) (drop begin bytes)
     else []
 
--- The texts of the alternatives, by the tokens behind so many open brackets; the first one begins at
--- this byte. A space stands on each side of a bar.
+-- The texts of the alternatives, by the tokens behind so many open brackets; the first one begins
+-- at this byte. A space stands on each side of a bar.
 unfoldable pub alternatives : List ℕ → ℕ → ℕ → List Token → List (List ℕ)
 alternatives formula begin depth [] = between formula begin (length formula) ∷ []
 alternatives formula begin depth (t ∷ ts) =

@@ -28,10 +28,10 @@ follow_a_name [] = false
 follow_a_name (t ∷ ts) = is_name_sign t.kind
 
 abbrev pub claim_of_word : Word → Claim
-claim_of_word word.Ef = claim.Finally
-claim_of_word word.Ag = claim.Always
-claim_of_word word.Eg = claim.Globally
-claim_of_word word.Ex = claim.Next
+claim_of_word word.Ef = claim.Ef
+claim_of_word word.Ag = claim.Ag
+claim_of_word word.Eg = claim.Eg
+claim_of_word word.Ex = claim.Ex
 claim_of_word w = claim.Plain
 
 -- what a member says that begins with this token
@@ -40,10 +40,10 @@ claim_of (kind.Word w name) rest = if follow_a_name rest then claim.Plain else c
 claim_of k rest = claim.Plain
 
 abbrev pub phrase : Claim → List ℕ
-phrase claim.Finally = codes "some order leads to a cut where the operand of EF holds"
-phrase claim.Always = codes "the operand of AG holds at each cut of each order"
-phrase claim.Globally = codes "in some order the operand of EG holds at each cut"
-phrase claim.Next = codes "the operand of EX holds right behind the next event of its process"
+phrase claim.Ef = codes "some order leads to a cut where the operand of EF holds"
+phrase claim.Ag = codes "the operand of AG holds at each cut of each order"
+phrase claim.Eg = codes "in some order the operand of EG holds at each cut"
+phrase claim.Ex = codes "the operand of EX holds right behind the next event of its process"
 phrase claim.Plain = codes "what stands under no operator holds where nothing has happened yet"
 
 -- what joins a member with those before it in its disjunct

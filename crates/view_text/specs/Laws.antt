@@ -18,8 +18,8 @@ abbrev pub IsBefore : StatesView → EventId → EventId → Type 0
 IsBefore s e other =
     HappenedBefore (clocks_of (trace_of s)) e.process e.position other.process other.position
 
--- the event is one of another process, the last within the cut that sets a named variable of it, and
--- the one that ends a value didn't happen before it
+-- the event is one of another process, the last within the cut that sets a named variable of it,
+-- and the one that ends a value didn't happen before it
 pub record DoesNotWait (s : StatesView) (tokens : List Token) (cut : Cut) (ended e : EventId)
     : Type 0 where
   pub other : e.process ≡ ended.process → ⊥
@@ -27,12 +27,13 @@ pub record DoesNotWait (s : StatesView) (tokens : List Token) (cut : Cut) (ended
   pub untied : IsBefore s ended e → ⊥
 
 -- what is said beside an end that no event at the cut waits for, and where nothing is said
-pub record AreTold (s : StatesView) (tokens : List Token) (cut : Cut) (ended : EventId) : Type 0 where
-  pub told : (e : EventId) → untied s tokens cut ended ≡ Some e → DoesNotWait s tokens cut ended e
-  pub silent : untied s tokens cut ended ≡ None → (process position : ℕ)
-      → (process ≡ ended.process → ⊥)
-      → last_named s tokens process (count cut process) ≡ Some position
-      → IsBefore s ended (place process position)
+pub record AreTold (s : StatesView) (tokens : List Token) (cut : Cut) (ended : EventId) : Type 0
+  where
+    pub told : (e : EventId) → untied s tokens cut ended ≡ Some e → DoesNotWait s tokens cut ended e
+    pub silent : untied s tokens cut ended ≡ None → (process position : ℕ)
+        → (process ≡ ended.process → ⊥)
+        → last_named s tokens process (count cut process) ≡ Some position
+        → IsBefore s ended (place process position)
 
 -- of each event of a run, and each cut within it
 abbrev pub UntiedAreTold : Type 0

@@ -8,6 +8,7 @@ use Rattle.std.specs.Fmt.{decimal, signed_decimal}
 use Rattle.run_model.specs.Cut.{Cut, count}
 use Rattle.run_model.specs.Run.{value_of, process_at}
 use Rattle.pota_base.specs.declared.shape.EventId.{EventId}
+use Rattle.pota_base.specs.Limits.{most_variables}
 use Rattle.log_lines.specs.Spelling.{clock_text}
 use Rattle.event_log.specs.LogText.{name_at}
 use Rattle.event_log.specs.States.{StatesView, trace_of}
@@ -148,7 +149,7 @@ named_row s tokens cut process variable =
 -- a process has at most 16 variables
 abbrev pub process_rows : StatesView → List Token → Cut → ℕ → List ℕ
 process_rows s tokens cut process =
-    each_below (min (length (get_or s.header.vars process [])) 16)
+    each_below (min (length (get_or s.header.vars process [])) most_variables)
     (named_row s tokens cut process)
 
 -- the messages in transit at the cut

@@ -1,6 +1,6 @@
 -- Which event of another process doesn't wait for the one that ends a value.
-use Rattle.std.specs.Prelude.{ℕ, zero, suc, Bool, ◌||◌, ◌==◌, nat_le, List, length, Option, None, Some}
-use Rattle.std.specs.Prelude.{if◌then◌else◌}
+use Rattle.std.specs.Prelude.{ℕ, zero, suc, Bool, ◌||◌, ◌==◌, nat_le, List, length, Option, None}
+use Rattle.std.specs.Prelude.{Some, if◌then◌else◌}
 use Rattle.run_model.specs.Cut.{Cut, count}
 use Rattle.pota_base.specs.declared.shape.EventId.{EventId}
 use Rattle.event_log.specs.LogText.{name_at}

@@ -22,4 +22,5 @@ receipts s sender receiver n =
 abbrev pub in_transit : StatesView → Cut → ℕ → ℕ → ℕ
 in_transit s cut sender receiver =
     if sender == receiver then 0
-    else (sends s sender receiver (count cut sender) - receipts s sender receiver (count cut receiver))
+    else (sends s sender receiver (count cut sender) - receipts s sender receiver
+    (count cut receiver))

@@ -1,7 +1,7 @@
 //! The alternatives of a formula: what stands between its bars that are in no brackets.
 ghost use Rattle.std.specs.Prelude.{◌≡◌, IfOk};
-ghost use Rattle.view_text.specs.Alternatives.{between, alternatives, is_first, begin_with_operators};
-ghost use Rattle.view_text.specs.Alternatives.{told_alternatives};
+ghost use Rattle.view_text.specs.Alternatives.{between, alternatives, is_first};
+ghost use Rattle.view_text.specs.Alternatives.{begin_with_operators, told_alternatives};
 ghost use Rattle.view_text.specs.Claims.{start};
 
 use crate::claims::{Stand, claim_of, depth_behind, is_outer_bar, is_plain, start, walked};

@@ -14,13 +14,13 @@ use std::alloc::Global;
 #[derive(Clone, Copy, Debug, PartialEq, Eq)]
 pub enum Claim {
     /// `EF`
-    Finally,
+    Ef,
     /// `AG`
-    Always,
+    Ag,
     /// `EG`
-    Globally,
+    Eg,
     /// `EX`
-    Next,
+    Ex,
     /// There is no such operator.
     Plain,
 }
@@ -69,10 +69,10 @@ fn claim_of_word(word: Word) -> Claim
     ensures { result ≡ claim_of_word word }
 {
     match word {
-        Word::Ef => Claim::Finally,
-        Word::Ag => Claim::Always,
-        Word::Eg => Claim::Globally,
-        Word::Ex => Claim::Next,
+        Word::Ef => Claim::Ef,
+        Word::Ag => Claim::Ag,
+        Word::Eg => Claim::Eg,
+        Word::Ex => Claim::Ex,
         _ => Claim::Plain,
     }
 }
@@ -91,10 +91,10 @@ fn phrase(claim: Claim) -> &'static [u8]
     ensures { result.now ≡ phrase claim }
 {
     match claim {
-        Claim::Finally => b"some order leads to a cut where the operand of EF holds",
-        Claim::Always => b"the operand of AG holds at each cut of each order",
-        Claim::Globally => b"in some order the operand of EG holds at each cut",
-        Claim::Next => b"the operand of EX holds right behind the next event of its process",
+        Claim::Ef => b"some order leads to a cut where the operand of EF holds",
+        Claim::Ag => b"the operand of AG holds at each cut of each order",
+        Claim::Eg => b"in some order the operand of EG holds at each cut",
+        Claim::Ex => b"the operand of EX holds right behind the next event of its process",
         Claim::Plain => b"what stands under no operator holds where nothing has happened yet",
     }
 }

@@ -3,8 +3,8 @@ ghost use Rattle.std.specs.Prelude.{◌≡◌, ◌<◌, ◌≤◌, [], length, m
 ghost use Rattle.std.specs.List.{AllByRecursion};
 ghost use Rattle.pota_base.specs.Shape.{HasEvent};
 ghost use Rattle.report_lines.specs.Spelling.{PathFits};
-ghost use Rattle.view_text.specs.Shown.{keeps, kept_at, kept_among, shown_above, limit_of, bounds_of};
-ghost use Rattle.view_text.specs.Shown.{is_whole, is_shown};
+ghost use Rattle.view_text.specs.Shown.{keeps, kept_at, kept_among, shown_above, limit_of};
+ghost use Rattle.view_text.specs.Shown.{bounds_of, is_whole, is_shown};
 
 use crate::witnesses::Told;
 use pota_base::{EventId, List, NoMemory};

@@ -14,12 +14,9 @@ use crate::ties::untied;
 use crate::transit::put_channel_rows;
 use cut_lattice::Cut;
 use event_log::States;
-use pota_base::{Bytes, EventId, NoMemory, put_i64};
+use pota_base::{Bytes, EventId, MOST_VARIABLES, NoMemory, put_i64};
 use rctl_grammar::Token;
 use view_parts::{Sought, name_at, names, put_place, variable_name, variables_at};
-
-/// The most variables of a process.
-const MOST_VARIABLES: usize = 16;
 
 // Appends the event that sets a value, or what is said where none does.
 fn put_set_by(
@@ -120,7 +117,8 @@ fn put_ending(
     requires setting { IfSome setting (λ position.
         HasEvent (map length states.now.events) (place process position)) }
     requires cut { CutFits (map length states.now.events) cut.now }
-    ensures { OnOk result (out.new ≡ out.old ++ ending states.now tokens.now cut.now process setting) }
+    ensures { OnOk result (out.new ≡ out.old ++ ending states.now tokens.now cut.now process
+        setting) }
 {
     out.extend_from_slice(b", until ")?;
     put_set_by(out, states, process, b"the end", setting)?;
@@ -131,8 +129,8 @@ fn put_ending(
     out.push(b'\n')
 }
 
-// Appends the value of a variable at the cut, the event that last set it, the one that sets it next,
-// and an event at the cut that doesn't wait for that one.
+// Appends the value of a variable at the cut, the event that last set it, the one that sets it
+// next, and an event at the cut that doesn't wait for that one.
 fn put_value_row(
     out: &mut Bytes,
     states: &States,

@@ -3,8 +3,8 @@ ghost use Rattle.std.specs.Prelude.{◌≡◌, ◌-◌, ◌++◌, ◌∷◌, [],
 ghost use Rattle.std.specs.List.{AllByRecursion, flat_map};
 ghost use Rattle.pota_base.specs.Shape.{HasEvent};
 ghost use Rattle.report_lines.specs.Spelling.{PathFits, WitnessFits, WitnessTextFits};
-ghost use Rattle.view_text.specs.Text.{goal_row, step_rows, path_rows, pair_rows, witness_told, witness_rows};
-ghost use Rattle.view_text.specs.Text.{of_alternative, witness_head};
+ghost use Rattle.view_text.specs.Text.{goal_row, step_rows, path_rows, pair_rows, witness_told};
+ghost use Rattle.view_text.specs.Text.{witness_rows, of_alternative, witness_head};
 
 use crate::columns::put_spaces;
 use crate::events::{put_event_row, put_left_out, put_step_row};

@@ -1,5 +1,6 @@
 -- The count of faults of the source that was read.
 use Rattle.std.proofs.Common.{◌≡◌, ℕ, Option, Some, None, List, inl, inr}
+use Rattle.pota_base.specs.Changes.{change_of, counts_of}
 use Rattle.input_reading.specs.declared.reading.End.{End}
 use Rattle.input_reading.specs.declared.reading.End.TheVariants as end
 use Rattle.view_top.specs.declared.asking.View.{View}
@@ -15,7 +16,7 @@ module _ (lf lf' : ℕ) (asked : View) (e : End) (input : List ℕ) (held held' 
   done : e ≡ end.Done → e ≡ end.Failed → ⊥
   done is failed = cc
 
-  calm_by : (f : Fault) (written : List ℕ) → ((e ≡ end.Failed → ⊥) → lf' ≡ lf) → WritesOf asked e input of of' written (Some f) → IsCalm lf lf' (Some f)
+  calm_by : (f : Fault) (written : List ℕ) → ((e ≡ end.Failed → ⊥) → lf' ≡ lf) → WritesOf asked e input (counts_of of of') written (Some f) → IsCalm lf lf' (Some f)
   calm_by fault.Usage written calm (inl x) = absurd x.1
   calm_by fault.Usage written calm (inr x) = calm (ended x.1)
   calm_by (fault.Log f) written calm x = tt
@@ -32,6 +33,6 @@ module _ (lf lf' : ℕ) (asked : View) (e : End) (input : List ℕ) (held held' 
   calm_by fault.Write written calm (inr x) = calm (ended x.1)
   calm_by fault.Memory written calm x = tt
 
-  pub calm_view : (f : Option Fault) → ((e ≡ end.Failed → ⊥) → lf' ≡ lf) → PutsView asked e input held held' of of' f → IsCalm lf lf' f
+  pub calm_view : (f : Option Fault) → ((e ≡ end.Failed → ⊥) → lf' ≡ lf) → PutsView asked e input (change_of held held' of of') f → IsCalm lf lf' f
   calm_view None calm h = calm (ended h.to.0)
   calm_view (Some f) calm h = calm_by f h.written calm h.to

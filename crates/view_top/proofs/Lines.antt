@@ -5,13 +5,14 @@ use Rattle.std.specs.Fmt.{decimal}
 use Rattle.std.specs.Io.KnownBytes.{Appends}
 use Rattle.std.proofs.KnownBytes.{Appends-trans, Appends-nil}
 use Rattle.pota_base.specs.Outside.{HasCause, Rose, AppendsPrefix}
+use Rattle.pota_base.specs.Changes.{change_of}
 use Rattle.fault_line.specs.Lines.{Told}
 use Rattle.view_top.specs.inside.Faults.{report_line}
 use Rattle.view_top.specs.inside.Telling.{Puts}
 
 -- a whole text, or a front of it where a write failed
 pub told_text : {T E : Type 0} (r : Result T E) (old new : Option (List ℕ)) (before now : ℕ) (text : List ℕ)
-    → OnOk r (Appends old new text) → OnErr r (AppendsPrefix old new text) → HasCause before now r → Told old new before now text
+    → OnOk r (Appends old new text) → OnErr r (AppendsPrefix old new text) → HasCause before now r → Told (change_of old new before now) text
 told_text (Ok x) old new before now text ok err cause = record { whole = λ calm. ok; part = (text, ([], sym (append-nil text)), ok) }
 told_text (Err e) old new before now text ok err cause = record { whole = λ calm. absurd (calm cause.failed); part = err }
 
@@ -68,5 +69,5 @@ report_line_is line = ap (λ (t : List ℕ). codes "pota_view: report line " ++ 
 -- ---- no text
 
 -- nothing was written, and nothing was to be
-pub untold : (old : Option (List ℕ)) (count : ℕ) → Told old old count count []
+pub untold : (old : Option (List ℕ)) (count : ℕ) → Told (change_of old old count count) []
 untold old count = record { whole = λ calm. Appends-nil old; part = ([], ([], refl), Appends-nil old) }

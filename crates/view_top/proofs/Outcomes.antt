@@ -4,6 +4,7 @@ use Rattle.std.specs.Prelude.{Result, Ok, Err, IfOk, IfErr, MatchResult}
 use Rattle.std.proofs.lemmas.Bool.{false≢true}
 use Rattle.std.specs.Io.KnownBytes.{IsAtEnd}
 use Rattle.pota_base.specs.Outside.{Rose}
+use Rattle.pota_base.specs.Changes.{behind_of, change_of, counts_of, left_of}
 use Rattle.event_log.specs.declared.item.LogFault.{LogFault}
 use Rattle.event_log.specs.Faults.{end_fault}
 use Rattle.event_log.specs.LogText.{onto}
@@ -86,17 +87,17 @@ module _ (input : Input) (e : End) (is : e ≡ end.Ended) (trace : TraceView) (s
 
 -- ---- the call
 
-pub has_come : (left' : Option (List ℕ)) (lf lf' : ℕ) (input : Input) (bytes : List ℕ) (e : End) → Ends left' lf lf' (IsOpen input) (IsDone input) bytes e → HasCome e input bytes
+pub has_come : (left' : Option (List ℕ)) (lf lf' : ℕ) (input : Input) (bytes : List ℕ) (e : End) → Ends (left_of left' lf lf') (IsOpen input) (IsDone input) bytes e → HasCome e input bytes
 has_come left' lf lf' input bytes end.Ended came = came.1
 has_come left' lf lf' input bytes end.Done came = came
 has_come left' lf lf' input bytes end.Failed came = came.1
 
 module _ (left' : Option (List ℕ)) (lf lf' of of' : ℕ) (words : List (List ℕ)) (asked : View) (asks : view_asked words ≡ Some asked) (input : Input) (bytes written : List ℕ) where
   abbrev Came : End → Type 0
-  Came e = Ends left' lf lf' (IsOpen input) (IsDone input) bytes e
+  Came e = Ends (left_of left' lf lf') (IsOpen input) (IsDone input) bytes e
 
   abbrev SaysSo : Option Fault → Type 0
-  SaysSo f = Says f left' lf lf' of of' words bytes written
+  SaysSo f = Says f (behind_of left' lf lf' of of') words bytes written
 
   at_end : (e : End) → Came e → e ≡ end.Ended → IsAtEnd left'
   at_end e came is = (subst Came is came).0
@@ -118,14 +119,14 @@ module _ (left' : Option (List ℕ)) (lf lf' of of' : ℕ) (words : List (List �
   unread e fault.Write came none why = absurd why
   unread e fault.Memory came none why = none
 
-  says_so : (e : End) (f : Option Fault) → Came e → WritesOf asked e bytes of of' written f → SaysSo f
+  says_so : (e : End) (f : Option Fault) → Came e → WritesOf asked e bytes (counts_of of of') written f → SaysSo f
   says_so e None came to = answered e written came to.0 to.1
   says_so e (Some f) came (inl to) = unread e f came to.0 to.1
   says_so e (Some f) came (inr to) =
       subst (λ (x : Fault). SaysSo (Some x)) (sym to.0) (to.2, answered e to.2 came to.1 to.3, to.4, to.5)
 
 pub viewed : (left left' held held' : Option (List ℕ)) (lf lf' of of' : ℕ) (words : List (List ℕ)) (asked : View) → view_asked words ≡ Some asked → (input : Input) (e : End) (f : Option Fault)
-    → ReadsAll left left' lf lf' (IsOpen input) (IsDone input) [] e → ((bytes : List ℕ) → HasCome e input bytes → PutsView asked e bytes held held' of of' f) → HasViewed left left' held held' lf lf' of of' words f
+    → ReadsAll (change_of left left' lf lf') (IsOpen input) (IsDone input) [] e → ((bytes : List ℕ) → HasCome e input bytes → PutsView asked e bytes (change_of held held' of of') f) → HasViewed (change_of left left' lf lf') (change_of held held' of of') words f
 viewed left left' held held' lf lf' of of' words asked asks input e f all puts =
     let put = puts all.read (has_come left' lf lf' input all.read e all.to) in
     record {

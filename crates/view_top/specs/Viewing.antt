@@ -4,6 +4,7 @@ use Rattle.std.specs.Prelude.{◌≡◌, ℕ, ◌-◌, ◌≤◌, Bool, true, fa
 use Rattle.std.specs.Prelude.{Option, None, Some}
 use Rattle.std.specs.Io.KnownBytes.{Appends, Consumes, IsAtEnd}
 use Rattle.pota_base.specs.Outside.{Rose, IsPrefix}
+use Rattle.pota_base.specs.Changes.{Behind, Change, behind_both}
 use Rattle.event_log.specs.LogEnd.{behind_log}
 use Rattle.event_log.specs.States.{StatesView}
 use Rattle.fault_kinds.specs.declared.refusal.Refusal.TheVariants as refusal
@@ -97,34 +98,35 @@ pub record IsAnswer (left : Option (List ℕ)) (words : List (List ℕ)) (read s
 -- counts of faults before and after, and the words. Only a view is written, or where that failed
 -- its front. A read fault comes behind the faults of the log's bytes, and before those of the
 -- report, which is judged whole.
-abbrev pub Says : Option Fault → Option (List ℕ) → (lf lf' of of' : ℕ) → List (List ℕ) → List ℕ
-    → List ℕ → Type 0
-Says None left lf lf' of of' words read written = IsAnswer left words read written
-Says (Some fault.Usage) left lf lf' of of' words read written =
+abbrev pub Says : Option Fault → (behind : Behind) → List (List ℕ) → List ℕ → List ℕ → Type 0
+Says None behind words read written = IsAnswer behind.rest words read written
+Says (Some fault.Usage) behind words read written =
     (written ≡ []) × (read ≡ []) × (view_asked words ≡ None)
-Says (Some (fault.Log f)) left lf lf' of of' words read written =
-    (written ≡ []) × (ended : Bool) × (ended ≡ true → IsAtEnd left)
+Says (Some (fault.Log f)) behind words read written =
+    (written ≡ []) × (ended : Bool) × (ended ≡ true → IsAtEnd behind.rest)
     × ((log_due ended read).fault ≡ Some (refusal.Log f))
-Says (Some fault.NoReport) left lf lf' of of' words read written =
-    (written ≡ []) × IsAtEnd left × LacksReport read
-Says (Some (fault.Report f)) left lf lf' of of' words read written =
-    (written ≡ []) × IsAtEnd left × HasNoReport read f.line
-Says (Some fault.TooLong) left lf lf' of of' words read written =
+Says (Some fault.NoReport) behind words read written =
+    (written ≡ []) × IsAtEnd behind.rest × LacksReport read
+Says (Some (fault.Report f)) behind words read written =
+    (written ≡ []) × IsAtEnd behind.rest × HasNoReport read f.line
+Says (Some fault.TooLong) behind words read written =
     (written ≡ []) × ((log_due false read).fault ≡ None) × (most_bytes ≤ length read)
-Says (Some fault.OtherLog) left lf lf' of of' words read written =
-    (written ≡ []) × IsAtEnd left × HasOtherReport read
-Says (Some fault.Read) left lf lf' of of' words read written =
-    (written ≡ []) × ((log_due false read).fault ≡ None) × Rose lf lf'
-Says (Some fault.Write) left lf lf' of of' words read written =
-    (shown : List ℕ) × IsAnswer left words read shown × IsPrefix written shown × Rose of of'
-Says (Some fault.Memory) left lf lf' of of' words read written = written ≡ []
+Says (Some fault.OtherLog) behind words read written =
+    (written ≡ []) × IsAtEnd behind.rest × HasOtherReport read
+Says (Some fault.Read) behind words read written =
+    (written ≡ []) × ((log_due false read).fault ≡ None) × Rose behind.source.before
+    behind.source.after
+Says (Some fault.Write) behind words read written =
+    (shown : List ℕ) × IsAnswer behind.rest words read shown × IsPrefix written shown × Rose
+    behind.sink.before behind.sink.after
+Says (Some fault.Memory) behind words read written = written ≡ []
 
 -- By the words, what the source has left, what the sink holds and their counts of faults, before
 -- and after: these bytes were read and written, and the outcome says this of them.
-pub record HasViewed (left left' held held' : Option (List ℕ)) (lf lf' of of' : ℕ)
-    (words : List (List ℕ)) (fault : Option Fault) : Type 0 where
-  pub read : List ℕ
-  pub written : List ℕ
-  pub consumed : Consumes left left' read
-  pub wrote : Appends held held' written
-  pub says : Says fault left' lf lf' of of' words read written
+pub record HasViewed (source sink : Change) (words : List (List ℕ)) (fault : Option Fault) : Type 0
+  where
+    pub read : List ℕ
+    pub written : List ℕ
+    pub consumed : Consumes source.before source.after read
+    pub wrote : Appends sink.before sink.after written
+    pub says : Says fault (behind_both source sink) words read written

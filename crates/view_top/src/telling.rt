@@ -1,5 +1,6 @@
 //! The one line that tells why there is no view. It takes no memory.
 ghost use Rattle.std.specs.Prelude.{◌≡◌, Some};
+ghost use Rattle.pota_base.specs.Changes.{of_sink};
 ghost use Rattle.fault_line.specs.Lines.{Told, line_by};
 ghost use Rattle.view_top.specs.Faults.{line_of, program};
 ghost use Rattle.view_top.specs.inside.Faults.{report_line};
@@ -26,32 +27,28 @@ fn write_report_line<D: Sink>(diag: &mut D, line: u64) -> Result<(), Failed>
 
 // Tells of a fault of the report at this line.
 fn put_report_line<D: Sink>(diag: &mut D, line: u64)
-    ensures { Told (D.held diag.old) (D.held diag.new) (D.faults diag.old) (D.faults diag.new)
-        (report_line line) }
+    ensures { Told (of_sink D.Sink diag.old diag.new) (report_line line) }
 {
     let _ = write_report_line(diag, line);
 }
 
 // Writes a line that needs no number.
 fn put<D: Sink>(diag: &mut D, line: &[u8])
-    ensures { Told (D.held diag.old) (D.held diag.new) (D.faults diag.old) (D.faults diag.new)
-        line.now }
+    ensures { Told (of_sink D.Sink diag.old diag.new) line.now }
 {
     let _ = write_all(diag, line);
 }
 
 // Tells of a fault that `pota` may have too, as it does.
 fn put_shared<D: Sink>(diag: &mut D, fault: Shared)
-    ensures { Told (D.held diag.old) (D.held diag.new) (D.faults diag.old) (D.faults diag.new)
-        (line_by program (Some fault)) }
+    ensures { Told (of_sink D.Sink diag.old diag.new) (line_by program (Some fault)) }
 {
     fault_line::tell(diag, b"pota_view", &Some(fault));
 }
 
 /// Tells `diag` why there is no view. Whether that succeeds changes nothing else.
 pub fn tell<D: Sink>(diag: &mut D, fault: &Fault)
-    ensures { Told (D.held diag.old) (D.held diag.new) (D.faults diag.old) (D.faults diag.new)
-        (line_of (Some fault.now)) }
+    ensures { Told (of_sink D.Sink diag.old diag.new) (line_of (Some fault.now)) }
 {
     match fault {
         Fault::Usage => put(

@@ -1,5 +1,6 @@
 //! The one call that the program runs.
 ghost use Rattle.std.specs.Prelude.{◌≡◌, ℕ, List as ListOf, map, string_bytes};
+ghost use Rattle.pota_base.specs.Changes.{of_sink, of_source};
 ghost use Rattle.fault_line.specs.Lines.{Told};
 ghost use Rattle.view_top.specs.Calm.{IsCalm};
 ghost use Rattle.view_top.specs.Faults.{line_of, exit_status};
@@ -43,9 +44,8 @@ fn put_view<O: Sink>(
     out: &mut O,
 ) -> Option<Fault>
     requires { (bytes : ListOf ℕ) × HasCome end input.old bytes }
-    ensures { (bytes : ListOf ℕ) → HasCome end input.old bytes
-        → PutsView asked end bytes (O.held out.old) (O.held out.new) (O.faults out.old)
-        (O.faults out.new) result }
+    ensures { (bytes : ListOf ℕ) → HasCome end input.old bytes → PutsView asked end bytes
+        (of_sink O.Sink out.old out.new) result }
 {
     let shown = match view_in(alloc, asked, input, end) {
         Ok(shown) => shown,
@@ -64,9 +64,8 @@ fn answer<S: Source, O: Sink>(
     input: &mut S,
     out: &mut O,
 ) -> Option<Fault>
-    ensures viewed { HasViewed (S.left input.old) (S.left input.new) (O.held out.old)
-        (O.held out.new) (S.faults input.old) (S.faults input.new) (O.faults out.old)
-        (O.faults out.new) (map string_bytes words.now) result }
+    ensures viewed { HasViewed (of_source S.Source input.old input.new)
+        (of_sink O.Sink out.old out.new) (map string_bytes words.now) result }
     ensures calm { IsCalm (S.faults input.old) (S.faults input.new) result }
 {
     let Some(asked) = view_asked(words) else {
@@ -91,12 +90,10 @@ pub fn view<S: Source, O: Sink, D: Sink>(
     out: &mut O,
     diag: &mut D,
 ) -> Viewed
-    ensures viewed { HasViewed (S.left input.old) (S.left input.new) (O.held out.old)
-        (O.held out.new) (S.faults input.old) (S.faults input.new) (O.faults out.old)
-        (O.faults out.new) (map string_bytes words.now) result.fault }
+    ensures viewed { HasViewed (of_source S.Source input.old input.new)
+        (of_sink O.Sink out.old out.new) (map string_bytes words.now) result.fault }
     ensures calm { IsCalm (S.faults input.old) (S.faults input.new) result.fault }
-    ensures told { Told (D.held diag.old) (D.held diag.new) (D.faults diag.old) (D.faults diag.new)
-        (line_of result.fault) }
+    ensures told { Told (of_sink D.Sink diag.old diag.new) (line_of result.fault) }
 {
     let fault = answer(alloc, words, input, out);
     if let Some(fault) = &fault {

@@ -4,6 +4,7 @@ use Rattle.std.specs.Prelude.{Bool, true, false, not, ◌&&◌, ◌||◌, if◌t
 use Rattle.std.specs.Prelude.{Option, Some, None, length, take, get_or, IsTrue}
 use Rattle.std.specs.Cmp.Lexicographic.{pointwise}
 use Rattle.std.specs.Ordering.{int_eq}
+use Rattle.pota_base.specs.Limits.{most_variables}
 
 -- one truth value per state, which is true exactly where the fact holds at the state's place
 pub record AnswerWhere (states : List (List ℤ)) (P : ℕ → Type 0) (answers : List Bool) : Type 0
@@ -46,7 +47,7 @@ pub record IsCalmAt (states : List (List ℤ)) (k : ℕ) : Type 0 where
 
 -- a state as it is kept
 abbrev pub kept : List ℤ → List ℤ
-kept state = take 16 state
+kept state = take most_variables state
 
 -- the state just before, where one was fed
 abbrev pub state_before : Bool → ℕ → List ℤ → Option (List ℤ)

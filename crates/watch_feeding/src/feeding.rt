@@ -21,12 +21,8 @@ pub fn feed_states(
     row: &mut List<bool>,
 )
     requires { MayBeFed states.now process from row.old }
-    ensures fed { IsFed
-        (take from row.old)
-        (drop from (states_at states.now process))
-        (answers watch.old)
-        row.new
-        (answers watch.new) }
+    ensures fed { IsFed (take from row.old) (drop from (states_at states.now process))
+        (answers watch.old) row.new (answers watch.new) }
     ensures kept { take from row.new ≡ take from row.old }
     ensures full { length row.new ≡ len_at states.now process + 1 }
 {
@@ -50,11 +46,8 @@ pub fn feed_row(
 )
     requires there { w < length rows.old }
     requires row { MayBeFed states.now process from (get_or rows.old w []) }
-    ensures fed { IsFed
-        (take from (get_or rows.old w []))
-        (drop from (states_at states.now process))
-        (answers watch.old)
-        (get_or rows.new w [])
+    ensures fed { IsFed (take from (get_or rows.old w []))
+        (drop from (states_at states.now process)) (answers watch.old) (get_or rows.new w [])
         (answers watch.new) }
     ensures kept { take from (get_or rows.new w []) ≡ take from (get_or rows.old w []) }
     ensures full { length (get_or rows.new w []) ≡ len_at states.now process + 1 }
@@ -80,16 +73,11 @@ pub fn feed_watches(
     requires watches { length watches.old.items ≡ length watch_process.now }
     requires from { AreWithin watch_process.now from.now rows.old }
 
-    ensures fed { (w p : ℕ) (before after : _)
-        → get_or watch_process.now w None ≡ Some p
-        → slice_get watches.old.items w ≡ Some before
-        → slice_get watches.new.items w ≡ Some after
-        → IsFed
-        (take (get_or from.now w 0) (get_or rows.old w []))
-        (drop (get_or from.now w 0) (states_at states.now p))
-        (said_by answers before)
-        (get_or rows.new w [])
-        (said_by answers after) }
+    ensures fed { (w p : ℕ) (before after : _) → get_or watch_process.now w None ≡ Some p
+        → slice_get watches.old.items w ≡ Some before → slice_get watches.new.items w ≡ Some after
+        → IsFed (take (get_or from.now w 0) (get_or rows.old w []))
+        (drop (get_or from.now w 0) (states_at states.now p)) (said_by answers before)
+        (get_or rows.new w []) (said_by answers after) }
     ensures rows { RowsAreFed watch_process.now from.now rows.old rows.new }
     ensures full { (p : ℕ) → AreFull states.now watch_process.now rows.new p }
     ensures places { KeepPlaces watch_process.now watches.old.items watches.new.items }

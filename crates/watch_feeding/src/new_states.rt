@@ -23,16 +23,11 @@ pub fn feed_new_states(
     requires rows { HaveRows states.now watch_process.now rows.old }
     requires watches { length watches.old.items ≡ length watch_process.now }
 
-    ensures fed { OnOk result ((w p : ℕ) (before after : _)
-        → get_or watch_process.now w None ≡ Some p
-        → slice_get watches.old.items w ≡ Some before
-        → slice_get watches.new.items w ≡ Some after
-        → IsFed
-        (get_or rows.old w [])
-        (drop (length (get_or rows.old w [])) (states_at states.now p))
-        (said_by answers before)
-        (get_or rows.new w [])
-        (said_by answers after)) }
+    ensures fed { OnOk result ((w p : ℕ) (before after : _) → get_or watch_process.now w None ≡ Some
+        p → slice_get watches.old.items w ≡ Some before → slice_get watches.new.items w ≡ Some after
+        → IsFed (get_or rows.old w [])
+        (drop (length (get_or rows.old w [])) (states_at states.now p)) (said_by answers before)
+        (get_or rows.new w []) (said_by answers after)) }
     ensures full { OnOk result ((p : ℕ) → AreFull states.now watch_process.now rows.new p) }
     ensures grown { RowsHaveGrown watch_process.now rows.old rows.new }
     ensures places { KeepPlaces watch_process.now watches.old.items watches.new.items }

@@ -4,6 +4,7 @@ use Rattle.std.specs.Prelude.{IfOk, OnErr}
 use Rattle.std.specs.Io.KnownBytes.{Consumes, IsAtEnd}
 use Rattle.std.proofs.lemmas.Option.{none-some}
 use Rattle.pota_base.specs.declared.fault.NoMemory.{NoMemory}
+use Rattle.pota_base.specs.Changes.{behind_of, change_of, counts_of}
 use Rattle.input_reading.specs.Intakes.{ReadsShort}
 use Rattle.event_log.specs.declared.item.LogFault.{LogFault}
 use Rattle.event_log.specs.declared.log.Log.{Log}
@@ -124,16 +125,16 @@ module _ (form : Input) (aim : Aim) (each : Bool) (bytes : List ℕ) (log : Log)
   }
 
   module _ (left : Option (List ℕ)) (lf lf' of of' : ℕ) (at : IsAtEnd left) where
-    stops : (f : StopCause) (n : ℕ) (text : List ℕ) → WholeStops f n of of' aim log text
-        → StopsBy (reading_by form) (placed_cause (place_by places) f) n left lf lf' of of' aim each bytes text
+    stops : (f : StopCause) (n : ℕ) (text : List ℕ) → WholeStops f n (counts_of of of') aim log text
+        → StopsBy (reading_by form) (placed_cause (place_by places) f) n (behind_of left lf lf' of of') aim each bytes text
     stops (causes.Refused why) n text w = (true, λ _. at, refused_so text why n w)
     stops causes.Write n text w =
         (true, λ _. at, subst (λ (logs : List Prefix). HasPartOf aim logs text n) (sym (all_reported w.0.whole w.0.is)) w.0.part, w.1)
     stops causes.Memory n text w = front form aim each bytes text n w.0 w.1
     stops causes.Read n text w = absurd w
 
-    pub whole_checks : (ended : Result Verdict Stop) (text : List ℕ) → WholeTo of of' aim log text ended
-        → ChecksBy (reading_by form) left lf lf' of of' aim each bytes text (placed_result (place_by places) ended)
+    pub whole_checks : (ended : Result Verdict Stop) (text : List ℕ) → WholeTo (counts_of of of') aim log text ended
+        → ChecksBy (reading_by form) (behind_of left lf lf' of of') aim each bytes text (placed_result (place_by places) ended)
     whole_checks (Ok v) text w = (at, verdict text v w)
     whole_checks (Err stop) text w = stops stop.cause stop.batches text w
 
@@ -141,10 +142,10 @@ module _ (form : Input) (aim : Aim) (each : Bool) (bytes : List ℕ) (log : Log)
 
 module _ (form : Input) (aim : Aim) (each : Bool) (left left' held held' : Option (List ℕ)) (lf lf' of of' : ℕ) where
   abbrev Checked : Result Verdict Stop → Type 0
-  Checked result = HasCheckedBy (reading_by form) left left' held held' lf lf' of of' aim each result
+  Checked result = HasCheckedBy (reading_by form) (change_of left left' lf lf') (change_of held held' of of') aim each result
 
-  stopped : (cause : StopCause) (result : Result Verdict Stop) (read : List ℕ) → Consumes left left' read → lf ≤ lf' → HasStopped held held' of of' cause result
-      → StopsBy (reading_by form) cause 0 left' lf lf' of of' aim each read [] → Checked result
+  stopped : (cause : StopCause) (result : Result Verdict Stop) (read : List ℕ) → Consumes left left' read → lf ≤ lf' → HasStopped (change_of held held' of of') cause result
+      → StopsBy (reading_by form) cause 0 (behind_of left' lf lf' of of') aim each read [] → Checked result
   stopped cause result read consumed later s stops = subst Checked (sym s.told) (record {
     read = read;
     written = [];
@@ -156,8 +157,8 @@ module _ (form : Input) (aim : Aim) (each : Bool) (left left' held held' : Optio
   })
 
   -- what was read is checked as its form has it
-  pub checked : (standing : Result Standing NoMemory) (result : Result Verdict Stop) → IfOk standing (HasStood form left left' lf lf') → OnErr standing (ReadsShort left left' lf lf')
-      → CanBeChecked standing → ChecksStanding held held' of of' aim standing result → Checked result
+  pub checked : (standing : Result Standing NoMemory) (result : Result Verdict Stop) → IfOk standing (HasStood form left left' lf lf') → OnErr standing (ReadsShort (change_of left left' lf lf'))
+      → CanBeChecked standing → ChecksStanding (change_of held held' of of') aim standing result → Checked result
   checked (Ok (Whole log places)) result stood short can c = subst Checked (sym c.told) (record {
     read = stood.read;
     written = c.checked.written;
@@ -178,7 +179,7 @@ module _ (form : Input) (aim : Aim) (each : Bool) (left left' held held' : Optio
 
 -- unless a read failed, the count of faults of the source is as it was
 pub calm_so_far : (aim : Aim) (held held' : Option (List ℕ)) (lf lf' of of' : ℕ) (standing : Result Standing NoMemory) (result : Result Verdict Stop) → ((standing ≡ Ok Failed → ⊥) → lf' ≡ lf)
-    → ChecksStanding held held' of of' aim standing result → IsCalmUnlessRead lf lf' result
+    → ChecksStanding (change_of held held' of of') aim standing result → IsCalmUnlessRead lf lf' result
 calm_so_far aim held held' lf lf' of of' (Ok (Whole log places)) result calm c = calm_so lf lf' result (calm (λ e. cc))
 calm_so_far aim held held' lf lf' of of' (Ok (Faulty r)) result calm c = calm_so lf lf' result (calm (λ e. cc))
 calm_so_far aim held held' lf lf' of of' (Ok Failed) result calm c = subst (IsCalmUnlessRead lf lf') (sym c.told) (λ other. absurd (other refl))

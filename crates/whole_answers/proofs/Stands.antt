@@ -6,6 +6,8 @@ use Rattle.std.specs.Io.KnownBytes.{IsAtEnd}
 use Rattle.std.proofs.lemmas.Bool.{lt-ltb, le-ltb}
 use Rattle.std.proofs.lemmas.List.{take-append-drop, length-take-le}
 use Rattle.pota_base.specs.declared.fault.NoMemory.{NoMemory}
+use Rattle.pota_base.specs.Limits.{longest_kept, longest_log}
+use Rattle.pota_base.specs.Changes.{change_of, left_of}
 use Rattle.input_reading.specs.declared.kept.Kept.{Kept}
 use Rattle.input_reading.specs.declared.reading.End.{End}
 use Rattle.input_reading.specs.declared.reading.End.TheVariants as end
@@ -42,36 +44,36 @@ use Rattle.whole_answers.specs.inside.Checking.{CanBeChecked}
 
 -- the bytes that came, of which more may matter or not
 abbrev Open : Kept → List ℕ → Type 0
-Open k bytes = (k.bytes ≡ bytes) × (length bytes < 67108865)
+Open k bytes = (k.bytes ≡ bytes) × (length bytes < longest_kept)
 
 abbrev Done : Kept → List ℕ → Type 0
-Done k bytes = (k.bytes ≡ take 67108865 bytes) × (67108865 ≤ length bytes)
+Done k bytes = (k.bytes ≡ take longest_kept bytes) × (longest_kept ≤ length bytes)
 
-no_fault : (bytes : List ℕ) → length bytes < 67108865 → clocks_fault false bytes ≡ None
-no_fault bytes few = ap (λ (b : Bool). if b then import_refusal bytes else None) (le-ltb 67108864 (length bytes) (omega (arith, few)))
+no_fault : (bytes : List ℕ) → length bytes < longest_kept → clocks_fault false bytes ≡ None
+no_fault bytes few = ap (λ (b : Bool). if b then import_refusal bytes else None) (le-ltb longest_log (length bytes) (omega (arith, few)))
 
 some_refusal : (fault : Option ImportFault) → is_some fault ≡ true → option_map (λ f. refusal.Import f) fault ≡ None → ⊥
 some_refusal None some none = absurd cc
 some_refusal (Some f) some none = absurd cc
 
 -- a text that is too long has the fault of its front
-module _ (bytes : List ℕ) (long : 67108865 ≤ length bytes) where
+module _ (bytes : List ℕ) (long : longest_kept ≤ length bytes) where
   front : List ℕ
-  front = take 67108865 bytes
+  front = take longest_kept bytes
 
-  front_long : 67108865 ≤ length (take 67108865 bytes)
-  front_long = let same = length-take-le 67108865 bytes long in omega (arith, same)
+  front_long : longest_kept ≤ length (take longest_kept bytes)
+  front_long = let same = length-take-le longest_kept bytes long in omega (arith, same)
 
-  same_fault : import_refusal bytes ≡ import_refusal (take 67108865 bytes)
+  same_fault : import_refusal bytes ≡ import_refusal (take longest_kept bytes)
   same_fault =
-      ap import_refusal (sym (take-append-drop 67108865 bytes))
-      ∙ ap (option_map (λ f. refusal.Import f)) (long_texts_are_faulty (take 67108865 bytes) (drop 67108865 bytes) front_long).1
+      ap import_refusal (sym (take-append-drop longest_kept bytes))
+      ∙ ap (option_map (λ f. refusal.Import f)) (long_texts_are_faulty (take longest_kept bytes) (drop longest_kept bytes) front_long).1
 
   is_long : is_too_long bytes ≡ true
-  is_long = lt-ltb 67108864 (length bytes) (omega (arith, long))
+  is_long = lt-ltb longest_log (length bytes) (omega (arith, long))
 
-  done_so : (left : Option (List ℕ)) (lf lf' : ℕ) (s : Standing) → StandsAt clocks (take 67108865 bytes) s → StandsTo clocks left lf lf' bytes s
-  done_so left lf lf' (Whole log places) is = absurd (some_refusal (fault_of (take 67108865 bytes)) (long_texts_are_faulty (take 67108865 bytes) [] front_long).0 is.faultless)
+  done_so : (left : Option (List ℕ)) (lf lf' : ℕ) (s : Standing) → StandsAt clocks (take longest_kept bytes) s → StandsTo clocks left lf lf' bytes s
+  done_so left lf lf' (Whole log places) is = absurd (some_refusal (fault_of (take longest_kept bytes)) (long_texts_are_faulty (take longest_kept bytes) [] front_long).0 is.faultless)
   done_so left lf lf' (Faulty r) is = (false, λ e. absurd cc, ap (λ (b : Bool). if b then import_refusal bytes else None) is_long ∙ same_fault ∙ is)
   done_so left lf lf' Failed is = absurd is
 
@@ -88,8 +90,8 @@ pub err_so : {T : Type 0} (r : Result T NoMemory) (A : Type 0) → A → OnErr r
 err_so (Ok x) A a = tt
 err_so (Err none) A a = a
 
-module _ (left left' : Option (List ℕ)) (lf lf' : ℕ) (kept : Kept) (e : End) (all : ReadsAll left left' lf lf' (Open kept) (Done kept) [] e) where
-  pub read_short : ReadsShort left left' lf lf'
+module _ (left left' : Option (List ℕ)) (lf lf' : ℕ) (kept : Kept) (e : End) (all : ReadsAll (change_of left left' lf lf') (Open kept) (Done kept) [] e) where
+  pub read_short : ReadsShort (change_of left left' lf lf')
   read_short = record { read = all.read; consumed = all.consumed; later = all.later }
 
   module _ (text : List ℕ) (text_is : text ≡ kept.bytes) (r : Result Standing NoMemory) (stands : IfOk r (StandsAt clocks text)) where
@@ -98,7 +100,7 @@ module _ (left left' : Option (List ℕ)) (lf lf' : ℕ) (kept : Kept) (e : End)
       read = all.read;
       consumed = all.consumed;
       later = all.later;
-      to = let to = subst (Ends left' lf lf' (Open kept) (Done kept) all.read) is all.to in
+      to = let to = subst (Ends (left_of left' lf lf') (Open kept) (Done kept) all.read) is all.to in
           ended_so left' lf lf' all.read s to.0 (subst (λ (bs : List ℕ). StandsAt clocks bs s) (text_is ∙ to.1.0) h);
     }) stands
 
@@ -107,13 +109,13 @@ module _ (left left' : Option (List ℕ)) (lf lf' : ℕ) (kept : Kept) (e : End)
       read = all.read;
       consumed = all.consumed;
       later = all.later;
-      to = let to = subst (Ends left' lf lf' (Open kept) (Done kept) all.read) is all.to in
+      to = let to = subst (Ends (left_of left' lf lf') (Open kept) (Done kept) all.read) is all.to in
           done_so all.read to.1 left' lf lf' s (subst (λ (bs : List ℕ). StandsAt clocks bs s) (text_is ∙ to.0) h);
     }) stands
 
   pub records_failed : e ≡ end.Failed → HasStood clocks left left' lf lf' Failed
   records_failed is =
-      let to = subst (Ends left' lf lf' (Open kept) (Done kept) all.read) is all.to in
+      let to = subst (Ends (left_of left' lf lf') (Open kept) (Done kept) all.read) is all.to in
       record { read = all.read; consumed = all.consumed; later = all.later; to = (no_fault all.read to.1.1, to.0) }
 
 -- ---- several logs
@@ -127,7 +129,7 @@ merged_some false bytes f some = ap (option_map (λ x. refusal.Merge x)) some
 merged_some true bytes f some = ap (option_map (λ x. refusal.Merge x)) some
 
 module _ (left left' : Option (List ℕ)) (lf lf' : ℕ) (g : Gathered) (read_so : Gathers left left' lf lf' g) where
-  pub gathered_short : ReadsShort left left' lf lf'
+  pub gathered_short : ReadsShort (change_of left left' lf lf')
   gathered_short = record { read = read_so.read; consumed = read_so.consumed; later = read_so.later }
 
   pub may_merge : (logs slice : List Log) → slice ≡ logs → g ≡ gathered.Logs logs → CanMerge slice

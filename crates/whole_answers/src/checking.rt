@@ -1,5 +1,6 @@
 //! The check of an input once it was read.
 ghost use Rattle.std.specs.Prelude.{◌≡◌, Bool};
+ghost use Rattle.pota_base.specs.Changes.{of_sink, of_source};
 ghost use Rattle.log_rules.specs.Judgement.{waiting};
 ghost use Rattle.log_answers.specs.PassedOn.{Aim, said_by};
 ghost use Rattle.log_answers.specs.PassedOn.{IsCheckOf};
@@ -35,8 +36,7 @@ fn check_standing<R: Threads + Sync, G: Gate, L: Ledger, O: Sink>(
     requires can { CanBeChecked standing }
     requires check { (aim : Aim) × IsCheckOf (said_by answers) aim checking.old.check waiting }
     ensures { (aim : Aim) → IsCheckOf (said_by answers) aim checking.old.check waiting
-        → ChecksStanding (O.held out.old) (O.held out.new) (O.faults out.old) (O.faults out.new) aim
-        standing result }
+        → ChecksStanding (of_sink O.Sink out.old out.new) aim standing result }
 {
     match standing {
         Ok(Standing::Whole(log, places)) => places.told(checking.check_whole(means, log, out)),
@@ -55,10 +55,8 @@ pub fn check_clocks<R: Threads + Sync, G: Gate, L: Ledger, S: Source, O: Sink>(
 ) -> Result<Verdict, Stop>
     requires check { (aim : Aim) × IsCheckOf (said_by answers) aim checking.old.check waiting }
     ensures checks { (aim : Aim) → IsCheckOf (said_by answers) aim checking.old.check waiting
-        → (each : Bool)
-        → HasCheckedBy clocks_reading (S.left source.old) (S.left source.new) (O.held out.old)
-        (O.held out.new) (S.faults source.old) (S.faults source.new) (O.faults out.old)
-        (O.faults out.new) aim each result }
+        → (each : Bool) → HasCheckedBy clocks_reading (of_source S.Source source.old source.new)
+        (of_sink O.Sink out.old out.new) aim each result }
     ensures calm { IsCalmUnlessRead (S.faults source.old) (S.faults source.new) result }
 {
     let standing = read_records(means.alloc, source);
@@ -74,10 +72,8 @@ pub fn check_sources<R: Threads + Sync, G: Gate, L: Ledger, S: Source, O: Sink>(
 ) -> Result<Verdict, Stop>
     requires check { (aim : Aim) × IsCheckOf (said_by answers) aim checking.old.check waiting }
     ensures checks { (aim : Aim) → IsCheckOf (said_by answers) aim checking.old.check waiting
-        → (each : Bool)
-        → HasCheckedBy merged_reading (S.left source.old) (S.left source.new) (O.held out.old)
-        (O.held out.new) (S.faults source.old) (S.faults source.new) (O.faults out.old)
-        (O.faults out.new) aim each result }
+        → (each : Bool) → HasCheckedBy merged_reading (of_source S.Source source.old source.new)
+        (of_sink O.Sink out.old out.new) aim each result }
     ensures calm { IsCalmUnlessRead (S.faults source.old) (S.faults source.new) result }
 {
     let standing = read_sources(means.alloc, source);

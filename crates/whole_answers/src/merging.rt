@@ -1,7 +1,7 @@
 //! Several logs one behind another, read as one.
 ghost use Rattle.std.specs.Prelude.{◌≡◌, ◌≢◌, IfOk, OnErr};
-ghost use Rattle.input_reading.specs.Changes.{of_source};
-ghost use Rattle.input_reading.specs.Intakes.{HasReadSome};
+ghost use Rattle.pota_base.specs.Changes.{of_source};
+ghost use Rattle.input_reading.specs.Intakes.{ReadsShort};
 ghost use Rattle.log_merge.specs.Merging.{merged};
 ghost use Rattle.log_sources.specs.Reading.{CanMerge};
 ghost use Rattle.whole_answers.specs.declared.places.Places.TheVariants.{Origins};
@@ -37,7 +37,7 @@ fn merge_all(alloc: Global, logs: &[Log]) -> Result<Standing, NoMemory>
 /// merges them.
 pub fn read_sources<S: Source>(alloc: Global, source: &mut S) -> Result<Standing, NoMemory>
     ensures reads { IfOk result (HasStoodBy sources (of_source S.Source source.old source.new)) }
-    ensures short { OnErr result (HasReadSome (of_source S.Source source.old source.new)) }
+    ensures short { OnErr result (ReadsShort (of_source S.Source source.old source.new)) }
     ensures calm { result ≢ Ok Standing.Failed → S.faults source.new ≡ S.faults source.old }
 {
     match gather(alloc, source)? {

@@ -1,7 +1,7 @@
 //! Records of two lines, read as a log.
 ghost use Rattle.std.specs.Prelude.{◌≡◌, ◌≢◌, ℕ, List, IfOk, OnErr};
-ghost use Rattle.input_reading.specs.Changes.{of_source};
-ghost use Rattle.input_reading.specs.Intakes.{HasReadSome};
+ghost use Rattle.pota_base.specs.Changes.{of_source};
+ghost use Rattle.input_reading.specs.Intakes.{ReadsShort};
 ghost use Rattle.whole_answers.specs.inside.Standing.{HasStoodBy, StandsAt, clocks};
 
 use crate::places::Places;
@@ -26,7 +26,7 @@ fn import_all(alloc: Global, text: &[u8]) -> Result<Standing, NoMemory>
 /// Reads records of two lines to their end, to the byte that is too much, or to a failed read.
 pub fn read_records<S: Source>(alloc: Global, source: &mut S) -> Result<Standing, NoMemory>
     ensures reads { IfOk result (HasStoodBy clocks (of_source S.Source source.old source.new)) }
-    ensures short { OnErr result (HasReadSome (of_source S.Source source.old source.new)) }
+    ensures short { OnErr result (ReadsShort (of_source S.Source source.old source.new)) }
     ensures calm { result ≢ Ok Standing.Failed → S.faults source.new ≡ S.faults source.old }
 {
     let mut kept = Kept::new(alloc);

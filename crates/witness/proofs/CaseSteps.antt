@@ -12,12 +12,13 @@ use Rattle.run_model.specs.Slice.{Slice, Cuts, StandsFor}
 use Rattle.run_model.specs.Formula.{Formula}
 use Rattle.run_model.specs.Meaning.{Family}
 use Rattle.run_model.specs.Witness as model
-use Rattle.run_model.specs.Witness.{WitnessOperator, AlwaysGlobally, ExistsNext, IsPartOf, HasFirst, Place, IsPlace, row_at, Departs, FirstSteps, IsCanonical, IsOfKind}
+use Rattle.run_model.specs.Witness.{WitnessOperator, ForAg, ExistsNext, IsPartOf, HasFirst, Place, IsPlace, row_at, Departs, FirstSteps, IsCanonical, IsOfKind}
 use Rattle.run_model.proofs.Counts.{length-lengths, length-initial, length-with_next, count-initial, initial_within, with_next_same, with_next_least}
 use Rattle.meaning_laws.proofs.WitnessLemmas.{canonical_is_of_kind}
 use Rattle.pota_base.specs.declared.shape.EventId.{EventId}
 use Rattle.pota_base.specs.Shape.{HasEvent}
 use Rattle.run_model.proofs.Orders.{has_process}
+use Rattle.pota_base.specs.Limits.{most_events, most_processes}
 use Rattle.event_log.proofs.Keeping.{item_le_sum}
 use Rattle.slice_graph.specs.Views.{SliceView, slice_of, IsCut}
 use Rattle.witness_kinds.specs.declared.Path.{Path}
@@ -34,13 +35,13 @@ initial_is o n start size is = is ∙ ap (λ (k : ℕ). replicate k 0) (size ∙
 pub initial_fits : (o : Clocks) (v : SliceView) (start : Cut) → IsOperand o v → start ≡ initial o → IsCut v.lens start
 initial_fits o v start operand is = subst (IsCut v.lens) (sym is) (record { size = length-initial o ∙ sym (length-lengths o) ∙ sym (ap length operand.fits.shape); within = initial_within o v.lens })
 
-pub initial_few : (o : Clocks) (start : Cut) → IsRunOrder o → start ≡ initial o → length start ≤ 32
+pub initial_few : (o : Clocks) (start : Cut) → IsRunOrder o → start ≡ initial o → length start ≤ most_processes
 initial_few o start run is = omega (arith, ap length is, length-initial o, length-lengths o, run.shape.few)
 
-pub consistent_few : (o : Clocks) (c : Cut) → IsRunOrder o → IsConsistent o c → length c ≤ 32
+pub consistent_few : (o : Clocks) (c : Cut) → IsRunOrder o → IsConsistent o c → length c ≤ most_processes
 consistent_few o c run k = omega (arith, k.shaped, length-lengths o, run.shape.few)
 
-pub consistent_small : (o : Clocks) (c : Cut) → IsRunOrder o → IsConsistent o c → (i : ℕ) → count c i ≤ 50000
+pub consistent_small : (o : Clocks) (c : Cut) → IsRunOrder o → IsConsistent o c → (i : ℕ) → count c i ≤ most_events
 consistent_small o c run k i = omega (arith, k.within i, item_le_sum (lengths o) i, run.shape.events)
 
 -- ---- walks
@@ -70,11 +71,11 @@ is_or_not (Some d) c h = elim (cases_Bool (bytes_eq d c)) [
 pub rows_are_pasts : (o : Clocks) (s : Slice) → ((e : Place) → IsPlace o e → Departs o s e → ⊥) → (e : Place) → IsPlace o e → row_at s e ≡ Some (clock o e.process e.position)
 rows_are_pasts o s none e there = is_or_not (row_at s e) (clock o e.process e.position) (none e there)
 
-pub refuted_start : (o : Clocks) (s : Slice) (start : Cut) (steps : List EventId) → start ≡ initial o → steps ≡ [] → (Cuts o s start → ⊥) → IsCanonical o s AlwaysGlobally (model.Against (record { goal = start; steps = places_of steps }))
+pub refuted_start : (o : Clocks) (s : Slice) (start : Cut) (steps : List EventId) → start ≡ initial o → steps ≡ [] → (Cuts o s start → ⊥) → IsCanonical o s ForAg (model.Against (record { goal = start; steps = places_of steps }))
 refuted_start o s start steps start_is steps_is none =
-    let bare : IsCanonical o s AlwaysGlobally (model.Against (record { goal = initial o; steps = [] })) = model.IsCanonical.refuted_at_start (λ h. none (subst (Cuts o s) (sym start_is) h)) in
-    subst (λ (c : Cut). IsCanonical o s AlwaysGlobally (model.Against (record { goal = c; steps = places_of steps }))) (sym start_is)
-    (subst (λ (es : List EventId). IsCanonical o s AlwaysGlobally (model.Against (record { goal = initial o; steps = places_of es }))) (sym steps_is) bare)
+    let bare : IsCanonical o s ForAg (model.Against (record { goal = initial o; steps = [] })) = model.IsCanonical.refuted_at_start (λ h. none (subst (Cuts o s) (sym start_is) h)) in
+    subst (λ (c : Cut). IsCanonical o s ForAg (model.Against (record { goal = c; steps = places_of steps }))) (sym start_is)
+    (subst (λ (es : List EventId). IsCanonical o s ForAg (model.Against (record { goal = initial o; steps = places_of es }))) (sym steps_is) bare)
 
 -- ---- the first event of a process
 

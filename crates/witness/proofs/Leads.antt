@@ -14,6 +14,7 @@ use Rattle.meaning_laws.proofs.Climb.{IsClimbable, Apart, next_exists, reached}
 use Rattle.run_model.proofs.SliceLemmas.{least_there, cuts_closed}
 use Rattle.meaning_laws.proofs.OperatorLemmas.{Below, below_climbable, below_apart, set_climbable, pairs_apart}
 use Rattle.pota_base.specs.declared.shape.EventId.{EventId}
+use Rattle.pota_base.specs.Limits.{most_events}
 use Rattle.event_log.proofs.Keeping.{item_le_sum}
 use Rattle.slice_graph.specs.Views.{SliceView, slice_of, last_row}
 use Rattle.slice_graph.specs.Words.{row_words}
@@ -65,7 +66,7 @@ turn A start steps more at after process event so_far next taken is pushed =
     subst (λ (es : List Place). FirstSteps A start es after) (sym places) (subst (λ (c : Cut). FirstSteps A start (places_of steps ++ place_of made ∷ []) c) (sym taken) grown)
 
 -- the count of a process has room for one more
-pub room : (A : Cut → Type 0) (goal at : Cut) (process : ℕ) → LeadsTo A goal → IsNext A at process → ((i : ℕ) → count goal i ≤ 50000) → count at process < 50000
+pub room : (A : Cut → Type 0) (goal at : Cut) (process : ℕ) → LeadsTo A goal → IsNext A at process → ((i : ℕ) → count goal i ≤ most_events) → count at process < most_events
 room A goal at process leads next small = omega (arith, leads.within (with_next at process) next.leads process, with_next_same at process next.there, small process)
 
 pub nearer : (A : Cut → Type 0) (goal at after : Cut) (process : ℕ) → LeadsTo A goal → IsNext A at process → after ≡ with_next at process → total goal - total after < total goal - total at

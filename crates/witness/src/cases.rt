@@ -10,8 +10,8 @@ ghost use Rattle.run_model.specs.Formula.{Formula};
 ghost use Rattle.run_model.specs.Meaning.{Family};
 ghost use Rattle.run_model.specs.Witness.{FirstStepsTo, IsFirst, IsPlace, Place, Shares};
 ghost use Rattle.run_model.specs.Witness.{IsCanonical, IsOfKind, IsPartOf};
-ghost use Rattle.run_model.specs.Witness.{ExistsFinally as Finally, AlwaysGlobally as Always};
-ghost use Rattle.run_model.specs.Witness.{ExistsGlobally as Globally, ExistsNext as Next};
+ghost use Rattle.run_model.specs.Witness.{ForEf as Finally, ForAg as Always};
+ghost use Rattle.run_model.specs.Witness.{ForEg as Globally, ExistsNext as Next};
 ghost use Rattle.slice_graph.specs.Views.{slice_of};
 ghost use Rattle.slice_graph.specs.Fitting.{FitsOrder};
 ghost use Rattle.witness.specs.inside.Walks.{LeadsTo};
@@ -33,11 +33,11 @@ use witness_kinds::{Path, Witness};
 #[derive(Clone, Copy, Debug, PartialEq, Eq)]
 pub enum Explained {
     /// On some path the operand is true at some cut.
-    ExistsFinally,
+    ForEf,
     /// On each path the operand is true at each cut.
-    AlwaysGlobally,
+    ForAg,
     /// On some path the operand is true at each cut.
-    ExistsGlobally,
+    ForEg,
     /// The operand is true at the cut with the next event of the process.
     ExistsNext(u32),
 }
@@ -195,8 +195,8 @@ fn next(
     Ok(Witness::Reach(Path { goal, steps }))
 }
 
-/// Why EF of an operand is true or false at the initial cut, by the least cut of the operand, which is
-/// `None` where there is no such cut.
+/// Why EF of an operand is true or false at the initial cut, by the least cut of the operand, which
+/// is `None` where there is no such cut.
 pub fn reach_to(alloc: Global, order: &Order, least: &Option<Cut>) -> Result<Witness, NoMemory>
     requires { IfSome least.now (IsConsistent order.now) }
     // The witness is the one that is given by each slice of which it is the bottom.
@@ -234,9 +234,9 @@ pub fn explain(
 {
     let start = Cut::new(alloc, order.shape().procs())?;
     match operator {
-        Explained::ExistsFinally => reach(alloc, order, operand, start),
-        Explained::AlwaysGlobally => against(alloc, order, operand, start),
-        Explained::ExistsGlobally => always(alloc, order, operand, start),
+        Explained::ForEf => reach(alloc, order, operand, start),
+        Explained::ForAg => against(alloc, order, operand, start),
+        Explained::ForEg => always(alloc, order, operand, start),
         Explained::ExistsNext(process) => next(alloc, order, operand, start, process),
     }
 }

@@ -3,6 +3,7 @@
 ghost use Rattle.std.specs.Prelude.{◌≡◌, ℕ, ◌+◌, ◌<◌, ◌≤◌, ◌↔◌, length, IsTrue, IfOk, MatchOption};
 ghost use Rattle.run_model.specs.Cut.{Cut as CutOf, count, with_next};
 ghost use Rattle.run_model.specs.Witness.{FirstSteps};
+ghost use Rattle.pota_base.specs.Limits.{most_events, most_processes};
 ghost use Rattle.witness.specs.inside.Walks.{IsNext, HasNoNext, LeadsTo};
 ghost use Rattle.witness.specs.Views.{places_of};
 
@@ -28,7 +29,7 @@ pub trait Way {
 fn next<W: Way>(way: &W, at: &Cut) -> Option<u32>
     requires ready { W.ready way.now }
     requires at { W.holds way.now at.now }
-    requires few { length at.now ≤ 32 }
+    requires few { length at.now ≤ most_processes }
     ensures { MatchOption result (HasNoNext (W.holds way.now) at.now)
         (IsNext (W.holds way.now) at.now) }
 {
@@ -43,7 +44,7 @@ fn next<W: Way>(way: &W, at: &Cut) -> Option<u32>
 /// Takes the process's next event.
 pub fn take(at: &mut Cut, process: u32) -> EventId
     requires process { process < length at.old }
-    requires room { count at.old process < 50000 }
+    requires room { count at.old process < most_events }
     ensures at { at.new ≡ with_next at.old process }
     ensures event { result ≡ record { process = process; position = count at.old process + 1 } }
 {
@@ -61,9 +62,9 @@ pub fn walk<W: Way>(
 ) -> Result<List<EventId>, NoMemory>
     requires ready { W.ready way.now }
     requires start { W.holds way.now start }
-    requires few { length start ≤ 32 }
+    requires few { length start ≤ most_processes }
     requires leads { LeadsTo (W.holds way.now) goal.now }
-    requires small { (i : ℕ) → count goal.now i ≤ 50000 }
+    requires small { (i : ℕ) → count goal.now i ≤ most_events }
     ensures { IfOk result (λ steps.
         FirstSteps (W.holds way.now) start (places_of steps) goal.now) }
 {

@@ -4,6 +4,7 @@ ghost use Rattle.std.specs.Prelude.{◌≡◌, ◌+◌, ◌<◌, ◌≤◌, ◌�
 ghost use Rattle.run_model.specs.Cut.{IsWithin, count, with_next};
 ghost use Rattle.run_model.specs.Consistent.{IsConsistent};
 ghost use Rattle.run_model.specs.Slice.{Cuts};
+ghost use Rattle.pota_base.specs.Limits.{most_events, most_processes};
 ghost use Rattle.slice_graph.specs.Views.{slice_of};
 ghost use Rattle.witness.specs.inside.Twins.{IsOperand};
 
@@ -43,7 +44,7 @@ pub struct InSlice<'a> {
 fn count_with_next(at: &Cut, process: u32, other: u32) -> u32
     requires process { process < length at.now }
     requires other { other < length at.now }
-    requires room { count at.now process < 50000 }
+    requires room { count at.now process < most_events }
     ensures { result ≡ count (with_next at.now process) other }
 {
     if other == process {
@@ -55,9 +56,9 @@ fn count_with_next(at: &Cut, process: u32, other: u32) -> u32
 // Whether each count is at most that of the cut with the process's next event.
 fn is_within_next(counts: &[u32], at: &Cut, process: u32) -> bool
     requires width { length counts.now ≡ length at.now }
-    requires few { length counts.now ≤ 32 }
+    requires few { length counts.now ≤ most_processes }
     requires process { process < length at.now }
-    requires room { count at.now process < 50000 }
+    requires room { count at.now process < most_events }
     ensures { IsTrue result ↔ IsWithin counts.now (with_next at.now process) }
 {
     for other in 0..counts.len() {

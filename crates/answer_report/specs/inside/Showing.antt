@@ -4,7 +4,7 @@ use Rattle.std.specs.Prelude.{IfSome, MatchOption}
 use Rattle.run_model.specs.Cut.{Clocks, lengths}
 use Rattle.run_model.specs.Slice.{Cuts, IsTextOf}
 use Rattle.run_model.specs.Witness as model
-use Rattle.run_model.specs.Witness.{WitnessOperator, ExistsFinally, AlwaysGlobally, ExistsGlobally}
+use Rattle.run_model.specs.Witness.{WitnessOperator, ForEf, ForAg, ForEg}
 use Rattle.run_model.specs.Witness.{ExistsNext, IsCanonical}
 use Rattle.rctl_grammar.specs.declared.tree.Operator.{Operator}
 use Rattle.rctl_grammar.specs.declared.tree.Operator.TheVariants as operator
@@ -25,9 +25,9 @@ IsSliceTold false o s text = text ≡ None
 
 -- the operators whose parts get a witness
 abbrev pub explained : Operator → Option WitnessOperator
-explained operator.Ef = Some ExistsFinally
-explained operator.Ag = Some AlwaysGlobally
-explained operator.Eg = Some ExistsGlobally
+explained operator.Ef = Some ForEf
+explained operator.Ag = Some ForAg
+explained operator.Eg = Some ForEg
 explained (operator.Ex process) = Some (ExistsNext process)
 explained operator.Af = None
 explained operator.Ax = None

@@ -2,6 +2,7 @@
 use Rattle.std.specs.Prelude.{◌≡◌, ℕ, ◌<◌, ◌≤◌, Bool, List, [], ◌++◌, length, Option, None}
 use Rattle.std.specs.Prelude.{Result, Ok, Err}
 use Rattle.std.specs.Io.KnownBytes.{Appends, Consumes, IsAtEnd}
+use Rattle.pota_base.specs.Changes.{Behind, Change, behind_both, behind_of}
 use Rattle.event_log.specs.declared.reader.Reader.{Reader}
 use Rattle.event_log.specs.Faults.{fault_of}
 use Rattle.event_log.specs.LogText.{onto}
@@ -33,26 +34,24 @@ abbrev pub TellsDue : Aim → (each ended : Bool) → (bytes text : List ℕ) �
 TellsDue aim each ended bytes text why batches =
     TellsDueBy log_reading aim each ended bytes text why batches
 
-abbrev pub PieceTo : {X : Type 0} {P : X → Type 0} → Option (List ℕ) → ℕ → ℕ → ℕ → ℕ → Says X P
-    → Aim → Bool → Reader → ReportedLog X P
-    → List ℕ → List ℕ → Result Turn Stop → Type 0
-PieceTo left lf lf' of of' says aim each r check bytes text (Ok turn.More) =
+abbrev pub PieceTo : {X : Type 0} {P : X → Type 0} → Behind → Says X P → Aim → Bool → Reader
+    → ReportedLog X P → List ℕ → List ℕ → Result Turn Stop → Type 0
+PieceTo behind says aim each r check bytes text (Ok turn.More) =
     HasJudged says aim each r check bytes text
-PieceTo left lf lf' of of' says aim each r check bytes text (Ok turn.End) = ⊥
-PieceTo left lf lf' of of' says aim each r check bytes text (Err stop) =
-    StopsAt stop.cause stop.batches left lf lf' of of' aim each bytes text
+PieceTo behind says aim each r check bytes text (Ok turn.End) = ⊥
+PieceTo behind says aim each r check bytes text (Err stop) =
+    StopsAt stop.cause stop.batches behind aim each bytes text
 
 -- these are all bytes with the piece, behind this text
-pub record TakesPiece {X : Type 0} {P : X → Type 0} (held held' : Option (List ℕ)) (of of' : ℕ)
-    (says : Says X P) (aim : Aim)
+pub record TakesPiece {X : Type 0} {P : X → Type 0} (sink : Change) (says : Says X P) (aim : Aim)
     (each : Bool) (r : Reader) (check : ReportedLog X P) (bytes text : List ℕ)
-    (result : Result Turn Stop)
-    : Type 0 where
+    (result : Result Turn Stop) : Type 0 where
   pub written : List ℕ
-  pub wrote : Appends held held' written
-  pub later : of ≤ of'
-  pub to : (left : Option (List ℕ)) (lf lf' : ℕ)
-      → PieceTo left lf lf' of of' says aim each r check bytes (text ++ written) result
+  pub wrote : Appends sink.before sink.after written
+  pub later : sink.faults_before ≤ sink.faults_after
+  pub to : (left : Option (List ℕ)) (lf lf' : ℕ) → PieceTo
+      (behind_of left lf lf' sink.faults_before sink.faults_after) says aim each r check bytes
+      (text ++ written) result
 
 abbrev pub Finishes : {X : Type 0} {P : X → Type 0} → ℕ → Says X P → Aim → Bool → ReportedLog X P
     → List ℕ → List ℕ → Result Turn Stop
@@ -61,26 +60,25 @@ Finishes of says aim each check bytes text (Ok turn.More) = ⊥
 Finishes of says aim each check bytes text (Ok turn.End) = IsWhole says aim each check bytes text
 Finishes of says aim each check bytes text (Err stop) =
     (left : Option (List ℕ)) (lf lf' : ℕ) → IsAtEnd left
-    → StopsAt stop.cause stop.batches left lf lf' of of aim each bytes text
+    → StopsAt stop.cause stop.batches (behind_of left lf lf' of of) aim each bytes text
 
-abbrev pub TurnsTo : {X : Type 0} {P : X → Type 0} → Option (List ℕ) → ℕ → ℕ → ℕ → ℕ → Says X P
-    → Aim → Bool → Reader → ReportedLog X P
-    → List ℕ → List ℕ → List ℕ → Result Turn Stop → Type 0
-TurnsTo left lf lf' of of' says aim each r check bytes read text (Ok turn.More) =
+abbrev pub TurnsTo : {X : Type 0} {P : X → Type 0} → Behind → Says X P → Aim → Bool → Reader
+    → ReportedLog X P → List ℕ → List ℕ → List ℕ → Result Turn Stop → Type 0
+TurnsTo behind says aim each r check bytes read text (Ok turn.More) =
     (0 < length read) × HasJudged says aim each r check (bytes ++ read) text
-TurnsTo left lf lf' of of' says aim each r check bytes read text (Ok turn.End) =
-    IsAtEnd left × IsWhole says aim each check (bytes ++ read) text
-TurnsTo left lf lf' of of' says aim each r check bytes read text (Err stop) =
-    StopsAt stop.cause stop.batches left lf lf' of of' aim each (bytes ++ read) text
+TurnsTo behind says aim each r check bytes read text (Ok turn.End) =
+    IsAtEnd behind.rest × IsWhole says aim each check (bytes ++ read) text
+TurnsTo behind says aim each r check bytes read text (Err stop) =
+    StopsAt stop.cause stop.batches behind aim each (bytes ++ read) text
 
-pub record Turns {X : Type 0} {P : X → Type 0} (left left' held held' : Option (List ℕ))
-    (lf lf' of of' : ℕ) (says : Says X P)
-    (aim : Aim) (each : Bool) (r : Reader) (check : ReportedLog X P) (bytes text : List ℕ)
+pub record Turns {X : Type 0} {P : X → Type 0} (source sink : Change) (says : Says X P) (aim : Aim)
+    (each : Bool) (r : Reader) (check : ReportedLog X P) (bytes text : List ℕ)
     (result : Result Turn Stop) : Type 0 where
   pub read : List ℕ
   pub written : List ℕ
-  pub consumed : Consumes left left' read
-  pub wrote : Appends held held' written
-  pub log_later : lf ≤ lf'
-  pub out_later : of ≤ of'
-  pub to : TurnsTo left' lf lf' of of' says aim each r check bytes read (text ++ written) result
+  pub consumed : Consumes source.before source.after read
+  pub wrote : Appends sink.before sink.after written
+  pub log_later : source.faults_before ≤ source.faults_after
+  pub out_later : sink.faults_before ≤ sink.faults_after
+  pub to : TurnsTo (behind_both source sink) says aim each r check bytes read (text ++ written)
+      result

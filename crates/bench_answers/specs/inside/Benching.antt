@@ -2,8 +2,9 @@
 use Rattle.std.specs.Prelude.{◌≡◌, ℕ, ◌≤◌, ◌↔◌, true, List, [], Option, Some, None, Result, Ok, Err}
 use Rattle.std.specs.Io.KnownBytes.{Appends}
 use Rattle.pota_base.specs.Outside.{Rose, IsPrefix}
+use Rattle.pota_base.specs.Changes.{Change, Counts, faults_of}
 use Rattle.rctl_grammar.specs.declared.fault.FormulaFault.{FormulaFault}
-use Rattle.run_options.specs.declared.sizes.Sizes.{Sizes}
+use Rattle.call_options.specs.declared.sizes.Sizes.{Sizes}
 use Rattle.run_report.specs.Benches.{IsSummaryOf}
 use Rattle.fault_kinds.specs.declared.refusal.Refusal.TheVariants as refusal
 use Rattle.log_rules.specs.WholeLogs.{all_of}
@@ -12,7 +13,7 @@ use Rattle.log_answers.specs.declared.stop.StopCause.{StopCause}
 use Rattle.log_answers.specs.declared.stop.StopCause.TheVariants as causes
 use Rattle.log_answers.specs.declared.stop.Stop.{Stop}
 use Rattle.log_answers.specs.declared.stop.Verdict.{Verdict}
-use Rattle.run_promise.specs.Run.{made_by}
+use Rattle.call_promise.specs.Run.{made_by}
 
 -- the summary of a bench of the log that is made
 abbrev pub IsSummary : Aim → Sizes → List ℕ → Type 0
@@ -42,26 +43,26 @@ pub record IsBenchPart (aim : Aim) (sizes : Sizes) (text : List ℕ) (batches : 
   pub part : IsPrefix text summary
   pub count : batches ≡ 1
 
-abbrev pub BenchStops : StopCause → ℕ → ℕ → ℕ → Aim → Sizes → List ℕ → Type 0
-BenchStops (causes.Refused (refusal.Formula f)) n of of' aim sizes text =
+abbrev pub BenchStops : StopCause → ℕ → Counts → Aim → Sizes → List ℕ → Type 0
+BenchStops (causes.Refused (refusal.Formula f)) n faults aim sizes text =
     (missing_name aim sizes ≡ Some f) × (text ≡ []) × (n ≡ 0)
-BenchStops (causes.Refused (refusal.Log f)) n of of' aim sizes text = ⊥
-BenchStops (causes.Refused (refusal.Import f)) n of of' aim sizes text = ⊥
-BenchStops (causes.Refused (refusal.Merge f)) n of of' aim sizes text = ⊥
-BenchStops causes.Write n of of' aim sizes text =
-    IsBenchPart aim sizes text n × Rose of of'
-BenchStops causes.Memory n of of' aim sizes text = (text ≡ []) × (n ≡ 0)
-BenchStops causes.Read n of of' aim sizes text = ⊥
+BenchStops (causes.Refused (refusal.Log f)) n faults aim sizes text = ⊥
+BenchStops (causes.Refused (refusal.Import f)) n faults aim sizes text = ⊥
+BenchStops (causes.Refused (refusal.Merge f)) n faults aim sizes text = ⊥
+BenchStops causes.Write n faults aim sizes text =
+    IsBenchPart aim sizes text n × Rose faults.before faults.after
+BenchStops causes.Memory n faults aim sizes text = (text ≡ []) × (n ≡ 0)
+BenchStops causes.Read n faults aim sizes text = ⊥
 
-abbrev pub BenchesTo : ℕ → ℕ → Aim → Sizes → List ℕ → Result Verdict Stop → Type 0
-BenchesTo of of' aim sizes text (Ok v) = IsBenchOf aim sizes text v
-BenchesTo of of' aim sizes text (Err stop) =
-    BenchStops stop.cause stop.batches of of' aim sizes text
+abbrev pub BenchesTo : Counts → Aim → Sizes → List ℕ → Result Verdict Stop → Type 0
+BenchesTo faults aim sizes text (Ok v) = IsBenchOf aim sizes text v
+BenchesTo faults aim sizes text (Err stop) =
+    BenchStops stop.cause stop.batches faults aim sizes text
 
 -- a bench was done
-pub record HasMade (held held' : Option (List ℕ)) (of of' : ℕ) (aim : Aim)
-    (sizes : Sizes) (result : Result Verdict Stop) : Type 0 where
+pub record HasMade (sink : Change) (aim : Aim) (sizes : Sizes) (result : Result Verdict Stop)
+    : Type 0 where
   pub written : List ℕ
-  pub wrote : Appends held held' written
-  pub later : of ≤ of'
-  pub to : BenchesTo of of' aim sizes written result
+  pub wrote : Appends sink.before sink.after written
+  pub later : sink.faults_before ≤ sink.faults_after
+  pub to : BenchesTo (faults_of sink) aim sizes written result

@@ -7,6 +7,7 @@ use Rattle.pota_base.specs.Outside.{Rose}
 use Rattle.pota_base.specs.declared.fault.Failed.{Failed}
 use Rattle.run_model.specs.Cut.{initial}
 use Rattle.run_model.specs.Meaning.{Sat}
+use Rattle.pota_base.specs.Changes.{Behind, Change, Counts, behind_both, faults_of}
 use Rattle.rctl_grammar.specs.Shape.{shape_of}
 use Rattle.rctl_grammar.specs.declared.tree.Tree.{Tree}
 use Rattle.rctl_print.specs.Canonical.{canonical}
@@ -28,8 +29,8 @@ use Rattle.log_answers.specs.declared.stop.StopCause.TheVariants as causes
 use Rattle.log_answers.specs.declared.stop.Stop.{Stop}
 use Rattle.log_answers.specs.declared.stop.Verdict.{Verdict}
 use Rattle.log_answers.specs.Inputs.{due_by, TellsDueBy}
-use Rattle.run_promise.specs.Certificates.{IsTrueAtStart, no_watches, disjuncts_on}
-use Rattle.run_promise.specs.Certificates.{IsCertificateText, IsCertificateFront}
+use Rattle.call_promise.specs.Certificates.{IsTrueAtStart, no_watches, disjuncts_on}
+use Rattle.call_promise.specs.Certificates.{IsCertificateText, IsCertificateFront}
 
 -- what is asked of a log for the certificate of a formula
 abbrev pub aim_for : Stated → Aim
@@ -61,38 +62,39 @@ abbrev pub verdict_of : Result Bool Failed → ℕ → Result Verdict Stop
 verdict_of (Ok told) batches = Ok (record { batches = batches; truth = told })
 verdict_of (Err failed) batches = Err (record { batches = batches; cause = causes.Write })
 
--- the certificate of the formula of these disjuncts was to be written: memory ran out, or it went on
-abbrev pub PutsCertificate : (held held' : Option (List ℕ)) → (of of' : ℕ) → Observed
-    → List (List Piece) → (line : List ℕ) → (batches : ℕ) → Result Verdict Stop → Type 0
-PutsCertificate held held' of of' seen ds line batches result =
-    ((result ≡ Err (record { batches = 0; cause = causes.Memory })) × (of' ≡ of)
-    × HasFront held held' seen ds line)
-    ⊎ ((ended : Result Bool Failed) × (result ≡ verdict_of ended batches)
-    × IsCertifying ended held held' of of' seen ds line)
+-- the certificate of the formula of these disjuncts was to be written: memory ran out, or it went
+-- on
+abbrev pub PutsCertificate : (sink : Change) → Observed → List (List Piece) → (line : List ℕ)
+    → (batches : ℕ) → Result Verdict Stop → Type 0
+PutsCertificate sink seen ds line batches result =
+    ((result ≡ Err (record { batches = 0; cause = causes.Memory }))
+    × (sink.faults_after ≡ sink.faults_before) × HasFront sink.before sink.after seen ds line)
+    ⊎ ((ended : Result Bool Failed) × (result ≡ verdict_of ended batches) × IsCertifying ended sink
+    seen ds line)
 
 -- a front of the certificate was written, behind so many batches
-abbrev pub CertifyStops : StopCause → ℕ → ℕ → ℕ → Tree → ℕ → Prefix → List ℕ → Type 0
-CertifyStops causes.Write n of of' t batches log text =
-    IsCertificateFront t log text × (n ≡ batches) × Rose of of'
-CertifyStops causes.Memory n of of' t batches log text = IsCertificateFront t log text × (n ≡ 0)
-CertifyStops (causes.Refused r) n of of' t batches log text = ⊥
-CertifyStops causes.Read n of of' t batches log text = ⊥
+abbrev pub CertifyStops : StopCause → ℕ → Counts → Tree → ℕ → Prefix → List ℕ → Type 0
+CertifyStops causes.Write n faults t batches log text =
+    IsCertificateFront t log text × (n ≡ batches) × Rose faults.before faults.after
+CertifyStops causes.Memory n faults t batches log text = IsCertificateFront t log text × (n ≡ 0)
+CertifyStops (causes.Refused r) n faults t batches log text = ⊥
+CertifyStops causes.Read n faults t batches log text = ⊥
 
 -- the certificate was written, with its verdict, or not
-abbrev pub CertifiesTo : ℕ → ℕ → Tree → ℕ → Prefix → List ℕ → Result Verdict Stop → Type 0
-CertifiesTo of of' t batches log text (Ok v) =
+abbrev pub CertifiesTo : Counts → Tree → ℕ → Prefix → List ℕ → Result Verdict Stop → Type 0
+CertifiesTo faults t batches log text (Ok v) =
     IsCertificateText t log text × ((v.truth ≡ true) ↔ IsTrueAtStart no_watches t log)
     × (v.batches ≡ batches)
-CertifiesTo of of' t batches log text (Err stop) =
-    CertifyStops stop.cause stop.batches of of' t batches log text
+CertifiesTo faults t batches log text (Err stop) =
+    CertifyStops stop.cause stop.batches faults t batches log text
 
 -- the certificate of a log of so many batches was to be written
-pub record Certifies (held held' : Option (List ℕ)) (of of' : ℕ) (t : Tree) (batches : ℕ)
-    (log : Prefix) (result : Result Verdict Stop) : Type 0 where
+pub record Certifies (sink : Change) (t : Tree) (batches : ℕ) (log : Prefix)
+    (result : Result Verdict Stop) : Type 0 where
   pub written : List ℕ
-  pub wrote : Appends held held' written
-  pub later : of ≤ of'
-  pub to : CertifiesTo of of' t batches log written result
+  pub wrote : Appends sink.before sink.after written
+  pub later : sink.faults_before ≤ sink.faults_after
+  pub to : CertifiesTo (faults_of sink) t batches log written result
 
 -- ---- the whole input
 
@@ -105,17 +107,18 @@ pub record HasFrontBy (left : Option (List ℕ)) (aim : Aim) (t : Tree) (bytes t
   pub front : IsCertificateFront t log text
 
 -- a stop behind these bytes, with this text written
-abbrev pub CertifyStopsBy : StopCause → ℕ → Option (List ℕ) → ℕ → ℕ → ℕ → ℕ → Aim → Tree
-    → List ℕ → List ℕ → Type 0
-CertifyStopsBy (causes.Refused r) n left lf lf' of of' aim t bytes text =
-    (ended : Bool) × (ended ≡ true → IsAtEnd left)
-    × TellsDueBy log_reading aim false ended bytes text (Some r) n
-CertifyStopsBy causes.Read n left lf lf' of of' aim t bytes text =
-    TellsDueBy log_reading aim false false bytes text None n × Rose lf lf'
-CertifyStopsBy causes.Write n left lf lf' of of' aim t bytes text =
-    (h : HasFrontBy left aim t bytes text) × (n ≡ counted h.log.batches) × Rose of of'
-CertifyStopsBy causes.Memory n left lf lf' of of' aim t bytes text =
-    ((text ≡ []) ⊎ HasFrontBy left aim t bytes text) × (n ≡ 0)
+abbrev pub CertifyStopsBy : StopCause → ℕ → Behind → Aim → Tree → List ℕ → List ℕ → Type 0
+CertifyStopsBy (causes.Refused r) n behind aim t bytes text =
+    (ended : Bool) × (ended ≡ true → IsAtEnd behind.rest) × TellsDueBy log_reading aim false ended
+    bytes text (Some r) n
+CertifyStopsBy causes.Read n behind aim t bytes text =
+    TellsDueBy log_reading aim false false bytes text None n × Rose behind.source.before
+    behind.source.after
+CertifyStopsBy causes.Write n behind aim t bytes text =
+    (h : HasFrontBy behind.rest aim t bytes text) × (n ≡ counted h.log.batches) × Rose
+    behind.sink.before behind.sink.after
+CertifyStopsBy causes.Memory n behind aim t bytes text =
+    ((text ≡ []) ⊎ HasFrontBy behind.rest aim t bytes text) × (n ≡ 0)
 
 -- the verdict on a log without a fault, whose certificate was written
 pub record IsCertifiedBy (aim : Aim) (t : Tree) (bytes text : List ℕ) (v : Verdict) : Type 0 where
@@ -126,20 +129,18 @@ pub record IsCertifiedBy (aim : Aim) (t : Tree) (bytes text : List ℕ) (v : Ver
   pub truth : (v.truth ≡ true) ↔ IsTrueAtStart no_watches t log
   pub count : v.batches ≡ (due_by log_reading aim true bytes).batches
 
-abbrev pub CertifiesBy : Option (List ℕ) → ℕ → ℕ → ℕ → ℕ → Aim → Tree → List ℕ → List ℕ
-    → Result Verdict Stop → Type 0
-CertifiesBy left lf lf' of of' aim t read text (Ok v) =
-    IsAtEnd left × IsCertifiedBy aim t read text v
-CertifiesBy left lf lf' of of' aim t read text (Err stop) =
-    CertifyStopsBy stop.cause stop.batches left lf lf' of of' aim t read text
+abbrev pub CertifiesBy : Behind → Aim → Tree → List ℕ → List ℕ → Result Verdict Stop → Type 0
+CertifiesBy behind aim t read text (Ok v) = IsAtEnd behind.rest × IsCertifiedBy aim t read text v
+CertifiesBy behind aim t read text (Err stop) =
+    CertifyStopsBy stop.cause stop.batches behind aim t read text
 
 -- the input was read and certified
-pub record HasCertified (left left' held held' : Option (List ℕ)) (lf lf' of of' : ℕ) (aim : Aim)
-    (t : Tree) (result : Result Verdict Stop) : Type 0 where
+pub record HasCertified (source sink : Change) (aim : Aim) (t : Tree) (result : Result Verdict Stop)
+    : Type 0 where
   pub read : List ℕ
   pub written : List ℕ
-  pub consumed : Consumes left left' read
-  pub wrote : Appends held held' written
-  pub log_later : lf ≤ lf'
-  pub out_later : of ≤ of'
-  pub to : CertifiesBy left' lf lf' of of' aim t read written result
+  pub consumed : Consumes source.before source.after read
+  pub wrote : Appends sink.before sink.after written
+  pub log_later : source.faults_before ≤ source.faults_after
+  pub out_later : sink.faults_before ≤ sink.faults_after
+  pub to : CertifiesBy (behind_both source sink) aim t read written result

@@ -1,6 +1,7 @@
 -- What is kept between the pieces of a certificate, and what a call takes of one.
 use Rattle.std.specs.Prelude.{◌≡◌, ℕ, ◌+◌, ◌^◌, ◌<◌, ◌≤◌, Bool, List, ◌++◌}
 use Rattle.std.specs.Prelude.{length, Option, None, Some}
+use Rattle.pota_base.specs.Limits.{longest_certificate_line}
 use Rattle.certificate_lines.specs.declared.line.Line.{Line}
 use Rattle.certificate_text.specs.declared.said.Stage.{Stage}
 use Rattle.certificate_text.specs.declared.said.Stage.TheVariants as stage
@@ -24,7 +25,7 @@ pub record InputView (N : Type 0) : Type 0 where
 
 -- the line so far is not too long, and the two others are those of the lines, which can be counted
 pub record IsReady {N : Type 0} (v : InputView N) : Type 0 where
-  pub short : length v.line ≤ 8192
+  pub short : length v.line ≤ longest_certificate_line
   pub lines : v.lines ≡ v.text.lines
   pub counted : v.lines < 2 ^ 64
   pub accepted : v.accepted ≡ accepted_at v.text.stage
@@ -41,7 +42,7 @@ IsTaken follows v bytes (Some n) after = RefusedWithin follows bytes v.text v.li
 -- these bytes lie within the line, which is not too long with them
 abbrev pub StaysInLine : {N : Type 0} → (N → Line → N → Type 0) → InputView N → List ℕ → Type 0
 StaysInLine follows v bytes = Reaches follows bytes v.text v.line v.text (v.line ++ bytes)
-    × (length v.line + length bytes ≤ 8192)
+    × (length v.line + length bytes ≤ longest_certificate_line)
 
 -- one of these bytes is too many for the line, whatever comes behind them
 abbrev pub IsOver : {N : Type 0} → (N → Line → N → Type 0) → InputView N → List ℕ → Type 0

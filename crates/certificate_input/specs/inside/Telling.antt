@@ -1,5 +1,6 @@
 -- What is told where the bytes end, and what is kept while they come.
 use Rattle.std.specs.Prelude.{ℕ, ◌+◌, ◌-◌, ◌*◌, ◌^◌, List, [], length, Option, None, Some}
+use Rattle.pota_base.specs.Limits.{longest_certificate_line}
 use Rattle.certificate_lines.specs.declared.line.Line.{Line}
 use Rattle.certificate_text.specs.Taking.{VerifierView}
 use Rattle.certificate_text.specs.Bytes.{Judged, RefusedAt}
@@ -27,4 +28,6 @@ IsRefused follows first bytes (Some n) = RefusedWithin follows bytes first [] n
 
 -- how many bytes more there may be, before the lines can't be counted
 abbrev pub bytes_left : {N : Type 0} → InputView N → ℕ
-bytes_left v = 2 ^ 64 * 8193 - (v.lines * 8193 + length v.line)
+bytes_left v =
+    2 ^ 64 * (longest_certificate_line + 1)
+    - (v.lines * (longest_certificate_line + 1) + length v.line)

@@ -1,5 +1,5 @@
 use Rattle.log_check.specs.Checked.{observed_alone}
-use Rattle.run_promise.specs.Certificates.{disjuncts_on, line_of}
+use Rattle.call_promise.specs.Certificates.{disjuncts_on, line_of}
 use Rattle.certificate_round_trip.proofs.Behind.{accepted_behind}
 use Rattle.certificate_round_trip.proofs.what_certify_writes_is_accepted.Goals as goal
 

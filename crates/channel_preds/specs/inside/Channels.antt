@@ -1,6 +1,7 @@
 -- Inside: what the counts of a channel are.
-use Rattle.std.specs.Prelude.{ℕ, ◌-◌, ◌≤◌, ◌<◌}
+use Rattle.std.specs.Prelude.{ℕ, ◌+◌, ◌-◌, ◌≤◌, ◌<◌}
 use Rattle.std.specs.Prelude.{List, length, slice_index}
+use Rattle.pota_base.specs.Limits.{most_events}
 use Rattle.channel_preds.specs.declared.counted.Counted.TheVariants as counted
 use Rattle.channel_preds.specs.Channels.{ChannelView}
 
@@ -13,5 +14,5 @@ pub record AreCounts (counts : List ℕ) : Type 0 where
 pub record IsChannel (channel : ChannelView) : Type 0 where
   pub sent : AreCounts channel.sent
   pub received : AreCounts channel.received
-  pub few_sent : length channel.sent ≤ 50001
-  pub few_received : length channel.received ≤ 50001
+  pub few_sent : length channel.sent ≤ most_events + 1
+  pub few_received : length channel.received ≤ most_events + 1

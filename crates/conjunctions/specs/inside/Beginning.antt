@@ -1,7 +1,8 @@
 -- Where the rows of a conjunction begin, and which of them are final there.
-use Rattle.std.specs.Prelude.{◌≡◌, ℕ, ◌+◌, ◌*◌, ◌<◌, ◌≤◌, ◌++◌, Bool, true, false, List, length, sum}
-use Rattle.std.specs.Prelude.{take, slice_index, Option, Some, None, IfSome}
+use Rattle.std.specs.Prelude.{◌≡◌, ℕ, ◌+◌, ◌*◌, ◌<◌, ◌≤◌, ◌++◌, Bool, true, false, List, length}
+use Rattle.std.specs.Prelude.{sum, take, slice_index, Option, Some, None, IfSome}
 use Rattle.run_model.specs.Cut.{Clocks}
+use Rattle.pota_base.specs.Limits.{most_processes}
 use Rattle.pull_system.specs.declared.pull.Pull.{Pull}
 use Rattle.pull_system.specs.System.{SystemView, IsSystem}
 use Rattle.pull_system.specs.Vector.{IsAtMost}
@@ -59,12 +60,12 @@ BeginsOthers lens (Some rows) words = words ≡ rows.words
 
 -- no row is known to be final
 pub record AreNone (finals : List ℕ) : Type 0 where
-  pub size : length finals ≡ 32
+  pub size : length finals ≡ most_processes
   pub none : (process : ℕ) → slice_index finals process ≡ 0
 
 -- no more rows of a process than it has events
 pub record AreWithin (lens finals : List ℕ) : Type 0 where
-  pub size : length finals ≡ 32
+  pub size : length finals ≡ most_processes
   pub few : (process : ℕ) → slice_index finals process ≤ slice_index lens process
 
 -- of the first rows of each process, so many, the last lies within the lengths

@@ -4,6 +4,7 @@ use Rattle.std.specs.Prelude.{drop, Option, Some, IfSome}
 use Rattle.run_model.specs.Cut.{Cut, Clocks, lengths}
 use Rattle.run_model.specs.Consistent.{IsConsistent}
 use Rattle.run_model.specs.Slice.{Cuts}
+use Rattle.pota_base.specs.Limits.{most_parts}
 use Rattle.pull_system.specs.declared.pull.Pull.{Pull}
 use Rattle.pull_system.specs.System.{SystemView, IsSystem, IsClosed}
 use Rattle.slice_graph.specs.Views.{SliceView, slice_of}
@@ -27,7 +28,7 @@ use Rattle.conjunctions.specs.Settling.{CanSettle, CutsStay, MayBeFirm}
 -- falls, and the conjunctions within it may be settled in the round
 pub record CanSettlePart (seen : Observed) (round : RoundView) (p : Piece) : Type 0 where
   pub fits : PieceFits (scope_seen seen) p
-  pub count : part_count p ≤ 128
+  pub count : part_count p ≤ most_parts
   pub counters : AllRise seen (counters_of_part p)
   pub begins : CanSettle seen round (within p)
 

@@ -1,14 +1,11 @@
 -- What the steps of the reader of a log in pieces give.
 use Rattle.std.specs.Prelude.{◌≡◌, ℕ, ◌+◌, List, ◌∷◌, ◌++◌, length, Option, None}
-use Rattle.std.specs.Option.{option_to_list}
 use Rattle.event_log.specs.declared.item.LogCode.{LogCode}
 use Rattle.event_log.specs.declared.item.LogFault.{LogFault}
 use Rattle.event_log.specs.declared.item.Item.{Item}
 use Rattle.event_log.specs.declared.item.Fed.{Fed}
 use Rattle.event_log.specs.declared.feeder.Feeder.{Feeder}
-use Rattle.event_log.specs.declared.feeder.LineGiven.{LineGiven}
 use Rattle.event_log.specs.LogText.{onto}
-use Rattle.event_log.specs.inside.Lines.{header_items}
 use Rattle.event_log.specs.Moments.{line_now}
 use Rattle.event_log.specs.LogEnd.{log_upto, behind_log}
 use Rattle.event_log.specs.Faults.{first_fault, items, FedIs}
@@ -32,23 +29,23 @@ pub record PlainTaken (bytes past : Past) (fault : Option LogFault) (new : Feede
 abbrev pub TakesPlain : Feeder → Past → Option LogFault → Feeder → Type 0
 TakesPlain old bytes fault new = (past : Past) → HasFed old past → PlainTaken bytes past fault new
 
-abbrev pub given_items : LineGiven → List Item
-given_items g = header_items g.header ++ option_to_list g.item
+-- what a line and its line feed gave, which stands behind the items before
+pub record LineGives (before : List Item) (fault : Option LogFault) (after : List Item)
+    (past now : Past) : Type 0 where
+  pub items_are : (front : List Item) → items past ≡ front ++ before → items now ≡ front ++ after
+  pub fault_is : fault ≡ first_fault now
 
--- what a line and its line feed gave
-pub record LineGives (g : LineGiven) (past now : Past) : Type 0 where
-  pub items_are : items now ≡ items past ++ given_items g
-  pub fault_is : g.fault ≡ first_fault now
-
-abbrev pub ClosesLine : Feeder → Past → LineGiven → Feeder → Type 0
-ClosesLine old line g new =
+abbrev pub ClosesLine : Feeder → Past → List Item → Option LogFault → List Item → Feeder → Type 0
+ClosesLine old line before fault after new =
     (past : Past) → CountsLines old past → line ≡ line_now past
-    → LineGives g past (10 ∷ past) × (g.fault ≡ None → CountsLines new (10 ∷ past))
+    → LineGives before fault after past (10 ∷ past)
+    × (fault ≡ None → CountsLines new (10 ∷ past))
 
-abbrev pub TakesFedLine : Feeder → Past → LineGiven → Feeder → Type 0
-TakesFedLine old line g new =
+abbrev pub TakesFedLine : Feeder → Past → List Item → Option LogFault → List Item → Feeder → Type 0
+TakesFedLine old line before fault after new =
     (past : Past) → HasFed old past
-    → LineGives g past (10 ∷ onto line past) × (g.fault ≡ None → HasFed new (10 ∷ onto line past))
+    → LineGives before fault after past (10 ∷ onto line past)
+    × (fault ≡ None → HasFed new (10 ∷ onto line past))
 
 -- what those bytes of a piece gave that are of the log
 pub record LogTaken (piece past : Past) (fed : Fed) (rest : Past) (new : Feeder) : Type 0 where

@@ -1,6 +1,7 @@
 -- What stays true while a vector is raised to the least closed one.
 use Rattle.std.specs.Prelude.{◌≡◌, ◌≢◌, ◌⊎◌, ℕ, ◌+◌, ◌<◌, ◌≤◌, List, Bool, false, true, length, sum}
 use Rattle.std.specs.Prelude.{slice_index, slice_index_or, slice_set}
+use Rattle.pota_base.specs.Limits.{most_processes}
 use Rattle.pull_system.specs.Vector.{IsVector}
 use Rattle.pull_system.specs.System.{SystemView, IsBelowLeast, HoldsPull, source_of, target_of, ask}
 use Rattle.pull_system.specs.Marks.{marked}
@@ -33,7 +34,7 @@ IsLooked system process numbers count k =
 
 -- room for every process that there may be, and no mark at one that is not there
 pub record AreMarks (lens : List ℕ) (risen : List Bool) : Type 0 where
-  pub size : length risen ≡ 32
+  pub size : length risen ≡ most_processes
   pub there : (process : ℕ) → slice_index_or risen process false ≡ true → process < length lens
 
 -- What looks at pulls keep, from a vector and its marks to those that they leave: the vector stays

@@ -1,8 +1,9 @@
 -- Inside: one text written, and one item judged.
-use Rattle.std.specs.Prelude.{◌≡◌, ℕ, ◌≤◌, Bool, List, Option}
+use Rattle.std.specs.Prelude.{◌≡◌, ℕ, ◌≤◌, Bool, List}
 use Rattle.std.specs.Prelude.{Result, Ok, Err}
 use Rattle.std.specs.Io.KnownBytes.{Appends}
 use Rattle.pota_base.specs.Outside.{Rose, IsPrefix}
+use Rattle.pota_base.specs.Changes.{Change, Counts, faults_of}
 use Rattle.log_rules.specs.Judgement.{Judgement}
 use Rattle.reported_log.specs.Aims.{Says, Aim}
 use Rattle.reported_log.specs.Checking.{GoesOn, IsRefusedAs}
@@ -12,18 +13,18 @@ use Rattle.log_answers.specs.declared.stop.StopCause.TheVariants as causes
 use Rattle.log_answers.specs.declared.stop.Stop.{Stop}
 
 -- a text was to be written
-abbrev pub PutsTo : {T : Type 0} → ℕ → ℕ → List ℕ → ℕ → List ℕ → Result T Stop → Type 0
-PutsTo of of' text batches written (Ok x) = written ≡ text
-PutsTo of of' text batches written (Err stop) =
-    (stop ≡ record { batches = batches; cause = causes.Write }) × IsPrefix written text
-    × Rose of of'
+abbrev pub PutsTo : {T : Type 0} → Counts → List ℕ → ℕ → List ℕ → Result T Stop → Type 0
+PutsTo faults text batches written (Ok x) = written ≡ text
+PutsTo faults text batches written (Err stop) =
+    (stop ≡ record { batches = batches; cause = causes.Write }) × IsPrefix written text × Rose
+    faults.before faults.after
 
-pub record Puts {T : Type 0} (held held' : Option (List ℕ)) (of of' : ℕ) (text : List ℕ)
-    (batches : ℕ) (result : Result T Stop) : Type 0 where
+pub record Puts {T : Type 0} (sink : Change) (text : List ℕ) (batches : ℕ) (result : Result T Stop)
+    : Type 0 where
   pub written : List ℕ
-  pub wrote : Appends held held' written
-  pub later : of ≤ of'
-  pub to : PutsTo of of' text batches written result
+  pub wrote : Appends sink.before sink.after written
+  pub later : sink.faults_before ≤ sink.faults_after
+  pub to : PutsTo (faults_of sink) text batches written result
 
 -- an item led from one judgement to the next, and a `batch` line closed a batch or not
 abbrev pub JudgeStops : StopCause → ℕ → Judgement → Judgement → Type 0

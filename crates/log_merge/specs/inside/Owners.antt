@@ -1,6 +1,7 @@
 -- Inside: which source has the lines of which process, and the events gathered so far.
 use Rattle.std.specs.Prelude.{◌≡◌, ℕ, ◌+◌, ◌<◌, List, ◌++◌, length, Option}
 use Rattle.std.specs.Prelude.{Some, set}
+use Rattle.pota_base.specs.Limits.{most_processes}
 use Rattle.log_merge.specs.declared.gathering.Gathered.{Gathered}
 use Rattle.log_merge.specs.declared.seen.Seen.{Seen}
 use Rattle.log_merge.specs.declared.seen.Seen.TheVariants.{Nothing, One, Two}
@@ -9,7 +10,7 @@ use Rattle.log_merge.specs.Merging.{Placed, numbered, origins}
 -- the process of the lines is one of 32
 abbrev pub IsOfAProcess : Seen → Type 0
 IsOfAProcess Nothing = Unit {0}
-IsOfAProcess (One process line) = process < 32
+IsOfAProcess (One process line) = process < most_processes
 IsOfAProcess (Two line) = Unit {0}
 
 -- the owners with the source of this number, which has these lines

@@ -3,6 +3,7 @@ use Rattle.std.specs.Prelude.{◌≡◌, ℕ, ◌<◌, ◌≤◌, List, [], leng
 use Rattle.std.specs.Io.KnownBytes.{Appends}
 use Rattle.pota_base.specs.Limits.{longest_log}
 use Rattle.pota_base.specs.Outside.{Rose, IsPrefix}
+use Rattle.pota_base.specs.Changes.{Change, Counts, faults_of}
 use Rattle.log_rules.specs.Judgement.{Prefix}
 use Rattle.kept_log.specs.Unknown.{unknown_word}
 use Rattle.one_log.specs.declared.asking.Asked.{Asked}
@@ -18,21 +19,24 @@ pub record IsTextFor (words : List (List ℕ)) (asked : Asked) (log : Prefix) (t
   pub known : unknown_word log.header words ≡ None
 
 -- the text of the log that is asked for was written, or a front of it, or nothing
-abbrev pub PutsTo : List (List ℕ) → Asked → Prefix → (of of' : ℕ) → List ℕ → Option Fault → Type 0
-PutsTo words asked log of of' written None = IsTextFor words asked log written
-PutsTo words asked log of of' written (Some fault.Usage) = ⊥
-PutsTo words asked log of of' written (Some (fault.Unknown place)) =
+abbrev pub PutsTo : List (List ℕ) → Asked → Prefix → (faults : Counts) → List ℕ → Option Fault
+    → Type 0
+PutsTo words asked log faults written None = IsTextFor words asked log written
+PutsTo words asked log faults written (Some fault.Usage) = ⊥
+PutsTo words asked log faults written (Some (fault.Unknown place)) =
     (written ≡ []) × (unknown_word log.header words ≡ Some place)
-PutsTo words asked log of of' written (Some (fault.Refused r)) = ⊥
-PutsTo words asked log of of' written (Some fault.TooLong) = (written ≡ [])
-    × (longest_log < length (asked_text asked log)) × (unknown_word log.header words ≡ None)
-PutsTo words asked log of of' written (Some fault.Read) = ⊥
-PutsTo words asked log of of' written (Some fault.Write) =
-    (text : List ℕ) × IsTextFor words asked log text × IsPrefix written text × Rose of of'
-PutsTo words asked log of of' written (Some fault.Memory) = written ≡ []
+PutsTo words asked log faults written (Some (fault.Refused r)) = ⊥
+PutsTo words asked log faults written (Some fault.TooLong) =
+    (written ≡ []) × (longest_log < length (asked_text asked log))
+    × (unknown_word log.header words ≡ None)
+PutsTo words asked log faults written (Some fault.Read) = ⊥
+PutsTo words asked log faults written (Some fault.Write) =
+    (text : List ℕ) × IsTextFor words asked log text × IsPrefix written text × Rose faults.before
+    faults.after
+PutsTo words asked log faults written (Some fault.Memory) = written ≡ []
 
-pub record PutsLog (words : List (List ℕ)) (asked : Asked) (log : Prefix)
-    (held held' : Option (List ℕ)) (of of' : ℕ) (fault : Option Fault) : Type 0 where
+pub record PutsLog (words : List (List ℕ)) (asked : Asked) (log : Prefix) (sink : Change)
+    (fault : Option Fault) : Type 0 where
   pub written : List ℕ
-  pub wrote : Appends held held' written
-  pub to : PutsTo words asked log of of' written fault
+  pub wrote : Appends sink.before sink.after written
+  pub to : PutsTo words asked log (faults_of sink) written fault

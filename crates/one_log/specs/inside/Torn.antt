@@ -13,7 +13,7 @@ use Rattle.event_log.specs.declared.log.Log.{Log}
 use Rattle.event_log.specs.LogText.{log_items}
 use Rattle.fault_kinds.specs.declared.refusal.Refusal.{Refusal}
 use Rattle.fault_kinds.specs.declared.refusal.Refusal.TheVariants as refusal
-use Rattle.input_reading.specs.Changes.{Change}
+use Rattle.pota_base.specs.Changes.{Change}
 use Rattle.log_merge.specs.Merging.{merged}
 use Rattle.log_rules.specs.Due.{whole_of, fault_in}
 use Rattle.log_rules.specs.Judgement.{Judgement, judged, waiting}

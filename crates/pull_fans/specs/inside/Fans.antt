@@ -1,7 +1,7 @@
 -- Inside: the shape of a fan: its entries, its targets, its rows.
 use Rattle.std.specs.Prelude.{◌≡◌, ◌⊎◌, ℕ, ◌+◌, ◌*◌, ◌<◌, ◌≤◌, List, [], length, get_or}
 use Rattle.std.specs.Prelude.{slice_index}
-use Rattle.pull_fans.specs.Fans.{FanView}
+use Rattle.pull_fans.specs.Fans.{FanView, IsToAll}
 use Rattle.pull_fans.specs.inside.Layouts.{AreOthers}
 
 -- so many rows of this width, and none where a row has no entry
@@ -17,11 +17,6 @@ entry_of fan i x = get_or (get_or fan.tables i []) x 0
 abbrev pub HasValues : FanView → ℕ → Type 0
 HasValues fan count =
     (index : ℕ) → index < length fan.targets → length (get_or fan.tables index []) ≡ count
-
--- the pulls go to each process in turn
-pub record IsToAll (fan : FanView) (procs : ℕ) : Type 0 where
-  pub count : length fan.targets ≡ procs
-  pub each : (index : ℕ) → index < procs → slice_index fan.targets index ≡ index
 
 -- the pulls go to each process but their source in turn, and to two or more
 pub record IsToOthers (fan : FanView) (procs : ℕ) : Type 0 where

@@ -3,6 +3,7 @@ use Rattle.std.specs.Prelude.{◌≡◌, ℕ, ◌≤◌, ◌↔◌, ⊤, Bool, t
 use Rattle.run_model.specs.Cut.{initial}
 use Rattle.run_model.specs.Meaning.{Sat}
 use Rattle.run_model.specs.Class.{SatParts}
+use Rattle.pota_base.specs.Limits.{most_parts}
 use Rattle.rctl_grammar.specs.declared.tree.Operator.TheVariants as operator
 use Rattle.rctl_parts.specs.Pieces.{Piece}
 use Rattle.rctl_parts.specs.Spelled.{disjunction_of, formula_of, part_formulas}
@@ -24,7 +25,7 @@ use Rattle.question_outcomes.specs.declared.told.Reached.TheVariants.{Somewhere,
 pub record CanTell (seen : Observed) (ps : List Piece) : Type 0 where
   pub fits : EachFits (scope_seen seen) ps
   pub counters : AllRise seen (counters_of_parts ps)
-  pub count : parts_count ps ≤ 128
+  pub count : parts_count ps ≤ most_parts
 
 -- the disjunct is EF over these parts, of which none has an operator
 pub record ReachesAtoms (d ps : List Piece) : Type 0 where

@@ -2,6 +2,7 @@
 use Rattle.std.specs.Prelude.{◌≡◌, ◌⊎◌, ℕ, ◌+◌, ◌-◌, ◌≤◌, ◌<◌, Bool, true, length, List, [], ◌∷◌}
 use Rattle.std.specs.Prelude.{None, Some}
 use Rattle.run_model.specs.Run.{Name}
+use Rattle.pota_base.specs.Limits.{deepest, most_nodes}
 use Rattle.rctl_grammar.specs.declared.token.Kind.TheVariants as kind
 use Rattle.rctl_grammar.specs.declared.token.Word.{Word}
 use Rattle.rctl_grammar.specs.declared.token.Word.TheVariants as word
@@ -13,9 +14,9 @@ use Rattle.rctl_grammar.specs.declared.tree.Operator.{Operator}
 use Rattle.rctl_grammar.specs.declared.tree.Operator.TheVariants as operator
 use Rattle.rctl_grammar.specs.declared.tree.Place.{Place}
 use Rattle.rctl_grammar.specs.declared.tree.Tree.{Tree}
-use Rattle.rctl_grammar.specs.Grammar.{Spelled, named, placed_name, Leaf, leaf, atom_of, first_token}
-use Rattle.rctl_grammar.specs.Grammar.{leaf_in_range, text_leaf, Disjunction, Conjunction, Unary}
-use Rattle.rctl_grammar.specs.Grammar.{tok, spelled, path_word, truth_word}
+use Rattle.rctl_grammar.specs.Grammar.{Spelled, named, placed_name, Leaf, leaf, atom_of}
+use Rattle.rctl_grammar.specs.Grammar.{first_token, leaf_in_range, text_leaf, Disjunction}
+use Rattle.rctl_grammar.specs.Grammar.{Conjunction, Unary, tok, spelled, path_word, truth_word}
 use Rattle.rctl_grammar.specs.Grammar.{text_disjunction, text_conjunction, text_unary, first_amp}
 use Rattle.rctl_grammar.specs.Grammar.{first_bar, tree_disjunction, tree_conjunction, tree_unary}
 use Rattle.rctl_grammar.specs.Grammar.{disjuncts, conjuncts, levels_disjunction, levels_conjunction}
@@ -106,12 +107,13 @@ pub record WordRead (w : Spelled) (ts rest : List Token) (ending : End) (a : Ato
   pub place : first_token l ≡ w.at
   pub in_range : leaf_in_range l ≡ true
   pub text : named w ∷ ts ≡ text_leaf l rest
-  pub goes : (o : Open) → nodes_open o < 64
+  pub goes : (o : Open) → nodes_open o < most_nodes
       → fault_of (a_word o w) ts ending ≡ fault_of (plug o (leaf l)) rest ending
   pub shorter : length rest < length (named w ∷ ts)
 
 abbrev pub WordFault : Spelled → List Token → End → FormulaFault → Type 0
-WordFault w ts ending f = (o : Open) → nodes_open o < 64 → fault_of (a_word o w) ts ending ≡ Some f
+WordFault w ts ending f =
+    (o : Open) → nodes_open o < most_nodes → fault_of (a_word o w) ts ending ≡ Some f
 
 abbrev pub UnaryFault : List Token → Around → FormulaFault → Type 0
 UnaryFault ts around f =
@@ -125,8 +127,8 @@ pub record UnaryRead (ts rest : List Token) (around : Around) (nodes : ℕ) (t :
   pub goes : (o : Open) → depth o ≡ around.level → nodes_open o ≡ around.nodes
       → fault_of (operand o) ts around.end ≡ fault_of (plug o u) rest around.end
   pub counts : nodes ≡ around.nodes + nodes_unary u
-  pub fits : nodes ≤ 64
-  pub levels : levels_unary u ≤ 16 - around.level
+  pub fits : nodes ≤ most_nodes
+  pub levels : levels_unary u ≤ deepest - around.level
   pub in_range : unary_in_range u ≡ true
   pub shorter : length rest < length ts
 
@@ -170,8 +172,8 @@ pub record ConjunctionRead (ts rest : List Token) (around : Around) (nodes : ℕ
         → fault_of (operand (first_of outer before)) ts around.end
         ≡ fault_of (after outer before c) rest around.end
     pub counts : nodes ≡ around.nodes + nodes_conjunction c
-    pub fits : nodes ≤ 64
-    pub levels : levels_conjunction c ≤ 16 - around.level
+    pub fits : nodes ≤ most_nodes
+    pub levels : levels_conjunction c ≤ deepest - around.level
     pub in_range : conjunction_in_range c ≡ true
     pub ends : found amp_in rest ≡ None
     pub shorter : length rest < length ts
@@ -189,7 +191,7 @@ pub record ConjunctionSoFar (ts more : List Token) (around : Around) (nodes : �
       → fault_of (operand (first_of outer before)) ts around.end
       ≡ fault_of (operand (next_of outer before c amp)) more around.end
   pub counts : nodes ≡ around.nodes + nodes_conjunction c + amp_nodes c
-  pub levels : levels_conjunction c ≤ 16 - around.level
+  pub levels : levels_conjunction c ≤ deepest - around.level
   pub in_range : conjunction_in_range c ≡ true
   pub shorter : length more < length ts
 
@@ -210,8 +212,8 @@ pub record FormulaRead (ts rest : List Token) (around : Around) (nodes : ℕ) (t
         → fault_of (operand (first_of outer nothing)) ts around.end
         ≡ fault_of (after outer before c) rest around.end
     pub counts : nodes ≡ around.nodes + nodes_disjunction (joined before c)
-    pub fits : nodes ≤ 64
-    pub levels : levels_disjunction (joined before c) ≤ 16 - around.level
+    pub fits : nodes ≤ most_nodes
+    pub levels : levels_disjunction (joined before c) ≤ deepest - around.level
     pub in_range : disjunction_in_range (joined before c) ≡ true
     pub no_amp : found amp_in rest ≡ None
     pub no_bar : found bar_in rest ≡ None
@@ -229,7 +231,7 @@ pub record FormulaSoFar (ts more : List Token) (around : Around) (nodes : ℕ) (
       → fault_of (operand (first_of outer nothing)) ts around.end
       ≡ fault_of (operand (first_of outer (bar d bar_at))) more around.end
   pub counts : nodes ≡ around.nodes + nodes_disjunction d + bar_nodes d
-  pub levels : levels_disjunction d ≤ 16 - around.level
+  pub levels : levels_disjunction d ≤ deepest - around.level
   pub in_range : disjunction_in_range d ≡ true
   pub shorter : length more < length ts
 

@@ -12,10 +12,11 @@ use Rattle.answering.specs.Going.{GoesOn}
 
 -- batches were taken, the answer is that of the formula on what was observed, and the rows are
 -- those of its conjunctions
-pub record IsAnswered (growing : GrowingView) (rows : List SettledView) (told : Answer) : Type 0 where
-  pub taken : HasTaken growing
-  pub answer : IsAnswer growing.seen (disjuncts_of growing.disjuncts) told
-  pub settled : AreSettled growing.seen (all_conjunctions (disjuncts_of growing.disjuncts)) rows
+pub record IsAnswered (growing : GrowingView) (rows : List SettledView) (told : Answer) : Type 0
+  where
+    pub taken : HasTaken growing
+    pub answer : IsAnswer growing.seen (disjuncts_of growing.disjuncts) told
+    pub settled : AreSettled growing.seen (all_conjunctions (disjuncts_of growing.disjuncts)) rows
 
 -- nothing is said where there is no answer
 abbrev pub Stands : GrowingView → List SettledView → Option Answer → Type 0

@@ -3,6 +3,7 @@ use Rattle.std.specs.Prelude.{◌≡◌, ℕ, ◌-◌, ◌<◌, ◌≤◌}
 use Rattle.std.specs.Prelude.{length}
 use Rattle.std.specs.List.{AllByRecursion}
 use Rattle.run_model.specs.Cut.{count}
+use Rattle.pota_base.specs.Limits.{most_events, most_processes}
 use Rattle.event_log.specs.declared.log.Kind.TheVariants as kind
 use Rattle.trace_gen.specs.declared.queue.Sent.{Sent}
 use Rattle.trace_gen.specs.declared.process.Process.{Process}
@@ -19,6 +20,6 @@ pub record CanStep (procs k : ℕ) (p : Process) : Type 0 where
 -- 1 to 32 processes may make event number k
 pub record CanMake (k : ℕ) (ps : Processes) : Type 0 where
   pub some : 1 ≤ length ps
-  pub few : length ps ≤ 32
-  pub limit : k < 50000
+  pub few : length ps ≤ most_processes
+  pub limit : k < most_events
   pub each : (i : ℕ) → i < length ps → CanStep (length ps) k (process_at ps i)

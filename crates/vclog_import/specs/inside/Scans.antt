@@ -5,6 +5,7 @@ use Rattle.std.specs.Prelude.{Option, None, Some, is_some, if◌then◌else◌}
 use Rattle.std.specs.Borrow.{Bor}
 use Rattle.std.specs.List.{list_any}
 use Rattle.std.specs.Str.{bytes_eq}
+use Rattle.pota_base.specs.Limits.{most_events, most_processes}
 use Rattle.log_lines.specs.Reading.{choose}
 use Rattle.fault_kinds.specs.declared.import.ImportCode.{ImportCode}
 use Rattle.fault_kinds.specs.declared.import.ImportCode.TheVariants as code
@@ -59,8 +60,8 @@ AreApart hosts = (g h : Host) → Has g hosts → Has h hosts → name_of g ≡ 
 -- the records of which the lines are kept have no fault without their clocks
 pub record HasScanned (s : Scan) : Type 0 where
   pub hosts_are : hosts_in s.hosts.items ≡ hosts_of (records s.lines.items)
-  pub few_hosts : length s.hosts.items ≤ 32
-  pub few_lines : length s.lines.items ≤ 50000
+  pub few_hosts : length s.hosts.items ≤ most_processes
+  pub few_lines : length s.lines.items ≤ most_events
   pub clash_is : s.clash ≡ first_of clash_fault [] (records s.lines.items)
   pub apart : s.clash ≡ None → AreApart (hosts_in s.hosts.items)
 

@@ -4,6 +4,7 @@ use Rattle.std.specs.Prelude.{length, get_or, if◌then◌else◌}
 use Rattle.pota_base.specs.declared.shape.EventId.{EventId}
 use Rattle.run_model.specs.Cut.{Cut, Clocks, count, lengths, with_next}
 use Rattle.run_model.specs.Consistent.{IsEvent, IsConsistent}
+use Rattle.pota_base.specs.Limits.{most_processes}
 use Rattle.view_parts.specs.Each.{each_below}
 use Rattle.view_parts.specs.Parts.{place}
 use Rattle.view_picture.specs.Columns.{Rows, column}
@@ -44,7 +45,7 @@ latest_of rows process =
     each_below (length (get_or rows process [])) (λ events. last_shown rows process events ∷ [])
 
 pub record AreLatest (rows latest : Rows) : Type 0 where
-  pub few : length rows ≤ 32
+  pub few : length rows ≤ most_processes
   pub procs : length latest ≡ length rows
   pub each : (p : ℕ) → get_or latest p [] ≡ latest_of rows p
 

@@ -3,6 +3,7 @@ use Rattle.std.specs.Prelude.{◌≡◌, ◌⊎◌, ℕ, ◌<◌, ◌≤◌, Boo
 use Rattle.std.specs.Prelude.{Option, None, Some}
 use Rattle.std.specs.Io.KnownBytes.{Appends}
 use Rattle.pota_base.specs.Outside.{Rose, IsPrefix}
+use Rattle.pota_base.specs.Changes.{Change, Counts, faults_of}
 use Rattle.event_log.specs.declared.item.LogFault.{LogFault}
 use Rattle.event_log.specs.declared.reader.Reader.{Reader}
 use Rattle.event_log.specs.Faults.{fault_of, items_in}
@@ -111,16 +112,15 @@ NoViewIn e input fault.Write = ⊥
 NoViewIn e input fault.Memory = Unit {0}
 
 -- the view was written, or a front of it, or nothing
-abbrev pub WritesOf : View → End → List ℕ → (of of' : ℕ) → List ℕ → Option Fault → Type 0
-WritesOf asked e input of of' written None = (e ≡ end.Ended) × IsViewIn asked input written
-WritesOf asked e input of of' written (Some f) =
-    ((written ≡ []) × NoViewIn e input f)
-    ⊎ ((f ≡ fault.Write) × (e ≡ end.Ended) × (shown : List ℕ) × IsViewIn asked input shown
-    × IsPrefix written shown × Rose of of')
+abbrev pub WritesOf : View → End → List ℕ → (faults : Counts) → List ℕ → Option Fault → Type 0
+WritesOf asked e input faults written None = (e ≡ end.Ended) × IsViewIn asked input written
+WritesOf asked e input faults written (Some f) =
+    ((written ≡ []) × NoViewIn e input f) ⊎ ((f ≡ fault.Write) × (e ≡ end.Ended) × (shown : List ℕ)
+    × IsViewIn asked input shown × IsPrefix written shown × Rose faults.before faults.after)
 
 -- what was written of an input that is read no further for this reason
-pub record PutsView (asked : View) (e : End) (input : List ℕ) (held held' : Option (List ℕ))
-    (of of' : ℕ) (fault : Option Fault) : Type 0 where
+pub record PutsView (asked : View) (e : End) (input : List ℕ) (sink : Change) (fault : Option Fault)
+    : Type 0 where
   pub written : List ℕ
-  pub wrote : Appends held held' written
-  pub to : WritesOf asked e input of of' written fault
+  pub wrote : Appends sink.before sink.after written
+  pub to : WritesOf asked e input (faults_of sink) written fault

@@ -1,7 +1,8 @@
 -- The check of an input once it was read.
-use Rattle.std.specs.Prelude.{◌≡◌, ℕ, ◌≤◌, List, [], length, Option, Result, Ok, Err}
+use Rattle.std.specs.Prelude.{◌≡◌, ◌≤◌, [], length, Result, Ok, Err}
 use Rattle.std.specs.Io.KnownBytes.{Appends}
 use Rattle.pota_base.specs.declared.fault.NoMemory.{NoMemory}
+use Rattle.pota_base.specs.Changes.{Change}
 use Rattle.event_log.specs.declared.log.Log.{Log}
 use Rattle.event_log.specs.FittingItems.{FitFirst}
 use Rattle.event_log.specs.LogText.{log_items}
@@ -28,26 +29,21 @@ CanBeChecked (Ok Failed) = Unit {0}
 CanBeChecked (Err short) = Unit {0}
 
 -- the log was checked, and its fault is told at its place
-pub record HasPlaced (held held' : Option (List ℕ)) (of of' : ℕ) (aim : Aim) (log : Log)
-    (places : Places) (result : Result Verdict Stop) : Type 0 where
+pub record HasPlaced (sink : Change) (aim : Aim) (log : Log) (places : Places)
+    (result : Result Verdict Stop) : Type 0 where
   pub ended : Result Verdict Stop
-  pub checked : HasWhole held held' of of' aim log ended
+  pub checked : HasWhole sink aim log ended
   pub told : result ≡ placed_result (place_by places) ended
 
 -- nothing was written, and this is why
-pub record HasStopped (held held' : Option (List ℕ)) (of of' : ℕ) (cause : StopCause)
-    (result : Result Verdict Stop) : Type 0 where
-  pub nothing : Appends held held' []
-  pub later : of ≤ of'
-  pub told : result ≡ Err (record { batches = 0; cause = cause })
+pub record HasStopped (sink : Change) (cause : StopCause) (result : Result Verdict Stop) : Type 0
+  where
+    pub nothing : Appends sink.before sink.after []
+    pub later : sink.faults_before ≤ sink.faults_after
+    pub told : result ≡ Err (record { batches = 0; cause = cause })
 
-abbrev pub ChecksStanding : Option (List ℕ) → Option (List ℕ) → ℕ → ℕ → Aim
-    → Result Standing NoMemory → Result Verdict Stop → Type 0
-ChecksStanding held held' of of' aim (Ok (Whole log places)) result =
-    HasPlaced held held' of of' aim log places result
-ChecksStanding held held' of of' aim (Ok (Faulty r)) result =
-    HasStopped held held' of of' (causes.Refused r) result
-ChecksStanding held held' of of' aim (Ok Failed) result =
-    HasStopped held held' of of' causes.Read result
-ChecksStanding held held' of of' aim (Err short) result =
-    HasStopped held held' of of' causes.Memory result
+abbrev pub ChecksStanding : Change → Aim → Result Standing NoMemory → Result Verdict Stop → Type 0
+ChecksStanding sink aim (Ok (Whole log places)) result = HasPlaced sink aim log places result
+ChecksStanding sink aim (Ok (Faulty r)) result = HasStopped sink (causes.Refused r) result
+ChecksStanding sink aim (Ok Failed) result = HasStopped sink causes.Read result
+ChecksStanding sink aim (Err short) result = HasStopped sink causes.Memory result

@@ -1,7 +1,7 @@
 use Rattle.std.specs.Prelude.{map, string_bytes, drop}
 use Rattle.std.proofs.Common.{sym, subst}
 use Rattle.asked_log.specs.Watches.{handed_watches, names_of}
-use Rattle.input_reading.specs.Changes.{of_source}
+use Rattle.pota_base.specs.Changes.{of_source}
 use Rattle.log_rules.specs.WholeLogs.{all_of}
 use Rattle.ask_top.specs.Documents.{IsDocument}
 use Rattle.ask_top.specs.inside.Observing.{StopsAs}

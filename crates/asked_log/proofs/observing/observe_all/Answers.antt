@@ -1,7 +1,12 @@
 use Rattle.std.specs.Vec.Iter.{into_iter_items}
-use Rattle.std.proofs.Common.{subst}
-use Rattle.asked_log.proofs.Observed.{Through, fits, goes_on, stops}
+use Rattle.std.proofs.Common.{◌∙◌, subst, sym}
+use Rattle.asked_log.proofs.Observed.{Through, begins, fits, goes_on, stops}
 use Rattle.asked_log.proofs.observing.observe_all.Goals as goal
+
+pub loop-batch-init : goal.loop-batch-init
+loop-batch-init g c =
+    subst (Through (λ h. (goal.Watch-dyn g (h.watch.vtable, h.watch.value)).answers h.watch.value) c.args.batches c.args.observation c.args.observation) (sym (c.into_iter-rest.ensures.rest ∙ c.into_vec.ensures))
+    (begins (λ h. (goal.Watch-dyn g (h.watch.vtable, h.watch.value)).answers h.watch.value) c.args.batches c.args.observation c.requires.opened)
 
 pub observe-requires : goal.observe-requires
 observe-requires g c = record {

@@ -1,4 +1,5 @@
 use Rattle.std.proofs.Common.{◌≡◌, ◌-◌}
+use Rattle.pota_base.specs.Limits.{longest_kept}
 use Rattle.batch_answers.proofs.ReadingSteps.{GoingSoFar}
 use Rattle.batch_answers.proofs.reading.read_log.Given as goal
 
@@ -13,4 +14,4 @@ invariant-turns g l =
     }
 
 abbrev pub decreases-turns : goal.decreases-turns
-decreases-turns g l = 67108865 - l.reader.feeder.total
+decreases-turns g l = longest_kept - l.reader.feeder.total

@@ -4,7 +4,7 @@ use Rattle.event_log.specs.FittingItems.{FitFirst}
 use Rattle.event_log.specs.LogText.{log_items}
 use Rattle.log_answers.specs.Whole.{TakingStops}
 use Rattle.log_rules.specs.WholeLogs.{all_of}
-use Rattle.run_promise.specs.Run.{made_by}
+use Rattle.call_promise.specs.Run.{made_by}
 use Rattle.bench_answers.proofs.Benching.{made_short, made_follows, made_rises, made_stops, as_made, made_closed, made_judgement, summed}
 use Rattle.bench_answers.proofs.bench.bench_all.Goals as goal
 

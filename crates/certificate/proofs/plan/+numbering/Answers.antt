@@ -1,4 +1,5 @@
 use Rattle.std.proofs.Common.{◌≡◌, ◌+◌, ◌≤◌, true, rules, List, length, take, sym, ◌∙◌, ap, subst, arith}
+use Rattle.pota_base.specs.Limits.{most_parts}
 use Rattle.rctl_grammar.specs.declared.tree.Operator.{Operator}
 use Rattle.rctl_parts.specs.declared.part.Part.{Part}
 use Rattle.rctl_parts.specs.declared.part.Part.TheVariants as part_of
@@ -61,7 +62,7 @@ number_part-number_parts-requires t c =
           subst (λ (list : List Part). EachFits (scope_seen seen) (pieces_of list)) same (temporal_fits (scope_seen seen) p o ps is c.requires.fits),
           (
             subst (λ (list : List Part). AllRise seen (counters_of_parts (pieces_of list))) same (temporal_rises seen p o ps is c.requires.counters),
-            subst (λ (list : List Part). length c.args.nodes.now + disjunct_count (pieces_of list) ≤ 128) same (omega (arith, temporal_room p o ps (length c.args.nodes.now) is c.requires.count)),
+            subst (λ (list : List Part). length c.args.nodes.now + disjunct_count (pieces_of list) ≤ most_parts) same (omega (arith, temporal_room p o ps (length c.args.nodes.now) is c.requires.count)),
           ),
         ),
       ),

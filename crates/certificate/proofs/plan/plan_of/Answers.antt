@@ -1,4 +1,5 @@
 use Rattle.std.proofs.Common.{◌+◌, ◌≤◌, ◌++◌, List, length, take, sym, ◌∙◌, ap, subst, arith}
+use Rattle.pota_base.specs.Limits.{most_parts}
 use Rattle.rctl_parts.specs.declared.part.Part.{Part}
 use Rattle.rctl_parts.specs.Pieces.{pieces, pieces_of, disjuncts_of}
 use Rattle.rctl_parts.specs.MadeFor.{EachFits, AllFit}
@@ -6,8 +7,8 @@ use Rattle.part_pulls.specs.Observing.{scope_seen, lens_seen}
 use Rattle.part_pulls.specs.Counters.{AllRise, CountersRise, counters_of_parts}
 use Rattle.part_pulls.proofs.Rising.{disjunct_rises}
 use Rattle.part_pulls.proofs.Taken.{disjunct_at, disjuncts_taken, disjunct_fits, all_taken}
-use Rattle.certified_nodes.specs.declared.plan.Plan.{Plan}
-use Rattle.certified_nodes.specs.Plans.{IsPlan}
+use Rattle.certificate_nodes.specs.declared.plan.Plan.{Plan}
+use Rattle.certificate_nodes.specs.Plans.{IsPlan}
 use Rattle.certificate.specs.Numbering.{disjunct_count, nodes_in_all, asked_by_all}
 use Rattle.certificate.proofs.Fitting.{plan_fits}
 use Rattle.certificate.proofs.Steps.{Planned, planned_more, planned_all, disjunct_room}
@@ -33,7 +34,7 @@ pub number_parts-requires-clause-count : goal.number_parts-requires-clause-count
 number_parts-requires-clause-count c =
     let d = c.disjunct-item.result in
     let splits = disjunct_at c.args.disjuncts.now c.disjuncts.disjunct-index d c.disjuncts-test.true c.disjunct-item.is in
-    subst (λ (parts : List Part). length c.disjuncts.nodes + disjunct_count (pieces_of parts) ≤ 128) (sym c.as_slice.ensures)
+    subst (λ (parts : List Part). length c.disjuncts.nodes + disjunct_count (pieces_of parts) ≤ most_parts) (sym c.as_slice.ensures)
     (disjunct_room c.args.seen.now c.disjuncts.nodes c.disjuncts.asked (disjuncts_of c.args.disjuncts.now) (disjuncts_of (take c.disjuncts.disjunct-index c.args.disjuncts.now)) (pieces_of d) splits.later
     c.disjuncts.invariant splits.is c.requires.count)
 

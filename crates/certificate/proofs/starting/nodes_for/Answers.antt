@@ -1,6 +1,6 @@
 use Rattle.std.proofs.Common.{subst}
 use Rattle.run_model.specs.Cut.{Clocks, lengths}
-use Rattle.certified_nodes.specs.Plans.{IsPlan}
+use Rattle.certificate_nodes.specs.Plans.{IsPlan}
 use Rattle.certificate.proofs.starting.nodes_for.Goals as goal
 
 pub new-requires-clause-plan : goal.new-requires-clause-plan

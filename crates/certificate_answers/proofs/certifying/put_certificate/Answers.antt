@@ -1,4 +1,5 @@
 use Rattle.std.proofs.Common.{inl, inr, subst, sym, List}
+use Rattle.pota_base.specs.Changes.{change_of}
 use Rattle.rctl_parts.specs.declared.part.Part.{Part}
 use Rattle.rctl_parts.specs.Pieces.{disjuncts_of}
 use Rattle.certify.specs.Certifying.{CanBeCertified, HasFront, IsCertifying}
@@ -18,7 +19,7 @@ returns-in-Ok g c =
     inr (
       c.in-Ok.ended,
       c.verdict_of.ensures,
-      subst (λ (ps : List (List Part)). IsCertifying c.in-Ok.ended (g.O.Sink.held c.args.out.now) (g.O.Sink.held c.certify-told.new.out) (g.O.Sink.faults c.args.out.now) (g.O.Sink.faults c.certify-told.new.out)
+      subst (λ (ps : List (List Part)). IsCertifying c.in-Ok.ended (change_of (g.O.Sink.held c.args.out.now) (g.O.Sink.held c.certify-told.new.out) (g.O.Sink.faults c.args.out.now) (g.O.Sink.faults c.certify-told.new.out))
           c.args.checked.seen (disjuncts_of ps) c.args.line.now) c.as_slice.ensures c.in-Ok.ensures.certified,
     )
 

@@ -1,5 +1,5 @@
 use Rattle.certificate_text.specs.Running.{certificate_lines}
-use Rattle.canonical_nodes.proofs.PassedOn.{whole_accepted}
+use Rattle.certificate_next_line.proofs.PassedOn.{whole_accepted}
 use Rattle.certify.specs.Certifying.{nodes_of}
 use Rattle.certify.proofs.laws.certificates_tell_the_truth.Goals as goal
 

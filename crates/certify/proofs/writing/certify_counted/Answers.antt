@@ -1,5 +1,5 @@
 use Rattle.std.proofs.Common.{◌∙◌, subst, sym}
-use Rattle.canonical_nodes.specs.PassedOn.{NodesView, AreNodes}
+use Rattle.certificate_next_line.specs.PassedOn.{NodesView, AreNodes}
 use Rattle.certify.proofs.Fronts.{nothing_written, on_err}
 use Rattle.certify.proofs.Certified.{certified_of, memory_of, nothing_of}
 use Rattle.certify.proofs.writing.certify_counted.Goals as goal

@@ -2,7 +2,7 @@ use Rattle.std.proofs.Common.{◌≡◌, ℕ, List, [], ◌∷◌, ◌++◌, ap,
 use Rattle.certificate_lines.specs.declared.line.Line.{Line}
 use Rattle.certificate_lines.specs.declared.line.Line.TheVariants.{Verdict}
 use Rattle.certificate_lines.specs.Spelling.{line_text, lines_text, title}
-use Rattle.canonical_nodes.specs.PassedOn.{IsNext}
+use Rattle.certificate_next_line.specs.PassedOn.{IsNext}
 use Rattle.certify.proofs.Fronts.{stands-first, stands-more, stands-flushed, stands-cut, stands-memory, nothing_written, ended-is, is_of_node, on_err}
 use Rattle.certify.proofs.writing.write_lines.Goals as goal
 

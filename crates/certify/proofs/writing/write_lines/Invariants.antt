@@ -1,4 +1,4 @@
-use Rattle.canonical_nodes.specs.Coming.{lines_left}
+use Rattle.certificate_next_line.specs.Coming.{lines_left}
 use Rattle.certify.proofs.Fronts.{Stands}
 use Rattle.certify.proofs.writing.write_lines.Given as goal
 

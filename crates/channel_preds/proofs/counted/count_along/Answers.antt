@@ -1,5 +1,6 @@
-use Rattle.std.proofs.Common.{◌<◌, ◌≤◌, ◌≡◌, length, arith, sym, subst, ◌∙◌, List, ℕ}
+use Rattle.std.proofs.Common.{◌+◌, ◌<◌, ◌≤◌, ◌≡◌, length, arith, sym, subst, ◌∙◌, List, ℕ}
 use Rattle.std.specs.Prelude.{true, false}
+use Rattle.pota_base.specs.Limits.{most_events}
 use Rattle.channel_preds.specs.Channels.{events_at}
 use Rattle.channel_preds.specs.inside.Channels.{AreCounts}
 use Rattle.channel_preds.proofs.Counting.{CountedSoFar, counted_more, counted_all, counts_are, length-counts_of, length-events_at, few_events}
@@ -26,5 +27,5 @@ returns-clause-counts c = subst AreCounts (sym (returns-clause-told c)) (counts_
 pub returns-clause-few : goal.returns-clause-few
 returns-clause-few c =
     let few = few_events c.args.states.now _ c.args.process c.requires c.shape.ensures c.len_of-len.ensures.shape in
-    let P : List ℕ → Type 0 = λ counts. length counts ≤ 50001 in
+    let P : List ℕ → Type 0 = λ counts. length counts ≤ most_events + 1 in
     subst P (sym (returns-clause-told c)) (omega (arith, few, length-counts_of c.args.which (events_at c.args.states.now c.args.process)))

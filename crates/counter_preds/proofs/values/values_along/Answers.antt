@@ -1,6 +1,7 @@
 use Rattle.std.proofs.Common.{◌≡◌, ◌+◌, ◌≤◌, ◌∙◌, ◌++◌, ℕ, ℤ, List, [], ◌∷◌, length, map, ap, sym, subst, arith}
 use Rattle.std.specs.List.{range_with_len}
 use Rattle.std.proofs.lemmas.Int.{to_z-of_z}
+use Rattle.pota_base.specs.Limits.{most_events}
 use Rattle.channel_preds.proofs.Counting.{length-events_at, few_events}
 use Rattle.channel_preds.specs.Channels.{events_at}
 use Rattle.counter_preds.specs.Counters.{value_in}
@@ -21,5 +22,5 @@ returns-clause-values c =
 pub returns-clause-few : goal.returns-clause-few
 returns-clause-few c =
     let few = few_events c.args.states.now _ c.args.variable.process c.requires.process c.shape.ensures c.len_of-len.ensures.shape in
-    let P : List ℤ → Type 0 = λ values. length values ≤ 50001 in
+    let P : List ℤ → Type 0 = λ values. length values ≤ most_events + 1 in
     subst P (sym (returns-clause-values c)) (omega (arith, few, length-values_of c.args.states.now c.args.variable))

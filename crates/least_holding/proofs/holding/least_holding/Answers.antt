@@ -6,6 +6,7 @@ use Rattle.std.proofs.Math.Seq.{take-append_seam}
 use Rattle.std.proofs.lemmas.List.{length-map}
 use Rattle.run_model.specs.Cut.{Clocks, lengths}
 use Rattle.run_model.proofs.Counts.{length-lengths}
+use Rattle.pota_base.specs.Limits.{most_processes}
 use Rattle.pull_system.specs.declared.pull.Pull.{Pull}
 use Rattle.pull_system.specs.System.{SystemView, IsSystem, IsPull}
 use Rattle.pull_fans.specs.Fans.{pulls_of_fans}
@@ -23,9 +24,9 @@ with_fans-requires-clause-count g c =
     let o = clocks_seen c.args.seen.now in
     let n = length o in
     let clocks : c.order.result.now ≡ o = c.order.ensures.order ∙ sym c.order.ensures.trace.clocks in
-    let small : n ≤ 32 = omega (arith, c.shape.ensures.shape.few, ap length c.shape.ensures.lens, ap (λ (k : Clocks). length (lengths k)) clocks, length-lengths o) in
-    let less : n - 1 ≤ 32 = omega arith in
-    let square : n * (n - 1) ≤ 32 * 32 = mul-le-mul {n₁ = n} {m₁ = n - 1} {n₂ = 32} {m₂ = 32} small less in
+    let small : n ≤ most_processes = omega (arith, c.shape.ensures.shape.few, ap length c.shape.ensures.lens, ap (λ (k : Clocks). length (lengths k)) clocks, length-lengths o) in
+    let less : n - 1 ≤ most_processes = omega arith in
+    let square : n * (n - 1) ≤ most_processes * most_processes = mul-le-mul {n₁ = n} {m₁ = n - 1} {n₂ = most_processes} {m₂ = most_processes} small less in
     let own : length c.args.system.pulls ≡ n * (n - 1) = ap (λ (s : SystemView). length s.pulls) c.requires.system ∙ order_pulls_count o in
     let asks = c.in_ok-fans.ensures in
     omega (arith, square, own, ap length asks.is, asks.few, length-map c.args.parts.now piece_of, c.requires.few)
@@ -64,9 +65,9 @@ returns-clause-bottom g c =
     let is : c.in_ok-system.system ≡ with_parts seen fans = c.in_ok-system.ensures ∙ ap (λ (s : SystemView). record s { pulls = s.pulls ++ fans }) c.requires.system in
     let clocks : c.order.result.now ≡ o = c.order.ensures.order ∙ sym c.order.ensures.trace.clocks in
     let shape : IsShape (lens_seen seen) = subst (λ (k : Clocks). IsShape (lengths k)) clocks c.shape.ensures.shape in
-    let small : n ≤ 32 = omega (arith, shape.few, length-lengths o) in
-    let less : n - 1 ≤ 32 = omega arith in
-    let square : n * (n - 1) ≤ 32 * 32 = mul-le-mul {n₁ = n} {m₁ = n - 1} {n₂ = 32} {m₂ = 32} small less in
+    let small : n ≤ most_processes = omega (arith, shape.few, length-lengths o) in
+    let less : n - 1 ≤ most_processes = omega arith in
+    let square : n * (n - 1) ≤ most_processes * most_processes = mul-le-mul {n₁ = n} {m₁ = n - 1} {n₂ = most_processes} {m₂ = most_processes} small less in
     let fit : All (IsPull (lens_seen seen)) fans = subst (λ (list : List Pull). All (IsPull (lens_seen seen)) list) (sym asks.is) asks.fit in
     let system : IsSystem (with_parts seen fans) = record {
       shape = shape;

@@ -1,6 +1,6 @@
 use Rattle.std.proofs.Common.{[], arith}
-use Rattle.input_reading.specs.Changes.{of_source}
-use Rattle.input_reading.specs.Intakes.{HasReadSome}
+use Rattle.pota_base.specs.Changes.{of_source}
+use Rattle.input_reading.specs.Intakes.{ReadsShort}
 use Rattle.log_input.proofs.Stands.{err_so, read_short, records_stood}
 use Rattle.log_input.proofs.reading.read_records.Goals as goal
 
@@ -14,5 +14,5 @@ returns-clause-reads g c =
 
 pub returns-clause-short : goal.returns-clause-short
 returns-clause-short g c =
-    err_so c.with_line.result (HasReadSome (of_source g.S.Source c.args.source.now c.read_all.new.source))
+    err_so c.with_line.result (ReadsShort (of_source g.S.Source c.args.source.now c.read_all.new.source))
     (read_short (of_source g.S.Source c.args.source.now c.read_all.new.source) c.read_all.new.intake c.in_ok-end.end (c.in_ok-end.ensures.reads [] (c.new-kept.ensures, omega arith)))

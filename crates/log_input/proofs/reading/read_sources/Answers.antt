@@ -1,5 +1,5 @@
-use Rattle.input_reading.specs.Changes.{of_source}
-use Rattle.input_reading.specs.Intakes.{HasReadSome}
+use Rattle.pota_base.specs.Changes.{of_source}
+use Rattle.input_reading.specs.Intakes.{ReadsShort}
 use Rattle.log_input.proofs.Stands.{err_so, gathered_short, may_merge, sources_whole, sources_faulty, sources_failed}
 use Rattle.log_input.proofs.reading.read_sources.Goals as goal
 
@@ -15,7 +15,7 @@ returns-in_ok-judged-in-Logs-clause-reads g c =
 
 pub returns-in_ok-judged-in-Logs-clause-short : goal.returns-in_ok-judged-in-Logs-clause-short
 returns-in_ok-judged-in-Logs-clause-short g c =
-    err_so c.with_line.result (HasReadSome (of_source g.S.Source c.args.source.now c.gather.new.source)) (gathered_short (of_source g.S.Source c.args.source.now c.gather.new.source) c.in_ok-logs.field-0 c.in_ok-logs.ensures.reads)
+    err_so c.with_line.result (ReadsShort (of_source g.S.Source c.args.source.now c.gather.new.source)) (gathered_short (of_source g.S.Source c.args.source.now c.gather.new.source) c.in_ok-logs.field-0 c.in_ok-logs.ensures.reads)
 
 pub returns-in-Fault-clause-reads : goal.returns-in-Fault-clause-reads
 returns-in-Fault-clause-reads g c =

@@ -1,4 +1,5 @@
 use Rattle.std.proofs.Common.{◌≡◌, None, [], refl, subst}
+use Rattle.pota_base.specs.Changes.{change_of}
 use Rattle.input_reading.specs.Intakes.{ReadsAll}
 use Rattle.log_sources.specs.Sources.{after, no_sources}
 use Rattle.log_sources.specs.Reading.{HasReadSources}
@@ -12,19 +13,19 @@ read_all-requires g c = ([], begins c.new-reader.result c.new-reader.ensures)
 pub returns-in-Ended-clause-reads : goal.returns-in-Ended-clause-reads
 returns-in-Ended-clause-reads g c =
     gathers_ended (g.S.Source.left c.args.source.now) (g.S.Source.left c.read_all.new.source) (g.S.Source.faults c.args.source.now) (g.S.Source.faults c.read_all.new.source) c.read_all.new.intake c.finished.result
-    (subst (ReadsAll (g.S.Source.left c.args.source.now) (g.S.Source.left c.read_all.new.source) (g.S.Source.faults c.args.source.now) (g.S.Source.faults c.read_all.new.source) (λ bytes. HasReadSources c.read_all.new.intake (after no_sources bytes) × ((after no_sources bytes).fault ≡ None)) (λ bytes. HasReadSources c.read_all.new.intake (after no_sources bytes) × IsFaulty (after no_sources bytes)) []) c.in-Ended.is (c.in_ok-read_all.ensures.reads [] (begins c.new-reader.result c.new-reader.ensures)))
+    (subst (ReadsAll (change_of (g.S.Source.left c.args.source.now) (g.S.Source.left c.read_all.new.source) (g.S.Source.faults c.args.source.now) (g.S.Source.faults c.read_all.new.source)) (λ bytes. HasReadSources c.read_all.new.intake (after no_sources bytes) × ((after no_sources bytes).fault ≡ None)) (λ bytes. HasReadSources c.read_all.new.intake (after no_sources bytes) × IsFaulty (after no_sources bytes)) []) c.in-Ended.is (c.in_ok-read_all.ensures.reads [] (begins c.new-reader.result c.new-reader.ensures)))
     c.finished.ensures
 
 pub returns-in-Done-clause-reads : goal.returns-in-Done-clause-reads
 returns-in-Done-clause-reads g c =
     gathers_done (g.S.Source.left c.args.source.now) (g.S.Source.left c.read_all.new.source) (g.S.Source.faults c.args.source.now) (g.S.Source.faults c.read_all.new.source) c.read_all.new.intake c.finished-in-Done.result
-    (subst (ReadsAll (g.S.Source.left c.args.source.now) (g.S.Source.left c.read_all.new.source) (g.S.Source.faults c.args.source.now) (g.S.Source.faults c.read_all.new.source) (λ bytes. HasReadSources c.read_all.new.intake (after no_sources bytes) × ((after no_sources bytes).fault ≡ None)) (λ bytes. HasReadSources c.read_all.new.intake (after no_sources bytes) × IsFaulty (after no_sources bytes)) []) c.in-Done.is (c.in_ok-read_all.ensures.reads [] (begins c.new-reader.result c.new-reader.ensures)))
+    (subst (ReadsAll (change_of (g.S.Source.left c.args.source.now) (g.S.Source.left c.read_all.new.source) (g.S.Source.faults c.args.source.now) (g.S.Source.faults c.read_all.new.source)) (λ bytes. HasReadSources c.read_all.new.intake (after no_sources bytes) × ((after no_sources bytes).fault ≡ None)) (λ bytes. HasReadSources c.read_all.new.intake (after no_sources bytes) × IsFaulty (after no_sources bytes)) []) c.in-Done.is (c.in_ok-read_all.ensures.reads [] (begins c.new-reader.result c.new-reader.ensures)))
     c.finished-in-Done.ensures
 
 pub returns-in-Failed-clause-reads : goal.returns-in-Failed-clause-reads
 returns-in-Failed-clause-reads g c =
     gathers_failed (g.S.Source.left c.args.source.now) (g.S.Source.left c.read_all.new.source) (g.S.Source.faults c.args.source.now) (g.S.Source.faults c.read_all.new.source) c.read_all.new.intake
-    (subst (ReadsAll (g.S.Source.left c.args.source.now) (g.S.Source.left c.read_all.new.source) (g.S.Source.faults c.args.source.now) (g.S.Source.faults c.read_all.new.source) (λ bytes. HasReadSources c.read_all.new.intake (after no_sources bytes) × ((after no_sources bytes).fault ≡ None)) (λ bytes. HasReadSources c.read_all.new.intake (after no_sources bytes) × IsFaulty (after no_sources bytes)) []) c.in-Failed.is (c.in_ok-read_all.ensures.reads [] (begins c.new-reader.result c.new-reader.ensures)))
+    (subst (ReadsAll (change_of (g.S.Source.left c.args.source.now) (g.S.Source.left c.read_all.new.source) (g.S.Source.faults c.args.source.now) (g.S.Source.faults c.read_all.new.source)) (λ bytes. HasReadSources c.read_all.new.intake (after no_sources bytes) × ((after no_sources bytes).fault ≡ None)) (λ bytes. HasReadSources c.read_all.new.intake (after no_sources bytes) × IsFaulty (after no_sources bytes)) []) c.in-Failed.is (c.in_ok-read_all.ensures.reads [] (begins c.new-reader.result c.new-reader.ensures)))
 
 pub returns-in-Ended-clause-calm : goal.returns-in-Ended-clause-calm
 returns-in-Ended-clause-calm g c other = let is = c.in-Ended.is in c.in_ok-read_all.ensures.calm (λ e. cc)

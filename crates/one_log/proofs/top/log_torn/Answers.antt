@@ -1,5 +1,5 @@
 use Rattle.std.specs.Prelude.{map, string_bytes}
-use Rattle.input_reading.specs.Changes.{of_source}
+use Rattle.pota_base.specs.Changes.{of_source}
 use Rattle.one_log.proofs.Words.{never_torn}
 use Rattle.one_log.proofs.Written.{torn_whole}
 use Rattle.one_log.proofs.top.log_torn.Goals as goal

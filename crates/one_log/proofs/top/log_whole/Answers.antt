@@ -1,5 +1,5 @@
 use Rattle.std.specs.Prelude.{map, string_bytes}
-use Rattle.input_reading.specs.Changes.{of_source}
+use Rattle.pota_base.specs.Changes.{of_source}
 use Rattle.log_rules.specs.WholeLogs.{all_of}
 use Rattle.one_log.proofs.Written.{whole, refused, failed, short, calm_so}
 use Rattle.std.proofs.Common.{[]}

@@ -1,6 +1,6 @@
 use Rattle.std.proofs.Common.{[], arith}
-use Rattle.input_reading.specs.Changes.{of_source}
-use Rattle.input_reading.specs.Intakes.{HasReadSome}
+use Rattle.pota_base.specs.Changes.{of_source}
+use Rattle.input_reading.specs.Intakes.{ReadsShort}
 use Rattle.log_input.proofs.Stands.{err_so, read_short}
 use Rattle.one_log.proofs.Beginnings.{torn_ended, torn_done, torn_failed}
 use Rattle.one_log.proofs.torn.read_torn.Goals as goal
@@ -15,7 +15,7 @@ returns-in-Ended-clause-reads g c =
 
 pub returns-in-Ended-clause-short : goal.returns-in-Ended-clause-short
 returns-in-Ended-clause-short g c =
-    err_so c.judge.result (HasReadSome (of_source g.S.Source c.args.source.now c.read_all.new.source))
+    err_so c.judge.result (ReadsShort (of_source g.S.Source c.args.source.now c.read_all.new.source))
     (read_short (of_source g.S.Source c.args.source.now c.read_all.new.source) c.read_all.new.intake c.in_ok-read_all.field-0 (c.in_ok-read_all.ensures.reads [] (c.new-kept.ensures, omega arith)))
 
 pub returns-in-Done-clause-reads : goal.returns-in-Done-clause-reads

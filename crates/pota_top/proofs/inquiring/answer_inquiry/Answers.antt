@@ -1,7 +1,7 @@
 use Rattle.std.proofs.Common.{refl}
 use Rattle.command_words.specs.declared.request.Form.TheVariants as form
 use Rattle.command_words.specs.declared.request.Product.TheVariants as product
-use Rattle.run_promise.specs.Asking.{handing_of}
+use Rattle.call_promise.specs.Asking.{handing_of}
 use Rattle.pota_top.proofs.Running.{asked_so}
 use Rattle.pota_top.proofs.Words.{asks_text}
 use Rattle.pota_top.proofs.inquiring.answer_inquiry.Goals as goal

@@ -1,7 +1,7 @@
 use Rattle.std.proofs.Common.{refl}
 use Rattle.command_words.specs.declared.request.Form.TheVariants as form
 use Rattle.command_words.specs.declared.request.Product.TheVariants as product
-use Rattle.run_promise.specs.Asking.{reading_of}
+use Rattle.call_promise.specs.Asking.{reading_of}
 use Rattle.pota_top.proofs.Running.{asked_so, ran_checked}
 use Rattle.pota_top.proofs.inquiring.answer_reports.Goals as goal
 

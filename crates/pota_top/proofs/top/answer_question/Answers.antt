@@ -1,8 +1,8 @@
 use Rattle.log_answers.proofs.Calm.{calm_so}
 use Rattle.std.proofs.Common.{refl, subst}
 use Rattle.command_words.specs.declared.request.Task.{Task}
-use Rattle.run_request.specs.Questions.{AsksFor}
-use Rattle.run_request.proofs.OneQuestion.{question_asks}
+use Rattle.call_request.specs.Questions.{AsksFor}
+use Rattle.call_request.proofs.OneQuestion.{question_asks}
 use Rattle.pota_top.proofs.Words.{question_workers, question_sizes}
 use Rattle.pota_top.proofs.top.answer_question.Goals as goal
 

@@ -1,13 +1,13 @@
 use Rattle.std.proofs.Common.{◌≡◌, map, string_bytes, refl, ap, subst, ◌∙◌}
 use Rattle.pota_base.specs.declared.fault.Refused.{Refused}
-use Rattle.run_request.specs.declared.question.QuestionFault.{QuestionFault}
-use Rattle.run_request.specs.Questions.{IsQuestionFault, AreFaults}
-use Rattle.run_promise.proofs.Clauses.{told_as}
+use Rattle.call_request.specs.declared.question.QuestionFault.{QuestionFault}
+use Rattle.call_request.specs.Questions.{IsQuestionFault, AreFaults}
+use Rattle.call_promise.proofs.Clauses.{told_as}
 use Rattle.fault_line.specs.declared.fault.Fault.{Fault}
-use Rattle.run_promise.specs.Questions.{fault_of_question}
+use Rattle.call_promise.specs.Questions.{fault_of_question}
 use Rattle.certificate_answers.specs.PassedOn.{faulty_outcome}
 use Rattle.certificate_answers.proofs.PassedOn.{ran_short}
-use Rattle.run_promise.specs.declared.outcome.Outcome.{Outcome}
+use Rattle.call_promise.specs.declared.outcome.Outcome.{Outcome}
 use Rattle.pota_top.proofs.Running.{ran_misasked, calm_outcome}
 use Rattle.pota_top.proofs.top.answer_words.Goals as goal
 

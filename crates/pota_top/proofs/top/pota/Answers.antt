@@ -1,4 +1,4 @@
-use Rattle.run_promise.proofs.Clauses.{clause_read, clause_write, clause_decided, clause_refused, clause_misasked, clause_benched}
+use Rattle.call_promise.proofs.Clauses.{clause_read, clause_write, clause_decided, clause_refused, clause_misasked, clause_benched}
 use Rattle.pota_top.proofs.top.pota.Goals as goal
 
 pub returns-clause-read : goal.returns-clause-read

@@ -1,7 +1,7 @@
 use Rattle.std.proofs.Common.{rules, ◌≡◌, ◌+◌, ◌⊎◌, ℕ, None, List, All, drop, length, refl, sym, subst}
 use Rattle.std.specs.Prelude.{IsTrue}
-use Rattle.pull_fans.specs.Fans.{FanView, pulls_of_fans}
-use Rattle.pull_fans.specs.inside.Fans.{IsToAll, IsToOthers}
+use Rattle.pull_fans.specs.Fans.{FanView, pulls_of_fans, IsToAll}
+use Rattle.pull_fans.specs.inside.Fans.{IsToOthers}
 use Rattle.pull_fans.specs.inside.First.{IsFromOther}
 use Rattle.pull_fans.specs.inside.Places.{fan_at}
 use Rattle.pull_fans.proofs.LoneFans.{lone_asks}

@@ -1,11 +1,12 @@
 use Rattle.std.proofs.Common.{rules, ◌≡◌, ◌+◌, ◌++◌, ◌∙◌, ℕ, List, length, set, ap, refl, subst}
+use Rattle.pota_base.specs.Limits.{most_processes}
 use Rattle.pull_system.proofs.Starts.{IsPast, past_none, past_more, start_put, past_whole, zeros_of}
 use Rattle.pull_system.proofs.rows.push_start.Goals as goal
 
 pub loop-process-init : goal.loop-process-init
 loop-process-init c = record {
   past = past_none _ _;
-  zeros = c.in_ok-extend_from_slice.ensures.items ∙ ap (λ (xs : List ℕ). c.args.words.now.items ++ xs) (zeros_of 32 (length c.args.lens.now) c.requires.few);
+  zeros = c.in_ok-extend_from_slice.ensures.items ∙ ap (λ (xs : List ℕ). c.args.words.now.items ++ xs) (zeros_of most_processes (length c.args.lens.now) c.requires.few);
 }
 
 pub returns-then-left-len : goal.returns-then-left-len

@@ -2,7 +2,7 @@ use Rattle.std.proofs.Common.{◌≡◌, List, Option, Some, None, refl, sym, �
 use Rattle.std.specs.Prelude.{IfSome}
 use Rattle.run_model.specs.Cut.{Cut, Clocks}
 use Rattle.run_model.specs.Consistent.{IsConsistent}
-use Rattle.run_model.specs.Witness.{ExistsFinally, IsCanonical}
+use Rattle.run_model.specs.Witness.{ForEf, IsCanonical}
 use Rattle.rctl_grammar.specs.declared.tree.Operator.TheVariants as operator
 use Rattle.rctl_parts.specs.Pieces.{Piece, pieces_of}
 use Rattle.part_pulls.specs.declared.observed.Observed.{Observed}
@@ -38,7 +38,7 @@ returns-in-Some-least-clause-reached g c =
     (record {
       disjunct = refl;
       part = refl;
-      canonical = λ s bottom. subst (λ (o : Clocks). IsCanonical o s ExistsFinally (witness_of c.in_ok-witness.witness)) clocks (c.in_ok-witness.ensures s (bottom ∙ sym is));
+      canonical = λ s bottom. subst (λ (o : Clocks). IsCanonical o s ForEf (witness_of c.in_ok-witness.witness)) clocks (c.in_ok-witness.ensures s (bottom ∙ sym is));
     })
 
 pub returns-clause-reached : goal.returns-clause-reached
@@ -52,5 +52,5 @@ returns-clause-reached g c =
     (record {
       disjunct = refl;
       part = refl;
-      canonical = λ s bottom. subst (λ (o : Clocks). IsCanonical o s ExistsFinally (witness_of c.in_ok-witness.witness)) clocks (c.in_ok-witness.ensures s (bottom ∙ sym is));
+      canonical = λ s bottom. subst (λ (o : Clocks). IsCanonical o s ForEf (witness_of c.in_ok-witness.witness)) clocks (c.in_ok-witness.ensures s (bottom ∙ sym is));
     })

@@ -1,6 +1,7 @@
 use Rattle.std.proofs.Common.{◌≡◌, ◌∙◌, ◌+◌, ◌-◌, ◌*◌, ℕ, List, length, get_or, min, arith, ap, length-append}
 use Rattle.run_model.specs.Cut.{lengths, count}
 use Rattle.run_model.proofs.Counts.{length-lengths}
+use Rattle.pota_base.specs.Limits.{most_processes}
 use Rattle.slice_graph.specs.PullLists.{past_count, order_entry}
 use Rattle.slice_graph.proofs.RowByRow.{zeros_of, zero_counts}
 use Rattle.slice_graph.proofs.GrownOrder.{rows_more}
@@ -12,11 +13,11 @@ len_of-len-requires c = omega (arith, c.requires.source, length-lengths c.args.o
 pub past-requires-clause-width : goal.past-requires-clause-width
 past-requires-clause-width c =
     let procs : c.procs-procs.result ≡ length c.args.order.now = omega (arith, c.procs-procs.ensures.count, ap length c.shape-shape.ensures.lens, length-lengths c.args.order.now) in
-    ap length (zeros_of 32 c.procs-procs.result (omega (arith, c.procs-procs.ensures.count, c.procs-procs.ensures.shape.few))) ∙ (zero_counts c.procs-procs.result 0).0 ∙ procs
+    ap length (zeros_of most_processes c.procs-procs.result (omega (arith, c.procs-procs.ensures.count, c.procs-procs.ensures.shape.few))) ∙ (zero_counts c.procs-procs.result 0).0 ∙ procs
 
 pub past-requires-clause-none : goal.past-requires-clause-none
 past-requires-clause-none c =
-    λ target. ap (λ (xs : List ℕ). count xs target) (zeros_of 32 c.procs-procs.result (omega (arith, c.procs-procs.ensures.count, c.procs-procs.ensures.shape.few))) ∙ (zero_counts c.procs-procs.result target).1
+    λ target. ap (λ (xs : List ℕ). count xs target) (zeros_of most_processes c.procs-procs.result (omega (arith, c.procs-procs.ensures.count, c.procs-procs.ensures.shape.few))) ∙ (zero_counts c.procs-procs.result target).1
 
 pub loop-position-preserved : goal.loop-position-preserved
 loop-position-preserved c =

@@ -3,6 +3,7 @@ use Rattle.std.specs.List.{range_with_len}
 use Rattle.std.proofs.lemmas.List.FromFn.{length-map-range_with_len}
 use Rattle.run_model.specs.Cut.{lengths, count}
 use Rattle.run_model.proofs.Counts.{length-lengths}
+use Rattle.pota_base.specs.Limits.{most_processes}
 use Rattle.pull_fans.specs.Fans.{FanView, AreTables}
 use Rattle.slice_graph.specs.PullLists.{past_count, order_entry, order_table}
 use Rattle.slice_graph.specs.inside.PullLists.{other}
@@ -29,12 +30,12 @@ loop-position-init c =
       source = ap (λ (fan : FanView). fan.src) c.in_ok-fan.ensures;
       targets = ap (λ (fan : FanView). fan.targets) c.in_ok-fan.ensures ∙ targets;
       tables = tables_none (length c.args.order.now - 1) c.in_ok-fan.fan.tables (ap (λ (fan : FanView). fan.tables) c.in_ok-fan.ensures ∙ ap (λ (n : ℕ). replicate n []) size) _;
-      width = ap length (zeros_of 32 (c.procs-procs.result - 1) (omega (arith, c.procs-procs.ensures.count, c.procs-procs.ensures.shape.few))) ∙ (zero_counts (c.procs-procs.result - 1) 0).0 ∙ ap (λ (n : ℕ). n - 1) procs;
+      width = ap length (zeros_of most_processes (c.procs-procs.result - 1) (omega (arith, c.procs-procs.ensures.count, c.procs-procs.ensures.shape.few))) ∙ (zero_counts (c.procs-procs.result - 1) 0).0 ∙ ap (λ (n : ℕ). n - 1) procs;
     }
 
 pub past-requires-clause-none : goal.past-requires-clause-none
 past-requires-clause-none c =
-    λ target. ap (λ (xs : List ℕ). count xs target) (zeros_of 32 c.procs-procs.result (omega (arith, c.procs-procs.ensures.count, c.procs-procs.ensures.shape.few))) ∙ (zero_counts c.procs-procs.result target).1
+    λ target. ap (λ (xs : List ℕ). count xs target) (zeros_of most_processes c.procs-procs.result (omega (arith, c.procs-procs.ensures.count, c.procs-procs.ensures.shape.few))) ∙ (zero_counts c.procs-procs.result target).1
 
 pub push_row-requires-clause-width : goal.push_row-requires-clause-width
 push_row-requires-clause-width c =

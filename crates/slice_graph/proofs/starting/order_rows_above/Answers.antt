@@ -5,6 +5,7 @@ use Rattle.std.proofs.lemmas.Result.{IfOk-weaker}
 use Rattle.pota_base.specs.Shape.{row_of}
 use Rattle.run_model.specs.Cut.{lengths, max_cut}
 use Rattle.run_model.proofs.Counts.{length-lengths, length-max}
+use Rattle.pota_base.specs.Limits.{most_processes}
 use Rattle.pull_system.specs.Rows.{RowsView, row_at}
 use Rattle.slice_graph.specs.Starting.{AreWithinClosed}
 use Rattle.slice_graph.proofs.Events.{row_there}
@@ -22,7 +23,7 @@ loop-row-init c = record {
 pub narrow-requires-clause-width : goal.narrow-requires-clause-width
 narrow-requires-clause-width c =
     let procs : c.procs-procs.result ≡ length (lengths c.args.order.now) = c.procs-procs.ensures.count ∙ ap length c.shape-shape.ensures.lens in
-    c.requires.size ∙ sym (ap length (zeros_of 32 c.procs-procs.result (omega (arith, c.procs-procs.ensures.count, c.procs-procs.ensures.shape.few))) ∙ (zero_counts c.procs-procs.result 0).0 ∙ procs)
+    c.requires.size ∙ sym (ap length (zeros_of most_processes c.procs-procs.result (omega (arith, c.procs-procs.ensures.count, c.procs-procs.ensures.shape.few))) ∙ (zero_counts c.procs-procs.result 0).0 ∙ procs)
 
 pub narrow-requires-clause-small : goal.narrow-requires-clause-small
 narrow-requires-clause-small c i =
@@ -34,10 +35,10 @@ copy_from_slice-requires c = omega (arith, c.loop-row.invariant.width, ap length
 pub clock_of-requires-clause-width : goal.clock_of-requires-clause-width
 clock_of-requires-clause-width c =
     let procs : c.procs-procs.result ≡ length c.args.order.now = omega (arith, c.procs-procs.ensures.count, ap length c.shape-shape.ensures.lens, length-lengths c.args.order.now) in
-    ap length (zeros_of 32 c.procs-procs.result (omega (arith, c.procs-procs.ensures.count, c.procs-procs.ensures.shape.few))) ∙ (zero_counts c.procs-procs.result 0).0 ∙ procs
+    ap length (zeros_of most_processes c.procs-procs.result (omega (arith, c.procs-procs.ensures.count, c.procs-procs.ensures.shape.few))) ∙ (zero_counts c.procs-procs.result 0).0 ∙ procs
 
-pub raise_to-requires : goal.raise_to-requires
-raise_to-requires c =
+pub join_words-requires : goal.join_words-requires
+join_words-requires c =
     let copied : c.copy_from_slice.new.self ≡ c.args.vector.now = search rules in
     c.clock_of.ensures.width ∙ sym (ap length copied ∙ c.requires.size ∙ length-lengths c.args.order.now)
 
@@ -46,7 +47,7 @@ widen-requires c =
     let o = c.args.order.now in
     let v : List ℕ = c.args.vector.now in
     let copied : c.copy_from_slice.new.self ≡ v = search rules in
-    let raised : c.raise_to.new.into ≡ max_cut c.clock_of.result.now v = c.raise_to.ensures ∙ ap (λ (xs : List ℕ). max_cut c.clock_of.result.now xs) copied in
+    let raised : c.join_words.new.into ≡ max_cut c.clock_of.result.now v = c.join_words.ensures ∙ ap (λ (xs : List ℕ). max_cut c.clock_of.result.now xs) copied in
     omega (arith, ap length raised, length-max c.clock_of.result.now v, c.clock_of.ensures.width, c.requires.size, length-lengths o, c.loop-row.invariant.wide_width)
 
 pub loop-row-preserved : goal.loop-row-preserved
@@ -55,10 +56,10 @@ loop-row-preserved c =
     let v : List ℕ = c.args.vector.now in
     let inv = c.loop-row.invariant in
     let copied : c.copy_from_slice.new.self ≡ v = search rules in
-    let raised : c.raise_to.new.into ≡ max_cut c.clock_of.result.now v = c.raise_to.ensures ∙ ap (λ (xs : List ℕ). max_cut c.clock_of.result.now xs) copied in
+    let raised : c.join_words.new.into ≡ max_cut c.clock_of.result.now v = c.join_words.ensures ∙ ap (λ (xs : List ℕ). max_cut c.clock_of.result.now xs) copied in
     let procs : c.procs-procs.result ≡ length o = omega (arith, c.procs-procs.ensures.count, ap length c.shape-shape.ensures.lens, length-lengths o) in
-    let zeros = zeros_of 32 c.procs-procs.result (omega (arith, c.procs-procs.ensures.count, c.procs-procs.ensures.shape.few)) ∙ ap (λ (n : ℕ). replicate n 0) procs in
-    let width : length c.raise_to.new.into ≡ length (lengths o) = omega (arith, ap length raised, length-max c.clock_of.result.now v, c.clock_of.ensures.width, c.requires.size, length-lengths o) in
+    let zeros = zeros_of most_processes c.procs-procs.result (omega (arith, c.procs-procs.ensures.count, c.procs-procs.ensures.shape.few)) ∙ ap (λ (n : ℕ). replicate n 0) procs in
+    let width : length c.join_words.new.into ≡ length (lengths o) = omega (arith, ap length raised, length-max c.clock_of.result.now v, c.clock_of.ensures.width, c.requires.size, length-lengths o) in
     let wide : c.widen.new.into ≡ max_cut c.clock_of.result.now v = c.widen.ensures ∙ raised in
     let wide_width : length c.widen.new.into ≡ length (lengths o) = ap length c.widen.ensures ∙ width in
     record {

@@ -1,6 +1,7 @@
 use Rattle.std.proofs.Common.{false, replicate, refl}
+use Rattle.pota_base.specs.Limits.{most_processes}
 use Rattle.pull_system.proofs.Marks.{unmarked}
 use Rattle.slice_workers.proofs.workers.none_handed.Goals as goal
 
 pub returns-clause-none : goal.returns-clause-none
-returns-clause-none c = unmarked (replicate 32 false) refl
+returns-clause-none c = unmarked (replicate most_processes false) refl

@@ -1,4 +1,5 @@
 use Rattle.std.proofs.Common.{arith, ap, refl, ◌≡◌, ◌≤◌, ◌∙◌, length, true, false, get_or}
+use Rattle.pota_base.specs.Limits.{most_processes}
 use Rattle.pull_system.specs.System.{SystemView}
 use Rattle.bound_table.proofs.Seeing.{upto_next}
 use Rattle.slice_workers.proofs.Passes.{passed_none, passed_on, passed_reaches}
@@ -15,7 +16,7 @@ loop-process-init g c =
 pub settle_left-requires-clause-few : goal.settle_left-requires-clause-few
 settle_left-requires-clause-few g c =
     let system : SystemView = c.args.table.now.system in
-    let few : length system.lens ≤ 32 = omega (arith, c.procs-process-end.ensures.shape.few, ap length (c.shape.ensures.shape ∙ ap (λ s. s.lens) c.system.ensures)) in few
+    let few : length system.lens ≤ most_processes = omega (arith, c.procs-process-end.ensures.shape.few, ap length (c.shape.ensures.shape ∙ ap (λ s. s.lens) c.system.ensures)) in few
 
 pub loop-process-preserved : goal.loop-process-preserved
 loop-process-preserved g c =

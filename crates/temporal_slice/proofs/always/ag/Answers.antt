@@ -3,22 +3,30 @@ use Rattle.std.proofs.lemmas.Bool.{false≢true}
 use Rattle.std.proofs.lemmas.Result.{IfOk-weaker}
 use Rattle.run_model.specs.Cut.{lengths}
 use Rattle.run_model.specs.Slice.{Cuts}
-use Rattle.run_model.specs.Operators.{EachTime}
+use Rattle.run_model.specs.Operators.{AgHolds}
 use Rattle.slice_graph.specs.Views.{SliceView, slice_of, no_row}
 use Rattle.slice_graph.proofs.Building.{empty_agrees}
 use Rattle.temporal_slice.proofs.Results.{IsMade, ag_closed, ag_from, ag_none}
+use Rattle.run_model.proofs.Orders.{final_consistent}
 use Rattle.temporal_slice.proofs.Asked.{asked_least}
+use Rattle.temporal_slice.proofs.Tops.{whole_cuts}
 use Rattle.temporal_slice.proofs.always.ag.Goals as goal
 
 pub returns-then-not-has_final : goal.returns-then-not-has_final
 returns-then-not-has_final c =
-    let all = IfOk-weaker c.empty.result _ (IsMade c.args.order.now (EachTime c.args.order.now (Cuts c.args.order.now (slice_of c.args.child.now)))) (λ w is. ag_none c.args.order.now c.shape-shape.ensures.order c.args.child.now (λ cut. false≢true ((c.if-not-has_final.ensures.cuts c.args.order.now c.requires).1 cut)) w (empty_agrees c.args.order.now w (is ∙ ap (λ (lens : List ℕ). record { lens = lens; rows = replicate (sum lens + 1) no_row }) c.shape-shape.ensures.lens))) c.empty.ensures in
+    let all = IfOk-weaker c.empty.result _ (IsMade c.args.order.now (AgHolds c.args.order.now (Cuts c.args.order.now (slice_of c.args.child.now)))) (λ w is. ag_none c.args.order.now c.shape-shape.ensures.order c.args.child.now (λ cut. false≢true ((c.if-not-has_final.ensures.cuts c.args.order.now c.requires).1 cut)) w (empty_agrees c.args.order.now w (is ∙ ap (λ (lens : List ℕ). record { lens = lens; rows = replicate (sum lens + 1) no_row }) c.shape-shape.ensures.lens))) c.empty.ensures in
     record {
       stands = IfOk-weaker c.empty.result _ _ (λ w m. m.stands) all;
       fits = IfOk-weaker c.empty.result _ _ (λ w m. m.fits) all;
       closed = ag_closed c.args.order.now c.shape-shape.ensures.order c.args.child.now;
       cuts = IfOk-weaker c.empty.result _ _ (λ w m. m.cuts) all;
     }
+
+pub cuts_from-requires-clause-bottom : goal.cuts_from-requires-clause-bottom
+cuts_from-requires-clause-bottom c = whole_cuts c.args.order.now c.shape-shape.ensures.order c.in_ok-bottom.bottom c.in_ok-bottom.ensures.member.0
+
+pub cuts_from-requires-clause-last : goal.cuts_from-requires-clause-last
+cuts_from-requires-clause-last c = whole_cuts c.args.order.now c.shape-shape.ensures.order (lengths c.args.order.now) (final_consistent c.args.order.now c.shape-shape.ensures.order)
 
 pub returns-in_err-asked-clause-closed : goal.returns-in_err-asked-clause-closed
 returns-in_err-asked-clause-closed c = ag_closed c.args.order.now c.shape-shape.ensures.order c.args.child.now
@@ -28,7 +36,7 @@ returns-in_err-bottom-clause-closed c = ag_closed c.args.order.now c.shape-shape
 
 pub returns : goal.returns
 returns c =
-    let all = IfOk-weaker c.cuts_from.result _ (IsMade c.args.order.now (EachTime c.args.order.now (Cuts c.args.order.now (slice_of c.args.child.now)))) (λ w agrees. ag_from c.args.order.now c.shape-shape.ensures.order c.args.child.now c.requires c.in_ok-bottom.bottom (asked_least c.args.order.now c.args.child.now c.in_ok-asked.asked c.in_ok-bottom.bottom c.in_ok-asked.ensures.asked c.in_ok-bottom.ensures) w agrees) c.cuts_from.ensures in
+    let all = IfOk-weaker c.cuts_from.result _ (IsMade c.args.order.now (AgHolds c.args.order.now (Cuts c.args.order.now (slice_of c.args.child.now)))) (λ w agrees. ag_from c.args.order.now c.shape-shape.ensures.order c.args.child.now c.requires c.in_ok-bottom.bottom (asked_least c.args.order.now c.args.child.now c.in_ok-asked.asked c.in_ok-bottom.bottom c.in_ok-asked.ensures.asked c.in_ok-bottom.ensures) w agrees) c.cuts_from.ensures in
     record {
       stands = IfOk-weaker c.cuts_from.result _ _ (λ w m. m.stands) all;
       fits = IfOk-weaker c.cuts_from.result _ _ (λ w m. m.fits) all;

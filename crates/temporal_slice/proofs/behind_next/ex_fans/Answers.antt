@@ -1,7 +1,7 @@
 use Rattle.std.proofs.Common.{ℕ, ◌≡◌, ◌↔◌, List, ◌++◌, All, length, flat_map, arith, ap, sym, subst, ◌∙◌}
 use Rattle.std.specs.List.{range_with_len}
 use Rattle.run_model.specs.Slice.{Cuts}
-use Rattle.run_model.specs.Operators.{NextTime}
+use Rattle.run_model.specs.Operators.{ExHolds}
 use Rattle.run_model.proofs.SliceLemmas.{cuts_closed}
 use Rattle.meaning_laws.proofs.ClosureLemmas.{next_time_closed}
 use Rattle.pull_system.specs.declared.pull.Pull.{Pull}
@@ -50,5 +50,5 @@ returns-clause-closed c =
     let list : pulls_of_fans c.loop-source.fans ≡ pulls_of_next c.args.child.now c.args.process =
     c.loop-source.invariant ∙ ap (λ (n : ℕ). flat_map (λ i. flat_map (next_pull c.args.child.now c.args.process i) (range_with_len 0 (length c.args.child.now.lens))) (range_with_len 0 n))
     (omega (arith, c.procs-source-end.ensures.count, ap length c.shape.ensures.lens)) in
-    λ cut here. subst (λ (pulls : List Pull). ClosedUnder pulls cut ↔ NextTime c.args.order.now c.args.process (Cuts c.args.order.now (slice_of c.args.child.now)) cut) (sym list)
+    λ cut here. subst (λ (pulls : List Pull). ClosedUnder pulls cut ↔ ExHolds c.args.order.now c.args.process (Cuts c.args.order.now (slice_of c.args.child.now)) cut) (sym list)
     (next_closed c.args.order.now c.args.child.now c.requires.fits c.shape.ensures.rows c.args.process c.requires.process cut here)

@@ -1,10 +1,7 @@
-use Rattle.std.proofs.Common.{◌≡◌, ◌∙◌, ap, sym, subst, List, false}
-use Rattle.std.specs.Prelude.{Option, None, Some}
-use Rattle.std.specs.List.{AllByRecursion}
+use Rattle.std.proofs.Common.{◌≡◌, ◌∙◌, ap, sym, subst, List}
+use Rattle.std.specs.Prelude.{None}
 use Rattle.event_log.specs.declared.log.Event.{Event}
-use Rattle.event_log.specs.declared.item.LogFault.{LogFault}
 use Rattle.event_log.specs.States.{with_batch}
-use Rattle.vector_clock.specs.Events.{Events}
 use Rattle.vector_clock.specs.Faults.{batch_fault}
 use Rattle.vector_clock.specs.Filled.{filled_batch}
 use Rattle.vector_clock.specs.Admitted.{HasAdmitted}

@@ -1,4 +1,5 @@
 use Rattle.std.proofs.Common.{◌≤◌, List, subst, sym}
+use Rattle.pota_base.specs.Limits.{most_parts}
 use Rattle.rctl_parts.specs.declared.part.Part.{Part}
 use Rattle.rctl_parts.specs.Pieces.{disjuncts_of}
 use Rattle.rctl_parts.specs.MadeFor.{AllFit, disjuncts_count}
@@ -19,4 +20,4 @@ nodes_for-requires-clause-counters c =
 
 pub nodes_for-requires-clause-count : goal.nodes_for-requires-clause-count
 nodes_for-requires-clause-count c =
-    subst (λ (ps : List (List Part)). disjuncts_count (disjuncts_of ps) ≤ 128) (sym c.as_slice.ensures) c.requires.made.parts
+    subst (λ (ps : List (List Part)). disjuncts_count (disjuncts_of ps) ≤ most_parts) (sym c.as_slice.ensures) c.requires.made.parts

@@ -1,4 +1,5 @@
 use Rattle.std.proofs.Common.{refl}
+use Rattle.pota_base.specs.Changes.{change_of}
 use Rattle.input_reading.specs.Intakes.{ReadsShort}
 use Rattle.whole_answers.proofs.Stands.{err_so, gathered_short, may_merge, sources_whole, sources_faulty, sources_failed}
 use Rattle.whole_answers.proofs.merging.read_sources.Goals as goal
@@ -15,7 +16,7 @@ returns-in-Logs-clause-reads g c =
 
 pub returns-in-Logs-clause-short : goal.returns-in-Logs-clause-short
 returns-in-Logs-clause-short g c =
-    err_so c.merge_all.result (ReadsShort (g.S.Source.left c.args.source.now) (g.S.Source.left c.gather.new.source) (g.S.Source.faults c.args.source.now) (g.S.Source.faults c.gather.new.source)) (gathered_short (g.S.Source.left c.args.source.now) (g.S.Source.left c.gather.new.source) (g.S.Source.faults c.args.source.now) (g.S.Source.faults c.gather.new.source) c.in_ok-logs.field-0 c.in_ok-logs.ensures.reads)
+    err_so c.merge_all.result (ReadsShort (change_of (g.S.Source.left c.args.source.now) (g.S.Source.left c.gather.new.source) (g.S.Source.faults c.args.source.now) (g.S.Source.faults c.gather.new.source))) (gathered_short (g.S.Source.left c.args.source.now) (g.S.Source.left c.gather.new.source) (g.S.Source.faults c.args.source.now) (g.S.Source.faults c.gather.new.source) c.in_ok-logs.field-0 c.in_ok-logs.ensures.reads)
 
 pub returns-in-Fault-clause-reads : goal.returns-in-Fault-clause-reads
 returns-in-Fault-clause-reads g c =

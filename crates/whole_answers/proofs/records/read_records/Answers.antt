@@ -1,4 +1,5 @@
 use Rattle.std.proofs.Common.{[], refl, arith}
+use Rattle.pota_base.specs.Changes.{change_of}
 use Rattle.input_reading.specs.Intakes.{ReadsShort}
 use Rattle.whole_answers.proofs.Stands.{err_so, read_short, records_ended, records_done, records_failed}
 use Rattle.whole_answers.proofs.records.read_records.Goals as goal
@@ -13,7 +14,7 @@ returns-in-Ended-clause-reads g c =
 
 pub returns-in-Ended-clause-short : goal.returns-in-Ended-clause-short
 returns-in-Ended-clause-short g c =
-    err_so c.import_all.result (ReadsShort (g.S.Source.left c.args.source.now) (g.S.Source.left c.read_all.new.source) (g.S.Source.faults c.args.source.now) (g.S.Source.faults c.read_all.new.source)) (read_short (g.S.Source.left c.args.source.now) (g.S.Source.left c.read_all.new.source) (g.S.Source.faults c.args.source.now) (g.S.Source.faults c.read_all.new.source) c.read_all.new.intake c.in_ok-read_all.field-0 (c.in_ok-read_all.ensures.reads [] (c.new-kept.ensures, omega arith)))
+    err_so c.import_all.result (ReadsShort (change_of (g.S.Source.left c.args.source.now) (g.S.Source.left c.read_all.new.source) (g.S.Source.faults c.args.source.now) (g.S.Source.faults c.read_all.new.source))) (read_short (g.S.Source.left c.args.source.now) (g.S.Source.left c.read_all.new.source) (g.S.Source.faults c.args.source.now) (g.S.Source.faults c.read_all.new.source) c.read_all.new.intake c.in_ok-read_all.field-0 (c.in_ok-read_all.ensures.reads [] (c.new-kept.ensures, omega arith)))
 
 pub returns-in-Done-clause-reads : goal.returns-in-Done-clause-reads
 returns-in-Done-clause-reads g c =
@@ -22,7 +23,7 @@ returns-in-Done-clause-reads g c =
 
 pub returns-in-Done-clause-short : goal.returns-in-Done-clause-short
 returns-in-Done-clause-short g c =
-    err_so c.import_all-in-Done.result (ReadsShort (g.S.Source.left c.args.source.now) (g.S.Source.left c.read_all.new.source) (g.S.Source.faults c.args.source.now) (g.S.Source.faults c.read_all.new.source)) (read_short (g.S.Source.left c.args.source.now) (g.S.Source.left c.read_all.new.source) (g.S.Source.faults c.args.source.now) (g.S.Source.faults c.read_all.new.source) c.read_all.new.intake c.in_ok-read_all.field-0 (c.in_ok-read_all.ensures.reads [] (c.new-kept.ensures, omega arith)))
+    err_so c.import_all-in-Done.result (ReadsShort (change_of (g.S.Source.left c.args.source.now) (g.S.Source.left c.read_all.new.source) (g.S.Source.faults c.args.source.now) (g.S.Source.faults c.read_all.new.source))) (read_short (g.S.Source.left c.args.source.now) (g.S.Source.left c.read_all.new.source) (g.S.Source.faults c.args.source.now) (g.S.Source.faults c.read_all.new.source) c.read_all.new.intake c.in_ok-read_all.field-0 (c.in_ok-read_all.ensures.reads [] (c.new-kept.ensures, omega arith)))
 
 pub returns-clause-reads : goal.returns-clause-reads
 returns-clause-reads g c =

@@ -1,5 +1,5 @@
 use Rattle.std.proofs.Common.{length, ap, ◌∙◌}
-use Rattle.run_model.specs.Witness.{ExistsFinally, AlwaysGlobally, ExistsGlobally, ExistsNext}
+use Rattle.run_model.specs.Witness.{ForEf, ForAg, ForEg, ExistsNext}
 use Rattle.slice_graph.specs.Views.{slice_of}
 use Rattle.witness.proofs.CaseSteps.{initial_is, kind_of}
 use Rattle.witness.proofs.cases.explain.Goals as goal
@@ -16,14 +16,14 @@ always-requires-clause-start c = initial_is c.args.order.now c.procs.result c.in
 pub next-requires-clause-start : goal.next-requires-clause-start
 next-requires-clause-start c = initial_is c.args.order.now c.procs.result c.in_ok-start.start (c.procs.ensures.count ∙ ap length c.shape.ensures.lens) c.in_ok-start.ensures
 
-pub returns-in-ExistsFinally-clause-kind : goal.returns-in-ExistsFinally-clause-kind
-returns-in-ExistsFinally-clause-kind c = rw c.in-ExistsFinally.is (kind_of c.args.order.now (slice_of c.args.operand.now) ExistsFinally c.reach.result c.shape.ensures.order c.reach.ensures)
+pub returns-in-ForEf-clause-kind : goal.returns-in-ForEf-clause-kind
+returns-in-ForEf-clause-kind c = rw c.in-ForEf.is (kind_of c.args.order.now (slice_of c.args.operand.now) ForEf c.reach.result c.shape.ensures.order c.reach.ensures)
 
-pub returns-in-AlwaysGlobally-clause-kind : goal.returns-in-AlwaysGlobally-clause-kind
-returns-in-AlwaysGlobally-clause-kind c = rw c.in-AlwaysGlobally.is (kind_of c.args.order.now (slice_of c.args.operand.now) AlwaysGlobally c.against.result c.shape.ensures.order c.against.ensures)
+pub returns-in-ForAg-clause-kind : goal.returns-in-ForAg-clause-kind
+returns-in-ForAg-clause-kind c = rw c.in-ForAg.is (kind_of c.args.order.now (slice_of c.args.operand.now) ForAg c.against.result c.shape.ensures.order c.against.ensures)
 
-pub returns-in-ExistsGlobally-clause-kind : goal.returns-in-ExistsGlobally-clause-kind
-returns-in-ExistsGlobally-clause-kind c = rw c.in-ExistsGlobally.is (kind_of c.args.order.now (slice_of c.args.operand.now) ExistsGlobally c.always.result c.shape.ensures.order c.always.ensures)
+pub returns-in-ForEg-clause-kind : goal.returns-in-ForEg-clause-kind
+returns-in-ForEg-clause-kind c = rw c.in-ForEg.is (kind_of c.args.order.now (slice_of c.args.operand.now) ForEg c.always.result c.shape.ensures.order c.always.ensures)
 
 pub returns-in-ExistsNext-clause-kind : goal.returns-in-ExistsNext-clause-kind
 returns-in-ExistsNext-clause-kind c = rw c.in-ExistsNext.is (kind_of c.args.order.now (slice_of c.args.operand.now) (ExistsNext c.in-ExistsNext.process) c.next.result c.shape.ensures.order c.next.ensures)

@@ -1,6 +1,7 @@
 use Rattle.std.proofs.Common.{◌+◌, ◌≤◌, length, sum, arith, ap, ◌∙◌, sym, subst}
 use Rattle.run_model.specs.Cut.{Clocks, lengths}
 use Rattle.run_model.specs.Consistent.{IsOrder}
+use Rattle.pota_base.specs.Limits.{most_events}
 use Rattle.causal_order.specs.Growth.{with_clocks}
 use Rattle.causal_order.proofs.Growing.{length-lengths, grown_fits}
 use Rattle.causal_order.proofs.Orders.{grown_few, grown_ordered}
@@ -17,12 +18,12 @@ measure-requires-clause-fits c = grown_fits _ c.self.inside.table _ c.add_batch.
 
 pub measure-requires-clause-few : goal.measure-requires-clause-few
 measure-requires-clause-few c =
-    grown_few c.self.inside.table c.args.events.now c.add_batch.new.table c.in-Ok.ensures.ok (subst (λ (o : Clocks). sum (lengths o) + length c.args.events.now ≤ 50000) (sym c.self.view_is) c.requires.few)
+    grown_few c.self.inside.table c.args.events.now c.add_batch.new.table c.in-Ok.ensures.ok (subst (λ (o : Clocks). sum (lengths o) + length c.args.events.now ≤ most_events) (sym c.self.view_is) c.requires.few)
 
 pub invariant_of-self : goal.invariant_of-self
 invariant_of-self c =
     let made = c.in-Ok.ensures.ok in
-    let few = grown_few c.self.inside.table c.args.events.now c.add_batch.new.table made (subst (λ (o : Clocks). sum (lengths o) + length c.args.events.now ≤ 50000) (sym c.self.view_is) c.requires.few) in
+    let few = grown_few c.self.inside.table c.args.events.now c.add_batch.new.table made (subst (λ (o : Clocks). sum (lengths o) + length c.args.events.now ≤ most_events) (sym c.self.view_is) c.requires.few) in
     grown_ordered c.self.inside.table c.add_batch.new.table c.self.inside.shape c.measure.new.shape c.self.invariant c.add_batch.ensures.grown.count few c.measure.ensures
     (subst IsOrder (sym (made ∙ ap (λ (o : Clocks). with_clocks o c.args.events.now) c.self.view_is)) c.requires.order)
 

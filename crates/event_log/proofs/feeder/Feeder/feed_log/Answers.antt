@@ -11,18 +11,16 @@ returns-in_default c =
 pub returns-then-is_some : goal.returns-then-is_some
 returns-then-is_some c =
     let open_ : c.is_ended.result ≡ false = cc in
-    let g = c.in_ok-header.field-0 in
-    let fault = some_value g.fault (sym c.is_some.ensures ∙ c.if-is_some.true) in
-    piece_faults c.args.self.now c.lines.self c.take_line.new.self c.args.piece.now c.lines.rest.now c.in-Some.line.now c.in-Some.after.now c.lines.items c.in_ok-items-2.items g fault.0 c.lines.invariant (subst (KnowsEnd c.lines.self) open_ c.is_ended.ensures)
-    (record { plain = c.in-Some.ensures.some.0; split = c.in-Some.ensures.some.1 }) c.in_ok-header.ensures fault.1 c.in_ok-items-2.ensures c.in-Some.after.now c.take_line.new.self
+    let fault = some_value c.in_ok-fault-2.fault (sym c.is_some.ensures ∙ c.if-is_some.true) in
+    piece_faults c.args.self.now c.lines.self c.take_line.new.self c.args.piece.now c.lines.rest.now c.in-Some.line.now c.in-Some.after.now c.lines.items c.take_line.new.items c.in_ok-fault-2.fault fault.0 c.lines.invariant (subst (KnowsEnd c.lines.self) open_ c.is_ended.ensures)
+    (record { plain = c.in-Some.ensures.some.0; split = c.in-Some.ensures.some.1 }) c.in_ok-fault-2.ensures fault.1 c.in-Some.after.now c.take_line.new.self
 
 pub lines-preserved : goal.lines-preserved
 lines-preserved c =
     let open_ : c.is_ended.result ≡ false = cc in
-    let g = c.in_ok-header.field-0 in
-    let none : g.fault ≡ None = none_value g.fault (sym c.is_some.ensures ∙ c.if-is_some.false) in
-    piece_goes_on c.args.self.now c.lines.self c.take_line.new.self c.args.piece.now c.lines.rest.now c.in-Some.line.now c.in-Some.after.now c.lines.items c.in_ok-items-2.items g c.lines.invariant (subst (KnowsEnd c.lines.self) open_ c.is_ended.ensures)
-    (record { plain = c.in-Some.ensures.some.0; split = c.in-Some.ensures.some.1 }) c.in_ok-header.ensures none c.in_ok-items-2.ensures
+    let none : c.in_ok-fault-2.fault ≡ None = none_value c.in_ok-fault-2.fault (sym c.is_some.ensures ∙ c.if-is_some.false) in
+    piece_goes_on c.args.self.now c.lines.self c.take_line.new.self c.args.piece.now c.lines.rest.now c.in-Some.line.now c.in-Some.after.now c.lines.items c.take_line.new.items c.in_ok-fault-2.fault c.lines.invariant (subst (KnowsEnd c.lines.self) open_ c.is_ended.ensures)
+    (record { plain = c.in-Some.ensures.some.0; split = c.in-Some.ensures.some.1 }) c.in_ok-fault-2.ensures none
 
 pub returns : goal.returns
 returns c =

@@ -2,13 +2,14 @@ use Rattle.std.proofs.Common.{rules, ◌≡◌, ◌-◌, ◌≤◌, ◌++◌, �
 use Rattle.std.specs.List.{All}
 use Rattle.std.proofs.lemmas.List.{length_push}
 use Rattle.std.proofs.lemmas.List.Elements.{All-push, All-append, All-replicate}
+use Rattle.pota_base.specs.Limits.{most_variables}
 use Rattle.event_log.specs.declared.log.Binding.{Binding}
 use Rattle.event_log.proofs.ReadLaws.{length-filled}
 use Rattle.event_log.proofs.line_reader.LineReader.add_variables.Goals as goal
 
 pub invariant_of-self-2 : goal.invariant_of-self-2
 invariant_of-self-2 c =
-    let IsFew = λ (bindings : List Binding). length bindings ≤ 16 in
+    let IsFew = λ (bindings : List Binding). length bindings ≤ most_variables in
     let before = c.args.self.now.variables in
     let k = c.args.process - length before in
     record {

@@ -1,5 +1,6 @@
 use Rattle.std.proofs.Common.{◌≤◌, ◌+◌, ◌∙◌, sym, ap, subst, sum, map, length, arith, List}
 use Rattle.std.specs.List.{AllByRecursion}
+use Rattle.pota_base.specs.Limits.{most_events}
 use Rattle.event_log.specs.declared.log.Event.{Event}
 use Rattle.event_log.specs.States.{StatesView, IsKnown}
 use Rattle.event_log.specs.inside.States.{HasRoom}
@@ -25,7 +26,7 @@ measure-requires-clause-fits c = grown_fits c.self.inside.shape c.self.inside.hi
 
 pub measure-requires-clause-few : goal.measure-requires-clause-few
 measure-requires-clause-few c =
-    let few = subst (λ (s : StatesView). sum (map length s.events) + length c.args.batch ≤ 50000) (sym c.self.view_is) c.requires.few in
+    let few = subst (λ (s : StatesView). sum (map length s.events) + length c.args.batch ≤ most_events) (sym c.self.view_is) c.requires.few in
     added_sum _ _ _ c.in_ok-extend.ensures.ok (omega (arith, few, ap length c.into_vec.ensures))
 
 pub invariant_of-self-2 : goal.invariant_of-self-2

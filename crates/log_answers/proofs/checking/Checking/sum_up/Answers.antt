@@ -1,5 +1,5 @@
 use Rattle.std.proofs.Common.{◌∙◌}
-use Rattle.log_answers.proofs.Reporting.{summary_whole, summary_part}
+use Rattle.log_answers.proofs.Reporting.{summary_short, summary_whole, summary_part}
 use Rattle.log_answers.proofs.checking.Checking.sum_up.Goals as goal
 
 pub returns-in-Err : goal.returns-in-Err
@@ -18,3 +18,9 @@ returns g c aim j log is closed benches =
     c.verdict.ensures c.as_slice.result.now
     (c.as_slice.ensures ∙ c.in-Ok-write_summary.ensures)
     c.in_default-put.ensures
+
+pub returns-in_default-write_summary : goal.returns-in_default-write_summary
+returns-in_default-write_summary g c aim j log is closed benches =
+    summary_short aim c.args.self.now.check.log.intake.batches log c.args.sizes (g.O.Sink.held c.args.out.now)
+    (g.O.Sink.faults c.args.out.now) c.without_memory-in_default-write_summary.result
+    c.without_memory-in_default-write_summary.ensures

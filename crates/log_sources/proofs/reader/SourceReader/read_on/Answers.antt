@@ -1,5 +1,6 @@
 use Rattle.std.proofs.Common.{◌≡◌, ◌+◌, ◌-◌, ◌<◌, ◌≤◌, Some, length, take, drop, refl, sym, ap, ◌∙◌, subst, arith}
 use Rattle.std.proofs.lemmas.List.{take_all, length-drop}
+use Rattle.pota_base.specs.Limits.{longest_log}
 use Rattle.event_log.specs.LogEnd.{log_upto}
 use Rattle.fault_kinds.specs.declared.merge.MergeCode.TheVariants as code
 use Rattle.fault_kinds.specs.declared.merge.MergeFault.{MergeFault}
@@ -19,7 +20,7 @@ returns-in-Some-fault-clause-takes c =
     let same = c.input_fault.ensures.same in
     let count = is_count c.args.self.now c.args.bytes.now k c.input_fault.new.self.total c.min-count.ensures (ap (λ (x : SourceReader). x.total) same) (c.in_default.ensures.bytes refl) c.requires.some in
     let few = c.in_default.ensures.sources refl in
-    let small : c.args.self.now.total + length (take k c.args.bytes.now) ≤ 67108864 = omega (arith, count.small, count.taken) in
+    let small : c.args.self.now.total + length (take k c.args.bytes.now) ≤ longest_log = omega (arith, count.small, count.taken) in
     let feeds = subst (λ (x : SourceReader). Feeds x c.feed_log.new.self (take k c.args.bytes.now) c.in_ok-fed.fed c.in_ok-fed.behind.now) same c.in_ok-fed.ensures.read in
     let x = c.in-Some-fault.fault in
     let told : c.fault_at.result ≡ record { code = code.Log x.code; source = length c.input_fault.new.self.sources + 1; line = x.line } = cc c.fault_at.ensures in
@@ -31,7 +32,7 @@ overflow_sub-taken c =
     let k = c.min-count.result in
     let same = c.input_fault.ensures.same in
     let count = is_count c.args.self.now c.args.bytes.now k c.input_fault.new.self.total c.min-count.ensures (ap (λ (x : SourceReader). x.total) same) (c.in_default.ensures.bytes refl) c.requires.some in
-    let small : c.args.self.now.total + length (take k c.args.bytes.now) ≤ 67108864 = omega (arith, count.small, count.taken) in
+    let small : c.args.self.now.total + length (take k c.args.bytes.now) ≤ longest_log = omega (arith, count.small, count.taken) in
     let feeds = subst (λ (x : SourceReader). Feeds x c.feed_log.new.self (take k c.args.bytes.now) c.in_ok-fed.fed c.in_ok-fed.behind.now) same c.in_ok-fed.ensures.read in
     let some : 0 < length (take k c.args.bytes.now) = omega (arith, count.some, count.taken) in
     omega (arith, count.taken, rest_less c.args.self.now c.feed_log.new.self (take k c.args.bytes.now) c.in_ok-fed.fed c.in_ok-fed.behind.now c.requires.at.0 c.requires.at.1 c.requires.free feeds c.in_default-fault.is some)
@@ -55,7 +56,7 @@ returns-clause-takes c =
     let same = c.input_fault.ensures.same in
     let count = is_count c.args.self.now c.args.bytes.now k c.input_fault.new.self.total c.min-count.ensures (ap (λ (x : SourceReader). x.total) same) (c.in_default.ensures.bytes refl) c.requires.some in
     let few = c.in_default.ensures.sources refl in
-    let small : c.args.self.now.total + length (take k c.args.bytes.now) ≤ 67108864 = omega (arith, count.small, count.taken) in
+    let small : c.args.self.now.total + length (take k c.args.bytes.now) ≤ longest_log = omega (arith, count.small, count.taken) in
     let feeds = subst (λ (x : SourceReader). Feeds x c.feed_log.new.self (take k c.args.bytes.now) c.in_ok-fed.fed c.in_ok-fed.behind.now) same c.in_ok-fed.ensures.read in
     let n = k - length c.in_ok-fed.behind.now in
     let some : 0 < length (take k c.args.bytes.now) = omega (arith, count.some, count.taken) in
@@ -72,7 +73,7 @@ returns-clause-less c =
     let k = c.min-count.result in
     let same = c.input_fault.ensures.same in
     let count = is_count c.args.self.now c.args.bytes.now k c.input_fault.new.self.total c.min-count.ensures (ap (λ (x : SourceReader). x.total) same) (c.in_default.ensures.bytes refl) c.requires.some in
-    let small : c.args.self.now.total + length (take k c.args.bytes.now) ≤ 67108864 = omega (arith, count.small, count.taken) in
+    let small : c.args.self.now.total + length (take k c.args.bytes.now) ≤ longest_log = omega (arith, count.small, count.taken) in
     let feeds = subst (λ (x : SourceReader). Feeds x c.feed_log.new.self (take k c.args.bytes.now) c.in_ok-fed.fed c.in_ok-fed.behind.now) same c.in_ok-fed.ensures.read in
     let n = k - length c.in_ok-fed.behind.now in
     let some : 0 < length (take k c.args.bytes.now) = omega (arith, count.some, count.taken) in

@@ -1,3 +1,0 @@
--- Lemmas of the crates below that those above cite by this one.
-pub use Rattle.canonical_text.proofs.Following.{whole_accepted, whole_fits}
-pub use Rattle.canonical_text.proofs.OneText.{one_whole, one_verdict, is_front}

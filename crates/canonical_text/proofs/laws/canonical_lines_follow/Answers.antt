@@ -1,8 +1,0 @@
-use Rattle.canonical_text.proofs.Following.{line_follows, all_follow}
-use Rattle.canonical_text.proofs.laws.canonical_lines_follow.Goals as goal
-
-pub returns-clause-line : goal.returns-clause-line
-returns-clause-line c = line_follows
-
-pub returns-clause-lines : goal.returns-clause-lines
-returns-clause-lines c = all_follow

@@ -1,5 +1,0 @@
-use Rattle.run_request.proofs.SomeQuestion.{ask_or_fault}
-use Rattle.run_request.proofs.laws.words_ask_something.Goals as goal
-
-pub returns : goal.returns
-returns c = ask_or_fault
