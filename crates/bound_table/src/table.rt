@@ -15,7 +15,7 @@ ghost use Rattle.bound_table.specs.inside.Rule.{word_count};
 ghost use Rattle.bound_table.specs.Views.{KeepsClaims};
 
 use crate::firm::Firm;
-use crate::narrow::{narrowed, widen, widened};
+use crate::narrow::{widen, widened};
 use crate::seat::{Begins, Bounded, Key, Lifts, Looks, Meets, Seat, SeenBounds, Twins};
 use atomic_table::Table;
 use pota_base::{MOST_PROCESSES, NoMemory};
@@ -122,21 +122,19 @@ impl BoundTable {
         Ok((table, Seat { token, claimer }))
     }
 
-    /// The table of rows that are the system's own, which it keeps in 16 bits, and its first seat.
-    /// All rows are firm.
-    pub fn firm(alloc: Global, system: System, floor: Floor) -> Result<(BoundTable, Seat), NoMemory>
-        requires lens { floor.lens ≡ system.lens }
-        requires bounds { AreBounds system floor.words }
-        requires own { AreOwnRows system floor.words }
+    /// The table of rows that are the system's own, which it keeps as they are, in 16 bits, and its
+    /// first seat. All rows are firm.
+    pub fn firm(alloc: Global, system: System, rows: Rows) -> Result<(BoundTable, Seat), NoMemory>
+        requires lens { rows.lens ≡ system.lens }
+        requires bounds { AreBounds system rows.words }
+        requires own { AreOwnRows system rows.words }
         ensures system { IfOk result (λ pair. pair.0.system ≡ system) }
         ensures firm { IfOk result (λ pair. pair.0.firm
             ≡ record { firsts = system.lens; bottom = true }) }
         ensures seat { IfOk result (λ pair. pair.1
-            ≡ record { table = pair.0; floor = floor.words; claims = []; marks = [] }) }
+            ≡ record { table = pair.0; floor = rows.words; claims = []; marks = [] }) }
     {
         let firm = Firm::all(system.shape());
-        let rows = narrowed(alloc, &floor)?;
-        drop(floor);
         let key = Key {
             system: Snapshot::of(&system),
             firm: Snapshot::of(&firm),
