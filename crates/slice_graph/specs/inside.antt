@@ -2,5 +2,4 @@
 pub mod Edges
 pub mod Growing
 pub mod PullLists
-pub mod Pushing
 pub mod Words
