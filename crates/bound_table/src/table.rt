@@ -7,7 +7,7 @@ ghost use Rattle.pull_system.specs.Rows.{place_of};
 ghost use Rattle.raise_machine.specs.declared.step.Step.TheVariants.{Lend};
 ghost use Rattle.raise_machine.specs.Bounds.{AreBounds, word_at, has_start};
 ghost use Rattle.raise_machine.specs.Machine.{is_allowed};
-ghost use Rattle.bound_table.specs.inside.Asking.{IsPullStep, IsRaised, cell_of};
+ghost use Rattle.bound_table.specs.inside.Asking.{IsPullStep, IsRaised};
 ghost use Rattle.bound_table.specs.Firm.{AreOwnRows, HasReachedFirm};
 ghost use Rattle.bound_table.specs.Kept.{Follows, rows_from};
 ghost use Rattle.bound_table.specs.Lending.{AreBothRows};
@@ -462,8 +462,7 @@ impl BoundTable {
         requires target { target < length self.now.system.lens }
         requires step { IsPullStep self.now.system seat.old.floor row target asked }
         ensures keeps { KeepsClaims seat.old seat.new }
-        ensures raised { IsRaised self.now.system seat.old.floor seat.new.floor (cell_of row target)
-            asked
+        ensures raised { IsRaised self.now.system seat.old.floor seat.new.floor row target asked
             result }
     {
         let word = self.place(row, target);
@@ -498,8 +497,7 @@ impl BoundTable {
         requires step { is_allowed self.now.system seat.old.floor (Lend to_row from_row process y)
             ≡ true }
         ensures keeps { KeepsClaims seat.old seat.new }
-        ensures raised { IsRaised self.now.system seat.old.floor seat.new.floor
-            (cell_of to_row process) y
+        ensures raised { IsRaised self.now.system seat.old.floor seat.new.floor to_row process y
             result }
     {
         seat.bounds();

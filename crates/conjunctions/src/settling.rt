@@ -5,10 +5,8 @@ ghost use Rattle.pull_system.specs.System.{IsPull};
 ghost use Rattle.slice_graph.specs.Fitting.{HasOrder};
 ghost use Rattle.conjunctions.specs.Counting.{first_of};
 ghost use Rattle.bound_table.specs.Firm.{AreOwnRows};
-ghost use Rattle.slice_workers.specs.Spent.{spent_of};
 ghost use Rattle.conjunctions.specs.inside.Beginning.{BeginsTable, BeginsWithOrder, FloorFits};
 ghost use Rattle.conjunctions.specs.inside.Settling.{CanBegin, CanBeginTable, SettlesOne};
-ghost use Rattle.conjunctions.specs.inside.Settling.{conjoined_of};
 ghost use Rattle.conjunctions.specs.inside.Settling.{SharesOrder};
 
 use crate::floors::{Beginning, beginning_of};
@@ -47,8 +45,8 @@ pub fn settle_gathered<R: Threads + Sync, G: Gate, L: Ledger>(
         (first_of round.old.before) }
     requires floor { FloorFits (lengths order.now) gathered }
     requires shared { SharesOrder order.now gathered round.old }
-    ensures { IfOk result (SettlesOne (conjoined_of order.now gathered.pulls keeps)
-        means.now.workers round.old round.new (spent_of steps.old steps.new)) }
+    ensures { IfOk result (SettlesOne order.now gathered.pulls keeps means.now.workers round.old
+        round.new steps.old steps.new) }
 {
     let alloc = means.alloc;
     let alone = gathered.is_alone();
@@ -87,8 +85,8 @@ fn table_of<L: Ledger>(
 ) -> Result<(BoundTable, Seat), NoMemory>
     requires begins { CanBeginTable order.now system keeps before floor }
     requires own { alone ≡ true → IfSome floor (λ rows. AreOwnRows system rows.words) }
-    ensures { IfOk result (λ pair. BeginsTable system keeps before pair.0 pair.1
-        (spent_of steps.old steps.new)) }
+    ensures { IfOk result (λ pair. BeginsTable system keeps before pair.0 pair.1 steps.old
+        steps.new) }
 {
     if keeps || !alone {
         return shared_table(alloc, order, system, keeps, before, floor, steps);
@@ -116,8 +114,8 @@ fn shared_table<L: Ledger>(
     steps: &mut Steps<L>,
 ) -> Result<(BoundTable, Seat), NoMemory>
     requires begins { CanBeginTable order.now system keeps before floor }
-    ensures { IfOk result (λ pair. BeginsTable system keeps before pair.0 pair.1
-        (spent_of steps.old steps.new)) }
+    ensures { IfOk result (λ pair. BeginsTable system keeps before pair.0 pair.1 steps.old
+        steps.new) }
 {
     let _shape = system.shape();
     let begins = beginning_of(alloc, order, &system, keeps, before, floor, steps)?;

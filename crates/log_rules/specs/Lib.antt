@@ -6,4 +6,3 @@ pub mod SoFar
 pub mod Due
 pub mod Reported
 pub mod WholeLogs
-pub mod Passage

@@ -9,25 +9,17 @@ use Rattle.observation.specs.Growing.{GrowingView}
 use Rattle.observation.specs.Fed.{AreFedFrom}
 use Rattle.observation.specs.Taken.{TakesWhole, RefusesBatch}
 
--- what was observed, before and after
-pub record Grown : Type 0 where
-  pub before : GrowingView
-  pub after : GrowingView
-
-abbrev pub grown_of : (before after : GrowingView) → Grown
-grown_of before after = record { before = before; after = after }
-
 -- What comes of a batch: it is taken, and this is the answer on what was observed then; or it has
 -- this fault, and all is as before. So say `Session::extend` and `Session::answer` of a session,
 -- and so say `Observation::observe` and `Answering::answer` of an observation and of an answering
 -- that is lent it.
-abbrev pub Goes : {B : Type 0} → (B → List (List ℤ) → List Bool) → (grown : Grown)
+abbrev pub Goes : {B : Type 0} → (B → List (List ℤ) → List Bool) → (before after : GrowingView)
     → (boxes_before boxes_after : List B) → List Event → Result Answer LogFault → Type 0
-Goes says grown boxes_before boxes_after batch (Ok answer) =
-    TakesWhole says grown.before grown.after boxes_before boxes_after batch × IsAnswer
-    grown.after.seen (disjuncts_of grown.after.disjuncts) answer
-Goes says grown boxes_before boxes_after batch (Err fault) =
-    RefusesBatch grown.before grown.after boxes_before boxes_after batch fault
+Goes says before after boxes_before boxes_after batch (Ok answer) =
+    TakesWhole says before after boxes_before boxes_after batch
+    × IsAnswer after.seen (disjuncts_of after.disjuncts) answer
+Goes says before after boxes_before boxes_after batch (Err fault) =
+    RefusesBatch before after boxes_before boxes_after batch fault
 
 -- a session and an observation have observed the same, by watches that were handed in to both
 pub record AreAlike {B : Type 0} (says : B → List (List ℤ) → List Bool)

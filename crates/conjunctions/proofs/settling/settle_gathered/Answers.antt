@@ -6,7 +6,6 @@ use Rattle.pull_system.specs.Vector.{IsAtMost}
 use Rattle.pull_system.specs.System.{SystemView, IsPull, IsSystem}
 use Rattle.pull_fans.specs.Fans.{pulls_of_fans}
 use Rattle.pull_system.specs.Rows.{RowsView, AreLeastRows}
-use Rattle.slice_workers.specs.Spent.{spent_of}
 use Rattle.slice_workers.specs.Views.{SettledView}
 use Rattle.raise_machine.specs.Bounds.{AreBounds}
 use Rattle.bound_table.specs.Views.{TableView, SeatView}
@@ -116,7 +115,7 @@ returns g c =
     }
   where
     took : (made : SystemView) (table : TableView) (system : SystemView) (keeps : Bool) (next before : Option RowsView) (seat new : SeatView) (rows : RowsView) (s mid t : ℕ) → made ≡ system → next ≡ before
-        → BeginsTable made keeps next table seat (spent_of s mid) → rows.words ≡ new.floor → IsAtMost seat.floor new.floor → AreBounds table.system new.floor → TakesBehind table.system table.firm seat new mid t
+        → BeginsTable made keeps next table seat s mid → rows.words ≡ new.floor → IsAtMost seat.floor new.floor → AreBounds table.system new.floor → TakesBehind table.system table.firm seat new mid t
         → t ≤ s + steps_for (length system.pulls) keeps system.lens before rows
     took made table system keeps next before seat new rows s mid t made_is next_is begins new_is rises bounds takes =
         let least = begins.looks rows new t new_is rises (subst (λ (x : SystemView). AreBounds x new.floor) begins.system_is bounds) (subst (λ (x : SystemView). TakesBehind x table.firm seat new mid t) begins.system_is takes) in
