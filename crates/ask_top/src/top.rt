@@ -10,6 +10,7 @@ ghost use Rattle.asked_log.specs.Watches.{AreWatches, handed_watches, said_by};
 ghost use Rattle.fault_line.specs.Lines.{Told as IsTold};
 ghost use Rattle.std.specs.Prelude.{◌≡◌, ◌<◌, ◌+◌, ◌≤◌, drop, length, map, string_bytes, Some};
 ghost use Rattle.pota_base.specs.Changes.{of_sink, of_source};
+ghost use Rattle.pota_base.specs.Limits.{most_questions};
 
 use crate::answer::Answer;
 use crate::observed::answer_log;
@@ -51,7 +52,7 @@ fn answer_questions<R: Threads + Sync, S: Source, O: Sink>(
 ) -> Answer
     requires asks { asked_by (map string_bytes words.now) ≡ Some asked }
     requires some { asked.questions_from < length words.now }
-    requires few { length words.now ≤ asked.questions_from + 64 }
+    requires few { length words.now ≤ asked.questions_from + most_questions }
     requires read { CanBeObserved (map string_bytes (drop asked.questions_from words.now))
         questions }
     requires watches { AreWatches watches.items }

@@ -1,23 +1,18 @@
 //! Whether a question holds.
-ghost use Rattle.asked_answers.specs.Holding.{AnswersList, IsListedAs, all_true, some_true};
+ghost use Rattle.asked_answers.specs.Holding.{AnswersFormula, AnswersList, IsListedAs};
+ghost use Rattle.asked_answers.specs.Holding.{all_true, some_true};
 ghost use Rattle.asked_list.specs.declared.list.AskedList.{AskedList as ListIs};
 ghost use Rattle.question_forms.specs.Questions.{IsQuestion};
 ghost use Rattle.question_forms.specs.declared.question.Question.{Question as QuestionIs};
 ghost use Rattle.question_text.specs.declared.head.Head.{Head as HeadIs};
 ghost use Rattle.rctl_grammar.specs.Shape.{meaning};
 ghost use Rattle.rctl_grammar.specs.declared.tree.Tree.{Tree as TreeOf};
-ghost use Rattle.asked_list.specs.Lists.{IsAskedIn};
-ghost use Rattle.asked_parts.specs.Asked.{SpellAt};
-ghost use Rattle.conjunctions.specs.Answering.{IsAnswer};
-ghost use Rattle.part_pulls.specs.Observing.{AreAnswers, Reading, names_seen, run_seen};
+ghost use Rattle.part_pulls.specs.Observing.{Reading, run_seen};
 ghost use Rattle.part_pulls.specs.declared.observed.Observed.{Observed};
-ghost use Rattle.question_meaning.specs.Asking.{AreFor, asked_formula, is_turned, question};
+ghost use Rattle.question_meaning.specs.Asking.{is_turned, question};
 ghost use Rattle.question_meaning.specs.Question.{Holds};
-ghost use Rattle.rctl_parts.specs.Pieces.{Piece};
-ghost use Rattle.rctl_parts.specs.Spelled.{part_formulas};
 ghost use Rattle.run_model.specs.Formula.{Formula};
 ghost use Rattle.std.specs.Prelude.{◌≡◌, ◌↔◌, ◌-◌, ◌≤◌, ℕ, IsTrue, List};
-ghost use Rattle.trace_growth.specs.Growing.{IsTrace};
 
 use asked_list::AskedRange;
 use conjunctions::{Answer, PartAnswer};
@@ -61,12 +56,9 @@ fn some_true(parts: &[PartAnswer], from: u32, to: u32) -> bool
 /// Whether the question holds, by the answer to the disjuncts that all questions ask.
 pub fn holds(answer: &Answer, asked: AskedRange) -> bool
     requires range { asked.from ≤ asked.to }
-    ensures holds { (seen : Observed) (ds own : List (List Piece)) (reading : Reading) → IsTrace
-        seen.trace.states → IsAnswer seen ds answer.now → AreAnswers seen reading → IsAskedIn ds
-        asked own → (f : Formula) → SpellAt (run_seen seen reading) (names_seen seen reading) own
-        (asked_formula asked.form f) → AreFor asked.form
-        (part_formulas (names_seen seen reading) own) → IsTrue result ↔ Holds
-        (run_seen seen reading) (question asked.form f) }
+    ensures holds { (seen : Observed) (reading : Reading) (f : Formula)
+        → AnswersFormula asked seen reading f answer.now
+        → IsTrue result ↔ Holds (run_seen seen reading) (question asked.form f) }
     ensures listed { (text : List ℕ) (head : HeadIs) (t : TreeOf) (q : QuestionIs)
         → IsQuestion text head t q → (list : ListIs) → IsListedAs list asked q
         → (seen : Observed) (reading : Reading) → AnswersList list seen reading answer.now

@@ -20,12 +20,14 @@ use Rattle.event_log.proofs.FittingItems.{items_fit}
 use Rattle.event_log.proofs.Lists.{onto-append, length-onto}
 use Rattle.fault_kinds.specs.declared.refusal.Refusal.{Refusal}
 use Rattle.fault_kinds.specs.declared.refusal.Refusal.TheVariants as refusal
+use Rattle.log_rules.specs.Passage.{passage_of}
 use Rattle.log_rules.specs.Judgement.{Prefix, Judgement, waiting, growing, finished, refused, judged}
 use Rattle.log_rules.specs.Readings.{text_fault}
 use Rattle.log_rules.specs.Due.{closed_of, placed, fault_in, told}
 use Rattle.log_rules.specs.Reported.{reported}
 use Rattle.log_rules.proofs.Items.{judged-append}
 use Rattle.log_rules.proofs.Readings.{log_is_read}
+use Rattle.log_answers.specs.Asking.{asking_of, progress_of}
 use Rattle.log_answers.specs.PassedOn.{Says, Aim, rules_of}
 use Rattle.log_answers.specs.PassedOn.{IsCheckOf, IsFree, MayFollow}
 use Rattle.log_answers.specs.PassedOn.{ReportedLog}
@@ -38,7 +40,7 @@ use Rattle.batch_answers.specs.declared.reading.Turn.TheVariants as turn
 use Rattle.log_answers.specs.Checking.{closed_in, AreReportsFor, HasFrontOf, Stands, StopsIn}
 use Rattle.log_answers.specs.Checking.{TakesItems}
 use Rattle.batch_answers.specs.Reading.{due_in, judgement_in, IsWhole, StopsAt, HasReadLog}
-use Rattle.batch_answers.specs.inside.Reading.{HasJudged, TellsDue, PieceTo, TakesPiece, Finishes}
+use Rattle.batch_answers.specs.inside.Reading.{HasJudged, TellsDue, PieceTo, TakesPiece, Finishes, judging_of}
 use Rattle.batch_answers.specs.inside.Reading.{TurnsTo, Turns}
 use Rattle.log_answers.proofs.Items.{closed_more, texts_as, part_of_more, front_of_more}
 
@@ -103,8 +105,8 @@ module _ {X : Type 0} {P : X → Type 0} (says : Says X P) (aim : Aim) (each : B
   -- ---- a stop at items, and one behind them
 
   pub items_stop : (f : StopCause) (n of of' : ℕ) (bytes text : List ℕ) (left : Option (List ℕ)) (lf lf' : ℕ)
-      → StopsIn f n (counts_of of of') aim each (judgement_in aim bytes) text
-      → StopsAt f n (behind_of left lf lf' of of') aim each bytes text
+      → StopsIn f n (counts_of of of') (asking_of aim each) (judgement_in aim bytes) text
+      → StopsAt f n (behind_of left lf lf' of of') (asking_of aim each) (passage_of bytes text)
   items_stop f n of of' bytes text left lf lf' stop = go f stop
     where
       j : Judgement
@@ -113,8 +115,8 @@ module _ {X : Type 0} {P : X → Type 0} (says : Says X P) (aim : Aim) (each : B
       open_ : reported each (due_in aim false bytes) ≡ closed_in each (judgement_in aim bytes)
       open_ = reported_open as_is each (judgement_in aim bytes) (of_text (fault_of bytes))
 
-      go : (g : StopCause) → StopsIn g n (counts_of of of') aim each (judgement_in aim bytes) text
-          → StopsAt g n (behind_of left lf lf' of of') aim each bytes text
+      go : (g : StopCause) → StopsIn g n (counts_of of of') (asking_of aim each) (judgement_in aim bytes) text
+          → StopsAt g n (behind_of left lf lf' of of') (asking_of aim each) (passage_of bytes text)
       go (causes.Refused r) h = (
         false,
         λ e. absurd (cc),
@@ -134,7 +136,7 @@ module _ {X : Type 0} {P : X → Type 0} (says : Says X P) (aim : Aim) (each : B
   -- a fault of the text behind all items
   pub text_stops : (ended : Bool) (bytes text : List ℕ) (f : LogFault) (check : ReportedLog X P) → text_fault ended bytes ≡ Some f
       → Stands says aim each check (judgement_in aim bytes) text
-      → TellsDue aim each ended bytes text (Some (refusal.Log f)) check.log.intake.batches
+      → TellsDue (asking_of aim each) ended (passage_of bytes text) (Some (refusal.Log f)) check.log.intake.batches
   text_stops ended bytes text f check some stands =
       let j = judgement_in aim bytes in
       record {
@@ -145,7 +147,7 @@ module _ {X : Type 0} {P : X → Type 0} (says : Says X P) (aim : Aim) (each : B
 
   -- no fault so far
   pub nothing_told : (bytes text : List ℕ) (check : ReportedLog X P) → fault_of bytes ≡ None
-      → Stands says aim each check (judgement_in aim bytes) text → TellsDue aim each false bytes text None check.log.intake.batches
+      → Stands says aim each check (judgement_in aim bytes) text → TellsDue (asking_of aim each) false (passage_of bytes text) None check.log.intake.batches
   nothing_told bytes text check none stands =
       let j = judgement_in aim bytes in
       record {
@@ -157,7 +159,7 @@ module _ {X : Type 0} {P : X → Type 0} (says : Says X P) (aim : Aim) (each : B
   -- ---- one piece
 
   module _ (r new : Reader) (check : ReportedLog X P) (bytes piece text : List ℕ) (fed : Fed)
-      (known : HasJudged says aim each r check bytes text)
+      (known : HasJudged (judging_of says r check) (asking_of aim each) (passage_of bytes text))
       (read : (past : List ℕ) → HasRead r past → FedIs fed past (onto piece past) × HasRead new (onto piece past)) where
     past_is : onto (bytes ++ piece) [] ≡ onto piece (onto bytes [])
     past_is = onto-append bytes piece []
@@ -177,17 +179,17 @@ module _ {X : Type 0} {P : X → Type 0} (says : Says X P) (aim : Aim) (each : B
 
     module _ (held held' : Option (List ℕ)) (of of' : ℕ) (now : ReportedLog X P) where
       abbrev Took : {T : Type 0} → Result T Stop → Type 0
-      Took {T} result = TakesItems {T = T} (change_of held held' of of') says aim each now (judged (rules_of aim) (judgement_in aim bytes) fed.items) text result
+      Took {T} result = TakesItems {T = T} (change_of held held' of of') says (asking_of aim each) now (progress_of (judged (rules_of aim) (judgement_in aim bytes) fed.items) text) result
 
       -- a stop at an item
       pub piece_stops : {T : Type 0} (stop : Stop) → Took {T = T} (Err stop)
-          → TakesPiece (change_of held held' of of') says aim each new now (bytes ++ piece) text (Err stop)
+          → TakesPiece (change_of held held' of of') (judging_of says new now) (asking_of aim each) (passage_of (bytes ++ piece) text) (Err stop)
       piece_stops stop took = record {
         written = took.written;
         wrote = took.wrote;
         later = took.later;
         to = λ left lf lf'. items_stop stop.cause stop.batches of of' (bytes ++ piece) (text ++ took.written) left lf lf'
-            (subst (λ (k : Judgement). StopsIn stop.cause stop.batches (counts_of of of') aim each k (text ++ took.written)) (sym judgement_now) took.to);
+            (subst (λ (k : Judgement). StopsIn stop.cause stop.batches (counts_of of of') (asking_of aim each) k (text ++ took.written)) (sym judgement_now) took.to);
       }
 
       stands_now : {T : Type 0} (x : T) → (took : Took (Ok x)) → Stands says aim each now (judgement_in aim (bytes ++ piece)) (text ++ took.written)
@@ -196,18 +198,18 @@ module _ {X : Type 0} {P : X → Type 0} (says : Says X P) (aim : Aim) (each : B
       -- a fault behind the items
       pub piece_faults : {T : Type 0} (x : T) (f : LogFault) (stop : Stop) → Took (Ok x) → fed.fault ≡ Some f
           → stop ≡ record { batches = now.log.intake.batches; cause = causes.Refused (refusal.Log f) }
-          → TakesPiece (change_of held held' of of') says aim each new now (bytes ++ piece) text (Err stop)
+          → TakesPiece (change_of held held' of of') (judging_of says new now) (asking_of aim each) (passage_of (bytes ++ piece) text) (Err stop)
       piece_faults x f stop took some is = record {
         written = took.written;
         wrote = took.wrote;
         later = took.later;
-        to = λ left lf lf'. subst (λ (s : Stop). StopsAt s.cause s.batches (behind_of left lf lf' of of') aim each (bytes ++ piece) (text ++ took.written)) (sym is)
+        to = λ left lf lf'. subst (λ (s : Stop). StopsAt s.cause s.batches (behind_of left lf lf' of of') (asking_of aim each) (passage_of (bytes ++ piece) (text ++ took.written))) (sym is)
             (false, λ e. absurd (cc), text_stops false (bytes ++ piece) (text ++ took.written) f now (fault_now ∙ some) (stands_now x took));
       }
 
       -- no fault
       pub piece_passes : {T : Type 0} (x : T) → Took (Ok x) → fed.fault ≡ None
-          → TakesPiece (change_of held held' of of') says aim each new now (bytes ++ piece) text (Ok turn.More)
+          → TakesPiece (change_of held held' of of') (judging_of says new now) (asking_of aim each) (passage_of (bytes ++ piece) text) (Ok turn.More)
       piece_passes x took none = record {
         written = took.written;
         wrote = took.wrote;
@@ -221,13 +223,13 @@ module _ {X : Type 0} {P : X → Type 0} (says : Says X P) (aim : Aim) (each : B
 
   -- there was no memory for the items of the piece
   pub piece_short : (held : Option (List ℕ)) (of : ℕ) (r new : Reader) (check now : ReportedLog X P) (bytes piece text : List ℕ) (stop : Stop)
-      → HasJudged says aim each r check bytes text → stop ≡ record { batches = 0; cause = causes.Memory }
-      → TakesPiece (change_of held held of of) says aim each new now (bytes ++ piece) text (Err stop)
+      → HasJudged (judging_of says r check) (asking_of aim each) (passage_of bytes text) → stop ≡ record { batches = 0; cause = causes.Memory }
+      → TakesPiece (change_of held held of of) (judging_of says new now) (asking_of aim each) (passage_of (bytes ++ piece) text) (Err stop)
   piece_short held of r new check now bytes piece text stop known is = record {
     written = [];
     wrote = Appends-nil held;
     later = omega arith;
-    to = λ left lf lf'. subst (λ (s : Stop). StopsAt s.cause s.batches (behind_of left lf lf' of of) aim each (bytes ++ piece) (text ++ [])) (sym is) front;
+    to = λ left lf lf'. subst (λ (s : Stop). StopsAt s.cause s.batches (behind_of left lf lf' of of) (asking_of aim each) (passage_of (bytes ++ piece) (text ++ []))) (sym is) front;
   }
     where
       front : HasFrontOf aim (reported each (due_in aim false (bytes ++ piece))) (text ++ []) 0
@@ -243,31 +245,31 @@ module _ {X : Type 0} {P : X → Type 0} (says : Says X P) (aim : Aim) (each : B
 
   -- ---- the end
 
-  pub ends : (r : Reader) (check : ReportedLog X P) (bytes text : List ℕ) (of : ℕ) (o : Option LogFault) → HasJudged says aim each r check bytes text
-      → ((past : List ℕ) → HasRead r past → o ≡ end_fault past) → o ≡ None → Finishes of says aim each check bytes text (Ok turn.End)
+  pub ends : (r : Reader) (check : ReportedLog X P) (bytes text : List ℕ) (of : ℕ) (o : Option LogFault) → HasJudged (judging_of says r check) (asking_of aim each) (passage_of bytes text)
+      → ((past : List ℕ) → HasRead r past → o ≡ end_fault past) → o ≡ None → Finishes of says (asking_of aim each) check (passage_of bytes text) (Ok turn.End)
   ends r check bytes text of o known finishes none =
       record { free = sym (finishes (onto bytes []) known.read) ∙ none; stands = known.stands }
 
-  pub end_faults : (r : Reader) (check : ReportedLog X P) (bytes text : List ℕ) (of : ℕ) (o : Option LogFault) (f : LogFault) (stop : Stop) → HasJudged says aim each r check bytes text
+  pub end_faults : (r : Reader) (check : ReportedLog X P) (bytes text : List ℕ) (of : ℕ) (o : Option LogFault) (f : LogFault) (stop : Stop) → HasJudged (judging_of says r check) (asking_of aim each) (passage_of bytes text)
       → ((past : List ℕ) → HasRead r past → o ≡ end_fault past) → o ≡ Some f → stop ≡ record { batches = check.log.intake.batches; cause = causes.Refused (refusal.Log f) }
-      → Finishes of says aim each check bytes text (Err stop)
+      → Finishes of says (asking_of aim each) check (passage_of bytes text) (Err stop)
   end_faults r check bytes text of o f stop known finishes some is left lf lf' ended =
-      subst (λ (s : Stop). StopsAt s.cause s.batches (behind_of left lf lf' of of) aim each bytes text) (sym is)
+      subst (λ (s : Stop). StopsAt s.cause s.batches (behind_of left lf lf' of of) (asking_of aim each) (passage_of bytes text)) (sym is)
       (true, λ e. ended, text_stops true bytes text f check (sym (finishes (onto bytes []) known.read) ∙ some) known.stands)
 
   -- ---- one turn
 
   module _ (left left' held held' : Option (List ℕ)) (lf lf' of of' : ℕ) (bytes text : List ℕ) (r : Reader) (check : ReportedLog X P) where
-    more_to : (read t : List ℕ) → 0 < length read → (result : Result Turn Stop) → PieceTo (behind_of left' lf lf' of of') says aim each r check (bytes ++ read) t result
-        → TurnsTo (behind_of left' lf lf' of of') says aim each r check bytes read t result
+    more_to : (read t : List ℕ) → 0 < length read → (result : Result Turn Stop) → PieceTo (behind_of left' lf lf' of of') (judging_of says r check) (asking_of aim each) (passage_of (bytes ++ read) t) result
+        → TurnsTo (behind_of left' lf lf' of of') (judging_of says r check) (asking_of aim each) (passage_of bytes t) read result
     more_to read t some (Ok turn.More) f = (some, f)
     more_to read t some (Ok turn.End) f = absurd f
     more_to read t some (Err stop) f = f
 
     -- some bytes were there
     pub turn_more : (room : List ℕ) (count : ℕ) (result : Result Turn Stop) → (count ≡ 0 → ⊥) → count ≤ length room → Consumes left left' (take count room) → lf ≤ lf'
-        → TakesPiece (change_of held held' of of') says aim each r check (bytes ++ take count room) text result
-        → Turns (change_of left left' lf lf') (change_of held held' of of') says aim each r check bytes text result
+        → TakesPiece (change_of held held' of of') (judging_of says r check) (asking_of aim each) (passage_of (bytes ++ take count room) text) result
+        → Turns (change_of left left' lf lf') (change_of held held' of of') (judging_of says r check) (asking_of aim each) (passage_of bytes text) result
     turn_more room count result some within consumed later f = record {
       read = take count room;
       written = f.written;
@@ -279,23 +281,23 @@ module _ {X : Type 0} {P : X → Type 0} (says : Says X P) (aim : Aim) (each : B
     }
 
   module _ (left left' held : Option (List ℕ)) (lf lf' of : ℕ) (bytes text : List ℕ) (r : Reader) (check : ReportedLog X P) where
-    end_to : (read : List ℕ) → read ≡ [] → (result : Result Turn Stop) → IsAtEnd left' → Finishes of says aim each check bytes text result
-        → TurnsTo (behind_of left' lf lf' of of) says aim each r check bytes read (text ++ []) result
+    end_to : (read : List ℕ) → read ≡ [] → (result : Result Turn Stop) → IsAtEnd left' → Finishes of says (asking_of aim each) check (passage_of bytes text) result
+        → TurnsTo (behind_of left' lf lf' of of) (judging_of says r check) (asking_of aim each) (passage_of bytes (text ++ [])) read result
     end_to read none result ended f =
-        subst (λ (xs : List ℕ). TurnsTo (behind_of left' lf lf' of of) says aim each r check bytes xs (text ++ []) result) (sym none)
-        (subst (λ (t : List ℕ). TurnsTo (behind_of left' lf lf' of of) says aim each r check bytes [] t result) (sym (append-nil text)) (go result f))
+        subst (λ (xs : List ℕ). TurnsTo (behind_of left' lf lf' of of) (judging_of says r check) (asking_of aim each) (passage_of bytes (text ++ [])) xs result) (sym none)
+        (subst (λ (t : List ℕ). TurnsTo (behind_of left' lf lf' of of) (judging_of says r check) (asking_of aim each) (passage_of bytes t) [] result) (sym (append-nil text)) (go result f))
       where
         same : bytes ≡ bytes ++ []
         same = sym (append-nil bytes)
 
-        go : (x : Result Turn Stop) → Finishes of says aim each check bytes text x → TurnsTo (behind_of left' lf lf' of of) says aim each r check bytes [] text x
+        go : (x : Result Turn Stop) → Finishes of says (asking_of aim each) check (passage_of bytes text) x → TurnsTo (behind_of left' lf lf' of of) (judging_of says r check) (asking_of aim each) (passage_of bytes text) [] x
         go (Ok turn.More) h = absurd h
         go (Ok turn.End) h = (ended, subst (λ (xs : List ℕ). IsWhole says aim each check xs text) same h)
-        go (Err stop) h = subst (λ (xs : List ℕ). StopsAt stop.cause stop.batches (behind_of left' lf lf' of of) aim each xs text) same (h left' lf lf' ended)
+        go (Err stop) h = subst (λ (xs : List ℕ). StopsAt stop.cause stop.batches (behind_of left' lf lf' of of) (asking_of aim each) (passage_of xs text)) same (h left' lf lf' ended)
 
     -- nothing more was there
     pub turn_ends : (room : List ℕ) (count : ℕ) (result : Result Turn Stop) → count ≡ 0 → 0 < length room → Consumes left left' (take count room) × (count ≡ 0 → 0 < length room → IsAtEnd left') → lf ≤ lf'
-        → Finishes of says aim each check bytes text result → Turns (change_of left left' lf lf') (change_of held held of of) says aim each r check bytes text result
+        → Finishes of says (asking_of aim each) check (passage_of bytes text) result → Turns (change_of left left' lf lf') (change_of held held of of) (judging_of says r check) (asking_of aim each) (passage_of bytes text) result
     turn_ends room count result none some consumed later f =
         let nothing : take count room ≡ [] = ap (λ (n : ℕ). take n room) none in
         record {
@@ -314,12 +316,12 @@ module _ {X : Type 0} {P : X → Type 0} (says : Says X P) (aim : Aim) (each : B
     keeps_consumes (Some xs) (Some ys) h = sym h
 
     -- the read failed
-    pub turn_fails : (stop : Stop) → HasJudged says aim each r check bytes text → Keeps left left' → lf ≤ lf' → Rose lf lf'
-        → stop ≡ record { batches = check.log.intake.batches; cause = causes.Read } → Turns (change_of left left' lf lf') (change_of held held of of) says aim each r check bytes text (Err stop)
+    pub turn_fails : (stop : Stop) → HasJudged (judging_of says r check) (asking_of aim each) (passage_of bytes text) → Keeps left left' → lf ≤ lf' → Rose lf lf'
+        → stop ≡ record { batches = check.log.intake.batches; cause = causes.Read } → Turns (change_of left left' lf lf') (change_of held held of of) (judging_of says r check) (asking_of aim each) (passage_of bytes text) (Err stop)
     turn_fails stop known keeps later rose is =
-        let now : TellsDue aim each false (bytes ++ []) (text ++ []) None check.log.intake.batches =
-        subst (λ (xs : List ℕ). TellsDue aim each false xs (text ++ []) None check.log.intake.batches) (sym (append-nil bytes))
-        (subst (λ (t : List ℕ). TellsDue aim each false bytes t None check.log.intake.batches) (sym (append-nil text)) (nothing_told bytes text check known.free known.stands)) in
+        let now : TellsDue (asking_of aim each) false (passage_of (bytes ++ []) (text ++ [])) None check.log.intake.batches =
+        subst (λ (xs : List ℕ). TellsDue (asking_of aim each) false (passage_of xs (text ++ [])) None check.log.intake.batches) (sym (append-nil bytes))
+        (subst (λ (t : List ℕ). TellsDue (asking_of aim each) false (passage_of bytes t) None check.log.intake.batches) (sym (append-nil text)) (nothing_told bytes text check known.free known.stands)) in
         record {
           read = [];
           written = [];
@@ -327,7 +329,7 @@ module _ {X : Type 0} {P : X → Type 0} (says : Says X P) (aim : Aim) (each : B
           wrote = Appends-nil held;
           log_later = later;
           out_later = omega arith;
-          to = subst (λ (s : Stop). StopsAt s.cause s.batches (behind_of left' lf lf' of of) aim each (bytes ++ []) (text ++ [])) (sym is) (now, rose);
+          to = subst (λ (s : Stop). StopsAt s.cause s.batches (behind_of left' lf lf' of of) (asking_of aim each) (passage_of (bytes ++ []) (text ++ []))) (sym is) (now, rose);
         }
 
   -- ---- all turns
@@ -340,9 +342,9 @@ module _ {X : Type 0} {P : X → Type 0} (says : Says X P) (aim : Aim) (each : B
     pub wrote : Appends held held' text
     pub log_later : lf ≤ lf'
     pub out_later : of ≤ of'
-    pub judged_so : HasJudged says aim each r check bytes text
+    pub judged_so : HasJudged (judging_of says r check) (asking_of aim each) (passage_of bytes text)
 
-  total_is : (r : Reader) (check : ReportedLog X P) (bytes text : List ℕ) → HasJudged says aim each r check bytes text → r.feeder.total ≡ length bytes
+  total_is : (r : Reader) (check : ReportedLog X P) (bytes text : List ℕ) → HasJudged (judging_of says r check) (asking_of aim each) (passage_of bytes text) → r.feeder.total ≡ length bytes
   total_is r check bytes text known =
       let fed = known.read.feeds (known.read.fault_is ∙ known.free) in
       fed.counts.total_is ∙ length-onto bytes [] ∙ omega arith
@@ -367,7 +369,7 @@ module _ {X : Type 0} {P : X → Type 0} (says : Says X P) (aim : Aim) (each : B
   module _ (left now held held_now : Option (List ℕ)) (lf lf_now of of_now : ℕ) (r : Reader) (check : ReportedLog X P) (h : Going left now held held_now lf lf_now of of_now r check)
       (left' held' : Option (List ℕ)) (lf' of' : ℕ) (r' : Reader) (check' : ReportedLog X P) where
     abbrev Turned : Result Turn Stop → Type 0
-    Turned result = Turns (change_of now left' lf_now lf') (change_of held_now held' of_now of') says aim each r' check' h.bytes h.text result
+    Turned result = Turns (change_of now left' lf_now lf') (change_of held_now held' of_now of') (judging_of says r' check') (asking_of aim each) (passage_of h.bytes h.text) result
 
     pub goes_on : (x : Turn) → x ≡ turn.More → Turned (Ok x) → Going left left' held held' lf lf' of of' r' check'
     goes_on x is turned =
@@ -390,13 +392,13 @@ module _ {X : Type 0} {P : X → Type 0} (says : Says X P) (aim : Aim) (each : B
         let limit = free_small (onto (h.bytes ++ t.read) []) t.to.1.free in
         omega (arith, before, after, limit, length-onto (h.bytes ++ t.read) [], length-append h.bytes t.read, t.to.0)
 
-    stopped_at : (f : StopCause) (n : ℕ) (bytes text : List ℕ) → StopsAt f n (behind_of left' lf_now lf' of_now of') aim each bytes text → StopsAt f n (behind_of left' lf lf' of of') aim each bytes text
+    stopped_at : (f : StopCause) (n : ℕ) (bytes text : List ℕ) → StopsAt f n (behind_of left' lf_now lf' of_now of') (asking_of aim each) (passage_of bytes text) → StopsAt f n (behind_of left' lf lf' of of') (asking_of aim each) (passage_of bytes text)
     stopped_at (causes.Refused r) n bytes text k = k
     stopped_at causes.Read n bytes text k = (k.0, let e = k.1 in omega (arith, e, h.log_later))
     stopped_at causes.Write n bytes text k = (k.0, let e = k.1 in omega (arith, e, h.out_later))
     stopped_at causes.Memory n bytes text k = k
 
-    pub turns_end : {T : Type 0} (y : T) (x : Turn) → x ≡ turn.End → Turned (Ok x) → HasReadLog (change_of left left' lf lf') (change_of held held' of of') says aim each check' (Ok y)
+    pub turns_end : {T : Type 0} (y : T) (x : Turn) → x ≡ turn.End → Turned (Ok x) → HasReadLog (change_of left left' lf lf') (change_of held held' of of') says (asking_of aim each) check' (Ok y)
     turns_end y x is turned =
         let t : Turned (Ok turn.End) = subst (λ (z : Turn). Turned (Ok z)) is turned in
         record {
@@ -409,7 +411,7 @@ module _ {X : Type 0} {P : X → Type 0} (says : Says X P) (aim : Aim) (each : B
           to = t.to;
         }
 
-    pub turns_stop : {T : Type 0} (stop : Stop) → Turned (Err stop) → HasReadLog {T = T} (change_of left left' lf lf') (change_of held held' of of') says aim each check' (Err stop)
+    pub turns_stop : {T : Type 0} (stop : Stop) → Turned (Err stop) → HasReadLog {T = T} (change_of left left' lf lf') (change_of held held' of of') says (asking_of aim each) check' (Err stop)
     turns_stop stop t = record {
       read = h.bytes ++ t.read;
       written = h.text ++ t.written;
@@ -422,7 +424,7 @@ module _ {X : Type 0} {P : X → Type 0} (says : Says X P) (aim : Aim) (each : B
 
   -- no memory for the room
   pub no_room : {T : Type 0} (left held : Option (List ℕ)) (lf of : ℕ) (check : ReportedLog X P) (stop : Stop) → IsCheckOf says aim check waiting
-      → stop ≡ record { batches = 0; cause = causes.Memory } → HasReadLog {T = T} (change_of left left lf lf) (change_of held held of of) says aim each check (Err stop)
+      → stop ≡ record { batches = 0; cause = causes.Memory } → HasReadLog {T = T} (change_of left left lf lf) (change_of held held of of) says (asking_of aim each) check (Err stop)
   unfolding items judged
   no_room left held lf of check stop is memory = record {
     read = [];
@@ -431,7 +433,7 @@ module _ {X : Type 0} {P : X → Type 0} (says : Says X P) (aim : Aim) (each : B
     wrote = Appends-nil held;
     log_later = omega arith;
     out_later = omega arith;
-    to = subst (λ (s : Stop). StopsAt s.cause s.batches (behind_of left lf lf of of) aim each [] []) (sym memory) (record {
+    to = subst (λ (s : Stop). StopsAt s.cause s.batches (behind_of left lf lf of of) (asking_of aim each) (passage_of [] [])) (sym memory) (record {
       front = [];
       rest = reported each (due_in aim false []);
       are = refl;
@@ -456,22 +458,22 @@ module _ {X : Type 0} {P : X → Type 0} (says : Says X P) (left held : Option (
   module _ (now held_now : Option (List ℕ)) (lf_now of_now : ℕ) (each_now : Bool) (r : Reader) (check : ReportedLog X P) (room : List ℕ)
       (h : GoingSoFar says left now held held_now lf lf_now of of_now each each_now first r check room) where
     pub may_turn : (aim : Aim) × IsCheckOf says aim first waiting
-        → (aim : Aim) × (bytes : List ℕ) × (text : List ℕ) × HasJudged says aim each_now r check bytes text
+        → (aim : Aim) × (bytes : List ℕ) × (text : List ℕ) × HasJudged (judging_of says r check) (asking_of aim each_now) (passage_of bytes text)
     may_turn known =
         let g = h.going known.0 known.1 in
-        (known.0, g.bytes, g.text, subst (λ (e : Bool). HasJudged says known.0 e r check g.bytes g.text) (sym h.each_is) g.judged_so)
+        (known.0, g.bytes, g.text, subst (λ (e : Bool). HasJudged (judging_of says r check) (asking_of known.0 e) (passage_of g.bytes g.text)) (sym h.each_is) g.judged_so)
 
     module _ (left' held' : Option (List ℕ)) (lf' of' : ℕ) (each' : Bool) (r' : Reader) (check' : ReportedLog X P) (same : each' ≡ each_now) where
       abbrev TurnsIt : Result Turn Stop → Type 0
-      TurnsIt result = (aim : Aim) (bytes text : List ℕ) → HasJudged says aim each_now r check bytes text
-          → Turns (change_of now left' lf_now lf') (change_of held_now held' of_now of') says aim each_now r' check' bytes text result
+      TurnsIt result = (aim : Aim) (bytes text : List ℕ) → HasJudged (judging_of says r check) (asking_of aim each_now) (passage_of bytes text)
+          → Turns (change_of now left' lf_now lf') (change_of held_now held' of_now of') (judging_of says r' check') (asking_of aim each_now) (passage_of bytes text) result
 
       turned : (result : Result Turn Stop) → TurnsIt result → (aim : Aim) → (is : IsCheckOf says aim first waiting)
-          → Turns (change_of now left' lf_now lf') (change_of held_now held' of_now of') says aim each r' check' (h.going aim is).bytes (h.going aim is).text result
+          → Turns (change_of now left' lf_now lf') (change_of held_now held' of_now of') (judging_of says r' check') (asking_of aim each) (passage_of (h.going aim is).bytes (h.going aim is).text) result
       turned result turns aim is =
           let g = h.going aim is in
-          subst (λ (e : Bool). Turns (change_of now left' lf_now lf') (change_of held_now held' of_now of') says aim e r' check' g.bytes g.text result) h.each_is
-          (turns aim g.bytes g.text (subst (λ (e : Bool). HasJudged says aim e r check g.bytes g.text) (sym h.each_is) g.judged_so))
+          subst (λ (e : Bool). Turns (change_of now left' lf_now lf') (change_of held_now held' of_now of') (judging_of says r' check') (asking_of aim e) (passage_of g.bytes g.text) result) h.each_is
+          (turns aim g.bytes g.text (subst (λ (e : Bool). HasJudged (judging_of says r check) (asking_of aim e) (passage_of g.bytes g.text)) (sym h.each_is) g.judged_so))
 
       pub turns_on : (x : Turn) (room' : List ℕ) → length room' ≡ length room → x ≡ turn.More → TurnsIt (Ok x)
           → GoingSoFar says left left' held held' lf lf' of of' each each' first r' check' room'
@@ -487,11 +489,11 @@ module _ {X : Type 0} {P : X → Type 0} (says : Says X P) (left held : Option (
           nearer says known.0 each left now held held_now lf lf_now of of_now r check (h.going known.0 known.1) left' held' lf' of' r' check' x is (turned (Ok x) turns known.0 known.1)
 
       pub reads_all : {T : Type 0} (y : T) (x : Turn) → x ≡ turn.End → TurnsIt (Ok x) → (aim : Aim) → IsCheckOf says aim first waiting
-          → HasReadLog (change_of left left' lf lf') (change_of held held' of of') says aim each check' (Ok y)
+          → HasReadLog (change_of left left' lf lf') (change_of held held' of of') says (asking_of aim each) check' (Ok y)
       reads_all y x is turns aim known =
           turns_end says aim each left now held held_now lf lf_now of of_now r check (h.going aim known) left' held' lf' of' r' check' y x is (turned (Ok x) turns aim known)
 
       pub reads_stop : {T : Type 0} (stop : Stop) → TurnsIt (Err stop) → (aim : Aim) → IsCheckOf says aim first waiting
-          → HasReadLog {T = T} (change_of left left' lf lf') (change_of held held' of of') says aim each check' (Err stop)
+          → HasReadLog {T = T} (change_of left left' lf lf') (change_of held held' of of') says (asking_of aim each) check' (Err stop)
       reads_stop stop turns aim known =
           turns_stop says aim each left now held held_now lf lf_now of of_now r check (h.going aim known) left' held' lf' of' r' check' stop (turned (Err stop) turns aim known)

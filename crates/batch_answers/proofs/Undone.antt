@@ -5,6 +5,7 @@ use Rattle.pota_base.specs.Outside.{IsPrefix}
 use Rattle.run_model.specs.Run.{Name, Watches}
 use Rattle.pota_base.specs.Changes.{behind_of, change_of}
 use Rattle.rctl_class.specs.Nodes.{node_of, formula_of}
+use Rattle.log_rules.specs.Passage.{passage_of}
 use Rattle.stated_formula.specs.declared.formula.Stated.{Stated}
 use Rattle.stated_formula.specs.Stating.{IsStated}
 use Rattle.call_options.specs.declared.shown.Shown.{Shown}
@@ -29,7 +30,7 @@ stated_asked s shown names watches text is =
 pub nothing_front : (text : List ℕ) → IsPrefix [] text
 nothing_front text = (text, refl)
 
-pub ran_nothing : (left held : Option (List ℕ)) (lf of : ℕ) (on : Handing) (words : List (List ℕ)) (o : Outcome) → Answer o.status (behind_of left lf lf of of) on words [] [] o
+pub ran_nothing : (left held : Option (List ℕ)) (lf of : ℕ) (on : Handing) (words : List (List ℕ)) (o : Outcome) → Answer o.status (behind_of left lf lf of of) on words (passage_of [] []) o
     → Ran (change_of left left lf lf) (change_of held held of of) on words o
 ran_nothing left held lf of on words o answer = record {
   read = [];

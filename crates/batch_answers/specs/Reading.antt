@@ -6,9 +6,11 @@ use Rattle.pota_base.specs.Outside.{Rose}
 use Rattle.pota_base.specs.Changes.{Behind, Change, behind_both}
 use Rattle.event_log.specs.Faults.{end_fault}
 use Rattle.event_log.specs.LogText.{onto}
+use Rattle.log_rules.specs.Passage.{Passage, passage_of}
 use Rattle.log_rules.specs.Judgement.{Judgement}
 use Rattle.log_rules.specs.Readings.{log_reading}
 use Rattle.log_rules.specs.Due.{Due, judgement_of}
+use Rattle.log_answers.specs.Asking.{Asking}
 use Rattle.log_answers.specs.PassedOn.{Says, Aim, rules_of}
 use Rattle.log_answers.specs.PassedOn.{ReportedLog}
 use Rattle.log_rules.specs.Reported.{reported}
@@ -35,16 +37,16 @@ pub record IsWhole {X : Type 0} {P : X → Type 0} (says : Says X P) (aim : Aim)
   pub free : end_fault (onto bytes []) ≡ None
   pub stands : Stands says aim each check (judgement_in aim bytes) text
 
-abbrev pub StopsAt : StopCause → ℕ → Behind → Aim → Bool → List ℕ → List ℕ → Type 0
-StopsAt (causes.Refused r) n behind aim each bytes text =
-    StopsBy log_reading (causes.Refused r) n behind aim each bytes text
-StopsAt causes.Read n behind aim each bytes text =
-    StopsBy log_reading causes.Read n behind aim each bytes text
-StopsAt causes.Write n behind aim each bytes text =
-    HasPartOf aim (reported each (due_in aim false bytes)) text n × Rose behind.sink.before
-    behind.sink.after
-StopsAt causes.Memory n behind aim each bytes text =
-    StopsBy log_reading causes.Memory n behind aim each bytes text
+abbrev pub StopsAt : StopCause → ℕ → Behind → Asking → Passage → Type 0
+StopsAt (causes.Refused r) n behind asking passage =
+    StopsBy log_reading (causes.Refused r) n behind asking passage
+StopsAt causes.Read n behind asking passage =
+    StopsBy log_reading causes.Read n behind asking passage
+StopsAt causes.Write n behind asking passage =
+    HasPartOf asking.aim (reported asking.each (due_in asking.aim false passage.read))
+    passage.written n × Rose behind.sink.before behind.sink.after
+StopsAt causes.Memory n behind asking passage =
+    StopsBy log_reading causes.Memory n behind asking passage
 
 -- ---- one piece and the end
 
@@ -52,23 +54,23 @@ StopsAt causes.Memory n behind aim each bytes text =
 
 -- ---- the whole log
 
-abbrev pub ReadsTo : {T X : Type 0} {P : X → Type 0} → Behind → Says X P → Aim → Bool → ReportedLog
-    X P → List ℕ → List ℕ → Result T Stop → Type 0
-ReadsTo behind says aim each check read text (Ok x) =
-    IsAtEnd behind.rest × IsWhole says aim each check read text
-ReadsTo behind says aim each check read text (Err stop) =
-    StopsAt stop.cause stop.batches behind aim each read text
+abbrev pub ReadsTo : {T X : Type 0} {P : X → Type 0} → Behind → Says X P → Asking → ReportedLog X P
+    → Passage → Result T Stop → Type 0
+ReadsTo behind says asking check passage (Ok x) =
+    IsAtEnd behind.rest × IsWhole says asking.aim asking.each check passage.read passage.written
+ReadsTo behind says asking check passage (Err stop) =
+    StopsAt stop.cause stop.batches behind asking passage
 
 -- the log was read, but for the report on the whole of it
 pub record HasReadLog {T X : Type 0} {P : X → Type 0} (source sink : Change) (says : Says X P)
-    (aim : Aim) (each : Bool) (check : ReportedLog X P) (result : Result T Stop) : Type 0 where
+    (asking : Asking) (check : ReportedLog X P) (result : Result T Stop) : Type 0 where
   pub read : List ℕ
   pub written : List ℕ
   pub consumed : Consumes source.before source.after read
   pub wrote : Appends sink.before sink.after written
   pub log_later : source.faults_before ≤ source.faults_after
   pub out_later : sink.faults_before ≤ sink.faults_after
-  pub to : ReadsTo (behind_both source sink) says aim each check read written result
+  pub to : ReadsTo (behind_both source sink) says asking check (passage_of read written) result
 
 -- ---- the text and its report
 

@@ -1,12 +1,15 @@
 //! Reading a log to its end, and checking it as it comes.
 ghost use Rattle.std.specs.Prelude.{◌≡◌, ◌<◌, ◌++◌, [], ℕ, List, length};
 ghost use Rattle.pota_base.specs.Changes.{of_sink, of_source};
+ghost use Rattle.log_rules.specs.Passage.{passage_of};
 ghost use Rattle.log_rules.specs.Judgement.{waiting};
+ghost use Rattle.log_answers.specs.Asking.{asking_of};
 ghost use Rattle.log_answers.specs.PassedOn.{Aim, said_by};
 ghost use Rattle.log_answers.specs.PassedOn.{IsCheckOf};
 ghost use Rattle.log_answers.specs.Calm.{IsCalmUnlessRead};
 ghost use Rattle.batch_answers.specs.Reading.{HasReadLog};
 ghost use Rattle.batch_answers.specs.inside.Reading.{Finishes, HasJudged, TakesPiece, Turns};
+ghost use Rattle.batch_answers.specs.inside.Reading.{judging_of};
 
 use event_log::{Fed, Reader};
 use fault_kinds::Refusal;
@@ -32,12 +35,13 @@ fn take_piece<R: Threads + Sync, G: Gate, L: Ledger, O: Sink>(
     out: &mut O,
 ) -> Result<Turn, Stop>
     requires { (aim : Aim) × (bytes : List ℕ) × (text : List ℕ)
-        × HasJudged (said_by answers) aim checking.old.each_batch reader.old checking.old.check
-        bytes text }
-    ensures piece { (aim : Aim) (bytes text : List ℕ) → HasJudged (said_by answers) aim
-        checking.old.each_batch reader.old checking.old.check bytes text → TakesPiece
-        (of_sink O.Sink out.old out.new) (said_by answers) aim checking.old.each_batch reader.new
-        checking.new.check (bytes ++ piece.now) text result }
+        × HasJudged (judging_of (said_by answers) reader.old checking.old.check)
+        (asking_of aim checking.old.each_batch) (passage_of bytes text) }
+    ensures piece { (aim : Aim) (bytes text : List ℕ) → HasJudged (judging_of (said_by answers)
+        reader.old checking.old.check) (asking_of aim checking.old.each_batch)
+        (passage_of bytes text) → TakesPiece (of_sink O.Sink out.old out.new) (judging_of
+        (said_by answers) reader.new checking.new.check) (asking_of aim checking.old.each_batch)
+        (passage_of (bytes ++ piece.now) text) result }
     ensures each { checking.new.each_batch ≡ checking.old.each_batch }
 {
     let Ok(fed) = reader.feed(piece) else {
@@ -56,13 +60,13 @@ fn take_piece<R: Threads + Sync, G: Gate, L: Ledger, O: Sink>(
 // The input has ended.
 fn finish<L: Ledger>(reader: &mut Reader, checking: &Checking<L>) -> Result<Turn, Stop>
     requires { (aim : Aim) × (bytes : List ℕ) × (text : List ℕ)
-        × HasJudged (said_by answers) aim checking.now.each_batch reader.old checking.now.check
-        bytes text }
-    ensures { (aim : Aim) (bytes text : List ℕ)
-        → HasJudged (said_by answers) aim checking.now.each_batch reader.old checking.now.check
-        bytes text → (of : ℕ)
-        → Finishes of (said_by answers) aim checking.now.each_batch checking.now.check bytes text
-        result }
+        × HasJudged (judging_of (said_by answers) reader.old checking.now.check)
+        (asking_of aim checking.now.each_batch) (passage_of bytes text) }
+    ensures { (aim : Aim) (bytes text : List ℕ) → HasJudged
+        (judging_of (said_by answers) reader.old checking.now.check)
+        (asking_of aim checking.now.each_batch) (passage_of bytes text) → (of : ℕ) → Finishes of
+        (said_by answers) (asking_of aim checking.now.each_batch) checking.now.check
+        (passage_of bytes text) result }
 {
     match reader.finish() {
         Some(fault) => Err(checking.stop(StopCause::Refused(Refusal::Log(fault)))),
@@ -81,12 +85,13 @@ fn take_turn<R: Threads + Sync, G: Gate, L: Ledger, S: Source, O: Sink>(
 ) -> Result<Turn, Stop>
     requires room { 0 < length room.old }
     requires judged { (aim : Aim) × (bytes : List ℕ) × (text : List ℕ)
-        × HasJudged (said_by answers) aim checking.old.each_batch reader.old checking.old.check
-        bytes text }
-    ensures turn { (aim : Aim) (bytes text : List ℕ) → HasJudged (said_by answers) aim
-        checking.old.each_batch reader.old checking.old.check bytes text → Turns
-        (of_source S.Source log.old log.new) (of_sink O.Sink out.old out.new) (said_by answers) aim
-        checking.old.each_batch reader.new checking.new.check bytes text result }
+        × HasJudged (judging_of (said_by answers) reader.old checking.old.check)
+        (asking_of aim checking.old.each_batch) (passage_of bytes text) }
+    ensures turn { (aim : Aim) (bytes text : List ℕ) → HasJudged (judging_of (said_by answers)
+        reader.old checking.old.check) (asking_of aim checking.old.each_batch)
+        (passage_of bytes text) → Turns (of_source S.Source log.old log.new)
+        (of_sink O.Sink out.old out.new) (judging_of (said_by answers) reader.new
+        checking.new.check) (asking_of aim checking.old.each_batch) (passage_of bytes text) result }
     ensures each { checking.new.each_batch ≡ checking.old.each_batch }
     ensures calm { IsCalmUnlessRead (S.faults log.old) (S.faults log.new) result }
 {
@@ -107,7 +112,7 @@ pub fn read_log<R: Threads + Sync, G: Gate, L: Ledger, S: Source, O: Sink>(
     requires { (aim : Aim) × IsCheckOf (said_by answers) aim checking.old.check waiting }
     ensures log { (aim : Aim) → IsCheckOf (said_by answers) aim checking.old.check waiting
         → HasReadLog (of_source S.Source log.old log.new) (of_sink O.Sink out.old out.new)
-        (said_by answers) aim checking.old.each_batch checking.new.check result }
+        (said_by answers) (asking_of aim checking.old.each_batch) checking.new.check result }
     ensures each { checking.new.each_batch ≡ checking.old.each_batch }
     ensures calm { IsCalmUnlessRead (S.faults log.old) (S.faults log.new) result }
 {

@@ -41,6 +41,7 @@ use Rattle.trace_gen.proofs.Clear.{length-names}
 use Rattle.trace_gen.proofs.Fits.{log_fits, all_written, filled_clean}
 use Rattle.trace_gen.proofs.Rising.{made_rising}
 use Rattle.trace_gen.proofs.Size.{log_small}
+use Rattle.log_answers.specs.Asking.{summing_of}
 use Rattle.log_answers.specs.declared.stop.StopCause.{StopCause}
 use Rattle.log_answers.specs.declared.stop.StopCause.TheVariants as causes
 use Rattle.log_answers.specs.declared.stop.Stop.{Stop}
@@ -161,7 +162,7 @@ module _ {X : Type 0} {P : X → Type 0} (says : Says X P) (aim : Aim) (sizes : 
     count_is : check.log.intake.batches ≡ 1
     count_is = taken.log.intake.batches ∙ (made_whole rises (has_names check taken)).count
 
-    sum_stops : (f : StopCause) (n : ℕ) (text : List ℕ) → SummaryStops f n (counts_of of of') aim check.log.intake.batches (all_of (made_by sizes)) sizes text
+    sum_stops : (f : StopCause) (n : ℕ) (text : List ℕ) → SummaryStops f n (counts_of of of') (summing_of aim (all_of (made_by sizes)) sizes) check.log.intake.batches text
         → BenchStops f n (counts_of of of') aim sizes text
     sum_stops causes.Write n text h = (
       record {
@@ -177,7 +178,7 @@ module _ {X : Type 0} {P : X → Type 0} (says : Says X P) (aim : Aim) (sizes : 
     sum_stops (causes.Refused r) n text h = absurd h
     sum_stops causes.Read n text h = absurd h
 
-    sum_to : (result : Result Verdict Stop) (text : List ℕ) → SumsUpTo (counts_of of of') aim check.log.intake.batches (all_of (made_by sizes)) sizes text result
+    sum_to : (result : Result Verdict Stop) (text : List ℕ) → SumsUpTo (counts_of of of') (summing_of aim (all_of (made_by sizes)) sizes) check.log.intake.batches text result
         → BenchesTo (counts_of of of') aim sizes text result
     sum_to (Ok v) text h = record {
       named = has_names check taken;

@@ -13,6 +13,7 @@ use Rattle.stated_formula.specs.Stating.{IsStated}
 use Rattle.run_report.specs.Reports.{Asked}
 use Rattle.run_report.specs.Benches.{IsSummaryOf}
 use Rattle.fault_kinds.specs.declared.refusal.Refusal.TheVariants as refusal
+use Rattle.log_rules.specs.Passage.{passage_of}
 use Rattle.log_rules.specs.WholeLogs.{all_of}
 use Rattle.batch_answers.specs.PassedOn.{Says, Aim, aim_of, names_of, watches_of}
 use Rattle.watch.specs.declared.predicate.Handed.{Handed}
@@ -56,7 +57,7 @@ module _ {X : Type 0} {P : X → Type 0} (says : Says X P) (s : Stated) (sizes :
 
   module _ (left : Option (List ℕ)) (lf of of' : ℕ) (written : List ℕ) where
     bench_stop : (why : StopCause) (n : ℕ) → BenchStops why n (counts_of of of') bench_aim sizes written
-        → Answer (status_of (fault_of why)) (behind_of left lf lf of of') bench_on words [] written (faulty_outcome n (fault_of why))
+        → Answer (status_of (fault_of why)) (behind_of left lf lf of of') bench_on words (passage_of [] written) (faulty_outcome n (fault_of why))
     bench_stop (causes.Refused (refusal.Formula x)) n h = (
       x,
       inr (inr (record {
@@ -103,12 +104,12 @@ module _ {X : Type 0} {P : X → Type 0} (says : Says X P) (s : Stated) (sizes :
     }
 
     bench_verdict : (b : Bool) (v : Verdict) → v.truth ≡ b → IsBenchOf bench_aim sizes written v
-        → Answer (if b then status.True else status.False) (behind_of left lf lf of of') bench_on words [] written (record { status = if b then status.True else status.False; batches = v.batches; fault = None })
+        → Answer (if b then status.True else status.False) (behind_of left lf lf of of') bench_on words (passage_of [] written) (record { status = if b then status.True else status.False; batches = v.batches; fault = None })
     bench_verdict true v e h = inr (bench_of true v e h)
     bench_verdict false v e h = inr (bench_of false v e h)
 
     bench_answer : (result : Result Verdict Stop) → BenchesTo (counts_of of of') bench_aim sizes written result
-        → Answer (outcome_of result).status (behind_of left lf lf of of') bench_on words [] written (outcome_of result)
+        → Answer (outcome_of result).status (behind_of left lf lf of of') bench_on words (passage_of [] written) (outcome_of result)
     bench_answer (Ok v) h = bench_verdict v.truth v refl h
     bench_answer (Err stop) h = bench_stop stop.cause stop.batches h
 

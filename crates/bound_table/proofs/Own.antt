@@ -16,7 +16,7 @@ use Rattle.raise_machine.specs.Machine.{is_allowed}
 use Rattle.bound_table.specs.declared.seat.Begins.{Begins}
 use Rattle.bound_table.specs.declared.seat.Begins.TheVariants.{Shared, Own}
 use Rattle.bound_table.specs.Firm.{Reaches, ReachesFirst, AreFinal, FirmView, HasReachedFirm}
-use Rattle.bound_table.specs.inside.Asking.{IsPullStep, IsRaised}
+use Rattle.bound_table.specs.inside.Asking.{IsPullStep, IsRaised, cell_of}
 use Rattle.bound_table.specs.inside.Rule.{word_count, begun_words, KeepsOwn}
 use Rattle.bound_table.proofs.Allowed.{pull_step_bound, lend_step_bound, lend_parts, pull_parts}
 
@@ -145,7 +145,7 @@ own_floor system begins own rows begun floor own_is kept same shape bounds withi
 
 -- a step of the machine finds nothing to raise where the floor is the least
 pub own_pulled : (system : SystemView) → IsSystem system → (words floor : List ℕ) → AreLeastRows system words → AreBounds system floor → (row target asked became : ℕ) → target < length system.lens → IsPullStep system floor row target asked
-    → became ≡ get_or words (place_of system.lens row target) 0 → became ≡ word_at system.lens floor row target → IsRaised system floor floor row target asked became
+    → became ≡ get_or words (place_of system.lens row target) 0 → became ≡ word_at system.lens floor row target → IsRaised system floor floor (cell_of row target) asked became
 own_pulled system is words floor least bounds row target asked became there step now same =
     let parts = pull_parts system floor row step.k step.x step.allowed in
     let bound = pull_step_bound system is floor bounds row step.k step.x step.allowed in
@@ -159,7 +159,7 @@ own_pulled system is words floor least bounds row target asked became there step
     }
 
 pub own_lent : (system : SystemView) (words floor : List ℕ) → AreLeastRows system words → AreBounds system floor → (to_row from_row process y found : ℕ) → is_allowed system floor (Lend to_row from_row process y) ≡ true
-    → found ≡ word_at system.lens floor to_row process → word_at system.lens floor to_row process ≡ word_at system.lens words to_row process → IsRaised system floor floor to_row process y found
+    → found ≡ word_at system.lens floor to_row process → word_at system.lens floor to_row process ≡ word_at system.lens words to_row process → IsRaised system floor floor (cell_of to_row process) y found
 own_lent system words floor least bounds to_row from_row process y found step now same =
     let parts = lend_parts system floor to_row from_row process y step in
     let here = lend_step_bound system floor bounds to_row from_row process y step in

@@ -17,7 +17,7 @@ use Rattle.raise_machine.specs.Bounds.{AreBounds, word_at}
 use Rattle.raise_machine.proofs.Raising.{word_in_range}
 use Rattle.bound_table.specs.Kept.{Follows}
 use Rattle.bound_table.specs.Views.{TableView, SeatView, KeepsClaims}
-use Rattle.bound_table.specs.inside.Asking.{IsSettling, HoldSeen, IsAsking, SeesMore, IsPullStep}
+use Rattle.bound_table.specs.inside.Asking.{IsSettling, HoldSeen, IsAsking, SeesMore, IsPullStep, cell_of}
 use Rattle.bound_table.specs.inside.Asking.{IsRaised}
 use Rattle.bound_table.specs.Lending.{AreLeast}
 use Rattle.bound_table.proofs.Claiming.{keeps_trans}
@@ -42,19 +42,19 @@ read_small system is old new place x bounds same there =
     omega (arith, place_small system is new bounds place, ap (λ xs. get_or xs place 0) same, get_or-set_same old place x 0 there)
 
 -- what a word became is the floor for it
-pub raised_at : (system : SystemView) (old new : List ℕ) (row process number became : ℕ) → row ≤ sum system.lens → process < length system.lens → IsRaised system old new row process number became → word_at system.lens new row process ≡ became
+pub raised_at : (system : SystemView) (old new : List ℕ) (row process number became : ℕ) → row ≤ sum system.lens → process < length system.lens → IsRaised system old new (cell_of row process) number became → word_at system.lens new row process ≡ became
 raised_at system old new row process number became row_there there raised =
     let place : ℕ = place_of system.lens row process in
     ap (λ words. word_at system.lens words row process) raised.floor
     ∙ get_or-set_same old place became 0 (omega (arith, raised.bounds.size, ap length raised.floor, length-set old place became, place_there system.lens row process row_there there))
 
-pub raised_small : (system : SystemView) → IsSystem system → (old new : List ℕ) (row process number became : ℕ) → row ≤ sum system.lens → process < length system.lens → IsRaised system old new row process number became → became < 2 ^ 16
+pub raised_small : (system : SystemView) → IsSystem system → (old new : List ℕ) (row process number became : ℕ) → row ≤ sum system.lens → process < length system.lens → IsRaised system old new (cell_of row process) number became → became < 2 ^ 16
 raised_small system is old new row process number became row_there there raised =
     omega (arith, word_small system is new raised.bounds row process there, raised_at system old new row process number became row_there there raised)
 
 -- a word that was read
 pub read_raised : (system : SystemView) (old new : List ℕ) (row process word number became : ℕ) → word ≡ place_of system.lens row process → new ≡ set old word became → get_or old word 0 ≤ became → number ≤ became → AreBounds system new
-    → IsRaised system old new row process number became
+    → IsRaised system old new (cell_of row process) number became
 read_raised system old new row process word number became at same rises reaches bounds = record {
   floor = same ∙ ap (λ place. set old place became) at;
   rises = omega (arith, rises, ap (λ place. get_or old place 0) at);
@@ -68,8 +68,8 @@ set_twice (x ∷ xs) zero m n = refl
 set_twice (x ∷ xs) (suc i) m n = ap (λ ys. x ∷ ys) (set_twice xs i m n)
 
 -- a word that was read, and then raised
-pub raised_twice : (system : SystemView) (old mid new : List ℕ) (row process m a n b : ℕ) → row ≤ sum system.lens → process < length system.lens → IsRaised system old mid row process m a → IsRaised system mid new row process n b
-    → IsRaised system old new row process n b
+pub raised_twice : (system : SystemView) (old mid new : List ℕ) (row process m a n b : ℕ) → row ≤ sum system.lens → process < length system.lens → IsRaised system old mid (cell_of row process) m a → IsRaised system mid new (cell_of row process) n b
+    → IsRaised system old new (cell_of row process) n b
 raised_twice system old mid new row process m a n b row_there there first second =
     let place : ℕ = place_of system.lens row process in record {
       floor = second.floor ∙ ap (λ words. set words place b) first.floor ∙ set_twice old place a b;
@@ -80,12 +80,12 @@ raised_twice system old mid new row process m a n b row_there there first second
 
 -- the word that rose, in the vector that follows the row
 pub follows_raised : (system : SystemView) (row process number became : ℕ) (old floor floor_now v v_now : List ℕ) → row ≤ sum system.lens → Follows system row old floor v → process < length system.lens
-    → IsRaised system floor floor_now row process number became → v_now ≡ set v process became → Follows system row old floor_now v_now
+    → IsRaised system floor floor_now (cell_of row process) number became → v_now ≡ set v process became → Follows system row old floor_now v_now
 follows_raised system row process number became old floor floor_now v v_now row_there follows there raised same =
     follows_set system row (length system.lens) (length system.lens) process became old floor floor_now v v_now row_there follows there follows.bounds raised.floor same raised.rises raised.bounds (λ p below. inr below) (omega arith)
 
 pub settling_raised : (table : TableView) (row process number became : ℕ) (a b c : SeatView) (v v_now : List ℕ) → IsSettling table row a b v → process < length table.system.lens
-    → KeepsClaims b c → IsRaised table.system b.floor c.floor row process number became → v_now ≡ set v process became → IsSettling table row a c v_now
+    → KeepsClaims b c → IsRaised table.system b.floor c.floor (cell_of row process) number became → v_now ≡ set v process became → IsSettling table row a c v_now
 settling_raised table row process number became a b c v v_now settling there keeps raised same = record {
   system = settling.system;
   fits = settling.fits;
@@ -94,7 +94,7 @@ settling_raised table row process number became a b c v v_now settling there kee
   follows = follows_raised table.system row process number became a.floor b.floor c.floor v v_now settling.there settling.follows there raised same;
 }
 
-pub raised_within_floor : (system : SystemView) (old new : List ℕ) (row process number became : ℕ) → IsRaised system old new row process number became → IsAtMost old new
+pub raised_within_floor : (system : SystemView) (old new : List ℕ) (row process number became : ℕ) → IsRaised system old new (cell_of row process) number became → IsAtMost old new
 raised_within_floor system old new row process number became raised = set_within old new (place_of system.lens row process) became raised.floor raised.rises
 
 -- a pull that asks this of the row, where its source has reached the value, is a step of the machine

@@ -7,7 +7,7 @@ ghost use Rattle.pull_system.specs.Rows.{place_of};
 ghost use Rattle.raise_machine.specs.declared.step.Step.TheVariants.{Lend};
 ghost use Rattle.raise_machine.specs.Bounds.{AreBounds, word_at, has_start};
 ghost use Rattle.raise_machine.specs.Machine.{is_allowed};
-ghost use Rattle.bound_table.specs.inside.Asking.{IsPullStep, IsRaised};
+ghost use Rattle.bound_table.specs.inside.Asking.{IsPullStep, IsRaised, cell_of};
 ghost use Rattle.bound_table.specs.Firm.{AreOwnRows, HasReachedFirm};
 ghost use Rattle.bound_table.specs.Kept.{Follows, rows_from};
 ghost use Rattle.bound_table.specs.Lending.{AreBothRows};
@@ -15,7 +15,7 @@ ghost use Rattle.bound_table.specs.inside.Rule.{word_count};
 ghost use Rattle.bound_table.specs.Views.{KeepsClaims};
 
 use crate::firm::Firm;
-use crate::narrow::{narrowed, widen, widened};
+use crate::narrow::{widen, widened};
 use crate::seat::{Begins, Bounded, Key, Lifts, Looks, Meets, Seat, SeenBounds, Twins};
 use atomic_table::Table;
 use pota_base::{MOST_PROCESSES, NoMemory};
@@ -122,21 +122,19 @@ impl BoundTable {
         Ok((table, Seat { token, claimer }))
     }
 
-    /// The table of rows that are the system's own, which it keeps in 16 bits, and its first seat.
-    /// All rows are firm.
-    pub fn firm(alloc: Global, system: System, floor: Floor) -> Result<(BoundTable, Seat), NoMemory>
-        requires lens { floor.lens ≡ system.lens }
-        requires bounds { AreBounds system floor.words }
-        requires own { AreOwnRows system floor.words }
+    /// The table of rows that are the system's own, which it keeps as they are, in 16 bits, and its
+    /// first seat. All rows are firm.
+    pub fn firm(alloc: Global, system: System, rows: Rows) -> Result<(BoundTable, Seat), NoMemory>
+        requires lens { rows.lens ≡ system.lens }
+        requires bounds { AreBounds system rows.words }
+        requires own { AreOwnRows system rows.words }
         ensures system { IfOk result (λ pair. pair.0.system ≡ system) }
         ensures firm { IfOk result (λ pair. pair.0.firm
             ≡ record { firsts = system.lens; bottom = true }) }
         ensures seat { IfOk result (λ pair. pair.1
-            ≡ record { table = pair.0; floor = floor.words; claims = []; marks = [] }) }
+            ≡ record { table = pair.0; floor = rows.words; claims = []; marks = [] }) }
     {
         let firm = Firm::all(system.shape());
-        let rows = narrowed(alloc, &floor)?;
-        drop(floor);
         let key = Key {
             system: Snapshot::of(&system),
             firm: Snapshot::of(&firm),
@@ -462,7 +460,8 @@ impl BoundTable {
         requires target { target < length self.now.system.lens }
         requires step { IsPullStep self.now.system seat.old.floor row target asked }
         ensures keeps { KeepsClaims seat.old seat.new }
-        ensures raised { IsRaised self.now.system seat.old.floor seat.new.floor row target asked
+        ensures raised { IsRaised self.now.system seat.old.floor seat.new.floor (cell_of row target)
+            asked
             result }
     {
         let word = self.place(row, target);
@@ -497,7 +496,8 @@ impl BoundTable {
         requires step { is_allowed self.now.system seat.old.floor (Lend to_row from_row process y)
             ≡ true }
         ensures keeps { KeepsClaims seat.old seat.new }
-        ensures raised { IsRaised self.now.system seat.old.floor seat.new.floor to_row process y
+        ensures raised { IsRaised self.now.system seat.old.floor seat.new.floor
+            (cell_of to_row process) y
             result }
     {
         seat.bounds();

@@ -25,6 +25,7 @@ use Rattle.call_request.specs.Questions.{IsQuestionFault, AsksFor}
 use Rattle.call_request.proofs.OneQuestion.{asks_one, asks_free, faults_one}
 use Rattle.fault_kinds.specs.declared.refusal.Refusal.{Refusal}
 use Rattle.fault_kinds.specs.declared.refusal.Refusal.TheVariants as refusal
+use Rattle.log_rules.specs.Passage.{passage_of}
 use Rattle.log_rules.specs.Judgement.{Prefix}
 use Rattle.log_rules.specs.Due.{Due}
 use Rattle.log_rules.specs.Readings.{IsReading}
@@ -39,7 +40,7 @@ use Rattle.call_promise.specs.Questions.{fault_of_question}
 use Rattle.call_promise.specs.declared.outcome.Outcome.{Outcome}
 use Rattle.call_promise.specs.Asking.{Handing, reading_of, watches_for, certifying, due_of, IsDueText}
 use Rattle.call_promise.specs.Certificates.{IsTrueAtStart}
-use Rattle.call_promise.specs.Run.{AsksCertificate, HasVerdict, IsRefused, HasBenched, LacksName, IsMisasked, made_by, Answer, Ran, IsCalm, WritesAsDue, TellsTruth, TellsFault, IsDecided, IsRefusedAsDue, IsRefusedAsAsked, Benches, IsBenchAnswered}
+use Rattle.call_promise.specs.Run.{AsksCertificate, HasVerdict, IsRefused, HasBenched, LacksName, IsMisasked, made_by, Answer, Ran, IsCalm, WritesAsDue, TellsTruth, TellsFault, IsDecided, IsRefusedAsDue, IsRefusedAsAsked, Benches, IsBenchAnswered, output_of}
 
 -- ---- the bytes of a source
 
@@ -104,9 +105,9 @@ module _ (left left' held held' : Option (List ℕ)) (lf lf' of of' : ℕ) (on :
   -- what was written is the text that is due of all bytes
   as_due : (u : Tree) (k : Inquiry) (ended : Bool) (read : List ℕ) → AsksFor words (task.Read k) u
       → IsDueText on.watches u k (due_of on.names u k ended read) ran.written → o.batches ≡ (due_of on.names u k ended read).batches
-      → due_of on.names u k ended read ≡ due_of on.names u k true bytes → WritesAsDue on t i bytes held held' o
+      → due_of on.names u k ended read ≡ due_of on.names u k true bytes → WritesAsDue on t i bytes (output_of held held') o
   as_due u k ended read also text count same =
-      asked_alone (λ v x. WritesAsDue on v x bytes held held' o) u k also (record {
+      asked_alone (λ v x. WritesAsDue on v x bytes (output_of held held') o) u k also (record {
         text = ran.written;
         due_is = subst (λ (d : Due). IsDueText on.watches u k d ran.written) same text;
         written = ran.wrote;
@@ -122,22 +123,22 @@ module _ (left left' held held' : Option (List ℕ)) (lf lf' of of' : ℕ) (on :
       let rest = rest_of left left' bytes ran.read tells ran.consumed in
       sym (ap (due_of on.names u k true) rest.1 ∙ due_stays longest_log _ (form_is_read k.form) _ true ran.read rest.0 r is)
 
-  refused_due : (r : Refusal) → (h : IsRefused left' on words ran.read ran.written o r) → all_due.fault ≡ Some r
+  refused_due : (r : Refusal) → (h : IsRefused left' on words (passage_of ran.read ran.written) o r) → all_due.fault ≡ Some r
   refused_due r h =
       asked_alone (λ v x. (due_of on.names v x true bytes).fault ≡ Some r) h.told.tree h.told.inquiry h.told.asks
       (ap (λ (d : Due). d.fault) (sym (stays_due h.told.tree h.told.inquiry h.ended r h.at_end h.due_is)) ∙ h.due_is)
 
-  read_due : (b : Bool) → (h : HasVerdict left' on words ran.read ran.written o b) → due_of on.names h.told.tree h.told.inquiry true ran.read ≡ due_of on.names h.told.tree h.told.inquiry true bytes
+  read_due : (b : Bool) → (h : HasVerdict left' on words (passage_of ran.read ran.written) o b) → due_of on.names h.told.tree h.told.inquiry true ran.read ≡ due_of on.names h.told.tree h.told.inquiry true bytes
   read_due b h = ap (due_of on.names h.told.tree h.told.inquiry true) (read_all left left' bytes ran.read tells ran.consumed h.ended)
 
-  verdict_due : (b : Bool) → (h : HasVerdict left' on words ran.read ran.written o b) → due_of on.names h.told.tree h.told.inquiry true ran.read ≡ all_due
+  verdict_due : (b : Bool) → (h : HasVerdict left' on words (passage_of ran.read ran.written) o b) → due_of on.names h.told.tree h.told.inquiry true ran.read ≡ all_due
   verdict_due b h =
       asked_alone (λ v x. due_of on.names h.told.tree h.told.inquiry true ran.read ≡ due_of on.names v x true bytes) h.told.tree h.told.inquiry h.told.asks (read_due b h)
 
-  verdict_as_due : (b : Bool) → HasVerdict left' on words ran.read ran.written o b → WritesAsDue on t i bytes held held' o
+  verdict_as_due : (b : Bool) → HasVerdict left' on words (passage_of ran.read ran.written) o b → WritesAsDue on t i bytes (output_of held held') o
   verdict_as_due b h = as_due h.told.tree h.told.inquiry true ran.read h.told.asks h.told.text h.told.count (read_due b h)
 
-  tells_truth : (b : Bool) → o.status ≡ (if b then status.True else status.False) → (h : HasVerdict left' on words ran.read ran.written o b)
+  tells_truth : (b : Bool) → o.status ≡ (if b then status.True else status.False) → (h : HasVerdict left' on words (passage_of ran.read ran.written) o b)
       → (log : Prefix) → all_due.whole ≡ Some log → TellsTruth (watches_for i.product on.watches) t log o
   tells_truth b is h log whole =
       let one = reads_one words h.told.inquiry i h.told.tree t h.told.asks asks in
@@ -151,10 +152,10 @@ module _ (left left' held held' : Option (List ℕ)) (lf lf' of of' : ℕ) (on :
         fault = h.fault;
       }
 
-  no_fault : (r : Refusal) → IsRefused left' on words ran.read ran.written o r → all_due.fault ≡ None → ⊥
+  no_fault : (r : Refusal) → IsRefused left' on words (passage_of ran.read ran.written) o r → all_due.fault ≡ None → ⊥
   no_fault r h free = none-some r (sym free ∙ refused_due r h)
 
-  no_verdict : (b : Bool) (r : Refusal) → HasVerdict left' on words ran.read ran.written o b → all_due.fault ≡ Some r → ⊥
+  no_verdict : (b : Bool) (r : Refusal) → HasVerdict left' on words (passage_of ran.read ran.written) o b → all_due.fault ≡ Some r → ⊥
   no_verdict b r h some = none-some r (sym h.free ∙ ap (λ (d : Due). d.fault) (verdict_due b h) ∙ some)
 
   not_asked : (f : QuestionFault) → IsQuestionFault words f → ⊥
@@ -164,14 +165,14 @@ module _ (left left' held held' : Option (List ℕ)) (lf lf' of of' : ℕ) (on :
   no_bench u sizes h = not_both words i sizes t u asks h
 
   abbrev Decided : Type 0
-  Decided = (log : Prefix) × (all_due.whole ≡ Some log) × WritesAsDue on t i bytes held held' o × TellsTruth (watches_for i.product on.watches) t log o
+  Decided = (log : Prefix) × (all_due.whole ≡ Some log) × WritesAsDue on t i bytes (output_of held held') o × TellsTruth (watches_for i.product on.watches) t log o
 
-  decided_with : (b : Bool) → o.status ≡ (if b then status.True else status.False) → HasVerdict left' on words ran.read ran.written o b → Decided
+  decided_with : (b : Bool) → o.status ≡ (if b then status.True else status.False) → HasVerdict left' on words (passage_of ran.read ran.written) o b → Decided
   decided_with b is h =
       let whole : all_due.whole ≡ Some h.log = ap (λ (d : Due). d.whole) (sym (verdict_due b h)) ∙ h.whole in
       (h.log, whole, verdict_as_due b h, tells_truth b is h h.log whole)
 
-  decided_as : (st : Status) → o.status ≡ st → Answer st (behind_of left' lf lf' of of') on words ran.read ran.written o → all_due.fault ≡ None → Decided
+  decided_as : (st : Status) → o.status ≡ st → Answer st (behind_of left' lf lf' of of') on words (passage_of ran.read ran.written) o → all_due.fault ≡ None → Decided
   decided_as status.True is (inl h) free = decided_with true is h
   decided_as status.True is (inr h) free = absurd (no_bench h.summary.tree h.summary.sizes h.summary.asks)
   decided_as status.False is (inl h) free = decided_with false is h
@@ -189,9 +190,9 @@ module _ (left left' held held' : Option (List ℕ)) (lf lf' of of' : ℕ) (on :
   decided free = decided_as o.status refl ran.answer free
 
   abbrev RefusedAs : Refusal → Type 0
-  RefusedAs r = WritesAsDue on t i bytes held held' o × TellsFault (fault_of_refusal r) o
+  RefusedAs r = WritesAsDue on t i bytes (output_of held held') o × TellsFault (fault_of_refusal r) o
 
-  refused_with : (r x : Refusal) → o.status ≡ status_of (fault_of_refusal x) → (h : IsRefused left' on words ran.read ran.written o x) → all_due.fault ≡ Some r → RefusedAs r
+  refused_with : (r x : Refusal) → o.status ≡ status_of (fault_of_refusal x) → (h : IsRefused left' on words (passage_of ran.read ran.written) o x) → all_due.fault ≡ Some r → RefusedAs r
   refused_with r x is h some =
       let same : x ≡ r = same_Some x r (sym (refused_due x h) ∙ some) in
       let mine : RefusedAs x = (
@@ -200,7 +201,7 @@ module _ (left left' held held' : Option (List ℕ)) (lf lf' of of' : ℕ) (on :
       ) in
       subst RefusedAs same mine
 
-  refused_as : (st : Status) → o.status ≡ st → Answer st (behind_of left' lf lf' of of') on words ran.read ran.written o → (r : Refusal) → all_due.fault ≡ Some r → RefusedAs r
+  refused_as : (st : Status) → o.status ≡ st → Answer st (behind_of left' lf lf' of of') on words (passage_of ran.read ran.written) o → (r : Refusal) → all_due.fault ≡ Some r → RefusedAs r
   refused_as status.True is (inl h) r some = absurd (no_verdict true r h some)
   refused_as status.True is (inr h) r some = absurd (no_bench h.summary.tree h.summary.sizes h.summary.asks)
   refused_as status.False is (inl h) r some = absurd (no_verdict false r h some)
@@ -231,7 +232,7 @@ module _ (left left' held held' : Option (List ℕ)) (lf lf' of of' : ℕ) (on :
       let mine : Misasked g = (no_text a.nothing.1, a.batches, record { status = is; fault = a.fault }) in
       subst Misasked (faults_one words g f a.fault_is h) mine
 
-  misasked_as : (st : Status) → o.status ≡ st → Answer st (behind_of left' lf lf' of of') on words ran.read ran.written o → (f : QuestionFault) → IsQuestionFault words f → Misasked f
+  misasked_as : (st : Status) → o.status ≡ st → Answer st (behind_of left' lf lf' of of') on words (passage_of ran.read ran.written) o → (f : QuestionFault) → IsQuestionFault words f → Misasked f
   misasked_as status.True is (inl a) f h = absurd (asks_free words (task.Read a.told.inquiry) a.told.tree a.told.asks f h)
   misasked_as status.True is (inr a) f h = absurd (asks_free words (task.Bench a.summary.sizes) a.summary.tree a.summary.asks f h)
   misasked_as status.False is (inl a) f h = absurd (asks_free words (task.Read a.told.inquiry) a.told.tree a.told.asks f h)
@@ -276,7 +277,7 @@ module _ (left left' held held' : Option (List ℕ)) (lf lf' of of' : ℕ) (on :
       fault = h.fault;
     }
 
-    benched_as : (st : Status) → o.status ≡ st → Answer st (behind_of left' lf lf' of of') on words ran.read ran.written o → missing t sizes ≡ None → Benches on words held held' o
+    benched_as : (st : Status) → o.status ≡ st → Answer st (behind_of left' lf lf' of of') on words (passage_of ran.read ran.written) o → missing t sizes ≡ None → Benches on words held held' o
     benched_as status.True is (inl a) named = absurd (not_read a.told.tree a.told.inquiry a.told.asks)
     benched_as status.True is (inr a) named = benched_with true is a
     benched_as status.False is (inl a) named = absurd (not_read a.told.tree a.told.inquiry a.told.asks)
@@ -302,7 +303,7 @@ module _ (left left' held held' : Option (List ℕ)) (lf lf' of of' : ℕ) (on :
     lacks_verdict : (b : Bool) (f : FormulaFault) → HasBenched on words ran.read ran.written o b → missing t sizes ≡ Some f → ⊥
     lacks_verdict b f a some = none-some f (sym a.summary.named ∙ same_missing a.summary.tree a.summary.sizes a.summary.asks ∙ some)
 
-    lacks_as : (st : Status) → o.status ≡ st → Answer st (behind_of left' lf lf' of of') on words ran.read ran.written o → (f : FormulaFault) → missing t sizes ≡ Some f → Lacks f
+    lacks_as : (st : Status) → o.status ≡ st → Answer st (behind_of left' lf lf' of of') on words (passage_of ran.read ran.written) o → (f : FormulaFault) → missing t sizes ≡ Some f → Lacks f
     lacks_as status.True is (inl a) f some = absurd (not_read a.told.tree a.told.inquiry a.told.asks)
     lacks_as status.True is (inr a) f some = absurd (lacks_verdict true f a some)
     lacks_as status.False is (inl a) f some = absurd (not_read a.told.tree a.told.inquiry a.told.asks)
@@ -331,8 +332,8 @@ told_as left left' held held' lf lf' of of' on words o ended same led = subst (R
 
 module _ (left left' held held' : Option (List ℕ)) (lf lf' of of' : ℕ) (on : Handing) (words : List (List ℕ)) (o : Outcome)
     (ran : Ran (change_of left left' lf lf') (change_of held held' of of') on words o) where
-  answer_at : (st : Status) → o.status ≡ st → Answer st (behind_of left' lf lf' of of') on words ran.read ran.written o
-  answer_at st is = subst (λ (x : Status). Answer x (behind_of left' lf lf' of of') on words ran.read ran.written o) is ran.answer
+  answer_at : (st : Status) → o.status ≡ st → Answer st (behind_of left' lf lf' of of') on words (passage_of ran.read ran.written) o
+  answer_at st is = subst (λ (x : Status). Answer x (behind_of left' lf lf' of of') on words (passage_of ran.read ran.written) o) is ran.answer
 
   pub clause_read : o.status ≡ status.ReadFault → Rose lf lf'
   clause_read is = (answer_at status.ReadFault is).1

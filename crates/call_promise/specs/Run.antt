@@ -27,6 +27,7 @@ use Rattle.call_request.specs.Questions.{IsQuestionFault, AsksFor}
 use Rattle.report.specs.declared.report.Report.{Report}
 use Rattle.report.specs.declared.report.SliceText.{SliceText}
 use Rattle.run_report.specs.Reports.{Asked, text_seen, IsReportOf}
+use Rattle.log_rules.specs.Passage.{Passage, passage_of}
 use Rattle.log_rules.specs.SoFar.{trace_so_far, counted}
 use Rattle.run_report.specs.Witnesses.{IsShownFor}
 use Rattle.run_report.specs.Benches.{IsSummaryOf}
@@ -46,6 +47,14 @@ use Rattle.call_promise.specs.declared.outcome.Outcome.{Outcome}
 use Rattle.call_promise.specs.Certificates.{IsTrueAtStart, IsCertificateFront}
 use Rattle.call_promise.specs.Asking.{Handing, asked, asked_by, each_of, watches_for, Writes}
 use Rattle.call_promise.specs.Asking.{WritesFront, certifying, due_of, IsDueText}
+
+-- what the output holds, before and after
+pub record Output : Type 0 where
+  pub before : Option (List ℕ)
+  pub after : Option (List ℕ)
+
+abbrev pub output_of : (before after : Option (List ℕ)) → Output
+output_of before after = record { before = before; after = after }
 
 -- ---- what a report tells of the run
 
@@ -89,23 +98,23 @@ pub record IsTold (on : Handing) (words : List (List ℕ)) (ended : Bool) (read 
 
 -- the log was read to its end and has no fault, and the formula is true there or isn't
 pub record HasVerdict (left : Option (List ℕ)) (on : Handing) (words : List (List ℕ))
-    (read written : List ℕ) (o : Outcome) (verdict : Bool) : Type 0 where
+    (passage : Passage) (o : Outcome) (verdict : Bool) : Type 0 where
   pub ended : IsAtEnd left
-  pub told : IsTold on words true read written o.batches
-  pub free : (due_of on.names told.tree told.inquiry true read).fault ≡ None
+  pub told : IsTold on words true passage.read passage.written o.batches
+  pub free : (due_of on.names told.tree told.inquiry true passage.read).fault ≡ None
   pub log : Prefix
-  pub whole : (due_of on.names told.tree told.inquiry true read).whole ≡ Some log
+  pub whole : (due_of on.names told.tree told.inquiry true passage.read).whole ≡ Some log
   pub truth : (verdict ≡ true)
       ↔ IsTrueAtStart (watches_for told.inquiry.product on.watches) told.tree log
   pub fault : o.fault ≡ None
 
 -- this is the first fault of the bytes that were read
 pub record IsRefused (left : Option (List ℕ)) (on : Handing) (words : List (List ℕ))
-    (read written : List ℕ) (o : Outcome) (r : Refusal) : Type 0 where
+    (passage : Passage) (o : Outcome) (r : Refusal) : Type 0 where
   pub ended : Bool
   pub at_end : ended ≡ true → IsAtEnd left
-  pub told : IsTold on words ended read written o.batches
-  pub due_is : (due_of on.names told.tree told.inquiry ended read).fault ≡ Some r
+  pub told : IsTold on words ended passage.read passage.written o.batches
+  pub due_is : (due_of on.names told.tree told.inquiry ended passage.read).fault ≡ Some r
   pub fault : o.fault ≡ Some (fault_of_refusal r)
 
 -- the bytes that were read have no fault
@@ -233,25 +242,31 @@ pub record IsOutOfMemory (left : Option (List ℕ)) (on : Handing) (words : List
 
 -- What a status says, by what the source has left, the counts of faults before and after, the
 -- watches, the words, and the bytes read and written.
-abbrev pub Answer : Status → Behind → Handing → List (List ℕ) → List ℕ → List ℕ → Outcome → Type 0
-Answer status.True behind on words read written o =
-    HasVerdict behind.rest on words read written o true ⊎ HasBenched on words read written o true
-Answer status.False behind on words read written o =
-    HasVerdict behind.rest on words read written o false ⊎ HasBenched on words read written o false
-Answer status.Usage behind on words read written o = IsMisasked words read written o question.Usage
-Answer status.Formula behind on words read written o =
-    (f : FormulaFault) × (IsMisasked words read written o (question.Formula f) ⊎ (IsRefused
-    behind.rest on words read written o (refusal.Formula f) ⊎ LacksName on words read written o f))
-Answer status.Log behind on words read written o =
+abbrev pub Answer : Status → Behind → Handing → List (List ℕ) → Passage → Outcome → Type 0
+Answer status.True behind on words passage o =
+    HasVerdict behind.rest on words passage o true ⊎ HasBenched on words passage.read
+    passage.written o true
+Answer status.False behind on words passage o =
+    HasVerdict behind.rest on words passage o false ⊎ HasBenched on words passage.read
+    passage.written o false
+Answer status.Usage behind on words passage o =
+    IsMisasked words passage.read passage.written o question.Usage
+Answer status.Formula behind on words passage o =
+    (f : FormulaFault) × (IsMisasked words passage.read passage.written o (question.Formula f)
+    ⊎ (IsRefused behind.rest on words passage o (refusal.Formula f) ⊎ LacksName on words
+    passage.read passage.written o f))
+Answer status.Log behind on words passage o =
     (r : Refusal) × (status_of (fault_of_refusal r) ≡ status.Log) × IsRefused behind.rest on words
-    read written o r
-Answer status.ReadFault behind on words read written o =
-    IsCutShort on words read written o × Rose behind.source.before behind.source.after
-Answer status.WriteFault behind on words read written o =
-    (HasPart behind.rest on words read written o.batches ⊎ HasSummaryPart on words read written o)
-    × (o.fault ≡ Some fault.Write) × Rose behind.sink.before behind.sink.after
-Answer status.OutOfMemory behind on words read written o =
-    IsOutOfMemory behind.rest on words read written o
+    passage o r
+Answer status.ReadFault behind on words passage o =
+    IsCutShort on words passage.read passage.written o × Rose behind.source.before
+    behind.source.after
+Answer status.WriteFault behind on words passage o =
+    (HasPart behind.rest on words passage.read passage.written o.batches ⊎ HasSummaryPart on words
+    passage.read passage.written o) × (o.fault ≡ Some fault.Write) × Rose behind.sink.before
+    behind.sink.after
+Answer status.OutOfMemory behind on words passage o =
+    IsOutOfMemory behind.rest on words passage.read passage.written o
 
 -- a whole run: what was read and written in it, that no count fell, and what its status says
 pub record Ran (source sink : Change) (on : Handing) (words : List (List ℕ)) (o : Outcome) : Type 0
@@ -262,7 +277,7 @@ pub record Ran (source sink : Change) (on : Handing) (words : List (List ℕ)) (
     pub wrote : Appends sink.before sink.after written
     pub log_later : source.faults_before ≤ source.faults_after
     pub out_later : sink.faults_before ≤ sink.faults_after
-    pub answer : Answer o.status (behind_both source sink) on words read written o
+    pub answer : Answer o.status (behind_both source sink) on words (passage_of read written) o
 
 -- ---- for a source that tells its bytes, where neither count rose and memory was there
 
@@ -270,11 +285,11 @@ abbrev pub IsCalm : ℕ → ℕ → ℕ → ℕ → Outcome → Type 0
 IsCalm lf lf' of of' o = (Rose lf lf' → ⊥) × (Rose of of' → ⊥) × (o.status ≡ status.OutOfMemory → ⊥)
 
 -- the text that is due is written, and so many batches are due
-pub record WritesAsDue (on : Handing) (t : Tree) (i : Inquiry) (bytes : List ℕ)
-    (held held' : Option (List ℕ)) (o : Outcome) : Type 0 where
+pub record WritesAsDue (on : Handing) (t : Tree) (i : Inquiry) (bytes : List ℕ) (output : Output)
+    (o : Outcome) : Type 0 where
   pub text : List ℕ
   pub due_is : IsDueText on.watches t i (due_of on.names t i true bytes) text
-  pub written : Appends held held' text
+  pub written : Appends output.before output.after text
   pub batches : o.batches ≡ (due_of on.names t i true bytes).batches
 
 -- the status is the truth of the formula
@@ -296,7 +311,7 @@ IsDecided left on words held held' o =
     (bytes : List ℕ) (t : Tree) (i : Inquiry) → left ≡ Some bytes
     → AsksFor words (task.Read i) t → (due_of on.names t i true bytes).fault ≡ None
     → (log : Prefix) × ((due_of on.names t i true bytes).whole ≡ Some log)
-    × WritesAsDue on t i bytes held held' o
+    × WritesAsDue on t i bytes (output_of held held') o
     × TellsTruth (watches_for i.product on.watches) t log o
 
 -- a fault that is due of the bytes is the answer
@@ -305,7 +320,7 @@ abbrev pub IsRefusedAsDue : Option (List ℕ) → Handing → List (List ℕ) �
 IsRefusedAsDue left on words held held' o =
     (bytes : List ℕ) (t : Tree) (i : Inquiry) (r : Refusal) → left ≡ Some bytes
     → AsksFor words (task.Read i) t → (due_of on.names t i true bytes).fault ≡ Some r
-    → WritesAsDue on t i bytes held held' o × TellsFault (fault_of_refusal r) o
+    → WritesAsDue on t i bytes (output_of held held') o × TellsFault (fault_of_refusal r) o
 
 -- a fault of the words or their formula is the answer, and nothing is written
 abbrev pub IsRefusedAsAsked : List (List ℕ) → Option (List ℕ) → Option (List ℕ) → Outcome → Type 0

@@ -18,6 +18,7 @@ use Rattle.stated_formula.specs.declared.formula.Stated.{Stated}
 use Rattle.call_request.specs.Questions.{AsksFor}
 use Rattle.stated_formula.specs.Stating.{IsStated}
 use Rattle.call_request.proofs.OneQuestion.{asks_one}
+use Rattle.log_rules.specs.Passage.{passage_of}
 use Rattle.log_rules.specs.SoFar.{counted}
 use Rattle.fault_kinds.specs.declared.refusal.Refusal.{Refusal}
 use Rattle.fault_kinds.specs.declared.refusal.Refusal.TheVariants as refusal
@@ -34,6 +35,7 @@ use Rattle.batch_answers.specs.PassedOn.{IsCheckOf, HasClosed}
 use Rattle.batch_answers.specs.PassedOn.{IsCheckedLog, observed_alone}
 use Rattle.batch_answers.specs.PassedOn.{ReportedLog}
 use Rattle.batch_answers.specs.PassedOn.{CheckedLog}
+use Rattle.log_answers.specs.Asking.{asking_of}
 use Rattle.log_answers.specs.declared.stop.StopCause.{StopCause}
 use Rattle.log_answers.specs.declared.stop.StopCause.TheVariants as causes
 use Rattle.log_answers.specs.declared.stop.Stop.{Stop}
@@ -51,7 +53,7 @@ use Rattle.call_promise.specs.Run.{AllTell, IsTold, HasVerdict, IsRefused, HasPa
 use Rattle.call_promise.proofs.Clauses.{not_both}
 use Rattle.batch_answers.specs.Outcome.{fault_of, faulty_outcome, outcome_of}
 use Rattle.batch_answers.specs.Reading.{judgement_in, StopsAt, HasReadLog}
-use Rattle.certificate_answers.specs.inside.Certifying.{aim_for, HoldsOn, IsLogSeen, verdict_of}
+use Rattle.certificate_answers.specs.inside.Certifying.{aim_for, HoldsOn, IsLogSeen, verdict_of, certified_of}
 use Rattle.certificate_answers.specs.inside.Certifying.{PutsCertificate, CertifyStops, CertifiesTo}
 use Rattle.certificate_answers.specs.inside.Certifying.{Certifies, HasFrontBy, CertifyStopsBy}
 use Rattle.certificate_answers.specs.inside.Certifying.{IsCertifiedBy, CertifiesBy, HasCertified}
@@ -169,7 +171,7 @@ module _ {X : Type 0} {P : X → Type 0} (says : Says X P) (s : Stated) (check :
   abbrev t : Tree
   t = s.formula.tree
 
-  module _ {T : Type 0} (x : T) (h : HasReadLog (change_of left left' lf lf') (change_of held now of of_now) says aim false check (Ok x)) where
+  module _ {T : Type 0} (x : T) (h : HasReadLog (change_of left left' lf lf') (change_of held now of of_now) says (asking_of aim false) check (Ok x)) where
     abbrev log_there : Prefix
     log_there = (whole_log says aim false check h.read h.written h.to.1).0
 
@@ -181,7 +183,7 @@ module _ {X : Type 0} {P : X → Type 0} (says : Says X P) (s : Stated) (check :
       front = front;
     }
 
-    stops : (f : StopCause) (n : ℕ) (text : List ℕ) → CertifyStops f n (counts_of of_now of') t check.log.intake.batches log_there text → CertifyStopsBy f n (behind_of left' lf lf' of of') aim t h.read text
+    stops : (f : StopCause) (n : ℕ) (text : List ℕ) → CertifyStops f n (counts_of of_now of') (certified_of t log_there) check.log.intake.batches text → CertifyStopsBy f n (behind_of left' lf lf' of of') aim t (passage_of h.read text)
     unfolding has_front
     stops (causes.Refused r) n text k = absurd k
     stops causes.Read n text k = absurd k
@@ -221,28 +223,28 @@ module _ {X : Type 0} {P : X → Type 0} (says : Says X P) (s : Stated) (check :
     there : (j : Judgement) × (log : Prefix) × IsCheckOf says aim check j × HasClosed j log
     there = (judgement_in aim h.read, log_there, h.to.1.stands.check_is, closed_log says aim false check h.read h.written h.to.1)
 
-  pub whole_there : {T : Type 0} (x : T) (each : Bool) → each ≡ false → HasReadLog {T = T} (change_of left left' lf lf') (change_of held now of of_now) says aim each check (Ok x) → (j : Judgement) × (log : Prefix) × IsCheckOf says aim check j × HasClosed j log
-  whole_there {T} x each none h = there x (subst (λ (e : Bool). HasReadLog {T = T} (change_of left left' lf lf') (change_of held now of of_now) says aim e check (Ok x)) none h)
+  pub whole_there : {T : Type 0} (x : T) (each : Bool) → each ≡ false → HasReadLog {T = T} (change_of left left' lf lf') (change_of held now of of_now) says (asking_of aim each) check (Ok x) → (j : Judgement) × (log : Prefix) × IsCheckOf says aim check j × HasClosed j log
+  whole_there {T} x each none h = there x (subst (λ (e : Bool). HasReadLog {T = T} (change_of left left' lf lf') (change_of held now of of_now) says (asking_of aim e) check (Ok x)) none h)
 
-  pub certified_log : {T : Type 0} (x : T) (each : Bool) → each ≡ false → HasReadLog {T = T} (change_of left left' lf lf') (change_of held now of of_now) says aim each check (Ok x) → (result : Result Verdict Stop)
+  pub certified_log : {T : Type 0} (x : T) (each : Bool) → each ≡ false → HasReadLog {T = T} (change_of left left' lf lf') (change_of held now of of_now) says (asking_of aim each) check (Ok x) → (result : Result Verdict Stop)
       → ((j : Judgement) (log : Prefix) → IsCheckOf says aim check j → HasClosed j log → Certifies (change_of now held' of_now of') t check.log.intake.batches log result)
       → HasCertified (change_of left left' lf lf') (change_of held held' of of') aim t result
   unfolding there
   certified_log {T} x each none h result makes =
-      let k = subst (λ (e : Bool). HasReadLog {T = T} (change_of left left' lf lf') (change_of held now of of_now) says aim e check (Ok x)) none h in
+      let k = subst (λ (e : Bool). HasReadLog {T = T} (change_of left left' lf lf') (change_of held now of of_now) says (asking_of aim e) check (Ok x)) none h in
       let w = there x k in
       certified x k result (makes w.0 w.1 w.2 w.3)
 
   -- nothing is written while the log is read
-  read_stops : (f : StopCause) (n : ℕ) (bytes text : List ℕ) → StopsAt f n (behind_of left' lf lf' of of_now) aim false bytes text
-      → CertifyStopsBy f n (behind_of left' lf lf' of of_now) aim t bytes text
+  read_stops : (f : StopCause) (n : ℕ) (bytes text : List ℕ) → StopsAt f n (behind_of left' lf lf' of of_now) (asking_of aim false) (passage_of bytes text)
+      → CertifyStopsBy f n (behind_of left' lf lf' of of_now) aim t (passage_of bytes text)
   read_stops (causes.Refused r) n bytes text k = k
   read_stops causes.Read n bytes text k = k
   read_stops causes.Write n bytes text k = absurd (no_part k.0.before k.0.behind k.0.log k.0.are)
   read_stops causes.Memory n bytes text k =
       (inl (subst (λ (ps : List Prefix). AreReportsFor aim ps text) (no_front k.front k.rest k.are) k.texts), k.count)
 
-  not_read_so : {T : Type 0} (stop : Stop) → HasReadLog {T = T} (change_of left left' lf lf') (change_of held now of of_now) says aim false check (Err stop)
+  not_read_so : {T : Type 0} (stop : Stop) → HasReadLog {T = T} (change_of left left' lf lf') (change_of held now of of_now) says (asking_of aim false) check (Err stop)
       → HasCertified (change_of left left' lf lf') (change_of held now of of_now) aim t (Err stop)
   not_read_so stop h = record {
     read = h.read;
@@ -254,10 +256,10 @@ module _ {X : Type 0} {P : X → Type 0} (says : Says X P) (s : Stated) (check :
     to = read_stops stop.cause stop.batches h.read h.written h.to;
   }
 
-  pub not_read : {T : Type 0} (stop : Stop) (each : Bool) → each ≡ false → HasReadLog {T = T} (change_of left left' lf lf') (change_of held now of of_now) says aim each check (Err stop)
+  pub not_read : {T : Type 0} (stop : Stop) (each : Bool) → each ≡ false → HasReadLog {T = T} (change_of left left' lf lf') (change_of held now of of_now) says (asking_of aim each) check (Err stop)
       → HasCertified (change_of left left' lf lf') (change_of held now of of_now) aim t (Err stop)
   not_read {T} stop each none h =
-      not_read_so {T = T} stop (subst (λ (e : Bool). HasReadLog {T = T} (change_of left left' lf lf') (change_of held now of of_now) says aim e check (Err stop)) none h)
+      not_read_so {T = T} stop (subst (λ (e : Bool). HasReadLog {T = T} (change_of left left' lf lf') (change_of held now of of_now) says (asking_of aim e) check (Err stop)) none h)
 
 -- ---- the answer to the words
 
@@ -286,8 +288,8 @@ module _ (s : Stated) (words : List (List ℕ)) (asks : AsksFor words (task.Read
   }
 
   module _ (left : Option (List ℕ)) (lf lf' of of' : ℕ) (read written : List ℕ) where
-    refused_by : (r : Refusal) (n : ℕ) (ended : Bool) → (ended ≡ true → IsAtEnd left) → TellsDueBy log_reading asked_aim false ended read written (Some r) n
-        → IsRefused left on words read written (faulty_outcome n (fault_of_refusal r)) r
+    refused_by : (r : Refusal) (n : ℕ) (ended : Bool) → (ended ≡ true → IsAtEnd left) → TellsDueBy log_reading (asking_of asked_aim false) ended (passage_of read written) (Some r) n
+        → IsRefused left on words (passage_of read written) (faulty_outcome n (fault_of_refusal r)) r
     unfolding due_of reading_of told_of
     refused_by r n ended at told =
         let none = ap listed (none_whole ended (log_reading.place ended read) (judgement_in asked_aim read) (log_reading.fault ended read) r told.fault) in
@@ -329,8 +331,8 @@ module _ (s : Stated) (words : List (List ℕ)) (asks : AsksFor words (task.Read
     front_there (inl none) = inl none
     front_there (inr h) = inr (h.ended, h.log, h.whole, h.front)
 
-    stop_answer : (why : StopCause) (n : ℕ) → CertifyStopsBy why n (behind_of left lf lf' of of') asked_aim tree read written
-        → Answer (status_of (fault_of why)) (behind_of left lf lf' of of') on words read written (faulty_outcome n (fault_of why))
+    stop_answer : (why : StopCause) (n : ℕ) → CertifyStopsBy why n (behind_of left lf lf' of of') asked_aim tree (passage_of read written)
+        → Answer (status_of (fault_of why)) (behind_of left lf lf' of of') on words (passage_of read written) (faulty_outcome n (fault_of why))
     unfolding due_of reading_of told_of
     stop_answer (causes.Refused (refusal.Formula x)) n h = (x, inr (inl (refused_by (refusal.Formula x) n h.0 h.1 h.2)))
     stop_answer (causes.Refused (refusal.Log x)) n h = (refusal.Log x, refl, refused_by (refusal.Log x) n h.0 h.1 h.2)
@@ -347,7 +349,7 @@ module _ (s : Stated) (words : List (List ℕ)) (asks : AsksFor words (task.Read
     }
 
     verdict_so : (b : Bool) (v : Verdict) → v.truth ≡ b → IsAtEnd left → IsCertifiedBy asked_aim tree read written v
-        → HasVerdict left on words read written (record { status = if b then status.True else status.False; batches = v.batches; fault = None }) b
+        → HasVerdict left on words (passage_of read written) (record { status = if b then status.True else status.False; batches = v.batches; fault = None }) b
     unfolding due_of reading_of told_of
     verdict_so b v same ended h = record {
       ended = ended;
@@ -361,12 +363,12 @@ module _ (s : Stated) (words : List (List ℕ)) (asks : AsksFor words (task.Read
     }
 
     verdict_answer : (b : Bool) (v : Verdict) → v.truth ≡ b → IsAtEnd left → IsCertifiedBy asked_aim tree read written v
-        → Answer (if b then status.True else status.False) (behind_of left lf lf' of of') on words read written (record { status = if b then status.True else status.False; batches = v.batches; fault = None })
+        → Answer (if b then status.True else status.False) (behind_of left lf lf' of of') on words (passage_of read written) (record { status = if b then status.True else status.False; batches = v.batches; fault = None })
     verdict_answer true v e ended h = inl (verdict_so true v e ended h)
     verdict_answer false v e ended h = inl (verdict_so false v e ended h)
 
     answer_of : (result : Result Verdict Stop) → CertifiesBy (behind_of left lf lf' of of') asked_aim tree read written result
-        → Answer (outcome_of result).status (behind_of left lf lf' of of') on words read written (outcome_of result)
+        → Answer (outcome_of result).status (behind_of left lf lf' of of') on words (passage_of read written) (outcome_of result)
     answer_of (Ok v) h = verdict_answer v.truth v refl h.0 h.1
     answer_of (Err stop) h = stop_answer stop.cause stop.batches h
 

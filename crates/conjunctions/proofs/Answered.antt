@@ -11,6 +11,7 @@ use Rattle.run_model.specs.Slice.{StandsFor, Cuts, IsLeastOf, HasWithin}
 use Rattle.run_model.specs.Meaning.{Sat, Family}
 use Rattle.run_model.proofs.Orders.{initial_consistent}
 use Rattle.meaning_laws.proofs.JoinLemmas.{smallest_in}
+use Rattle.slice_workers.specs.Spent.{spent_of}
 use Rattle.slice_workers.specs.Views.{SettledView}
 use Rattle.slice_graph.specs.Views.{SliceView, slice_of, no_row}
 use Rattle.slice_graph.specs.Fitting.{FitsOrder}
@@ -36,7 +37,7 @@ use Rattle.conjunctions.proofs.Joining.{some_joined, joined_more}
 
 -- what stands once these disjuncts were settled
 pub record Answered (seen : Observed) (workers : ℕ) (round now : RoundView) (steps steps_now : ℕ) (parts : List PartAnswer) (holds : Bool) (slice : SliceView) (ds : List (List Piece)) : Type 0 where
-  pub settles : Settles seen workers round now steps steps_now (all_conjunctions ds)
+  pub settles : Settles seen workers round now (spent_of steps steps_now) (all_conjunctions ds)
   pub told : AddsAnswers seen [] parts (all_places 1 ds)
   pub truth : (reading : Reading) → AreAnswers seen reading → IsTrue holds ↔ Sat (run_seen seen reading) (disjunction_of (names_seen seen reading) ds) (initial (clocks_seen seen))
   pub fits : FitsOrder (clocks_seen seen) slice
@@ -100,12 +101,12 @@ first_holds seen one d holds is has reading are =
     (λ h. inl (cuts.0 (has.0 h)).1, λ h. elim h [ inl here ↦ has.1 (cuts.1 (initial_consistent (clocks_seen seen), here)) | inr nothing ↦ absurd nothing ])
 
 pub answered_more : (seen : Observed) → IsOrder (clocks_seen seen) → (workers : ℕ) (round now next : RoundView) (s t u : ℕ) (parts more : List PartAnswer) (truth holds : Bool) (slice one joined : SliceView)
-    (ds : List (List Piece)) (d : List Piece) → Answered seen workers round now s t parts truth slice ds → Settles seen workers now next t u (conjunctions_in d)
+    (ds : List (List Piece)) (d : List Piece) → Answered seen workers round now s t parts truth slice ds → Settles seen workers now next (spent_of t u) (conjunctions_in d)
     → AddsAnswers seen parts more (places_from (1 + length ds) 1 d) → IsSliceOf seen one d → IsTrue holds ↔ Cuts (clocks_seen seen) (slice_of one) (initial (clocks_seen seen))
     → FitsOrder (clocks_seen seen) joined → StandsFor (clocks_seen seen) (slice_of joined) (Smallest (Either (Cuts (clocks_seen seen) (slice_of slice)) (Cuts (clocks_seen seen) (slice_of one))))
     → Answered seen workers round next s u more (truth || holds) joined (ds ++ d ∷ [])
 answered_more seen order workers round now next s t u parts more truth holds slice one joined ds d before settles told is has fits stands = record {
-  settles = subst (Settles seen workers round next s u) (sym (conjunctions_more ds d)) (settles_on seen workers round now next s t u (all_conjunctions ds) (conjunctions_in d) before.settles settles);
+  settles = subst (Settles seen workers round next (spent_of s u)) (sym (conjunctions_more ds d)) (settles_on seen workers round now next s t u (all_conjunctions ds) (conjunctions_in d) before.settles settles);
   told = subst (AddsAnswers seen [] more) (sym (places_more 1 ds d)) (answers_more seen [] parts more (all_places 1 ds) (places_from (1 + length ds) 1 d) before.told told);
   truth = λ reading are.
       let either = either_true truth holds in
@@ -167,7 +168,7 @@ answered_all seen workers round now s t answer ds batch is = record {
 -- ---- the rows that the next disjunct may begin from
 
 pub disjunct_floors : (seen : Observed) (workers : ℕ) (round now : RoundView) (s t : ℕ) (ds : List (List Piece)) (d : List Piece) (later : List (List Piece))
-    → AreFloors seen round.before (all_conjunctions (ds ++ d ∷ later)) → Settles seen workers round now s t (all_conjunctions ds) → AreFloors seen now.before (conjunctions_in d)
+    → AreFloors seen round.before (all_conjunctions (ds ++ d ∷ later)) → Settles seen workers round now (spent_of s t) (all_conjunctions ds) → AreFloors seen now.before (conjunctions_in d)
 disjunct_floors seen workers round now s t ds d later floors settles =
     let behind = floors_right seen round.before (all_conjunctions ds) (conjunctions_in d ++ all_conjunctions later) (subst (AreFloors seen round.before) split floors) in
     subst (λ (before : List SettledView). AreFloors seen before (conjunctions_in d)) (sym settles.before)

@@ -10,6 +10,7 @@ use Rattle.trace_growth.specs.Growing.{IsTrace}
 use Rattle.pull_system.specs.declared.pull.Pull.{Pull}
 use Rattle.pull_system.specs.System.{IsPull}
 use Rattle.pull_system.specs.Rows.{RowsView}
+use Rattle.slice_workers.specs.Spent.{spent_of}
 use Rattle.slice_workers.specs.Views.{SettledView}
 use Rattle.pull_system.specs.Growth.{DidNotFall, grown_words}
 use Rattle.raise_machine.specs.Bounds.{AreBounds}
@@ -31,7 +32,7 @@ use Rattle.conjunctions.specs.Rounds.{RoundView}
 use Rattle.conjunctions.specs.inside.Gathering.{AddsPulls, first_pulls}
 use Rattle.conjunctions.specs.inside.Beginning.{BeginsWithOrder}
 use Rattle.conjunctions.specs.Settling.{CutsStay, AreFloors}
-use Rattle.conjunctions.specs.inside.Settling.{CanBegin, SettlesOne}
+use Rattle.conjunctions.specs.inside.Settling.{CanBegin, SettlesOne, conjoined_of}
 use Rattle.conjunctions.proofs.Settled.{AreFirstPulls, few_pulls, has_order}
 use Rattle.conjunctions.proofs.Adding.{closed_none}
 use Rattle.part_pulls.proofs.Atoms.{lens_same}
@@ -126,10 +127,10 @@ can_begin_by seen before pulls ps adds floors order is keeps keeps_is =
     (subst (λ (o : Clocks). CanBegin (record { lens = lengths o; pulls = pulls }) (all_atoms ps) (first_of before)) (sym is) (can_begin seen before pulls ps adds floors))
 
 pub settles_one_by : (seen : Observed) (pulls : List Pull) (ps : List Piece) (workers : ℕ) (old new : RoundView) (s t : ℕ) (slice : SliceView) (order : Clocks) → order ≡ clocks_seen seen
-    → (keeps : Bool) → keeps ≡ all_atoms ps → SettlesOne order pulls keeps workers old new s t slice → SettlesOne (clocks_seen seen) pulls (all_atoms ps) workers old new s t slice
+    → (keeps : Bool) → keeps ≡ all_atoms ps → SettlesOne (conjoined_of order pulls keeps) workers old new (spent_of s t) slice → SettlesOne (conjoined_of (clocks_seen seen) pulls (all_atoms ps)) workers old new (spent_of s t) slice
 settles_one_by seen pulls ps workers old new s t slice order is keeps keeps_is one =
-    subst (λ (k : Bool). SettlesOne (clocks_seen seen) pulls k workers old new s t slice) keeps_is
-    (subst (λ (o : Clocks). SettlesOne o pulls keeps workers old new s t slice) is one)
+    subst (λ (k : Bool). SettlesOne (conjoined_of (clocks_seen seen) pulls k) workers old new (spent_of s t) slice) keeps_is
+    (subst (λ (o : Clocks). SettlesOne (conjoined_of o pulls keeps) workers old new (spent_of s t) slice) is one)
 
 -- all parts were taken
 pub few_parts : (parts : List Part) → parts_count (pieces_of parts) ≤ most_parts → length parts ≤ most_parts

@@ -11,6 +11,7 @@ use Rattle.pull_system.specs.Growth.{DidNotFall, grown_words}
 use Rattle.pull_system.proofs.Starts.{get_or-row_at}
 use Rattle.bound_table.specs.Firm.{AreFinal, HasReachedFirm, ReachesFirst}
 use Rattle.bound_table.proofs.Own.{first_none, none_final}
+use Rattle.slice_workers.specs.Spent.{spent_of}
 use Rattle.conjunctions.specs.inside.Beginning.{GatheredView, FloorFits, AtomsBegin}
 use Rattle.conjunctions.specs.inside.Beginning.{AreNone, AreWithin, HaveCuts, OthersBegin}
 use Rattle.conjunctions.specs.inside.Beginning.{FindsBottom, AreFirmBy, no_rows}
@@ -78,7 +79,7 @@ first_are lens gathered false before words finals is can fits atoms others = non
 -- the rows that are taken as final where a conjunction begins are
 pub finals_are : (lens : List ℕ) (gathered : GatheredView) (keeps : Bool) (before : Option RowsView) (words finals : List ℕ) (bottom : Bool) (steps steps_now : ℕ) → IsSystem (record { lens = lens; pulls = gathered.pulls })
     → CanBegin (record { lens = lens; pulls = gathered.pulls }) keeps before → FloorFits lens gathered → (keeps ≡ true → AtomsBegin lens gathered.pulls before words finals)
-    → (keeps ≡ false → OthersBegin lens gathered.floor words finals) → FindsBottom (record { lens = lens; pulls = gathered.pulls }) keeps before bottom words steps steps_now
+    → (keeps ≡ false → OthersBegin lens gathered.floor words finals) → FindsBottom (record { lens = lens; pulls = gathered.pulls }) keeps before bottom words (spent_of steps steps_now)
     → HasReachedFirm (record { lens = lens; pulls = gathered.pulls }) words (record { firsts = take (length lens) finals; bottom = bottom })
 finals_are lens gathered keeps before words finals bottom steps steps_now is can fits atoms others finds = record {
   firsts = first_are lens gathered keeps before words finals is can fits atoms others;

@@ -3,6 +3,7 @@ use Rattle.std.proofs.Common.{◌≡◌, ℕ, ◌+◌, List, [], ◌∷◌, ◌+
 use Rattle.std.proofs.lemmas.Grind.{flat_map-append}
 use Rattle.std.proofs.lemmas.List.Concat.{flat_map-cons}
 use Rattle.pull_system.specs.declared.pull.Pull.{Pull}
+use Rattle.slice_workers.specs.Spent.{spent_of}
 use Rattle.slice_workers.specs.Views.{SettledView}
 use Rattle.rctl_parts.specs.Pieces.{Piece}
 use Rattle.part_pulls.specs.declared.observed.Observed.{Observed}
@@ -23,7 +24,7 @@ pub record PartsAdded (seen : Observed) (workers disjunct : ℕ) (round now : Ro
   pub adds : AddsPulls seen begun gathered.pulls ps
   pub order : gathered.order ≡ clocks_seen seen
   pub floor : FloorFits (lens_seen seen) gathered
-  pub settles : Settles seen workers round now steps steps_now (flat_map within ps)
+  pub settles : Settles seen workers round now (spent_of steps steps_now) (flat_map within ps)
   pub told : AddsAnswers seen answers answers_now (places_from disjunct 1 ps)
 
 pub added_none : (seen : Observed) (workers disjunct : ℕ) (round : RoundView) (steps : ℕ) (answers : List PartAnswer) (begun : List Pull) (gathered : GatheredView) → gathered.pulls ≡ begun
@@ -37,13 +38,13 @@ added_none seen workers disjunct round steps answers begun gathered is order flo
 }
 
 pub added_more : (seen : Observed) (workers disjunct : ℕ) (round now next : RoundView) (s t u : ℕ) (a b c : List PartAnswer) (begun : List Pull) (gathered more : GatheredView) (ps : List Piece) (p : Piece) (answer : PartAnswer)
-    → PartsAdded seen workers disjunct round now s t a b begun gathered ps → AddsPulls seen gathered.pulls more.pulls (p ∷ []) → more.order ≡ gathered.order → FloorFits (lens_seen seen) more → Settles seen workers now next t u (within p)
+    → PartsAdded seen workers disjunct round now s t a b begun gathered ps → AddsPulls seen gathered.pulls more.pulls (p ∷ []) → more.order ≡ gathered.order → FloorFits (lens_seen seen) more → Settles seen workers now next (spent_of t u) (within p)
     → IsPartAnswer seen (place disjunct (length ps + 1) p) answer → c ≡ b ++ answer ∷ [] → PartsAdded seen workers disjunct round next s u a c begun more (ps ++ p ∷ [])
 added_more seen workers disjunct round now next s t u a b c begun gathered more ps p answer added adds order floor settles is c_is = record {
   adds = adds_more seen begun gathered.pulls more.pulls ps (p ∷ []) added.adds adds;
   order = order ∙ added.order;
   floor = floor;
-  settles = subst (Settles seen workers round next s u) (sym parts) (settles_on seen workers round now next s t u (flat_map within ps) (within p) added.settles settles);
+  settles = subst (Settles seen workers round next (spent_of s u)) (sym parts) (settles_on seen workers round now next s t u (flat_map within ps) (within p) added.settles settles);
   told = subst (AddsAnswers seen a c) (sym places) (answers_more seen a b c (places_from disjunct 1 ps) (places_from disjunct (1 + length ps) (p ∷ [])) added.told one);
 }
   where
@@ -58,7 +59,7 @@ added_more seen workers disjunct round now next s t u a b c begun gathered more 
 
 -- the rows of before that the conjunctions within the next part may begin from
 pub floors_at : (seen : Observed) (workers : ℕ) (round now : RoundView) (s t : ℕ) (ps : List Piece) (p : Piece) (later : List Piece)
-    → AreFloors seen round.before (conjunctions_in (ps ++ p ∷ later)) → Settles seen workers round now s t (flat_map within ps) → AreFloors seen now.before (within p)
+    → AreFloors seen round.before (conjunctions_in (ps ++ p ∷ later)) → Settles seen workers round now (spent_of s t) (flat_map within ps) → AreFloors seen now.before (within p)
 floors_at seen workers round now s t ps p later floors settles =
     let P : List (List Piece) → Type 0 = λ cs. AreFloors seen round.before cs in
     let behind : AreFloors seen (drop (length (flat_map within ps)) round.before) (within p ++ (flat_map within later ++ (ps ++ p ∷ later) ∷ [])) =
@@ -73,6 +74,6 @@ floors_at seen workers round now s t ps p later floors settles =
 
 -- and those of the conjunction itself, once all of its parts were added
 pub floors_last : (seen : Observed) (workers : ℕ) (round now : RoundView) (s t : ℕ) (ps : List Piece)
-    → AreFloors seen round.before (conjunctions_in ps) → Settles seen workers round now s t (flat_map within ps) → AreFloors seen now.before (ps ∷ [])
+    → AreFloors seen round.before (conjunctions_in ps) → Settles seen workers round now (spent_of s t) (flat_map within ps) → AreFloors seen now.before (ps ∷ [])
 floors_last seen workers round now s t ps floors settles =
     subst (λ (before : List SettledView). AreFloors seen before (ps ∷ [])) (sym settles.before) (floors_right seen round.before (flat_map within ps) (ps ∷ []) floors)

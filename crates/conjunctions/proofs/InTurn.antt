@@ -1,6 +1,7 @@
 -- Conjunctions that are settled one after the other.
 use Rattle.std.proofs.Common.{◌≡◌, ℕ, suc, zero, ◌+◌, List, [], ◌∷◌, ◌++◌, length, drop, refl, sym, ◌∙◌, ap, subst, arith, append_assoc, append-nil, length-append}
 use Rattle.std.proofs.lemmas.List.{drop-drop}
+use Rattle.slice_workers.specs.Spent.{spent_of}
 use Rattle.slice_workers.specs.Views.{SettledView}
 use Rattle.rctl_parts.specs.Pieces.{Piece}
 use Rattle.part_pulls.specs.declared.observed.Observed.{Observed}
@@ -45,12 +46,12 @@ by_steps_joined seen before (c ∷ cs) ds [] qs h left right = absurd h
 by_steps_joined seen before (c ∷ cs) ds (r ∷ rs) qs h left right =
     (left.0, by_steps_joined seen (drop 1 before) cs ds rs qs h.1 left.1 (subst (λ (rest : List SettledView). AreSettledBySteps rest ds qs) (sym (drop_next before (length cs))) right))
 
-pub settles_none : (seen : Observed) (workers : ℕ) (round : RoundView) (steps : ℕ) → HasOrderSystem (clocks_seen seen) round → Settles seen workers round round steps steps []
+pub settles_none : (seen : Observed) (workers : ℕ) (round : RoundView) (steps : ℕ) → HasOrderSystem (clocks_seen seen) round → Settles seen workers round round (spent_of steps steps) []
 settles_none seen workers round steps order =
     record { before = refl; added = []; settled = sym (append-nil round.settled); rows = tt; by_steps = tt; looks = λ one. omega arith; order = order }
 
 pub settles_on : (seen : Observed) (workers : ℕ) (a b c : RoundView) (s t u : ℕ) (cs ds : List (List Piece))
-    → Settles seen workers a b s t cs → Settles seen workers b c t u ds → Settles seen workers a c s u (cs ++ ds)
+    → Settles seen workers a b (spent_of s t) cs → Settles seen workers b c (spent_of t u) ds → Settles seen workers a c (spent_of s u) (cs ++ ds)
 settles_on seen workers a b c s t u cs ds first second = record {
   before = second.before ∙ ap (drop (length ds)) first.before ∙ drop_both a.before (length cs) (length ds) ∙ ap (λ n. drop n a.before) (sym (length-append cs ds));
   added = first.added ++ second.added;

@@ -19,6 +19,7 @@ use Rattle.slice_graph.specs.PullLists.{slice_entry, slice_table, slice_pull, pu
 use Rattle.slice_graph.proofs.OrderPulls.{entry_at}
 use Rattle.slice_graph.proofs.Pairs.{all_pairs}
 use Rattle.slice_graph.proofs.SlicePulls.{entry_within}
+use Rattle.slice_workers.specs.Spent.{spent_of}
 use Rattle.slice_workers.specs.Reaching.{rows_left}
 use Rattle.slice_workers.specs.Calls.{TakesBehind}
 use Rattle.conjunctions.specs.inside.Beginning.{BeginsTable, own_rows}
@@ -71,7 +72,7 @@ own_looks system is words own size seat new s t floor_is bounds rises takes =
 
 -- and it is one from which a conjunction may begin
 pub own_begins : (system : SystemView) → IsSystem system → (keeps : Bool) → keeps ≡ false → (before : Option RowsView) (table : TableView) (seat : SeatView) (words : List ℕ) (s : ℕ) → AreOwnRows system words → length words ≡ word_count system.lens
-    → table.system ≡ system → table.firm ≡ record { firsts = system.lens; bottom = true } → seat.table ≡ table → seat.floor ≡ words → BeginsTable system keeps before table seat s s
+    → table.system ≡ system → table.firm ≡ record { firsts = system.lens; bottom = true } → seat.table ≡ table → seat.floor ≡ words → BeginsTable system keeps before table seat (spent_of s s)
 own_begins system is keeps others before table seat words s own size system_is firm_is seat_is floor_is = record {
   is = is;
   system_is = system_is;

@@ -23,6 +23,7 @@ use Rattle.part_pulls.specs.Systems.{is_atom, IsAtomOf, pulls_of_part}
 use Rattle.conjunctions.specs.Numbering.{within, within_operand, conjunctions_in}
 use Rattle.conjunctions.specs.inside.Numbering.{part_gives_order}
 use Rattle.conjunctions.specs.Counting.{room_of}
+use Rattle.slice_workers.specs.Spent.{spent_of}
 use Rattle.slice_workers.specs.Views.{SettledView}
 use Rattle.conjunctions.specs.Rounds.{RoundView, HasOrderSystem}
 use Rattle.conjunctions.specs.Settling.{AreFloors, Settles}
@@ -133,12 +134,12 @@ pub temporal_floors : (seen : Observed) (before : List SettledView) (p : Piece) 
 temporal_floors seen before p o ps is floors = subst (AreFloors seen before) (ap within is ∙ within_temporal o ps) floors
 
 pub temporal_settles : (seen : Observed) (workers : ℕ) (old new : RoundView) (s t : ℕ) (p : Piece) (o : Operator) (ps : List Piece) → p ≡ temporal o (pieces ps)
-    → Settles seen workers old new s t (conjunctions_in ps) → Settles seen workers old new s t (within p)
-temporal_settles seen workers old new s t p o ps is settles = subst (Settles seen workers old new s t) (sym (ap within is ∙ within_temporal o ps)) settles
+    → Settles seen workers old new (spent_of s t) (conjunctions_in ps) → Settles seen workers old new (spent_of s t) (within p)
+temporal_settles seen workers old new s t p o ps is settles = subst (Settles seen workers old new (spent_of s t)) (sym (ap within is ∙ within_temporal o ps)) settles
 
 pub none_within : (p : Piece) → is_atom p ≡ true → within p ≡ []
 none_within (atom a) h = refl
 none_within (temporal o ps) h = absurd (cc)
 
-pub atom_settles : (seen : Observed) (workers : ℕ) (round : RoundView) (s : ℕ) (p : Piece) → is_atom p ≡ true → HasOrderSystem (clocks_seen seen) round → Settles seen workers round round s s (within p)
-atom_settles seen workers round s p h order = subst (Settles seen workers round round s s) (sym (none_within p h)) (settles_none seen workers round s order)
+pub atom_settles : (seen : Observed) (workers : ℕ) (round : RoundView) (s : ℕ) (p : Piece) → is_atom p ≡ true → HasOrderSystem (clocks_seen seen) round → Settles seen workers round round (spent_of s s) (within p)
+atom_settles seen workers round s p h order = subst (Settles seen workers round round (spent_of s s)) (sym (none_within p h)) (settles_none seen workers round s order)

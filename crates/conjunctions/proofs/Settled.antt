@@ -12,6 +12,7 @@ use Rattle.pull_system.specs.System.{SystemView, IsSystem, IsPull, IsClosed}
 use Rattle.pull_system.specs.Pulls.{ClosedUnder}
 use Rattle.pull_system.specs.Rows.{RowsView, AreLeastRows}
 use Rattle.pull_system.proofs.PullLists.{closed_under, closed_left, closed_right, closed_both}
+use Rattle.slice_workers.specs.Spent.{spent_of}
 use Rattle.slice_graph.specs.Views.{SliceView, slice_of}
 use Rattle.slice_graph.specs.Fitting.{FitsOrder, HasOrder}
 use Rattle.slice_graph.specs.PullLists.{pulls_of_order}
@@ -25,7 +26,7 @@ use Rattle.part_pulls.specs.Systems.{pulls_of_parts}
 use Rattle.conjunctions.specs.inside.Gathering.{AddsPulls, first_pulls}
 use Rattle.conjunctions.specs.Rounds.{RoundView}
 use Rattle.conjunctions.specs.Settling.{IsSettled, Settles}
-use Rattle.conjunctions.specs.inside.Settling.{SettlesOne}
+use Rattle.conjunctions.specs.inside.Settling.{SettlesOne, conjoined_of}
 use Rattle.conjunctions.specs.Answering.{IsSliceOf}
 use Rattle.conjunctions.proofs.LeastCuts.{least_cuts}
 use Rattle.conjunctions.proofs.Ordering.{atoms_give_none}
@@ -82,7 +83,7 @@ has_order seen pulls ps order adds c shaped within closed =
 
 pub slice_settled : (seen : Observed) (pulls : List Pull) (ps : List Piece) (workers : ℕ) (old new : RoundView) (s t : ℕ) (slice : SliceView)
     → AreFirstPulls (clocks_seen seen) (gives_order ps) → AddsPulls seen (first_pulls (clocks_seen seen) (gives_order ps)) pulls ps
-    → SettlesOne (clocks_seen seen) pulls (all_atoms ps) workers old new s t slice → IsSliceOf seen slice ps
+    → SettlesOne (conjoined_of (clocks_seen seen) pulls (all_atoms ps)) workers old new (spent_of s t) slice → IsSliceOf seen slice ps
 slice_settled seen pulls ps workers old new s t slice order adds one =
     slice_is seen slice ps one.fits
     (λ reading are c.
@@ -102,7 +103,7 @@ few_pulls seen pulls ps order adds =
 
 pub rows_settled : (seen : Observed) (pulls : List Pull) (ps : List Piece) (workers : ℕ) (old new : RoundView) (s t : ℕ) (slice : SliceView)
     → AreFirstPulls (clocks_seen seen) (gives_order ps) → AddsPulls seen (first_pulls (clocks_seen seen) (gives_order ps)) pulls ps
-    → SettlesOne (clocks_seen seen) pulls (all_atoms ps) workers old new s t slice → Settles seen workers old new s t (ps ∷ [])
+    → SettlesOne (conjoined_of (clocks_seen seen) pulls (all_atoms ps)) workers old new (spent_of s t) slice → Settles seen workers old new (spent_of s t) (ps ∷ [])
 rows_settled seen pulls ps workers old new s t slice order adds one = record {
   before = one.before;
   added = one.one ∷ [];

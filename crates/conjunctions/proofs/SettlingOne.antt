@@ -13,6 +13,7 @@ use Rattle.raise_machine.specs.Bounds.{AreBounds}
 use Rattle.raise_machine.proofs.Raising.{starts_bounds}
 use Rattle.conjunctions.specs.Counting.{floor_words, steps_for}
 use Rattle.bound_table.specs.Views.{SeatView}
+use Rattle.slice_workers.specs.Spent.{spent_of}
 use Rattle.slice_workers.specs.Reaching.{rows_left}
 use Rattle.slice_workers.specs.Calls.{TakesBehind}
 use Rattle.slice_workers.proofs.Passes.{sum-left}
@@ -117,7 +118,7 @@ all_steps pulls s mid t floor left lens rows none took few = omega (arith, none,
 
 -- the look-ups of one conjunction are within the steps that it may take
 pub steps_of : (system : SystemView) (keeps : Bool) (before : Option RowsView) (words finals : List ℕ) (bottom : Bool) (seat new : SeatView) (rows : RowsView) (s mid t : ℕ) → AreBounds system words
-    → (keeps ≡ true → sum (floor_words system.lens before) ≤ sum words) → sum words ≤ sum rows.words → seat.floor ≡ words → rows.words ≡ new.floor → FindsBottom system keeps before bottom words s mid
+    → (keeps ≡ true → sum (floor_words system.lens before) ≤ sum words) → sum words ≤ sum rows.words → seat.floor ≡ words → rows.words ≡ new.floor → FindsBottom system keeps before bottom words (spent_of s mid)
     → TakesBehind system (record { firsts = take (length system.lens) finals; bottom = bottom }) seat new mid t → t ≤ s + steps_for (length system.pulls) keeps system.lens before rows
 steps_of system keeps before words finals true seat new rows s mid t bounds above rises floor_is new_is found takes =
     let pulls : ℕ = length system.pulls in

@@ -11,6 +11,7 @@ use Rattle.pull_system.specs.Growth.{DidNotFall, grown_words}
 use Rattle.pull_system.specs.Vector.{IsAtMost}
 use Rattle.raise_machine.specs.Bounds.{AreBounds}
 use Rattle.bound_table.specs.Firm.{FirmView, ReachesFirst}
+use Rattle.slice_workers.specs.Spent.{Spent}
 use Rattle.slice_workers.specs.Views.{SettledView}
 use Rattle.rctl_parts.specs.Pieces.{Piece}
 use Rattle.rctl_parts.specs.MadeFor.{AllFit, disjuncts_count}
@@ -117,12 +118,12 @@ pub record CanSettle (seen : Observed) (round : RoundView) (cs : List (List Piec
 -- these conjunctions were settled: their rows stand behind the others, as many rows of before are
 -- used up, those of atoms were settled by steps, one worker took no more steps than each may, and
 -- the system that the round has is that of the order, or of an earlier one
-pub record Settles (seen : Observed) (workers : ℕ) (old new : RoundView)
-    (steps_before steps_after : ℕ) (cs : List (List Piece)) : Type 0 where
+pub record Settles (seen : Observed) (workers : ℕ) (old new : RoundView) (spent : Spent)
+    (cs : List (List Piece)) : Type 0 where
   pub before : new.before ≡ drop (length cs) old.before
   pub added : List SettledView
   pub settled : new.settled ≡ old.settled ++ added
   pub rows : AreSettled seen cs added
   pub by_steps : AreSettledBySteps old.before cs added
-  pub looks : workers ≡ 1 → steps_after ≤ steps_before + bounds (lens_seen seen) old.before cs added
+  pub looks : workers ≡ 1 → spent.after ≤ spent.before + bounds (lens_seen seen) old.before cs added
   pub order : HasOrderSystem (clocks_seen seen) new

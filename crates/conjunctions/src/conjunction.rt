@@ -1,6 +1,7 @@
 //! Conjunctions, each behind those within it.
 ghost use Rattle.std.specs.Prelude.{◌≡◌, ◌∷◌, [], ◌+◌, ◌<◌, ◌≤◌, true, false, length, IfOk, OnOk};
 ghost use Rattle.pota_base.specs.Limits.{most_parts};
+ghost use Rattle.slice_workers.specs.Spent.{spent_of};
 ghost use Rattle.rctl_parts.specs.Pieces.{piece_of, pieces_of};
 ghost use Rattle.rctl_parts.specs.MadeFor.{EachFits, parts_count};
 ghost use Rattle.part_pulls.specs.Observing.{IsReady, scope_seen, clocks_seen, lens_seen};
@@ -47,8 +48,8 @@ pub fn settle_conjunction<R: Threads + Sync, G: Gate, L: Ledger>(
     requires counters { AllRise seen.now (counters_of_parts (pieces_of parts.now)) }
     requires begins { CanSettle seen.now round.old (conjunctions_in (pieces_of parts.now)) }
     ensures slice { IfOk result (λ slice. IsSliceOf seen.now slice (pieces_of parts.now)) }
-    ensures settles { OnOk result (Settles seen.now means.now.workers round.old round.new steps.old
-        steps.new (conjunctions_in (pieces_of parts.now))) }
+    ensures settles { OnOk result (Settles seen.now means.now.workers round.old round.new
+        (spent_of steps.old steps.new) (conjunctions_in (pieces_of parts.now))) }
     ensures answers { OnOk result (AddsAnswers seen.now answers.old answers.new
         (places_from disjunct 1 (pieces_of parts.now))) }
 {
@@ -93,8 +94,8 @@ fn add_part<R: Threads + Sync, G: Gate, L: Ledger>(
         (AddsPulls seen.now gathered.old.pulls gathered.new.pulls (piece_of part.now ∷ [])) }
     ensures floor { OnOk result (FloorFits (lens_seen seen.now) gathered.new) }
     ensures order { OnOk result (gathered.new.order ≡ gathered.old.order) }
-    ensures settles { OnOk result (Settles seen.now means.now.workers round.old round.new steps.old
-        steps.new (within (piece_of part.now))) }
+    ensures settles { OnOk result (Settles seen.now means.now.workers round.old round.new
+        (spent_of steps.old steps.new) (within (piece_of part.now))) }
 {
     match part {
         Part::Temporal { operator, parts } => {

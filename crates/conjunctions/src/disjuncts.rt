@@ -1,5 +1,6 @@
 //! The answer of a formula: its disjuncts one after the other.
 ghost use Rattle.std.specs.Prelude.{◌≡◌, length, IfOk, IfSome, OnOk};
+ghost use Rattle.slice_workers.specs.Spent.{spent_of};
 ghost use Rattle.graft.specs.Joined.{joined_views};
 ghost use Rattle.rctl_parts.specs.Pieces.{disjuncts_of};
 ghost use Rattle.part_pulls.specs.Observing.{IsReady};
@@ -73,8 +74,8 @@ pub fn answer_all<R: Threads + Sync, G: Gate, L: Ledger>(
     requires counters { CountersRise seen.now (disjuncts_of disjuncts.now) }
     requires begins { CanSettle seen.now round.old (all_conjunctions (disjuncts_of disjuncts.now)) }
     ensures answer { IfOk result (IsAnswer seen.now (disjuncts_of disjuncts.now)) }
-    ensures settles { OnOk result (Settles seen.now means.now.workers round.old round.new steps.old
-        steps.new (all_conjunctions (disjuncts_of disjuncts.now))) }
+    ensures settles { OnOk result (Settles seen.now means.now.workers round.old round.new
+        (spent_of steps.old steps.new) (all_conjunctions (disjuncts_of disjuncts.now))) }
 {
     let alloc = means.alloc;
     let shape = seen.trace.order().shape();

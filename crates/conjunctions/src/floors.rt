@@ -4,6 +4,7 @@ ghost use Rattle.std.specs.Prelude.{slice_index, IsTrue, IfOk, IfSome, None};
 ghost use Rattle.run_model.specs.Cut.{lengths};
 ghost use Rattle.pull_system.specs.Vector.{IsAtMost};
 ghost use Rattle.pull_system.specs.Rows.{row_at, starts};
+ghost use Rattle.slice_workers.specs.Spent.{spent_of};
 ghost use Rattle.slice_graph.specs.Starting.{AreWithinClosed};
 ghost use Rattle.conjunctions.specs.inside.Beginning.{AreNone, HaveCuts};
 ghost use Rattle.conjunctions.specs.inside.Beginning.{BeginsWithOrder, AtomsBegin, OthersBegin};
@@ -45,7 +46,7 @@ fn beginning_of_atoms<L: Ledger>(
     ensures atoms { IfOk result (λ begins. AtomsBegin (lengths order.now) system.now.pulls before
         begins.floor.words begins.finals) }
     ensures bottom { IfOk result (λ begins. FindsBottom system.now true before begins.bottom
-        begins.floor.words steps.old steps.new) }
+        begins.floor.words (spent_of steps.old steps.new)) }
 {
     match before {
         Some(kept) => {
@@ -80,7 +81,7 @@ fn beginning_anew<L: Ledger>(
         AreWithinClosed (lengths order.now) system.now.pulls begins.floor.words) }
     ensures finals { IfOk result (λ begins. AreNone begins.finals) }
     ensures bottom { IfOk result (λ begins. FindsBottom system.now true None begins.bottom
-        begins.floor.words steps.old steps.new) }
+        begins.floor.words (spent_of steps.old steps.new)) }
 {
     let mut vector = [0; MOST_PROCESSES];
     let vector = &mut vector[..system.shape().procs() as usize];
@@ -151,7 +152,7 @@ pub fn beginning_of<L: Ledger>(
     ensures others { keeps ≡ false → IfOk result (λ begins. OthersBegin (lengths order.now)
         gathered begins.floor.words begins.finals) }
     ensures bottom { IfOk result (λ begins. FindsBottom system.now keeps before begins.bottom
-        begins.floor.words steps.old steps.new) }
+        begins.floor.words (spent_of steps.old steps.new)) }
 {
     if keeps {
         beginning_of_atoms(alloc, order, system, before, steps)

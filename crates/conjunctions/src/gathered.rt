@@ -1,5 +1,6 @@
 //! What the parts of a conjunction ask of its cuts.
 ghost use Rattle.std.specs.Prelude.{◌≡◌, ◌++◌, [], None, false, All, IfOk, OnOk, true};
+ghost use Rattle.std.specs.Option.{option_or};
 ghost use Rattle.run_model.specs.Cut.{Clocks, lengths};
 ghost use Rattle.pull_system.specs.System.{IsPull};
 ghost use Rattle.pull_fans.specs.Fans.{pulls_of_fans};
@@ -16,7 +17,7 @@ use crate::kinds::{are_atoms, give_order};
 use causal_order::Order;
 use pota_base::{List, NoMemory, Shape};
 use pull_fans::Fan;
-use pull_system::{Floor, Pull};
+use pull_system::{Floor, Pull, Rows};
 use rctl_parts::Part;
 use slice_graph::{Slice, order_rows};
 use std::alloc::Global;
@@ -31,6 +32,16 @@ pub struct Asked {
     pub fans: List<Fan>,
 }
 
+/// The rows from which a conjunction may begin: those of a slice that asked before all others, and
+/// else the floor.
+#[derive(Drop)]
+pub struct FirstRows {
+    pub own: Option<Rows>,
+    pub floor: Option<Floor>,
+    /// Whether the slice asks alone.
+    pub alone: bool,
+}
+
 /// What the parts so far ask of cuts. Contracts see the pulls, those of the order first where the
 /// conjunction begins with them, the floor, and whether one slice asks alone.
 #[derive(Drop)]
@@ -42,14 +53,17 @@ pub struct Gathered {
     /// What the parts ask.
     fans: List<Fan>,
     /// Rows from which the conjunction may begin: the clocks, or the rows of the first slice of an
-    /// operator.
+    /// operator, but where that asked before all others.
     floor: Option<Floor>,
-    /// Whether one slice asks alone, so that these rows, its own, are the least already.
+    /// The rows of a slice that asked before all others.
+    own: Option<Rows>,
+    /// Whether that slice asks alone, so that these rows, its own, are the least already.
     alone: bool,
 }
 
 impl Model for Gathered {
     ghost use Rattle.std.specs.Prelude.{◌++◌};
+    ghost use Rattle.std.specs.Option.{option_or};
     ghost use Rattle.pull_fans.specs.Fans.{pulls_of_fans};
     ghost use Rattle.conjunctions.specs.inside.Beginning.{GatheredView};
     ghost use Rattle.conjunctions.specs.inside.Gathering.{first_pulls};
@@ -59,7 +73,7 @@ impl Model for Gathered {
     ghost view = { λ gathered. record {
       order = gathered.order.value;
       pulls = first_pulls gathered.order.value gathered.has_order ++ pulls_of_fans gathered.fans;
-      floor = gathered.floor;
+      floor = option_or gathered.own gathered.floor;
       alone = gathered.alone;
     } };
 }
@@ -85,6 +99,7 @@ impl Gathered {
             has_order,
             fans: List::new(alloc),
             floor,
+            own: None,
             alone: false,
         })
     }
@@ -111,8 +126,8 @@ impl Gathered {
         Ok(())
     }
 
-    /// Puts the pulls of an operator's slice behind the others, and keeps the rows of the first
-    /// such slice. Where nothing was asked before, the slice asks alone.
+    /// Puts the pulls of an operator's slice behind the others, and keeps the rows of the first such
+    /// slice. Where nothing was asked before, the slice asks alone, and they are kept in 16 bits.
     pub fn add_slice(&mut self, alloc: Global, slice: &Slice) -> Result<(), NoMemory>
         ensures order { self.new.order ≡ self.old.order }
         ensures pulls { OnOk result (self.new.pulls ≡ self.old.pulls ++ pulls_of_slice slice.now) }
@@ -125,7 +140,11 @@ impl Gathered {
         let alone = self.asks_nothing();
         self.add_fans(slice.fans(alloc)?)?;
         self.alone = alone;
-        if self.floor.is_none() {
+        if alone {
+            self.own = Some(slice.narrow_rows(alloc)?);
+            return Ok(());
+        }
+        if !self.has_rows() {
             self.floor = Some(slice.rows(alloc)?);
         }
         Ok(())
@@ -150,29 +169,31 @@ impl Gathered {
         ensures pulls { result ≡ true → self.now.pulls ≡ [] }
         ensures floor { result ≡ true → self.now.floor ≡ None }
     {
-        self.has_order && self.floor.is_none() && self.fans.is_empty()
+        self.has_order && !self.has_rows() && self.fans.is_empty()
     }
 
-    /// Whether one slice asks alone.
-    pub fn is_alone(&self) -> bool
-        ensures { result ≡ self.now.alone }
+    /// Whether there are rows to begin from.
+    fn has_rows(&self) -> bool
+        ensures { result ≡ false → self.now.floor ≡ None }
     {
-        self.alone
+        self.own.is_some() || self.floor.is_some()
     }
 
-    /// What is asked, and the floor.
-    pub fn into_asked(self) -> (Asked, Option<Floor>)
+    /// What is asked, and the rows to begin from.
+    pub fn into_asked(self) -> (Asked, FirstRows)
         ensures pulls { self.pulls ≡ asked_pulls self.order result.0 }
-        ensures floor { result.1 ≡ self.floor }
+        ensures rows { option_or result.1.own result.1.floor ≡ self.floor }
+        ensures alone { result.1.alone ≡ self.alone }
     {
         let Gathered {
             order,
             has_order,
             fans,
             floor,
-            alone: _,
+            own,
+            alone,
         } = self;
         drop(order);
-        (Asked { has_order, fans }, floor)
+        (Asked { has_order, fans }, FirstRows { own, floor, alone })
     }
 }

@@ -1,20 +1,23 @@
 //! The rows of one conjunction, and its slice.
 ghost use Rattle.std.specs.Prelude.{◌≡◌, ◌^◌, ◌<◌, ◌≤◌, true, length, All, IfOk, IfSome};
+ghost use Rattle.std.specs.Option.{option_or};
 ghost use Rattle.run_model.specs.Cut.{lengths};
 ghost use Rattle.pull_system.specs.System.{IsPull};
 ghost use Rattle.slice_graph.specs.Fitting.{HasOrder};
 ghost use Rattle.conjunctions.specs.Counting.{first_of};
 ghost use Rattle.bound_table.specs.Firm.{AreOwnRows};
+ghost use Rattle.slice_workers.specs.Spent.{spent_of};
 ghost use Rattle.conjunctions.specs.inside.Beginning.{BeginsTable, BeginsWithOrder, FloorFits};
 ghost use Rattle.conjunctions.specs.inside.Settling.{CanBegin, CanBeginTable, SettlesOne};
+ghost use Rattle.conjunctions.specs.inside.Settling.{conjoined_of};
 ghost use Rattle.conjunctions.specs.inside.Settling.{SharesOrder};
 
 use crate::floors::{Beginning, beginning_of};
-use crate::gathered::Gathered;
+use crate::gathered::{FirstRows, Gathered};
 use crate::means::Means;
 use crate::round::Round;
 use crate::systems::{give_back, system_of_asked};
-use bound_table::{BoundTable, Firm, Seat};
+use bound_table::{BoundTable, Firm, Seat, widened};
 use causal_order::Order;
 use pota_base::{Gate, NoMemory, Steps};
 use pull_fans::System;
@@ -45,16 +48,15 @@ pub fn settle_gathered<R: Threads + Sync, G: Gate, L: Ledger>(
         (first_of round.old.before) }
     requires floor { FloorFits (lengths order.now) gathered }
     requires shared { SharesOrder order.now gathered round.old }
-    ensures { IfOk result (SettlesOne order.now gathered.pulls keeps means.now.workers round.old
-        round.new steps.old steps.new) }
+    ensures { IfOk result (SettlesOne (conjoined_of order.now gathered.pulls keeps)
+        means.now.workers round.old round.new (spent_of steps.old steps.new)) }
 {
     let alloc = means.alloc;
-    let alone = gathered.is_alone();
-    let (asked, floor) = gathered.into_asked();
+    let (asked, first) = gathered.into_asked();
     let has_order = asked.has_order;
     let system = system_of_asked(alloc, order, asked, round)?;
     let before = round.next();
-    let (table, mut seat) = table_of(alloc, order, system, keeps, before, floor, alone, steps)?;
+    let (table, mut seat) = table_of(alloc, order, system, keeps, before, first, steps)?;
     let settled = settle_all(
         means.rt,
         alloc,
@@ -79,26 +81,30 @@ fn table_of<L: Ledger>(
     system: System,
     keeps: bool,
     before: Option<Rows>,
-    floor: Option<Floor>,
-    alone: bool,
+    first: FirstRows,
     steps: &mut Steps<L>,
 ) -> Result<(BoundTable, Seat), NoMemory>
-    requires begins { CanBeginTable order.now system keeps before floor }
-    requires own { alone ≡ true → IfSome floor (λ rows. AreOwnRows system rows.words) }
-    ensures { IfOk result (λ pair. BeginsTable system keeps before pair.0 pair.1 steps.old
-        steps.new) }
+    requires begins { CanBeginTable order.now system keeps before
+        (option_or first.own first.floor) }
+    requires own { first.alone ≡ true
+        → IfSome (option_or first.own first.floor) (λ rows. AreOwnRows system rows.words) }
+    ensures { IfOk result (λ pair. BeginsTable system keeps before pair.0 pair.1
+        (spent_of steps.old steps.new)) }
 {
-    if keeps || !alone {
-        return shared_table(alloc, order, system, keeps, before, floor, steps);
-    }
-    match floor {
+    let FirstRows { own, floor, alone } = first;
+    match own {
         Some(rows) => {
+            if keeps || !alone {
+                let floor = widened(alloc, &rows)?;
+                drop(rows);
+                return shared_table(alloc, order, system, keeps, before, Some(floor), steps);
+            }
             drop(before);
             let _shape = system.shape();
             let (table, seat) = BoundTable::firm(alloc, system, rows)?;
             Ok((table, seat))
         }
-        None => shared_table(alloc, order, system, keeps, before, None, steps),
+        None => shared_table(alloc, order, system, keeps, before, floor, steps),
     }
 }
 
@@ -114,8 +120,8 @@ fn shared_table<L: Ledger>(
     steps: &mut Steps<L>,
 ) -> Result<(BoundTable, Seat), NoMemory>
     requires begins { CanBeginTable order.now system keeps before floor }
-    ensures { IfOk result (λ pair. BeginsTable system keeps before pair.0 pair.1 steps.old
-        steps.new) }
+    ensures { IfOk result (λ pair. BeginsTable system keeps before pair.0 pair.1
+        (spent_of steps.old steps.new)) }
 {
     let _shape = system.shape();
     let begins = beginning_of(alloc, order, &system, keeps, before, floor, steps)?;

@@ -2,7 +2,7 @@
 
 ghost use Rattle.std.specs.Prelude.{◌≡◌, ◌≢◌, ℕ, ◌<◌, List, length, IfOk, OnErr};
 ghost use Rattle.pota_base.specs.Changes.{of_source};
-ghost use Rattle.input_reading.specs.Intakes.{Turns, ReadsAll, ReadsShort};
+ghost use Rattle.input_reading.specs.Intakes.{Turns, ReadsAll, ReadsShort, rooms_of};
 
 use crate::intake::{Intake, IntakeFor, Turn};
 use pota_base::{LONGEST_READ, NoMemory, Source};
@@ -29,7 +29,8 @@ fn take_turn<S: Source, I: IntakeFor>(
     requires at { (aim : I.For) × (bytes : List ℕ) × I.open_for aim intake.old bytes }
     ensures turn { IfOk result (λ end. (aim : I.For) (bytes : List ℕ) → I.open_for aim intake.old
         bytes → Turns (of_source S.Source source.old source.new) (I.open_for aim intake.new)
-        (I.done_for aim intake.new) (I.room_for intake.old) (I.room_for intake.new) bytes end) }
+        (I.done_for aim intake.new) (rooms_of (I.room_for intake.old) (I.room_for intake.new)) bytes
+        end) }
     ensures short { OnErr result (ReadsShort (of_source S.Source source.old source.new)) }
     ensures calm { result ≢ Ok (Some End.Failed) → S.faults source.new ≡ S.faults source.old }
 {

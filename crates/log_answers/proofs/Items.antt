@@ -12,6 +12,7 @@ use Rattle.reported_log.specs.Aims.{Says, Aim, rules_of}
 use Rattle.reported_log.specs.Checking.{IsCheckOf, GoesOn, HasClosed, MayFollow, IsRefusedAs}
 use Rattle.reported_log.specs.declared.reported.ReportedLog.{ReportedLog}
 use Rattle.reported_log.proofs.PassedOn.{follows_first, follows_all}
+use Rattle.log_answers.specs.Asking.{asking_of, progress_of, reached_of}
 use Rattle.log_answers.specs.declared.stop.StopCause.{StopCause}
 use Rattle.log_answers.specs.declared.stop.StopCause.TheVariants as causes
 use Rattle.log_answers.specs.declared.stop.Stop.{Stop}
@@ -93,8 +94,8 @@ module _ (aim : Aim) where
   -- ---- a stop stays a stop, whatever items follow
 
   pub stops_stay : (f : StopCause) (n of of' : ℕ) (each : Bool) (j : Judgement) (text : List ℕ)
-      (items : List Item) → StopsIn f n (counts_of of of') aim each j text
-      → StopsIn f n (counts_of of of') aim each (judged (rules_of aim) j items) text
+      (items : List Item) → StopsIn f n (counts_of of of') (asking_of aim each) j text
+      → StopsIn f n (counts_of of of') (asking_of aim each) (judged (rules_of aim) j items) text
   stops_stay f n of of' each j text items stop = go f stop
     where
       refused_stays : (why : Refusal) → IsRefusedAt aim each j text why n
@@ -105,8 +106,8 @@ module _ (aim : Aim) where
           ∙ refused-stays (rules_of aim) h.log why items ∙ sym h.is in
           subst (λ (k : Judgement). IsRefusedAt aim each k text why n) (sym stays) h
 
-      go : (g : StopCause) → StopsIn g n (counts_of of of') aim each j text
-          → StopsIn g n (counts_of of of') aim each (judged (rules_of aim) j items) text
+      go : (g : StopCause) → StopsIn g n (counts_of of of') (asking_of aim each) j text
+          → StopsIn g n (counts_of of of') (asking_of aim each) (judged (rules_of aim) j items) text
       go (causes.Refused r) h = refused_stays r h
       go causes.Write h =
           let more = closed_more each (rules_of aim) j items in
@@ -130,7 +131,7 @@ module _ {X : Type 0} {P : X → Type 0} (says : Says X P) (aim : Aim) where
     -- no report is due
     pub quiet : {T : Type 0} (closed : Bool) (x : T) → (closed ≡ true → each ≡ false)
         → GoesOn says aim now before after closed
-        → TakesItems (change_of held held of of) says aim each now after text (Ok x)
+        → TakesItems (change_of held held of of) says (asking_of aim each) now (progress_of after text) (Ok x)
     quiet closed x open_ on = record {
       written = [];
       wrote = Appends-nil held;
@@ -151,7 +152,7 @@ module _ {X : Type 0} {P : X → Type 0} (says : Says X P) (aim : Aim) where
     -- the judgement is a refusal, or there was no memory
     pub judge_stops : {T : Type 0} (stop : Stop)
         → JudgeStops stop.cause stop.batches before after
-        → TakesItems {T = T} (change_of held held of of) says aim each now after text (Err stop)
+        → TakesItems {T = T} (change_of held held of of) says (asking_of aim each) now (progress_of after text) (Err stop)
     judge_stops stop h = record {
       written = [];
       wrote = Appends-nil held;
@@ -170,7 +171,7 @@ module _ {X : Type 0} {P : X → Type 0} (says : Says X P) (aim : Aim) where
         }
 
         go : (f : StopCause) (n : ℕ) → JudgeStops f n before after
-            → StopsIn f n (counts_of of of) aim each after (text ++ [])
+            → StopsIn f n (counts_of of of) (asking_of aim each) after (text ++ [])
         go (causes.Refused why) n r = refused_at why n r
         go causes.Memory n r =
             let more = closed_one each (rules_of aim) before i in
@@ -187,8 +188,8 @@ module _ {X : Type 0} {P : X → Type 0} (says : Says X P) (aim : Aim) where
     next = judge (rules_of aim) before i
 
     pub report_written : {T : Type 0} (x : T) (v : Verdict) (last : ReportedLog X P) → IsCheckOf says aim last next
-        → Reports (change_of held held' of of') aim now.log.intake.batches (closed_of before) on.closes.0 text (Ok v)
-        → TakesItems (change_of held held' of of') says aim true last next text (Ok x)
+        → Reports (change_of held held' of of') aim now.log.intake.batches (reached_of (closed_of before) on.closes.0) text (Ok v)
+        → TakesItems (change_of held held' of of') says (asking_of aim true) last (progress_of next text) (Ok x)
     report_written x v last still r = record {
       written = r.written;
       wrote = r.wrote;
@@ -201,8 +202,8 @@ module _ {X : Type 0} {P : X → Type 0} (says : Says X P) (aim : Aim) where
     }
 
     pub report_stops : {T : Type 0} (stop : Stop) (last : ReportedLog X P)
-        → Reports (change_of held held' of of') aim now.log.intake.batches (closed_of before) on.closes.0 text (Err stop)
-        → TakesItems {T = T} (change_of held held' of of') says aim true last next text (Err stop)
+        → Reports (change_of held held' of of') aim now.log.intake.batches (reached_of (closed_of before) on.closes.0) text (Err stop)
+        → TakesItems {T = T} (change_of held held' of of') says (asking_of aim true) last (progress_of next text) (Err stop)
     report_stops stop last r = record {
       written = r.written;
       wrote = r.wrote;
@@ -211,8 +212,8 @@ module _ {X : Type 0} {P : X → Type 0} (says : Says X P) (aim : Aim) where
     }
       where
         go : (f : StopCause) (n : ℕ)
-            → ReportStops f n (counts_of of of') aim (closed_of before) on.closes.0 (text ++ r.written)
-            → StopsIn f n (counts_of of of') aim true next (text ++ r.written)
+            → ReportStops f n (counts_of of of') aim (reached_of (closed_of before) on.closes.0) (text ++ r.written)
+            → StopsIn f n (counts_of of of') (asking_of aim true) next (text ++ r.written)
         go causes.Write n h = (
           part_of_more aim (closed_of before ++ on.closes.0 ∷ []) [] _ _ n
               (on.closes.2 ∙ sym (append-nil (closed_of before ++ on.closes.0 ∷ []))) h.0,
@@ -235,18 +236,18 @@ module _ {X : Type 0} {P : X → Type 0} (says : Says X P) (aim : Aim) where
 
     abbrev Writes : Result Verdict Stop → Type 0
     Writes result = (log : Prefix) → HasClosed (judge (rules_of aim) before i) log → AreReportsFor aim (closed_of before) text
-        → Reports (change_of held held' of of') aim now.log.intake.batches (closed_of before) log text result
+        → Reports (change_of held held' of of') aim now.log.intake.batches (reached_of (closed_of before) log) text result
 
     pub closed_written : {T : Type 0} (x : T) (v : Verdict) (last : ReportedLog X P) → IsCheckOf says aim last (judge (rules_of aim) before i) → Writes (Ok v)
-        → TakesItems (change_of held held' of of') says aim each last (judge (rules_of aim) before i) text (Ok x)
+        → TakesItems (change_of held held' of of') says (asking_of aim each) last (progress_of (judge (rules_of aim) before i) text) (Ok x)
     closed_written x v last still writes =
-        subst (λ (e : Bool). TakesItems (change_of held held' of of') says aim e last (judge (rules_of aim) before i) text (Ok x)) (sym has_each)
+        subst (λ (e : Bool). TakesItems (change_of held held' of of') says (asking_of aim e) last (progress_of (judge (rules_of aim) before i) text) (Ok x)) (sym has_each)
         (report_written before i check now text held held' of of' stands_so on_so x v last still (writes on_so.closes.0 on_so.closes.1 stands_so.texts))
 
     pub closed_stops : {T : Type 0} (stop : Stop) (last : ReportedLog X P) → Writes (Err stop)
-        → TakesItems {T = T} (change_of held held' of of') says aim each last (judge (rules_of aim) before i) text (Err stop)
+        → TakesItems {T = T} (change_of held held' of of') says (asking_of aim each) last (progress_of (judge (rules_of aim) before i) text) (Err stop)
     closed_stops {T} stop last writes =
-        subst (λ (e : Bool). TakesItems {T = T} (change_of held held' of of') says aim e last (judge (rules_of aim) before i) text (Err stop)) (sym has_each)
+        subst (λ (e : Bool). TakesItems {T = T} (change_of held held' of of') says (asking_of aim e) last (progress_of (judge (rules_of aim) before i) text) (Err stop)) (sym has_each)
         (report_stops before i check now text held held' of of' stands_so on_so stop last (writes on_so.closes.0 on_so.closes.1 stands_so.texts))
 
     pub some_report : (j : Judgement) × (log : Prefix) × IsCheckOf says aim now j × HasClosed j log
@@ -296,7 +297,7 @@ module _ {X : Type 0} {P : X → Type 0} (says : Says X P) (aim : Aim) where
         (follows_all (rules_of aim) j t.done (i ∷ rest) (subst (MayFollow j) t.split follows))
 
     pub taken_more : {T : Type 0} (x : T)
-        → TakesItems (change_of now held' of_now of') says aim each next (judge (rules_of aim) here i) (text ++ t.written) (Ok x)
+        → TakesItems (change_of now held' of_now of') says (asking_of aim each) next (progress_of (judge (rules_of aim) here i) (text ++ t.written)) (Ok x)
         → Taken held held' of of' each next j text items rest
     taken_more x r = record {
       done = t.done ++ i ∷ [];
@@ -309,24 +310,24 @@ module _ {X : Type 0} {P : X → Type 0} (says : Says X P) (aim : Aim) where
     }
 
     pub taken_stops : {T U : Type 0} (stop : Stop)
-        → TakesItems {T = T} (change_of now held' of_now of') says aim each next (judge (rules_of aim) here i) (text ++ t.written) (Err stop)
-        → TakesItems {T = U} (change_of held held' of of') says aim each next (judged (rules_of aim) j items) text (Err stop)
+        → TakesItems {T = T} (change_of now held' of_now of') says (asking_of aim each) next (progress_of (judge (rules_of aim) here i) (text ++ t.written)) (Err stop)
+        → TakesItems {T = U} (change_of held held' of of') says (asking_of aim each) next (progress_of (judged (rules_of aim) j items) text) (Err stop)
     taken_stops stop r = record {
       written = t.written ++ r.written;
       wrote = Appends-trans held now held' t.written r.written t.wrote r.wrote;
       later = omega (arith, t.later, r.later);
-      to = subst (λ (k : Judgement). StopsIn stop.cause stop.batches (counts_of of of') aim each k (text ++ (t.written ++ r.written))) whole
+      to = subst (λ (k : Judgement). StopsIn stop.cause stop.batches (counts_of of of') (asking_of aim each) k (text ++ (t.written ++ r.written))) whole
           (stops_stay aim stop.cause stop.batches of of' each (judged (rules_of aim) j (t.done ++ i ∷ [])) (text ++ (t.written ++ r.written)) rest
-          (earlier (judged (rules_of aim) j (t.done ++ i ∷ [])) (text ++ (t.written ++ r.written)) stop.cause stop.batches (subst (λ (k : Judgement). StopsIn stop.cause stop.batches (counts_of of_now of') aim each k (text ++ (t.written ++ r.written))) (sym one_more)
-          (subst (StopsIn stop.cause stop.batches (counts_of of_now of') aim each (judge (rules_of aim) here i)) (append_assoc text t.written r.written) r.to))));
+          (earlier (judged (rules_of aim) j (t.done ++ i ∷ [])) (text ++ (t.written ++ r.written)) stop.cause stop.batches (subst (λ (k : Judgement). StopsIn stop.cause stop.batches (counts_of of_now of') (asking_of aim each) k (text ++ (t.written ++ r.written))) (sym one_more)
+          (subst (StopsIn stop.cause stop.batches (counts_of of_now of') (asking_of aim each) (judge (rules_of aim) here i)) (append_assoc text t.written r.written) r.to))));
     }
       where
         whole : judged (rules_of aim) (judged (rules_of aim) j (t.done ++ i ∷ [])) rest ≡ judged (rules_of aim) j items
         whole = sym (judged-append (rules_of aim) j (t.done ++ i ∷ []) rest)
             ∙ ap (judged (rules_of aim) j) (sym split_now)
 
-        earlier : (k : Judgement) (u : List ℕ) (f : StopCause) (n : ℕ) → StopsIn f n (counts_of of_now of') aim each k u
-            → StopsIn f n (counts_of of of') aim each k u
+        earlier : (k : Judgement) (u : List ℕ) (f : StopCause) (n : ℕ) → StopsIn f n (counts_of of_now of') (asking_of aim each) k u
+            → StopsIn f n (counts_of of of') (asking_of aim each) k u
         earlier k u (causes.Refused why) n h = h
         earlier k u causes.Write n h = (h.0, let rose = h.1 in omega (arith, rose, t.later))
         earlier k u causes.Memory n h = h
@@ -335,7 +336,7 @@ module _ {X : Type 0} {P : X → Type 0} (says : Says X P) (aim : Aim) where
   pub taken_all : {T : Type 0} (x : T) (held held' : Option (List ℕ)) (of of' : ℕ) (each : Bool)
       (check : ReportedLog X P) (j : Judgement) (text : List ℕ) (items rest : List Item) → rest ≡ []
       → Taken held held' of of' each check j text items rest
-      → TakesItems (change_of held held' of of') says aim each check (judged (rules_of aim) j items) text (Ok x)
+      → TakesItems (change_of held held' of of') says (asking_of aim each) check (progress_of (judged (rules_of aim) j items) text) (Ok x)
   taken_all x held held' of of' each check j text items rest none t =
       let same : t.done ≡ items =
       sym (append-nil t.done) ∙ ap (λ (xs : List Item). t.done ++ xs) (sym none) ∙ sym t.split in
@@ -378,14 +379,14 @@ module _ {X : Type 0} {P : X → Type 0} (says : Says X P) (held : Option (List 
     module _ (held' : Option (List ℕ)) (of' : ℕ) (each' : Bool) (next : ReportedLog X P) (same : each' ≡ each_now) where
       abbrev Takes : {T : Type 0} → Result T Stop → Type 0
       Takes {T} result = (aim : Aim) (j : Judgement) (text : List ℕ) → Stands says aim each_now check j text → MayFollow j (i ∷ [])
-          → TakesItems {T = T} (change_of now held' of_now of') says aim each_now next (judge (rules_of aim) j i) text result
+          → TakesItems {T = T} (change_of now held' of_now of') says (asking_of aim each_now) next (progress_of (judge (rules_of aim) j i) text) result
 
       takes : {T : Type 0} (result : Result T Stop) → Takes result → (aim : Aim) (j : Judgement) (text : List ℕ) → (stands : Stands says aim each first j text)
           → (follows : MayFollow j items) → (so_far : Taken says aim held now of of_now each check j text items (i ∷ rest))
-          → TakesItems {T = T} (change_of now held' of_now of') says aim each next (judge (rules_of aim) (judged (rules_of aim) j so_far.done) i) (text ++ so_far.written) result
+          → TakesItems {T = T} (change_of now held' of_now of') says (asking_of aim each) next (progress_of (judge (rules_of aim) (judged (rules_of aim) j so_far.done) i) (text ++ so_far.written)) result
       takes result taking aim j text stands follows so_far =
           let here = judged (rules_of aim) j so_far.done in
-          subst (λ (e : Bool). TakesItems (change_of now held' of_now of') says aim e next (judge (rules_of aim) here i) (text ++ so_far.written) result) t.each_is
+          subst (λ (e : Bool). TakesItems (change_of now held' of_now of') says (asking_of aim e) next (progress_of (judge (rules_of aim) here i) (text ++ so_far.written)) result) t.each_is
           (taking aim here (text ++ so_far.written)
           (subst (λ (e : Bool). Stands says aim e check here (text ++ so_far.written)) (sym t.each_is) so_far.stands)
           (next_follows says aim held now held' of of_now of' each check next j text items i rest so_far follows))
@@ -399,13 +400,13 @@ module _ {X : Type 0} {P : X → Type 0} (says : Says X P) (held : Option (List 
       }
 
       pub stops : {T U : Type 0} (stop : Stop) → Takes {T = T} (Err stop) → (aim : Aim) (j : Judgement) (text : List ℕ) → Stands says aim each first j text → MayFollow j items
-          → TakesItems {T = U} (change_of held held' of of') says aim each next (judged (rules_of aim) j items) text (Err stop)
+          → TakesItems {T = U} (change_of held held' of of') says (asking_of aim each) next (progress_of (judged (rules_of aim) j items) text) (Err stop)
       stops stop taking aim j text stands follows =
           let so_far = t.taken aim j text stands follows in
           taken_stops says aim held now held' of of_now of' each check next j text items i rest so_far stop (takes (Err stop) taking aim j text stands follows so_far)
 
   pub all_done : {T : Type 0} (x : T) (now : Option (List ℕ)) (of_now : ℕ) (each_now : Bool) (check : ReportedLog X P) (rest : List Item) → rest ≡ []
       → TakenSoFar says held now of of_now each each_now first check items rest → (aim : Aim) (j : Judgement) (text : List ℕ) → Stands says aim each first j text → MayFollow j items
-      → TakesItems (change_of held now of of_now) says aim each check (judged (rules_of aim) j items) text (Ok x)
+      → TakesItems (change_of held now of of_now) says (asking_of aim each) check (progress_of (judged (rules_of aim) j items) text) (Ok x)
   all_done x now of_now each_now check rest none t aim j text stands follows =
       taken_all says aim x held now of of_now each check j text items rest none (t.taken aim j text stands follows)

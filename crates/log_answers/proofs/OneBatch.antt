@@ -19,6 +19,7 @@ use Rattle.log_rules.proofs.Items.{prefix_at, refused-stays}
 use Rattle.reported_log.specs.Aims.{Says, Aim, rules_of}
 use Rattle.reported_log.specs.Checking.{IsCheckOf, IsFree, HasClosed}
 use Rattle.reported_log.specs.declared.reported.ReportedLog.{ReportedLog}
+use Rattle.log_answers.specs.Asking.{reached_of}
 use Rattle.log_answers.specs.declared.stop.StopCause.{StopCause}
 use Rattle.log_answers.specs.declared.stop.StopCause.TheVariants as causes
 use Rattle.log_answers.specs.declared.stop.Stop.{Stop}
@@ -119,19 +120,19 @@ module _ {X : Type 0} {P : X → Type 0} (says : Says X P) (aim : Aim) (log : Lo
     some_whole = (judgement_on aim log, whole.0, taken, closed)
 
     module _ (held held' : Option (List ℕ)) (of of' : ℕ) where
-      report_stops : (f : StopCause) (n : ℕ) (text : List ℕ) → ReportStops f n (counts_of of of') aim [] whole.0 text → WholeStops f n (counts_of of of') aim log text
+      report_stops : (f : StopCause) (n : ℕ) (text : List ℕ) → ReportStops f n (counts_of of of') aim (reached_of [] whole.0) text → WholeStops f n (counts_of of of') aim log text
       report_stops causes.Write n text h = (record { whole = whole.0; is = whole.1; part = h.0 }, h.1)
       report_stops causes.Memory n text h = (no_text aim text n h, h.count)
       report_stops (causes.Refused r) n text h = absurd h
       report_stops causes.Read n text h = absurd h
 
-      reported : (result : Result Verdict Stop) (text : List ℕ) → ReportsTo (counts_of of of') aim check.log.intake.batches [] whole.0 text result → WholeTo (counts_of of of') aim log text result
+      reported : (result : Result Verdict Stop) (text : List ℕ) → ReportsTo (counts_of of of') aim check.log.intake.batches (reached_of [] whole.0) text result → WholeTo (counts_of of of') aim log text result
       reported (Ok v) text to = record { whole = whole.0; is = whole.1; texts = to.0; truth = to.1; count = to.2 ∙ taken.log.intake.batches }
       reported (Err stop) text to = report_stops stop.cause stop.batches text to
 
       pub whole_reported : (result : Result Verdict Stop)
           → ((j : Judgement) (p : Prefix) → IsCheckOf says aim check j → HasClosed j p → (before : List Prefix) (text : List ℕ) → AreReportsFor aim before text
-          → Reports (change_of held held' of of') aim check.log.intake.batches before p text result)
+          → Reports (change_of held held' of of') aim check.log.intake.batches (reached_of before p) text result)
           → HasWhole (change_of held held' of of') aim log result
       whole_reported result reports =
           let r = reports (judgement_on aim log) whole.0 taken closed [] [] refl in

@@ -18,6 +18,7 @@ use Rattle.log_judgement.specs.Texts.{IsReportText}
 use Rattle.log_judgement.proofs.Texts.{texts_join}
 use Rattle.reported_log.specs.Aims.{Aim, asked_of, IsReportFor}
 use Rattle.reported_log.specs.Checking.{HasClosed, IsRefusedAs}
+use Rattle.log_answers.specs.Asking.{reached_of, summing_of}
 use Rattle.log_answers.specs.declared.stop.StopCause.TheVariants as causes
 use Rattle.log_answers.specs.declared.stop.Stop.{Stop}
 use Rattle.log_answers.specs.declared.stop.Verdict.{Verdict}
@@ -66,9 +67,9 @@ module _ (aim : Aim) (n : ℕ) (before : List Prefix) (log : Prefix) (text : Lis
     (texts : AreReportsFor aim before text) where
   pub report_short : (held : Option (List ℕ)) (of : ℕ) (stop : Stop)
       → stop ≡ record { batches = 0; cause = causes.Memory }
-      → Reports (change_of held held of of) aim n before log text (Err stop)
+      → Reports (change_of held held of of) aim n (reached_of before log) text (Err stop)
   report_short held of stop is =
-      subst (λ (s : Stop). Reports (change_of held held of of) aim n before log text (Err s)) (sym is) (record {
+      subst (λ (s : Stop). Reports (change_of held held of of) aim n (reached_of before log) text (Err s)) (sym is) (record {
         written = [];
         wrote = Appends-nil held;
         later = omega arith;
@@ -78,9 +79,9 @@ module _ (aim : Aim) (n : ℕ) (before : List Prefix) (log : Prefix) (text : Lis
   module _ (held held' : Option (List ℕ)) (of of' : ℕ) (report : Report) (is : IsReportFor aim log report) where
     pub report_whole : {T : Type 0} (x : T) (v : Verdict) → v ≡ record { batches = n; truth = report.verdict }
         → (t : List ℕ) → t ≡ report_text report → Puts (change_of held held' of of') t n (Ok x)
-        → Reports (change_of held held' of of') aim n before log text (Ok v)
+        → Reports (change_of held held' of of') aim n (reached_of before log) text (Ok v)
     report_whole x v same t is_text p =
-        subst (λ (w : Verdict). Reports (change_of held held' of of') aim n before log text (Ok w)) (sym same) (record {
+        subst (λ (w : Verdict). Reports (change_of held held' of of') aim n (reached_of before log) text (Ok w)) (sym same) (record {
           written = p.written;
           wrote = p.wrote;
           later = p.later;
@@ -94,12 +95,12 @@ module _ (aim : Aim) (n : ℕ) (before : List Prefix) (log : Prefix) (text : Lis
 
     pub report_part : {T : Type 0} (stop : Stop) → n ≡ counted log.batches
         → (t : List ℕ) → t ≡ report_text report → Puts {T = T} (change_of held held' of of') t n (Err stop)
-        → Reports (change_of held held' of of') aim n before log text (Err stop)
+        → Reports (change_of held held' of of') aim n (reached_of before log) text (Err stop)
     report_part stop count t is_text p = record {
       written = p.written;
       wrote = p.wrote;
       later = p.later;
-      to = subst (λ (s : Stop). ReportStops s.cause s.batches (counts_of of of') aim before log (text ++ p.written)) (sym p.to.0) (
+      to = subst (λ (s : Stop). ReportStops s.cause s.batches (counts_of of of') aim (reached_of before log) (text ++ p.written)) (sym p.to.0) (
         record {
           before = before;
           log = log;
@@ -169,6 +170,6 @@ module _ (aim : Aim) (n : ℕ) (log : Prefix) (sizes : Sizes) where
       written = p.written;
       wrote = p.wrote;
       later = p.later;
-      to = subst (λ (s : Stop). SummaryStops s.cause s.batches (counts_of of of') aim n log sizes p.written) (sym p.to.0)
+      to = subst (λ (s : Stop). SummaryStops s.cause s.batches (counts_of of of') (summing_of aim log sizes) n p.written) (sym p.to.0)
           (t, sums t is_text, p.to.1, refl, p.to.2);
     }

@@ -17,6 +17,7 @@ use Rattle.log_judgement.specs.Texts.{AreReports}
 use Rattle.reported_log.specs.Aims.{Says, Aim, asked_of, IsReportFor, IsTrueSoFar}
 use Rattle.reported_log.specs.Checking.{IsCheckOf}
 use Rattle.reported_log.specs.declared.reported.ReportedLog.{ReportedLog}
+use Rattle.log_answers.specs.Asking.{Asking, Progress, Reached, Summing, progress_of, summing_of}
 use Rattle.log_answers.specs.declared.stop.StopCause.{StopCause}
 use Rattle.log_answers.specs.declared.stop.StopCause.TheVariants as causes
 use Rattle.log_answers.specs.declared.stop.Stop.{Stop}
@@ -57,29 +58,28 @@ pub record HasFrontOf (aim : Aim) (logs : List Prefix) (text : List ℕ) (batche
   pub count : batches ≡ 0
 
 -- the report on this log could not be written behind those before, or there was no memory for it
-abbrev pub ReportStops : StopCause → ℕ → Counts → Aim → List Prefix → Prefix → List ℕ → Type 0
-ReportStops causes.Write n faults aim before log text =
-    HasPartOf aim (before ++ log ∷ []) text n × Rose faults.before faults.after
-ReportStops causes.Memory n faults aim before log text = HasFrontOf aim before text n
-ReportStops (causes.Refused r) n faults aim before log text = ⊥
-ReportStops causes.Read n faults aim before log text = ⊥
+abbrev pub ReportStops : StopCause → ℕ → Counts → Aim → Reached → List ℕ → Type 0
+ReportStops causes.Write n faults aim reached text =
+    HasPartOf aim (reached.before ++ reached.log ∷ []) text n × Rose faults.before faults.after
+ReportStops causes.Memory n faults aim reached text = HasFrontOf aim reached.before text n
+ReportStops (causes.Refused r) n faults aim reached text = ⊥
+ReportStops causes.Read n faults aim reached text = ⊥
 
 -- the report on this log was written, with its verdict, or not
-abbrev pub ReportsTo : Counts → Aim → ℕ → List Prefix → Prefix → List ℕ → Result Verdict Stop
-    → Type 0
-ReportsTo faults aim batches before log text (Ok v) =
-    AreReportsFor aim (before ++ log ∷ []) text × ((v.truth ≡ true) ↔ IsTrueSoFar aim log)
-    × (v.batches ≡ batches)
-ReportsTo faults aim batches before log text (Err stop) =
-    ReportStops stop.cause stop.batches faults aim before log text
+abbrev pub ReportsTo : Counts → Aim → ℕ → Reached → List ℕ → Result Verdict Stop → Type 0
+ReportsTo faults aim batches reached text (Ok v) =
+    AreReportsFor aim (reached.before ++ reached.log ∷ []) text
+    × ((v.truth ≡ true) ↔ IsTrueSoFar aim reached.log) × (v.batches ≡ batches)
+ReportsTo faults aim batches reached text (Err stop) =
+    ReportStops stop.cause stop.batches faults aim reached text
 
 -- behind this text the report on this log was to be written
-pub record Reports (sink : Change) (aim : Aim) (batches : ℕ) (before : List Prefix) (log : Prefix)
-    (text : List ℕ) (result : Result Verdict Stop) : Type 0 where
+pub record Reports (sink : Change) (aim : Aim) (batches : ℕ) (reached : Reached) (text : List ℕ)
+    (result : Result Verdict Stop) : Type 0 where
   pub written : List ℕ
   pub wrote : Appends sink.before sink.after written
   pub later : sink.faults_before ≤ sink.faults_after
-  pub to : ReportsTo (faults_of sink) aim batches before log (text ++ written) result
+  pub to : ReportsTo (faults_of sink) aim batches reached (text ++ written) result
 
 -- ---- items
 
@@ -98,27 +98,30 @@ pub record IsRefusedAt (aim : Aim) (each : Bool) (j : Judgement) (text : List �
   pub count : batches ≡ batches_of j
 
 -- a stop at this judgement
-abbrev pub StopsIn : StopCause → ℕ → Counts → Aim → Bool → Judgement → List ℕ → Type 0
-StopsIn (causes.Refused r) n faults aim each j text = IsRefusedAt aim each j text r n
-StopsIn causes.Write n faults aim each j text =
-    HasPartOf aim (closed_in each j) text n × Rose faults.before faults.after
-StopsIn causes.Memory n faults aim each j text = HasFrontOf aim (closed_in each j) text n
-StopsIn causes.Read n faults aim each j text = ⊥
+abbrev pub StopsIn : StopCause → ℕ → Counts → Asking → Judgement → List ℕ → Type 0
+StopsIn (causes.Refused r) n faults asking j text = IsRefusedAt asking.aim asking.each j text r n
+StopsIn causes.Write n faults asking j text =
+    HasPartOf asking.aim (closed_in asking.each j) text n × Rose faults.before faults.after
+StopsIn causes.Memory n faults asking j text =
+    HasFrontOf asking.aim (closed_in asking.each j) text n
+StopsIn causes.Read n faults asking j text = ⊥
 
-abbrev pub ItemsTo : {T X : Type 0} {P : X → Type 0} → Counts → Says X P → Aim → Bool → ReportedLog
-    X P → Judgement → List ℕ → Result T Stop → Type 0
-ItemsTo faults says aim each check j text (Ok x) = Stands says aim each check j text
-ItemsTo faults says aim each check j text (Err stop) =
-    StopsIn stop.cause stop.batches faults aim each j text
+abbrev pub ItemsTo : {T X : Type 0} {P : X → Type 0} → Counts → Says X P → Asking → ReportedLog X P
+    → Progress → Result T Stop → Type 0
+ItemsTo faults says asking check progress (Ok x) =
+    Stands says asking.aim asking.each check progress.judgement progress.text
+ItemsTo faults says asking check progress (Err stop) =
+    StopsIn stop.cause stop.batches faults asking progress.judgement progress.text
 
 -- items led to this judgement, behind this text
-pub record TakesItems {T X : Type 0} {P : X → Type 0} (sink : Change) (says : Says X P) (aim : Aim)
-    (each : Bool) (check : ReportedLog X P) (j : Judgement) (text : List ℕ) (result : Result T Stop)
+pub record TakesItems {T X : Type 0} {P : X → Type 0} (sink : Change) (says : Says X P)
+    (asking : Asking) (check : ReportedLog X P) (progress : Progress) (result : Result T Stop)
     : Type 0 where
   pub written : List ℕ
   pub wrote : Appends sink.before sink.after written
   pub later : sink.faults_before ≤ sink.faults_after
-  pub to : ItemsTo (faults_of sink) says aim each check j (text ++ written) result
+  pub to : ItemsTo (faults_of sink) says asking check
+      (progress_of progress.judgement (progress.text ++ written)) result
 
 -- ---- the summary of a bench
 
@@ -128,24 +131,26 @@ pub record IsBenchAim (aim : Aim) : Type 0 where
   pub witness : aim.shown.witness ≡ false
 
 -- a summary could not be written, or there was no memory for it
-abbrev pub SummaryStops : StopCause → ℕ → Counts → Aim → ℕ → Prefix → Sizes → List ℕ → Type 0
-SummaryStops causes.Write n faults aim batches log sizes text =
-    (whole : List ℕ) × IsSummaryOf sizes (asked_of aim) log.header log.batches aim.watches whole
-    × IsPrefix text whole × (n ≡ batches) × Rose faults.before faults.after
-SummaryStops causes.Memory n faults aim batches log sizes text = (text ≡ []) × (n ≡ 0)
-SummaryStops (causes.Refused r) n faults aim batches log sizes text = ⊥
-SummaryStops causes.Read n faults aim batches log sizes text = ⊥
+abbrev pub SummaryStops : StopCause → ℕ → Counts → Summing → ℕ → List ℕ → Type 0
+SummaryStops causes.Write n faults summing batches text =
+    (whole : List ℕ) × IsSummaryOf summing.sizes (asked_of summing.aim) summing.log.header
+    summing.log.batches summing.aim.watches whole × IsPrefix text whole × (n ≡ batches) × Rose
+    faults.before faults.after
+SummaryStops causes.Memory n faults summing batches text = (text ≡ []) × (n ≡ 0)
+SummaryStops (causes.Refused r) n faults summing batches text = ⊥
+SummaryStops causes.Read n faults summing batches text = ⊥
 
-abbrev pub SumsUpTo : Counts → Aim → ℕ → Prefix → Sizes → List ℕ → Result Verdict Stop → Type 0
-SumsUpTo faults aim batches log sizes text (Ok v) =
-    IsSummaryOf sizes (asked_of aim) log.header log.batches aim.watches text
-    × ((v.truth ≡ true) ↔ IsTrueSoFar aim log) × (v.batches ≡ batches)
-SumsUpTo faults aim batches log sizes text (Err stop) =
-    SummaryStops stop.cause stop.batches faults aim batches log sizes text
+abbrev pub SumsUpTo : Counts → Summing → ℕ → List ℕ → Result Verdict Stop → Type 0
+SumsUpTo faults summing batches text (Ok v) =
+    IsSummaryOf summing.sizes (asked_of summing.aim) summing.log.header summing.log.batches
+    summing.aim.watches text × ((v.truth ≡ true) ↔ IsTrueSoFar summing.aim summing.log)
+    × (v.batches ≡ batches)
+SumsUpTo faults summing batches text (Err stop) =
+    SummaryStops stop.cause stop.batches faults summing batches text
 
 pub record SumsUp (sink : Change) (aim : Aim) (batches : ℕ) (log : Prefix) (sizes : Sizes)
     (result : Result Verdict Stop) : Type 0 where
   pub written : List ℕ
   pub wrote : Appends sink.before sink.after written
   pub later : sink.faults_before ≤ sink.faults_after
-  pub to : SumsUpTo (faults_of sink) aim batches log sizes written result
+  pub to : SumsUpTo (faults_of sink) (summing_of aim log sizes) batches written result

@@ -6,6 +6,7 @@ ghost use Rattle.log_rules.specs.Judgement.{Prefix, Judgement, judge, judged};
 ghost use Rattle.report.specs.Spelling.{IsWellFormed};
 ghost use Rattle.reported_log.specs.Aims.{Aim, IsReportFor, rules_of, said_by};
 ghost use Rattle.reported_log.specs.Checking.{HasClosed, IsCheckOf, MayFollow};
+ghost use Rattle.log_answers.specs.Asking.{asking_of, progress_of, reached_of};
 ghost use Rattle.log_answers.specs.Checking.{AreReportsFor, IsBenchAim, Reports};
 ghost use Rattle.log_answers.specs.inside.Checking.{Judges, Puts};
 ghost use Rattle.log_answers.specs.Checking.{Stands, SumsUp, TakesItems};
@@ -84,7 +85,7 @@ impl<L: Ledger> Checking<L> {
         ensures reports { (aim : Aim) (j : Judgement) (log : Prefix) → IsCheckOf (said_by answers)
             aim self.old.check j → HasClosed j log → (before : ListOf Prefix) (text : ListOf ℕ)
             → AreReportsFor aim before text → Reports (of_sink O.Sink out.old out.new) aim
-            self.old.check.log.intake.batches before log text result }
+            self.old.check.log.intake.batches (reached_of before log) text result }
         ensures goes_on { OnOk result ((aim : Aim) (j : Judgement)
             → IsCheckOf (said_by answers) aim self.old.check j
             → IsCheckOf (said_by answers) aim self.new.check j) }
@@ -131,8 +132,8 @@ impl<L: Ledger> Checking<L> {
             × MayFollow j (item ∷ []) }
         ensures items { (aim : Aim) (j : Judgement) (text : ListOf ℕ) → Stands (said_by answers) aim
             self.old.each_batch self.old.check j text → MayFollow j (item ∷ []) → TakesItems
-            (of_sink O.Sink out.old out.new) (said_by answers) aim self.old.each_batch
-            self.new.check (judge (rules_of aim) j item) text result }
+            (of_sink O.Sink out.old out.new) (said_by answers) (asking_of aim self.old.each_batch)
+            self.new.check (progress_of (judge (rules_of aim) j item) text) result }
         ensures each { self.new.each_batch ≡ self.old.each_batch }
     {
         let closed = match self.judge(means.alloc, item) {
@@ -164,8 +165,8 @@ impl<L: Ledger> Checking<L> {
             × MayFollow j items }
         ensures items { (aim : Aim) (j : Judgement) (text : ListOf ℕ) → Stands (said_by answers) aim
             self.old.each_batch self.old.check j text → MayFollow j items → TakesItems
-            (of_sink O.Sink out.old out.new) (said_by answers) aim self.old.each_batch
-            self.new.check (judged (rules_of aim) j items) text result }
+            (of_sink O.Sink out.old out.new) (said_by answers) (asking_of aim self.old.each_batch)
+            self.new.check (progress_of (judged (rules_of aim) j items) text) result }
         ensures each { self.new.each_batch ≡ self.old.each_batch }
     {
         let mut rest = items.into_vec().into_iter();

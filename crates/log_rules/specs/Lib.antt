@@ -6,3 +6,4 @@ pub mod SoFar
 pub mod Due
 pub mod Reported
 pub mod WholeLogs
+pub mod Passage

@@ -138,14 +138,8 @@ impl MemSink {
         failing: &[u64],
     ) -> Result<MemSink, NoMemory>
         requires { 1 ≤ most }
-        ensures { IfOk result (λ s. s ≡ record {
-          bytes = [];
-          faults = 0;
-          calls = 0;
-          most = most;
-          room = room;
-          failing = failing.now;
-        }) }
+        ensures { IfOk result (λ s. s ≡ record
+            { bytes = []; faults = 0; calls = 0; most = most; room = room; failing = failing.now }) }
     {
         Ok(MemSink {
             bytes: vec![in alloc; 0u8; room]?,

@@ -27,6 +27,7 @@ use Rattle.run_report.specs.Reports.{Asked, IsReportOf}
 use Rattle.report.specs.Spelling.{report_text}
 use Rattle.fault_kinds.specs.declared.refusal.Refusal.{Refusal}
 use Rattle.fault_kinds.specs.declared.refusal.Refusal.TheVariants as refusal
+use Rattle.log_rules.specs.Passage.{passage_of}
 use Rattle.log_rules.specs.Judgement.{Prefix}
 use Rattle.log_rules.specs.Readings.{Reading}
 use Rattle.log_rules.specs.Counters.{counters_in}
@@ -40,6 +41,7 @@ use Rattle.certificate_answers.specs.PassedOn.{Says, Aim, asked_of, aim_of, name
 use Rattle.watch.specs.declared.predicate.Handed.{Handed}
 use Rattle.fault_line.specs.Faults.{status_of, fault_of_refusal}
 use Rattle.call_promise.specs.Questions.{fault_of_question}
+use Rattle.log_answers.specs.Asking.{asking_of}
 use Rattle.log_answers.specs.declared.stop.StopCause.{StopCause}
 use Rattle.log_answers.specs.declared.stop.StopCause.TheVariants as causes
 use Rattle.log_answers.specs.declared.stop.Stop.{Stop}
@@ -178,8 +180,8 @@ module _ {X : Type 0} {P : X → Type 0} (says : Says X P) (s : Stated) (read_as
       ((parts.1, parts.4 ∙ ap (λ (t : List ℕ). t ++ parts.1) one), omega (arith, h.count))
 
   module _ (left : Option (List ℕ)) (lf lf' of of' : ℕ) (read written : List ℕ) where
-    refused_by : (r : Refusal) (n : ℕ) (ended : Bool) → (ended ≡ true → IsAtEnd left) → TellsDueBy reading aim each ended read written (Some r) n
-        → IsRefused left on words read written (faulty_outcome n (fault_of_refusal r)) r
+    refused_by : (r : Refusal) (n : ℕ) (ended : Bool) → (ended ≡ true → IsAtEnd left) → TellsDueBy reading (asking_of aim each) ended (passage_of read written) (Some r) n
+        → IsRefused left on words (passage_of read written) (faulty_outcome n (fault_of_refusal r)) r
     unfolding due_of told_of
     refused_by r n ended at told = record {
       ended = ended;
@@ -189,8 +191,8 @@ module _ {X : Type 0} {P : X → Type 0} (says : Says X P) (s : Stated) (read_as
       fault = refl;
     }
 
-    stop_answer : (why : StopCause) (n : ℕ) → StopsBy reading why n (behind_of left lf lf' of of') aim each read written
-        → Answer (status_of (fault_of why)) (behind_of left lf lf' of of') on words read written (faulty_outcome n (fault_of why))
+    stop_answer : (why : StopCause) (n : ℕ) → StopsBy reading why n (behind_of left lf lf' of of') (asking_of aim each) (passage_of read written)
+        → Answer (status_of (fault_of why)) (behind_of left lf lf' of of') on words (passage_of read written) (faulty_outcome n (fault_of why))
     unfolding due_of told_of
     stop_answer (causes.Refused (refusal.Formula x)) n h = (x, inr (inl (refused_by (refusal.Formula x) n h.0 h.1 h.2)))
     stop_answer (causes.Refused (refusal.Log x)) n h = (refusal.Log x, refl, refused_by (refusal.Log x) n h.0 h.1 h.2)
@@ -207,7 +209,7 @@ module _ {X : Type 0} {P : X → Type 0} (says : Says X P) (s : Stated) (read_as
     }
 
     verdict_of : (b : Bool) (v : Verdict) → v.truth ≡ b → IsAtEnd left → IsVerdictBy reading aim each read written v
-        → HasVerdict left on words read written (record { status = if b then status.True else status.False; batches = v.batches; fault = None }) b
+        → HasVerdict left on words (passage_of read written) (record { status = if b then status.True else status.False; batches = v.batches; fault = None }) b
     unfolding due_of told_of
     verdict_of b v same_truth ended h = record {
       ended = ended;
@@ -220,12 +222,12 @@ module _ {X : Type 0} {P : X → Type 0} (says : Says X P) (s : Stated) (read_as
     }
 
     verdict_answer : (b : Bool) (v : Verdict) → v.truth ≡ b → IsAtEnd left → IsVerdictBy reading aim each read written v
-        → Answer (if b then status.True else status.False) (behind_of left lf lf' of of') on words read written (record { status = if b then status.True else status.False; batches = v.batches; fault = None })
+        → Answer (if b then status.True else status.False) (behind_of left lf lf' of of') on words (passage_of read written) (record { status = if b then status.True else status.False; batches = v.batches; fault = None })
     verdict_answer true v e ended h = inl (verdict_of true v e ended h)
     verdict_answer false v e ended h = inl (verdict_of false v e ended h)
 
-    answer_of : (result : Result Verdict Stop) → ChecksBy reading (behind_of left lf lf' of of') aim each read written result
-        → Answer (outcome_of result).status (behind_of left lf lf' of of') on words read written (outcome_of result)
+    answer_of : (result : Result Verdict Stop) → ChecksBy reading (behind_of left lf lf' of of') (asking_of aim each) (passage_of read written) result
+        → Answer (outcome_of result).status (behind_of left lf lf' of of') on words (passage_of read written) (outcome_of result)
     answer_of (Ok v) h = verdict_answer v.truth v refl h.0 h.1
     answer_of (Err stop) h = stop_answer stop.cause stop.batches h
 
@@ -244,7 +246,7 @@ module _ {X : Type 0} {P : X → Type 0} (says : Says X P) (s : Stated) (read_as
 -- ---- words at fault
 
 misasked_answer : (words : List (List ℕ)) (left : Option (List ℕ)) (lf of : ℕ) (on : Handing) (f : QuestionFault) → IsQuestionFault words f
-    → Answer (status_of (fault_of_question f)) (behind_of left lf lf of of) on words [] [] (faulty_outcome 0 (fault_of_question f))
+    → Answer (status_of (fault_of_question f)) (behind_of left lf lf of of) on words (passage_of [] []) (faulty_outcome 0 (fault_of_question f))
 misasked_answer words left lf of on question.Usage is = record { fault_is = is; nothing = (refl, refl); batches = refl; fault = refl }
 misasked_answer words left lf of on (question.Formula f) is = (f, inl (record { fault_is = is; nothing = (refl, refl); batches = refl; fault = refl }))
 

@@ -12,7 +12,7 @@ use Rattle.pull_system.specs.System.{no_pull}
 use Rattle.pull_fans.specs.Fans.{FanView, pull_of_fan, pulls_of_fan}
 use Rattle.pull_fans.specs.inside.Fans.{entry_of}
 use Rattle.pull_fans.specs.Asks.{IsAskedBy}
-use Rattle.pull_fans.specs.inside.Asks.{AreAskRows, AreInTurn, IsAskedIn, AreRaisedIn, AreRaised}
+use Rattle.pull_fans.specs.inside.Asks.{AreAskRows, AreInTurn, IsAskedIn, AreRaisedIn, AreRaised, stretch_of}
 use Rattle.pull_system.specs.Vector.{IsMaximum}
 
 within_one : (i n : ℕ) → i < n + 1 → (i < n) ⊎ (i ≡ n)
@@ -76,11 +76,11 @@ piece_grows begin asked now new piece place = elim (in_or_out begin (length aske
   | inr at ↦ let P : ℕ → Type 0 = λ p. get_or now p 0 ≤ get_or new p 0 in subst P at.1 (omega (arith, piece.inside (place - begin) at.0))
 ]
 
-asked_later : (fan : FanView) (procs first end x place m n : ℕ) → n ≡ m → IsAskedIn fan procs first end x place m → IsAskedIn fan procs first end (x + 1) place n
+asked_later : (fan : FanView) (procs first end x place m n : ℕ) → n ≡ m → IsAskedIn fan procs (stretch_of first end) x place m → IsAskedIn fan procs (stretch_of first end) (x + 1) place n
 asked_later fan procs first end x place m n same by = record { x = by.x; index = by.index; value = omega (arith, by.value); from = by.from; below = by.below; at = by.at; asks = by.asks ∙ sym same }
 
-pub raised_in_next : (fan : FanView) (procs first end x begin : ℕ) (asked before now new : List ℕ) → AreInTurn fan.targets first end → AreRaisedIn fan procs first end x before now → PieceRaised begin asked now new
-    → begin ≡ x * procs + get_or fan.targets first 0 → first + length asked ≡ end → ((i : ℕ) → i < length asked → get_or asked i 0 ≡ entry_of fan (first + i) x) → AreRaisedIn fan procs first end (x + 1) before new
+pub raised_in_next : (fan : FanView) (procs first end x begin : ℕ) (asked before now new : List ℕ) → AreInTurn fan.targets first end → AreRaisedIn fan procs (stretch_of first end) x before now → PieceRaised begin asked now new
+    → begin ≡ x * procs + get_or fan.targets first 0 → first + length asked ≡ end → ((i : ℕ) → i < length asked → get_or asked i 0 ≡ entry_of fan (first + i) x) → AreRaisedIn fan procs (stretch_of first end) (x + 1) before new
 raised_in_next fan procs first end x begin asked before now new run so_far piece starts size is = record {
   size = piece.size ∙ so_far.size;
   keeps = λ place. omega (arith, so_far.keeps place, grows place);
@@ -94,7 +94,7 @@ raised_in_next fan procs first end x begin asked before now new run so_far piece
   asked = λ place. elim (in_or_out begin (length asked) place) [
     | inl out ↦ along place (piece.outside place out)
     | inr at ↦
-        let P : ℕ → Type 0 = λ p. (get_or new p 0 ≡ get_or before p 0) ⊎ IsAskedIn fan procs first end (x + 1) p (get_or new p 0) in
+        let P : ℕ → Type 0 = λ p. (get_or new p 0 ≡ get_or before p 0) ⊎ IsAskedIn fan procs (stretch_of first end) (x + 1) p (get_or new p 0) in
         subst P at.1 (raised_at (place - begin) at.0 (max_case (get_or now (begin + (place - begin)) 0) (get_or asked (place - begin) 0)))
   ];
 }
@@ -111,11 +111,11 @@ raised_in_next fan procs first end x begin asked before now new run so_far piece
         let P : ℕ → Type 0 = λ p. entry_of fan (first + i) x ≤ get_or new p 0 in
         subst P (sym (there i inside)) (omega (arith, is i inside, piece.inside i inside))
 
-    along : (place : ℕ) → get_or new place 0 ≡ get_or now place 0 → (get_or new place 0 ≡ get_or before place 0) ⊎ IsAskedIn fan procs first end (x + 1) place (get_or new place 0)
+    along : (place : ℕ) → get_or new place 0 ≡ get_or now place 0 → (get_or new place 0 ≡ get_or before place 0) ⊎ IsAskedIn fan procs (stretch_of first end) (x + 1) place (get_or new place 0)
     along place same = elim (so_far.asked place) [ inl was ↦ inl (same ∙ was) | inr by ↦ inr (asked_later fan procs first end x place _ _ same by) ]
 
     raised_at : (i : ℕ) → i < length asked → (max (get_or now (begin + i) 0) (get_or asked i 0) ≡ get_or now (begin + i) 0) ⊎ (max (get_or now (begin + i) 0) (get_or asked i 0) ≡ get_or asked i 0)
-        → (get_or new (begin + i) 0 ≡ get_or before (begin + i) 0) ⊎ IsAskedIn fan procs first end (x + 1) (begin + i) (get_or new (begin + i) 0)
+        → (get_or new (begin + i) 0 ≡ get_or before (begin + i) 0) ⊎ IsAskedIn fan procs (stretch_of first end) (x + 1) (begin + i) (get_or new (begin + i) 0)
     raised_at i inside (inl as_before) = along (begin + i) (piece.inside i inside ∙ as_before)
     raised_at i inside (inr by_this) = inr record {
       x = x;

@@ -6,7 +6,7 @@ ghost use Rattle.pull_fans.specs.Fans.{HasRow, HaveRows, IsToAll, pulls_of_fan, 
 ghost use Rattle.pull_fans.specs.inside.Fans.{entry_of, HasProcessRows, AreFanRows};
 ghost use Rattle.pull_fans.specs.inside.Fans.{IsToOthers};
 ghost use Rattle.pull_fans.specs.inside.Growing.{kept_tables};
-ghost use Rattle.pull_fans.specs.inside.Asks.{AreInTurn, AreRaisedIn, AreRaised};
+ghost use Rattle.pull_fans.specs.inside.Asks.{AreInTurn, AreRaisedIn, AreRaised, stretch_of};
 ghost use Rattle.pull_system.specs.Vector.{IsMaximum};
 
 use crate::layout::{Layout, layout_of};
@@ -224,7 +224,7 @@ impl Fan {
         requires targets { (i : ℕ) → i < length self.now.targets
             → slice_index self.now.targets i < procs }
         requires room { values * procs ≤ length rows.old }
-        ensures { AreRaisedIn self.now procs first end values rows.old rows.new }
+        ensures { AreRaisedIn self.now procs (stretch_of first end) values rows.old rows.new }
     {
         let targets = self.targets.as_slice();
         let target = targets[first] as usize;

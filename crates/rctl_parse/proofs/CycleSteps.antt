@@ -24,7 +24,7 @@ use Rattle.rctl_parse.specs.inside.Limits.{Opened, Entered}
 use Rattle.rctl_parse.specs.inside.Prefixes.{IsPrefix, prefix_tree}
 use Rattle.rctl_parse.specs.Reading.{Faults}
 use Rattle.rctl_parse.specs.inside.Reading.{found, symbol_in, here}
-use Rattle.rctl_parse.specs.inside.Parts.{NoUnary, IsWordOf, UnaryFault, UnaryRead, PathRead, FormulaFails, FormulaRead, EnclosedRead, Unclosed, EnclosedFault}
+use Rattle.rctl_parse.specs.inside.Parts.{NoUnary, IsWordOf, UnaryFault, UnaryRead, PathRead, FormulaFails, FormulaRead, EnclosedRead, Unclosed, EnclosedFault, place_by}
 use Rattle.rctl_parse.proofs.LeafSteps.{for_fault, found_shorter}
 use Rattle.rctl_parse.proofs.PartSteps.{negation_read, negation_bound, negation_fault, temporal_read, temporal_bound, temporal_fault, group_read, group_fault, group_unclosed, LeftRead, left_read, left_fault, left_unclosed, until_read, right_fault, right_unclosed, inside_end}
 
@@ -105,11 +105,11 @@ group_answer (Err stop) around inside at ts opens bad = for_fault stop (λ f h. 
 
 -- ---- untils
 
-pub left_side : (around inside : Around) (all : Bool) (name : Name) (at : ℕ) (ts middle rest : List Token) (nodes : ℕ) (t : Tree) → PathRead all name at ts middle around inside
+pub left_side : (around inside : Around) (all : Bool) (name : Name) (at : ℕ) (ts middle rest : List Token) (nodes : ℕ) (t : Tree) → PathRead all (place_by name at) ts middle around inside
     → EnclosedRead symbol.Until middle rest inside nodes t → LeftRead all name at ts rest around inside nodes t
 left_side around inside all name at ts middle rest nodes t p e = left_read around inside all name at ts middle e.behind rest nodes e.at t p e.read e.closing
 
-pub left_stops : (around inside : Around) (all : Bool) (name : Name) (at : ℕ) (ts middle : List Token) (f : FormulaFault) → PathRead all name at ts middle around inside
+pub left_stops : (around inside : Around) (all : Bool) (name : Name) (at : ℕ) (ts middle : List Token) (f : FormulaFault) → PathRead all (place_by name at) ts middle around inside
     → EnclosedFault symbol.Until middle inside f → UnaryFault (spelled (path_word all) name at ∷ ts) around f
 left_stops around inside all name at ts middle f p (inl bad) = left_fault around inside all name at ts middle f p bad
 left_stops around inside all name at ts middle f p (inr u) =

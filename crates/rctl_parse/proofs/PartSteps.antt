@@ -19,7 +19,7 @@ use Rattle.rctl_grammar.specs.Machine.{Before, nothing, Outer, in_group, in_left
 use Rattle.rctl_grammar.specs.FirstFault.{fault_of, placed, then_on, depth, nodes_open, level_opens, node_stands, either, is_operator, too_deep_at}
 use Rattle.rctl_parse.specs.declared.around.Around.{Around}
 use Rattle.rctl_parse.specs.inside.Reading.{found, beside, here, amp_in, bar_in, until_at}
-use Rattle.rctl_parse.specs.inside.Parts.{sign_of, UnaryFault, UnaryRead, PathRead, FormulaFails, FormulaRead}
+use Rattle.rctl_parse.specs.inside.Parts.{sign_of, UnaryFault, UnaryRead, PathRead, FormulaFails, FormulaRead, place_by}
 use Rattle.rctl_parse.specs.inside.Limits.{Opened, Entered}
 use Rattle.rctl_parse.proofs.LeafSteps.{beside_is, found_is, longer, close_round_is}
 use Rattle.rctl_parse.proofs.UnarySteps.{level_passes, level_stops, node_passes, settle, word_free, word_bound}
@@ -237,7 +237,7 @@ pub record LeftRead (all : Bool) (name : Name) (at : ℕ) (ts rest : List Token)
 pub inside_end : (around inside : Around) → Entered around inside → inside.end ≡ around.end
 inside_end around inside (deep, room, is) = ap (λ (a : Around). a.end) is
 
-pub left_read : (around inside : Around) (all : Bool) (name : Name) (at : ℕ) (ts middle behind rest : List Token) (nodes u_at : ℕ) (t : Tree) → PathRead all name at ts middle around inside
+pub left_read : (around inside : Around) (all : Bool) (name : Name) (at : ℕ) (ts middle behind rest : List Token) (nodes u_at : ℕ) (t : Tree) → PathRead all (place_by name at) ts middle around inside
     → FormulaRead middle behind inside nodes t → found until_at behind ≡ Some (u_at, rest) → LeftRead all name at ts rest around inside nodes t
 left_read around inside all name at ts middle behind rest nodes u_at t p given h =
     let inner : Around = record around { level = around.level + 1; nodes = around.nodes + 1 } in
@@ -261,7 +261,7 @@ left_read around inside all name at ts middle behind rest nodes u_at t p given h
           let b : length rest < length behind = longer (spelled word.U u.0 u_at) behind rest u.2 in omega (arith, read.shorter);
     }
 
-pub left_fault : (around inside : Around) (all : Bool) (name : Name) (at : ℕ) (ts middle : List Token) (f : FormulaFault) → PathRead all name at ts middle around inside
+pub left_fault : (around inside : Around) (all : Bool) (name : Name) (at : ℕ) (ts middle : List Token) (f : FormulaFault) → PathRead all (place_by name at) ts middle around inside
     → FormulaFails middle inside f → UnaryFault (spelled (path_word all) name at ∷ ts) around f
 left_fault around inside all name at ts middle f p given o d m =
     let inner : Around = record around { level = around.level + 1; nodes = around.nodes + 1 } in
@@ -269,7 +269,7 @@ left_fault around inside all name at ts middle f p given o d m =
     p.goes o d m ∙ bad (in_left o (path_of all name at p.opened)) (ap (λ x. x + 1) d) (ap (λ x. x + 1) m)
 
 pub left_unclosed : (around inside : Around) (all : Bool) (name : Name) (at : ℕ) (ts middle behind : List Token) (nodes : ℕ) (t : Tree) (f : FormulaFault)
-    → PathRead all name at ts middle around inside → FormulaRead middle behind inside nodes t → (found until_at behind ≡ None) × (f ≡ here behind around.end)
+    → PathRead all (place_by name at) ts middle around inside → FormulaRead middle behind inside nodes t → (found until_at behind ≡ None) × (f ≡ here behind around.end)
     → UnaryFault (spelled (path_word all) name at ∷ ts) around f
 left_unclosed around inside all name at ts middle behind nodes t f p given (missing, is) o d m =
     let inner : Around = record around { level = around.level + 1; nodes = around.nodes + 1 } in

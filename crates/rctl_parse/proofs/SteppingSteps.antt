@@ -16,7 +16,7 @@ use Rattle.rctl_grammar.specs.Machine.{Open, operand, a_stepping, in_stepping, n
 use Rattle.rctl_grammar.specs.FirstFault.{fault_of, depth, nodes_open, level_opens, node_stands, either}
 use Rattle.rctl_parse.specs.declared.around.Around.{Around}
 use Rattle.rctl_parse.specs.inside.Reading.{found, here, place_in}
-use Rattle.rctl_parse.specs.inside.Parts.{sign_of, UnaryFault, UnaryRead, SteppingRead}
+use Rattle.rctl_parse.specs.inside.Parts.{sign_of, UnaryFault, UnaryRead, SteppingRead, place_by}
 use Rattle.rctl_parse.specs.inside.Limits.{Entered}
 use Rattle.rctl_parse.proofs.LeafSteps.{found_is, word_is, longer, place_word}
 use Rattle.rctl_parse.proofs.UnarySteps.{level_passes, node_passes, settle, word_free, word_bound}
@@ -30,7 +30,7 @@ goes_on o name at ts ending other deep room =
     word_free o (record { word = word.Ex; name = name; at = at }) ts ending other (rw (level_passes (depth o) at deep, node_passes (nodes_open o) at room) refl)
 
 pub stepping_found : (around inside : Around) (name : Name) (at : ℕ) (ts rest : List Token) (process : Place) → sign_of ts ≡ no_sign → Entered around inside → found place_in ts ≡ Some (process, rest)
-    → SteppingRead name at ts rest around inside process
+    → SteppingRead (place_by name at) ts rest around inside process
 stepping_found around inside name at ts rest process other enters h =
     let p = place_word ts rest process h in
     let is : ts ≡ named p.0 ∷ rest = found_is word_in named word_is ts rest p.0 p.1 in
@@ -61,7 +61,7 @@ pub stepping_bound : (around : Around) (name : Name) (at : ℕ) (ts : List Token
 stepping_bound around name at ts f other bound o d m = word_bound o (record { word = word.Ex; name = name; at = at }) ts around.end f other (rw (d, m) bound)
 
 -- with the operand behind the process
-next_read : (around inside : Around) (name : Name) (at : ℕ) (ts more rest : List Token) (nodes : ℕ) (process : Place) (t : Tree) → SteppingRead name at ts more around inside process
+next_read : (around inside : Around) (name : Name) (at : ℕ) (ts more rest : List Token) (nodes : ℕ) (process : Place) (t : Tree) → SteppingRead (place_by name at) ts more around inside process
     → UnaryRead more rest inside nodes t → UnaryRead (spelled word.Ex name at ∷ ts) rest around nodes (tree.Next process t at)
 next_read around inside name at ts more rest nodes process t s given =
     let (deep, room, is) = s.enters in
@@ -78,12 +78,12 @@ next_read around inside name at ts more rest nodes process t s given =
       shorter = let less : length more < length ts = longer (named s.p) ts more s.text in omega (arith, read.shorter);
     }
 
-pub next_whole : (around inside : Around) (name : Name) (at : ℕ) (ts more rest : List Token) (nodes : ℕ) (process : Place) (t boxed : Tree) → SteppingRead name at ts more around inside process
+pub next_whole : (around inside : Around) (name : Name) (at : ℕ) (ts more rest : List Token) (nodes : ℕ) (process : Place) (t boxed : Tree) → SteppingRead (place_by name at) ts more around inside process
     → UnaryRead more rest inside nodes t → boxed ≡ t → UnaryRead (spelled word.Ex name at ∷ ts) rest around nodes (tree.Next process boxed at)
 next_whole around inside name at ts more rest nodes process t boxed s read same =
     subst (λ (x : Tree). UnaryRead (spelled word.Ex name at ∷ ts) rest around nodes (tree.Next process x at)) (sym same) (next_read around inside name at ts more rest nodes process t s read)
 
-pub next_fault : (around inside : Around) (name : Name) (at : ℕ) (ts more : List Token) (process : Place) (f : FormulaFault) → SteppingRead name at ts more around inside process
+pub next_fault : (around inside : Around) (name : Name) (at : ℕ) (ts more : List Token) (process : Place) (f : FormulaFault) → SteppingRead (place_by name at) ts more around inside process
     → UnaryFault more inside f → UnaryFault (spelled word.Ex name at ∷ ts) around f
 next_fault around inside name at ts more process f s given o d m =
     let (deep, room, is) = s.enters in

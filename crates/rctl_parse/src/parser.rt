@@ -8,7 +8,7 @@ ghost use Rattle.rctl_grammar.specs.declared.token.Kind.TheVariants.{OpenRound};
 ghost use Rattle.rctl_grammar.specs.declared.token.Token.{Token as First};
 ghost use Rattle.rctl_grammar.specs.declared.token.Word.{Word as WordIs};
 ghost use Rattle.rctl_grammar.specs.declared.token.Word.TheVariants.{Ex};
-ghost use Rattle.rctl_parse.specs.inside.Parts.{sign_of, IsLeafRole, WordRead, WordFault};
+ghost use Rattle.rctl_parse.specs.inside.Parts.{sign_of, IsLeafRole, WordRead, WordFault, place_by};
 ghost use Rattle.rctl_parse.specs.inside.Parts.{UnaryFault, UnaryRead, PathRead, SteppingRead};
 ghost use Rattle.rctl_parse.specs.inside.Parts.{EnclosedRead, EnclosedFault, ConjunctionFault};
 ghost use Rattle.rctl_parse.specs.inside.Parts.{ConjunctionRead, FormulaFails, FormulaRead};
@@ -112,7 +112,7 @@ fn leaf<'a>(
 fn path(at: u32, rest: &[Token], around: Around) -> Result<(Around, &[Token]), Stop>
     ensures shorter { IfOk result (λ x. length x.1.now < length rest.now) }
     ensures path { (all : Bool) (name : Bytes) → sign_of rest.now ≡ no_sign
-        → MatchResult result (λ x. PathRead all name at rest.now x.1.now around x.0)
+        → MatchResult result (λ x. PathRead all (place_by name at) rest.now x.1.now around x.0)
         (λ stop. Faults stop (λ f. UnaryFault (spelled (path_word all) name at ∷ rest.now) around
         f)) }
 {
@@ -131,7 +131,7 @@ fn stepped(
 ) -> Result<(Around, Place, &[Token]), Stop>
     ensures shorter { IfOk result (λ x. length x.2.now < length rest.now) }
     ensures step { (name : Bytes) → sign_of rest.now ≡ no_sign
-        → MatchResult result (λ x. SteppingRead name at rest.now x.2.now around x.0 x.1)
+        → MatchResult result (λ x. SteppingRead (place_by name at) rest.now x.2.now around x.0 x.1)
         (λ stop. Faults stop (λ f. UnaryFault (spelled Ex name at ∷ rest.now) around f)) }
 {
     let inside = around.entered(at)?;

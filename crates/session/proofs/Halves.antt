@@ -14,7 +14,7 @@ use Rattle.observation.specs.Fed.{AreFedFrom}
 use Rattle.observation.specs.Taken.{TakesWhole}
 use Rattle.answering.specs.OneTrace.{IsOneTrace}
 use Rattle.answering.proofs.OneTrace.{same_rows}
-use Rattle.session.specs.Halves.{AreAlike, Goes}
+use Rattle.session.specs.Halves.{AreAlike, Goes, grown_of}
 
 abbrev growing_of : TraceView → List (Option ℕ) → List (List Bool) → List (List Part) → Bool → GrowingView
 growing_of trace on rows disjuncts spent = record { seen = record { trace = trace; watch_process = on; watch_rows = rows }; disjuncts = disjuncts; spent = spent }
@@ -75,7 +75,7 @@ module _ {B : Type 0} (says : B → List (List ℤ) → List Bool) (handed here 
   fault_same : first_fault start batch ≡ first_fault before batch
   fault_same = ap (λ (g : GrowingView). first_fault g batch) alike.same
 
-  pub goes_alike : AnswersTheSame says handed → IsTrace after.seen.trace.states → (session halves : Result Answer LogFault) → Goes says before after here here_after batch session → Goes says start end there there_after batch halves
+  pub goes_alike : AnswersTheSame says handed → IsTrace after.seen.trace.states → (session halves : Result Answer LogFault) → Goes says (grown_of before after) here here_after batch session → Goes says (grown_of start end) there there_after batch halves
       → (session ≡ halves) × AreAlike says handed here_after there_after after end
   goes_alike law trace (Ok a) (Ok b) one other =
       (ap (λ (x : Answer). Ok x) (answers_same one.0 other.0 law trace a b one.1 other.1), alike_then one.0 other.0)

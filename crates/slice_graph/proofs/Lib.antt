@@ -5,6 +5,7 @@ pub mod Building
 pub mod Lasts
 pub mod Tops
 pub mod Kept
+pub mod Pushing
 pub mod Pairs
 pub mod RowByRow
 pub mod OrderPulls

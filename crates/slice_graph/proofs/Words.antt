@@ -1,7 +1,7 @@
 -- The words of rows, and a table to which rows are pushed.
-use Rattle.std.proofs.Common.{◌≡◌, ℕ, suc, ◌+◌, ◌-◌, ◌*◌, ◌<◌, ◌≤◌, ◌↔◌, leb, List, [], ◌∷◌, ◌++◌, length, get_or, map, take, drop, Option, Some, None, refl, sym, ap, ◌∙◌, subst, arith, inl, inr, below_more}
+use Rattle.std.proofs.Common.{◌≡◌, ℕ, zero, suc, ◌+◌, ◌-◌, ◌*◌, ◌<◌, ◌≤◌, ◌↔◌, leb, List, [], ◌∷◌, ◌++◌, length, get_or, map, take, drop, Option, Some, None, refl, sym, ap, ◌∙◌, subst, arith, inl, inr, below_more}
 use Rattle.std.proofs.lemmas.Bool.{cases_lt, cond-true, cond-false, le-leb, lt-leb}
-use Rattle.std.proofs.lemmas.List.{length-map, get_or-map, get_or_past, get_or_append_left, get_or_push, map_push, length-append}
+use Rattle.std.proofs.lemmas.List.{length-map, get_or-map, get_or_past, get_or_append_left, get_or_push, map_push, length-append, length-drop, append_assoc, append-nil, take-append-drop}
 use Rattle.pota_base.specs.Shape.{IsShape}
 use Rattle.run_model.specs.Cut.{Cut, count, IsWithin}
 use Rattle.run_model.specs.Slice.{HasWithin}
@@ -9,6 +9,7 @@ use Rattle.causal_order.specs.Blocks.{rows_of}
 use Rattle.causal_order.proofs.Rows.{length-rows_of, row_at, rows_push, row_within}
 use Rattle.slice_graph.specs.Views.{SliceView, IsCut, IsRow, AreCuts, no_row}
 use Rattle.slice_graph.specs.Words.{past_ends, filled, cut_in, cuts_in}
+use Rattle.slice_graph.specs.inside.Pushing.{some_row}
 use Rattle.slice_graph.specs.inside.Words.{IsFilled, AreFilled, AreAllWords}
 
 -- ---- words of a row
@@ -170,6 +171,34 @@ none_pushed lens absent n words new v is h more =
     let all : new ≡ words ++ past_ends lens = more ∙ ap (λ (w : List ℕ). words ++ w) h.past in (
       subst (AreFilled lens absent (n + 1)) (sym all) (still_filled lens absent n words (past_ends lens) h (past_filled lens h.shape.some) (length-past_ends lens)),
       ap (view_of lens (n + 1)) all ∙ pushed lens n words (past_ends lens) None v is h.size (length-past_ends lens) (cut_in_past lens h.shape.some),
+    )
+
+length-zero : (xs : List ℕ) → length xs ≡ 0 → xs ≡ []
+length-zero [] none = refl
+length-zero (x ∷ xs) none = absurd (omega (arith, none))
+
+-- so many rows with cuts more
+pub cuts_pushed : (lens absent : List ℕ) (n count : ℕ) (words block new : List ℕ) (v : SliceView) → view_of lens n words ≡ v → AreFilled lens absent n words → length block ≡ count * length v.lens
+    → ((row : ℕ) → row < count → IsCut v.lens (get_or (rows_of (length v.lens) count block) row [])) → new ≡ words ++ block
+    → AreFilled lens absent (n + count) new × (view_of lens (n + count) new ≡ record v { rows = v.rows ++ map some_row (rows_of (length v.lens) count block) })
+unfolding rows_of
+cuts_pushed lens absent n zero words block new v is h size cuts more =
+    let same : new ≡ words = more ∙ ap (λ (b : List ℕ). words ++ b) (length-zero block (omega (arith, size))) ∙ append-nil words in
+    let still : n ≡ n + 0 = omega arith in (
+      subst (λ (k : ℕ). AreFilled lens absent k new) still (subst (AreFilled lens absent n) (sym same) h),
+      ap (λ (k : ℕ). view_of lens k new) (sym still) ∙ ap (view_of lens n) same ∙ is ∙ ap (λ (rs : List (Option Cut)). record v { rows = rs }) (sym (append-nil v.rows)),
+    )
+cuts_pushed lens absent n (suc count) words block new v is h size cuts more =
+    let w : ℕ = length v.lens in
+    let row : List ℕ = take w block in
+    let rest : List ℕ = drop w block in
+    let one = cut_pushed lens absent n words (words ++ row) v row is h (cuts 0 (omega arith)) refl in
+    let whole : new ≡ (words ++ row) ++ rest = more ∙ ap (λ (b : List ℕ). words ++ b) (sym (take-append-drop w block)) ∙ sym (append_assoc words row rest) in
+    let left : length rest ≡ count * w = omega (arith, length-drop w block, size) in
+    let all = cuts_pushed lens absent (n + 1) count (words ++ row) rest new (record v { rows = v.rows ++ Some row ∷ [] }) one.1 one.0 left (λ r lt. cuts (suc r) (omega (arith, lt))) whole in
+    let next : n + 1 + count ≡ n + suc count = omega arith in (
+      subst (λ (k : ℕ). AreFilled lens absent k new) next all.0,
+      ap (λ (k : ℕ). view_of lens k new) (sym next) ∙ all.1 ∙ ap (λ (rs : List (Option Cut)). record v { rows = rs }) (append_assoc v.rows (Some row ∷ []) (map some_row (rows_of w count rest))),
     )
 
 -- the cut of a row is within the lengths

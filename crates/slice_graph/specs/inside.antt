@@ -2,4 +2,5 @@
 pub mod Edges
 pub mod Growing
 pub mod PullLists
+pub mod Pushing
 pub mod Words

@@ -11,6 +11,8 @@ ghost use Rattle.pull_system.specs.Rows.{AreLeastRows, row_at};
 ghost use Rattle.slice_graph.specs.Views.{SliceView, IsRow, no_row, slice_of};
 ghost use Rattle.slice_graph.specs.Fitting.{FitsOrder, HasOrder, ClosedCuts, IsCutOfVector};
 
+use crate::cuts::set_words;
+use crate::kept_rows::{push_each, push_process};
 use crate::slice::Slice;
 use crate::table::CutTable;
 use causal_order::Order;
@@ -44,13 +46,17 @@ impl Slice {
         // By its clause the clocks are those of an order.
         let _shape = order.shape();
         let shape = rows.shape();
+        let procs = shape.procs();
         let mut table = CutTable::new(alloc, shape)?;
-        let mut room = [0; MOST_PROCESSES];
-        let room = &mut room[..shape.procs() as usize];
-        for row in 0..shape.events() + 1 {
-            push_kept(&mut table, rows, row, room)?;
+        let mut top = [0; MOST_PROCESSES];
+        let top = &mut top[..procs as usize];
+        push_each(&mut table, rows, 0, 1, top)?;
+        for process in 0..procs {
+            push_process(&mut table, rows, process, top)?;
         }
-        Slice::of(alloc, table)
+        let mut greatest = Cut::new(alloc, procs)?;
+        set_words(top, &mut greatest);
+        Ok(Slice::with_top(table, greatest))
     }
 
     /// The slice with this bottom and the cuts of the events in row order. It is for callers that
@@ -86,44 +92,4 @@ fn push_row(table: &mut CutTable, row: &Option<Cut>) -> Result<(), NoMemory>
         Some(cut) => table.push_cut(cut.as_slice()),
         None => table.push_none(),
     }
-}
-
-/// Puts behind the other rows the cut that a row's vector is, and none where a component is above
-/// its length.
-fn push_kept(table: &mut CutTable, rows: &Rows, row: u32, cut: &mut [u32]) -> Result<(), NoMemory>
-    requires row { row ≤ sum rows.now.lens }
-    requires lens { table.old.lens ≡ rows.now.lens }
-    requires width { length cut.old ≡ length rows.now.lens }
-    ensures width { length cut.new ≡ length cut.old }
-    ensures pushed { OnOk result ((kept : Option CutOfRun)
-        × IsCutOfVector rows.now.lens (row_at rows.now.lens rows.now.words row) kept
-        × (table.new ≡ record table.old { rows = table.old.rows ++ kept ∷ [] })) }
-{
-    let shape = rows.shape();
-    if keep(rows.row(row), shape.lens(), cut) {
-        table.push_cut(cut)
-    } else {
-        table.push_none()
-    }
-}
-
-/// Whether each component of the vector is at most its length. Then `cut` is the vector.
-fn keep(vector: &[u16], lens: &[u32], cut: &mut [u32]) -> bool
-    requires shape { IsShape lens.now }
-    requires vector { length vector.now ≡ length lens.now }
-    requires width { length cut.old ≡ length lens.now }
-    ensures within { IsTrue result ↔ IsWithin vector.now lens.now }
-    ensures cut { OnTrue result (cut.new ≡ vector.now) }
-    ensures width { length cut.new ≡ length cut.old }
-{
-    let mut past = false;
-    // To its end in each case, so that the loop has no exit within.
-    for process in 0..lens.len() {
-        let count = vector[process] as u32;
-        cut[process] = count;
-        if lens[process] < count {
-            past = true;
-        }
-    }
-    !past
 }

@@ -17,6 +17,7 @@ mod cuts;
 mod edges;
 mod from_rows;
 mod growing;
+mod kept_rows;
 mod laws;
 mod narrow_rows;
 mod order_pulls_of;

@@ -1,10 +1,13 @@
 //! The rows of a slice in one block of words.
-ghost use Rattle.std.specs.Prelude.{◌≡◌, ◌+◌, ◌<◌, [], ◌∷◌, ◌++◌, Some, None, length, get_or, IfOk};
+ghost use Rattle.std.specs.Prelude.{◌≡◌, ℕ, ◌+◌, ◌*◌, ◌<◌, [], ◌∷◌, ◌++◌, Some, None, length, get_or};
+ghost use Rattle.std.specs.Prelude.{map, replicate, IfOk};
 ghost use Rattle.std.specs.Prelude.{OnOk, OnErr};
 ghost use Rattle.std.specs.Option.{option_copied};
 ghost use Rattle.pota_base.specs.Shape.{IsShape};
+ghost use Rattle.causal_order.specs.Blocks.{rows_of};
 ghost use Rattle.slice_graph.specs.Words.{past_ends, filled};
 ghost use Rattle.slice_graph.specs.Views.{no_row};
+ghost use Rattle.slice_graph.specs.inside.Pushing.{some_row};
 
 use pota_base::{NoMemory, Shape};
 use std::alloc::Global;
@@ -147,6 +150,52 @@ impl CutTable {
         self.words.extend_from_slice(self.absent.as_slice())?;
         self.len += 1;
         Ok(())
+    }
+
+    /// Puts rows with cuts behind the others. Without memory for them the table is as before.
+    pub(crate) fn push_cuts(&mut self, words: &[u16], count: usize) -> Result<(), NoMemory>
+        requires size { length words.now ≡ count * length self.old.lens }
+        requires cuts { (row : ℕ) → row < count
+            → IsCut self.old.lens (get_or (rows_of (length self.old.lens) count words.now) row []) }
+        ensures { OnOk result (self.new ≡ record self.old {
+          rows = self.old.rows ++ map some_row (rows_of (length self.old.lens) count words.now);
+        }) }
+    {
+        push_wide(&mut self.words, words)?;
+        self.len += count;
+        Ok(())
+    }
+
+    /// Puts so many rows without a cut behind the others.
+    pub(crate) fn push_nones(&mut self, count: u32) -> Result<(), NoMemory>
+        ensures { OnOk result (self.new
+            ≡ record self.old { rows = self.old.rows ++ replicate count no_row }) }
+    {
+        for _row in 0..count {
+            self.push_none()?;
+        }
+        Ok(())
+    }
+}
+
+/// Appends the numbers, in 32 bits. Without memory for all of them none is appended.
+fn push_wide(words: &mut Vec<u32>, from: &[u16]) -> Result<(), NoMemory>
+    ensures ok { OnOk result (words.new.items ≡ words.old.items ++ from.now) }
+    ensures err { OnErr result (words.new.items ≡ words.old.items) }
+{
+    let begin = words.len();
+    words.resize(begin + from.len(), 0)?;
+    widen(from, &mut words[begin..]);
+    Ok(())
+}
+
+/// Makes `into` the same numbers, in 32 bits.
+fn widen(from: &[u16], into: &mut [u32])
+    requires { length from.now ≡ length into.old }
+    ensures { into.new ≡ from.now }
+{
+    for i in 0..from.len() {
+        into[i] = from[i] as u32;
     }
 }
 

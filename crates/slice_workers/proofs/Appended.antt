@@ -18,11 +18,12 @@ use Rattle.bound_table.specs.Kept.{Follows, rows_from}
 use Rattle.bound_table.specs.Views.{SeatView, KeepsClaims}
 use Rattle.bound_table.proofs.Floors.{within_trans}
 use Rattle.bound_table.proofs.Reading.{length-slice_range, get_or-slice_range}
+use Rattle.slice_workers.specs.Spent.{spent_of}
 use Rattle.slice_workers.specs.Calls.{IsPaid, HasRisen, TakesLooks, TakesOthers, TakesBehind, process_looks}
 use Rattle.slice_workers.specs.Reaching.{rows_left}
 use Rattle.bound_table.specs.Firm.{FirmView, Reaches, ReachesFirst}
 use Rattle.slice_workers.specs.inside.Reaching.{IsReached}
-use Rattle.slice_workers.specs.inside.Keeping.{AreKept, KeepsUpTo, TakesBottom, TakesRows}
+use Rattle.slice_workers.specs.inside.Keeping.{AreKept, KeepsUpTo, TakesBottom, TakesRows, last_row_of}
 use Rattle.slice_workers.specs.inside.Settling.{HasOnlyRisen}
 use Rattle.slice_workers.proofs.Reached.{reached_more, floor_reached, before_is, within_refl, final_seen, reached_least}
 use Rattle.bound_table.proofs.Own.{reaches_more}
@@ -160,7 +161,7 @@ kept_floor system floor words some bounds kept =
 
 -- one row more of a process
 pub up_to_next : (system : SystemView) (process done row : ℕ) (floor v words now : List ℕ) → row ≡ sum (take process system.lens) + (done + 1) → row ≤ sum system.lens → AreKept system floor (sum (take process system.lens) + (done + 1)) words
-    → IsReached system row floor v → now ≡ words ++ v → KeepsUpTo system process (done + 1) floor row v now
+    → IsReached system row floor v → now ≡ words ++ v → KeepsUpTo system process (done + 1) floor (last_row_of row v) now
 up_to_next system process done row floor v words now is there kept reached same =
     let count : ℕ = sum (take process system.lens) + (done + 1) in
     let P : ℕ → Type 0 = λ r. IsReached system r floor v in
@@ -171,7 +172,7 @@ up_to_next system process done row floor v words now is there kept reached same 
       kept = subst Q (let e : count + 1 ≡ sum (take process system.lens) + (done + 1 + 1) = omega arith in e) (kept_push system floor count words v now kept (subst P is reached) same);
     }
 
-pub up_to_more : (system : SystemView) (process done : ℕ) (floor now : List ℕ) (before : ℕ) (v words : List ℕ) → IsAtMost floor now → KeepsUpTo system process done floor before v words → KeepsUpTo system process done now before v words
+pub up_to_more : (system : SystemView) (process done : ℕ) (floor now : List ℕ) (before : ℕ) (v words : List ℕ) → IsAtMost floor now → KeepsUpTo system process done floor (last_row_of before v) words → KeepsUpTo system process done now (last_row_of before v) words
 up_to_more system process done floor now before v words within up = record {
   row = up.row;
   there = up.there;
@@ -236,7 +237,7 @@ pub record CountsUpTo (system : SystemView) (is_final : Bool) (finals bottom : L
   pub paid : IsPaid system (bottom_rows is_final + sum (take process (rows_left system.lens finals))) old seat steps steps_now
 
 pub counts_next : (system : SystemView) (is_final : Bool) (finals bottom : List ℕ) (old a b c : SeatView) (process steps mid steps_now : ℕ) → process < length system.lens → CountsUpTo system is_final finals bottom old a process steps mid → b.table ≡ a.table → b.floor ≡ a.floor
-    → HasOnlyRisen system b c → TakesRows system bottom (get_or system.lens process 0 - get_or finals process 0) b c mid steps_now → CountsUpTo system is_final finals bottom old c (process + 1) steps steps_now
+    → HasOnlyRisen system b c → TakesRows system bottom (get_or system.lens process 0 - get_or finals process 0) b c (spent_of mid steps_now) → CountsUpTo system is_final finals bottom old c (process + 1) steps steps_now
 counts_next system is_final finals bottom old a b c process steps mid steps_now there up table floor risen takes =
     let left : List ℕ = rows_left system.lens finals in
     let pulls : ℕ = length system.pulls in

@@ -6,11 +6,13 @@ ghost use Rattle.pull_system.specs.Rows.{IsLeast};
 ghost use Rattle.bound_table.specs.Kept.{Follows};
 ghost use Rattle.bound_table.specs.Views.{KeepsClaims};
 ghost use Rattle.bound_table.specs.Firm.{HasReachedFirm, Reaches, ReachesFirst};
+ghost use Rattle.slice_workers.specs.Spent.{spent_of};
 ghost use Rattle.slice_workers.specs.inside.Reaching.{CanSettle};
 ghost use Rattle.slice_workers.specs.Calls.{HasRisen, AreSettledRows, TakesBehind, IsPaid};
 ghost use Rattle.slice_workers.specs.Calls.{process_looks};
 ghost use Rattle.slice_workers.specs.inside.Settling.{HasOnlyRisen};
 ghost use Rattle.slice_workers.specs.inside.Keeping.{AreKept, KeepsUpTo, TakesBottom, TakesRows};
+ghost use Rattle.slice_workers.specs.inside.Keeping.{last_row_of};
 
 use crate::process::{go_behind, settle_next};
 use bound_table::{BoundTable, Firm, Seat};
@@ -129,7 +131,8 @@ fn keep_process<L: Ledger>(
         OnOk result (AreKept table.now.system seat.new.floor
         (sum (take process table.now.system.lens) + count) words.new.items) }
     ensures takes { let rows = slice_index table.now.system.lens process - first in
-        TakesRows table.now.system bottom.now rows seat.old seat.new steps.old steps.new }
+        TakesRows table.now.system bottom.now rows seat.old seat.new
+        (spent_of steps.old steps.new) }
 {
     seat.bounds();
     let before = keep_firsts(table, seat, process, first, bottom, into, words)?;
@@ -154,8 +157,8 @@ fn keep_firsts(
     requires kept { AreKept table.now.system seat.old.floor
         (sum (take process table.now.system.lens) + (0 + 1)) words.old.items }
     ensures risen { HasOnlyRisen table.now.system seat.old seat.new }
-    ensures kept { IfOk result (λ before. KeepsUpTo table.now.system process first
-        seat.new.floor before into.new words.new.items) }
+    ensures kept { IfOk result (λ before. KeepsUpTo table.now.system process first seat.new.floor
+        (last_row_of before into.new) words.new.items) }
 {
     push_firsts(table, seat, process, first, words)?;
     Ok(go_behind(table, seat, process, first, bottom, into))
@@ -205,7 +208,8 @@ fn keep_others<L: Ledger>(
     requires fits { seat.old.table ≡ table.now }
     requires process { process < length table.now.system.lens }
     requires first { first ≤ slice_index table.now.system.lens process }
-    requires kept { KeepsUpTo table.now.system process first seat.old.floor before into.old
+    requires kept { KeepsUpTo table.now.system process first seat.old.floor
+        (last_row_of before into.old)
         words.old.items }
     ensures risen { HasOnlyRisen table.now.system seat.old seat.new }
     ensures kept { let count = slice_index table.now.system.lens process + 1 in

@@ -20,9 +20,9 @@ told_so left lf lf' v bytes (tells.Refused n) h = h
 told_so left lf lf' v bytes tells.Failed h = h
 
 module _ (left left' : Option (List ℕ)) (lf lf' : ℕ) (v : VerifierView NodesView) (front : List ℕ) where
-  pub judged_as : (t : Told) (answer : Answer) → answer ≡ answer_of t → Tells Follows (change_of left left' lf lf') v front t → HasJudged left left' lf lf' v front answer
+  pub judged_as : (t : Told) (answer : Answer) → answer ≡ answer_of t → Tells Follows (change_of left left' lf lf') v front t → HasJudged (change_of left left' lf lf') v front answer
   judged_as t answer is h =
-      subst (HasJudged left left' lf lf' v front) (sym is) (record { read = h.read; consumed = h.consumed; later = h.later; is = told_so left' lf lf' v (front ++ h.read) t h.is })
+      subst (HasJudged (change_of left left' lf lf') v front) (sym is) (record { read = h.read; consumed = h.consumed; later = h.later; is = told_so left' lf lf' v (front ++ h.read) t h.is })
 
-  pub judged_short : ReadsShort (change_of left left' lf lf') → HasJudged left left' lf lf' v front (Faulty fault.Memory)
+  pub judged_short : ReadsShort (change_of left left' lf lf') → HasJudged (change_of left left' lf lf') v front (Faulty fault.Memory)
   judged_short h = record { read = h.read; consumed = h.consumed; later = h.later; is = tt }

@@ -1,6 +1,7 @@
 -- What a certificate on a log that was checked is.
 use Rattle.std.specs.Prelude.{◌⊎◌, ℕ, ◌≤◌, ◌++◌, List, [], Option}
 use Rattle.std.specs.Io.KnownBytes.{Consumes, IsAtEnd}
+use Rattle.pota_base.specs.Changes.{Change}
 use Rattle.pota_base.specs.Outside.{Rose}
 use Rattle.rctl_parts.specs.Pieces.{disjuncts_of}
 use Rattle.part_pulls.specs.Observing.{clocks_seen}
@@ -35,12 +36,13 @@ IsJudged left lf lf' start bytes (Faulty fault.Memory) = Unit {0}
 IsJudged left lf lf' start bytes (Faulty f) = ⊥
 
 -- some bytes were read behind these, and this is told of all of them
-pub record HasJudged (left left' : Option (List ℕ)) (lf lf' : ℕ) (start : VerifierView NodesView)
-    (front : List ℕ) (answer : Answer) : Type 0 where
+pub record HasJudged (source : Change) (start : VerifierView NodesView) (front : List ℕ)
+    (answer : Answer) : Type 0 where
   pub read : List ℕ
-  pub consumed : Consumes left left' read
-  pub later : lf ≤ lf'
-  pub is : IsJudged left' lf lf' start (front ++ read) answer
+  pub consumed : Consumes source.before source.after read
+  pub later : source.faults_before ≤ source.faults_after
+  pub is : IsJudged source.after source.faults_before source.faults_after start (front ++ read)
+      answer
 
 -- the certificate is accepted or refused
 abbrev pub IsDecided : Answer → Type 0

@@ -1,4 +1,5 @@
 //! A certificate behind a log.
+ghost use Rattle.pota_base.specs.Changes.{of_source};
 ghost use Rattle.pota_base.specs.Blanks.{IsBlankOf};
 ghost use Rattle.std.specs.Prelude.{◌≡◌, ◌≢◌, ◌≤◌, ◌<◌, IfOk};
 ghost use Rattle.rctl_parts.specs.Pieces.{disjuncts_of};
@@ -96,8 +97,8 @@ fn judge_all<L: Ledger, S: Source>(
     steps: &mut Steps<L>,
 ) -> Answer
     requires { IsFresh verifier }
-    ensures judged { HasJudged (S.left source.old) (S.left source.new) (S.faults source.old)
-        (S.faults source.new) verifier front.now result }
+    ensures judged { HasJudged (of_source S.Source source.old source.new) verifier front.now
+        result }
     ensures calm { result ≢ Answer.Faulty Fault.Read → S.faults source.new ≡ S.faults source.old }
 {
     match read_certificate(alloc, verifier, front, source, steps) {
@@ -118,8 +119,8 @@ pub fn judge_certificate<L: Ledger, S: Source>(
     requires ready { IsReady checked.seen }
     requires made { AreMadeFor (scope_seen checked.seen) (disjuncts_of checked.disjuncts) }
     requires rise { CountersRise checked.seen (disjuncts_of checked.disjuncts) }
-    ensures judged { HasJudged (S.left source.old) (S.left source.new) (S.faults source.old)
-        (S.faults source.new) (start_at checked) front.now result }
+    ensures judged { HasJudged (of_source S.Source source.old source.new) (start_at checked)
+        front.now result }
     ensures nodes { IsDecided result → AreNodes (start_at checked).nodes }
     ensures calm { result ≢ Answer.Faulty Fault.Read → S.faults source.new ≡ S.faults source.old }
 {

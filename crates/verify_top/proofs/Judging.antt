@@ -221,11 +221,11 @@ module _ {X : Type 0} {P : X → Type 0} (says : Says X P) (words : List (List �
   pub behind_judged : (check : LogCheck X P) (rest : List ℕ) (is : at ≡ front.Whole check rest) (checked : CheckedLog)
       → ((j : Judgement) (log : Prefix) → IsCheckOf says (aim_for tree) check j → HasClosed j log → IsCheckedLog (aim_for tree) log checked)
       → TellTruth → IsTrace checked.seen.trace.states → AreMadeFor (scope_seen checked.seen) (disjuncts_of checked.disjuncts) → CountersRise checked.seen (disjuncts_of checked.disjuncts)
-      → (piece : List ℕ) → piece ≡ rest → (answer : Answer) → HasJudged mid left' lf_now lf' (start_at checked) piece answer → (IsDecided answer → AreNodes (start_at checked).nodes)
+      → (piece : List ℕ) → piece ≡ rest → (answer : Answer) → HasJudged (change_of mid left' lf_now lf') (start_at checked) piece answer → (IsDecided answer → AreNodes (start_at checked).nodes)
       → Answers (change_of left left' lf lf') words answer
   behind_judged check rest is checked observed law trace made rise piece same answer judged nodes =
       let w = whole_there says (aim_for tree) left mid lf lf_now at check rest is h in
-      let j = subst (λ (xs : List ℕ). HasJudged mid left' lf_now lf' (start_at checked) xs answer) same judged in
+      let j = subst (λ (xs : List ℕ). HasJudged (change_of mid left' lf_now lf') (start_at checked) xs answer) same judged in
       all_judged says words tree asks check rest h.read checked w (observed w.judgement w.log w.check_is w.closed) j.read law trace made rise left mid left' lf lf_now lf' h.consumed h.later answer nodes j.consumed j.later j.is
 
   pub front_refused : (why : Refusal) (fault : Fault) → at ≡ front.Refused why → fault ≡ fault_of_refusal why → Answers (change_of left mid lf lf_now) words (Faulty fault)

@@ -10,11 +10,13 @@ use Rattle.event_log.specs.declared.item.LogFault.{LogFault}
 use Rattle.event_log.specs.declared.log.Log.{Log}
 use Rattle.fault_kinds.specs.declared.refusal.Refusal.{Refusal}
 use Rattle.fault_kinds.specs.declared.refusal.Refusal.TheVariants as refusal
+use Rattle.log_rules.specs.Passage.{passage_of}
 use Rattle.log_rules.specs.Judgement.{Prefix, Judgement, waiting, growing, finished, refused, judged}
 use Rattle.log_rules.specs.Readings.{items_at_end}
 use Rattle.log_rules.specs.Due.{Due, whole_of, placed, fault_in, fault_alone, told}
 use Rattle.log_rules.proofs.WholeReadings.{before_the_end, with_a_fault, one_report}
 use Rattle.log_rules.specs.Reported.{listed, reported}
+use Rattle.log_answers.specs.Asking.{asking_of}
 use Rattle.log_answers.specs.PassedOn.{Aim, rules_of}
 use Rattle.log_answers.specs.declared.stop.StopCause.{StopCause}
 use Rattle.log_answers.specs.declared.stop.StopCause.TheVariants as causes
@@ -50,7 +52,7 @@ module _ (form : Input) (aim : Aim) where
   module _ (each : Bool) where
     -- such a due, and no text
     quiet : (ended : Bool) (bytes text : List ℕ) (o : Option Refusal) → due_by (reading_by form) aim ended bytes ≡ fault_alone o → text ≡ []
-        → TellsDueBy (reading_by form) aim each ended bytes text o 0
+        → TellsDueBy (reading_by form) (asking_of aim each) ended (passage_of bytes text) o 0
     quiet ended bytes text o is none = record {
       fault = ap (λ (d : Due). d.fault) is;
       count = sym (ap (λ (d : Due). d.batches) is);
@@ -115,7 +117,7 @@ module _ (form : Input) (aim : Aim) (each : Bool) (bytes : List ℕ) (log : Log)
     truth = w.truth;
   }
 
-  refused_so : (text : List ℕ) (why : Refusal) (n : ℕ) → IsWholeRefused aim log text why n → TellsDueBy (reading_by form) aim each true bytes text (Some (placed (place_by places) why)) n
+  refused_so : (text : List ℕ) (why : Refusal) (n : ℕ) → IsWholeRefused aim log text why n → TellsDueBy (reading_by form) (asking_of aim each) true (passage_of bytes text) (Some (placed (place_by places) why)) n
   refused_so text why n w = record {
     fault = ap (λ (d : Due). d.fault) whole_due ∙ ap (λ (k : Judgement). fault_in (form.place bytes) k None) w.is
         ∙ ap (λ (r : Refusal). Some r) (sym (placed_so places (form.place bytes) is.placed_so why));
@@ -126,7 +128,7 @@ module _ (form : Input) (aim : Aim) (each : Bool) (bytes : List ℕ) (log : Log)
 
   module _ (left : Option (List ℕ)) (lf lf' of of' : ℕ) (at : IsAtEnd left) where
     stops : (f : StopCause) (n : ℕ) (text : List ℕ) → WholeStops f n (counts_of of of') aim log text
-        → StopsBy (reading_by form) (placed_cause (place_by places) f) n (behind_of left lf lf' of of') aim each bytes text
+        → StopsBy (reading_by form) (placed_cause (place_by places) f) n (behind_of left lf lf' of of') (asking_of aim each) (passage_of bytes text)
     stops (causes.Refused why) n text w = (true, λ _. at, refused_so text why n w)
     stops causes.Write n text w =
         (true, λ _. at, subst (λ (logs : List Prefix). HasPartOf aim logs text n) (sym (all_reported w.0.whole w.0.is)) w.0.part, w.1)
@@ -134,7 +136,7 @@ module _ (form : Input) (aim : Aim) (each : Bool) (bytes : List ℕ) (log : Log)
     stops causes.Read n text w = absurd w
 
     pub whole_checks : (ended : Result Verdict Stop) (text : List ℕ) → WholeTo (counts_of of of') aim log text ended
-        → ChecksBy (reading_by form) (behind_of left lf lf' of of') aim each bytes text (placed_result (place_by places) ended)
+        → ChecksBy (reading_by form) (behind_of left lf lf' of of') (asking_of aim each) (passage_of bytes text) (placed_result (place_by places) ended)
     whole_checks (Ok v) text w = (at, verdict text v w)
     whole_checks (Err stop) text w = stops stop.cause stop.batches text w
 
@@ -145,7 +147,7 @@ module _ (form : Input) (aim : Aim) (each : Bool) (left left' held held' : Optio
   Checked result = HasCheckedBy (reading_by form) (change_of left left' lf lf') (change_of held held' of of') aim each result
 
   stopped : (cause : StopCause) (result : Result Verdict Stop) (read : List ℕ) → Consumes left left' read → lf ≤ lf' → HasStopped (change_of held held' of of') cause result
-      → StopsBy (reading_by form) cause 0 (behind_of left' lf lf' of of') aim each read [] → Checked result
+      → StopsBy (reading_by form) cause 0 (behind_of left' lf lf' of of') (asking_of aim each) (passage_of read []) → Checked result
   stopped cause result read consumed later s stops = subst Checked (sym s.told) (record {
     read = read;
     written = [];

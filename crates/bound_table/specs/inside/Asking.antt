@@ -11,6 +11,14 @@ use Rattle.raise_machine.specs.Machine.{is_allowed}
 use Rattle.bound_table.specs.Kept.{Follows}
 use Rattle.bound_table.specs.Views.{TableView, SeatView, KeepsClaims}
 
+-- the place of a word: its row and its process
+pub record Cell : Type 0 where
+  pub row : ℕ
+  pub process : ℕ
+
+abbrev pub cell_of : (row process : ℕ) → Cell
+cell_of row process = record { row = row; process = process }
+
 -- a seat of the table settles a row: the vector is the seat's floor for the row, and what changed
 -- from the old seat is that this row rose
 pub record IsSettling (table : TableView) (row : ℕ) (old new : SeatView) (v : List ℕ) : Type 0 where
@@ -50,9 +58,9 @@ pub record IsPullStep (system : SystemView) (floor : List ℕ) (row target asked
   pub asks : ask system k x ≡ asked
 
 -- the floor of one word rose to at least the number, and is what the word became
-pub record IsRaised (system : SystemView) (old new : List ℕ) (row process number became : ℕ) : Type
-    0 where
-  pub floor : new ≡ slice_set old (place_of system.lens row process) became
-  pub rises : word_at system.lens old row process ≤ became
+pub record IsRaised (system : SystemView) (old new : List ℕ) (cell : Cell) (number became : ℕ)
+    : Type 0 where
+  pub floor : new ≡ slice_set old (place_of system.lens cell.row cell.process) became
+  pub rises : word_at system.lens old cell.row cell.process ≤ became
   pub reaches : number ≤ became
   pub bounds : AreBounds system new

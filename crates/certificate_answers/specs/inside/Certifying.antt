@@ -16,6 +16,7 @@ use Rattle.rctl_parts.specs.Spelled.{disjunction_of}
 use Rattle.part_pulls.specs.declared.observed.Observed.{Observed}
 use Rattle.part_pulls.specs.Observing.{Reading, AreAnswers, clocks_seen, run_seen}
 use Rattle.part_pulls.specs.Observing.{names_seen}
+use Rattle.log_rules.specs.Passage.{Passage, passage_of}
 use Rattle.log_rules.specs.SoFar.{counted}
 use Rattle.stated_formula.specs.declared.formula.Stated.{Stated}
 use Rattle.log_rules.specs.Judgement.{Prefix}
@@ -24,6 +25,7 @@ use Rattle.batch_answers.specs.PassedOn.{Aim, aim_of}
 use Rattle.batch_answers.specs.PassedOn.{observed_alone}
 use Rattle.batch_answers.specs.PassedOn.{CheckedLog}
 use Rattle.certify.specs.Certifying.{HasFront, IsCertifying}
+use Rattle.log_answers.specs.Asking.{asking_of}
 use Rattle.log_answers.specs.declared.stop.StopCause.{StopCause}
 use Rattle.log_answers.specs.declared.stop.StopCause.TheVariants as causes
 use Rattle.log_answers.specs.declared.stop.Stop.{Stop}
@@ -31,6 +33,14 @@ use Rattle.log_answers.specs.declared.stop.Verdict.{Verdict}
 use Rattle.log_answers.specs.Inputs.{due_by, TellsDueBy}
 use Rattle.call_promise.specs.Certificates.{IsTrueAtStart, no_watches, disjuncts_on}
 use Rattle.call_promise.specs.Certificates.{IsCertificateText, IsCertificateFront}
+
+-- a formula, and the log that it is certified on
+pub record Certified : Type 0 where
+  pub tree : Tree
+  pub log : Prefix
+
+abbrev pub certified_of : (tree : Tree) → (log : Prefix) → Certified
+certified_of tree log = record { tree = tree; log = log }
 
 -- what is asked of a log for the certificate of a formula
 abbrev pub aim_for : Stated → Aim
@@ -73,12 +83,14 @@ PutsCertificate sink seen ds line batches result =
     seen ds line)
 
 -- a front of the certificate was written, behind so many batches
-abbrev pub CertifyStops : StopCause → ℕ → Counts → Tree → ℕ → Prefix → List ℕ → Type 0
-CertifyStops causes.Write n faults t batches log text =
-    IsCertificateFront t log text × (n ≡ batches) × Rose faults.before faults.after
-CertifyStops causes.Memory n faults t batches log text = IsCertificateFront t log text × (n ≡ 0)
-CertifyStops (causes.Refused r) n faults t batches log text = ⊥
-CertifyStops causes.Read n faults t batches log text = ⊥
+abbrev pub CertifyStops : StopCause → ℕ → Counts → Certified → ℕ → List ℕ → Type 0
+CertifyStops causes.Write n faults certified batches text =
+    IsCertificateFront certified.tree certified.log text × (n ≡ batches) × Rose faults.before
+    faults.after
+CertifyStops causes.Memory n faults certified batches text =
+    IsCertificateFront certified.tree certified.log text × (n ≡ 0)
+CertifyStops (causes.Refused r) n faults certified batches text = ⊥
+CertifyStops causes.Read n faults certified batches text = ⊥
 
 -- the certificate was written, with its verdict, or not
 abbrev pub CertifiesTo : Counts → Tree → ℕ → Prefix → List ℕ → Result Verdict Stop → Type 0
@@ -86,7 +98,7 @@ CertifiesTo faults t batches log text (Ok v) =
     IsCertificateText t log text × ((v.truth ≡ true) ↔ IsTrueAtStart no_watches t log)
     × (v.batches ≡ batches)
 CertifiesTo faults t batches log text (Err stop) =
-    CertifyStops stop.cause stop.batches faults t batches log text
+    CertifyStops stop.cause stop.batches faults (certified_of t log) batches text
 
 -- the certificate of a log of so many batches was to be written
 pub record Certifies (sink : Change) (t : Tree) (batches : ℕ) (log : Prefix)
@@ -107,18 +119,18 @@ pub record HasFrontBy (left : Option (List ℕ)) (aim : Aim) (t : Tree) (bytes t
   pub front : IsCertificateFront t log text
 
 -- a stop behind these bytes, with this text written
-abbrev pub CertifyStopsBy : StopCause → ℕ → Behind → Aim → Tree → List ℕ → List ℕ → Type 0
-CertifyStopsBy (causes.Refused r) n behind aim t bytes text =
-    (ended : Bool) × (ended ≡ true → IsAtEnd behind.rest) × TellsDueBy log_reading aim false ended
-    bytes text (Some r) n
-CertifyStopsBy causes.Read n behind aim t bytes text =
-    TellsDueBy log_reading aim false false bytes text None n × Rose behind.source.before
+abbrev pub CertifyStopsBy : StopCause → ℕ → Behind → Aim → Tree → Passage → Type 0
+CertifyStopsBy (causes.Refused r) n behind aim t passage =
+    (ended : Bool) × (ended ≡ true → IsAtEnd behind.rest) × TellsDueBy log_reading
+    (asking_of aim false) ended passage (Some r) n
+CertifyStopsBy causes.Read n behind aim t passage =
+    TellsDueBy log_reading (asking_of aim false) false passage None n × Rose behind.source.before
     behind.source.after
-CertifyStopsBy causes.Write n behind aim t bytes text =
-    (h : HasFrontBy behind.rest aim t bytes text) × (n ≡ counted h.log.batches) × Rose
-    behind.sink.before behind.sink.after
-CertifyStopsBy causes.Memory n behind aim t bytes text =
-    ((text ≡ []) ⊎ HasFrontBy behind.rest aim t bytes text) × (n ≡ 0)
+CertifyStopsBy causes.Write n behind aim t passage =
+    (h : HasFrontBy behind.rest aim t passage.read passage.written) × (n ≡ counted h.log.batches)
+    × Rose behind.sink.before behind.sink.after
+CertifyStopsBy causes.Memory n behind aim t passage =
+    ((passage.written ≡ []) ⊎ HasFrontBy behind.rest aim t passage.read passage.written) × (n ≡ 0)
 
 -- the verdict on a log without a fault, whose certificate was written
 pub record IsCertifiedBy (aim : Aim) (t : Tree) (bytes text : List ℕ) (v : Verdict) : Type 0 where
@@ -132,7 +144,7 @@ pub record IsCertifiedBy (aim : Aim) (t : Tree) (bytes text : List ℕ) (v : Ver
 abbrev pub CertifiesBy : Behind → Aim → Tree → List ℕ → List ℕ → Result Verdict Stop → Type 0
 CertifiesBy behind aim t read text (Ok v) = IsAtEnd behind.rest × IsCertifiedBy aim t read text v
 CertifiesBy behind aim t read text (Err stop) =
-    CertifyStopsBy stop.cause stop.batches behind aim t read text
+    CertifyStopsBy stop.cause stop.batches behind aim t (passage_of read text)
 
 -- the input was read and certified
 pub record HasCertified (source sink : Change) (aim : Aim) (t : Tree) (result : Result Verdict Stop)

@@ -13,6 +13,7 @@ use Rattle.slice_graph.specs.Starting.{AreWithinClosed}
 use Rattle.raise_machine.specs.Bounds.{AreBounds}
 use Rattle.bound_table.specs.Firm.{AreOwnRows, FirmView}
 use Rattle.bound_table.specs.Views.{TableView, SeatView}
+use Rattle.slice_workers.specs.Spent.{Spent}
 use Rattle.slice_workers.specs.Calls.{TakesBehind}
 use Rattle.conjunctions.specs.Counting.{steps_for}
 use Rattle.conjunctions.specs.Settling.{MayBeFirm}
@@ -96,13 +97,13 @@ pub record OthersBegin (lens : List ℕ) (gathered : Option RowsView) (words fin
 -- Whether the bottom's row is final where a conjunction begins, with the look-ups that this took:
 -- only a conjunction of atoms that has no rows of before looks for it.
 pub record FindsBottom (system : SystemView) (keeps : Bool) (before : Option RowsView)
-    (bottom : Bool) (words : List ℕ) (steps steps_now : ℕ) : Type 0 where
-  pub none : bottom ≡ false → steps_now ≡ steps
+    (bottom : Bool) (words : List ℕ) (spent : Spent) : Type 0 where
+  pub none : bottom ≡ false → spent.after ≡ spent.before
   pub atoms : bottom ≡ true → keeps ≡ true
   pub anew : bottom ≡ true → before ≡ None
   pub least : bottom ≡ true → IsLeast system 0 (row_at system.lens words 0)
-  pub looks : bottom ≡ true → steps_now
-      ≤ steps + length system.pulls * (1 + sum (row_at system.lens words 0))
+  pub looks : bottom ≡ true → spent.after
+      ≤ spent.before + length system.pulls * (1 + sum (row_at system.lens words 0))
 
 -- which rows may be firm where a conjunction begins that is not one of atoms: those of a slice that
 -- asks alone, which are the system's own, or none
@@ -121,12 +122,12 @@ pub record AreFirmBy (system : SystemView) (keeps : Bool) (before : Option RowsV
 -- A table of the system and its first seat, from which a conjunction begins. What settling takes
 -- behind its firm rows, with what finding these took, is within what the conjunction may take.
 pub record BeginsTable (system : SystemView) (keeps : Bool) (before : Option RowsView)
-    (table : TableView) (seat : SeatView) (steps steps_now : ℕ) : Type 0 where
+    (table : TableView) (seat : SeatView) (spent : Spent) : Type 0 where
   pub is : IsSystem system
   pub system_is : table.system ≡ system
   pub seat_is : seat.table ≡ table
   pub firm : AreFirmBy system keeps before table.firm seat.floor
   pub looks : (rows : RowsView) (new : SeatView) (last : ℕ) → rows.words ≡ new.floor
       → IsAtMost seat.floor new.floor → AreBounds system new.floor
-      → TakesBehind system table.firm seat new steps_now last
-      → last ≤ steps + steps_for (length system.pulls) keeps system.lens before rows
+      → TakesBehind system table.firm seat new spent.after last
+      → last ≤ spent.before + steps_for (length system.pulls) keeps system.lens before rows

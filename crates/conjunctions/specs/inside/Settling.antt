@@ -21,8 +21,18 @@ use Rattle.conjunctions.specs.Numbering.{within}
 use Rattle.conjunctions.specs.Rounds.{RoundView, HasOrderSystem}
 use Rattle.conjunctions.specs.Counting.{first_of, steps_for}
 use Rattle.conjunctions.specs.inside.Beginning.{BeginsWithOrder, GatheredView, MayBeginFrom}
+use Rattle.slice_workers.specs.Spent.{Spent}
 use Rattle.slice_workers.specs.Views.{SettledView}
 use Rattle.conjunctions.specs.Settling.{CanSettle, CutsStay, MayBeFirm}
+
+-- the clocks of an order, the pulls of a conjunction, and whether its rows are kept
+pub record Conjoined : Type 0 where
+  pub order : Clocks
+  pub pulls : List Pull
+  pub keeps : Bool
+
+abbrev pub conjoined_of : (order : Clocks) → (pulls : List Pull) → (keeps : Bool) → Conjoined
+conjoined_of order pulls keeps = record { order = order; pulls = pulls; keeps = keeps }
 
 -- a part can be settled: it is made for what was observed and has few parts, none of its counters
 -- falls, and the conjunctions within it may be settled in the round
@@ -47,21 +57,23 @@ pub record KeepsRows (old new : RoundView) : Type 0 where
 -- stand behind the others, those of atoms were settled by steps, the slice has the consistent cuts
 -- that are closed under the pulls, and the system that the round has is that of the order, or of an
 -- earlier one
-pub record SettlesOne (o : Clocks) (pulls : List Pull) (keeps : Bool) (workers : ℕ)
-    (old new : RoundView) (steps_before steps_after : ℕ) (slice : SliceView) : Type 0 where
+pub record SettlesOne (conjoined : Conjoined) (workers : ℕ) (old new : RoundView) (spent : Spent)
+    (slice : SliceView) : Type 0 where
   pub before : new.before ≡ drop 1 old.before
   pub one : SettledView
   pub settled : new.settled ≡ old.settled ++ one ∷ []
-  pub lens : one.rows.lens ≡ lengths o
-  pub system : IsSystem (record { lens = lengths o; pulls = pulls })
-  pub least : AreLeastRows (record { lens = lengths o; pulls = pulls }) one.rows.words
-  pub by_steps : keeps ≡ true → MayBeFirm (first_of old.before) one.firm
-  pub looks : workers ≡ 1 → steps_after
-      ≤ steps_before + steps_for (length pulls) keeps (lengths o) (first_of old.before) one.rows
-  pub order : HasOrderSystem o new
-  pub fits : FitsOrder o slice
-  pub cuts : (c : Cut) → IsConsistent o c → Cuts o (slice_of slice) c
-      ↔ IsClosed (record { lens = lengths o; pulls = pulls }) c
+  pub lens : one.rows.lens ≡ lengths conjoined.order
+  pub system : IsSystem (record { lens = lengths conjoined.order; pulls = conjoined.pulls })
+  pub least : AreLeastRows (record { lens = lengths conjoined.order; pulls = conjoined.pulls })
+      one.rows.words
+  pub by_steps : conjoined.keeps ≡ true → MayBeFirm (first_of old.before) one.firm
+  pub looks : workers ≡ 1 → spent.after
+      ≤ spent.before + steps_for (length conjoined.pulls) conjoined.keeps (lengths conjoined.order)
+      (first_of old.before) one.rows
+  pub order : HasOrderSystem conjoined.order new
+  pub fits : FitsOrder conjoined.order slice
+  pub cuts : (c : Cut) → IsConsistent conjoined.order c → Cuts conjoined.order (slice_of slice) c
+      ↔ IsClosed (record { lens = lengths conjoined.order; pulls = conjoined.pulls }) c
 
 -- rows of before that are kept are of no more events than there are now
 pub record IsFloorOf (lens : List ℕ) (keeps : Bool) (before : Option RowsView) : Type 0 where

@@ -9,6 +9,14 @@ use Rattle.pull_fans.specs.Asks.{IsAskedBy}
 use Rattle.pull_fans.specs.declared.asks.AskRows.{AskRows}
 use Rattle.pull_fans.specs.declared.asks.AskRows.TheVariants.{Own, OfFan}
 
+-- targets of a fan, from the first index to the end
+pub record Stretch : Type 0 where
+  pub first : ℕ
+  pub end : ℕ
+
+abbrev pub stretch_of : (first end : ℕ) → Stretch
+stretch_of first end = record { first = first; end = end }
+
 -- the rows of asks of the first values of the process, one after the other
 pub record AreAskRows (system : SystemView) (process count : ℕ) (rows : List ℕ) : Type 0 where
   pub size : length rows ≡ count * length system.lens
@@ -64,25 +72,26 @@ pub record AreInTurn (targets : List ℕ) (first end : ℕ) : Type 0 where
 
 -- a pull of the fan to one of the targets from the first index to the end asks this number of the
 -- process at this place of the rows of the first values
-pub record IsAskedIn (fan : FanView) (procs first end values place number : ℕ) : Type 0 where
+pub record IsAskedIn (fan : FanView) (procs : ℕ) (stretch : Stretch) (values place number : ℕ)
+    : Type 0 where
   pub x : ℕ
   pub index : ℕ
   pub value : x < values
-  pub from : first ≤ index
-  pub below : index < end
+  pub from : stretch.first ≤ index
+  pub below : index < stretch.end
   pub at : x * procs + slice_index fan.targets index ≡ place
   pub asks : entry_of fan index x ≡ number
 
 -- At each place there is at least what was there before and what the pulls of the fan to the
 -- targets from the first index to the end ask there at the first values, and there is one of these.
-pub record AreRaisedIn (fan : FanView) (procs first end values : ℕ) (before now : List ℕ) : Type 0
-  where
-    pub size : length now ≡ length before
-    pub keeps : (place : ℕ) → slice_index before place ≤ slice_index now place
-    pub covers : (x index : ℕ) → x < values → first ≤ index → index < end
-        → entry_of fan index x ≤ slice_index now (x * procs + slice_index fan.targets index)
-    pub asked : (place : ℕ) → (slice_index now place ≡ slice_index before place)
-        ⊎ IsAskedIn fan procs first end values place (slice_index now place)
+pub record AreRaisedIn (fan : FanView) (procs : ℕ) (stretch : Stretch) (values : ℕ)
+    (before now : List ℕ) : Type 0 where
+  pub size : length now ≡ length before
+  pub keeps : (place : ℕ) → slice_index before place ≤ slice_index now place
+  pub covers : (x index : ℕ) → x < values → stretch.first ≤ index → index < stretch.end
+      → entry_of fan index x ≤ slice_index now (x * procs + slice_index fan.targets index)
+  pub asked : (place : ℕ) → (slice_index now place ≡ slice_index before place)
+      ⊎ IsAskedIn fan procs stretch values place (slice_index now place)
 
 -- a pull of the fan asks this number of the process at this place of the rows of the first values
 pub record IsAskedOf (fan : FanView) (procs values place number : ℕ) : Type 0 where

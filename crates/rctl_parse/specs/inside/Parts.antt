@@ -39,6 +39,10 @@ use Rattle.rctl_parse.specs.inside.Limits.{Entered}
 use Rattle.rctl_parse.specs.declared.symbol.Symbol.{Symbol}
 use Rattle.rctl_parse.specs.inside.Reading.{found, here, symbol_in, amp_in, bar_in}
 
+-- the place of a name
+abbrev pub place_by : (name : Name) → (at : ℕ) → Place
+place_by name at = record { name = name; at = at }
+
 -- ---- what stands first
 
 -- what the first token makes of a word before it
@@ -133,26 +137,27 @@ pub record UnaryRead (ts rest : List Token) (around : Around) (nodes : ℕ) (t :
   pub shorter : length rest < length ts
 
 -- behind the word of an until, and behind its `[`
-pub record PathRead (all : Bool) (name : Name) (at : ℕ) (ts rest : List Token)
-    (around inside : Around) : Type 0 where
+pub record PathRead (all : Bool) (place : Place) (ts rest : List Token) (around inside : Around)
+    : Type 0 where
   pub opened : ℕ
   pub enters : Entered around inside
   pub text : ts ≡ tok kind.OpenSquare opened ∷ rest
   pub goes : (o : Open) → depth o ≡ around.level → nodes_open o ≡ around.nodes
-      → fault_of (operand o) (spelled (path_word all) name at ∷ ts) around.end
+      → fault_of (operand o) (spelled (path_word all) place.name place.at ∷ ts) around.end
       ≡ fault_of (operand (first_of (in_left o
-      (record { all = all; name = name; at = at; opened = opened })) nothing)) rest around.end
+      (record { all = all; name = place.name; at = place.at; opened = opened })) nothing)) rest
+      around.end
 
 -- behind "EX", and behind its process
-pub record SteppingRead (name : Name) (at : ℕ) (ts rest : List Token) (around inside : Around)
+pub record SteppingRead (place : Place) (ts rest : List Token) (around inside : Around)
     (process : Place) : Type 0 where
   pub p : Spelled
   pub process_is : placed_name p ≡ process
   pub enters : Entered around inside
   pub text : ts ≡ named p ∷ rest
   pub goes : (o : Open) → depth o ≡ around.level → nodes_open o ≡ around.nodes
-      → fault_of (operand o) (spelled word.Ex name at ∷ ts) around.end
-      ≡ fault_of (operand (in_stepping o name at p)) rest around.end
+      → fault_of (operand o) (spelled word.Ex place.name place.at ∷ ts) around.end
+      ≡ fault_of (operand (in_stepping o place.name place.at p)) rest around.end
 
 -- ---- conjunctions
 

@@ -12,6 +12,7 @@ use Rattle.rctl_parts.proofs.Folds.{piece-Temporal}
 use Rattle.rctl_parts.proofs.Rules as rules_of
 use Rattle.std.proofs.lemmas.Result.{IfOk-weaker}
 use Rattle.pull_system.specs.declared.pull.Pull.{Pull}
+use Rattle.slice_workers.specs.Spent.{spent_of}
 use Rattle.rctl_parts.specs.MadeFor.{EachFits, parts_count}
 use Rattle.part_pulls.specs.declared.observed.Observed.{Observed}
 use Rattle.conjunctions.specs.Rounds.{RoundView, HasOrderSystem}
@@ -183,9 +184,9 @@ adds_all : (seen : Observed) (pulls : List Pull) (parts : List Part) (i : ℕ) �
     → AddsPulls seen (first_pulls (clocks_seen seen) (gives_order (pieces_of parts))) pulls (pieces_of parts)
 adds_all seen pulls parts i h adds = subst (AddsPulls seen (first_pulls (clocks_seen seen) (gives_order (pieces_of parts))) pulls) (taken_all parts i h) adds
 
-settles_all : (seen : Observed) (workers : ℕ) (old new : RoundView) (s t : ℕ) (parts : List Part) (i : ℕ) → length parts ≤ i → Settles seen workers old new s t (flat_map within (pieces_of (take i parts)))
-    → Settles seen workers old new s t (flat_map within (pieces_of parts))
-settles_all seen workers old new s t parts i h settles = subst (λ (ps : List Piece). Settles seen workers old new s t (flat_map within ps)) (taken_all parts i h) settles
+settles_all : (seen : Observed) (workers : ℕ) (old new : RoundView) (s t : ℕ) (parts : List Part) (i : ℕ) → length parts ≤ i → Settles seen workers old new (spent_of s t) (flat_map within (pieces_of (take i parts)))
+    → Settles seen workers old new (spent_of s t) (flat_map within (pieces_of parts))
+settles_all seen workers old new s t parts i h settles = subst (λ (ps : List Piece). Settles seen workers old new (spent_of s t) (flat_map within ps)) (taken_all parts i h) settles
 
 pub settle_conjunction-settle_gathered-requires-clause-fit : goal.settle_conjunction-settle_gathered-requires-clause-fit
 settle_conjunction-settle_gathered-requires-clause-fit g t c = λ κs lives.

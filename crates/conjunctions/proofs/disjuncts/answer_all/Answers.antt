@@ -9,6 +9,7 @@ use Rattle.conjunctions.specs.Rounds.{RoundView}
 use Rattle.conjunctions.specs.Settling.{AreFloors, Settles}
 use Rattle.rctl_parts.specs.Pieces.{Piece, pieces_of, disjuncts_of}
 use Rattle.std.proofs.lemmas.List.{length-map}
+use Rattle.slice_workers.specs.Spent.{spent_of}
 use Rattle.rctl_parts.specs.declared.part.Part.{Part}
 use Rattle.rctl_parts.specs.MadeFor.{AllFit, EachFits, parts_count, disjuncts_count}
 use Rattle.part_pulls.specs.Observing.{clocks_seen, lens_seen, scope_seen}
@@ -72,7 +73,7 @@ disjuncts-preserved g c =
     let there = c.disjuncts-test.true in
     let order = is_order seen c.order.ensures.trace in
     let number : c.disjuncts.index + 1 ≡ 1 + length ds = omega (arith, length-disjuncts all c.disjuncts.index (omega (arith, there))) in
-    let settles = subst (λ (parts : List Part). Settles seen c.args.means.now.workers c.disjuncts.round c.settle_conjunction.new.round c.disjuncts.steps c.settle_conjunction.new.steps (conjunctions_in (pieces_of parts)))
+    let settles = subst (λ (parts : List Part). Settles seen c.args.means.now.workers c.disjuncts.round c.settle_conjunction.new.round (spent_of c.disjuncts.steps c.settle_conjunction.new.steps) (conjunctions_in (pieces_of parts)))
     c.as_slice-disjunct.ensures c.in_ok-one.ensures.settles in
     let told = subst (λ (k : ℕ). AddsAnswers seen c.disjuncts.parts c.settle_conjunction.new.answers (places_from k 1 d)) number
     (subst (λ (parts : List Part). AddsAnswers seen c.disjuncts.parts c.settle_conjunction.new.answers (places_from (c.disjuncts.index + 1) 1 (pieces_of parts))) c.as_slice-disjunct.ensures c.in_ok-one.ensures.answers) in
@@ -107,5 +108,5 @@ returns-clause-answer g c =
 
 pub returns-clause-settles : goal.returns-clause-settles
 returns-clause-settles g c =
-    subst (λ (ds : List (List Piece)). Settles c.args.seen.now c.args.means.now.workers c.args.round.now c.disjuncts.round c.args.steps.now c.disjuncts.steps (all_conjunctions ds))
+    subst (λ (ds : List (List Piece)). Settles c.args.seen.now c.args.means.now.workers c.args.round.now c.disjuncts.round (spent_of c.args.steps.now c.disjuncts.steps) (all_conjunctions ds))
     (all_taken c.args.disjuncts.now c.disjuncts.index c.disjuncts-test.false) c.disjuncts.invariant.settles

@@ -1,11 +1,13 @@
 use Rattle.std.proofs.Common.{◌≡◌, ℕ, ◌+◌, ◌≤◌, Bool, true, All, List, ◌∷◌, [], ◌++◌, length, drop, Option, refl, sym, ◌∙◌, ap, subst, arith}
 use Rattle.std.specs.Prelude.{IfSome}
+use Rattle.std.specs.Option.{option_or}
 use Rattle.run_model.specs.Cut.{Clocks, lengths}
 use Rattle.pull_system.specs.declared.pull.Pull.{Pull}
 use Rattle.pull_system.specs.Vector.{IsAtMost}
 use Rattle.pull_system.specs.System.{SystemView, IsPull, IsSystem}
 use Rattle.pull_fans.specs.Fans.{pulls_of_fans}
 use Rattle.pull_system.specs.Rows.{RowsView, AreLeastRows}
+use Rattle.slice_workers.specs.Spent.{spent_of}
 use Rattle.slice_workers.specs.Views.{SettledView}
 use Rattle.raise_machine.specs.Bounds.{AreBounds}
 use Rattle.bound_table.specs.Views.{TableView, SeatView}
@@ -56,15 +58,15 @@ table_of-requires-clause-begins g c =
     let gathered : GatheredView = c.args.gathered in
     let made = c.in_ok-system.ensures.system ∙ system_by _ _ _ _ refl (gathered_is c.args.order.now c.args.gathered c.into_asked-asked.result.0 c.requires.shared.same c.into_asked-asked.ensures.pulls) in
     can_begin c.args.order.now gathered c.in_ok-system.system c.args.keeps (first_of c.args.round.now.before) c.next-before.result _ made
-    (c.next-before.ensures.next ∙ ap first_of c.in_ok-system.ensures.rows.before_is) c.into_asked-asked.ensures.floor c.requires.before c.requires.floor c.requires.first
+    (c.next-before.ensures.next ∙ ap first_of c.in_ok-system.ensures.rows.before_is) c.into_asked-asked.ensures.rows c.requires.before c.requires.floor c.requires.first
 
 pub table_of-requires-clause-own : goal.table_of-requires-clause-own
 table_of-requires-clause-own g c = λ is.
     let gathered : GatheredView = c.args.gathered in
     let system : SystemView = record { lens = lengths c.args.order.now; pulls = gathered.pulls } in
     let made : c.in_ok-system.system ≡ system = c.in_ok-system.ensures.system ∙ system_by _ _ _ _ refl (gathered_is c.args.order.now c.args.gathered c.into_asked-asked.result.0 c.requires.shared.same c.into_asked-asked.ensures.pulls) in
-    subst (λ (s : SystemView). IfSome c.into_asked-asked.result.1 (λ rows. AreOwnRows s rows.words)) (sym made)
-    (subst (λ (floor : Option RowsView). IfSome floor (λ rows. AreOwnRows system rows.words)) (sym c.into_asked-asked.ensures.floor) (c.requires.floor.own (sym c.is_alone-alone.ensures ∙ is)))
+    subst (λ (s : SystemView). IfSome (option_or c.into_asked-asked.result.1.own c.into_asked-asked.result.1.floor) (λ rows. AreOwnRows s rows.words)) (sym made)
+    (subst (λ (floor : Option RowsView). IfSome floor (λ rows. AreOwnRows system rows.words)) (sym c.into_asked-asked.ensures.rows) (c.requires.floor.own (sym c.into_asked-asked.ensures.alone ∙ is)))
 
 pub settle_all-requires-clause-fits : goal.settle_all-requires-clause-fits
 settle_all-requires-clause-fits g c = λ κs lives. c.in_ok-table.ensures.seat_is
@@ -115,7 +117,7 @@ returns g c =
     }
   where
     took : (made : SystemView) (table : TableView) (system : SystemView) (keeps : Bool) (next before : Option RowsView) (seat new : SeatView) (rows : RowsView) (s mid t : ℕ) → made ≡ system → next ≡ before
-        → BeginsTable made keeps next table seat s mid → rows.words ≡ new.floor → IsAtMost seat.floor new.floor → AreBounds table.system new.floor → TakesBehind table.system table.firm seat new mid t
+        → BeginsTable made keeps next table seat (spent_of s mid) → rows.words ≡ new.floor → IsAtMost seat.floor new.floor → AreBounds table.system new.floor → TakesBehind table.system table.firm seat new mid t
         → t ≤ s + steps_for (length system.pulls) keeps system.lens before rows
     took made table system keeps next before seat new rows s mid t made_is next_is begins new_is rises bounds takes =
         let least = begins.looks rows new t new_is rises (subst (λ (x : SystemView). AreBounds x new.floor) begins.system_is bounds) (subst (λ (x : SystemView). TakesBehind x table.firm seat new mid t) begins.system_is takes) in

@@ -2,7 +2,7 @@ use Rattle.std.proofs.Common.{rules, arith, sym, ◌∙◌, ◌<◌, ℕ, length
 use Rattle.pull_system.specs.System.{SystemView}
 use Rattle.pull_system.specs.Vector.{IsAtMost}
 use Rattle.pull_system.specs.Rows.{place_of}
-use Rattle.bound_table.specs.inside.Asking.{IsRaised}
+use Rattle.bound_table.specs.inside.Asking.{IsRaised, cell_of}
 use Rattle.bound_table.proofs.Allowed.{lend_allowed}
 use Rattle.bound_table.proofs.Floors.{within_trans}
 use Rattle.bound_table.proofs.Moves.{few_words}
@@ -31,7 +31,7 @@ raise_by_lend-raised-requires-clause-found c =
     let system : SystemView = c.args.self.now.system in
     let process : ℕ = c.loop-process.process in
     let there : process < length system.lens = search rules in
-    let found : IsRaised system c.load-y.new.seat.floor c.load-found.new.seat.floor c.args.to_row process 0 c.load-found.result = read_raised system _ _ c.args.to_row process _ 0 _ (omega (arith, c.begin-to.ensures.place)) c.load-found.ensures.floor c.load-found.ensures.rises (omega arith) c.load-found.ensures.bounds in
+    let found : IsRaised system c.load-y.new.seat.floor c.load-found.new.seat.floor (cell_of c.args.to_row process) 0 c.load-found.result = read_raised system _ _ c.args.to_row process _ 0 _ (omega (arith, c.begin-to.ensures.place)) c.load-found.ensures.floor c.load-found.ensures.rises (omega arith) c.load-found.ensures.bounds in
     sym (raised_at system _ _ c.args.to_row process _ _ c.requires.rows.second there found)
 
 pub raise_by_lend-raised-requires-clause-step : goal.raise_by_lend-raised-requires-clause-step
@@ -40,8 +40,8 @@ raise_by_lend-raised-requires-clause-step c =
     let inv = c.loop-process.invariant in
     let process : ℕ = c.loop-process.process in
     let there : process < length system.lens = search rules in
-    let read : IsRaised system c.loop-process.seat.floor c.load-y.new.seat.floor c.args.from_row process 0 c.load-y.result = read_raised system _ _ c.args.from_row process _ 0 _ (omega (arith, c.begin-from.ensures.place)) c.load-y.ensures.floor c.load-y.ensures.rises (omega arith) c.load-y.ensures.bounds in
-    let found : IsRaised system c.load-y.new.seat.floor c.load-found.new.seat.floor c.args.to_row process 0 c.load-found.result = read_raised system _ _ c.args.to_row process _ 0 _ (omega (arith, c.begin-to.ensures.place)) c.load-found.ensures.floor c.load-found.ensures.rises (omega arith) c.load-found.ensures.bounds in
+    let read : IsRaised system c.loop-process.seat.floor c.load-y.new.seat.floor (cell_of c.args.from_row process) 0 c.load-y.result = read_raised system _ _ c.args.from_row process _ 0 _ (omega (arith, c.begin-from.ensures.place)) c.load-y.ensures.floor c.load-y.ensures.rises (omega arith) c.load-y.ensures.bounds in
+    let found : IsRaised system c.load-y.new.seat.floor c.load-found.new.seat.floor (cell_of c.args.to_row process) 0 c.load-found.result = read_raised system _ _ c.args.to_row process _ 0 _ (omega (arith, c.begin-to.ensures.place)) c.load-found.ensures.floor c.load-found.ensures.rises (omega arith) c.load-found.ensures.bounds in
     let within : IsAtMost c.load-y.new.seat.floor c.load-found.new.seat.floor = raised_within_floor system _ _ c.args.to_row process _ _ found in
     lend_allowed system c.load-found.new.seat.floor c.args.to_row c.args.from_row process c.load-y.result c.requires.rows.second c.requires.rows.first there
     (omega (arith, raised_at system _ _ c.args.from_row process _ _ c.requires.rows.first there read, within.each (place_of system.lens c.args.from_row process)))
@@ -53,8 +53,8 @@ loop-process-preserved c =
     let inv = c.loop-process.invariant in
     let process : ℕ = c.loop-process.process in
     let there : process < length system.lens = search rules in
-    let read : IsRaised system c.loop-process.seat.floor c.load-y.new.seat.floor c.args.from_row process 0 c.load-y.result = read_raised system _ _ c.args.from_row process _ 0 _ (omega (arith, c.begin-from.ensures.place)) c.load-y.ensures.floor c.load-y.ensures.rises (omega arith) c.load-y.ensures.bounds in
-    let found : IsRaised system c.load-y.new.seat.floor c.load-found.new.seat.floor c.args.to_row process 0 c.load-found.result = read_raised system _ _ c.args.to_row process _ 0 _ (omega (arith, c.begin-to.ensures.place)) c.load-found.ensures.floor c.load-found.ensures.rises (omega arith) c.load-found.ensures.bounds in
+    let read : IsRaised system c.loop-process.seat.floor c.load-y.new.seat.floor (cell_of c.args.from_row process) 0 c.load-y.result = read_raised system _ _ c.args.from_row process _ 0 _ (omega (arith, c.begin-from.ensures.place)) c.load-y.ensures.floor c.load-y.ensures.rises (omega arith) c.load-y.ensures.bounds in
+    let found : IsRaised system c.load-y.new.seat.floor c.load-found.new.seat.floor (cell_of c.args.to_row process) 0 c.load-found.result = read_raised system _ _ c.args.to_row process _ 0 _ (omega (arith, c.begin-to.ensures.place)) c.load-found.ensures.floor c.load-found.ensures.rises (omega arith) c.load-found.ensures.bounds in
     let lent = raised_twice system _ _ _ c.args.to_row process _ _ _ _ c.requires.rows.second there found c.raise_by_lend-raised.ensures.raised in
     let at : LendsAt system.lens c.loop-process.seat.floor c.load-y.new.seat.floor c.raise_by_lend-raised.new.seat.floor c.args.from_row c.args.to_row process c.load-y.result c.raise_by_lend-raised.result = record {
       from_there = c.requires.rows.first;

@@ -8,5 +8,6 @@ invariant-loop-pull l = record {
   order : l.self-inside.order ≡ l.initial.self-inside.order;
   first : l.self-inside.has_order ≡ l.initial.self-inside.has_order;
   floor : l.self-inside.floor ≡ l.initial.self-inside.floor;
+  own : l.self-inside.own ≡ l.initial.self-inside.own;
   alone : l.self-inside.alone ≡ false;
 }

@@ -1,7 +1,7 @@
 use Rattle.std.proofs.Common.{ℕ, ◌≡◌, ◌<◌, ◌≤◌, false}
 use Rattle.run_model.specs.Cut.{count, IsWithin}
 use Rattle.cut_lattice.proofs.Steps.{DoneBelow}
-use Rattle.slice_graph.proofs.from_rows.keep.Given as goal
+use Rattle.slice_graph.proofs.kept_rows.keep.Given as goal
 
 abbrev pub invariant-loop-process : goal.invariant-loop-process
 invariant-loop-process l = record {
